@@ -1,0 +1,46 @@
+-- What every host tells: its size, its faults, and what was armed and lost.
+use Rattle.std.specs.Prelude.{◌≡◌, ℕ, ◌+◌, ◌-◌, ◌^◌, ◌≤◌, Option, Some, None, Result, Ok, Err, cond, nat_lt}
+use Rattle.pm_model.specs.declared.host.HostFault.{HostFault}
+use Rattle.pm_model.specs.declared.host.HostFault.TheVariants.{Failed, Cut}
+use Rattle.pm_model.specs.declared.host.FileFault.{FileFault}
+use Rattle.pm_model.specs.declared.host.FileFault.TheVariants as file_faults
+
+pub record Counts : Type 0 where
+  pub size : ℕ
+  pub faults : ℕ
+  pub cuts : ℕ
+  pub arms : ℕ
+  pub arm_steps : ℕ
+  pub arm_pick : ℕ
+  pub losses : ℕ
+  pub loss_pick : ℕ
+
+-- one more; at its type's end a count stands still
+abbrev pub risen : ℕ → ℕ
+risen n = cond (nat_lt n (2 ^ 64 - 1)) (n + 1) n
+
+-- it rose, or stands at its type's end
+abbrev pub Rose : ℕ → ℕ → Type 0
+Rose before now = risen before ≤ now
+
+abbrev pub after_fault : Option HostFault → Counts → Counts
+after_fault None c = c
+after_fault (Some Failed) c = record c { faults = risen c.faults }
+after_fault (Some Cut) c = record c { cuts = risen c.cuts }
+
+abbrev pub after_arm : ℕ → ℕ → Counts → Counts
+after_arm steps pick c = record c { arms = risen c.arms; arm_steps = steps; arm_pick = pick }
+
+abbrev pub after_loss_of : ℕ → Counts → Counts
+after_loss_of pick c = record c { losses = risen c.losses; loss_pick = pick }
+
+-- the host's fault that a call answered
+abbrev pub fault_of : {T : Type 0} → Result T HostFault → Option HostFault
+fault_of (Ok x) = None
+fault_of (Err fault) = Some fault
+
+-- the same of a call on files
+abbrev pub file_fault_of : {T : Type 0} → Result T FileFault → Option HostFault
+file_fault_of (Ok x) = None
+file_fault_of (Err file_faults.Memory) = None
+file_fault_of (Err (file_faults.Host fault)) = Some fault

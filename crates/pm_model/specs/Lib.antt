@@ -1,0 +1,5 @@
+pub mod Words
+pub mod Moments
+pub mod Counts
+pub mod Calls
+pub mod Changes
