@@ -1,8 +1,8 @@
 -- Relations between the states before and after some calls, which compose.
-use Rattle.std.specs.Prelude.{◌≡◌, ◌⊎◌, ℕ, List, [], ◌∷◌, ◌++◌, Option, Some, None}
+use Rattle.std.specs.Prelude.{◌≡◌, ◌⊎◌, ℕ, ◌-◌, ◌==◌, nat_le, cond, List, [], ◌∷◌, ◌++◌, slice_get, Option, Some, None}
 use Rattle.pm_model.specs.declared.host.HostFault.{HostFault}
 use Rattle.pm_model.specs.declared.host.HostFault.TheVariants.{Cut}
-use Rattle.pm_model.specs.Words.{Has, Cell, values, single, Image, Words, Picks, IsRested}
+use Rattle.pm_model.specs.Words.{Has, Cell, values, Image, Words, Picks, HasOnly, IsRested}
 use Rattle.pm_model.specs.Moments.{Moment, State}
 
 -- At this moment some bytes had been said since start, and each image that may be left has P with them.
@@ -47,6 +47,14 @@ pub record Changes (may : Footprint) (fault : Option HostFault) (old new : State
 abbrev pub Write : Type 0
 Write = ℕ → Option ℕ
 
+-- one word
+abbrev pub only : ℕ → ℕ → Write
+only w v k = cond (k == w) (Some v) None
+
+-- the words from w on, in turn
+abbrev pub placed : ℕ → List ℕ → Write
+placed w vals k = cond (nat_le w k) (slice_get vals (k - w)) None
+
 abbrev pub written : Write → Footprint
 written write k v = write k ≡ Some v
 
@@ -59,4 +67,4 @@ pub record Writes (write : Write) (fault : Option HostFault) (old new : State) :
 -- These words are written and no other; at Ok each has its value and no other.
 pub record Persists (write : Write) (fault : Option HostFault) (old new : State) : Type 0 where
   pub changes : Changes (written write) fault old new
-  pub durable : fault ≡ None → (k v : ℕ) → write k ≡ Some v → new.now.words k ≡ single v
+  pub durable : fault ≡ None → (k v : ℕ) → write k ≡ Some v → HasOnly (new.now.words k) v

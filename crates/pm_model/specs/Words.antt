@@ -72,6 +72,10 @@ reads words k = (words k).newest
 pub record Picks (words : Words) (image : Image) : Type 0 where
   pub each : (k : ℕ) → Has (values (words k)) (image k)
 
+-- the word has this value and no other
+pub record HasOnly (c : Cell) (v : ℕ) : Type 0 where
+  pub each : (x : ℕ) → Has (values c) x → x ≡ v
+
 -- each word has one value
 pub record IsRested (words : Words) : Type 0 where
-  pub each : (k : ℕ) → words k ≡ single (words k).newest
+  pub each : (k : ℕ) → HasOnly (words k) (words k).newest

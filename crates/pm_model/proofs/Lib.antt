@@ -1,0 +1,4 @@
+pub mod Has
+pub mod Words
+pub mod Changes
+pub mod Leaves
