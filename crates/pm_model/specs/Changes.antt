@@ -43,6 +43,10 @@ pub record Changes (may : Footprint) (fault : Option HostFault) (old new : State
   pub script : new.script ≡ old.script
   pub shelf : new.shelf ≡ old.shelf
 
+-- the image has the values of the one before, or values that may have come
+pub record IsFrom (may : Footprint) (before image : Image) : Type 0 where
+  pub each : (k : ℕ) → (image k ≡ before k) ⊎ may k (image k)
+
 -- what is to be written, by word
 abbrev pub Write : Type 0
 Write = ℕ → Option ℕ
