@@ -1,5 +1,5 @@
 -- How the calls of a host compose: from one step to many.
-use Rattle.std.proofs.Common.{◌≡◌, ◌≢◌, ◌⊎◌, inl, inr, ℕ, List, [], ◌∷◌, ◌++◌, Option, Some, None, refl, sym, ap, subst, ◌∙◌, append_assoc}
+use Rattle.std.proofs.Common.{◌≡◌, ◌≢◌, ◌⊎◌, inl, inr, ℕ, ◌/◌, List, [], ◌∷◌, ◌++◌, Option, Some, None, refl, sym, ap, subst, ◌∙◌, append_assoc}
 use Rattle.pm_model.specs.declared.host.HostFault.{HostFault}
 use Rattle.pm_model.specs.declared.host.HostFault.TheVariants.{Failed, Cut}
 use Rattle.pm_model.specs.Words.{Has, Cell, values, Words, Image, after_store, after_flush, after_fence, after_loss, reads, Picks, HasOnly, IsRested}
@@ -7,7 +7,7 @@ use Rattle.pm_model.specs.Moments.{Moment, State, stepped}
 use Rattle.pm_model.specs.Calls.{Steps, LosesPower}
 use Rattle.pm_model.specs.Changes.{IsKept, Changes, Footprint, Write, only, written, Writes, Persists}
 use Rattle.pm_model.proofs.Has.{Has-append_cases}
-use Rattle.pm_model.proofs.Words.{store_adds, flush_adds, values-fenced, store_keeps, flush_keeps, HasOnly-fenced}
+use Rattle.pm_model.proofs.Words.{store_adds, flush_adds, values-fenced, store_keeps, flush_keeps, HasOnly-fenced, only_at, stored_newest, flushed_newest, flushed_marked}
 
 not_cut : None ≡ Some Cut → ⊥
 not_cut e = cc
@@ -154,4 +154,14 @@ Persists-fence write fault a b c w step =
     record {
       changes = Changes-then (written write) fault a b c w.changes (Changes-fence (written write) fault b c step);
       durable = λ e k v is. subst (λ (s : State). HasOnly (s.now.words k) v) (sym (step.done e)) (HasOnly-fenced (b.now.words k) v (w.newest refl k v is) (w.marked refl k v is));
+    }
+
+-- one word, stored and then flushed with its line
+pub Writes-one : (w v : ℕ) (fault : Option HostFault) (a b c : State) → Steps (after_store w v) None a b → Steps (after_flush (w / 8)) fault b c → Writes (only w v) fault a c
+Writes-one w v fault a b c store flush =
+    let at_b : (k x : ℕ) → only w v k ≡ Some x → (b.now.words k).newest ≡ x = λ k x is. subst (λ (s : State). (s.now.words k).newest ≡ x) (sym (store.done refl)) (stored_newest w v a.now.words k x is) in
+    record {
+      changes = Changes-then (written (only w v)) fault a b c (Changes-store w v None a b store) (Changes-flush (written (only w v)) (w / 8) fault b c flush);
+      newest = λ e k x is. subst (λ (s : State). (s.now.words k).newest ≡ x) (sym (flush.done e)) (flushed_newest (w / 8) b.now.words k ∙ at_b k x is);
+      marked = λ e k x is. subst (λ (s : State). (s.now.words k).kept ≡ []) (sym (flush.done e)) (flushed_marked (w / 8) b.now.words k (ap (λ (n : ℕ). n / 8) (only_at w v k x is)));
     }

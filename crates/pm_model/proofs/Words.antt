@@ -1,6 +1,6 @@
 -- What a step adds to the values of the words.
 use Rattle.std.proofs.Common.{◌≡◌, ◌≢◌, ◌⊎◌, inl, inr, ℕ, ◌/◌, Bool, true, false, cond, eqb, List, [], ◌∷◌, ◌++◌, Option, Some, None, refl, sym, ap, subst, ◌∙◌}
-use Rattle.std.proofs.lemmas.Bool.{cases_eq}
+use Rattle.std.proofs.lemmas.Bool.{cases_eq, ne_eqb, eq-eqb}
 use Rattle.pm_model.specs.Words.{Has, Cell, values, single, stored, marked, fenced, Words, Image, after_store, after_flush, after_fence, after_loss, reads, Picks, HasOnly, IsRested}
 use Rattle.pm_model.specs.Changes.{IsKept, Write, written, only}
 use Rattle.pm_model.proofs.Has.{Has-append_cases, Has-append_left}
@@ -49,3 +49,19 @@ flush_keeps line words k =
       | true ↦ record { newest = refl; marked = λ m. refl }
       | false ↦ record { newest = refl; marked = λ m. m }
     ]
+
+pub only_at : (w v k x : ℕ) → only w v k ≡ Some x → k ≡ w
+only_at w v k x is = elim (cases_eq k w) [
+  | inl same ↦ same
+  | inr other ↦ absurd (let no : None ≡ Some x = sym (ap (λ (b : Bool). cond b (Some v) None) (ne_eqb k w other)) ∙ is in cc)
+]
+
+pub stored_newest : (w v : ℕ) (words : Words) (k x : ℕ) → only w v k ≡ Some x → (after_store w v words k).newest ≡ x
+stored_newest w v words k x =
+    elim (eqb k w) as (λ b. cond b (Some v) None ≡ Some x → (cond b (stored v (words k)) (words k)).newest ≡ x) [ true ↦ λ e. cc | false ↦ λ e. cc ]
+
+pub flushed_newest : (line : ℕ) (words : Words) (k : ℕ) → (after_flush line words k).newest ≡ (words k).newest
+flushed_newest line words k = (flush_keeps line words k).newest
+
+pub flushed_marked : (line : ℕ) (words : Words) (k : ℕ) → k / 8 ≡ line → (after_flush line words k).kept ≡ []
+flushed_marked line words k is = rw (eq-eqb (k / 8) line is) refl
