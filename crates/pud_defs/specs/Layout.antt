@@ -1,0 +1,18 @@
+-- Where the parts of a device of F frames lie.
+use Rattle.std.specs.Prelude.{ℕ, ◌+◌, ◌*◌, Bool, ◌&&◌, nat_le}
+use Rattle.pud_defs.specs.declared.layout.TheConstants.{MIN_FRAMES, MAX_FRAMES, PUDDLE_TABLE, PUDDLE_RECORD_WORDS}
+
+-- the first word behind the puddle table, which has a record for each frame
+abbrev pub tables_end : ℕ → ℕ
+tables_end F = PUDDLE_TABLE + PUDDLE_RECORD_WORDS * F
+
+-- the first word of the first frame, behind 32 logs of 1,024 words
+abbrev pub frames_at : ℕ → ℕ
+frames_at F = 34304 + 8 * F
+
+-- how many words the device needs
+abbrev pub device_words : ℕ → ℕ
+device_words F = 34304 + 2056 * F
+
+abbrev pub is_legal_frame_count : ℕ → Bool
+is_legal_frame_count F = nat_le MIN_FRAMES F && nat_le F MAX_FRAMES

@@ -1,0 +1,10 @@
+pub mod Layout
+pub mod Image
+pub mod TypeMap
+pub mod Types
+pub mod Registry
+pub mod World
+pub mod Grammar
+pub mod Step
+pub mod Run
+pub mod Texts

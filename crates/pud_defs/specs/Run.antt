@@ -1,0 +1,55 @@
+-- A run: the turns of the machine over the lines of a script.
+use Rattle.std.specs.Prelude.{◌≡◌, ℕ, Bool, cond, not, ◌==◌, List, [], ◌∷◌, length, map, take, filter, count_by, ⊤}
+use Rattle.pud_defs.specs.declared.machine.Reply.{Reply}
+use Rattle.pud_defs.specs.World.{World}
+use Rattle.pud_defs.specs.Grammar.{split_at}
+use Rattle.pud_defs.specs.Step.{Step}
+
+-- A line with its reply, the world that the line gives, and the world from which the run goes on.
+pub record Turn : Type 0 where
+  pub line : List ℕ
+  pub reply : Reply
+  pub under : World
+  pub next : World
+
+-- a step of the machine, whose world the run goes on from
+pub record IsTurn (w : World) (t : Turn) : Type 0 where
+  pub step : Step w t.line t.reply t.under
+  pub goes_on : t.next ≡ t.under
+
+-- each is a turn from the world that the one before it left
+abbrev pub IsRun : World → List Turn → Type 0
+IsRun w [] = ⊤
+IsRun w (t ∷ turns) = IsTurn w t × IsRun t.next turns
+
+-- the world that the turns leave
+abbrev pub last_world : World → List Turn → World
+last_world w [] = w
+last_world w (t ∷ turns) = last_world t.next turns
+
+-- the world after k of the turns
+abbrev pub world_after : World → List Turn → ℕ → World
+world_after w turns k = last_world w (take k turns)
+
+-- there is a run over these lines with these replies, which ends in this world
+pub record Run (w : World) (lines : List (List ℕ)) (replies : List Reply) (end : World) : Type 0 where
+  pub turns : List Turn
+  pub is_run : IsRun w turns
+  pub has_lines : map (λ t. t.line) turns ≡ lines
+  pub has_replies : map (λ t. t.reply) turns ≡ replies
+  pub ends : last_world w turns ≡ end
+
+-- how many newlines there are among the bytes
+abbrev pub newlines : List ℕ → ℕ
+newlines bytes = count_by (λ b. b == 10) bytes
+
+-- the pieces of the bytes between newlines: those that a newline closes, and the open rest
+abbrev pub pieces : List ℕ → List (List ℕ)
+pieces bytes = split_at 10 bytes
+
+abbrev pub is_nonempty : List ℕ → Bool
+is_nonempty line = not (length line == 0)
+
+-- the lines among the bytes taken: the closed pieces, and the rest too where the input ended; without the empty ones
+unfoldable pub lines_taken : List ℕ → Bool → List (List ℕ)
+lines_taken bytes ended = filter is_nonempty (cond ended (pieces bytes) (take (newlines bytes) (pieces bytes)))

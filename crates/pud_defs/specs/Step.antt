@@ -1,0 +1,76 @@
+-- What a line does to the world, and what is answered.
+use Rattle.std.specs.Prelude.{◌≡◌, ℕ, Bool, false, not, ◌&&◌, nat_le, ◌==◌, List, [], ◌∷◌, length, find, Option, Some, None, is_none}
+use Rattle.pud_defs.specs.declared.layout.TheConstants.{TYPE_RECORDS}
+use Rattle.pud_defs.specs.declared.machine.Command.{Command}
+use Rattle.pud_defs.specs.declared.machine.Command.TheVariants.{Define}
+use Rattle.pud_defs.specs.declared.machine.Reply.{Reply}
+use Rattle.pud_defs.specs.declared.machine.Reply.TheVariants as replies
+use Rattle.pud_defs.specs.declared.machine.Refusal.{Refusal}
+use Rattle.pud_defs.specs.declared.machine.Refusal.TheVariants as refusals
+use Rattle.pud_defs.specs.Types.{map_of, with_type}
+use Rattle.pud_defs.specs.World.{World}
+use Rattle.pud_defs.specs.Grammar.{command_of}
+
+-- the refusals that a command may meet, in the order in which they are tested
+abbrev pub causes : Command → List Refusal
+causes (Define id map) = refusals.Clash ∷ refusals.Full ∷ []
+
+abbrev pub is_other : ℕ → Option ℕ → Bool
+is_other map None = false
+is_other map (Some m) = not (m == map)
+
+-- the type is defined with another map
+abbrev pub is_clash : List (ℕ × ℕ) → ℕ → ℕ → Bool
+is_clash types id map = is_other map (map_of id types)
+
+-- the type is not defined, and as many others are as the table has records
+abbrev pub is_full : List (ℕ × ℕ) → ℕ → Bool
+is_full types id = is_none (map_of id types) && nat_le TYPE_RECORDS (length types)
+
+-- whether the cause holds for the command. `bad` never does: it is said of lines that are no command
+unfoldable pub holds : World → Command → Refusal → Bool
+holds w (Define id map) refusals.Bad = false
+holds w (Define id map) refusals.Clash = is_clash w.stored.types id map
+holds w (Define id map) refusals.Full = is_full w.stored.types id
+
+-- the first cause of the command that holds
+unfoldable pub refusal_of : World → Command → Option Refusal
+refusal_of w c = find (holds w c) (causes c)
+
+-- the world after a command that is not refused
+unfoldable pub after : World → Command → World
+after w (Define id map) = record w { stored = record w.stored { types = with_type id map w.stored.types } }
+
+-- the answer
+abbrev pub reply_to : Option Refusal → Reply
+reply_to None = replies.Ok
+reply_to (Some refusal) = replies.No refusal
+
+-- the world: as it was where there is a refusal
+abbrev pub unless_refused : Option Refusal → World → World → World
+unless_refused None before later = later
+unless_refused (Some refusal) before later = before
+
+-- why a line is refused, by the command that it is: a line that is no command is bad
+abbrev pub refusal_by : World → Option Command → Option Refusal
+refusal_by w None = Some refusals.Bad
+refusal_by w (Some c) = refusal_of w c
+
+-- the world that it gives
+abbrev pub world_by : World → Option Command → World
+world_by w None = w
+world_by w (Some c) = unless_refused (refusal_of w c) w (after w c)
+
+abbrev pub refusal : World → List ℕ → Option Refusal
+refusal w line = refusal_by w (command_of line)
+
+abbrev pub step_reply : World → List ℕ → Reply
+step_reply w line = reply_to (refusal w line)
+
+abbrev pub step_world : World → List ℕ → World
+step_world w line = world_by w (command_of line)
+
+-- the line is answered so, and gives this world
+pub record Step (w : World) (line : List ℕ) (reply : Reply) (next : World) : Type 0 where
+  pub answered : reply ≡ step_reply w line
+  pub given : next ≡ step_world w line

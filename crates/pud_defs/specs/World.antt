@@ -1,0 +1,39 @@
+-- The world that lines move: what a device stands for, and the shelf of files beside it.
+use Rattle.std.specs.Prelude.{ℕ, cond, List, [], Option, Some, None}
+use Rattle.pud_defs.specs.declared.layout.TheConstants.{MACHINE_WORD, NEXT_NUMBER_WORD}
+use Rattle.pud_defs.specs.Image.{Image}
+use Rattle.pud_defs.specs.Types.{types_of}
+use Rattle.pud_defs.specs.Registry.{frames_of, is_sound}
+
+-- What a device stands for: its number of frames, its machine id, the next UUID number, and the map of each
+-- defined type, by ascending ids.
+pub record StoredWorld : Type 0 where
+  pub frames : ℕ
+  pub machine : ℕ
+  pub next_number : ℕ
+  pub types : List (ℕ × ℕ)
+
+-- what the words of an image stand for, where it is sound
+unfoldable pub stored_by : Image → StoredWorld
+stored_by image = record { frames = frames_of image; machine = image MACHINE_WORD; next_number = image NEXT_NUMBER_WORD; types = types_of image }
+
+-- what the image of a device of so many words stands for: nothing exactly where it is not sound
+unfoldable pub world_of : ℕ → Image → Option StoredWorld
+world_of size image = cond (is_sound size image) (Some (stored_by image)) None
+
+-- the stored world, and the shelf: which files there are, by the bytes of their names, and what they hold
+pub record World : Type 0 where
+  pub stored : StoredWorld
+  pub shelf : List ℕ → Option (List ℕ)
+
+-- what a device stands for once nothing is under way
+abbrev pub closed : World → StoredWorld
+closed w = w.stored
+
+-- the world after a power loss and the start that follows
+abbrev pub restart : World → World
+restart w = record { stored = closed w; shelf = w.shelf }
+
+-- the world of a device that was just formatted
+abbrev pub blank_world : ℕ → ℕ → StoredWorld
+blank_world F machine = record { frames = F; machine = machine; next_number = 1; types = [] }

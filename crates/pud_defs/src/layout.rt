@@ -1,0 +1,95 @@
+//! Where things lie on a device: word numbers, sizes and limits.
+
+ghost use Rattle.std.specs.Prelude.{◌≡◌, ◌≤◌};
+ghost use Rattle.pud_defs.specs.Layout.{tables_end, frames_at, device_words};
+
+/// The value of word 0 of a formatted device: the eight bytes `PUDDEV01`, lowest first.
+pub const DEVICE_MAGIC: u64 = 0x3130_5645_4444_5550;
+
+/// The value of word 1 of a formatted device.
+pub const VERSION: u64 = 1;
+
+/// The word that holds the device magic.
+pub const MAGIC_WORD: u32 = 0;
+
+/// The word that holds the version.
+pub const VERSION_WORD: u32 = 1;
+
+/// The word that holds the machine id.
+pub const MACHINE_WORD: u32 = 2;
+
+/// The word that holds the number of frames.
+pub const FRAMES_WORD: u32 = 3;
+
+/// The word that holds the next UUID number.
+pub const NEXT_NUMBER_WORD: u32 = 4;
+
+/// The first word of the daemon log, which is its gate.
+pub const DAEMON_LOG: u32 = 64;
+
+/// The first word of the type table.
+pub const TYPE_TABLE: u32 = 1088;
+
+/// How many records the type table has.
+pub const TYPE_RECORDS: u32 = 64;
+
+/// How many words a type record has: the type id, 0 where the record is free, and the map word.
+pub const TYPE_RECORD_WORDS: u32 = 2;
+
+/// The first word of the pool table.
+pub const POOL_TABLE: u32 = 1216;
+
+/// The first word of the puddle table, which has a record for each frame.
+pub const PUDDLE_TABLE: u32 = 1536;
+
+/// How many words a puddle record has.
+pub const PUDDLE_RECORD_WORDS: u32 = 8;
+
+/// How many words a frame has.
+pub const FRAME_WORDS: u32 = 2048;
+
+/// The fewest frames that a device has.
+pub const MIN_FRAMES: u32 = 4;
+
+/// The most frames that a device has.
+pub const MAX_FRAMES: u32 = 1024;
+
+/// The largest value that the next UUID number has, 2^63.
+pub const NUMBER_LIMIT: u64 = 0x8000_0000_0000_0000;
+
+/// The largest type id.
+pub const MAX_TYPE_ID: u32 = 65535;
+
+/// The most fields that a type has.
+pub const MAX_FIELDS: u32 = 30;
+
+/// The most bytes that a line has, without its newline.
+pub const LINE_LIMIT: usize = 128;
+
+/// How many bytes of a script are taken at most, 2^20.
+pub const SCRIPT_LIMIT: u32 = 0x10_0000;
+
+/// The first word behind the puddle table of a device of so many frames.
+pub const fn tables_end(frames: u32) -> u32
+    requires { frames ≤ MAX_FRAMES }
+    ensures { result ≡ tables_end frames }
+{
+    PUDDLE_TABLE + PUDDLE_RECORD_WORDS * frames
+}
+
+/// The first word of the first frame of a device of so many frames. Between the puddle table and the frames lie
+/// 32 logs of 1,024 words.
+pub const fn frames_at(frames: u32) -> u32
+    requires { frames ≤ MAX_FRAMES }
+    ensures { result ≡ frames_at frames }
+{
+    tables_end(frames) + 32_768
+}
+
+/// How many words a device of so many frames needs. A device may be larger; the rest is not read.
+pub const fn device_words(frames: u32) -> u32
+    requires { frames ≤ MAX_FRAMES }
+    ensures { result ≡ device_words frames }
+{
+    frames_at(frames) + FRAME_WORDS * frames
+}

@@ -1,0 +1,7 @@
+//! What a device of puddles holds and means: where things lie, what bits stand for, and the machine of named
+//! things that the daemon's lines move. Every other crate's contracts cite the definitions of this one.
+#![tactic(auto)]
+
+pub mod layout;
+pub mod machine;
+pub mod type_map;
