@@ -1,1 +1,5 @@
 pub mod Words
+pub mod Opened
+pub mod ExamplesGrammar
+pub mod ExamplesImage
+pub mod ExamplesRun

@@ -1,0 +1,131 @@
+-- Lines that are commands, and lines that are not.
+use Rattle.std.proofs.Common.{◌≡◌, ℕ, true, List, [], ◌∷◌, ◌++◌, replicate, codes, Some, None, refl}
+use Rattle.pud_defs.specs.declared.machine.Command.TheVariants.{Define}
+use Rattle.pud_defs.specs.TypeMap.{map_word, is_legal_map}
+use Rattle.pud_defs.specs.Grammar.{number_of, command_of}
+use Rattle.pud_defs.proofs.Opened.{opened}
+
+-- two fields, of which field 1 is a pointer
+two_fields : map_word 2 (1 ∷ []) ≡ 8589934594
+two_fields = refl
+
+-- thirty fields, of which the first and the last are pointers
+thirty_fields : map_word 30 (0 ∷ 29 ∷ []) ≡ 129385889793
+thirty_fields = refl
+
+are_legal : (is_legal_map 8589934594 ≡ true) × (is_legal_map 129385889793 ≡ true)
+are_legal = (refl, refl)
+
+defines : command_of (codes "type 1 2 1") ≡ Some (Define 1 8589934594)
+unfolding opened
+defines = refl
+
+defines_thirty : command_of (codes "type 2 30 0,29") ≡ Some (Define 2 129385889793)
+unfolding opened
+defines_thirty = refl
+
+defines_with_no_pointer : command_of (codes "type 65535 1 -") ≡ Some (Define 65535 4294967296)
+unfolding opened
+defines_with_no_pointer = refl
+
+defines_with_every_pointer : command_of (codes "type 9 30 0,1,2,3,4,5,6,7,8,9,10,11,12,13,14,15,16,17,18,19,20,21,22,23,24,25,26,27,28,29") ≡ Some (Define 9 129922760703)
+unfolding opened
+defines_with_every_pointer = refl
+
+zero_is_a_number : number_of (codes "0") ≡ Some 0
+unfolding opened
+zero_is_a_number = refl
+
+large_numbers_stay_whole : number_of (codes "18446744073709551616") ≡ Some 18446744073709551616
+unfolding opened
+large_numbers_stay_whole = refl
+
+-- no command, one reason each
+
+nothing : command_of [] ≡ None
+unfolding opened
+nothing = refl
+
+another_word : command_of (codes "types 1 2 1") ≡ None
+unfolding opened
+another_word = refl
+
+upper_case : command_of (codes "Type 1 2 1") ≡ None
+unfolding opened
+upper_case = refl
+
+leading_zero : command_of (codes "type 01 2 1") ≡ None
+unfolding opened
+leading_zero = refl
+
+leading_zero_in_the_list : command_of (codes "type 1 2 00") ≡ None
+unfolding opened
+leading_zero_in_the_list = refl
+
+sign : command_of (codes "type +1 2 1") ≡ None
+unfolding opened
+sign = refl
+
+no_digit : command_of (codes "type 1a 2 1") ≡ None
+unfolding opened
+no_digit = refl
+
+two_spaces : command_of (codes "type 1  2 1") ≡ None
+unfolding opened
+two_spaces = refl
+
+space_before : command_of (codes " type 1 2 1") ≡ None
+unfolding opened
+space_before = refl
+
+space_behind : command_of (codes "type 1 2 1 ") ≡ None
+unfolding opened
+space_behind = refl
+
+tab : command_of (codes "type" ++ 9 ∷ codes "1 2 1") ≡ None
+unfolding opened
+tab = refl
+
+argument_missing : command_of (codes "type 1 2") ≡ None
+unfolding opened
+argument_missing = refl
+
+argument_too_many : command_of (codes "type 1 2 1 1") ≡ None
+unfolding opened
+argument_too_many = refl
+
+id_zero : command_of (codes "type 0 2 1") ≡ None
+unfolding opened
+id_zero = refl
+
+id_too_large : command_of (codes "type 65536 2 1") ≡ None
+unfolding opened
+id_too_large = refl
+
+no_fields : command_of (codes "type 1 0 -") ≡ None
+unfolding opened
+no_fields = refl
+
+too_many_fields : command_of (codes "type 1 31 -") ≡ None
+unfolding opened
+too_many_fields = refl
+
+field_past_the_last : command_of (codes "type 1 2 2") ≡ None
+unfolding opened
+field_past_the_last = refl
+
+fields_fall : command_of (codes "type 1 2 1,0") ≡ None
+unfolding opened
+fields_fall = refl
+
+field_twice : command_of (codes "type 1 2 1,1") ≡ None
+unfolding opened
+field_twice = refl
+
+comma_at_the_end : command_of (codes "type 1 2 0,") ≡ None
+unfolding opened
+comma_at_the_end = refl
+
+too_long : command_of (codes "type 1 2 1" ++ replicate 119 48) ≡ None
+unfolding opened
+too_long = refl

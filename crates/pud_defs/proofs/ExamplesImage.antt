@@ -1,0 +1,127 @@
+-- Images, and what they stand for.
+use Rattle.std.proofs.Common.{◌≡◌, ℕ, ◌+◌, ◌*◌, ◌^◌, true, false, List, [], ◌∷◌, Some, None, refl}
+use Rattle.pud_defs.specs.declared.layout.TheConstants.{DEVICE_MAGIC}
+use Rattle.pud_defs.specs.Layout.{tables_end, frames_at, device_words}
+use Rattle.pud_defs.specs.Image.{Image, written}
+use Rattle.pud_defs.specs.Types.{first_free}
+use Rattle.pud_defs.specs.Registry.{is_sound}
+use Rattle.pud_defs.specs.World.{world_of, blank_world}
+use Rattle.pud_defs.proofs.Opened.{opened}
+
+four_frames : (tables_end 4 ≡ 1568) × (frames_at 4 ≡ 34336) × (device_words 4 ≡ 42528)
+four_frames = (refl, refl, refl)
+
+most_frames : device_words 1024 ≡ 2139648
+most_frames = refl
+
+-- the eight bytes `PUDDEV01`, lowest first
+magic_by_bytes : DEVICE_MAGIC ≡ 80 + 256 * (85 + 256 * (68 + 256 * (68 + 256 * (69 + 256 * (86 + 256 * (48 + 256 * 49))))))
+magic_by_bytes = refl
+
+-- a device of four frames and machine id 7 with nothing in it
+abbrev pub blank : Image
+blank = written 4 1 (written 3 4 (written 2 7 (written 1 1 (written 0 DEVICE_MAGIC (λ _. 0)))))
+
+-- the same with the types 1 and 2 defined
+abbrev pub two_types : Image
+two_types = written 1091 129385889793 (written 1090 2 (written 1089 8589934594 (written 1088 1 blank)))
+
+blank_is_the_blank_world : world_of 42528 blank ≡ Some (blank_world 4 7)
+unfolding opened
+blank_is_the_blank_world = refl
+
+two_types_stand : world_of 42528 two_types ≡ Some (record { frames = 4; machine = 7; next_number = 1; types = (1, 8589934594) ∷ (2, 129385889793) ∷ [] })
+unfolding opened
+two_types_stand = refl
+
+-- the order of the table does not show in the world
+any_order : world_of 42528 (written 1215 8589934594 (written 1214 1 (written 1089 129385889793 (written 1088 2 blank)))) ≡ world_of 42528 two_types
+unfolding opened
+any_order = refl
+
+third_record_is_free : first_free two_types 0 64 ≡ Some 2
+unfolding opened
+third_record_is_free = refl
+
+gaps_are_found : first_free (written 1088 0 two_types) 0 64 ≡ Some 0
+unfolding opened
+gaps_are_found = refl
+
+-- what is not read does not matter
+larger_device : world_of 50000 blank ≡ Some (blank_world 4 7)
+unfolding opened
+larger_device = refl
+
+words_not_read : world_of 42528 (written 5 1 (written 63 1 (written 65 1 (written 1087 1 (written 1089 1 (written 1568 1 blank)))))) ≡ Some (blank_world 4 7)
+unfolding opened
+words_not_read = refl
+
+-- not sound, one reason each
+
+no_magic : is_sound 42528 (written 0 0 blank) ≡ false
+unfolding opened
+no_magic = refl
+
+another_version : is_sound 42528 (written 1 2 blank) ≡ false
+unfolding opened
+another_version = refl
+
+three_frames : is_sound 42528 (written 3 3 blank) ≡ false
+unfolding opened
+three_frames = refl
+
+five_frames_without_room : is_sound 42528 (written 3 5 blank) ≡ false
+unfolding opened
+five_frames_without_room = refl
+
+word_missing : is_sound 42527 blank ≡ false
+unfolding opened
+word_missing = refl
+
+number_zero : is_sound 42528 (written 4 0 blank) ≡ false
+unfolding opened
+number_zero = refl
+
+last_number : is_sound 42528 (written 4 (2 ^ 63) blank) ≡ true
+unfolding opened
+last_number = refl
+
+number_too_large : is_sound 42528 (written 4 (2 ^ 63 + 1) blank) ≡ false
+unfolding opened
+number_too_large = refl
+
+type_id_too_large : is_sound 42528 (written 1088 65536 (written 1089 8589934594 blank)) ≡ false
+unfolding opened
+type_id_too_large = refl
+
+map_without_fields : is_sound 42528 (written 1088 1 blank) ≡ false
+unfolding opened
+map_without_fields = refl
+
+pointer_past_the_fields : is_sound 42528 (written 1088 1 (written 1089 8589934596 blank)) ≡ false
+unfolding opened
+pointer_past_the_fields = refl
+
+thirty_one_fields : is_sound 42528 (written 1088 1 (written 1089 133143986176 blank)) ≡ false
+unfolding opened
+thirty_one_fields = refl
+
+bit_above_the_fields : is_sound 42528 (written 1088 1 (written 1089 146028888064 blank)) ≡ false
+unfolding opened
+bit_above_the_fields = refl
+
+id_twice : is_sound 42528 (written 1090 1 two_types) ≡ false
+unfolding opened
+id_twice = refl
+
+log_with_entries : is_sound 42528 (written 64 1 blank) ≡ false
+unfolding opened
+log_with_entries = refl
+
+pool_there : is_sound 42528 (written 1216 97 blank) ≡ false
+unfolding opened
+pool_there = refl
+
+last_puddle_word : is_sound 42528 (written 1567 1 blank) ≡ false
+unfolding opened
+last_puddle_word = refl

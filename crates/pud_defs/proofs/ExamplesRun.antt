@@ -1,0 +1,134 @@
+-- Steps of the machine, lines of a script, and what is said.
+use Rattle.std.proofs.Common.{◌≡◌, ℕ, ◌+◌, ◌*◌, ◌^◌, true, false, List, [], ◌∷◌, ◌++◌, map, codes, None, refl}
+use Rattle.std.specs.List.{range_with_len}
+use Rattle.pud_defs.specs.declared.machine.Reply.TheVariants as replies
+use Rattle.pud_defs.specs.declared.machine.Refusal.TheVariants as refusals
+use Rattle.pud_defs.specs.World.{StoredWorld, World, closed, restart, blank_world}
+use Rattle.pud_defs.specs.Step.{step_reply, step_world}
+use Rattle.pud_defs.specs.Run.{newlines, lines_taken}
+use Rattle.pud_defs.specs.Texts.{start_text, formatted_text, reply_text}
+use Rattle.pud_defs.proofs.Opened.{opened}
+
+-- a world of four frames with these types and no files
+abbrev pub of_types : List (ℕ × ℕ) → World
+of_types types = record { stored = record (blank_world 4 7) { types = types }; shelf = λ _. None }
+
+-- the first run: two definitions
+first_world : step_world (of_types []) (codes "type 1 2 1") ≡ of_types ((1, 8589934594) ∷ [])
+unfolding opened
+first_world = refl
+
+second_world : step_world (of_types ((1, 8589934594) ∷ [])) (codes "type 2 30 0,29") ≡ of_types ((1, 8589934594) ∷ (2, 129385889793) ∷ [])
+unfolding opened
+second_world = refl
+
+first_reply : step_reply (of_types []) (codes "type 1 2 1") ≡ replies.Ok
+unfolding opened
+first_reply = refl
+
+second_reply : step_reply (of_types ((1, 8589934594) ∷ [])) (codes "type 2 30 0,29") ≡ replies.Ok
+unfolding opened
+second_reply = refl
+
+-- types stand by ascending ids, whatever the order of the lines
+lower_id_goes_before : step_world (of_types ((2, 4294967296) ∷ [])) (codes "type 1 1 -") ≡ of_types ((1, 4294967296) ∷ (2, 4294967296) ∷ [])
+unfolding opened
+lower_id_goes_before = refl
+
+bad_reply : step_reply (of_types []) (codes "type 01 2 1") ≡ replies.No refusals.Bad
+unfolding opened
+bad_reply = refl
+
+bad_changes_nothing : step_world (of_types []) (codes "type 01 2 1") ≡ of_types []
+unfolding opened
+bad_changes_nothing = refl
+
+clash_reply : step_reply (of_types ((1, 8589934594) ∷ [])) (codes "type 1 2 0") ≡ replies.No refusals.Clash
+unfolding opened
+clash_reply = refl
+
+clash_changes_nothing : step_world (of_types ((1, 8589934594) ∷ [])) (codes "type 1 2 0") ≡ of_types ((1, 8589934594) ∷ [])
+unfolding opened
+clash_changes_nothing = refl
+
+same_map_again : step_reply (of_types ((1, 8589934594) ∷ [])) (codes "type 1 2 1") ≡ replies.Ok
+unfolding opened
+same_map_again = refl
+
+same_map_changes_nothing : step_world (of_types ((1, 8589934594) ∷ [])) (codes "type 1 2 1") ≡ of_types ((1, 8589934594) ∷ [])
+unfolding opened
+same_map_changes_nothing = refl
+
+-- types 1 to n, each of one field
+abbrev pub first_types : ℕ → List (ℕ × ℕ)
+first_types n = map (λ id. (id, 4294967296)) (range_with_len 1 n)
+
+sixty_fourth_type : step_reply (of_types (first_types 63)) (codes "type 64 1 -") ≡ replies.Ok
+unfolding opened
+sixty_fourth_type = refl
+
+sixty_fifth_type : step_reply (of_types (first_types 64)) (codes "type 65 1 -") ≡ replies.No refusals.Full
+unfolding opened
+sixty_fifth_type = refl
+
+full_changes_nothing : step_world (of_types (first_types 64)) (codes "type 65 1 -") ≡ of_types (first_types 64)
+unfolding opened
+full_changes_nothing = refl
+
+same_map_where_full : step_reply (of_types (first_types 64)) (codes "type 64 1 -") ≡ replies.Ok
+unfolding opened
+same_map_where_full = refl
+
+-- the clash is answered before the full table
+clash_where_full : step_reply (of_types (first_types 64)) (codes "type 64 1 0") ≡ replies.No refusals.Clash
+unfolding opened
+clash_where_full = refl
+
+-- a restart leaves the types
+restarted : restart (of_types (first_types 3)) ≡ of_types (first_types 3)
+restarted = refl
+
+-- lines: the empty ones are passed over, and an open rest is a line only where the input ended
+closed_lines : lines_taken (codes "a" ++ 10 ∷ 10 ∷ codes "bc" ++ 10 ∷ codes "d") false ≡ codes "a" ∷ codes "bc" ∷ []
+unfolding opened
+closed_lines = refl
+
+ended_lines : lines_taken (codes "a" ++ 10 ∷ 10 ∷ codes "bc" ++ 10 ∷ codes "d") true ≡ codes "a" ∷ codes "bc" ∷ codes "d" ∷ []
+unfolding opened
+ended_lines = refl
+
+no_rest : lines_taken (codes "a" ++ 10 ∷ []) true ≡ codes "a" ∷ []
+unfolding opened
+no_rest = refl
+
+no_lines : lines_taken [] true ≡ []
+unfolding opened
+no_lines = refl
+
+two_newlines : newlines (codes "a" ++ 10 ∷ 10 ∷ codes "b") ≡ 2
+two_newlines = refl
+
+-- what is said
+ready : start_text ≡ 114 ∷ 101 ∷ 97 ∷ 100 ∷ 121 ∷ 10 ∷ []
+unfolding opened
+ready = refl
+
+formatted : formatted_text ≡ codes "formatted" ++ 10 ∷ []
+unfolding opened
+formatted = refl
+
+said_ok : reply_text replies.Ok ≡ 111 ∷ 107 ∷ 10 ∷ []
+unfolding opened
+said_ok = refl
+
+said_bad : reply_text (replies.No refusals.Bad) ≡ codes "no bad" ++ 10 ∷ []
+unfolding opened
+said_bad = refl
+
+said_clash : reply_text (replies.No refusals.Clash) ≡ codes "no clash" ++ 10 ∷ []
+unfolding opened
+said_clash = refl
+
+said_full : reply_text (replies.No refusals.Full) ≡ codes "no full" ++ 10 ∷ []
+unfolding opened
+said_full = refl
