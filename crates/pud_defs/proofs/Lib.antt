@@ -1,4 +1,7 @@
 pub mod Words
+pub mod Images
+pub mod TypeLists
+pub mod TypeTable
 pub mod Opened
 pub mod ExamplesGrammar
 pub mod ExamplesImage

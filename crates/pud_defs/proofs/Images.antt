@@ -1,0 +1,14 @@
+-- Reading an image after a word was written.
+use Rattle.std.proofs.Common.{◌≡◌, ℕ, ◌<◌, ◌≤◌, eqb, ne_eqb, eq-eqb, refl, sym, arith, ap, cond}
+use Rattle.std.proofs.lemmas.Bool.{cond-true, cond-false}
+use Rattle.pud_defs.specs.Image.{Image, written, IsSameBelow}
+
+pub written_there : (w v : ℕ) (image : Image) → written w v image w ≡ v
+written_there w v image = cond-true (eqb w w) v (image w) (eq-eqb w w refl)
+
+pub written_other : (w v : ℕ) (image : Image) (k : ℕ) → (k ≡ w → ⊥) → written w v image k ≡ image k
+written_other w v image k h = cond-false (eqb k w) v (image k) (ne_eqb k w h)
+
+-- a word from the end on is not below the end
+pub written_beyond : (w v end : ℕ) (image : Image) → end ≤ w → IsSameBelow end image (written w v image)
+written_beyond w v end image h = record { at = λ k below. sym (written_other w v image k (λ e. absurd (omega arith))) }
