@@ -2,6 +2,10 @@ pub mod Words
 pub mod Images
 pub mod TypeLists
 pub mod TypeTable
+pub mod Zeroes
+pub mod Worlds
+pub mod Definitions
+pub mod Blank
 pub mod Opened
 pub mod ExamplesGrammar
 pub mod ExamplesImage

@@ -1,6 +1,7 @@
 -- The world that lines move: what a device stands for, and the shelf of files beside it.
-use Rattle.std.specs.Prelude.{ℕ, cond, List, [], Option, Some, None}
-use Rattle.pud_defs.specs.declared.layout.TheConstants.{MACHINE_WORD, NEXT_NUMBER_WORD}
+use Rattle.std.specs.Prelude.{◌≡◌, ◌<◌, ℕ, cond, List, [], Option, Some, None}
+use Rattle.pud_defs.specs.declared.layout.TheConstants.{DEVICE_MAGIC, VERSION, MAGIC_WORD, VERSION_WORD, MACHINE_WORD, FRAMES_WORD, NEXT_NUMBER_WORD}
+use Rattle.pud_defs.specs.Layout.{frames_at}
 use Rattle.pud_defs.specs.Image.{Image}
 use Rattle.pud_defs.specs.Types.{types_of}
 use Rattle.pud_defs.specs.Registry.{frames_of, is_sound}
@@ -37,3 +38,12 @@ restart w = record { stored = closed w; shelf = w.shelf }
 -- the world of a device that was just formatted
 abbrev pub blank_world : ℕ → ℕ → StoredWorld
 blank_world F machine = record { frames = F; machine = machine; next_number = 1; types = [] }
+
+-- an image of such a device: behind the five words that describe it all words are 0 up to the frames
+pub record IsBlank (F id : ℕ) (image : Image) : Type 0 where
+  pub magic : image MAGIC_WORD ≡ DEVICE_MAGIC
+  pub version : image VERSION_WORD ≡ VERSION
+  pub machine : image MACHINE_WORD ≡ id
+  pub frames : image FRAMES_WORD ≡ F
+  pub next_number : image NEXT_NUMBER_WORD ≡ 1
+  pub rest : (k : ℕ) → NEXT_NUMBER_WORD < k → k < frames_at F → image k ≡ 0
