@@ -1,0 +1,70 @@
+-- The search of the table, record by record.
+use Rattle.std.proofs.Common.{◌≡◌, ℕ, ◌+◌, ◌-◌, ◌<◌, ◌≤◌, ◌&&◌, cond, leb, List, length, Option, Some, None, IfSome, is_none, refl, sym, ap, ap₂, ◌∙◌, arith}
+use Rattle.std.proofs.lemmas.Bool.{le-leb, lt-leb}
+use Rattle.pud_defs.specs.declared.machine.Refusal.TheVariants as refusals
+use Rattle.pud_defs.specs.Step.{is_other}
+use Rattle.std.specs.Option.{option_or}
+use Rattle.pud_defs.specs.declared.layout.TheConstants.{TYPE_RECORDS}
+use Rattle.pud_defs.specs.Image.{Image}
+use Rattle.pud_defs.specs.Types.{type_record_at, type_records, type_table, first_free, map_of}
+use Rattle.pud_defs.proofs.TypeTable.{type_records_free, type_records_none, first_free_used, first_free_here, first_free_none, map_of_record, map_of_record_other, map_of_record_none, length-type_records_full, first_free_some}
+use Rattle.type_maps.specs.declared.Place.{Place}
+use Rattle.type_maps.specs.declared.Place.TheVariants as places
+use Rattle.type_maps.specs.Define.{place_by, place_of, table_refusal}
+
+-- what the search answers from record i on, where the lowest free record so far is this one
+abbrev pub place_from : Image → ℕ → Option ℕ → ℕ → Place
+place_from image id free i = place_by (map_of id (type_records image i (TYPE_RECORDS - i))) (option_or free (first_free image i (TYPE_RECORDS - i)))
+
+free_first : (m free : Option ℕ) (i : ℕ) (later : Option ℕ) → place_by m (option_or free (Some i)) ≡ place_by m (option_or (option_or free (Some i)) later)
+free_first m None i later = refl
+free_first m (Some r) i later = refl
+
+pub place_from-free : (image : Image) (id : ℕ) (free : Option ℕ) (i : ℕ) → i < TYPE_RECORDS → image (type_record_at i) ≡ 0 → place_from image id free i ≡ place_from image id (option_or free (Some i)) (i + 1)
+place_from-free image id free i below empty =
+    ap₂ (λ (rs : List (ℕ × ℕ)) (f : Option ℕ). place_by (map_of id rs) (option_or free f)) (type_records_free image i TYPE_RECORDS below empty) (first_free_here image i TYPE_RECORDS below empty)
+    ∙ free_first (map_of id (type_records image (i + 1) (TYPE_RECORDS - (i + 1)))) free i (first_free image (i + 1) (TYPE_RECORDS - (i + 1)))
+
+pub place_from-other : (image : Image) (id : ℕ) (free : Option ℕ) (i : ℕ) → i < TYPE_RECORDS → (image (type_record_at i) ≡ 0 → ⊥) → (image (type_record_at i) ≡ id → ⊥) → place_from image id free i ≡ place_from image id free (i + 1)
+place_from-other image id free i below used other =
+    ap₂ (λ (m f : Option ℕ). place_by m (option_or free f)) (map_of_record_other image id i TYPE_RECORDS below other) (first_free_used image i TYPE_RECORDS below used)
+
+pub place_from-here : (image : Image) (id : ℕ) (free : Option ℕ) (i : ℕ) → i < TYPE_RECORDS → (image (type_record_at i) ≡ 0 → ⊥) → image (type_record_at i) ≡ id → place_from image id free i ≡ places.Defined (image (type_record_at i + 1))
+place_from-here image id free i below used here =
+    let above : 0 < id = omega arith in
+    ap (λ (m : Option ℕ). place_by m (option_or free (first_free image i (TYPE_RECORDS - i)))) (map_of_record image id i TYPE_RECORDS below above here)
+
+option_or-none : (free : Option ℕ) → option_or free None ≡ free
+option_or-none None = refl
+option_or-none (Some r) = refl
+
+pub place_from-end : (image : Image) (id : ℕ) (free : Option ℕ) (i : ℕ) → TYPE_RECORDS ≤ i → place_from image id free i ≡ place_by None free
+place_from-end image id free i past =
+    ap₂ (λ (m f : Option ℕ). place_by m (option_or free f)) (map_of_record_none image id i TYPE_RECORDS past) (first_free_none image i TYPE_RECORDS past)
+    ∙ ap (λ (f : Option ℕ). place_by None f) (option_or-none free)
+
+pub either_within : (free : Option ℕ) (i : ℕ) → IfSome free (λ r. r < TYPE_RECORDS) → i < TYPE_RECORDS → IfSome (option_or free (Some i)) (λ r. r < TYPE_RECORDS)
+either_within None i within below = below
+either_within (Some r) i within below = within
+
+full_refuses_by : (m f : Option ℕ) (map count : ℕ) → place_by m f ≡ places.Full → (f ≡ None → count ≡ TYPE_RECORDS)
+    → cond (is_other map m) (Some refusals.Clash) (cond (is_none m && leb TYPE_RECORDS count) (Some refusals.Full) None) ≡ Some refusals.Full
+full_refuses_by (Some x) f map count is full = absurd (let no : places.Defined x ≡ places.Full = is in cc)
+full_refuses_by None (Some r) map count is full = absurd (let no : places.Free r ≡ places.Full = is in cc)
+full_refuses_by None None map count is full = rw (le-leb TYPE_RECORDS count (let e = full refl in omega arith)) refl
+
+-- the table has no room: a type that it lacks is refused
+pub full_refuses : (image : Image) (id map : ℕ) → place_of image id ≡ places.Full → table_refusal (type_table image) id map ≡ Some refusals.Full
+full_refuses image id map is =
+    full_refuses_by (map_of id (type_table image)) (first_free image 0 TYPE_RECORDS) map (length (type_table image)) is (length-type_records_full image 0 TYPE_RECORDS)
+
+free_accepts_by : (m f : Option ℕ) (map count r : ℕ) → place_by m f ≡ places.Free r → ((x : ℕ) → f ≡ Some x → count < TYPE_RECORDS)
+    → cond (is_other map m) (Some refusals.Clash) (cond (is_none m && leb TYPE_RECORDS count) (Some refusals.Full) None) ≡ None
+free_accepts_by (Some x) f map count r is room = absurd (let no : places.Defined x ≡ places.Free r = is in cc)
+free_accepts_by None (Some x) map count r is room = rw (lt-leb TYPE_RECORDS count (room x refl)) refl
+free_accepts_by None None map count r is room = absurd (let no : places.Full ≡ places.Free r = is in cc)
+
+-- a record is free: a type that the table lacks is not refused
+pub free_accepts : (image : Image) (id map r : ℕ) → place_of image id ≡ places.Free r → table_refusal (type_table image) id map ≡ None
+free_accepts image id map r is =
+    free_accepts_by (map_of id (type_table image)) (first_free image 0 TYPE_RECORDS) map (length (type_table image)) r is (λ x free. (first_free_some image 0 TYPE_RECORDS x free).room)

@@ -1,0 +1,89 @@
+-- What a definition does to the type table.
+use Rattle.std.specs.Prelude.{◌≡◌, ◌⊎◌, ℕ, ◌+◌, ◌<◌, ◌≤◌, ◌==◌, Bool, cond, List, Option, Some, None, is_some, Result, Ok, Err}
+use Rattle.pm_model.specs.declared.host.HostFault.{HostFault}
+use Rattle.pm_model.specs.Words.{Words, Picks, HasOnly}
+use Rattle.pm_model.specs.Moments.{State}
+use Rattle.pm_model.specs.Changes.{Changes, Leaves, Silently, Write, written as may_be_written}
+use Rattle.pud_defs.specs.declared.layout.TheConstants.{TYPE_TABLE, TYPE_RECORDS, POOL_TABLE}
+use Rattle.pud_defs.specs.declared.machine.Refusal.{Refusal}
+use Rattle.pud_defs.specs.declared.machine.Refusal.TheVariants as refusals
+use Rattle.pud_defs.specs.Image.{Image, written}
+use Rattle.pud_defs.specs.Types.{type_record_at, type_table, first_free, map_of}
+use Rattle.pud_defs.specs.Step.{is_clash, is_full}
+use Rattle.type_maps.specs.declared.TypeFault.{TypeFault}
+use Rattle.type_maps.specs.declared.TypeFault.TheVariants as faults
+use Rattle.type_maps.specs.declared.Place.{Place}
+use Rattle.type_maps.specs.declared.Place.TheVariants as places
+
+-- the host's fault that a definition answered
+abbrev pub fault_in : Result (Unit {0}) TypeFault → Option HostFault
+fault_in (Ok x) = None
+fault_in (Err (faults.Host fault)) = Some fault
+fault_in (Err faults.Clash) = None
+fault_in (Err faults.Full) = None
+
+-- the refusal that it answered
+abbrev pub refusal_in : Result (Unit {0}) TypeFault → Option Refusal
+refusal_in (Ok x) = None
+refusal_in (Err (faults.Host fault)) = None
+refusal_in (Err faults.Clash) = Some refusals.Clash
+refusal_in (Err faults.Full) = Some refusals.Full
+
+-- why a definition is refused by a table, as the list of its records
+abbrev pub table_refusal : List (ℕ × ℕ) → ℕ → ℕ → Option Refusal
+table_refusal table id map = cond (is_clash table id map) (Some refusals.Clash) (cond (is_full table id) (Some refusals.Full) None)
+
+-- the record that a definition writes: the lowest free one, and none where the type is defined
+abbrev pub place_for : Image → ℕ → Option ℕ
+place_for image id = cond (is_some (map_of id (type_table image))) None (first_free image 0 TYPE_RECORDS)
+
+abbrev pub place_by : Option ℕ → Option ℕ → Place
+place_by (Some map) free = places.Defined map
+place_by None (Some record_number) = places.Free record_number
+place_by None None = places.Full
+
+-- where a type stands in the table, or would stand
+abbrev pub place_of : Image → ℕ → Place
+place_of image id = place_by (map_of id (type_table image)) (first_free image 0 TYPE_RECORDS)
+
+-- a free record is one of the table
+abbrev pub IsInTable : Place → Type 0
+IsInTable (places.Defined map) = Unit {0}
+IsInTable (places.Free r) = r < TYPE_RECORDS
+IsInTable places.Full = Unit {0}
+
+-- the two words of record r
+abbrev pub record_write : ℕ → ℕ → ℕ → Write
+record_write r id map k = cond (k == type_record_at r) (Some id) (cond (k == type_record_at r + 1) (Some map) None)
+
+-- the image with the map word of record r written
+abbrev pub half_defined : ℕ → ℕ → Image → Image
+half_defined r map image = written (type_record_at r + 1) map image
+
+-- the image with record r written
+abbrev pub defined : ℕ → ℕ → ℕ → Image → Image
+defined r id map image = written (type_record_at r) id (half_defined r map image)
+
+-- an image of these words, or one with the map word of record r written, or with the whole record
+pub record IsDefining (words : Words) (r id map : ℕ) (image : Image) : Type 0 where
+  pub before : Image
+  pub picked : Picks words before
+  pub is : (image ≡ before) ⊎ (image ≡ half_defined r map before) ⊎ (image ≡ defined r id map before)
+
+-- an image of these words with record r written
+pub record IsDefined (words : Words) (r id map : ℕ) (image : Image) : Type 0 where
+  pub before : Image
+  pub picked : Picks words before
+  pub is : image ≡ defined r id map before
+
+-- each word of the type table has one value
+pub record HasDurableTypes (words : Words) : Type 0 where
+  pub each : (k : ℕ) → TYPE_TABLE ≤ k → k < POOL_TABLE → HasOnly (words k) (words k).newest
+
+-- Record r is written, its map word durable before its id word: each image left has the table as it was, or with the map word of the free
+-- record written, or with the record; at Ok each image left has the record.
+pub record Defines (r id map : ℕ) (fault : Option HostFault) (old new : State) : Type 0 where
+  pub changes : Changes (may_be_written (record_write r id map)) fault old new
+  pub moments : Leaves (Silently (IsDefining old.now.words r id map)) old new
+  pub done : fault ≡ None → (image : Image) → Picks new.now.words image → IsDefined old.now.words r id map image
+  pub durable : fault ≡ None → HasDurableTypes old.now.words → HasDurableTypes new.now.words

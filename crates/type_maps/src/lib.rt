@@ -1,0 +1,124 @@
+//! The type table: the pointer map of each type that was defined, by its id.
+#![tactic(auto)]
+
+ghost use Rattle.std.specs.Prelude.{◌≡◌, ◌≢◌, ◌+◌, ◌*◌, ◌<◌, ◌≤◌, ◌^◌, ℕ, Option, IfOk, IsSome};
+ghost use Rattle.pm_model.specs.Words.{reads};
+ghost use Rattle.pm_model.specs.Counts.{after_fault, fault_of};
+ghost use Rattle.pud_defs.specs.Types.{map_of, type_table};
+ghost use Rattle.type_maps.specs.Define.{fault_in, refusal_in, table_refusal, place_for, place_of, IsInTable, Defines};
+
+use pm_model::{Host, HostFault};
+use pm_persist::persist_word;
+use pud_defs::layout::{POOL_TABLE, TYPE_RECORD_WORDS, TYPE_RECORDS, TYPE_TABLE};
+
+/// Why a type was not defined. Nothing changed but after a fault of the host.
+#[derive(Clone, Copy, Debug, PartialEq, Eq)]
+pub enum TypeFault {
+    /// The id is defined with another map.
+    Clash,
+    /// The id is not defined, and each record is used.
+    Full,
+    /// The host's own fault.
+    Host(HostFault),
+}
+
+impl From<HostFault> for TypeFault {
+    ghost use Rattle.type_maps.specs.declared.TypeFault.TheVariants.{Host};
+
+    ghost from_gives = { λ fault e. e ≡ Host fault };
+
+    fn from(fault: HostFault) -> Self {
+        TypeFault::Host(fault)
+    }
+}
+
+/// Where a type stands in the table, or would stand.
+#[derive(Clone, Copy)]
+enum Place {
+    /// It is defined, with this map.
+    Defined(u64),
+    /// It is not; this is the lowest free record.
+    Free(u32),
+    /// It is not, and no record is free.
+    Full,
+}
+
+/// Looks the type up, record by record.
+fn look_up<H: Host>(h: &mut H, id: u32) -> Result<Place, HostFault>
+    requires { POOL_TABLE ≤ (H.counts h.old).size }
+    ensures place { H.tells → IfOk result (λ place. place ≡ place_of (reads (H.state h.old).now.words) id) }
+    ensures within { IfOk result IsInTable }
+    ensures stays { H.tells → H.state h.new ≡ H.state h.old }
+    ensures cause { H.counts h.new ≡ after_fault (fault_of result) (H.counts h.old) }
+    ensures never_cut { fault_of result ≢ Option.Some HostFault.Cut }
+{
+    let mut free = None;
+    for record in 0..TYPE_RECORDS {
+        let at = TYPE_TABLE + TYPE_RECORD_WORDS * record;
+        let used_by = h.load(at)?;
+        if used_by == 0 {
+            free = free.or(Some(record));
+        } else if used_by == u64::from(id) {
+            return Ok(Place::Defined(h.load(at + 1)?));
+        }
+    }
+    match free {
+        Some(record) => Ok(Place::Free(record)),
+        None => Ok(Place::Full),
+    }
+}
+
+/// The map of type `id`, or None exactly where no used record of the table has the id.
+///
+/// The device reaches beyond the type table. The only errors are the host's own.
+pub fn find<H: Host>(h: &mut H, id: u32) -> Result<Option<u64>, HostFault>
+    requires { POOL_TABLE ≤ (H.counts h.old).size }
+    ensures map { H.tells → IfOk result (λ map. map ≡ map_of id (type_table (reads (H.state h.old).now.words))) }
+    ensures stays { H.tells → H.state h.new ≡ H.state h.old }
+    ensures cause { H.counts h.new ≡ after_fault (fault_of result) (H.counts h.old) }
+    ensures never_cut { fault_of result ≢ Option.Some HostFault.Cut }
+{
+    match look_up(h, id)? {
+        Place::Defined(map) => Ok(Some(map)),
+        Place::Free(_) | Place::Full => Ok(None),
+    }
+}
+
+/// Writes a record: the map word is durable before the id word, which makes the record a used one.
+fn write_record<H: Host>(h: &mut H, place: u32, id: u32, map: u64) -> Result<(), HostFault>
+    requires table { POOL_TABLE ≤ (H.counts h.old).size }
+    requires within { place < TYPE_RECORDS }
+    ensures defines { H.tells → Defines place id map (fault_of result) (H.state h.old) (H.state h.new) }
+    ensures cause { H.counts h.new ≡ after_fault (fault_of result) (H.counts h.old) }
+{
+    let at = TYPE_TABLE + TYPE_RECORD_WORDS * place;
+    persist_word(h, at + 1, map)?;
+    persist_word(h, at, u64::from(id))
+}
+
+/// Defines type `id` with the map word `map` in the lowest free record, durably at `Ok`. A type that has this map
+/// already is left as it is.
+///
+/// The device reaches beyond the type table. `Clash` comes exactly where the id has another map, `Full` exactly where
+/// it has none and all records are used, where the host does not fail first.
+pub fn define<H: Host>(h: &mut H, id: u32, map: u64) -> Result<(), TypeFault>
+    requires { POOL_TABLE ≤ (H.counts h.old).size }
+    ensures refusal { H.tells → fault_in result ≡ Option.None
+        → refusal_in result ≡ table_refusal (type_table (reads (H.state h.old).now.words)) id map }
+    ensures idle { H.tells → place_for (reads (H.state h.old).now.words) id ≡ Option.None → H.state h.new ≡ H.state h.old }
+    ensures defines { H.tells → (r : ℕ) → place_for (reads (H.state h.old).now.words) id ≡ Option.Some r
+        → Defines r id map (fault_in result) (H.state h.old) (H.state h.new) }
+    ensures cause { H.counts h.new ≡ after_fault (fault_in result) (H.counts h.old) }
+{
+    match look_up(h, id)? {
+        Place::Defined(defined) => {
+            if defined == map {
+                Ok(())
+            } else {
+                Err(TypeFault::Clash)
+            }
+        }
+        Place::Full => Err(TypeFault::Full),
+        Place::Free(record) => Ok(write_record(h, record, id, map)?),
+    }
+}
