@@ -1,8 +1,8 @@
 -- The image of a device that was just formatted.
-use Rattle.std.proofs.Common.{◌≡◌, ℕ, zero, suc, ◌+◌, ◌*◌, ◌<◌, ◌≤◌, true, List, [], Some, refl, sym, ap, ◌∙◌, arith, leb-true, eq-eqb}
+use Rattle.std.proofs.Common.{nat_le, ◌≡◌, ℕ, zero, suc, ◌+◌, ◌<◌, ◌≤◌, true, [], Some, refl, ap, ◌∙◌, arith, leb-true, eq-eqb}
 use Rattle.std.proofs.lemmas.Bool.{and_parts, cond-true}
-use Rattle.pud_defs.specs.declared.layout.TheConstants.{TYPE_RECORDS, DEVICE_MAGIC, VERSION}
-use Rattle.pud_defs.specs.Layout.{tables_end, frames_at, device_words, is_legal_frame_count}
+use Rattle.pud_defs.specs.declared.layout.TheConstants.{TYPE_RECORDS, MIN_FRAMES, MAX_FRAMES}
+use Rattle.pud_defs.specs.Layout.{device_words, is_legal_frame_count}
 use Rattle.pud_defs.specs.Image.{Image}
 use Rattle.pud_defs.specs.Types.{type_record_at, type_records, type_table, by_id, are_legal_types}
 use Rattle.pud_defs.specs.World.{IsBlank, world_of, blank_world}
@@ -17,7 +17,7 @@ type_records-blank image from (suc count) h =
 
 pub standing_blank : (size F machine : ℕ) (image : Image) → is_legal_frame_count F ≡ true → device_words F ≤ size → IsBlank F machine image → StandsFor size image (blank_world F machine)
 standing_blank size F machine image legal room h =
-    let counts = and_parts _ _ legal in
+    let counts : (nat_le MIN_FRAMES F ≡ true) × (nat_le F MAX_FRAMES ≡ true) = and_parts _ _ legal in
     let none : type_table image ≡ [] = type_records-blank image 0 TYPE_RECORDS (λ i low high. h.rest (type_record_at i) (omega arith) (omega arith)) in
     record {
       magic = h.magic;
@@ -33,7 +33,7 @@ standing_blank size F machine image legal room h =
       types = ap by_id none;
       legal = ap are_legal_types none;
       empty_log = h.rest 64 (omega arith) (omega arith);
-      empty_tables = λ k from below. h.rest k (omega arith) (omega arith)
+      empty_tables = λ k from below. h.rest k (omega arith) (omega arith);
     }
 
 pub world_of-blank : (size F machine : ℕ) (image : Image) → is_legal_frame_count F ≡ true → device_words F ≤ size → IsBlank F machine image → world_of size image ≡ Some (blank_world F machine)

@@ -1,8 +1,7 @@
 -- What the two writes of a type's definition do to the world that an image stands for.
-use Rattle.std.proofs.Common.{◌≡◌, ℕ, ◌+◌, ◌-◌, ◌*◌, ◌<◌, ◌≤◌, true, List, [], ◌∷◌, ◌++◌, Some, None, refl, sym, ap, ◌∙◌, arith, subst, leb-true}
+use Rattle.std.proofs.Common.{◌≡◌, ℕ, ◌+◌, ◌-◌, ◌<◌, ◌≤◌, true, ◌∷◌, ◌++◌, Some, None, refl, sym, ap, ◌∙◌, arith, leb-true}
 use Rattle.std.proofs.lemmas.Bool.{and_parts}
 use Rattle.pud_defs.specs.declared.layout.TheConstants.{TYPE_RECORDS, MAGIC_WORD, VERSION_WORD, MACHINE_WORD, FRAMES_WORD, NEXT_NUMBER_WORD, DAEMON_LOG}
-use Rattle.pud_defs.specs.Layout.{tables_end}
 use Rattle.pud_defs.specs.Image.{Image, written}
 use Rattle.pud_defs.specs.TypeMap.{is_legal_map, is_legal_type_id}
 use Rattle.pud_defs.specs.Types.{type_record_at, type_records, type_table, types_of, by_id, map_of, with_type, are_legal_types}
@@ -14,24 +13,24 @@ use Rattle.pud_defs.proofs.Worlds.{StandsFor, standing_of_world, world_of_standi
 
 -- a word of the type table is written: what else is read stays
 rest_stays : (size : ℕ) (image : Image) (s t : StoredWorld) (w v : ℕ) → type_record_at 0 ≤ w → w < type_record_at TYPE_RECORDS → StandsFor size image s
-  → t.frames ≡ s.frames → t.machine ≡ s.machine → t.next_number ≡ s.next_number
-  → types_of (written w v image) ≡ t.types → are_legal_types (type_table (written w v image)) ≡ true → StandsFor size (written w v image) t
+    → t.frames ≡ s.frames → t.machine ≡ s.machine → t.next_number ≡ s.next_number
+    → types_of (written w v image) ≡ t.types → are_legal_types (type_table (written w v image)) ≡ true → StandsFor size (written w v image) t
 rest_stays size image s t w v low high h frames machine number types legal = record {
-    magic = written_other w v image MAGIC_WORD (λ e. absurd (omega arith)) ∙ h.magic;
-    version = written_other w v image VERSION_WORD (λ e. absurd (omega arith)) ∙ h.version;
-    machine = written_other w v image MACHINE_WORD (λ e. absurd (omega arith)) ∙ h.machine ∙ sym machine;
-    frames = written_other w v image FRAMES_WORD (λ e. absurd (omega arith)) ∙ h.frames ∙ sym frames;
-    next_number = written_other w v image NEXT_NUMBER_WORD (λ e. absurd (omega arith)) ∙ h.next_number ∙ sym number;
-    enough_frames = let few = h.enough_frames in omega arith;
-    no_more_frames = let many = h.no_more_frames in omega arith;
-    room = let words = h.room in omega arith;
-    number_low = let least = h.number_low in omega arith;
-    number_high = let most = h.number_high in omega arith;
-    types = types;
-    legal = legal;
-    empty_log = written_other w v image DAEMON_LOG (λ e. absurd (omega arith)) ∙ h.empty_log;
-    empty_tables = λ k from below. written_other w v image k (λ e. absurd (omega arith)) ∙ h.empty_tables k from (omega arith)
-  }
+  magic = written_other w v image MAGIC_WORD (λ e. absurd (omega arith)) ∙ h.magic;
+  version = written_other w v image VERSION_WORD (λ e. absurd (omega arith)) ∙ h.version;
+  machine = written_other w v image MACHINE_WORD (λ e. absurd (omega arith)) ∙ h.machine ∙ sym machine;
+  frames = written_other w v image FRAMES_WORD (λ e. absurd (omega arith)) ∙ h.frames ∙ sym frames;
+  next_number = written_other w v image NEXT_NUMBER_WORD (λ e. absurd (omega arith)) ∙ h.next_number ∙ sym number;
+  enough_frames = let few = h.enough_frames in omega arith;
+  no_more_frames = let many = h.no_more_frames in omega arith;
+  room = let words = h.room in omega arith;
+  number_low = let least = h.number_low in omega arith;
+  number_high = let most = h.number_high in omega arith;
+  types = types;
+  legal = legal;
+  empty_log = written_other w v image DAEMON_LOG (λ e. absurd (omega arith)) ∙ h.empty_log;
+  empty_tables = λ k from below. written_other w v image k (λ e. absurd (omega arith)) ∙ h.empty_tables k from (omega arith);
+}
 
 -- the map word of a free record is written: the image stands for the same world
 pub standing-map_written : (size : ℕ) (image : Image) (s : StoredWorld) (r v : ℕ) → StandsFor size image s → r < TYPE_RECORDS → image (type_record_at r) ≡ 0 → StandsFor size (written (type_record_at r + 1) v image) s
@@ -41,8 +40,8 @@ standing-map_written size image s r v h within free =
 
 -- the id word of a free record is written where its map word is in place: the type is defined
 pub standing-id_written : (size : ℕ) (image : Image) (s : StoredWorld) (r id map : ℕ) → StandsFor size image s → r < TYPE_RECORDS → image (type_record_at r) ≡ 0 → image (type_record_at r + 1) ≡ map
-  → is_legal_type_id id ≡ true → is_legal_map map ≡ true → map_of id s.types ≡ None
-  → StandsFor size (written (type_record_at r) id image) (record s { types = with_type id map s.types })
+    → is_legal_type_id id ≡ true → is_legal_map map ≡ true → map_of id s.types ≡ None
+    → StandsFor size (written (type_record_at r) id image) (record s { types = with_type id map s.types })
 standing-id_written size image s r id map h within free there legal_id legal_map none =
     let before = type_records image 0 r in
     let behind = type_records image (r + 1) (TYPE_RECORDS - (r + 1)) in
@@ -51,8 +50,8 @@ standing-id_written size image s r id map h within free there legal_id legal_map
     let now : type_table (written (type_record_at r) id image) ≡ before ++ (id, map) ∷ behind = type_records-id_written image TYPE_RECORDS r id within above ∙ ap (λ m. before ++ (id, m) ∷ behind) there in
     let apart : map_of id (before ++ behind) ≡ None = ap (map_of id) (sym but) ∙ map_of_world size image s id h ∙ none in
     rest_stays size image s (record s { types = with_type id map s.types }) (type_record_at r) id (omega arith) (omega arith) h refl refl refl
-      (ap by_id now ∙ by_id-insert id map before behind apart ∙ ap (with_type id map) (ap by_id (sym but) ∙ h.types))
-      (ap are_legal_types now ∙ are_legal_types-insert id map before behind legal_id legal_map apart (ap are_legal_types (sym but) ∙ h.legal))
+    (ap by_id now ∙ by_id-insert id map before behind apart ∙ ap (with_type id map) (ap by_id (sym but) ∙ h.types))
+    (ap are_legal_types now ∙ are_legal_types-insert id map before behind legal_id legal_map apart (ap are_legal_types (sym but) ∙ h.legal))
 
 -- the same two, of the world that an image has
 
@@ -60,18 +59,18 @@ pub world_of-map_written : (size : ℕ) (image : Image) (s : StoredWorld) (r v :
 world_of-map_written size image s r v h within free = world_of_standing size _ s (standing-map_written size image s r v (standing_of_world size image s h) within free)
 
 pub world_of-id_written : (size : ℕ) (image : Image) (s : StoredWorld) (r id map : ℕ) → world_of size image ≡ Some s → r < TYPE_RECORDS → image (type_record_at r) ≡ 0 → image (type_record_at r + 1) ≡ map
-  → is_legal_type_id id ≡ true → is_legal_map map ≡ true → map_of id s.types ≡ None
-  → world_of size (written (type_record_at r) id image) ≡ Some (record s { types = with_type id map s.types })
+    → is_legal_type_id id ≡ true → is_legal_map map ≡ true → map_of id s.types ≡ None
+    → world_of size (written (type_record_at r) id image) ≡ Some (record s { types = with_type id map s.types })
 world_of-id_written size image s r id map h within free there legal_id legal_map none =
     world_of_standing size _ _ (standing-id_written size image s r id map (standing_of_world size image s h) within free there legal_id legal_map none)
 
 -- both writes
 pub world_of-defined : (size : ℕ) (image : Image) (s : StoredWorld) (r id map : ℕ) → world_of size image ≡ Some s → r < TYPE_RECORDS → image (type_record_at r) ≡ 0
-  → is_legal_type_id id ≡ true → is_legal_map map ≡ true → map_of id s.types ≡ None
-  → world_of size (written (type_record_at r) id (written (type_record_at r + 1) map image)) ≡ Some (record s { types = with_type id map s.types })
+    → is_legal_type_id id ≡ true → is_legal_map map ≡ true → map_of id s.types ≡ None
+    → world_of size (written (type_record_at r) id (written (type_record_at r + 1) map image)) ≡ Some (record s { types = with_type id map s.types })
 world_of-defined size image s r id map h within free legal_id legal_map none =
     let placed = written (type_record_at r + 1) map image in
     world_of-id_written size placed s r id map (world_of-map_written size image s r map h within free) within
-      (written_other (type_record_at r + 1) map image (type_record_at r) (λ e. absurd (omega arith)) ∙ free)
-      (written_there (type_record_at r + 1) map image)
-      legal_id legal_map none
+    (written_other (type_record_at r + 1) map image (type_record_at r) (λ e. absurd (omega arith)) ∙ free)
+    (written_there (type_record_at r + 1) map image)
+    legal_id legal_map none

@@ -1,5 +1,5 @@
 -- Lines that are commands, and lines that are not.
-use Rattle.std.proofs.Common.{◌≡◌, ℕ, true, List, [], ◌∷◌, ◌++◌, replicate, codes, Some, None, refl}
+use Rattle.std.proofs.Common.{◌≡◌, true, [], ◌∷◌, ◌++◌, replicate, codes, Some, None, refl}
 use Rattle.pud_defs.specs.declared.machine.Command.TheVariants.{Define}
 use Rattle.pud_defs.specs.TypeMap.{map_word, is_legal_map}
 use Rattle.pud_defs.specs.Grammar.{number_of, command_of}

@@ -1,9 +1,9 @@
 -- Steps of the machine, lines of a script, and what is said.
-use Rattle.std.proofs.Common.{◌≡◌, ℕ, ◌+◌, ◌*◌, ◌^◌, true, false, List, [], ◌∷◌, ◌++◌, map, codes, None, refl}
+use Rattle.std.proofs.Common.{◌≡◌, ℕ, true, false, List, [], ◌∷◌, ◌++◌, map, codes, None, refl}
 use Rattle.std.specs.List.{range_with_len}
 use Rattle.pud_defs.specs.declared.machine.Reply.TheVariants as replies
 use Rattle.pud_defs.specs.declared.machine.Refusal.TheVariants as refusals
-use Rattle.pud_defs.specs.World.{StoredWorld, World, closed, restart, blank_world}
+use Rattle.pud_defs.specs.World.{World, restart, blank_world}
 use Rattle.pud_defs.specs.Step.{step_reply, step_world}
 use Rattle.pud_defs.specs.Run.{newlines, lines_taken}
 use Rattle.pud_defs.specs.Texts.{start_text, formatted_text, reply_text}

@@ -1,5 +1,5 @@
 -- Reading an image after a word was written.
-use Rattle.std.proofs.Common.{◌≡◌, ℕ, ◌<◌, ◌≤◌, eqb, ne_eqb, eq-eqb, refl, sym, arith, ap, cond}
+use Rattle.std.proofs.Common.{◌≡◌, ℕ, ◌≤◌, eqb, ne_eqb, eq-eqb, refl, sym, arith}
 use Rattle.std.proofs.lemmas.Bool.{cond-true, cond-false}
 use Rattle.pud_defs.specs.Image.{Image, written, IsSameBelow}
 

@@ -6,6 +6,11 @@ pub mod Zeroes
 pub mod Worlds
 pub mod Definitions
 pub mod Blank
+pub mod Lines
+pub mod Runs
+pub mod Steps
+pub mod Commands
+pub mod Said
 pub mod Opened
 pub mod ExamplesGrammar
 pub mod ExamplesImage

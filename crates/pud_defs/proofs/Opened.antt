@@ -4,9 +4,9 @@ use Rattle.pud_defs.specs.Registry.{are_zero, is_sound}
 use Rattle.pud_defs.specs.World.{stored_by, world_of}
 use Rattle.pud_defs.specs.Grammar.{number_of, fields_from, pointers_of, definition_of, command_of}
 use Rattle.pud_defs.specs.Step.{holds, refusal_of, after}
-use Rattle.pud_defs.specs.Run.{lines_taken}
+use Rattle.pud_defs.specs.Run.{closed_pieces, open_rest, lines_taken}
 use Rattle.pud_defs.specs.Texts.{start_text, formatted_text, reply_text}
 
 unfoldable pub opened : Unit {0}
-unfolding type_records first_free are_zero is_sound stored_by world_of number_of fields_from pointers_of definition_of command_of holds refusal_of after lines_taken start_text formatted_text reply_text
+unfolding type_records first_free are_zero is_sound stored_by world_of number_of fields_from pointers_of definition_of command_of holds refusal_of after closed_pieces open_rest lines_taken start_text formatted_text reply_text
 opened = tt

@@ -1,13 +1,12 @@
 -- Laws of lists of types: look-up, order, and what defining a type changes.
-use Rattle.std.proofs.Common.{◌≡◌, ℕ, suc, ◌+◌, ◌<◌, ◌≤◌, Bool, true, false, cond, ◌&&◌, eqb, ltb, T, List, [], ◌∷◌, ◌++◌, length, Option, Some, None, is_some, is_none, nat_cmp, Less, Equal, Greater, Ordering, refl, sym, ap, ◌∙◌, subst, inl, inr, ⊎_elim, arith, ne_eqb, eq-eqb, add-one, length-append, true≢false}
-use Rattle.std.specs.Ordering.{is_eq, eq_by_cmp}
-use Rattle.std.specs.FinMap.Entries.{put, find, is_sorted, find-put, is_sorted-put, length-put, same_entries, find_tied}
+use Rattle.std.proofs.Common.{◌≡◌, ℕ, ◌+◌, true, cond, ◌&&◌, eqb, T, List, [], ◌∷◌, ◌++◌, length, Option, Some, None, is_some, is_none, nat_cmp, Equal, refl, sym, ap, ◌∙◌, ⊎_elim, arith, ne_eqb, eq-eqb, add-one, true≢false}
+use Rattle.std.specs.Ordering.{eq_by_cmp}
+use Rattle.std.specs.FinMap.Entries.{is_sorted, find-put, is_sorted-put, length-put, same_entries}
 use Rattle.std.proofs.lemmas.Bool.{cases_eq, cond-true, cond-false, and_parts, and_from}
 use Rattle.std.proofs.lemmas.Bool.Decides.{nat_tests}
 use Rattle.std.proofs.lemmas.Cmp.{nat_cmp_total}
 use Rattle.pud_defs.specs.TypeMap.{is_legal_map, is_legal_type_id}
 use Rattle.pud_defs.specs.Types.{by_id, map_of, with_type, are_legal_types}
-
 
 -- ---- the order of numbers
 
@@ -41,9 +40,9 @@ map_of-insert q id map (r ∷ xs) ys none =
     let parts = map_of_none_parts id r (xs ++ ys) none in
     let rest = map_of-insert q id map xs ys parts.1 in
     ⊎_elim
-      (λ e. map_of_here q r _ e ∙ sym (cond-false _ _ _ (same_test q id ∙ ne_eqb q id (λ d. parts.0 (sym d ∙ e))) ∙ map_of_here q r (xs ++ ys) e))
-      (λ h. map_of_other q r _ h ∙ rest ∙ ap (cond (eq_by_cmp nat_cmp q id) (Some map)) (sym (map_of_other q r (xs ++ ys) h)))
-      (cases_eq q r.0)
+    (λ e. map_of_here q r _ e ∙ sym (cond-false _ _ _ (same_test q id ∙ ne_eqb q id (λ d. parts.0 (sym d ∙ e))) ∙ map_of_here q r (xs ++ ys) e))
+    (λ h. map_of_other q r _ h ∙ rest ∙ ap (cond (eq_by_cmp nat_cmp q id) (Some map)) (sym (map_of_other q r (xs ++ ys) h)))
+    (cases_eq q r.0)
 
 -- ---- by ids
 
@@ -58,10 +57,10 @@ is_sorted-by_id (r ∷ rs) = is_sorted-put nat_cmp nat_cmp_total r.0 r.1 (by_id 
 pub by_id-insert : (id map : ℕ) (xs ys : List (ℕ × ℕ)) → map_of id (xs ++ ys) ≡ None → by_id (xs ++ (id, map) ∷ ys) ≡ with_type id map (by_id (xs ++ ys))
 by_id-insert id map xs ys none =
     same_entries nat_cmp nat_cmp_total same_number _ _
-      (is_sorted-by_id (xs ++ (id, map) ∷ ys))
-      (is_sorted-put nat_cmp nat_cmp_total id map _ (is_sorted-by_id (xs ++ ys)))
-      (λ q. map_of-by_id q (xs ++ (id, map) ∷ ys) ∙ map_of-insert q id map xs ys none
-          ∙ sym (find-put nat_cmp nat_cmp_total q id map (by_id (xs ++ ys)) ∙ ap (cond (eq_by_cmp nat_cmp q id) (Some map)) (map_of-by_id q (xs ++ ys))))
+    (is_sorted-by_id (xs ++ (id, map) ∷ ys))
+    (is_sorted-put nat_cmp nat_cmp_total id map _ (is_sorted-by_id (xs ++ ys)))
+    (λ q. map_of-by_id q (xs ++ (id, map) ∷ ys) ∙ map_of-insert q id map xs ys none
+    ∙ sym (find-put nat_cmp nat_cmp_total q id map (by_id (xs ++ ys)) ∙ ap (cond (eq_by_cmp nat_cmp q id) (Some map)) (map_of-by_id q (xs ++ ys))))
 
 -- ---- defining a type
 
@@ -69,10 +68,10 @@ by_id-insert id map xs ys none =
 pub with_type-same : (id map : ℕ) (types : List (ℕ × ℕ)) → T (is_sorted nat_cmp types) → map_of id types ≡ Some map → with_type id map types ≡ types
 with_type-same id map types sorted there =
     same_entries nat_cmp nat_cmp_total same_number _ _ (is_sorted-put nat_cmp nat_cmp_total id map types sorted) sorted
-      (λ q. find-put nat_cmp nat_cmp_total q id map types ∙ ⊎_elim
-        (λ e. cond-true _ _ _ (same_test q id ∙ eq-eqb q id e) ∙ sym there ∙ ap (λ k. map_of k types) (sym e))
-        (λ h. cond-false _ _ _ (same_test q id ∙ ne_eqb q id h))
-        (cases_eq q id))
+    (λ q. find-put nat_cmp nat_cmp_total q id map types ∙ ⊎_elim
+    (λ e. cond-true _ _ _ (same_test q id ∙ eq-eqb q id e) ∙ sym there ∙ ap (λ k. map_of k types) (sym e))
+    (λ h. cond-false _ _ _ (same_test q id ∙ ne_eqb q id h))
+    (cases_eq q id))
 
 pub is_sorted-with_type : (id map : ℕ) (types : List (ℕ × ℕ)) → T (is_sorted nat_cmp types) → T (is_sorted nat_cmp (with_type id map types))
 is_sorted-with_type id map types sorted = is_sorted-put nat_cmp nat_cmp_total id map types sorted
@@ -111,7 +110,7 @@ are_legal_types-insert id map (r ∷ xs) ys i m none h =
       id = first.id;
       map = first.map;
       apart = map_of-insert r.0 id map xs ys parts.1 ∙ cond-false _ _ _ (same_test r.0 id ∙ ne_eqb r.0 id (λ e. parts.0 (sym e))) ∙ first.apart;
-      rest = are_legal_types-insert id map xs ys i m parts.1 first.rest
+      rest = are_legal_types-insert id map xs ys i m parts.1 first.rest;
     })
 
 -- distinct ids stand by ids in as many places

@@ -1,10 +1,9 @@
 -- The type table of an image: steps for loops over it, and what writing a record changes.
-use Rattle.std.proofs.Common.{◌≡◌, ℕ, zero, suc, ◌+◌, ◌-◌, ◌*◌, ◌<◌, ◌≤◌, Bool, true, false, cond, eqb, List, [], ◌∷◌, ◌++◌, length, Option, Some, None, refl, sym, ap, ap₂, ◌∙◌, inl, inr, ⊎_elim, arith, ne_eqb, eq-eqb, add-zero, zero-add, suc-add, zero-le, subst}
+use Rattle.std.proofs.Common.{◌≡◌, ℕ, zero, suc, ◌+◌, ◌-◌, ◌<◌, ◌≤◌, true, false, cond, eqb, List, [], ◌∷◌, ◌++◌, length, Some, None, refl, sym, ap, ap₂, ◌∙◌, ⊎_elim, arith, ne_eqb, eq-eqb, add-zero, zero-add, suc-add, zero-le, subst}
 use Rattle.std.proofs.lemmas.Bool.{cases_eq, cond-true, cond-false}
 use Rattle.std.proofs.lemmas.Option.{none-some, same_Some}
 use Rattle.pud_defs.specs.Image.{Image, written}
-use Rattle.pud_defs.specs.Types.{type_record_at, with_record, type_records, first_free, map_of, are_legal_types}
-use Rattle.pud_defs.specs.TypeMap.{is_legal_map, is_legal_type_id}
+use Rattle.pud_defs.specs.Types.{type_record_at, with_record, type_records, first_free, map_of}
 use Rattle.pud_defs.proofs.Images.{written_there, written_other}
 use Rattle.pud_defs.proofs.TypeLists.{map_of_here, map_of_other}
 
@@ -47,10 +46,10 @@ map_of_record image id from end h above here =
 pub map_of_record_other : (image : Image) (id from end : ℕ) → from < end → (image (type_record_at from) ≡ id → ⊥) → map_of id (type_records image from (end - from)) ≡ map_of id (type_records image (from + 1) (end - (from + 1)))
 map_of_record_other image id from end h other =
     ⊎_elim
-      (λ free. ap (map_of id) (type_records_free image from end h free))
-      (λ used. ap (map_of id) (type_records_used image from end h used)
-          ∙ map_of_other id (image (type_record_at from), image (type_record_at from + 1)) (type_records image (from + 1) (end - (from + 1))) (λ e. other (sym e)))
-      (cases_eq (image (type_record_at from)) 0)
+    (λ free. ap (map_of id) (type_records_free image from end h free))
+    (λ used. ap (map_of id) (type_records_used image from end h used)
+    ∙ map_of_other id (image (type_record_at from), image (type_record_at from + 1)) (type_records image (from + 1) (end - (from + 1))) (λ e. other (sym e)))
+    (cases_eq (image (type_record_at from)) 0)
 
 pub map_of_record_none : (image : Image) (id from end : ℕ) → end ≤ from → map_of id (type_records image from (end - from)) ≡ None
 map_of_record_none image id from end h = ap (map_of id) (type_records_none image from end h)
@@ -152,33 +151,33 @@ pub record IsLowestFree (image : Image) (from count r : ℕ) : Type 0 where
 free_here : (image : Image) (from count : ℕ) → image (type_record_at from) ≡ 0 → IsLowestFree image from (suc count) from
 unfolding type_records
 free_here image from count free = record {
-    low = omega arith;
-    high = omega arith;
-    free = free;
-    used = λ k low high. absurd (omega arith);
-    room = omega (arith, length_free (image (type_record_at from)) (image (type_record_at from + 1)) (type_records image (from + 1) count) free, length-type_records image (from + 1) count)
-  }
+  low = omega arith;
+  high = omega arith;
+  free = free;
+  used = λ k low high. absurd (omega arith);
+  room = omega (arith, length_free (image (type_record_at from)) (image (type_record_at from + 1)) (type_records image (from + 1) count) free, length-type_records image (from + 1) count);
+}
 
 free_later : (image : Image) (from count r : ℕ) → (image (type_record_at from) ≡ 0 → ⊥) → IsLowestFree image (from + 1) count r → IsLowestFree image from (suc count) r
 unfolding type_records
 free_later image from count r used h = record {
-    low = omega arith;
-    high = omega arith;
-    free = h.free;
-    used = λ k low high. ⊎_elim (λ e. subst (λ n. image (type_record_at n) ≡ 0 → ⊥) (sym e) used) (λ other. h.used k (omega arith) high) (cases_eq k from);
-    room = omega (arith, length_used (image (type_record_at from)) (image (type_record_at from + 1)) (type_records image (from + 1) count) used, h.room)
-  }
+  low = omega arith;
+  high = omega arith;
+  free = h.free;
+  used = λ k low high. ⊎_elim (λ e. subst (λ n. image (type_record_at n) ≡ 0 → ⊥) (sym e) used) (λ other. h.used k (omega arith) high) (cases_eq k from);
+  room = omega (arith, length_used (image (type_record_at from)) (image (type_record_at from + 1)) (type_records image (from + 1) count) used, h.room);
+}
 
 pub first_free_some : (image : Image) (from count r : ℕ) → first_free image from count ≡ Some r → IsLowestFree image from count r
 unfolding first_free
 first_free_some image from zero r e = absurd (none-some r e)
 first_free_some image from (suc count) r e =
     ⊎_elim
-      (λ free. let here = sym (cond-true (eqb (image (type_record_at from)) 0) (Some from) (first_free image (from + 1) count) (eq-eqb _ 0 free)) ∙ e in
-          subst (λ n. IsLowestFree image from (suc count) n) (same_Some from r here) (free_here image from count free))
-      (λ used. free_later image from count r used
-          (first_free_some image (from + 1) count r (sym (cond-false (eqb (image (type_record_at from)) 0) (Some from) (first_free image (from + 1) count) (ne_eqb _ 0 used)) ∙ e)))
-      (cases_eq (image (type_record_at from)) 0)
+    (λ free. let here = sym (cond-true (eqb (image (type_record_at from)) 0) (Some from) (first_free image (from + 1) count) (eq-eqb _ 0 free)) ∙ e in
+    subst (λ n. IsLowestFree image from (suc count) n) (same_Some from r here) (free_here image from count free))
+    (λ used. free_later image from count r used
+    (first_free_some image (from + 1) count r (sym (cond-false (eqb (image (type_record_at from)) 0) (Some from) (first_free image (from + 1) count) (ne_eqb _ 0 used)) ∙ e)))
+    (cases_eq (image (type_record_at from)) 0)
 
 -- where no record is free all are used
 pub length-type_records_full : (image : Image) (from count : ℕ) → first_free image from count ≡ None → length (type_records image from count) ≡ count
@@ -186,7 +185,7 @@ unfolding first_free type_records
 length-type_records_full image from zero e = refl
 length-type_records_full image from (suc count) e =
     ⊎_elim
-      (λ free. absurd (none-some from (sym e ∙ cond-true (eqb (image (type_record_at from)) 0) (Some from) (first_free image (from + 1) count) (eq-eqb _ 0 free))))
-      (λ used. length_used (image (type_record_at from)) (image (type_record_at from + 1)) (type_records image (from + 1) count) used
-          ∙ ap suc (length-type_records_full image (from + 1) count (sym (cond-false (eqb (image (type_record_at from)) 0) (Some from) (first_free image (from + 1) count) (ne_eqb _ 0 used)) ∙ e)))
-      (cases_eq (image (type_record_at from)) 0)
+    (λ free. absurd (none-some from (sym e ∙ cond-true (eqb (image (type_record_at from)) 0) (Some from) (first_free image (from + 1) count) (eq-eqb _ 0 free))))
+    (λ used. length_used (image (type_record_at from)) (image (type_record_at from + 1)) (type_records image (from + 1) count) used
+    ∙ ap suc (length-type_records_full image (from + 1) count (sym (cond-false (eqb (image (type_record_at from)) 0) (Some from) (first_free image (from + 1) count) (ne_eqb _ 0 used)) ∙ e)))
+    (cases_eq (image (type_record_at from)) 0)

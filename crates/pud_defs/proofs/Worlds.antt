@@ -1,12 +1,12 @@
 -- What it says that an image stands for a world, point by point.
-use Rattle.std.proofs.Common.{◌≡◌, ℕ, suc, ◌+◌, ◌-◌, ◌*◌, ◌<◌, ◌≤◌, Bool, true, false, cond, ◌&&◌, T, List, length, Option, Some, None, nat_cmp, refl, sym, ap, ap₂, ◌∙◌, arith, eqb-true, eq-eqb, leb-true, le-leb, subst}
+use Rattle.std.proofs.Common.{◌≡◌, ℕ, ◌-◌, ◌<◌, ◌≤◌, true, ◌&&◌, T, length, Some, None, nat_cmp, refl, sym, ap, ◌∙◌, arith, eqb-true, eq-eqb, leb-true, le-leb, subst}
 use Rattle.std.specs.FinMap.Entries.{is_sorted}
 use Rattle.std.proofs.lemmas.Bool.{and_parts, and_from, cond-true}
 use Rattle.std.proofs.lemmas.Option.{cond_some}
 use Rattle.pud_defs.specs.declared.layout.TheConstants.{DEVICE_MAGIC, VERSION, MIN_FRAMES, MAX_FRAMES, NUMBER_LIMIT, MAGIC_WORD, VERSION_WORD, MACHINE_WORD, FRAMES_WORD, NEXT_NUMBER_WORD, DAEMON_LOG, POOL_TABLE, TYPE_RECORDS}
 use Rattle.pud_defs.specs.Layout.{tables_end, device_words}
 use Rattle.pud_defs.specs.Image.{Image, IsSameBelow}
-use Rattle.pud_defs.specs.Types.{type_record_at, type_records, type_table, types_of, by_id, map_of, first_free, are_legal_types}
+use Rattle.pud_defs.specs.Types.{type_table, types_of, by_id, map_of, first_free, are_legal_types}
 use Rattle.pud_defs.specs.Registry.{frames_of, is_sound, has_magic, has_version, has_room, has_legal_number, has_legal_types, has_empty_log, has_empty_tables}
 use Rattle.pud_defs.specs.World.{StoredWorld, stored_by, world_of}
 use Rattle.pud_defs.proofs.TypeLists.{is_sorted-by_id, map_of-by_id, length-by_id}
@@ -41,13 +41,13 @@ sound_from size image s h =
     let number_low : 1 ≤ image NEXT_NUMBER_WORD = let least = h.number_low in omega arith in
     let number_high : image NEXT_NUMBER_WORD ≤ NUMBER_LIMIT = let most = h.number_high in omega arith in
     and_from _ _ (and_from _ _ (and_from _ _ (and_from _ _ (and_from _ _ (and_from _ _
-      (eq-eqb _ _ h.magic)
-      (eq-eqb _ _ h.version))
-      (and_from _ _ (and_from _ _ (le-leb _ _ low) (le-leb _ _ high)) (le-leb _ _ room)))
-      (and_from _ _ (le-leb _ _ number_low) (le-leb _ _ number_high)))
-      h.legal)
-      (eq-eqb _ _ h.empty_log))
-      (are_zero_from image POOL_TABLE (tables_end (frames_of image) - POOL_TABLE) (λ k from below. h.empty_tables k from (omega arith)))
+    (eq-eqb _ _ h.magic)
+    (eq-eqb _ _ h.version))
+    (and_from _ _ (and_from _ _ (le-leb _ _ low) (le-leb _ _ high)) (le-leb _ _ room)))
+    (and_from _ _ (le-leb _ _ number_low) (le-leb _ _ number_high)))
+    h.legal)
+    (eq-eqb _ _ h.empty_log))
+    (are_zero_from image POOL_TABLE (tables_end (frames_of image) - POOL_TABLE) (λ k from below. h.empty_tables k from (omega arith)))
 
 stored_from : (size : ℕ) (image : Image) (s : StoredWorld) → StandsFor size image s → stored_by image ≡ s
 unfolding stored_by
@@ -83,7 +83,7 @@ standing_by size image sound =
       types = refl;
       legal = types.1;
       empty_log = eqb-true _ _ log.1;
-      empty_tables = λ k from below. zero_at image POOL_TABLE (tables_end (frames_of image) - POOL_TABLE) tables.1 k from (omega arith)
+      empty_tables = λ k from below. zero_at image POOL_TABLE (tables_end (frames_of image) - POOL_TABLE) tables.1 k from (omega arith);
     }
 
 pub standing_of_world : (size : ℕ) (image : Image) (s : StoredWorld) → world_of size image ≡ Some s → StandsFor size image s
@@ -112,7 +112,7 @@ standing_same size i j s h same =
       types = sym (ap by_id table) ∙ h.types;
       legal = sym (ap are_legal_types table) ∙ h.legal;
       empty_log = sym (same.at DAEMON_LOG (omega arith)) ∙ h.empty_log;
-      empty_tables = λ k from below. sym (same.at k below) ∙ h.empty_tables k from below
+      empty_tables = λ k from below. sym (same.at k below) ∙ h.empty_tables k from below;
     }
 
 pub world_of-same : (size : ℕ) (i j : Image) (s : StoredWorld) → world_of size i ≡ Some s → IsSameBelow (tables_end s.frames) i j → world_of size j ≡ Some s

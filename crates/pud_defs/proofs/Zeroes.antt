@@ -1,5 +1,5 @@
 -- Ranges of words that are 0: steps for a loop over them, and what the test says.
-use Rattle.std.proofs.Common.{◌≡◌, ℕ, zero, suc, ◌+◌, ◌-◌, ◌<◌, ◌≤◌, Bool, true, false, ◌&&◌, eqb, refl, sym, ap, ◌∙◌, ⊎_elim, arith, ne_eqb, eq-eqb, eqb-true, subst}
+use Rattle.std.proofs.Common.{◌≡◌, ℕ, zero, suc, ◌+◌, ◌-◌, ◌<◌, ◌≤◌, true, false, ◌&&◌, eqb, refl, ap, ◌∙◌, ⊎_elim, arith, ne_eqb, eq-eqb, eqb-true}
 use Rattle.std.proofs.lemmas.Bool.{cases_eq, and_parts, and_from, and_left}
 use Rattle.pud_defs.specs.Image.{Image}
 use Rattle.pud_defs.specs.Registry.{are_zero}
@@ -24,13 +24,13 @@ zero_at image at zero h k low high = absurd (omega arith)
 zero_at image at (suc count) h k low high =
     let parts = and_parts (eqb (image at) 0) (are_zero image (at + 1) count) h in
     ⊎_elim
-      (λ e. ap image e ∙ eqb-true (image at) 0 parts.0)
-      (λ other. zero_at image (at + 1) count parts.1 k (omega arith) (omega arith))
-      (cases_eq k at)
+    (λ e. ap image e ∙ eqb-true (image at) 0 parts.0)
+    (λ other. zero_at image (at + 1) count parts.1 k (omega arith) (omega arith))
+    (cases_eq k at)
 
 pub are_zero_from : (image : Image) (at count : ℕ) → ((k : ℕ) → at ≤ k → k < at + count → image k ≡ 0) → are_zero image at count ≡ true
 unfolding are_zero
 are_zero_from image at zero h = refl
 are_zero_from image at (suc count) h =
     and_from (eqb (image at) 0) (are_zero image (at + 1) count) (eq-eqb (image at) 0 (h at (omega arith) (omega arith)))
-      (are_zero_from image (at + 1) count (λ k low high. h k (omega arith) (omega arith)))
+    (are_zero_from image (at + 1) count (λ k low high. h k (omega arith) (omega arith)))

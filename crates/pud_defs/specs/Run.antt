@@ -1,5 +1,6 @@
 -- A run: the turns of the machine over the lines of a script.
 use Rattle.std.specs.Prelude.{◌≡◌, ℕ, Bool, cond, not, ◌==◌, List, [], ◌∷◌, length, map, take, filter, count_by, ⊤}
+use Rattle.std.specs.List.{after_last}
 use Rattle.pud_defs.specs.declared.machine.Reply.{Reply}
 use Rattle.pud_defs.specs.World.{World}
 use Rattle.pud_defs.specs.Grammar.{split_at}
@@ -43,13 +44,22 @@ pub record Run (w : World) (lines : List (List ℕ)) (replies : List Reply) (end
 abbrev pub newlines : List ℕ → ℕ
 newlines bytes = count_by (λ b. b == 10) bytes
 
--- the pieces of the bytes between newlines: those that a newline closes, and the open rest
+-- the pieces of the bytes between newlines: those that a newline closes, and behind them the open rest
 abbrev pub pieces : List ℕ → List (List ℕ)
 pieces bytes = split_at 10 bytes
 
-abbrev pub is_nonempty : List ℕ → Bool
-is_nonempty line = not (length line == 0)
+-- the pieces that a newline closes
+unfoldable pub closed_pieces : List ℕ → List (List ℕ)
+closed_pieces bytes = take (newlines bytes) (pieces bytes)
 
--- the lines among the bytes taken: the closed pieces, and the rest too where the input ended; without the empty ones
+-- what stands behind the last newline, or all where there is none
+unfoldable pub open_rest : List ℕ → List ℕ
+open_rest bytes = after_last (λ b. b == 10) bytes
+
+-- the lines among some pieces: the empty ones are passed over
+abbrev pub lines_among : List (List ℕ) → List (List ℕ)
+lines_among lines = filter (λ line. not (length line == 0)) lines
+
+-- the lines among the bytes taken: the closed pieces, and the rest too where the input ended
 unfoldable pub lines_taken : List ℕ → Bool → List (List ℕ)
-lines_taken bytes ended = filter is_nonempty (cond ended (pieces bytes) (take (newlines bytes) (pieces bytes)))
+lines_taken bytes ended = lines_among (cond ended (pieces bytes) (closed_pieces bytes))

@@ -1,0 +1,72 @@
+-- Which refusal a definition meets, and what a step leaves.
+use Rattle.std.proofs.Common.{◌≡◌, ℕ, ◌<◌, ◌≤◌, Bool, true, false, not, cond, T, ◌&&◌, leb, is_none, List, length, Option, Some, None, nat_cmp, refl, sym, ap, ap₂, ◌∙◌, ne_eqb, eq-eqb, le-leb}
+use Rattle.std.specs.FinMap.Entries.{is_sorted}
+use Rattle.std.proofs.lemmas.Bool.{lt-leb}
+use Rattle.pud_defs.specs.declared.layout.TheConstants.{TYPE_RECORDS}
+use Rattle.pud_defs.specs.declared.machine.Command.{Command}
+use Rattle.pud_defs.specs.declared.machine.Command.TheVariants.{Define}
+use Rattle.pud_defs.specs.declared.machine.Reply.TheVariants as replies
+use Rattle.pud_defs.specs.declared.machine.Refusal.{Refusal}
+use Rattle.pud_defs.specs.declared.machine.Refusal.TheVariants as refusals
+use Rattle.pud_defs.specs.Types.{map_of}
+use Rattle.pud_defs.specs.World.{World}
+use Rattle.pud_defs.specs.Grammar.{command_of}
+use Rattle.pud_defs.specs.Step.{is_other, is_clash, is_full, holds, refusal_of, after, refusal_by, reply_to, world_by, unless_refused, Step}
+use Rattle.pud_defs.proofs.TypeLists.{with_type-same, is_sorted-with_type}
+
+-- the first of the two causes, by whether each holds
+abbrev chosen : Bool → Bool → Option Refusal
+chosen clash full = cond clash (Some refusals.Clash) (cond full (Some refusals.Full) None)
+
+pub refusal_of-define : (w : World) (id map : ℕ) → refusal_of w (Define id map) ≡ chosen (is_clash w.stored.types id map) (is_full w.stored.types id)
+unfolding refusal_of holds
+refusal_of-define w id map = refl
+
+refused_by : (w : World) (id map : ℕ) (found : Option ℕ) (full : Bool) → map_of id w.stored.types ≡ found → leb TYPE_RECORDS (length w.stored.types) ≡ full → refusal_of w (Define id map) ≡ chosen (is_other map found) (is_none found && full)
+refused_by w id map found full e f = refusal_of-define w id map ∙ ap₂ (λ o b. chosen (is_other map o) (is_none o && b)) e f
+
+-- the type is defined with this map
+pub define-same : (w : World) (id map : ℕ) → map_of id w.stored.types ≡ Some map → refusal_of w (Define id map) ≡ None
+define-same w id map e = refused_by w id map (Some map) _ e refl ∙ ap (λ t. chosen (not t) false) (eq-eqb map map refl)
+
+-- it is defined with another
+pub define-clash : (w : World) (id map other : ℕ) → map_of id w.stored.types ≡ Some other → (other ≡ map → ⊥) → refusal_of w (Define id map) ≡ Some refusals.Clash
+define-clash w id map other e h = refused_by w id map (Some other) _ e refl ∙ ap (λ t. chosen (not t) false) (ne_eqb other map h)
+
+-- it is not defined, and so many others are
+pub define-full : (w : World) (id map : ℕ) → map_of id w.stored.types ≡ None → TYPE_RECORDS ≤ length w.stored.types → refusal_of w (Define id map) ≡ Some refusals.Full
+define-full w id map e h = refused_by w id map None true e (le-leb TYPE_RECORDS _ h)
+
+-- it is not defined, and there is room
+pub define-new : (w : World) (id map : ℕ) → map_of id w.stored.types ≡ None → length w.stored.types < TYPE_RECORDS → refusal_of w (Define id map) ≡ None
+define-new w id map e h = refused_by w id map None false e (lt-leb TYPE_RECORDS _ h)
+
+-- a definition that stands leaves the world
+pub after-same : (w : World) (id map : ℕ) → T (is_sorted nat_cmp w.stored.types) → map_of id w.stored.types ≡ Some map → after w (Define id map) ≡ w
+unfolding after
+after-same w id map sorted e = ap (λ types. record w { stored = record w.stored { types = types } }) (with_type-same id map w.stored.types sorted e)
+
+-- ---- lines
+
+-- a line that is no command
+pub step-bad : (w : World) (line : List ℕ) → command_of line ≡ None → Step w line (replies.No refusals.Bad) w
+step-bad w line e = record { answered = sym (ap (λ c. reply_to (refusal_by w c)) e); given = sym (ap (world_by w) e) }
+
+-- a command that is refused
+pub step-refused : (w : World) (line : List ℕ) (c : Command) (r : Refusal) → command_of line ≡ Some c → refusal_of w c ≡ Some r → Step w line (replies.No r) w
+step-refused w line c r e h = record {
+  answered = sym (ap (λ d. reply_to (refusal_by w d)) e ∙ ap reply_to h);
+  given = sym (ap (world_by w) e ∙ ap (λ o. unless_refused o w (after w c)) h);
+}
+
+-- a command that is carried out
+pub step-done : (w : World) (line : List ℕ) (c : Command) → command_of line ≡ Some c → refusal_of w c ≡ None → Step w line replies.Ok (after w c)
+step-done w line c e h = record {
+  answered = sym (ap (λ d. reply_to (refusal_by w d)) e ∙ ap reply_to h);
+  given = sym (ap (world_by w) e ∙ ap (λ o. unless_refused o w (after w c)) h);
+}
+
+-- types stay by ascending ids
+pub is_sorted-after : (w : World) (c : Command) → T (is_sorted nat_cmp w.stored.types) → T (is_sorted nat_cmp (after w c).stored.types)
+unfolding after
+is_sorted-after w (Define id map) h = is_sorted-with_type id map w.stored.types h
