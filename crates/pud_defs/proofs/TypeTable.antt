@@ -1,9 +1,10 @@
 -- The type table of an image: steps for loops over it, and what writing a record changes.
-use Rattle.std.proofs.Common.{◌≡◌, ℕ, zero, suc, ◌+◌, ◌-◌, ◌<◌, ◌≤◌, true, false, cond, eqb, List, [], ◌∷◌, ◌++◌, length, Some, None, refl, sym, ap, ap₂, ◌∙◌, ⊎_elim, arith, ne_eqb, eq-eqb, add-zero, zero-add, suc-add, zero-le, subst}
+use Rattle.std.proofs.Common.{◌≡◌, ℕ, zero, suc, ◌+◌, ◌-◌, ◌<◌, ◌≤◌, true, false, cond, eqb, List, [], ◌∷◌, ◌++◌, length, Some, None, refl, sym, ap, ap₂, ◌∙◌, ⊎_elim, arith, ne_eqb, eq-eqb, add-zero, zero-add, suc-add, zero-le, subst, ◌&&◌, is_none}
 use Rattle.std.proofs.lemmas.Bool.{cases_eq, cond-true, cond-false}
 use Rattle.std.proofs.lemmas.Option.{none-some, same_Some}
 use Rattle.pud_defs.specs.Image.{Image, written}
-use Rattle.pud_defs.specs.Types.{type_record_at, with_record, type_records, first_free, map_of}
+use Rattle.pud_defs.specs.Types.{type_record_at, with_record, type_records, first_free, map_of, are_legal_types}
+use Rattle.pud_defs.specs.TypeMap.{is_legal_map, is_legal_type_id}
 use Rattle.pud_defs.proofs.Images.{written_there, written_other}
 use Rattle.pud_defs.proofs.TypeLists.{map_of_here, map_of_other}
 
@@ -53,6 +54,20 @@ map_of_record_other image id from end h other =
 
 pub map_of_record_none : (image : Image) (id from end : ℕ) → end ≤ from → map_of id (type_records image from (end - from)) ≡ None
 map_of_record_none image id from end h = ap (map_of id) (type_records_none image from end h)
+
+-- whether the records are legal: a used one, a free one, none left
+pub are_legal_record : (image : Image) (from end : ℕ) → from < end → (image (type_record_at from) ≡ 0 → ⊥)
+    → are_legal_types (type_records image from (end - from))
+    ≡ (is_legal_type_id (image (type_record_at from)) && is_legal_map (image (type_record_at from + 1))
+    && is_none (map_of (image (type_record_at from)) (type_records image (from + 1) (end - (from + 1))))
+    && are_legal_types (type_records image (from + 1) (end - (from + 1))))
+are_legal_record image from end h used = ap are_legal_types (type_records_used image from end h used)
+
+pub are_legal_record_free : (image : Image) (from end : ℕ) → from < end → image (type_record_at from) ≡ 0 → are_legal_types (type_records image from (end - from)) ≡ are_legal_types (type_records image (from + 1) (end - (from + 1)))
+are_legal_record_free image from end h free = ap are_legal_types (type_records_free image from end h free)
+
+pub are_legal_record_none : (image : Image) (from end : ℕ) → end ≤ from → are_legal_types (type_records image from (end - from)) ≡ true
+are_legal_record_none image from end h = ap are_legal_types (type_records_none image from end h)
 
 -- ---- parts of the table
 

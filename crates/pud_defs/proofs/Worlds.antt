@@ -1,7 +1,8 @@
 -- What it says that an image stands for a world, point by point.
-use Rattle.std.proofs.Common.{◌≡◌, ℕ, ◌-◌, ◌<◌, ◌≤◌, true, ◌&&◌, T, length, Some, None, nat_cmp, refl, sym, ap, ◌∙◌, arith, eqb-true, eq-eqb, leb-true, le-leb, subst}
+use Rattle.std.proofs.Common.{◌≡◌, ℕ, ◌-◌, ◌<◌, ◌≤◌, true, ◌&&◌, T, length, Option, Some, None, nat_cmp, refl, sym, ap, ◌∙◌, arith, eqb-true, eq-eqb, leb-true, le-leb, subst, false, cond, ap₂}
 use Rattle.std.specs.FinMap.Entries.{is_sorted}
-use Rattle.std.proofs.lemmas.Bool.{and_parts, and_from, cond-true}
+use Rattle.std.specs.Bool.{one_answer}
+use Rattle.std.proofs.lemmas.Bool.{and_parts, and_from, cond-true, cond-false}
 use Rattle.std.proofs.lemmas.Option.{cond_some}
 use Rattle.pud_defs.specs.declared.layout.TheConstants.{DEVICE_MAGIC, VERSION, MIN_FRAMES, MAX_FRAMES, NUMBER_LIMIT, MAGIC_WORD, VERSION_WORD, MACHINE_WORD, FRAMES_WORD, NEXT_NUMBER_WORD, DAEMON_LOG, POOL_TABLE, TYPE_RECORDS}
 use Rattle.pud_defs.specs.Layout.{tables_end, device_words}
@@ -10,8 +11,12 @@ use Rattle.pud_defs.specs.Types.{type_table, types_of, by_id, map_of, first_free
 use Rattle.pud_defs.specs.Registry.{frames_of, is_sound, has_magic, has_version, has_room, has_legal_number, has_legal_types, has_empty_log, has_empty_tables}
 use Rattle.pud_defs.specs.World.{StoredWorld, stored_by, world_of}
 use Rattle.pud_defs.proofs.TypeLists.{is_sorted-by_id, map_of-by_id, length-by_id}
-use Rattle.pud_defs.proofs.TypeTable.{type_records_same, length-type_records_full, first_free_some}
+use Rattle.pud_defs.proofs.TypeTable.{type_records_same, length-type_records, length-type_records_full, first_free_some}
 use Rattle.pud_defs.proofs.Zeroes.{zero_at, are_zero_from}
+
+none_from : {A : Type 0} (o : Option A) → ((x : A) → o ≡ Some x → ⊥) → o ≡ None
+none_from None h = refl
+none_from (Some x) h = absurd (h x refl)
 
 -- the image of a device of so many words stands for this world
 pub record StandsFor (size : ℕ) (image : Image) (s : StoredWorld) : Type 0 where
@@ -92,6 +97,19 @@ standing_of_world size image s h =
     let parts = cond_some (is_sound size image) (stored_by image) s h in
     subst (λ w. StandsFor size image w) parts.1 (standing_by size image parts.0)
 
+-- an image that stands for no world has none
+pub no_world : (size : ℕ) (image : Image) → ((s : StoredWorld) → world_of size image ≡ Some s → ⊥) → world_of size image ≡ None
+no_world size image h = none_from (world_of size image) h
+
+-- an image is sound exactly where it has a world
+pub world_of-sound : (size : ℕ) (image : Image) → is_sound size image ≡ true → world_of size image ≡ Some (stored_by image)
+unfolding world_of
+world_of-sound size image e = cond-true (is_sound size image) (Some (stored_by image)) None e
+
+pub world_of-unsound : (size : ℕ) (image : Image) → is_sound size image ≡ false → world_of size image ≡ None
+unfolding world_of
+world_of-unsound size image e = cond-false (is_sound size image) (Some (stored_by image)) None e
+
 -- ---- images that agree on all that is read
 
 -- an image that is the same below the end of the tables stands for the same world
@@ -115,8 +133,31 @@ standing_same size i j s h same =
       empty_tables = λ k from below. sym (same.at k below) ∙ h.empty_tables k from below;
     }
 
-pub world_of-same : (size : ℕ) (i j : Image) (s : StoredWorld) → world_of size i ≡ Some s → IsSameBelow (tables_end s.frames) i j → world_of size j ≡ Some s
-world_of-same size i j s h same = world_of_standing size j s (standing_same size i j s (standing_of_world size i s h) same)
+sound_same : (size : ℕ) (i j : Image) (F : ℕ) → F ≡ frames_of i → IsSameBelow (tables_end F) i j → is_sound size i ≡ true → is_sound size j ≡ true
+unfolding stored_by
+sound_same size i j F e same sound = sound_from size j (stored_by i) (standing_same size i j (stored_by i) (standing_by size i sound) (record { at = λ k below. same.at k (omega arith) }))
+
+-- images that agree there are sound together
+pub is_sound-same : (size : ℕ) (i j : Image) → IsSameBelow (tables_end (frames_of i)) i j → is_sound size i ≡ is_sound size j
+is_sound-same size i j same =
+    one_answer {P = is_sound size j ≡ true} (is_sound size i) (is_sound size j)
+    (sound_same size i j (frames_of i) refl same, sound_same size j i (frames_of i) (same.at FRAMES_WORD (omega arith)) (record { at = λ k below. sym (same.at k below) }))
+    (λ e. e, λ e. e)
+
+stored_same : (i j : Image) → IsSameBelow (tables_end (frames_of i)) i j → stored_by i ≡ stored_by j
+unfolding stored_by
+stored_same i j same =
+    let table : type_table i ≡ type_table j = type_records_same i j 0 TYPE_RECORDS (λ k low high. same.at k (omega arith)) in
+    λ p. record { frames = same.at FRAMES_WORD (omega arith) p; machine = same.at MACHINE_WORD (omega arith) p; next_number = same.at NEXT_NUMBER_WORD (omega arith) p; types = by_id (table p) }
+
+-- and stand for the same
+pub world_of-same : (size : ℕ) (i j : Image) → IsSameBelow (tables_end (frames_of i)) i j → world_of size i ≡ world_of size j
+unfolding world_of
+world_of-same size i j same = ap₂ (λ b s. cond b (Some s) None) (is_sound-same size i j same) (stored_same i j same)
+
+-- an image without the device magic stands for nothing
+pub world_of-no_magic : (size : ℕ) (image : Image) → (image MAGIC_WORD ≡ DEVICE_MAGIC → ⊥) → world_of size image ≡ None
+world_of-no_magic size image h = no_world size image (λ s e. h ((standing_of_world size image s e).magic))
 
 -- ---- the world's types are those of the table
 
@@ -136,3 +177,6 @@ full_of_world size image s h none = sym (length_of_world size image s h) ∙ len
 
 pub room_of_world : (size : ℕ) (image : Image) (s : StoredWorld) (r : ℕ) → StandsFor size image s → first_free image 0 TYPE_RECORDS ≡ Some r → length s.types < TYPE_RECORDS
 room_of_world size image s r h some = let free = first_free_some image 0 TYPE_RECORDS r some in let room = free.room in omega (arith, length_of_world size image s h)
+
+pub at_most_of_world : (size : ℕ) (image : Image) (s : StoredWorld) → StandsFor size image s → length s.types ≤ TYPE_RECORDS
+at_most_of_world size image s h = omega (arith, length_of_world size image s h, length-type_records image 0 TYPE_RECORDS)

@@ -1,10 +1,10 @@
 -- Which lines are commands. A line stands here without its newline.
-use Rattle.std.specs.Prelude.{ℕ, ◌+◌, ◌-◌, ◌*◌, Bool, true, false, cond, not, ◌&&◌, nat_le, nat_lt, ◌==◌, List, [], ◌∷◌, length, fold, codes, bytes_eq, Option, Some, None, option_map}
+use Rattle.std.specs.Prelude.{IsTrue, ℕ, ◌+◌, ◌-◌, ◌*◌, Bool, true, false, cond, not, ◌&&◌, nat_le, nat_lt, ◌==◌, List, [], ◌∷◌, length, fold, codes, bytes_eq, Option, Some, None, option_map}
 use Rattle.std.specs.List.{list_all, slice_split}
 use Rattle.pud_defs.specs.declared.layout.TheConstants.{LINE_LIMIT, MAX_TYPE_ID, MAX_FIELDS}
 use Rattle.pud_defs.specs.declared.machine.Command.{Command}
 use Rattle.pud_defs.specs.declared.machine.Command.TheVariants.{Define}
-use Rattle.pud_defs.specs.TypeMap.{map_word}
+use Rattle.pud_defs.specs.TypeMap.{map_word, is_legal_type_id, is_legal_map}
 
 -- the pieces between the bytes that equal the separator: one more than there are such bytes
 abbrev pub split_at : ℕ → List ℕ → List (List ℕ)
@@ -54,3 +54,7 @@ command_by (word ∷ arguments) = cond (bytes_eq word (codes "type")) (definitio
 -- the command that the line is: at most 128 bytes, the command word and its arguments with exactly one space between
 unfoldable pub command_of : List ℕ → Option Command
 command_of line = cond (nat_le (length line) LINE_LIMIT) (command_by (split_at 32 line)) None
+
+-- what each command of the grammar keeps: its type id and its map word are legal
+abbrev pub IsLegalCommand : Command → Type 0
+IsLegalCommand (Define id map) = IsTrue (is_legal_type_id id) × IsTrue (is_legal_map map)
