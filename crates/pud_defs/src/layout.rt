@@ -83,7 +83,7 @@ pub const fn frames_at(frames: u32) -> u32
     requires { frames ≤ MAX_FRAMES }
     ensures { result ≡ frames_at frames }
 {
-    tables_end(frames) + 32_768
+    tables_end(frames) + 32 * 1_024
 }
 
 /// How many words a device of so many frames needs. A device may be larger; the rest is not read.
@@ -92,4 +92,26 @@ pub const fn device_words(frames: u32) -> u32
     ensures { result ≡ device_words frames }
 {
     frames_at(frames) + FRAME_WORDS * frames
+}
+
+#[cfg(test)]
+mod tests {
+    use super::*;
+
+    #[test]
+    fn magic_is_its_eight_letters(rt: HostRuntime) {
+        assert_eq!(rt; DEVICE_MAGIC.to_le_bytes(), *b"PUDDEV01");
+    }
+
+    #[test]
+    fn smallest_and_largest_device(rt: HostRuntime) {
+        for (frames, tables, first_frame, words) in [
+            (4, 1_568, 34_336, 42_528),
+            (1_024, 9_728, 42_496, 2_139_648),
+        ] {
+            assert_eq!(rt; tables_end(frames), tables, "tables of {frames}");
+            assert_eq!(rt; frames_at(frames), first_frame, "frames of {frames}");
+            assert_eq!(rt; device_words(frames), words, "words of {frames}");
+        }
+    }
 }
