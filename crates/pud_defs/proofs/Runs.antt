@@ -1,6 +1,6 @@
 -- Runs turn by turn.
 use Rattle.std.proofs.Common.{◌≡◌, List, [], ◌∷◌, ◌++◌, length, map, refl, ap, arith}
-use Rattle.std.proofs.lemmas.List.{take_all}
+use Rattle.std.proofs.lemmas.List.{take_all, take-append-le}
 use Rattle.pud_defs.specs.World.{World}
 use Rattle.pud_defs.specs.Run.{Turn, IsTurn, IsRun, Run, last_world, world_after}
 
@@ -21,6 +21,10 @@ IsRun-push w turns t h k = IsRun-append w turns (t ∷ []) h (k, tt)
 
 pub world_after-all : (w : World) (turns : List Turn) → world_after w turns (length turns) ≡ last_world w turns
 world_after-all w turns = ap (last_world w) (take_all (length turns) turns (omega arith))
+
+-- turns that come later leave the world after the first k
+pub world_after-append : (w : World) (turns more : List Turn) (k : ℕ) → k ≤ length turns → world_after w (turns ++ more) k ≡ world_after w turns k
+world_after-append w turns more k h = ap (last_world w) (take-append-le k turns more h)
 
 -- the turns are a run over their lines
 pub Run-from_turns : (w : World) (turns : List Turn) → IsRun w turns → Run w (map (λ t. t.line) turns) (map (λ t. t.reply) turns) (last_world w turns)
