@@ -1,5 +1,5 @@
 -- Runs turn by turn.
-use Rattle.std.proofs.Common.{◌≡◌, List, [], ◌∷◌, ◌++◌, length, map, refl, ap, arith}
+use Rattle.std.proofs.Common.{◌≡◌, List, [], ◌∷◌, ◌++◌, length, map, refl, ap, arith, ℕ, ◌≤◌}
 use Rattle.std.proofs.lemmas.List.{take_all, take-append-le}
 use Rattle.pud_defs.specs.World.{World}
 use Rattle.pud_defs.specs.Run.{Turn, IsTurn, IsRun, Run, last_world, world_after}
