@@ -15,3 +15,4 @@ pub mod Opened
 pub mod ExamplesGrammar
 pub mod ExamplesImage
 pub mod ExamplesRun
+pub mod Stands

@@ -8,3 +8,4 @@ pub mod Grammar
 pub mod Step
 pub mod Run
 pub mod Texts
+pub mod Stands

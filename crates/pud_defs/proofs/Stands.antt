@@ -1,0 +1,29 @@
+-- The worlds that images stand for, turn by turn.
+use Rattle.std.proofs.Common.{◌≡◌, ◌⊎◌, inl, inr, ℕ, zero, suc, ◌+◌, List, [], ◌∷◌, ◌++◌, length, Option, Some, refl, sym, ap, subst, ◌∙◌, zero-add}
+use Rattle.std.proofs.Math.Nat.{suc-add}
+use Rattle.pud_defs.specs.Image.{Image}
+use Rattle.pud_defs.specs.World.{World, world_of, closed}
+use Rattle.pud_defs.specs.Run.{Turn, last_world, newlines}
+use Rattle.pud_defs.specs.Texts.{replies_text}
+use Rattle.pud_defs.specs.Stands.{StandsAfter, StandsWith}
+use Rattle.pud_defs.proofs.Lines.{newlines-append}
+use Rattle.pud_defs.proofs.Said.{newlines-replies_text}
+
+-- what stands for some turns stands for these and more
+pub StandsAfter-more : (size : ℕ) (w : World) (turns more : List Turn) (said : ℕ) (image : Image) → StandsAfter size w turns said image → StandsAfter size w (turns ++ more) said image
+StandsAfter-more size w [] [] zero image stands = stands
+StandsAfter-more size w [] (t ∷ more) zero image stands = inl stands
+StandsAfter-more size w [] more (suc said) image stands = absurd stands
+StandsAfter-more size w (t ∷ turns) more zero image stands = stands
+StandsAfter-more size w (t ∷ turns) more (suc said) image stands = StandsAfter-more size t.next turns more said image stands
+
+-- what stands behind the first turns
+pub StandsAfter-later : (size : ℕ) (w : World) (turns more : List Turn) (said : ℕ) (image : Image) → StandsAfter size (last_world w turns) more said image → StandsAfter size w (turns ++ more) (length turns + said) image
+StandsAfter-later size w [] more said image stands = rw zero-add stands
+StandsAfter-later size w (t ∷ turns) more said image stands = rw suc-add (StandsAfter-later size t.next turns more said image stands)
+
+-- the same by the bytes said
+pub StandsWith-later : (size : ℕ) (w : World) (turns more : List Turn) (bytes : List ℕ) (image : Image) → StandsWith size (last_world w turns) more bytes image → StandsWith size w (turns ++ more) (replies_text turns ++ bytes) image
+StandsWith-later size w turns more bytes image stands =
+    let count : newlines (replies_text turns ++ bytes) ≡ length turns + newlines bytes = newlines-append (replies_text turns) bytes ∙ ap (λ (n : ℕ). n + newlines bytes) (newlines-replies_text turns) in
+    subst (λ (n : ℕ). StandsAfter size w (turns ++ more) n image) (sym count) (StandsAfter-later size w turns more (newlines bytes) image stands)

@@ -1,0 +1,22 @@
+-- Which world an image stands for while a run is answered.
+use Rattle.std.specs.Prelude.{◌≡◌, ◌⊎◌, ℕ, zero, suc, List, [], ◌∷◌, Option, Some}
+use Rattle.pud_defs.specs.Image.{Image}
+use Rattle.pud_defs.specs.World.{StoredWorld, World, world_of, closed}
+use Rattle.pud_defs.specs.Run.{Turn, newlines}
+
+-- With so many whole reply lines said, the image stands for the closed world after as many turns or, where a further line was taken, for
+-- the closed world that this line gives. More reply lines than turns are never said.
+abbrev pub StandsAfter : ℕ → World → List Turn → ℕ → Image → Type 0
+StandsAfter size w [] zero image = world_of size image ≡ Some (closed w)
+StandsAfter size w [] (suc said) image = ⊥
+StandsAfter size w (t ∷ turns) zero image = (world_of size image ≡ Some (closed w)) ⊎ (world_of size image ≡ Some (closed t.under))
+StandsAfter size w (t ∷ turns) (suc said) image = StandsAfter size t.next turns said image
+
+-- with these bytes said in reply
+abbrev pub StandsWith : ℕ → World → List Turn → List ℕ → Image → Type 0
+StandsWith size w turns bytes image = StandsAfter size w turns (newlines bytes) image
+
+-- the same where the start's own line is said first: until it is whole the image stands for the world before the run
+abbrev pub StandsBehindStart : ℕ → World → List Turn → ℕ → Image → Type 0
+StandsBehindStart size w turns zero image = world_of size image ≡ Some (closed w)
+StandsBehindStart size w turns (suc said) image = StandsAfter size w turns said image
