@@ -1,0 +1,4 @@
+//! The daemon: it starts on a sound device, and carries out one line of a script at a time.
+#![tactic(auto)]
+
+mod soundness;
