@@ -1,0 +1,9 @@
+-- The pieces of a line that are still to be read.
+use Rattle.std.specs.Prelude.{ℕ, List, [], Option, Some, None}
+use denote.Ref.{Bor}
+use Rattle.pud_defs.specs.Grammar.{split_at}
+
+-- the pieces of these bytes: none where there are no bytes left, not even an empty piece
+abbrev pub pieces_of : ℕ → Option (Bor (List ℕ)) → List (List ℕ)
+pieces_of separator None = []
+pieces_of separator (Some bytes) = split_at separator bytes.now

@@ -1,0 +1,11 @@
+//! The lines of a script, read, and the replies to them, written.
+#![tactic(auto)]
+
+mod lines;
+mod numbers;
+mod pieces;
+mod replies;
+
+pub use lines::{Bad, parse_line};
+pub use pud_defs::machine::{Command, Refusal, Reply};
+pub use replies::print_reply;

@@ -1,0 +1,48 @@
+//! Decimal numbers.
+
+ghost use Rattle.std.specs.Prelude.{◌≡◌, ◌+◌, ◌-◌, ◌*◌, ◌^◌, cond, Some, None};
+ghost use Rattle.pud_defs.specs.Grammar.{begins_as_number, is_digit, number_of, in_range};
+
+/// Whether the first byte is one that a number may begin with: not `0` in front of others.
+fn begins_as_number(digits: &[u8]) -> bool
+    ensures { result ≡ begins_as_number digits.now }
+{
+    match digits {
+        [] => false,
+        [_] => true,
+        [first, ..] => *first != b'0',
+    }
+}
+
+/// The number of the digits so far and one more. None where the byte is no digit, and where the number is too large.
+fn with_digit(above: u64, digit: u8) -> Option<u64>
+    ensures { result ≡ cond (is_digit digit) (in_range 0 (2 ^ 64) Some (Some (above * 10 + (digit - 48)))) None }
+{
+    if !digit.is_ascii_digit() {
+        return None;
+    }
+    above.checked_mul(10)?.checked_add(u64::from(digit - b'0'))
+}
+
+#[tactic(auto, using(crate::proofs::Digits::read))]
+/// The number that the bytes are. None where they are no number, and where the number is 2^64 or larger.
+fn read_number(digits: &[u8]) -> Option<u64>
+    ensures { result ≡ in_range 0 (2 ^ 64) Some (number_of digits.now) }
+{
+    if !begins_as_number(digits) {
+        return None;
+    }
+    let mut value = 0;
+    for digit in digits {
+        value = with_digit(value, *digit)?;
+    }
+    Some(value)
+}
+
+/// The number that the bytes are, where they are one and it lies from `least` to below `end`.
+pub(crate) fn read_within(digits: &[u8], least: u32, end: u32) -> Option<u32>
+    ensures { result ≡ in_range least end Some (number_of digits.now) }
+{
+    let number = u32::try_from(read_number(digits)?).ok()?;
+    (least <= number && number < end).then_some(number)
+}
