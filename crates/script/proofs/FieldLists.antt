@@ -1,0 +1,88 @@
+-- How a map word goes on by a pointer field.
+use Rattle.std.proofs.Common.{◌≡◌, ℕ, ◌+◌, ◌*◌, ◌^◌, ◌<◌, ◌≤◌, ◌&&◌, nat_le, nat_lt, Bool, true, false, cond, List, [], ◌∷◌, bytes_eq, codes, option_map, sum_by, Option, Some, None, refl, sym, ap, ◌∙◌, arith, pow_mono}
+use Rattle.std.proofs.lemmas.Bool.Decides.{nat_tests}
+use Rattle.std.proofs.lemmas.Nat.{one_shl, pow-add}
+use Rattle.std.proofs.lemmas.List.Sums.{sum_by-cons}
+use Rattle.pud_defs.specs.Grammar.{split_at, number_of, in_range, fields_from, pointers_of}
+use Rattle.pud_defs.specs.TypeMap.{map_word}
+
+-- the map word so far, with the pointers that the pieces that are left name, from `least` up
+unfoldable pub map_behind : ℕ → ℕ → ℕ → List (List ℕ) → Option ℕ
+map_behind n least map pieces = option_map (λ fs. map + sum_by (λ f. 2 ^ f) fs) (fields_from n least pieces)
+
+with_field : (map f : ℕ) (fs : Option (List ℕ)) → option_map (λ gs. map + sum_by (λ g. 2 ^ g) gs) (option_map (λ gs. f ∷ gs) fs) ≡ option_map (λ gs. (map + 2 ^ f) + sum_by (λ g. 2 ^ g) gs) fs
+with_field map f None = refl
+with_field map f (Some fs) = ap (λ n. Some n) (omega (arith, sum_by-cons (λ g. 2 ^ g) f fs))
+
+within_by : {A : Type 0} (is : Bool) (next : ℕ → Option A) (m f : ℕ) → cond is (Some m) None ≡ Some f → cond is (next m) None ≡ next f
+within_by true next m f e = let same : m ≡ f = cc in ap next same
+within_by false next m f e = cc
+
+beyond_by : {A : Type 0} (is : Bool) (next : Option A) (m : ℕ) → cond is (Some m) None ≡ None → cond is next None ≡ None
+beyond_by true next m e = cc
+beyond_by false next m e = refl
+
+-- a number that lies within the range goes on
+pub in_range-some : {A : Type 0} (least end : ℕ) (next : ℕ → Option A) (number : Option ℕ) (f : ℕ) → in_range least end (λ x. Some x) number ≡ Some f → in_range least end next number ≡ next f
+in_range-some least end next None f e = cc
+in_range-some least end next (Some m) f e = within_by (nat_le least m && nat_lt m end) next m f e
+
+pub in_range-none : {A : Type 0} (least end : ℕ) (next : ℕ → Option A) (number : Option ℕ) → in_range least end (λ x. Some x) number ≡ None → in_range least end next number ≡ None
+in_range-none least end next None e = refl
+in_range-none least end next (Some m) e = beyond_by (nat_le least m && nat_lt m end) (next m) m e
+
+-- the field of the first piece is taken up
+pub field_taken : (n least map f : ℕ) (piece : List ℕ) (pieces : List (List ℕ)) → in_range least n (λ x. Some x) (number_of piece) ≡ Some f
+    → map_behind n (f + 1) (map + 2 ^ f) pieces ≡ map_behind n least map (piece ∷ pieces)
+unfolding map_behind fields_from
+field_taken n least map f piece pieces e =
+    let next : ℕ → Option (List ℕ) = λ g. option_map (λ fs. g ∷ fs) (fields_from n (g + 1) pieces) in
+    let taken = in_range-some least n next (number_of piece) f e in
+    sym (ap (λ fs. option_map (λ gs. map + sum_by (λ g. 2 ^ g) gs) fs) taken ∙ with_field map f (fields_from n (f + 1) pieces))
+
+-- the first piece is no field that may stand there
+pub field_refused : (n least map : ℕ) (piece : List ℕ) (pieces : List (List ℕ)) → in_range least n (λ x. Some x) (number_of piece) ≡ None
+    → map_behind n least map (piece ∷ pieces) ≡ None
+unfolding map_behind fields_from
+field_refused n least map piece pieces e =
+    let next : ℕ → Option (List ℕ) = λ g. option_map (λ fs. g ∷ fs) (fields_from n (g + 1) pieces) in
+    ap (λ fs. option_map (λ gs. map + sum_by (λ g. 2 ^ g) gs) fs) (in_range-none least n next (number_of piece) e)
+
+-- no piece is left
+pub no_field_left : (n least map : ℕ) → Some map ≡ map_behind n least map []
+unfolding map_behind fields_from
+no_field_left n least map = ap (λ n. Some n) (omega arith)
+
+pub no_pointers : (n : ℕ) (list : List ℕ) → bytes_eq list (codes "-") ≡ true → Some (n * 2 ^ 32) ≡ option_map (map_word n) (pointers_of n list)
+unfolding pointers_of
+no_pointers n list e =
+    let none : n * 2 ^ 32 ≡ map_word n [] = omega arith in
+    ap (λ m. Some m) none ∙ sym (ap (λ b. option_map (map_word n) (cond b (Some []) (fields_from n 0 (split_at 44 list)))) e)
+
+pub pointers_listed : (n : ℕ) (list : List ℕ) → bytes_eq list (codes "-") ≡ false → map_behind n 0 (n * 2 ^ 32) (split_at 44 list) ≡ option_map (map_word n) (pointers_of n list)
+unfolding map_behind pointers_of
+pointers_listed n list e =
+    sym (ap (λ b. option_map (map_word n) (cond b (Some []) (fields_from n 0 (split_at 44 list)))) e)
+
+within_range : (is : Bool) (m f : ℕ) → cond is (Some m) None ≡ Some f → (is ≡ true) × (m ≡ f)
+within_range true m f e = (refl, cc)
+within_range false m f e = cc
+
+bounds_of : (least end m f : ℕ) → (nat_le least m && nat_lt m end) ≡ true → m ≡ f → (least ≤ f) × (f < end)
+bounds_of least end m f e same = (grind (arith, nat_tests), grind (arith, nat_tests))
+
+-- a number in the range lies there
+pub in_range-bounds : (least end : ℕ) (number : Option ℕ) (f : ℕ) → in_range least end (λ x. Some x) number ≡ Some f → (least ≤ f) × (f < end)
+in_range-bounds least end None f e = cc
+in_range-bounds least end (Some m) f e =
+    let known = within_range (nat_le least m && nat_lt m end) m f e in
+    bounds_of least end m f known.0 known.1
+
+-- the bit of a further field is above those that are set: the map word stays below the next one
+pub bit_fits : (n least map f : ℕ) → map < n * 2 ^ 32 + 2 ^ least → least ≤ f → map + 2 ^ f < n * 2 ^ 32 + 2 ^ (f + 1)
+bit_fits n least map f h above =
+    let larger : 2 ^ least ≤ 2 ^ f = pow_mono {i = least} {j = f} above in
+    let doubled : 2 ^ (f + 1) ≡ 2 ^ f * 2 = pow-add 2 f 1 in
+    omega arith
+
+pub ruleset fields_read = (field_taken, field_refused, no_field_left, no_pointers, pointers_listed)

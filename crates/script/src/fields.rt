@@ -1,0 +1,32 @@
+//! The pointer fields of a type, read into its map word.
+
+ghost use Rattle.std.specs.Prelude.{◌≡◌, ◌≤◌, option_map};
+ghost use Rattle.pud_defs.specs.Grammar.{pointers_of};
+ghost use Rattle.pud_defs.specs.TypeMap.{map_word};
+
+use pud_defs::layout::MAX_FIELDS;
+
+use crate::numbers::read_within;
+use crate::pieces::cut;
+
+/// The map word of a type of so many fields whose pointers the list names.
+#[tactic(auto, using(crate::proofs::FieldLists::fields_read))]
+pub(crate) fn read_map(list: &[u8], fields: u32) -> Option<u64>
+    requires { fields ≤ MAX_FIELDS }
+    ensures { result ≡ option_map (map_word fields) (pointers_of fields list.now) }
+{
+    let mut map = u64::from(fields) << 32;
+    if list == b"-".as_slice() {
+        return Some(map);
+    }
+    let mut least = 0;
+    let mut rest = Some(list);
+    while let Some(bytes) = rest {
+        let (piece, behind) = cut(bytes, b',');
+        let field = read_within(piece, least, fields)?;
+        map += 1 << field;
+        least = field + 1;
+        rest = behind;
+    }
+    Some(map)
+}
