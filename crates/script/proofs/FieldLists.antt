@@ -5,6 +5,7 @@ use Rattle.std.proofs.lemmas.Nat.{one_shl, pow-add}
 use Rattle.std.proofs.lemmas.List.Sums.{sum_by-cons}
 use Rattle.pud_defs.specs.Grammar.{split_at, number_of, in_range, fields_from, pointers_of}
 use Rattle.pud_defs.specs.TypeMap.{map_word}
+use Rattle.script.proofs.Ranges.{in_range-some, in_range-none}
 
 -- the map word so far, with the pointers that the pieces that are left name, from `least` up
 unfoldable pub map_behind : ℕ → ℕ → ℕ → List (List ℕ) → Option ℕ
@@ -13,23 +14,6 @@ map_behind n least map pieces = option_map (λ fs. map + sum_by (λ f. 2 ^ f) fs
 with_field : (map f : ℕ) (fs : Option (List ℕ)) → option_map (λ gs. map + sum_by (λ g. 2 ^ g) gs) (option_map (λ gs. f ∷ gs) fs) ≡ option_map (λ gs. (map + 2 ^ f) + sum_by (λ g. 2 ^ g) gs) fs
 with_field map f None = refl
 with_field map f (Some fs) = ap (λ n. Some n) (omega (arith, sum_by-cons (λ g. 2 ^ g) f fs))
-
-within_by : {A : Type 0} (is : Bool) (next : ℕ → Option A) (m f : ℕ) → cond is (Some m) None ≡ Some f → cond is (next m) None ≡ next f
-within_by true next m f e = let same : m ≡ f = cc in ap next same
-within_by false next m f e = cc
-
-beyond_by : {A : Type 0} (is : Bool) (next : Option A) (m : ℕ) → cond is (Some m) None ≡ None → cond is next None ≡ None
-beyond_by true next m e = cc
-beyond_by false next m e = refl
-
--- a number that lies within the range goes on
-pub in_range-some : {A : Type 0} (least end : ℕ) (next : ℕ → Option A) (number : Option ℕ) (f : ℕ) → in_range least end (λ x. Some x) number ≡ Some f → in_range least end next number ≡ next f
-in_range-some least end next None f e = cc
-in_range-some least end next (Some m) f e = within_by (nat_le least m && nat_lt m end) next m f e
-
-pub in_range-none : {A : Type 0} (least end : ℕ) (next : ℕ → Option A) (number : Option ℕ) → in_range least end (λ x. Some x) number ≡ None → in_range least end next number ≡ None
-in_range-none least end next None e = refl
-in_range-none least end next (Some m) e = beyond_by (nat_le least m && nat_lt m end) (next m) m e
 
 -- the field of the first piece is taken up
 pub field_taken : (n least map f : ℕ) (piece : List ℕ) (pieces : List (List ℕ)) → in_range least n (λ x. Some x) (number_of piece) ≡ Some f
@@ -63,20 +47,6 @@ pub pointers_listed : (n : ℕ) (list : List ℕ) → bytes_eq list (codes "-") 
 unfolding map_behind pointers_of
 pointers_listed n list e =
     sym (ap (λ b. option_map (map_word n) (cond b (Some []) (fields_from n 0 (split_at 44 list)))) e)
-
-within_range : (is : Bool) (m f : ℕ) → cond is (Some m) None ≡ Some f → (is ≡ true) × (m ≡ f)
-within_range true m f e = (refl, cc)
-within_range false m f e = cc
-
-bounds_of : (least end m f : ℕ) → (nat_le least m && nat_lt m end) ≡ true → m ≡ f → (least ≤ f) × (f < end)
-bounds_of least end m f e same = (grind (arith, nat_tests), grind (arith, nat_tests))
-
--- a number in the range lies there
-pub in_range-bounds : (least end : ℕ) (number : Option ℕ) (f : ℕ) → in_range least end (λ x. Some x) number ≡ Some f → (least ≤ f) × (f < end)
-in_range-bounds least end None f e = cc
-in_range-bounds least end (Some m) f e =
-    let known = within_range (nat_le least m && nat_lt m end) m f e in
-    bounds_of least end m f known.0 known.1
 
 -- the bit of a further field is above those that are set: the map word stays below the next one
 pub bit_fits : (n least map f : ℕ) → map < n * 2 ^ 32 + 2 ^ least → least ≤ f → map + 2 ^ f < n * 2 ^ 32 + 2 ^ (f + 1)

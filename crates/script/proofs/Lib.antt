@@ -1,3 +1,5 @@
 pub mod Cuts
 pub mod Digits
+pub mod Ranges
 pub mod FieldLists
+pub mod Definitions

@@ -3,7 +3,8 @@ use Rattle.std.proofs.Common.{◌≡◌, ◌≤◌, ◌<◌, ◌+◌, ◌*◌, �
 use Rattle.std.proofs.lemmas.Nat.{one_shl}
 use Rattle.pud_defs.specs.Grammar.{number_of, in_range}
 use Rattle.script.specs.Pieces.{pieces_of}
-use Rattle.script.proofs.FieldLists.{map_behind, field_taken, pointers_listed, in_range-bounds, bit_fits}
+use Rattle.script.proofs.FieldLists.{map_behind, field_taken, pointers_listed, bit_fits}
+use Rattle.script.proofs.Ranges.{in_range-bounds}
 use Rattle.script.proofs.fields.read_map.Goals as goal
 
 pub loop-rest-init : goal.loop-rest-init
