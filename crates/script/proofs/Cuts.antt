@@ -1,5 +1,5 @@
 -- How a split goes on at the first separator.
-use Rattle.std.proofs.Common.{◌≡◌, ℕ, ◌+◌, ◌-◌, ◌<◌, ◌≤◌, ◌==◌, cond, nat_lt, false, List, [], ◌∷◌, length, take, drop, get_or, Some, None, position, arith}
+use Rattle.std.proofs.Common.{◌≡◌, ℕ, ◌+◌, ◌-◌, ◌<◌, ◌≤◌, ◌==◌, cond, nat_lt, false, List, [], ◌∷◌, length, take, drop, Some, None, position, arith}
 use Rattle.std.specs.List.{position_or_len, All}
 use Rattle.std.proofs.lemmas.Bool.Decides.{nat_tests}
 use Rattle.std.proofs.lemmas.List.{take_rest}

@@ -1,7 +1,6 @@
 -- How a map word goes on by a pointer field.
-use Rattle.std.proofs.Common.{◌≡◌, ℕ, ◌+◌, ◌*◌, ◌^◌, ◌<◌, ◌≤◌, ◌&&◌, nat_le, nat_lt, Bool, true, false, cond, List, [], ◌∷◌, bytes_eq, codes, option_map, sum_by, Option, Some, None, refl, sym, ap, ◌∙◌, arith, pow_mono}
-use Rattle.std.proofs.lemmas.Bool.Decides.{nat_tests}
-use Rattle.std.proofs.lemmas.Nat.{one_shl, pow-add}
+use Rattle.std.proofs.Common.{◌≡◌, ℕ, ◌+◌, ◌*◌, ◌^◌, ◌<◌, ◌≤◌, true, false, cond, List, [], ◌∷◌, bytes_eq, codes, option_map, sum_by, Option, Some, None, refl, sym, ap, ◌∙◌, arith, pow_mono}
+use Rattle.std.proofs.lemmas.Nat.{pow-add}
 use Rattle.std.proofs.lemmas.List.Sums.{sum_by-cons}
 use Rattle.pud_defs.specs.Grammar.{split_at, number_of, in_range, fields_from, pointers_of}
 use Rattle.pud_defs.specs.TypeMap.{map_word}

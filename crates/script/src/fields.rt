@@ -4,10 +4,9 @@ ghost use Rattle.std.specs.Prelude.{◌≡◌, ◌≤◌, option_map};
 ghost use Rattle.pud_defs.specs.Grammar.{pointers_of};
 ghost use Rattle.pud_defs.specs.TypeMap.{map_word};
 
-use pud_defs::layout::MAX_FIELDS;
-
 use crate::numbers::read_within;
 use crate::pieces::cut;
+use pud_defs::layout::MAX_FIELDS;
 
 /// The map word of a type of so many fields whose pointers the list names.
 #[tactic(auto, using(crate::proofs::FieldLists::fields_read))]

@@ -9,12 +9,11 @@ ghost use Rattle.std.specs.Result.{result_ok};
 ghost use Rattle.pud_defs.specs.Grammar.{split_at, definition_of, command_by, command_of};
 ghost use Rattle.script.specs.Pieces.{pieces_of};
 
-use pud_defs::layout::{LINE_LIMIT, MAX_FIELDS, MAX_TYPE_ID};
-use pud_defs::machine::Command;
-
 use crate::fields::read_map;
 use crate::numbers::read_within;
 use crate::pieces::cut;
+use pud_defs::layout::{LINE_LIMIT, MAX_FIELDS, MAX_TYPE_ID};
+use pud_defs::machine::Command;
 
 /// The line is not in the grammar.
 #[derive(Clone, Copy, Debug, PartialEq, Eq)]
@@ -67,4 +66,83 @@ pub fn parse_line(line: &[u8]) -> Result<Command, Bad>
         return Err(Bad);
     }
     read_command(line).ok_or(Bad)
+}
+
+#[cfg(test)]
+mod tests {
+    use super::*;
+
+    #[test]
+    fn lines_that_are_commands(rt: HostRuntime) {
+        for (line, t, map) in [
+            ("type 1 2 1", 1, 8_589_934_594),
+            ("type 1 2 -", 1, 8_589_934_592),
+            ("type 7 1 0", 7, 4_294_967_297),
+            ("type 10 3 0,2", 10, 12_884_901_893),
+            ("type 2 30 0,29", 2, 129_385_889_793),
+            ("type 65535 1 -", 65_535, 4_294_967_296),
+            (
+                "type 65535 30 0,1,2,3,4,5,6,7,8,9,10,11,12,13,14,15,16,17,18,19,20,21,22,23,24,25,26,27,28,29",
+                65_535,
+                129_922_760_703,
+            ),
+        ] {
+            let want = Command::Define { t, map };
+            assert_eq!(rt; parse_line(line.as_bytes()), Ok(want), "{line}");
+        }
+    }
+
+    #[test]
+    fn lines_that_are_none(rt: HostRuntime) {
+        for line in [
+            "",
+            " ",
+            "type",
+            "types 1 2 1",
+            "Type 1 2 1",
+            "TYPE 1 2 1",
+            "type 1 2",
+            "type 1 2 ",
+            "type 1 2 1 1",
+            "type  1 2 1",
+            "type 1  2 1",
+            " type 1 2 1",
+            "type 1 2 1 ",
+            "type\t1 2 1",
+            "type 1 2 1\n",
+            "type 01 2 1",
+            "type 1 02 1",
+            "type 1 2 01",
+            "type 1 2 00",
+            "type +1 2 1",
+            "type -1 2 1",
+            "type 1a 2 1",
+            "type / 2 1",
+            "type : 2 1",
+            "type é 2 1",
+            "type 1 2 é",
+            "type 0 2 1",
+            "type 65536 2 1",
+            "type 1 0 -",
+            "type 1 31 -",
+            "type 1 2 2",
+            "type 1 30 30",
+            "type 1 2 1,0",
+            "type 1 2 1,1",
+            "type 1 2 0,",
+            "type 1 2 ,0",
+            "type 1 3 0,,2",
+            "type 1 2 -,1",
+            "type 1 2 --",
+            "type 18446744073709551617 2 1",
+            "type 1 4294967298 1",
+            "type 1111111111111111111111111111111111111111 2 1",
+            "type 1 2 1000000000000000000000000000000000000000000000000000000000000000000000000000000000000000000000000000",
+            // 128 and 129 bytes
+            "type 1 2 11111111111111111111111111111111111111111111111111111111111111111111111111111111111111111111111111111111111111111111111",
+            "type 1 2 111111111111111111111111111111111111111111111111111111111111111111111111111111111111111111111111111111111111111111111111",
+        ] {
+            assert_eq!(rt; parse_line(line.as_bytes()), Err(Bad), "{line}");
+        }
+    }
 }

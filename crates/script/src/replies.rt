@@ -29,3 +29,22 @@ pub fn print_reply(reply: Reply, out: &mut [u8; 32]) -> usize
     out[..text.len()].copy_from_slice(text);
     text.len()
 }
+
+#[cfg(test)]
+mod tests {
+    use super::*;
+
+    #[test]
+    fn texts_of_replies(rt: HostRuntime) {
+        for (reply, text) in [
+            (Reply::Ok, "ok\n"),
+            (Reply::No(Refusal::Bad), "no bad\n"),
+            (Reply::No(Refusal::Clash), "no clash\n"),
+            (Reply::No(Refusal::Full), "no full\n"),
+        ] {
+            let mut out = [0; 32];
+            let length = print_reply(reply, &mut out);
+            assert_eq!(rt; &out[..length], text.as_bytes());
+        }
+    }
+}

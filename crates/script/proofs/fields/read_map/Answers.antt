@@ -1,5 +1,5 @@
 -- The map word starts with the number of fields, and each field of the list adds its bit.
-use Rattle.std.proofs.Common.{◌≡◌, ◌≤◌, ◌<◌, ◌+◌, ◌*◌, ◌^◌, ◌%◌, ◌∷◌, Some, false, codes, bytes_eq, sym, ap, ◌∙◌, arith}
+use Rattle.std.proofs.Common.{◌≡◌, ◌<◌, ◌*◌, ◌^◌, ◌%◌, ◌∷◌, Some, false, codes, bytes_eq, sym, ap, ◌∙◌, arith}
 use Rattle.std.proofs.lemmas.Nat.{one_shl}
 use Rattle.pud_defs.specs.Grammar.{number_of, in_range}
 use Rattle.script.specs.Pieces.{pieces_of}
@@ -14,7 +14,7 @@ loop-rest-init c =
     record {
       same = rw shifted (pointers_listed c.args.fields c.args.list.now listed);
       ascending = omega arith;
-      fits = omega arith
+      fits = omega arith;
     }
 
 pub loop-rest-preserved : goal.loop-rest-preserved
@@ -26,8 +26,8 @@ loop-rest-preserved c =
     let here : pieces_of 44 c.loop-rest.rest ≡ c.cut.result.0.now ∷ pieces_of 44 c.cut.result.1 = ap (pieces_of 44) c.in-Some.is ∙ c.cut.ensures.pieces in
     record {
       same = rw bit (
-        field_taken c.args.fields c.loop-rest.least c.loop-rest.map c.in_ok-field.field c.cut.result.0.now (pieces_of 44 c.cut.result.1) within
-        ∙ ap (map_behind c.args.fields c.loop-rest.least c.loop-rest.map) (sym here) ∙ c.loop-rest.invariant.same);
+          field_taken c.args.fields c.loop-rest.least c.loop-rest.map c.in_ok-field.field c.cut.result.0.now (pieces_of 44 c.cut.result.1) within
+          ∙ ap (map_behind c.args.fields c.loop-rest.least c.loop-rest.map) (sym here) ∙ c.loop-rest.invariant.same);
       ascending = omega (arith, bounds.0, bounds.1);
-      fits = rw bit (bit_fits c.args.fields c.loop-rest.least c.loop-rest.map c.in_ok-field.field c.loop-rest.invariant.fits bounds.0)
+      fits = rw bit (bit_fits c.args.fields c.loop-rest.least c.loop-rest.map c.in_ok-field.field c.loop-rest.invariant.fits bounds.0);
     }

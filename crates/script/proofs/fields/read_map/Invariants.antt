@@ -14,7 +14,7 @@ abbrev pub invariant-loop-rest : goal.invariant-loop-rest
 invariant-loop-rest l = record {
   same : map_behind l.fields l.least l.map (pieces_of 44 l.rest) ≡ option_map (map_word l.fields) (pointers_of l.fields l.fn.list);
   ascending : l.least ≤ l.fields;
-  fits : l.map < l.fields * 2 ^ 32 + 2 ^ l.least
+  fits : l.map < l.fields * 2 ^ 32 + 2 ^ l.least;
 }
 
 abbrev pub decreases-loop-rest : goal.decreases-loop-rest
