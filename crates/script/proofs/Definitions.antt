@@ -16,6 +16,7 @@ by_pointers : (id n : ℕ) (pointers : Option (List ℕ)) → option_map (λ fs.
 by_pointers id n None = refl
 by_pointers id n (Some fs) = refl
 
+-- an argument that is none of its kind
 pub no_id : (id fields list : List ℕ) → in_range 1 (MAX_TYPE_ID + 1) (λ x. Some x) (number_of id) ≡ None → definition_of (id ∷ fields ∷ list ∷ []) ≡ None
 unfolding definition_of
 no_id id fields list e =
@@ -49,8 +50,10 @@ pub all_three : (id fields list : List ℕ) (t n map : ℕ) → in_range 1 (MAX_
     → in_range 1 (MAX_FIELDS + 1) (λ x. Some x) (number_of fields) ≡ Some n → option_map (map_word n) (pointers_of n list) ≡ Some map → definition_of (id ∷ fields ∷ list ∷ []) ≡ Some (Define t map)
 all_three id fields list t n map e some given = by_list id fields list t n e some ∙ ap (defines t) given
 
+-- what three arguments give
 pub ruleset defined = (no_id, no_fields, no_list, all_three)
 
+-- fewer arguments than three, or more
 pub no_argument : definition_of [] ≡ None
 unfolding definition_of
 no_argument = refl
@@ -72,4 +75,5 @@ more_arguments a b c (d ∷ pieces) h = refl
 pub four_arguments : (a b c bytes : List ℕ) → definition_of (a ∷ b ∷ c ∷ split_at 32 bytes) ≡ None
 four_arguments a b c bytes = more_arguments a b c (split_at 32 bytes) (omega (arith, length-slice_split (λ x. x == 32) bytes))
 
+-- what is not three arguments
 pub ruleset three = (no_argument, one_argument, two_arguments, four_arguments)

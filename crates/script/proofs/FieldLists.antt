@@ -36,12 +36,14 @@ pub no_field_left : (n least map : ℕ) → Some map ≡ map_behind n least map 
 unfolding map_behind fields_from
 no_field_left n least map = ap (λ n. Some n) (omega arith)
 
+-- the list `-` names no pointer
 pub no_pointers : (n : ℕ) (list : List ℕ) → bytes_eq list (codes "-") ≡ true → Some (n * 2 ^ 32) ≡ option_map (map_word n) (pointers_of n list)
 unfolding pointers_of
 no_pointers n list e =
     let none : n * 2 ^ 32 ≡ map_word n [] = omega arith in
     ap (λ m. Some m) none ∙ sym (ap (λ b. option_map (map_word n) (cond b (Some []) (fields_from n 0 (split_at 44 list)))) e)
 
+-- any other list names them in its pieces
 pub pointers_listed : (n : ℕ) (list : List ℕ) → bytes_eq list (codes "-") ≡ false → map_behind n 0 (n * 2 ^ 32) (split_at 44 list) ≡ option_map (map_word n) (pointers_of n list)
 unfolding map_behind pointers_of
 pointers_listed n list e =
@@ -54,4 +56,5 @@ bit_fits n least map f h above =
     let doubled : 2 ^ (f + 1) ≡ 2 ^ f * 2 = pow-add 2 f 1 in
     omega arith
 
+-- what the loop over the list rests on
 pub ruleset fields_read = (field_taken, field_refused, no_field_left, no_pointers, pointers_listed)

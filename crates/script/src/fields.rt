@@ -8,7 +8,8 @@ use crate::numbers::read_within;
 use crate::pieces::cut;
 use pud_defs::layout::MAX_FIELDS;
 
-/// The map word of a type of so many fields whose pointers the list names.
+/// The map word of a type of so many fields, whose pointers the list names: `-` for none, or field numbers below
+/// `fields`, strictly ascending, joined by commas. None where the bytes are no such list.
 #[tactic(auto, using(crate::proofs::FieldLists::fields_read))]
 pub(crate) fn read_map(list: &[u8], fields: u32) -> Option<u64>
     requires { fields ≤ MAX_FIELDS }
@@ -23,6 +24,7 @@ pub(crate) fn read_map(list: &[u8], fields: u32) -> Option<u64>
     while let Some(bytes) = rest {
         let (piece, behind) = cut(bytes, b',');
         let field = read_within(piece, least, fields)?;
+        // The numbers rise, so this bit is not set yet.
         map += 1 << field;
         least = field + 1;
         rest = behind;

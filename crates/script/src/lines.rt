@@ -1,8 +1,8 @@
 //! Lines that are commands.
 //!
 //! A line is a command word and its arguments with exactly one space between, at most 128 bytes without its newline.
-//! The one command is `type T n list`: T from 1 to 65,535, n from 1 to 30, and the pointer fields, which are `-` for
-//! none or field numbers below n, strictly ascending, joined by commas. A number has no sign and no leading zero.
+//! The one command is `type T n list`: the type id T from 1 to 65,535, the number of fields n from 1 to 30, and the
+//! list of those fields that are pointers.
 
 ghost use Rattle.std.specs.Prelude.{◌≡◌, ◌∷◌, []};
 ghost use Rattle.std.specs.Result.{result_ok};
@@ -56,8 +56,8 @@ fn read_command(line: &[u8]) -> Option<Command>
     }
 }
 
-/// The command that a line, without its newline, is. `Bad` exactly where it is none: a line of any length and any
-/// bytes is answered, and no memory is asked for.
+/// The command that a line, without its newline, is. `Bad` exactly where it is none. A line may have any length and
+/// any bytes.
 #[tactic(auto, unfolding(pud_defs::specs::Grammar::command_of))]
 pub fn parse_line(line: &[u8]) -> Result<Command, Bad>
     ensures command { result_ok result ≡ command_of line.now }

@@ -1,4 +1,4 @@
-//! Decimal numbers.
+//! Decimal numbers: digits, with no sign and no leading zero but `0` itself.
 
 ghost use Rattle.std.specs.Prelude.{◌≡◌, ◌+◌, ◌-◌, ◌*◌, ◌^◌, cond, Some, None};
 ghost use Rattle.pud_defs.specs.Grammar.{begins_as_number, is_digit, number_of, in_range};
@@ -24,8 +24,8 @@ fn with_digit(above: u64, digit: u8) -> Option<u64>
     above.checked_mul(10)?.checked_add(u64::from(digit - b'0'))
 }
 
-#[tactic(auto, using(crate::proofs::Digits::read))]
 /// The number that the bytes are. None where they are no number, and where the number is 2^64 or larger.
+#[tactic(auto, using(crate::proofs::Digits::read))]
 fn read_number(digits: &[u8]) -> Option<u64>
     ensures { result ≡ in_range 0 (2 ^ 64) Some (number_of digits.now) }
 {

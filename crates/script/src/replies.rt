@@ -19,8 +19,8 @@ fn text_of(reply: Reply) -> &'static [u8]
     }
 }
 
-/// Writes the text of the reply, with its newline, at the front of `out`, and says how many bytes it has. What
-/// stands behind it in `out` is not to be read.
+/// Writes the text of the reply, with its newline, at the front of `out`, and says how many bytes it has. The bytes
+/// of `out` behind them say nothing.
 pub fn print_reply(reply: Reply, out: &mut [u8; 32]) -> usize
     ensures within { result ≤ 32 }
     ensures text { take result out.new ≡ reply_text reply }
