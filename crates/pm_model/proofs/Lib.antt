@@ -2,3 +2,4 @@ pub mod Has
 pub mod Words
 pub mod Changes
 pub mod Leaves
+pub mod Said

@@ -1,2 +1,4 @@
 pub mod Records
 pub mod Sound
+pub mod Defining
+pub mod Lines

@@ -1,4 +1,8 @@
 //! The daemon: it starts on a sound device, and carries out one line of a script at a time.
 #![tactic(auto)]
 
+mod commands;
+mod daemon;
 mod soundness;
+
+pub use daemon::{Daemon, StartFault};

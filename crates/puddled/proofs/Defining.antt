@@ -1,0 +1,151 @@
+-- What the definition of a type does to the worlds that images stand for.
+use Rattle.std.proofs.Common.{◌≡◌, ◌⊎◌, inl, inr, ℕ, ◌+◌, ◌*◌, ◌<◌, ◌≤◌, Bool, true, false, ◌&&◌, leb, cond, T, List, [], length, Option, Some, None, is_some, is_none, refl, sym, ap, ap₂, subst, ◌∙◌, ⊎_elim, arith}
+use Rattle.std.proofs.lemmas.Bool.{cases_eq}
+use Rattle.pm_model.specs.declared.host.HostFault.{HostFault}
+use Rattle.pm_model.specs.Words.{Words, Picks, reads, HasOnly}
+use Rattle.pm_model.specs.Moments.{State}
+use Rattle.pm_model.specs.Changes.{Changes, Leaves, Silently}
+use Rattle.pm_model.proofs.Words.{Picks-reads}
+use Rattle.pm_model.proofs.Changes.{Changes-said}
+use Rattle.pm_model.proofs.Leaves.{Leaves-still, Leaves-weaker}
+use Rattle.pud_defs.specs.declared.layout.TheConstants.{TYPE_RECORDS}
+use Rattle.pud_defs.specs.declared.machine.Command.TheVariants.{Define}
+use Rattle.pud_defs.specs.declared.machine.Refusal.{Refusal}
+use Rattle.pud_defs.specs.declared.machine.Refusal.TheVariants.{Clash, Full}
+use Rattle.pud_defs.specs.Image.{Image, written}
+use Rattle.pud_defs.specs.TypeMap.{is_legal_map, is_legal_type_id}
+use Rattle.pud_defs.specs.Types.{type_record_at, type_table, first_free, map_of, with_type}
+use Rattle.pud_defs.specs.World.{World, world_of, closed}
+use Rattle.pud_defs.specs.Step.{is_other, refusal_of, after, unless_refused, world_by}
+use Rattle.pud_defs.proofs.TypeTable.{IsLowestFree, first_free_some}
+use Rattle.pud_defs.proofs.Worlds.{StandsFor, standing_of_world, types_sorted, map_of_world, length_of_world, full_of_world, room_of_world}
+use Rattle.pud_defs.proofs.Definitions.{world_of-map_written, world_of-defined}
+use Rattle.pud_defs.proofs.Steps.{refusal_of-define, define-same, define-clash, define-full, define-new, after-same}
+use Rattle.type_maps.specs.Define.{table_refusal, place_for, record_write, half_defined, defined, IsDefining, IsDefined, HasDurableTypes, Defines}
+use Rattle.puddled.specs.Daemon.{IsReady, Applies}
+
+abbrev table_refusal_by : Option ℕ → ℕ → ℕ → Option Refusal
+table_refusal_by found count map = cond (is_other map found) (Some Clash) (cond (is_none found && leb TYPE_RECORDS count) (Some Full) None)
+
+module _ (size : ℕ) (w : World) (image : Image) (id map : ℕ) (stands : StandsFor size image (closed w)) where
+  abbrev types : List (ℕ × ℕ)
+  types = w.stored.types
+
+  -- the table refuses what the machine refuses
+  pub refusal_of_table : table_refusal (type_table image) id map ≡ refusal_of w (Define id map)
+  refusal_of_table =
+      (λ i. table_refusal_by (map_of_world size image (closed w) id stands i) (length_of_world size image (closed w) stands i) map)
+      ∙ sym (refusal_of-define w id map)
+
+  found_by : (found : Option ℕ) → map_of id types ≡ found → cond (is_some found) None (first_free image 0 TYPE_RECORDS) ≡ None → unless_refused (refusal_of w (Define id map)) w (after w (Define id map)) ≡ w
+  found_by (Some other) e none = ⊎_elim
+    (λ same. ap (λ (o : Option Refusal). unless_refused o w (after w (Define id map))) (define-same w id map (e ∙ ap Some same)) ∙ after-same w id map (types_sorted size image (closed w) stands) (e ∙ ap Some same))
+    (λ apart. ap (λ (o : Option Refusal). unless_refused o w (after w (Define id map))) (define-clash w id map other e apart))
+    (cases_eq other map)
+  found_by None e none =
+      let many = full_of_world size image (closed w) stands none in
+      ap (λ (o : Option Refusal). unless_refused o w (after w (Define id map))) (define-full w id map e (omega arith))
+
+  -- where nothing is to be written the world stays
+  pub idle_world : place_for image id ≡ None → world_by w (Some (Define id map)) ≡ w
+  idle_world none = found_by (map_of id types) refl (ap (λ (o : Option ℕ). cond (is_some o) None (first_free image 0 TYPE_RECORDS)) (sym (map_of_world size image (closed w) id stands)) ∙ none)
+
+  place_by_found : (found : Option ℕ) (r : ℕ) → cond (is_some found) None (first_free image 0 TYPE_RECORDS) ≡ Some r → (found ≡ None) × (first_free image 0 TYPE_RECORDS ≡ Some r)
+  place_by_found (Some other) r e = absurd (let no : None ≡ Some r = e in cc)
+  place_by_found None r e = (refl, e)
+
+  -- the type is new, and this is the lowest free record
+  pub record IsNew (r : ℕ) : Type 0 where
+    pub missing : map_of id types ≡ None
+    pub lowest : IsLowestFree image 0 TYPE_RECORDS r
+    pub world : world_by w (Some (Define id map)) ≡ after w (Define id map)
+
+  pub new_type : (r : ℕ) → place_for image id ≡ Some r → IsNew r
+  new_type r place =
+      let parts = place_by_found (map_of id types) r (ap (λ (o : Option ℕ). cond (is_some o) None (first_free image 0 TYPE_RECORDS)) (sym (map_of_world size image (closed w) id stands)) ∙ place) in
+      record {
+        missing = parts.0;
+        lowest = first_free_some image 0 TYPE_RECORDS r parts.1;
+        world = ap (λ (o : Option Refusal). unless_refused o w (after w (Define id map))) (define-new w id map parts.0 (room_of_world size image (closed w) r stands parts.1));
+      }
+
+closed_after : (w : World) (id map : ℕ) → closed (after w (Define id map)) ≡ record w.stored { types = with_type id map w.stored.types }
+unfolding after
+closed_after w id map = refl
+
+shelf_after : (w : World) (id map : ℕ) → w.shelf ≡ (after w (Define id map)).shelf
+unfolding after
+shelf_after w id map = refl
+
+-- the state that a definition begins in, as the daemon knows it
+standing : (size : ℕ) (w : World) (s : State) → IsReady size w s → StandsFor size (reads s.now.words) (closed w)
+standing size w s ready = standing_of_world size (reads s.now.words) (closed w) (ready.stands (reads s.now.words) (Picks-reads s.now.words))
+
+idle_applies : (size : ℕ) (w next : World) (fault : Option HostFault) (old new : State) → IsReady size w old → next ≡ w → new ≡ old → Applies size w next fault old new
+idle_applies size w next fault old new ready stays same =
+    subst (λ (n : State). Applies size w next fault old n) (sym same) (subst (λ (v : World). Applies size w v fault old old) (sym stays) (record {
+      moments = Leaves-still _ old old (λ image picked. (refl, inl (ready.stands image picked))) refl;
+      quiet = refl;
+      ready = λ _. ready;
+      script = refl;
+      shelf = refl;
+    }))
+
+-- in each image of these words record r is free
+free_in : (size : ℕ) (w : World) (s : State) (id map r : ℕ) (ready : IsReady size w s) → IsNew size w (reads s.now.words) id map (standing size w s ready) r
+    → (image : Image) → Picks s.now.words image → image (type_record_at r) ≡ 0
+free_in size w s id map r ready is_new image picked =
+    let high = is_new.lowest.high in
+    let one = ready.types.each (type_record_at r) (omega arith) (omega arith) in
+    one.each (image (type_record_at r)) (picked.each (type_record_at r)) ∙ is_new.lowest.free
+
+new_applies : (size : ℕ) (w : World) (id map r : ℕ) (fault : Option HostFault) (old new : State) → IsReady size w old
+    → is_legal_type_id id ≡ true → is_legal_map map ≡ true → place_for (reads old.now.words) id ≡ Some r → Defines r id map fault old new
+    → Applies size w (world_by w (Some (Define id map))) fault old new
+new_applies size w id map r fault old new ready legal_id legal_map place d =
+    let is_new = new_type size w (reads old.now.words) id map (standing size w old ready) r place in
+    let high = is_new.lowest.high in
+    let free = free_in size w old id map r ready is_new in
+    let gives : (image : Image) → Picks old.now.words image → world_of size (defined r id map image) ≡ Some (closed (after w (Define id map))) = λ image picked.
+        world_of-defined size image (closed w) r id map (ready.stands image picked) (omega arith) (free image picked) legal_id legal_map is_new.missing ∙ ap Some (sym (closed_after w id map)) in
+    subst (λ (v : World). Applies size w v fault old new) (sym is_new.world) (record {
+      moments = Leaves-weaker _ _ old new (λ bytes image m. (m.0, elim m.1.is [
+        | inl same ↦ inl (ap (world_of size) same ∙ ready.stands m.1.before m.1.picked)
+        | inr more ↦ elim more [
+          | inl half ↦ inl (ap (world_of size) half ∙ world_of-map_written size m.1.before (closed w) r map (ready.stands m.1.before m.1.picked) (omega arith) (free m.1.before m.1.picked))
+          | inr whole ↦ inr (ap (world_of size) whole ∙ gives m.1.before m.1.picked)
+        ]
+      ])) d.moments;
+      quiet = Changes-said _ fault old new d.changes;
+      ready = λ none. record {
+        stands = λ image picked. let h = d.done none image picked in ap (world_of size) h.is ∙ gives h.before h.picked;
+        types = d.durable none ready.types;
+        shelf = d.changes.shelf ∙ ready.shelf ∙ shelf_after w id map;
+      };
+      script = d.changes.script;
+      shelf = d.changes.shelf;
+    })
+
+place_applies : (size : ℕ) (w : World) (id map : ℕ) (fault : Option HostFault) (old new : State) → IsReady size w old → is_legal_type_id id ≡ true → is_legal_map map ≡ true
+    → (place : Option ℕ) → place_for (reads old.now.words) id ≡ place
+    → (place_for (reads old.now.words) id ≡ None → new ≡ old) → ((r : ℕ) → place_for (reads old.now.words) id ≡ Some r → Defines r id map fault old new)
+    → Applies size w (world_by w (Some (Define id map))) fault old new
+place_applies size w id map fault old new ready legal_id legal_map None place idle defines =
+    idle_applies size w _ fault old new ready (idle_world size w (reads old.now.words) id map (standing size w old ready) place) (idle place)
+place_applies size w id map fault old new ready legal_id legal_map (Some r) place idle defines =
+    new_applies size w id map r fault old new ready legal_id legal_map place (defines r place)
+
+-- a definition is carried out or refused as the machine has it
+pub Applies-define : (size : ℕ) (w : World) (id map : ℕ) (fault : Option HostFault) (old new : State) → IsReady size w old → is_legal_type_id id ≡ true → is_legal_map map ≡ true
+    → (place_for (reads old.now.words) id ≡ None → new ≡ old) → ((r : ℕ) → place_for (reads old.now.words) id ≡ Some r → Defines r id map fault old new)
+    → Applies size w (world_by w (Some (Define id map))) fault old new
+Applies-define size w id map fault old new ready legal_id legal_map idle defines =
+    place_applies size w id map fault old new ready legal_id legal_map (place_for (reads old.now.words) id) refl idle defines
+
+-- the reply is the machine's
+pub refusal_when_ready : (size : ℕ) (w : World) (id map : ℕ) (old : State) → IsReady size w old → table_refusal (type_table (reads old.now.words)) id map ≡ refusal_of w (Define id map)
+refusal_when_ready size w id map old ready = refusal_of_table size w (reads old.now.words) id map (standing size w old ready)
+
+-- a line that is no command leaves all as it was
+pub Applies-nothing : (size : ℕ) (w : World) (fault : Option HostFault) (old new : State) → IsReady size w old → new ≡ old → Applies size w w fault old new
+Applies-nothing size w fault old new ready same = idle_applies size w w fault old new ready refl same

@@ -1,0 +1,37 @@
+use Rattle.std.proofs.Common.{Option, Some, None, refl, sym, ap, ◌∙◌}
+use Rattle.pud_defs.specs.declared.machine.Refusal.{Refusal}
+use Rattle.pud_defs.specs.Step.{reply_to}
+use Rattle.puddled.proofs.Defining.{Applies-define, refusal_when_ready}
+use Rattle.puddled.proofs.commands.define_type.Goals as goal
+
+pub returns-in-Ok-clause-reply : goal.returns-in-Ok-clause-reply
+returns-in-Ok-clause-reply g c = λ t size e w ready. ap (λ (o : Option Refusal). reply_to o) (c.in-Ok.ensures.refusal t refl ∙ refusal_when_ready size w c.args.id c.args.map _ ready)
+
+pub returns-in-Ok-clause-applies : goal.returns-in-Ok-clause-applies
+returns-in-Ok-clause-applies g c = λ t size e w ready legal_id legal_map.
+    Applies-define size w c.args.id c.args.map None _ _ ready legal_id legal_map (c.in-Ok.ensures.idle t) (c.in-Ok.ensures.defines t)
+
+pub returns-in-Err-Clash-clause-reply : goal.returns-in-Err-Clash-clause-reply
+returns-in-Err-Clash-clause-reply g c = λ t size e w ready.
+    let clause = rw c.in-Err-Clash.field-0-is at c.in-Err-Clash.ensures.refusal in
+    ap (λ (o : Option Refusal). reply_to o) (clause t refl ∙ refusal_when_ready size w c.args.id c.args.map _ ready)
+
+pub returns-in-Err-Clash-clause-applies : goal.returns-in-Err-Clash-clause-applies
+returns-in-Err-Clash-clause-applies g c = λ t size e w ready legal_id legal_map.
+    let defines = rw c.in-Err-Clash.field-0-is at c.in-Err-Clash.ensures.defines in
+    Applies-define size w c.args.id c.args.map None _ _ ready legal_id legal_map (c.in-Err-Clash.ensures.idle t) (defines t)
+
+pub returns-in-Err-Full-clause-reply : goal.returns-in-Err-Full-clause-reply
+returns-in-Err-Full-clause-reply g c = λ t size e w ready.
+    let clause = rw c.in-Err-Full.field-0-is at c.in-Err-Full.ensures.refusal in
+    ap (λ (o : Option Refusal). reply_to o) (clause t refl ∙ refusal_when_ready size w c.args.id c.args.map _ ready)
+
+pub returns-in-Err-Full-clause-applies : goal.returns-in-Err-Full-clause-applies
+returns-in-Err-Full-clause-applies g c = λ t size e w ready legal_id legal_map.
+    let defines = rw c.in-Err-Full.field-0-is at c.in-Err-Full.ensures.defines in
+    Applies-define size w c.args.id c.args.map None _ _ ready legal_id legal_map (c.in-Err-Full.ensures.idle t) (defines t)
+
+pub returns-in-Err-Host-clause-applies : goal.returns-in-Err-Host-clause-applies
+returns-in-Err-Host-clause-applies g c = λ t size e w ready legal_id legal_map.
+    let defines = rw c.in-Err-Host.field-0-is at c.in-Err-Host.ensures.defines in
+    Applies-define size w c.args.id c.args.map (Some c.in-Err-Host.fault) _ _ ready legal_id legal_map (c.in-Err-Host.ensures.idle t) (defines t)

@@ -1,0 +1,79 @@
+-- What the daemon's start and one line do, at every moment.
+use Rattle.std.specs.Prelude.{◌≡◌, ◌⊎◌, ℕ, Bool, true, false, cond, List, [], ◌∷◌, ◌++◌, Option, Some, None, Result, Ok, Err}
+use Rattle.pm_model.specs.declared.host.HostFault.{HostFault}
+use Rattle.pm_model.specs.Words.{Words, Picks, reads}
+use Rattle.pm_model.specs.Moments.{State}
+use Rattle.pm_model.specs.Changes.{Leaves, Silently}
+use Rattle.pud_defs.specs.declared.machine.Reply.{Reply}
+use Rattle.pud_defs.specs.declared.machine.Reply.TheVariants as replies
+use Rattle.pud_defs.specs.Image.{Image}
+use Rattle.pud_defs.specs.World.{World, world_of, closed}
+use Rattle.pud_defs.specs.Run.{Turn, IsTurn}
+use Rattle.pud_defs.specs.Texts.{start_text, reply_text}
+use Rattle.pud_defs.specs.Stands.{StandsWith}
+use Rattle.type_maps.specs.Define.{HasDurableTypes}
+use Rattle.puddled.specs.declared.daemon.StartFault.{StartFault}
+use Rattle.puddled.specs.declared.daemon.StartFault.TheVariants as starts
+
+-- the host's fault that a start answered
+abbrev pub start_fault : {T : Type 0} → Result T StartFault → Option HostFault
+start_fault (Ok x) = None
+start_fault (Err starts.NotSound) = None
+start_fault (Err (starts.Host fault)) = Some fault
+
+-- What the daemon needs of a device between two lines: each image that may be left stands for the world with nothing under way, the type
+-- table is durable, and the shelf is the world's.
+pub record IsReady (size : ℕ) (w : World) (s : State) : Type 0 where
+  pub stands : (image : Image) → Picks s.now.words image → world_of size image ≡ Some (closed w)
+  pub types : HasDurableTypes s.now.words
+  pub shelf : s.shelf ≡ w.shelf
+
+-- these bytes are the front of a text
+pub record IsPart (bytes text : List ℕ) : Type 0 where
+  pub rest : List ℕ
+  pub is : text ≡ bytes ++ rest
+
+-- some bytes of a text were said, from its front; without a fault all of them
+pub record SaysPart (text : List ℕ) (fault : Option HostFault) (old new : State) : Type 0 where
+  pub bytes : List ℕ
+  pub rest : List ℕ
+  pub part : text ≡ bytes ++ rest
+  pub said : new.now.said ≡ old.now.said ++ bytes
+  pub whole : fault ≡ None → rest ≡ []
+
+-- A command was carried out, or refused, without a word: at every moment the images stand for the world before it or the one that it gives,
+-- and without a fault the daemon is ready in that one.
+pub record Applies (size : ℕ) (w next : World) (fault : Option HostFault) (old new : State) : Type 0 where
+  pub moments : Leaves (Silently (λ image. (world_of size image ≡ Some (closed w)) ⊎ (world_of size image ≡ Some (closed next)))) old new
+  pub quiet : new.now.said ≡ old.now.said
+  pub ready : fault ≡ None → IsReady size next new
+  pub script : new.script ≡ old.script
+  pub shelf : new.shelf ≡ old.shelf
+
+-- A sound device was started: the start text was said, and nothing else changed.
+pub record Starts (fault : Option HostFault) (old new : State) : Type 0 where
+  pub says : SaysPart start_text fault old new
+  pub moments : Leaves (λ bytes image. IsPart bytes start_text × Picks old.now.words image) old new
+  pub words : new.now.words ≡ old.now.words
+  pub script : new.script ≡ old.script
+  pub shelf : new.shelf ≡ old.shelf
+
+abbrev pub begins_with_ok : Reply → Bool
+begins_with_ok replies.Ok = true
+begins_with_ok (replies.No refusal) = false
+
+-- what is said of a reply: its text where it is said aloud
+abbrev pub spoken : Bool → Reply → List ℕ
+spoken aloud reply = cond aloud (reply_text reply) []
+
+-- One line is one turn of the machine: at every moment the images stand for the world before it or the one that it gives, with its reply said
+-- only once that one is durable; without a fault the reply is whole and the daemon ready for the next line.
+pub record Answers (size : ℕ) (w : World) (line : List ℕ) (aloud : Bool) (fault : Option HostFault) (old new : State) : Type 0 where
+  pub turn : Turn
+  pub of_line : turn.line ≡ line
+  pub is_turn : IsTurn w turn
+  pub moments : Leaves (StandsWith size w (turn ∷ [])) old new
+  pub says : SaysPart (spoken aloud turn.reply) fault old new
+  pub ready : fault ≡ None → IsReady size turn.next new
+  pub script : new.script ≡ old.script
+  pub shelf : new.shelf ≡ old.shelf
