@@ -65,3 +65,7 @@ flushed_newest line words k = (flush_keeps line words k).newest
 
 pub flushed_marked : (line : ℕ) (words : Words) (k : ℕ) → k / 8 ≡ line → (after_flush line words k).kept ≡ []
 flushed_marked line words k is = rw (eq-eqb (k / 8) line is) refl
+
+-- a word with one value has its newest one
+pub HasOnly-own : (c : Cell) (v : ℕ) → HasOnly c v → HasOnly c c.newest
+HasOnly-own c v one = subst (λ (x : ℕ). HasOnly c x) (sym (HasOnly-newest c v one)) one

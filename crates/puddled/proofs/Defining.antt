@@ -22,7 +22,7 @@ use Rattle.pud_defs.proofs.Worlds.{StandsFor, standing_of_world, types_sorted, m
 use Rattle.pud_defs.proofs.Definitions.{world_of-map_written, world_of-defined}
 use Rattle.pud_defs.proofs.Steps.{refusal_of-define, define-same, define-clash, define-full, define-new, after-same}
 use Rattle.type_maps.specs.Define.{table_refusal, place_for, record_write, half_defined, defined, IsDefining, IsDefined, HasDurableTypes, Defines}
-use Rattle.puddled.specs.Daemon.{IsReady, Applies}
+use Rattle.puddled.specs.Daemon.{KeepsRest, IsReady, Applies}
 
 abbrev table_refusal_by : Option ℕ → ℕ → ℕ → Option Refusal
 table_refusal_by found count map = cond (is_other map found) (Some Clash) (cond (is_none found && leb TYPE_RECORDS count) (Some Full) None)
@@ -149,3 +149,17 @@ refusal_when_ready size w id map old ready = refusal_of_table size w (reads old.
 -- a line that is no command leaves all as it was
 pub Applies-nothing : (size : ℕ) (w : World) (fault : Option HostFault) (old new : State) → IsReady size w old → new ≡ old → Applies size w w fault old new
 Applies-nothing size w fault old new ready same = idle_applies size w w fault old new ready refl same
+
+rest_by_place : (image : Image) (id map : ℕ) (fault : Option HostFault) (old new : State) → (place : Option ℕ) → place_for image id ≡ place
+    → (place_for image id ≡ None → new ≡ old) → ((r : ℕ) → place_for image id ≡ Some r → Defines r id map fault old new) → KeepsRest old new
+rest_by_place image id map fault old new None place idle defines =
+    let same = idle place in
+    record { script = ap (λ (s : State). s.script) same; shelf = ap (λ (s : State). s.shelf) same }
+rest_by_place image id map fault old new (Some r) place idle defines =
+    let d = defines r place in
+    record { script = d.changes.script; shelf = d.changes.shelf }
+
+-- whatever the device holds, a definition leaves the script and the shelf
+pub KeepsRest-define : (image : Image) (id map : ℕ) (fault : Option HostFault) (old new : State)
+    → (place_for image id ≡ None → new ≡ old) → ((r : ℕ) → place_for image id ≡ Some r → Defines r id map fault old new) → KeepsRest old new
+KeepsRest-define image id map fault old new idle defines = rest_by_place image id map fault old new (place_for image id) refl idle defines

@@ -18,7 +18,7 @@ use Rattle.pud_defs.specs.Stands.{StandsAfter, StandsWith}
 use Rattle.pud_defs.proofs.Lines.{newlines-append, newlines_part}
 use Rattle.pud_defs.proofs.Said.{newlines-reply_text}
 use Rattle.type_maps.specs.Define.{HasDurableTypes}
-use Rattle.puddled.specs.Daemon.{IsReady, IsPart, SaysPart, Applies, Starts, spoken, Answers}
+use Rattle.puddled.specs.Daemon.{KeepsRest, IsReady, IsPart, SaysPart, Applies, Starts, spoken, Answers}
 
 some_is_not_none : (fault : HostFault) → Some fault ≡ None → ⊥
 some_is_not_none fault e = cc
@@ -159,3 +159,7 @@ Answers-said size w line fault old mid new a says =
       script = script_said text fault mid new says ∙ a.script;
       shelf = shelf_said text fault mid new says ∙ a.shelf;
     }
+
+pub KeepsRest-says : (text : List ℕ) (fault : Option HostFault) (old mid new : State) → KeepsRest old mid → Says text fault mid new → KeepsRest old new
+KeepsRest-says text fault old mid new k says =
+    record { script = script_said text fault mid new says ∙ k.script; shelf = shelf_said text fault mid new says ∙ k.shelf }

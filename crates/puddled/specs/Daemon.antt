@@ -15,6 +15,11 @@ use Rattle.type_maps.specs.Define.{HasDurableTypes}
 use Rattle.puddled.specs.declared.daemon.StartFault.{StartFault}
 use Rattle.puddled.specs.declared.daemon.StartFault.TheVariants as starts
 
+-- the bytes left to read and the shelf stay
+pub record KeepsRest (old new : State) : Type 0 where
+  pub script : new.script ≡ old.script
+  pub shelf : new.shelf ≡ old.shelf
+
 -- the host's fault that a start answered
 abbrev pub start_fault : {T : Type 0} → Result T StartFault → Option HostFault
 start_fault (Ok x) = None

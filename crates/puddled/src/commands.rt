@@ -7,7 +7,7 @@ ghost use Rattle.pud_defs.specs.Grammar.{IsLegalCommand};
 ghost use Rattle.pud_defs.specs.World.{World};
 ghost use Rattle.pud_defs.specs.Step.{refusal_of, reply_to, world_by, step_reply, step_world};
 ghost use Rattle.pud_defs.specs.declared.machine.Command.TheVariants.{Define};
-ghost use Rattle.puddled.specs.Daemon.{IsReady, Applies};
+ghost use Rattle.puddled.specs.Daemon.{KeepsRest, IsReady, Applies};
 
 use pm_model::{Host, HostFault};
 use pud_defs::layout::MIN_FRAMES;
@@ -23,6 +23,7 @@ fn define_type<H: Host>(h: &mut H, id: u32, map: u64) -> Result<Reply, HostFault
     ensures applies { H.tells → (size : ℕ) → size ≡ (H.counts h.old).size → (w : World) → IsReady size w (H.state h.old)
         → is_legal_type_id id ≡ true → is_legal_map map ≡ true
         → Applies size w (world_by w (Option.Some (Define id map))) (fault_of result) (H.state h.old) (H.state h.new) }
+    ensures rest { H.tells → KeepsRest (H.state h.old) (H.state h.new) }
     ensures cause { H.counts h.new ≡ after_fault (fault_of result) (H.counts h.old) }
 {
     match define(h, id, map) {
@@ -41,6 +42,7 @@ fn carry_out<H: Host>(h: &mut H, command: Command) -> Result<Reply, HostFault>
     ensures applies { H.tells → (size : ℕ) → size ≡ (H.counts h.old).size → (w : World) → IsReady size w (H.state h.old)
         → IsLegalCommand command
         → Applies size w (world_by w (Option.Some command)) (fault_of result) (H.state h.old) (H.state h.new) }
+    ensures rest { H.tells → KeepsRest (H.state h.old) (H.state h.new) }
     ensures cause { H.counts h.new ≡ after_fault (fault_of result) (H.counts h.old) }
 {
     match command {
@@ -55,6 +57,7 @@ pub fn apply<H: Host>(h: &mut H, line: &[u8]) -> Result<Reply, HostFault>
         → IfOk result (λ reply. reply ≡ step_reply w line.now) }
     ensures applies { H.tells → (size : ℕ) → size ≡ (H.counts h.old).size → (w : World) → IsReady size w (H.state h.old)
         → Applies size w (step_world w line.now) (fault_of result) (H.state h.old) (H.state h.new) }
+    ensures rest { H.tells → KeepsRest (H.state h.old) (H.state h.new) }
     ensures cause { H.counts h.new ≡ after_fault (fault_of result) (H.counts h.old) }
 {
     match parse_line(line) {

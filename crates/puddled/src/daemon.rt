@@ -51,7 +51,7 @@ fn say_reply<H: Host>(h: &mut H, reply: Reply) -> Result<(), HostFault>
 }
 
 impl Daemon {
-    ghost use Rattle.puddled.specs.Daemon.{start_fault, Starts, IsReady, Answers, begins_with_ok};
+    ghost use Rattle.puddled.specs.Daemon.{KeepsRest, start_fault, Starts, IsReady, Answers, begins_with_ok};
 
     /// Starts on the device, and says the start text. Nothing on the device changes.
     ///
@@ -83,6 +83,7 @@ impl Daemon {
             → Answers size w line.now aloud (fault_of result) (H.state h.old) (H.state h.new) }
         ensures ok { H.tells → (size : ℕ) → size ≡ (H.counts h.old).size → (w : World) → IsReady size w (H.state h.old)
             → IfOk result (λ ok. ok ≡ begins_with_ok (step_reply w line.now)) }
+        ensures rest { H.tells → KeepsRest (H.state h.old) (H.state h.new) }
         ensures cause { H.counts h.new ≡ after_fault (fault_of result) (H.counts h.old) }
     {
         let reply = apply(h, line)?;

@@ -8,5 +8,6 @@ mod pieces;
 mod replies;
 
 pub use lines::{Bad, parse_line};
+pub use numbers::{read_number, read_within};
 pub use pud_defs::machine::{Command, Refusal, Reply};
 pub use replies::print_reply;

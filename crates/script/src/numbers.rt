@@ -26,7 +26,7 @@ fn with_digit(above: u64, digit: u8) -> Option<u64>
 
 /// The number that the bytes are. None where they are no number, and where the number is 2^64 or larger.
 #[tactic(auto, using(crate::proofs::Digits::read))]
-fn read_number(digits: &[u8]) -> Option<u64>
+pub fn read_number(digits: &[u8]) -> Option<u64>
     ensures { result ≡ in_range 0 (2 ^ 64) Some (number_of digits.now) }
 {
     if !begins_as_number(digits) {
@@ -40,7 +40,7 @@ fn read_number(digits: &[u8]) -> Option<u64>
 }
 
 /// The number that the bytes are, where they are one and it lies from `least` to below `end`.
-pub(crate) fn read_within(digits: &[u8], least: u32, end: u32) -> Option<u32>
+pub fn read_within(digits: &[u8], least: u32, end: u32) -> Option<u32>
     ensures { result ≡ in_range least end Some (number_of digits.now) }
 {
     let number = u32::try_from(read_number(digits)?).ok()?;

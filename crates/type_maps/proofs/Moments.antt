@@ -4,10 +4,10 @@ use Rattle.std.proofs.lemmas.Bool.{cases_eq, eq-eqb, ne_eqb}
 use Rattle.std.proofs.lemmas.List.{append-nil}
 use Rattle.pm_model.specs.declared.host.HostFault.{HostFault}
 use Rattle.pm_model.specs.declared.host.HostFault.TheVariants.{Cut}
-use Rattle.pm_model.specs.Words.{Words, Cell, Picks, HasOnly}
+use Rattle.pm_model.specs.Words.{Words, Picks, HasOnly}
 use Rattle.pm_model.specs.Moments.{State}
 use Rattle.pm_model.specs.Changes.{Changes, Leaves, Silently, Persists, only, IsFrom, written as may_be_written}
-use Rattle.pm_model.proofs.Words.{only_at, HasOnly-newest}
+use Rattle.pm_model.proofs.Words.{only_at, HasOnly-own}
 use Rattle.pm_model.proofs.Changes.{Changes-still, Changes-wider, Changes-then, Changes-said, HasOnly-kept}
 use Rattle.pm_model.proofs.Leaves.{Leaves-changes, Leaves-still, Leaves-then}
 use Rattle.pud_defs.specs.declared.layout.TheConstants.{TYPE_TABLE, TYPE_RECORDS, POOL_TABLE}
@@ -48,9 +48,6 @@ Defines-half r id map fault s t p =
       durable = λ none. absurd (let no : Some fault ≡ None = none in cc);
     }
 
-own_value : (c : Cell) (v : ℕ) → HasOnly c v → HasOnly c c.newest
-own_value c v one = subst (λ (x : ℕ). HasOnly c x) (sym (HasOnly-newest c v one)) one
-
 -- the map word is durable, and then the id word is written
 pub Defines-both : (r id map : ℕ) (fault : Option HostFault) (s t u : State) → Persists (only (type_record_at r + 1) map) None s t → Persists (only (type_record_at r) id) fault t u → Defines r id map fault s u
 Defines-both r id map fault s t u first second =
@@ -78,18 +75,18 @@ Defines-both r id map fault s t u first second =
         record { before = half.before; picked = half.picked; is = w.is ∙ ap (λ (f : Image). written (type_record_at r) id f) half.is };
       durable = λ none held. record {
         each = λ k low high. elim (cases_eq k (type_record_at r)) [
-          | inl id_word ↦ own_value (u.now.words k) id (second.durable none k id (rw (eq-eqb k (type_record_at r) id_word) refl))
+          | inl id_word ↦ HasOnly-own (u.now.words k) id (second.durable none k id (rw (eq-eqb k (type_record_at r) id_word) refl))
           | inr other ↦
               let still : (x : ℕ) → may_be_written (only (type_record_at r) id) k x → ⊥ = λ x may. other (only_at (type_record_at r) id k x may) in
               elim (cases_eq k (type_record_at r + 1)) [
                 | inl map_word ↦
                     let one = first.durable refl k map (rw (eq-eqb k (type_record_at r + 1) map_word) refl) in
-                    own_value (u.now.words k) map (HasOnly-kept (may_be_written (only (type_record_at r) id)) fault t u k map second.changes still one)
+                    HasOnly-own (u.now.words k) map (HasOnly-kept (may_be_written (only (type_record_at r) id)) fault t u k map second.changes still one)
                 | inr outside ↦
                     let quiet : (x : ℕ) → may_be_written (only (type_record_at r + 1) map) k x → ⊥ = λ x may. outside (only_at (type_record_at r + 1) map k x may) in
                     let v = (s.now.words k).newest in
                     let one = HasOnly-kept (may_be_written (only (type_record_at r + 1) map)) None s t k v first.changes quiet (held.each k low high) in
-                    own_value (u.now.words k) v (HasOnly-kept (may_be_written (only (type_record_at r) id)) fault t u k v second.changes still one)
+                    HasOnly-own (u.now.words k) v (HasOnly-kept (may_be_written (only (type_record_at r) id)) fault t u k v second.changes still one)
               ]
         ];
       };

@@ -1,7 +1,8 @@
 use Rattle.std.proofs.Common.{Option, Some, None, refl, sym, ap, ◌∙◌}
+use Rattle.pm_model.specs.Words.{reads}
 use Rattle.pud_defs.specs.declared.machine.Refusal.{Refusal}
 use Rattle.pud_defs.specs.Step.{reply_to}
-use Rattle.puddled.proofs.Defining.{Applies-define, refusal_when_ready}
+use Rattle.puddled.proofs.Defining.{Applies-define, KeepsRest-define, refusal_when_ready}
 use Rattle.puddled.proofs.commands.define_type.Goals as goal
 
 pub returns-in-Ok-clause-reply : goal.returns-in-Ok-clause-reply
@@ -35,3 +36,21 @@ pub returns-in-Err-Host-clause-applies : goal.returns-in-Err-Host-clause-applies
 returns-in-Err-Host-clause-applies g c = λ t size e w ready legal_id legal_map.
     let defines = rw c.in-Err-Host.field-0-is at c.in-Err-Host.ensures.defines in
     Applies-define size w c.args.id c.args.map (Some c.in-Err-Host.fault) _ _ ready legal_id legal_map (c.in-Err-Host.ensures.idle t) (defines t)
+
+pub returns-in-Ok-clause-rest : goal.returns-in-Ok-clause-rest
+returns-in-Ok-clause-rest g c = λ t. KeepsRest-define (reads (g.H.Host.state c.args.h.now).now.words) c.args.id c.args.map None _ _ (c.in-Ok.ensures.idle t) (c.in-Ok.ensures.defines t)
+
+pub returns-in-Err-Clash-clause-rest : goal.returns-in-Err-Clash-clause-rest
+returns-in-Err-Clash-clause-rest g c = λ t.
+    let defines = rw c.in-Err-Clash.field-0-is at c.in-Err-Clash.ensures.defines in
+    KeepsRest-define (reads (g.H.Host.state c.args.h.now).now.words) c.args.id c.args.map None _ _ (c.in-Err-Clash.ensures.idle t) (defines t)
+
+pub returns-in-Err-Full-clause-rest : goal.returns-in-Err-Full-clause-rest
+returns-in-Err-Full-clause-rest g c = λ t.
+    let defines = rw c.in-Err-Full.field-0-is at c.in-Err-Full.ensures.defines in
+    KeepsRest-define (reads (g.H.Host.state c.args.h.now).now.words) c.args.id c.args.map None _ _ (c.in-Err-Full.ensures.idle t) (defines t)
+
+pub returns-in-Err-Host-clause-rest : goal.returns-in-Err-Host-clause-rest
+returns-in-Err-Host-clause-rest g c = λ t.
+    let defines = rw c.in-Err-Host.field-0-is at c.in-Err-Host.ensures.defines in
+    KeepsRest-define (reads (g.H.Host.state c.args.h.now).now.words) c.args.id c.args.map (Some c.in-Err-Host.fault) _ _ (c.in-Err-Host.ensures.idle t) (defines t)

@@ -5,7 +5,7 @@ use Rattle.pm_model.specs.Calls.{Says}
 use Rattle.pud_defs.specs.declared.machine.Reply.{Reply}
 use Rattle.pud_defs.specs.Texts.{reply_text}
 use Rattle.puddled.specs.Daemon.{Answers}
-use Rattle.puddled.proofs.Lines.{Answers-silent, Answers-unsaid, Answers-said}
+use Rattle.puddled.proofs.Lines.{Answers-silent, Answers-unsaid, Answers-said, KeepsRest-says}
 use Rattle.puddled.proofs.daemon.Daemon.exec.Goals as goal
 use Rattle.puddled.proofs.daemon.Daemon.exec.Goals.{then-aloud+in_ok-say_reply, else-aloud}
 
@@ -27,4 +27,13 @@ returns-clause-answers g c = λ t size e w ready. elim c.if-aloud.branch [
       let said = rw (c.in_ok-reply.ensures.reply t size e w ready) at (b.in_ok-say_reply.ensures.says t) in
       rw (b.if-aloud.true, b.h-is) (Answers-said size w c.args.line.now None _ _ _ (c.in_ok-reply.ensures.applies t size e w ready) said)
   | else-aloud b ↦ rw (b.if-aloud.false, b.h-is) (Answers-unsaid size w c.args.line.now _ _ (c.in_ok-reply.ensures.applies t size e w ready))
+]
+
+pub returns-in_err-say_reply-clause-rest : goal.returns-in_err-say_reply-clause-rest
+returns-in_err-say_reply-clause-rest g c = λ t. KeepsRest-says _ _ _ _ _ (c.in_ok-reply.ensures.rest t) (c.in_err-say_reply.ensures.says t)
+
+pub returns-clause-rest : goal.returns-clause-rest
+returns-clause-rest g c = λ t. elim c.if-aloud.branch [
+  | then-aloud+in_ok-say_reply b ↦ rw b.h-is (KeepsRest-says _ _ _ _ _ (c.in_ok-reply.ensures.rest t) (b.in_ok-say_reply.ensures.says t))
+  | else-aloud b ↦ rw b.h-is (c.in_ok-reply.ensures.rest t)
 ]

@@ -1,0 +1,290 @@
+-- A script is answered line by line.
+use Rattle.std.proofs.Common.{◌≡◌, ◌⊎◌, inl, inr, ℕ, zero, suc, ◌+◌, ◌<◌, ◌≤◌, Bool, true, false, List, [], ◌∷◌, ◌++◌, length, map, take, drop, Option, Some, None, Result, Ok, Err, refl, sym, ap, subst, ◌∙◌, ⊎_elim, arith, append_assoc, length-append, length-take}
+use Rattle.std.proofs.lemmas.List.{append-nil, map-append, take_all, take_at}
+use Rattle.std.proofs.lemmas.Bool.{cases_eq}
+use Rattle.pm_model.specs.declared.host.HostFault.{HostFault}
+use Rattle.pm_model.specs.Words.{Words, Image, Picks}
+use Rattle.pm_model.specs.Moments.{State, with_script}
+use Rattle.pm_model.specs.Calls.{TakesByte}
+use Rattle.pm_model.specs.Changes.{Leaves}
+use Rattle.pm_model.proofs.Leaves.{Leaves-then, Leaves-still}
+use Rattle.pud_defs.specs.declared.layout.TheConstants.{LINE_LIMIT, SCRIPT_LIMIT}
+use Rattle.pud_defs.specs.declared.machine.Command.{Command}
+use Rattle.pud_defs.specs.World.{World, world_of, closed}
+use Rattle.pud_defs.specs.Grammar.{command_of}
+use Rattle.pud_defs.specs.Step.{step_reply, step_world, reply_to, refusal_by, world_by}
+use Rattle.pud_defs.specs.Run.{Turn, IsTurn, IsRun, last_world, newlines, open_rest, lines_taken, lines_among}
+use Rattle.pud_defs.specs.Texts.{reply_text, replies_text}
+use Rattle.pud_defs.specs.Stands.{StandsWith}
+use Rattle.pud_defs.proofs.Commands.{command_of-front}
+use Rattle.pud_defs.proofs.Lines.{open_rest-newline, open_rest-other, open_rest-nothing, lines_taken-nothing, lines_taken-newline, lines_taken-other, lines_taken-end, lines_among_empty, lines_among_line}
+use Rattle.pud_defs.proofs.Runs.{IsRun-append, last_world-append}
+use Rattle.pud_defs.proofs.Said.{replies_text-append}
+use Rattle.pud_defs.proofs.Stands.{StandsAfter-more, StandsWith-later}
+use Rattle.puddled.specs.Daemon.{KeepsRest, IsReady, SaysPart, Answers}
+use Rattle.puddle_cli.specs.Serving.{Takes, TakesAtMost, TakesAll, AnswersLine, Serves, Answered}
+
+nothing_from_take : (line : List ℕ) → take 129 line ≡ [] → line ≡ []
+nothing_from_take [] e = refl
+nothing_from_take (b ∷ line) e = absurd (cc)
+
+nothing_long : (line : List ℕ) → length line ≡ 0 → line ≡ []
+nothing_long [] e = refl
+nothing_long (b ∷ line) e = absurd (omega arith)
+
+kept_shorter : (n : ℕ) (xs : List ℕ) (byte : ℕ) → take n (take n xs ++ byte ∷ []) ≡ take n (xs ++ byte ∷ [])
+kept_shorter zero xs byte = refl
+kept_shorter (suc n) [] byte = refl
+kept_shorter (suc n) (x ∷ xs) byte = ap (λ (l : List ℕ). x ∷ l) (kept_shorter n xs byte)
+
+-- what is kept of a line with a byte more is what is kept of the part kept with that byte
+kept_more : (xs : List ℕ) (byte : ℕ) → take 129 (take 129 xs ++ byte ∷ []) ≡ take 129 (xs ++ byte ∷ [])
+kept_more xs byte = kept_shorter 129 xs byte
+
+-- the line that was kept in part, by its whole
+relined : Turn → List ℕ → Turn
+relined t line = record t { line = line }
+
+is_turn_relined : (w : World) (t : Turn) (piece line : List ℕ) → t.line ≡ piece → piece ≡ take 129 line → IsTurn w t → IsTurn w (relined t line)
+unfolding relined
+is_turn_relined w t piece line of_line kept turn =
+    let same : command_of t.line ≡ command_of line = ap command_of (of_line ∙ kept) ∙ command_of-front line in
+    record {
+      step = record {
+        answered = turn.step.answered ∙ ap (λ (c : Option Command). reply_to (refusal_by w c)) same;
+        given = turn.step.given ∙ ap (λ (c : Option Command). world_by w c) same;
+      };
+      goes_on = turn.goes_on;
+    }
+
+-- a line that is not empty
+pub AnswersLine-turn : (size : ℕ) (w : World) (piece line : List ℕ) (fault : Option HostFault) (old new : State) → (piece ≡ [] → ⊥) → piece ≡ take 129 line
+    → Answers size w piece true fault old new → AnswersLine size w line fault old new
+unfolding relined
+AnswersLine-turn size w piece line fault old new some kept a =
+    let t = relined a.turn line in
+    let longer : length line ≡ 0 → ⊥ = λ none. some (kept ∙ ap (λ (l : List ℕ). take 129 l) (nothing_long line none)) in
+    record {
+      turns = t ∷ [];
+      few = omega arith;
+      lines = sym (lines_among_line line longer);
+      is_run = (is_turn_relined w a.turn piece line a.of_line kept a.is_turn, tt);
+      moments = a.moments;
+      says = subst (λ (text : List ℕ). SaysPart text fault old new) (sym (append-nil (reply_text a.turn.reply))) a.says;
+      ready = a.ready;
+      script = a.script;
+    }
+
+-- an empty one
+pub AnswersLine-nothing : (size : ℕ) (w : World) (line : List ℕ) (old new : State) → IsReady size w old → take 129 line ≡ [] → new ≡ old → AnswersLine size w line None old new
+AnswersLine-nothing size w line old new ready none same =
+    subst (λ (n : State). AnswersLine size w line None old n) (sym same) (record {
+      turns = [];
+      few = omega arith;
+      lines = sym (lines_among_empty line (ap length (nothing_from_take line none)));
+      is_run = tt;
+      moments = Leaves-still (StandsWith size w []) old old (λ image picked. ready.stands image picked) refl;
+      says = record { bytes = []; rest = []; part = refl; said = sym (append-nil old.now.said); whole = λ _. refl };
+      ready = λ _. ready;
+      script = refl;
+    })
+
+-- reading adds no moment
+Leaves-script : (P : List ℕ → Image → Type 0) (bytes : List ℕ) (start now : State) → Leaves P start now → Leaves P start (with_script bytes now)
+Leaves-script P bytes start now l = record { added = l.added; history = l.history; start = l.start; later = l.later }
+
+IsReady-script : (size : ℕ) (w : World) (bytes : List ℕ) (s : State) → IsReady size w s → IsReady size w (with_script bytes s)
+IsReady-script size w bytes s r = record { stands = r.stands; types = r.types; shelf = r.shelf }
+
+-- ready where the bytes taken left the daemon, after a byte more was read
+pub ready_read : (size : ℕ) (w : World) (start now after : State) (piece : List ℕ) (byte : Option ℕ) → (s : Serves size w start now piece) → TakesByte byte now after → IsReady size (last_world w s.turns) after
+ready_read size w start now after piece None s took = subst (λ (n : State). IsReady size (last_world w s.turns) n) (sym took.1) s.ready
+ready_read size w start now after piece (Some b) s took =
+    subst (λ (n : State). IsReady size (last_world w s.turns) n) (sym took.1) (IsReady-script size (last_world w s.turns) after.script now s.ready)
+
+-- one line more, behind those that were answered: at the exit of a call that answered it
+module _ (size : ℕ) (w : World) (start now read : State) (piece : List ℕ) (s : Serves size w start now piece) where
+  joined_moments : (turns : List Turn) (new : State) → Leaves (StandsWith size w s.turns) start read → read.now.said ≡ start.now.said ++ replies_text s.turns
+      → Leaves (StandsWith size (last_world w s.turns) turns) read new → Leaves (StandsWith size w (s.turns ++ turns)) start new
+  joined_moments turns new so_far said line =
+      Leaves-then (StandsWith size w s.turns) (StandsWith size (last_world w s.turns) turns) (StandsWith size w (s.turns ++ turns)) (replies_text s.turns) start read new said
+      (λ front image p. StandsAfter-more size w s.turns turns (newlines front) image p)
+      (λ more image p. StandsWith-later size w s.turns turns more image p)
+      so_far line
+
+  joined_lines : (taken : List ℕ) (ended : Bool) (turns : List Turn) → lines_taken taken ended ≡ lines_taken s.taken false ++ lines_among (open_rest s.taken ∷ [])
+      → map (λ t. t.line) turns ≡ lines_among (open_rest s.taken ∷ []) → map (λ t. t.line) (s.turns ++ turns) ≡ lines_taken taken ended
+  joined_lines taken ended turns all line =
+      map-append (λ (t : Turn). t.line) s.turns turns ∙ (λ i. s.lines i ++ line i) ∙ sym all
+
+  -- with a fault, or at the end of the script
+  pub Answered-line : (taken : List ℕ) (ended : Bool) (fault : Option HostFault) (new : State)
+      → lines_taken taken ended ≡ lines_taken s.taken false ++ lines_among (open_rest s.taken ∷ [])
+      → start.script ≡ taken ++ read.script → (ended ≡ true → read.script ≡ [])
+      → Leaves (StandsWith size w s.turns) start read → read.now.said ≡ start.now.said ++ replies_text s.turns
+      → (a : AnswersLine size (last_world w s.turns) (open_rest s.taken) fault read new) → (fault ≡ None → ⊥) → Answered size w ended fault start new
+  Answered-line taken ended fault new all script to_end so_far said a faulty =
+      record {
+        taken = taken;
+        answered = s.turns;
+        pending = a.turns;
+        few = a.few;
+        is_run = IsRun-append w s.turns a.turns s.is_run a.is_run;
+        lines = joined_lines taken ended a.turns all a.lines;
+        script = script ∙ ap (λ (l : List ℕ). taken ++ l) (sym a.script);
+        to_end = λ e. a.script ∙ to_end e;
+        more = a.says.bytes;
+        rest = a.says.rest;
+        said = a.says.said ∙ ap (λ (l : List ℕ). l ++ a.says.bytes) said;
+        part = a.says.part;
+        whole = λ none. absurd (faulty none);
+        moments = joined_moments a.turns new so_far said a.moments;
+        ready = λ none. absurd (faulty none);
+      }
+
+  all_said_whole : (turns : List Turn) (bytes rest : List ℕ) (old new : State) → replies_text turns ≡ bytes ++ rest → rest ≡ [] → new.now.said ≡ old.now.said ++ bytes
+      → old.now.said ≡ start.now.said ++ replies_text s.turns → new.now.said ≡ start.now.said ++ replies_text (s.turns ++ turns)
+  all_said_whole turns bytes rest old new part none new_said said =
+      let whole : replies_text turns ≡ bytes = part ∙ ap (λ (l : List ℕ). bytes ++ l) none ∙ append-nil bytes in
+      new_said ∙ ap (λ (l : List ℕ). l ++ bytes) said ∙ append_assoc start.now.said (replies_text s.turns) bytes
+      ∙ ap (λ (l : List ℕ). start.now.said ++ (replies_text s.turns ++ l)) (sym whole) ∙ ap (λ (l : List ℕ). start.now.said ++ l) (sym (replies_text-append s.turns turns))
+
+  -- the script is answered to its end
+  pub Answered-end : (new : State) → read ≡ now → now.script ≡ [] → (a : AnswersLine size (last_world w s.turns) (open_rest s.taken) None read new) → Answered size w true None start new
+  Answered-end new same none_left a =
+      let said = ap (λ (x : State). x.now.said) same ∙ s.said in
+      let so_far = subst (λ (n : State). Leaves (StandsWith size w s.turns) start n) (sym same) s.moments in
+      record {
+        taken = s.taken;
+        answered = s.turns ++ a.turns;
+        pending = [];
+        few = omega arith;
+        is_run = subst (λ (ts : List Turn). IsRun w ts) (sym (append-nil (s.turns ++ a.turns))) (IsRun-append w s.turns a.turns s.is_run a.is_run);
+        lines = ap (λ (ts : List Turn). map (λ t. t.line) ts) (append-nil (s.turns ++ a.turns)) ∙ joined_lines s.taken true a.turns (lines_taken-end s.taken) a.lines;
+        script = s.script ∙ ap (λ (x : State). s.taken ++ x.script) (sym same) ∙ ap (λ (l : List ℕ). s.taken ++ l) (sym a.script);
+        to_end = λ _. a.script ∙ ap (λ (x : State). x.script) same ∙ none_left;
+        more = [];
+        rest = [];
+        said = all_said_whole a.turns a.says.bytes a.says.rest read new a.says.part (a.says.whole refl) a.says.said said ∙ sym (append-nil (start.now.said ++ replies_text (s.turns ++ a.turns)));
+        part = refl;
+        whole = λ _. refl;
+        moments = subst (λ (ts : List Turn). Leaves (StandsWith size w ts) start new) (sym (append-nil (s.turns ++ a.turns))) (joined_moments a.turns new so_far said a.moments);
+        ready = λ _. subst (λ (v : World). IsReady size v new) (sym (last_world-append w s.turns a.turns)) (a.ready refl);
+      }
+
+  -- a newline was taken, and the line that it ends was answered
+  pub Serves-line : (byte : ℕ) (new : State) → byte ≡ 10 → TakesByte (Some byte) now read → (a : AnswersLine size (last_world w s.turns) (open_rest s.taken) None read new) → Serves size w start new []
+  Serves-line byte new newline took a =
+      let said : read.now.said ≡ start.now.said ++ replies_text s.turns = ap (λ (x : State). x.now.said) took.1 ∙ s.said in
+      let so_far : Leaves (StandsWith size w s.turns) start read = subst (λ (n : State). Leaves (StandsWith size w s.turns) start n) (sym took.1) (Leaves-script (StandsWith size w s.turns) read.script start now s.moments) in
+      record {
+        taken = s.taken ++ byte ∷ [];
+        turns = s.turns ++ a.turns;
+        is_run = IsRun-append w s.turns a.turns s.is_run a.is_run;
+        lines = joined_lines (s.taken ++ byte ∷ []) false a.turns (lines_taken-newline s.taken byte newline) a.lines;
+        under_way = sym (ap (λ (l : List ℕ). take 129 l) (open_rest-newline s.taken byte newline));
+        script = s.script ∙ ap (λ (l : List ℕ). s.taken ++ l) (took.0 ∙ ap (λ (l : List ℕ). byte ∷ l) (sym a.script)) ∙ sym (append_assoc s.taken (byte ∷ []) new.script);
+        said = all_said_whole a.turns a.says.bytes a.says.rest read new a.says.part (a.says.whole refl) a.says.said said;
+        moments = joined_moments a.turns new so_far said a.moments;
+        ready = subst (λ (v : World). IsReady size v new) (sym (last_world-append w s.turns a.turns)) (a.ready refl);
+      }
+
+  -- it was taken, and the line was not answered whole
+  pub Answered-newline : (byte : ℕ) (fault : HostFault) (new : State) → byte ≡ 10 → TakesByte (Some byte) now read → AnswersLine size (last_world w s.turns) (open_rest s.taken) (Some fault) read new
+      → Answered size w false (Some fault) start new
+  Answered-newline byte fault new newline took a =
+      Answered-line (s.taken ++ byte ∷ []) false (Some fault) new (lines_taken-newline s.taken byte newline)
+      (s.script ∙ ap (λ (l : List ℕ). s.taken ++ l) took.0 ∙ sym (append_assoc s.taken (byte ∷ []) read.script))
+      (λ e. absurd (let no : false ≡ true = e in cc))
+      (subst (λ (n : State). Leaves (StandsWith size w s.turns) start n) (sym took.1) (Leaves-script (StandsWith size w s.turns) read.script start now s.moments))
+      (ap (λ (x : State). x.now.said) took.1 ∙ s.said)
+      a (λ none. let no : Some fault ≡ None = none in cc)
+
+  -- the end was read, and the last line was not answered whole
+  pub Answered-last : (fault : HostFault) (new : State) → read ≡ now → now.script ≡ [] → AnswersLine size (last_world w s.turns) (open_rest s.taken) (Some fault) read new → Answered size w true (Some fault) start new
+  Answered-last fault new same none_left a =
+      Answered-line s.taken true (Some fault) new (lines_taken-end s.taken)
+      (s.script ∙ ap (λ (x : State). s.taken ++ x.script) (sym same))
+      (λ _. ap (λ (x : State). x.script) same ∙ none_left)
+      (subst (λ (n : State). Leaves (StandsWith size w s.turns) start n) (sym same) s.moments)
+      (ap (λ (x : State). x.now.said) same ∙ s.said)
+      a (λ none. let no : Some fault ≡ None = none in cc)
+
+  -- nothing more was taken or said
+  pub Answered-so_far : (fault : Option HostFault) → read ≡ now → Answered size w false fault start read
+  Answered-so_far fault same =
+      subst (λ (n : State). Answered size w false fault start n) (sym same) (record {
+        taken = s.taken;
+        answered = s.turns;
+        pending = [];
+        few = omega arith;
+        is_run = subst (λ (ts : List Turn). IsRun w ts) (sym (append-nil s.turns)) s.is_run;
+        lines = ap (λ (ts : List Turn). map (λ t. t.line) ts) (append-nil s.turns) ∙ s.lines;
+        script = s.script;
+        to_end = λ e. absurd (let no : false ≡ true = e in cc);
+        more = [];
+        rest = [];
+        said = s.said ∙ sym (append-nil (start.now.said ++ replies_text s.turns));
+        part = refl;
+        whole = λ _. refl;
+        moments = subst (λ (ts : List Turn). Leaves (StandsWith size w ts) start now) (sym (append-nil s.turns)) s.moments;
+        ready = λ _. s.ready;
+      })
+
+  -- another byte was taken
+  pub Serves-byte : (byte : ℕ) → (byte ≡ 10 → ⊥) → TakesByte (Some byte) now read → Serves size w start read (take 129 (piece ++ byte ∷ []))
+  Serves-byte byte other took =
+      record {
+        taken = s.taken ++ byte ∷ [];
+        turns = s.turns;
+        is_run = s.is_run;
+        lines = s.lines ∙ sym (lines_taken-other s.taken byte other);
+        under_way = ap (λ (l : List ℕ). take 129 (l ++ byte ∷ [])) s.under_way ∙ kept_more (open_rest s.taken) byte ∙ ap (λ (l : List ℕ). take 129 l) (sym (open_rest-other s.taken byte other));
+        script = s.script ∙ ap (λ (l : List ℕ). s.taken ++ l) took.0 ∙ sym (append_assoc s.taken (byte ∷ []) read.script);
+        said = ap (λ (x : State). x.now.said) took.1 ∙ s.said;
+        moments = subst (λ (n : State). Leaves (StandsWith size w s.turns) start n) (sym took.1) (Leaves-script (StandsWith size w s.turns) read.script start now s.moments);
+        ready = subst (λ (n : State). IsReady size (last_world w s.turns) n) (sym took.1) (IsReady-script size (last_world w s.turns) read.script now s.ready);
+      }
+
+-- before any byte is taken
+pub Serves-start : (size : ℕ) (w : World) (start now : State) → now ≡ start → IsReady size w start → Serves size w start now []
+Serves-start size w start now same ready =
+    subst (λ (n : State). Serves size w start n []) (sym same) (record {
+      taken = [];
+      turns = [];
+      is_run = tt;
+      lines = sym (lines_taken-nothing false);
+      under_way = sym (ap (λ (l : List ℕ). take 129 l) open_rest-nothing);
+      script = refl;
+      said = sym (append-nil start.now.said);
+      moments = Leaves-still (StandsWith size w []) start start (λ image picked. ready.stands image picked) refl;
+      ready = ready;
+    })
+
+-- ---- the bytes taken, whatever the device holds
+
+pub Takes-start : (start now : State) → now ≡ start → Takes 0 start now
+Takes-start start now same = subst (λ (n : State). Takes 0 start n) (sym same) (record { taken = []; counted = refl; script = refl; shelf = refl })
+
+pub Takes-more : (count byte : ℕ) (start now read new : State) → Takes count start now → TakesByte (Some byte) now read → KeepsRest read new → Takes (count + 1) start new
+Takes-more count byte start now read new t took kept =
+    record {
+      taken = t.taken ++ byte ∷ [];
+      counted = let n = t.counted in omega (arith, length-append t.taken (byte ∷ []));
+      script = t.script ∙ ap (λ (l : List ℕ). t.taken ++ l) (took.0 ∙ ap (λ (l : List ℕ). byte ∷ l) (sym kept.script)) ∙ sym (append_assoc t.taken (byte ∷ []) new.script);
+      shelf = kept.shelf ∙ ap (λ (x : State). x.shelf) took.1 ∙ t.shelf;
+    }
+
+pub TakesAtMost-takes : (count most : ℕ) (start now : State) → count ≤ most → Takes count start now → TakesAtMost most start now
+TakesAtMost-takes count most start now below t = record { taken = t.taken; counted = let n = t.counted in omega arith; script = t.script; shelf = t.shelf }
+
+pub Takes-same : (count : ℕ) (start now new : State) → new ≡ now → Takes count start now → Takes count start new
+Takes-same count start now new same t = subst (λ (n : State). Takes count start n) (sym same) t
+
+pub Takes-kept : (count : ℕ) (start now new : State) → Takes count start now → KeepsRest now new → Takes count start new
+Takes-kept count start now new t kept =
+    record { taken = t.taken; counted = t.counted; script = t.script ∙ ap (λ (l : List ℕ). t.taken ++ l) (sym kept.script); shelf = kept.shelf ∙ t.shelf }
+
+pub TakesAll-end : (count : ℕ) (start now : State) → count < SCRIPT_LIMIT → now.script ≡ [] → Takes count start now → TakesAll start now
+TakesAll-end count start now below none_left t =
+    record { taken = t.taken; below = let n = t.counted in omega arith; script = t.script; none_left = none_left; shelf = t.shelf }

@@ -1,0 +1,86 @@
+-- A device is formatted, and it is said.
+use Rattle.std.proofs.Common.{◌≡◌, ◌≢◌, ◌⊎◌, inl, inr, ℕ, ◌<◌, ◌≤◌, Bool, true, false, ◌||◌, ltb, List, [], ◌++◌, Option, Some, None, refl, sym, ap, subst, ◌∙◌, arith}
+use Rattle.std.proofs.lemmas.Bool.{eqb-false}
+use Rattle.std.proofs.lemmas.List.{append-nil}
+use Rattle.pm_model.specs.declared.host.HostFault.{HostFault}
+use Rattle.pm_model.specs.Words.{Words, Picks, IsRested, reads}
+use Rattle.pm_model.specs.Moments.{State}
+use Rattle.pm_model.specs.Calls.{Says}
+use Rattle.pm_model.specs.Changes.{Leaves, Silently}
+use Rattle.pm_model.proofs.Words.{Picks-reads, reads_only}
+use Rattle.pm_model.proofs.Changes.{Changes-said}
+use Rattle.pm_model.proofs.Leaves.{Leaves-then, Leaves-weaker, Leaves-says, Leaves-still}
+use Rattle.pud_defs.specs.declared.layout.TheConstants.{DEVICE_MAGIC, MAGIC_WORD}
+use Rattle.pud_defs.specs.Layout.{device_words, is_legal_frame_count}
+use Rattle.pud_defs.specs.Image.{Image}
+use Rattle.pud_defs.specs.Registry.{has_magic}
+use Rattle.pud_defs.specs.World.{world_of, blank_world, IsBlank}
+use Rattle.pud_defs.specs.Texts.{formatted_text}
+use Rattle.pud_defs.proofs.Worlds.{world_of-no_magic}
+use Rattle.pud_defs.proofs.Blank.{world_of-blank}
+use Rattle.puddled.specs.Daemon.{SaysPart}
+use Rattle.puddled.proofs.Lines.{SaysPart-says, SaysPart-nothing, words_said, script_said, shelf_said}
+use Rattle.puddle_cli.specs.Formatting.{is_refused, HasNoMagic, BelowFrames, LaysOut, Formats}
+
+neither : (a b : Bool) → (a || b) ≡ false → (a ≡ false) × (b ≡ false)
+neither true b e = absurd (let no : true ≡ false = e in cc)
+neither false b e = (refl, e)
+
+pub no_magic_when_rested : (words : Words) → IsRested words → has_magic (reads words) ≡ false → HasNoMagic words
+no_magic_when_rested words rested without =
+    record { each = λ v had magic. eqb-false (reads words MAGIC_WORD) DEVICE_MAGIC without (sym ((rested.each MAGIC_WORD).each v had) ∙ magic) }
+
+module _ (size F id : ℕ) (legal : is_legal_frame_count F ≡ true) (room : device_words F ≤ size) where
+  stands_on_the_way : (image : Image) → (has_magic image ≡ false) ⊎ IsBlank F id image → (world_of size image ≡ None) ⊎ (world_of size image ≡ Some (blank_world F id))
+  stands_on_the_way image (inl without) = inl (world_of-no_magic size image (eqb-false (image MAGIC_WORD) DEVICE_MAGIC without))
+  stands_on_the_way image (inr blank) = inr (world_of-blank size F id image legal room blank)
+
+  -- the words were not all laid out
+  pub Formats-laid : (fault : HostFault) (old new : State) → has_magic (reads old.now.words) ≡ false → LaysOut F id (Some fault) old new → Formats size F id (Some fault) old new
+  Formats-laid fault old new without l =
+      let moments : IsRested old.now.words → Leaves (Silently (λ image. (has_magic image ≡ false) ⊎ IsBlank F id image)) old new = λ rested. l.moments (no_magic_when_rested old.now.words rested without) in
+      record {
+        says = SaysPart-nothing formatted_text fault old new (Changes-said _ (Some fault) old new l.changes);
+        moments = λ rested _. Leaves-weaker _ _ old new (λ bytes image m. stands_on_the_way image m.1) (moments rested);
+        acknowledged = λ rested. Leaves-weaker _ _ old new (λ bytes image m. inl m.0) (moments rested);
+        world = λ e. absurd (let no : Some fault ≡ None = e in cc);
+        rested = λ e. absurd (let no : Some fault ≡ None = e in cc);
+        script = l.changes.script;
+        shelf = l.changes.shelf;
+      }
+
+  -- they were, and it was said
+  pub Formats-said : (fault : Option HostFault) (old mid new : State) → has_magic (reads old.now.words) ≡ false → LaysOut F id None old mid → Says formatted_text fault mid new → Formats size F id fault old new
+  Formats-said fault old mid new without l says =
+      let quiet = Changes-said _ None old mid l.changes in
+      let part = SaysPart-says formatted_text fault mid new says in
+      let words = words_said formatted_text fault mid new says in
+      let stands : (image : Image) → Picks mid.now.words image → world_of size image ≡ Some (blank_world F id) = λ image picked. world_of-blank size F id image legal room (l.blank refl image picked) in
+      let moments : IsRested old.now.words → Leaves (Silently (λ image. (has_magic image ≡ false) ⊎ IsBlank F id image)) old mid = λ rested. l.moments (no_magic_when_rested old.now.words rested without) in
+      let late = Leaves-says formatted_text fault (λ bytes image. world_of size image ≡ Some (blank_world F id)) mid new (λ front image prefix picked. stands image picked) says in
+      record {
+        says = record { bytes = part.bytes; rest = part.rest; part = part.part; said = part.said ∙ ap (λ (s : List ℕ). s ++ part.bytes) quiet; whole = part.whole };
+        moments = λ rested _. Leaves-then _ _ _ [] old mid new (quiet ∙ sym (append-nil old.now.said)) (λ bytes image m. stands_on_the_way image m.1) (λ bytes image m. inr m) (moments rested) late;
+        acknowledged = λ rested. Leaves-then _ _ _ [] old mid new (quiet ∙ sym (append-nil old.now.said)) (λ bytes image m. inl m.0) (λ bytes image m. inr m) (moments rested) late;
+        world = λ _. ap (λ (w : Words). world_of size (reads w)) words ∙ stands (reads mid.now.words) (Picks-reads mid.now.words);
+        rested = λ _ rested. subst (λ (w : Words). IsRested w) (sym words) (l.rested refl rested);
+        script = script_said formatted_text fault mid new says ∙ l.changes.script;
+        shelf = shelf_said formatted_text fault mid new says ∙ l.changes.shelf;
+      }
+
+-- nothing was done
+pub Formats-none : (size F id : ℕ) (fault : HostFault) (old new : State) → new ≡ old → Formats size F id (Some fault) old new
+Formats-none size F id fault old new same =
+    record {
+      says = SaysPart-nothing formatted_text fault old new (ap (λ (s : State). s.now.said) same);
+      moments = λ rested without. Leaves-still _ old new (λ image picked. inl (world_of-no_magic size image (eqb-false (image MAGIC_WORD) DEVICE_MAGIC (ap has_magic (reads_only old.now.words image rested picked) ∙ without)))) same;
+      acknowledged = λ rested. Leaves-still _ old new (λ image picked. inl refl) same;
+      world = λ e. absurd (let no : Some fault ≡ None = e in cc);
+      rested = λ e. absurd (let no : Some fault ≡ None = e in cc);
+      script = ap (λ (s : State). s.script) same;
+      shelf = ap (λ (s : State). s.shelf) same;
+    }
+
+-- what it says that formatting is not refused
+pub not_refused : (size F : ℕ) (image : Image) → is_refused size F image ≡ false → has_magic image ≡ false
+not_refused size F image e = (neither (ltb size (device_words F)) (has_magic image) e).1

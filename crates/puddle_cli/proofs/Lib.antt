@@ -1,0 +1,4 @@
+pub mod LayingOut
+pub mod Formatted
+pub mod Answering
+pub mod Running

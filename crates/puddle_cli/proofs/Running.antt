@@ -1,0 +1,120 @@
+-- One run over a script, from the start to the exit.
+use Rattle.std.proofs.Common.{◌≡◌, ◌⊎◌, inl, inr, ℕ, zero, suc, ◌+◌, ◌≤◌, Bool, true, false, List, [], ◌∷◌, ◌++◌, length, Option, Some, None, refl, sym, ap, subst, ◌∙◌, arith, append_assoc}
+use Rattle.std.proofs.lemmas.List.{append-nil}
+use Rattle.std.proofs.Math.Numerals.{one-add}
+use Rattle.pm_model.specs.declared.host.HostFault.{HostFault}
+use Rattle.pm_model.specs.Words.{Words, Image, Picks, IsRested, HasOnly, reads}
+use Rattle.pm_model.specs.Moments.{State}
+use Rattle.pm_model.specs.Changes.{Leaves}
+use Rattle.pm_model.proofs.Words.{reads_only}
+use Rattle.pm_model.proofs.Leaves.{Leaves-then, Leaves-weaker}
+use Rattle.pud_defs.specs.World.{World, world_of, closed}
+use Rattle.pud_defs.specs.Run.{Turn, last_world, newlines, lines_taken}
+use Rattle.pud_defs.specs.Texts.{start_text, replies_text}
+use Rattle.pud_defs.specs.Stands.{StandsWith, StandsBehindStart}
+use Rattle.pud_defs.proofs.Lines.{newlines-append, newlines_part, lines_taken-nothing}
+use Rattle.pud_defs.proofs.Said.{newlines-start_text}
+use Rattle.type_maps.specs.Define.{HasDurableTypes}
+use Rattle.puddled.specs.Daemon.{IsReady, IsPart, SaysPart, Starts}
+use Rattle.puddle_cli.specs.declared.status.TheConstants.{DONE, TOO_LONG}
+use Rattle.puddle_cli.specs.Status.{status_fault}
+use Rattle.puddle_cli.specs.Serving.{Answered}
+use Rattle.puddle_cli.specs.Headline.{IsInStart, IsBehindStart, Headline}
+
+-- a rested device whose words stand for the world is one to start on
+module _ (size : ℕ) (w : World) (start : State) (rested : IsRested start.now.words) (stands : world_of size (reads start.now.words) ≡ Some (closed w)) where
+  each_stands : (image : Image) → Picks start.now.words image → world_of size image ≡ Some (closed w)
+  each_stands image picked = ap (world_of size) (reads_only start.now.words image rested picked) ∙ stands
+
+  pub ready_after_start : (fault : Option HostFault) (now : State) → start.shelf ≡ w.shelf → Starts fault start now → IsReady size w now
+  ready_after_start fault now shelf s =
+      record {
+        stands = λ image picked. each_stands image (subst (λ (x : Words). Picks x image) s.words picked);
+        types = subst (λ (x : Words). HasDurableTypes x) (sym s.words) (record { each = λ k _ _. rested.each k });
+        shelf = s.shelf ∙ shelf;
+      }
+
+  stands_at_start : (turns : List Turn) (count : ℕ) (image : Image) → count ≤ 1 → world_of size image ≡ Some (closed w) → StandsBehindStart size w turns count image
+  stands_at_start turns zero image few e = e
+  stands_at_start [] (suc zero) image few e = e
+  stands_at_start (t ∷ turns) (suc zero) image few e = inl e
+  stands_at_start turns (suc (suc n)) image few e = absurd (omega arith)
+
+  start_moments : (turns : List Turn) (fault : Option HostFault) (now : State) → Starts fault start now → Leaves (λ bytes image. StandsBehindStart size w turns (newlines bytes) image) start now
+  start_moments turns fault now s =
+      Leaves-weaker _ _ start now
+      (λ bytes image m.
+        let part = newlines_part bytes m.0.rest in
+        let one = ap newlines (sym m.0.is) ∙ newlines-start_text in
+        stands_at_start turns (newlines bytes) image (omega arith) (each_stands image m.1)) s.moments
+
+  -- the host failed within the start
+  pub Headline-in_start : (status : ℕ) (fault : HostFault) (now : State) → status_fault status ≡ Some fault → start.shelf ≡ w.shelf → Starts (Some fault) start now → Headline size w status start now
+  Headline-in_start status fault now is shelf s =
+      let not_whole : status_fault status ≡ None → ⊥ = λ none. let no : Some fault ≡ None = sym is ∙ none in cc in
+      record {
+        taken = [];
+        ended = false;
+        script = sym s.script;
+        to_end = λ e. absurd (let no : false ≡ true = e in cc);
+        answered = [];
+        pending = [];
+        few = omega arith;
+        is_run = tt;
+        lines = sym (lines_taken-nothing false);
+        bytes = s.says.bytes;
+        said = s.says.said;
+        how_far = inl (record { nothing_taken = refl; no_turns = refl; rest = s.says.rest; part = s.says.part });
+        whole = λ none. absurd (not_whole none);
+        all_lines = λ done. absurd (not_whole (ap status_fault done));
+        not_ended = λ _. refl;
+        ends = λ none. absurd (not_whole none);
+        shelf = s.shelf ∙ shelf;
+        moments = start_moments [] (Some fault) now s;
+      }
+
+  said_behind : (mid now : State) (replies more : List ℕ) → mid.now.said ≡ start.now.said ++ start_text → now.now.said ≡ mid.now.said ++ replies ++ more
+      → now.now.said ≡ start.now.said ++ (start_text ++ replies ++ more)
+  said_behind mid now replies more first later =
+      later ∙ ap (λ (l : List ℕ). l ++ replies ++ more) first
+      ∙ ap (λ (l : List ℕ). l ++ more) (append_assoc start.now.said start_text replies)
+      ∙ append_assoc start.now.said (start_text ++ replies) more
+
+  nothing_more : (more rest : List ℕ) → [] ≡ more ++ rest → more ≡ []
+  nothing_more [] rest e = refl
+  nothing_more (b ∷ more) rest e = absurd (let no : [] ≡ b ∷ (more ++ rest) = e in cc)
+
+  -- the start was said whole, and the script was answered so far
+  pub Headline-behind_start : (status : ℕ) (ended : Bool) (fault : Option HostFault) (mid now : State) → start.shelf ≡ w.shelf → Starts None start mid → now.shelf ≡ mid.shelf
+      → status_fault status ≡ fault → (status ≡ DONE → ended ≡ true) → (status ≡ TOO_LONG → ended ≡ false)
+      → Answered size w ended fault mid now → Headline size w status start now
+  Headline-behind_start status ended fault mid now shelf s kept is done too_long a =
+      let first : mid.now.said ≡ start.now.said ++ start_text =
+          s.says.said ∙ ap (λ (l : List ℕ). start.now.said ++ l) (sym (s.says.part ∙ ap (λ (l : List ℕ). s.says.bytes ++ l) (s.says.whole refl) ∙ append-nil s.says.bytes)) in
+      record {
+        taken = a.taken;
+        ended = ended;
+        script = sym s.script ∙ a.script;
+        to_end = a.to_end;
+        answered = a.answered;
+        pending = a.pending;
+        few = a.few;
+        is_run = a.is_run;
+        lines = a.lines;
+        bytes = start_text ++ replies_text a.answered ++ a.more;
+        said = said_behind mid now (replies_text a.answered) a.more first a.said;
+        how_far = inr (record { more = a.more; rest = a.rest; said = refl; part = a.part });
+        whole = λ none.
+          let nothing = a.whole (sym is ∙ none) in
+          let no_more = nothing_more a.more a.rest (ap replies_text (sym nothing) ∙ a.part) in
+          (nothing, ap (λ (l : List ℕ). start_text ++ replies_text a.answered ++ l) no_more ∙ append-nil (start_text ++ replies_text a.answered));
+        all_lines = done;
+        not_ended = too_long;
+        ends = λ none. (a.ready (sym is ∙ none)).stands;
+        shelf = kept ∙ s.shelf ∙ shelf;
+        moments = Leaves-then _ (StandsWith size w (a.answered ++ a.pending)) _ start_text start mid now first
+          (λ front image p. p)
+          (λ more image p. subst (λ (n : ℕ). StandsBehindStart size w (a.answered ++ a.pending) n image)
+            (sym (newlines-append start_text more ∙ ap (λ (n : ℕ). n + newlines more) newlines-start_text ∙ one-add (newlines more))) p)
+          (start_moments (a.answered ++ a.pending) None mid s) a.moments;
+      }

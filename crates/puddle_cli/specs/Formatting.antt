@@ -1,0 +1,46 @@
+-- What formatting leaves and says, at every moment.
+use Rattle.std.specs.Prelude.{◌≡◌, ◌≢◌, ◌⊎◌, ℕ, ◌<◌, Bool, true, false, ◌||◌, nat_lt, List, [], ◌++◌, Option, Some, None}
+use Rattle.pm_model.specs.declared.host.HostFault.{HostFault}
+use Rattle.pm_model.specs.Words.{Has, values, Words, Picks, IsRested, reads}
+use Rattle.pm_model.specs.Moments.{State}
+use Rattle.pm_model.specs.Changes.{Changes, Leaves, Silently}
+use Rattle.pud_defs.specs.declared.layout.TheConstants.{DEVICE_MAGIC, MAGIC_WORD}
+use Rattle.pud_defs.specs.Layout.{frames_at, device_words}
+use Rattle.pud_defs.specs.Image.{Image}
+use Rattle.pud_defs.specs.Registry.{has_magic}
+use Rattle.pud_defs.specs.World.{world_of, blank_world, IsBlank}
+use Rattle.pud_defs.specs.Texts.{formatted_text}
+use Rattle.puddled.specs.Daemon.{SaysPart}
+
+-- formatting is refused: the device is formatted already, or has too few words
+abbrev pub is_refused : (size F : ℕ) → Image → Bool
+is_refused size F image = nat_lt size (device_words F) || has_magic image
+
+-- no value of word 0 is the device magic
+pub record HasNoMagic (words : Words) : Type 0 where
+  pub each : (v : ℕ) → Has (values (words MAGIC_WORD)) v → v ≢ DEVICE_MAGIC
+
+-- a word below the frames may get any value
+abbrev pub BelowFrames : ℕ → ℕ → ℕ → Type 0
+BelowFrames F k v = k < frames_at F
+
+-- The words below the frames are laid out. Where no value of word 0 was the magic, each image left at any moment is without it, or is that of
+-- the blank device; without a fault each image left is that of the blank device, and a rested device stays rested.
+pub record LaysOut (F id : ℕ) (fault : Option HostFault) (old new : State) : Type 0 where
+  pub changes : Changes (BelowFrames F) fault old new
+  pub moments : HasNoMagic old.now.words → Leaves (Silently (λ image. (has_magic image ≡ false) ⊎ IsBlank F id image)) old new
+  pub blank : fault ≡ None → (image : Image) → Picks new.now.words image → IsBlank F id image
+  pub rested : fault ≡ None → IsRested old.now.words → IsRested new.now.words
+
+-- A device was formatted. Where it was rested and without the magic, each image left at any moment is not sound or stands for the empty world;
+-- on a rested device, once a byte was said, each image left stands for it. Without a fault the text is whole, what the device reads stands for
+-- the empty world, and a rested device stays rested.
+pub record Formats (size F id : ℕ) (fault : Option HostFault) (old new : State) : Type 0 where
+  pub says : SaysPart formatted_text fault old new
+  pub moments : IsRested old.now.words → has_magic (reads old.now.words) ≡ false
+      → Leaves (λ bytes image. (world_of size image ≡ None) ⊎ (world_of size image ≡ Some (blank_world F id))) old new
+  pub acknowledged : IsRested old.now.words → Leaves (λ bytes image. (bytes ≡ []) ⊎ (world_of size image ≡ Some (blank_world F id))) old new
+  pub world : fault ≡ None → world_of size (reads new.now.words) ≡ Some (blank_world F id)
+  pub rested : fault ≡ None → IsRested old.now.words → IsRested new.now.words
+  pub script : new.script ≡ old.script
+  pub shelf : new.shelf ≡ old.shelf

@@ -1,0 +1,62 @@
+-- What the program says and leaves over a script, for one and the same run of the machine.
+use Rattle.std.specs.Prelude.{◌≡◌, ◌⊎◌, ℕ, ◌<◌, ◌≤◌, Bool, true, false, List, [], ◌++◌, length, map, Option, Some, None}
+use Rattle.pm_model.specs.Words.{Picks}
+use Rattle.pm_model.specs.Moments.{State}
+use Rattle.pm_model.specs.Changes.{Leaves}
+use Rattle.pud_defs.specs.declared.layout.TheConstants.{SCRIPT_LIMIT}
+use Rattle.pud_defs.specs.Image.{Image}
+use Rattle.pud_defs.specs.World.{World, world_of, closed}
+use Rattle.pud_defs.specs.Run.{Turn, IsRun, last_world, lines_taken, newlines}
+use Rattle.pud_defs.specs.Texts.{start_text, replies_text}
+use Rattle.pud_defs.specs.Stands.{StandsBehindStart}
+use Rattle.puddle_cli.specs.declared.status.TheConstants.{DONE, NOT_USABLE, TOO_LONG}
+use Rattle.puddle_cli.specs.Status.{status_fault}
+
+-- Bytes of the script were taken: all of them at status 0, and 2^20 at status 7.
+pub record TakesScript (status : ℕ) (start end : State) : Type 0 where
+  pub taken : List ℕ
+  pub script : start.script ≡ taken ++ end.script
+  pub within : length taken ≤ SCRIPT_LIMIT
+  pub done : status ≡ DONE → (end.script ≡ []) × (length taken < SCRIPT_LIMIT)
+  pub too_long : status ≡ TOO_LONG → length taken ≡ SCRIPT_LIMIT
+  pub not_usable : status ≡ NOT_USABLE → taken ≡ []
+  pub shelf : end.shelf ≡ start.shelf
+
+-- Within the start some bytes of the start text were said and nothing was taken. Behind it the start text, the replies to the lines answered
+-- and a part of the reply to the line under way were said.
+pub record IsInStart (taken : List ℕ) (turns : List Turn) (bytes : List ℕ) : Type 0 where
+  pub nothing_taken : taken ≡ []
+  pub no_turns : turns ≡ []
+  pub rest : List ℕ
+  pub part : start_text ≡ bytes ++ rest
+
+pub record IsBehindStart (answered pending : List Turn) (bytes : List ℕ) : Type 0 where
+  pub more : List ℕ
+  pub rest : List ℕ
+  pub said : bytes ≡ start_text ++ replies_text answered ++ more
+  pub part : replies_text pending ≡ more ++ rest
+
+-- The exit and the moments of one run over a script, from a device whose images all stand for the stored world of w.
+pub record Headline (size : ℕ) (w : World) (status : ℕ) (start end : State) : Type 0 where
+  -- the bytes taken, whether their end was read, and the lines that they are: some answered, and at most one without a whole reply
+  pub taken : List ℕ
+  pub ended : Bool
+  pub script : start.script ≡ taken ++ end.script
+  pub to_end : ended ≡ true → end.script ≡ []
+  pub answered : List Turn
+  pub pending : List Turn
+  pub few : length pending ≤ 1
+  pub is_run : IsRun w (answered ++ pending)
+  pub lines : map (λ t. t.line) (answered ++ pending) ≡ lines_taken taken ended
+  -- the bytes said
+  pub bytes : List ℕ
+  pub said : end.now.said ≡ start.now.said ++ bytes
+  pub how_far : IsInStart taken (answered ++ pending) bytes ⊎ IsBehindStart answered pending bytes
+  -- at status 0 and 7 the run is whole, and each image left stands for its closed last world
+  pub whole : status_fault status ≡ None → (pending ≡ []) × (bytes ≡ start_text ++ replies_text answered)
+  pub all_lines : status ≡ DONE → ended ≡ true
+  pub not_ended : status ≡ TOO_LONG → ended ≡ false
+  pub ends : status_fault status ≡ None → (image : Image) → Picks end.now.words image → world_of size image ≡ Some (closed (last_world w answered))
+  pub shelf : end.shelf ≡ w.shelf
+  -- at every moment
+  pub moments : Leaves (λ said image. StandsBehindStart size w (answered ++ pending) (newlines said) image) start end

@@ -1,0 +1,5 @@
+pub mod CommandLine
+pub mod Status
+pub mod Formatting
+pub mod Serving
+pub mod Headline

@@ -1,0 +1,92 @@
+-- How far a script was answered.
+use Rattle.std.specs.Prelude.{◌≡◌, ℕ, ◌+◌, ◌<◌, ◌≤◌, Bool, true, false, List, [], ◌∷◌, ◌++◌, length, map, take, Option, Some, None, Result, Ok, Err}
+use Rattle.pm_model.specs.declared.host.HostFault.{HostFault}
+use Rattle.pm_model.specs.Moments.{State}
+use Rattle.pm_model.specs.Changes.{Leaves}
+use Rattle.pud_defs.specs.declared.layout.TheConstants.{SCRIPT_LIMIT}
+use Rattle.pud_defs.specs.World.{World}
+use Rattle.pud_defs.specs.Run.{Turn, IsRun, last_world, open_rest, lines_taken, lines_among}
+use Rattle.pud_defs.specs.Texts.{replies_text}
+use Rattle.pud_defs.specs.Stands.{StandsWith}
+use Rattle.puddled.specs.Daemon.{IsReady, SaysPart}
+
+-- so many bytes of the script were taken
+pub record Takes (count : ℕ) (start now : State) : Type 0 where
+  pub taken : List ℕ
+  pub counted : length taken ≡ count
+  pub script : start.script ≡ taken ++ now.script
+  pub shelf : now.shelf ≡ start.shelf
+
+-- no more than so many bytes of the script were taken
+pub record TakesAtMost (count : ℕ) (start now : State) : Type 0 where
+  pub taken : List ℕ
+  pub counted : length taken ≤ count
+  pub script : start.script ≡ taken ++ now.script
+  pub shelf : now.shelf ≡ start.shelf
+
+-- fewer than 2^20 bytes of the script were taken, and none is left
+pub record TakesAll (start now : State) : Type 0 where
+  pub taken : List ℕ
+  pub below : length taken < SCRIPT_LIMIT
+  pub script : start.script ≡ taken ++ now.script
+  pub none_left : now.script ≡ []
+  pub shelf : now.shelf ≡ start.shelf
+
+-- what a call that reads a script took of it, by whether it came to its end
+abbrev pub TakesBy : Result Bool HostFault → State → State → Type 0
+TakesBy (Ok true) start now = TakesAll start now
+TakesBy (Ok false) start now = Takes SCRIPT_LIMIT start now
+TakesBy (Err fault) start now = TakesAtMost SCRIPT_LIMIT start now
+
+-- a turn of the loop took a byte, or none was left, or one may have been taken
+abbrev pub TakesOne : Result Bool HostFault → ℕ → State → State → Type 0
+TakesOne (Ok true) count start now = Takes (count + 1) start now
+TakesOne (Ok false) count start now = Takes count start now
+TakesOne (Err fault) count start now = TakesAtMost (count + 1) start now
+
+-- A line was answered: by no turn where it is empty, else by one turn of the machine, whose reply is said whole without a fault.
+pub record AnswersLine (size : ℕ) (w : World) (line : List ℕ) (fault : Option HostFault) (old new : State) : Type 0 where
+  pub turns : List Turn
+  pub few : length turns ≤ 1
+  pub lines : map (λ t. t.line) turns ≡ lines_among (line ∷ [])
+  pub is_run : IsRun w turns
+  pub moments : Leaves (StandsWith size w turns) old new
+  pub says : SaysPart (replies_text turns) fault old new
+  pub ready : fault ≡ None → IsReady size (last_world w turns) new
+  pub script : new.script ≡ old.script
+
+-- The lines that the bytes taken close were answered, each by a turn of the machine, and the bytes behind them are the piece under way, of
+-- which the first 129 are kept.
+pub record Serves (size : ℕ) (w : World) (start now : State) (piece : List ℕ) : Type 0 where
+  pub taken : List ℕ
+  pub turns : List Turn
+  pub is_run : IsRun w turns
+  pub lines : map (λ t. t.line) turns ≡ lines_taken taken false
+  pub under_way : piece ≡ take 129 (open_rest taken)
+  pub script : start.script ≡ taken ++ now.script
+  pub said : now.now.said ≡ start.now.said ++ replies_text turns
+  pub moments : Leaves (StandsWith size w turns) start now
+  pub ready : IsReady size (last_world w turns) now
+
+-- The script was answered so far: some lines whole, and at most one more whose reply is not whole. Without a fault there is none such.
+pub record Answered (size : ℕ) (w : World) (ended : Bool) (fault : Option HostFault) (start now : State) : Type 0 where
+  pub taken : List ℕ
+  pub answered : List Turn
+  pub pending : List Turn
+  pub few : length pending ≤ 1
+  pub is_run : IsRun w (answered ++ pending)
+  pub lines : map (λ t. t.line) (answered ++ pending) ≡ lines_taken taken ended
+  pub script : start.script ≡ taken ++ now.script
+  pub to_end : ended ≡ true → now.script ≡ []
+  pub more : List ℕ
+  pub rest : List ℕ
+  pub said : now.now.said ≡ start.now.said ++ replies_text answered ++ more
+  pub part : replies_text pending ≡ more ++ rest
+  pub whole : fault ≡ None → pending ≡ []
+  pub moments : Leaves (StandsWith size w (answered ++ pending)) start now
+  pub ready : fault ≡ None → IsReady size (last_world w answered) now
+
+-- the same by what the call answered: whether the end of the script was read, or the host's fault
+abbrev pub AnsweredBy : ℕ → World → Result Bool HostFault → State → State → Type 0
+AnsweredBy size w (Ok ended) start now = Answered size w ended None start now
+AnsweredBy size w (Err fault) start now = (ended : Bool) × Answered size w ended (Some fault) start now

@@ -1,0 +1,67 @@
+//! The piece of a line that was read so far.
+ghost use Rattle.std.specs.Prelude.{◌≡◌, ◌↔◌, ◌++◌, ◌∷◌, [], ℕ, take, length, IsTrue};
+
+use pud_defs::layout::LINE_LIMIT;
+use std::marker::Model;
+
+/// How many bytes of a line are kept: one more than a line may have, so that a longer one is seen to be too long.
+pub const KEPT: usize = LINE_LIMIT + 1;
+
+/// The first bytes of the line that is being read. It takes no memory.
+#[derive(Drop)]
+pub struct Piece {
+    bytes: [u8; 129],
+    length: usize,
+}
+
+impl Model for Piece {
+    ghost use Rattle.std.specs.Prelude.{◌≤◌, List, ℕ, take};
+
+    ghost Value = { List ℕ };
+
+    ghost view = { λ p. take p.length p.bytes };
+
+    ghost invariant = { λ p. p.length ≤ 129 };
+}
+
+impl Piece {
+    /// Nothing was read yet.
+    pub fn new() -> Self
+        ensures { result ≡ [] }
+    {
+        Piece {
+            bytes: [0; 129],
+            length: 0,
+        }
+    }
+
+    /// Adds a byte, unless as many as are kept are there.
+    pub fn push(&mut self, byte: u8)
+        ensures { self.new ≡ take 129 (self.old ++ byte ∷ []) }
+    {
+        if self.length < KEPT {
+            self.bytes[self.length] = byte;
+            self.length += 1;
+        }
+    }
+
+    /// Nothing is left.
+    pub fn clear(&mut self)
+        ensures { self.new ≡ [] }
+    {
+        self.length = 0;
+    }
+
+    pub fn is_empty(&self) -> bool
+        ensures { IsTrue result ↔ (self.now ≡ []) }
+    {
+        self.length == 0
+    }
+
+    /// The bytes kept.
+    pub fn bytes(&self) -> &[u8]
+        ensures { result.now ≡ self.now }
+    {
+        &self.bytes[..self.length]
+    }
+}
