@@ -1,0 +1,27 @@
+-- What the device's rows of words hold after each step.
+use Rattle.std.specs.Prelude.{◌≡◌, ◌≢◌, ℕ, ◌/◌, ◌%◌, ◌^◌, ◌==◌, Bool, true, false, List, slice_index, cond, nat_lt}
+use Rattle.std.specs.List.{list_any}
+
+-- whether a line is among those
+abbrev pub is_listed : ℕ → List ℕ → Bool
+is_listed line lines = list_any (λ listed. line == listed) lines
+
+-- A line's eight words are those of another row, and all other words stay.
+pub record TakesLine (line : ℕ) (from old new : List ℕ) : Type 0 where
+  pub each : (word : ℕ) → slice_index new word ≡ cond (word / 8 == line) (slice_index from word) (slice_index old word)
+
+-- the same of several lines
+pub record TakesLines (lines from old new : List ℕ) : Type 0 where
+  pub each : (word : ℕ) → slice_index new word ≡ cond (is_listed (word / 8) lines) (slice_index from word) (slice_index old word)
+
+-- whether a word keeps its newest value at a power loss with that pick, and not its durable one
+abbrev pub keeps_newest : ℕ → ℕ → Bool
+keeps_newest pick word = cond (pick == 0) false (cond (pick == 1) true (pick / 2 ^ (word % 64) % 2 == 1))
+
+-- the value that it keeps
+abbrev pub picked : ℕ → ℕ → ℕ → ℕ → ℕ
+picked pick word durable newest = cond (keeps_newest pick word) newest durable
+
+-- After a power loss each word of the row has the value that the pick gives it.
+pub record Loses (pick : ℕ) (durable newest new : List ℕ) : Type 0 where
+  pub each : (word : ℕ) → slice_index new word ≡ picked pick word (slice_index durable word) (slice_index newest word)

@@ -1,0 +1,120 @@
+//! The file that keeps the device's durable words, each as eight bytes with the lowest first.
+ghost use Rattle.std.specs.Prelude.{◌≡◌, ◌+◌, ◌*◌, ◌<◌, ◌≤◌, ◌^◌, length, vec_len, IfOk};
+
+use crate::device_rows::DeviceRows;
+use crate::line_run::LineRun;
+use std::fs::{File, OpenFile};
+use std::io;
+use std::io::{ErrorKind, Read, Seek, Write};
+use std::rt::Files;
+
+const WORD_BYTES: usize = 8;
+
+const PIECE_WORDS: usize = 1_024;
+
+const PIECE_BYTES: usize = WORD_BYTES * PIECE_WORDS;
+
+/// Opens the file, which is made where it is missing, and reads its words; `words` has zeroes. A file that is shorter
+/// than the device reads as zero beyond its end and is made as long; what stands past the device stays unread.
+///
+/// # Errors
+///
+/// The file could not be opened, made or read.
+pub(crate) fn open<R: Files>(runtime: &R, path: &str, words: &mut Vec<u64>) -> io::Result<R::File>
+    ensures { vec_len words.new ≡ vec_len words.old }
+{
+    let mut file = File::options()
+        .read(true)
+        .write(true)
+        .create(true)
+        .open(runtime, path)?;
+    read_words(&mut file, words)?;
+    let bytes = words.len() as u64 * WORD_BYTES as u64;
+    if file.metadata()?.len() < bytes {
+        file.set_len(bytes)?;
+    }
+    Ok(file)
+}
+
+// Reads words until the row or the file ends.
+fn read_words<F: Read>(file: &mut F, words: &mut Vec<u64>) -> io::Result<()>
+    ensures { vec_len words.new ≡ vec_len words.old }
+{
+    let mut piece = [0u8; PIECE_BYTES];
+    let mut first = 0;
+    while first < words.len() {
+        let count = PIECE_WORDS.min(words.len() - first);
+        let filled = fill(file, &mut piece[..count * WORD_BYTES])?;
+        take_words(&piece, first, count, words);
+        if filled < count * WORD_BYTES {
+            break;
+        }
+        first += count;
+    }
+    Ok(())
+}
+
+// Fills the piece from the reader, with zeroes after its end, and says how many bytes it gave.
+fn fill<F: Read>(file: &mut F, piece: &mut [u8]) -> io::Result<usize>
+    ensures { IfOk result (λ filled. filled ≤ length piece.new) }
+{
+    let mut filled = 0;
+    for _ in 0..u64::MAX {
+        if filled >= piece.len() {
+            break;
+        }
+        match file.read(&mut piece[filled..]) {
+            Ok(0) => break,
+            Ok(count) => filled += count,
+            Err(error) if error.kind() == ErrorKind::Interrupted => {}
+            Err(error) => return Err(error),
+        }
+    }
+    piece[filled..].fill(0);
+    Ok(filled)
+}
+
+// Puts the piece's words into the row from `first` on. A word of zero stays unwritten, since the row has zeroes.
+fn take_words(piece: &[u8], first: usize, count: usize, words: &mut Vec<u64>)
+    requires piece { 8 * count ≤ length piece.now }
+    requires words { first + count ≤ vec_len words.old }
+    ensures { vec_len words.new ≡ vec_len words.old }
+{
+    for place in 0..count {
+        let word = word_at(piece, place);
+        if word != 0 {
+            words[first + place] = word;
+        }
+    }
+}
+
+fn word_at(piece: &[u8], place: usize) -> u64
+    requires { 8 * place + 8 ≤ length piece.now }
+{
+    let mut bytes = [0u8; WORD_BYTES];
+    let from = place * WORD_BYTES;
+    bytes.copy_from_slice(&piece[from..from + WORD_BYTES]);
+    u64::from_le_bytes(bytes)
+}
+
+/// Writes each noted line that is due with its marked words, neighbours together, and syncs the file's data. Where
+/// none is due it does nothing.
+///
+/// # Errors
+///
+/// A write or the sync failed: each of the lines may hold its marked words or not.
+pub(crate) fn write_due<F: Write + Seek + OpenFile>(file: &mut F, rows: &DeviceRows) -> io::Result<()> {
+    let mut run = LineRun::new();
+    let mut is_written = false;
+    for line in rows.noted.as_slice() {
+        if rows.is_due(*line) {
+            run.put(file, *line, &rows.marked_line(*line))?;
+            is_written = true;
+        }
+    }
+    if is_written {
+        run.write(file)?;
+        file.sync_data()?;
+    }
+    Ok(())
+}

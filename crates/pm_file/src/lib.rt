@@ -1,0 +1,12 @@
+//! The host over real files: a device kept in the file `puddles.pm`, a shelf of `.pud` files in the current folder, a
+//! script from standard input and replies to standard output.
+#![tactic(auto)]
+
+mod device_file;
+mod device_rows;
+mod line_run;
+mod line_set;
+mod script;
+mod shelf;
+mod storage_fault;
+mod tally;

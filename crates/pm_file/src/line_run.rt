@@ -1,0 +1,67 @@
+//! A run of neighbouring lines, written to the device's file together.
+ghost use Rattle.std.specs.Prelude.{◌≡◌, ◌+◌, ◌*◌, ◌<◌, ◌≤◌, length};
+
+use std::io;
+use std::io::{Seek, SeekFrom, Write};
+
+/// The bytes of a line: eight words of eight bytes, each with its lowest byte first.
+pub(crate) const LINE_BYTES: usize = 64;
+
+const RUN_LINES: usize = 64;
+
+const RUN_BYTES: usize = LINE_BYTES * RUN_LINES;
+
+/// Up to 64 neighbouring lines that wait to be written.
+#[derive(Drop)]
+pub(crate) struct LineRun {
+    first: u32,
+    lines: usize,
+    bytes: [u8; RUN_BYTES],
+    ghost within: { lines ≤ 64 },
+}
+
+impl LineRun {
+    /// A run of no line.
+    pub(crate) fn new() -> LineRun
+        ensures { result.lines ≡ 0 }
+    {
+        LineRun {
+            first: 0,
+            lines: 0,
+            bytes: [0; RUN_BYTES],
+        }
+    }
+
+    /// Whether a line goes on with the run, and there is room for it.
+    fn continues_at(&self, line: u32) -> bool {
+        self.lines < RUN_LINES && u64::from(line) == u64::from(self.first) + self.lines as u64
+    }
+
+    /// Takes one more line, and first writes what waits where the line does not go on with it.
+    pub(crate) fn put<F: Write + Seek>(&mut self, file: &mut F, line: u32, words: &[u64; 8]) -> io::Result<()> {
+        if !self.continues_at(line) {
+            self.write(file)?;
+            self.first = line;
+        }
+        let at = self.lines * LINE_BYTES;
+        for (place, word) in words.iter().enumerate() {
+            let from = at + place * 8;
+            self.bytes[from..from + 8].copy_from_slice(&word.to_le_bytes());
+        }
+        self.lines += 1;
+        Ok(())
+    }
+
+    /// Writes what waits, at its place in the file. Then no line waits, also where the write failed.
+    pub(crate) fn write<F: Write + Seek>(&mut self, file: &mut F) -> io::Result<()>
+        ensures { self.new.lines ≡ 0 }
+    {
+        let count = self.lines * LINE_BYTES;
+        self.lines = 0;
+        if count > 0 {
+            file.seek(SeekFrom::Start(u64::from(self.first) * LINE_BYTES as u64))?;
+            file.write_all(&self.bytes[..count])?;
+        }
+        Ok(())
+    }
+}

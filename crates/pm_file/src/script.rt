@@ -1,0 +1,41 @@
+//! The script that the host reads, a byte at a time.
+use std::io;
+use std::io::{BufReader, ErrorKind, Read};
+
+/// A stream with a buffer. Once it has ended, it stays at its end.
+#[derive(Drop)]
+pub(crate) struct Script<I: Read + Drop> {
+    reader: BufReader<I>,
+    is_ended: bool,
+}
+
+impl<I: Read + Drop> Script<I> {
+    pub(crate) fn new(reader: BufReader<I>) -> Script<I> {
+        Script {
+            reader,
+            is_ended: false,
+        }
+    }
+
+    /// The next byte, or None at the end.
+    ///
+    /// # Errors
+    ///
+    /// The stream failed.
+    pub(crate) fn next_byte(&mut self) -> io::Result<Option<u8>> {
+        if self.is_ended {
+            return Ok(None);
+        }
+        let mut byte = [0u8; 1];
+        for _ in 0..u64::MAX {
+            match self.reader.read(&mut byte) {
+                Ok(0) => break,
+                Ok(_) => return Ok(Some(byte[0])),
+                Err(error) if error.kind() == ErrorKind::Interrupted => {}
+                Err(error) => return Err(error),
+            }
+        }
+        self.is_ended = true;
+        Ok(None)
+    }
+}

@@ -1,0 +1,78 @@
+//! The shelf: the files `<name>.pud` of the current folder.
+ghost use Rattle.std.specs.Prelude.{◌≤◌, length, IfOk};
+
+use crate::storage_fault::StorageFault;
+use pm_model::FILE_READ_LIMIT;
+use std::alloc::Global;
+use std::fs;
+use std::fs::OpenFile;
+use std::io;
+use std::io::{ErrorKind, Read, Write};
+use std::rt::Files;
+
+const PIECE_BYTES: usize = 4_096;
+
+/// The first bytes of the file of that name, as many as the limit of a read, or None where there is no such file.
+///
+/// # Errors
+///
+/// `Memory` where memory was refused, `Failed` where the file is there and could not be read.
+pub(crate) fn get<R: Files>(runtime: &R, alloc: Global, name: &str) -> Result<Option<Vec<u8>>, StorageFault> {
+    if !is_file_name(name) {
+        return Ok(None);
+    }
+    let path = format!(in alloc; "{name}.pud")?;
+    match fs::open(runtime, path.as_str()) {
+        Ok(mut file) => Ok(Some(read_limited(&mut file, alloc)?)),
+        Err(error) if error.kind() == ErrorKind::NotFound => Ok(None),
+        Err(_) => Err(StorageFault::Failed),
+    }
+}
+
+/// Replaces the whole file of that name, and syncs its data.
+///
+/// # Errors
+///
+/// `Memory` where memory was refused, which leaves the file as it was; `Failed` where it could not be made, written or
+/// synced, which may leave it in any state, or where the name is none of a file in the folder.
+pub(crate) fn put<R: Files>(runtime: &R, alloc: Global, name: &str, bytes: &[u8]) -> Result<(), StorageFault> {
+    if !is_file_name(name) {
+        return Err(StorageFault::Failed);
+    }
+    let path = format!(in alloc; "{name}.pud")?;
+    let mut file = fs::create(runtime, path.as_str())?;
+    file.write_all(bytes)?;
+    file.sync_data()?;
+    Ok(())
+}
+
+// A name with a slash would leave the folder, and one with a zero byte names no file.
+fn is_file_name(name: &str) -> bool {
+    name.as_bytes().iter().all(|byte| *byte != b'/' && *byte != 0)
+}
+
+fn read_limited<F: Read>(file: &mut F, alloc: Global) -> Result<Vec<u8>, StorageFault> {
+    let mut bytes = Vec::new(alloc);
+    let mut piece = [0u8; PIECE_BYTES];
+    for _ in 0..u64::MAX {
+        let room = PIECE_BYTES.min(FILE_READ_LIMIT.saturating_sub(bytes.len()));
+        let count = read_once(file, &mut piece[..room])?;
+        if count == 0 {
+            break;
+        }
+        bytes.extend_from_slice(&piece[..count])?;
+    }
+    Ok(bytes)
+}
+
+fn read_once<F: Read>(file: &mut F, piece: &mut [u8]) -> io::Result<usize>
+    ensures { IfOk result (λ count. count ≤ length piece.new) }
+{
+    for _ in 0..u64::MAX {
+        match file.read(piece) {
+            Err(error) if error.kind() == ErrorKind::Interrupted => {}
+            answer => return answer,
+        }
+    }
+    Ok(0)
+}
