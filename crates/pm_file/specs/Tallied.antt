@@ -1,7 +1,9 @@
 -- The counts that a host tells, from its tally.
-use Rattle.std.specs.Prelude.{ℕ}
+use Rattle.std.specs.Prelude.{ℕ, [], None}
 use Rattle.pm_file.specs.declared.tally.Tally.{Tally}
 use Rattle.pm_model.specs.Counts.{Counts}
+use Rattle.pm_model.specs.Words.{single}
+use Rattle.pm_model.specs.Moments.{State}
 
 -- with the device's size in words
 abbrev pub counts_of : ℕ → Tally → Counts
@@ -27,4 +29,13 @@ fresh_counts size = record {
   arm_pick = 0;
   losses = 0;
   loss_pick = 0;
+}
+
+-- what stands for the state of a host that tells none
+abbrev pub silent : State
+silent = record {
+  now = record { said = []; words = λ word. single 0 };
+  past = [];
+  script = [];
+  shelf = λ name. None;
 }

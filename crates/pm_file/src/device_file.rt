@@ -1,8 +1,10 @@
 //! The file that keeps the device's durable words, each as eight bytes with the lowest first.
-ghost use Rattle.std.specs.Prelude.{◌≡◌, ◌+◌, ◌*◌, ◌<◌, ◌≤◌, ◌^◌, length, vec_len, IfOk};
+ghost use Rattle.std.specs.Prelude.{◌≡◌, ◌+◌, ◌*◌, ◌<◌, ◌≤◌, ◌^◌, length, slice_range, vec_len, IfOk};
+ghost use Rattle.std.specs.Int.{from_le_bytes};
+ghost use mir.Syntax.{w64};
 
 use crate::device_rows::DeviceRows;
-use crate::line_run::LineRun;
+use crate::line_run::{LINE_BYTES, LineRun};
 use std::fs::{File, OpenFile};
 use std::io;
 use std::io::{ErrorKind, Read, Seek, Write};
@@ -20,8 +22,9 @@ const PIECE_BYTES: usize = WORD_BYTES * PIECE_WORDS;
 /// # Errors
 ///
 /// The file could not be opened, made or read.
-pub(crate) fn open<R: Files>(runtime: &R, path: &str, words: &mut Vec<u64>) -> io::Result<R::File>
-    ensures { vec_len words.new ≡ vec_len words.old }
+pub(crate) fn open<R: Files>(runtime: &R, path: &str, lines: u32, words: &mut Vec<u64>) -> io::Result<R::File>
+    requires { vec_len words.old ≡ 8 * lines }
+    ensures { vec_len words.new ≡ 8 * lines }
 {
     let mut file = File::options()
         .read(true)
@@ -29,7 +32,7 @@ pub(crate) fn open<R: Files>(runtime: &R, path: &str, words: &mut Vec<u64>) -> i
         .create(true)
         .open(runtime, path)?;
     read_words(&mut file, words)?;
-    let bytes = words.len() as u64 * WORD_BYTES as u64;
+    let bytes = u64::from(lines) * LINE_BYTES as u64;
     if file.metadata()?.len() < bytes {
         file.set_len(bytes)?;
     }
@@ -90,6 +93,7 @@ fn take_words(piece: &[u8], first: usize, count: usize, words: &mut Vec<u64>)
 
 fn word_at(piece: &[u8], place: usize) -> u64
     requires { 8 * place + 8 ≤ length piece.now }
+    ensures { result ≡ from_le_bytes w64 (slice_range piece.now (8 * place) (8 * place + 8)) }
 {
     let mut bytes = [0u8; WORD_BYTES];
     let from = place * WORD_BYTES;

@@ -169,6 +169,19 @@ impl DeviceRows {
         self.newest[at] = value;
     }
 
+    /// Puts the noted lines in rising order.
+    pub(crate) fn sort_noted(&mut self)
+        ensures noted { (line : ℕ) → is_listed line self.new.noted.lines.items
+            ≡ is_listed line self.old.noted.lines.items }
+        ensures size { self.new.lines ≡ self.old.lines }
+        ensures durable { self.new.durable ≡ self.old.durable }
+        ensures marked { self.new.marked ≡ self.old.marked }
+        ensures newest { self.new.newest ≡ self.old.newest }
+        ensures written { self.new.is_behind ≡ self.old.is_behind }
+    {
+        self.noted.sort();
+    }
+
     /// Makes the marked words of the noted lines durable, once the file surely holds them. No line is noted any more.
     pub(crate) fn settle(&mut self)
         ensures durable { TakesLines self.old.noted.lines.items self.old.marked.items self.old.durable.items

@@ -2,11 +2,15 @@
 //! script from standard input and replies to standard output.
 #![tactic(auto)]
 
+mod device;
 mod device_file;
 mod device_rows;
+mod file_host;
 mod line_run;
 mod line_set;
 mod script;
 mod shelf;
 mod storage_fault;
 mod tally;
+
+pub use file_host::FileHost;

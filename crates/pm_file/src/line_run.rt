@@ -1,5 +1,8 @@
 //! A run of neighbouring lines, written to the device's file together.
-ghost use Rattle.std.specs.Prelude.{◌≡◌, ◌+◌, ◌*◌, ◌<◌, ◌≤◌, length};
+ghost use Rattle.std.specs.Prelude.{◌≡◌, ◌+◌, ◌*◌, ◌<◌, ◌≤◌, ◌++◌, take, length};
+ghost use Rattle.std.specs.List.{flat_map};
+ghost use Rattle.std.specs.Int.{to_le_bytes};
+ghost use mir.Syntax.{w64};
 
 use std::io;
 use std::io::{Seek, SeekFrom, Write};
@@ -38,18 +41,31 @@ impl LineRun {
     }
 
     /// Takes one more line, and first writes what waits where the line does not go on with it.
+    ///
+    /// # Errors
+    ///
+    /// What waited could not be written.
     pub(crate) fn put<F: Write + Seek>(&mut self, file: &mut F, line: u32, words: &[u64; 8]) -> io::Result<()> {
         if !self.continues_at(line) {
             self.write(file)?;
             self.first = line;
         }
-        let at = self.lines * LINE_BYTES;
-        for (place, word) in words.iter().enumerate() {
-            let from = at + place * 8;
-            self.bytes[from..from + 8].copy_from_slice(&word.to_le_bytes());
+        if self.lines < RUN_LINES {
+            self.push(&line_bytes(words));
         }
-        self.lines += 1;
         Ok(())
+    }
+
+    // Takes the bytes of the next line.
+    fn push(&mut self, line: &[u8; LINE_BYTES])
+        requires { self.old.lines < 64 }
+        ensures bytes { take (64 * self.new.lines) self.new.bytes ≡ take (64 * self.old.lines) self.old.bytes ++ line.now }
+        ensures lines { self.new.lines ≡ self.old.lines + 1 }
+        ensures first { self.new.first ≡ self.old.first }
+    {
+        let at = self.lines * LINE_BYTES;
+        self.bytes[at..at + LINE_BYTES].copy_from_slice(line);
+        self.lines += 1;
     }
 
     /// Writes what waits, at its place in the file. Then no line waits, also where the write failed.
@@ -64,4 +80,16 @@ impl LineRun {
         }
         Ok(())
     }
+}
+
+// The bytes of a line's words.
+fn line_bytes(words: &[u64; 8]) -> [u8; LINE_BYTES]
+    ensures { result ≡ flat_map (to_le_bytes w64) words.now }
+{
+    let mut bytes = [0u8; LINE_BYTES];
+    for (place, word) in words.iter().enumerate() {
+        let at = place * 8;
+        bytes[at..at + 8].copy_from_slice(&word.to_le_bytes());
+    }
+    bytes
 }

@@ -1,4 +1,5 @@
 //! The script that the host reads, a byte at a time.
+use std::alloc::{AllocError, Global};
 use std::io;
 use std::io::{BufReader, ErrorKind, Read};
 
@@ -10,10 +11,14 @@ pub(crate) struct Script<I: Read + Drop> {
 }
 
 impl<I: Read + Drop> Script<I> {
-    pub(crate) fn new(reader: BufReader<I>) -> Script<I> {
-        Script {
-            reader,
-            is_ended: false,
+    /// A script from its start, which takes the memory of a buffer.
+    pub(crate) fn new(alloc: Global, stream: I) -> Result<Script<I>, AllocError> {
+        match BufReader::new(alloc, stream) {
+            Ok(reader) => Ok(Script {
+                reader,
+                is_ended: false,
+            }),
+            Err(_) => Err(AllocError),
         }
     }
 

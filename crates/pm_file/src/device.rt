@@ -1,0 +1,223 @@
+//! The device: its rows of words, the file behind them, the armed cut and the counts.
+ghost use Rattle.std.specs.Prelude.{◌≡◌, ◌≢◌, ℕ, ◌*◌, ◌/◌, ◌<◌, ◌≤◌, true, false, Option, Some, None, IfOk, OnErr};
+ghost use Rattle.pm_model.specs.Counts.{risen, after_fault, after_arm, after_loss_of, fault_of};
+ghost use Rattle.pm_file.specs.Tallied.{counts_of, fresh_counts};
+
+use crate::device_file;
+use crate::device_rows::DeviceRows;
+use crate::tally::Tally;
+use pm_model::HostFault;
+use std::fs::OpenFile;
+use std::io::{Seek, Write};
+
+/// A cut that is to come.
+#[derive(Clone, Copy)]
+pub(crate) struct ArmedCut {
+    /// At which device step from now on, counted from 1.
+    pub(crate) steps: u32,
+    /// Which value each word keeps.
+    pub(crate) pick: u64,
+}
+
+/// A device over an open file.
+#[derive(Drop)]
+pub(crate) struct Device<F> {
+    file: F,
+    pub(crate) rows: DeviceRows,
+    pub(crate) armed: Option<ArmedCut>,
+    /// Whether a power loss could not be written, which the next device call answers.
+    pub(crate) owes_fault: bool,
+    pub(crate) tally: Tally,
+}
+
+impl<F: Write + Seek + OpenFile> Device<F> {
+    /// A device at rest with these words, which the file has.
+    pub(crate) fn new(file: F, rows: DeviceRows) -> Device<F>
+        ensures rows { result.rows ≡ rows }
+        ensures counts { counts_of (8 * result.rows.lines) result.tally ≡ fresh_counts (8 * rows.lines) }
+    {
+        Device {
+            file,
+            rows,
+            armed: None,
+            owes_fault: false,
+            tally: Tally::new(),
+        }
+    }
+
+    /// Counts a fault, and gives it.
+    pub(crate) fn fail(&mut self) -> HostFault
+        ensures failed { result ≡ HostFault.Failed }
+        ensures cause { counts_of (8 * self.new.rows.lines) self.new.tally
+            ≡ after_fault (Option.Some result) (counts_of (8 * self.old.rows.lines) self.old.tally) }
+        ensures rows { self.new.rows ≡ self.old.rows }
+        ensures armed { self.new.armed ≡ self.old.armed }
+    {
+        self.tally.count_fault();
+        HostFault::Failed
+    }
+
+    /// The newest value of a word.
+    ///
+    /// # Errors
+    ///
+    /// A power loss before could not be written.
+    pub(crate) fn load(&mut self, word: u32) -> Result<u64, HostFault>
+        requires { word < 8 * self.old.rows.lines }
+        ensures cause { counts_of (8 * self.new.rows.lines) self.new.tally
+            ≡ after_fault (fault_of result) (counts_of (8 * self.old.rows.lines) self.old.tally) }
+        ensures never_cut { fault_of result ≢ Option.Some HostFault.Cut }
+    {
+        self.pay_fault()?;
+        Ok(self.rows.load(word))
+    }
+
+    /// Stores a word, a device step.
+    ///
+    /// # Errors
+    ///
+    /// `Failed` where a power loss before could not be written, `Cut` where the armed cut falls on this step.
+    pub(crate) fn store(&mut self, word: u32, value: u64) -> Result<(), HostFault>
+        requires { word < 8 * self.old.rows.lines }
+        ensures cause { counts_of (8 * self.new.rows.lines) self.new.tally
+            ≡ after_fault (fault_of result) (counts_of (8 * self.old.rows.lines) self.old.tally) }
+    {
+        self.begin_step()?;
+        self.rows.store(word, value);
+        self.count_step();
+        Ok(())
+    }
+
+    /// Flushes a line, a device step.
+    ///
+    /// # Errors
+    ///
+    /// Those of `store`.
+    pub(crate) fn flush(&mut self, line: u32) -> Result<(), HostFault>
+        requires { line < self.old.rows.lines }
+        ensures cause { counts_of (8 * self.new.rows.lines) self.new.tally
+            ≡ after_fault (fault_of result) (counts_of (8 * self.old.rows.lines) self.old.tally) }
+    {
+        self.begin_step()?;
+        self.rows.flush(line);
+        self.count_step();
+        Ok(())
+    }
+
+    /// Makes what is marked durable, a device step.
+    ///
+    /// # Errors
+    ///
+    /// Those of `store`, and `Failed` where the file could not be written or synced: the lines stay noted.
+    pub(crate) fn fence(&mut self) -> Result<(), HostFault>
+        ensures cause { counts_of (8 * self.new.rows.lines) self.new.tally
+            ≡ after_fault (fault_of result) (counts_of (8 * self.old.rows.lines) self.old.tally) }
+    {
+        self.begin_step()?;
+        if !self.settle() {
+            return Err(self.fail());
+        }
+        self.count_step();
+        Ok(())
+    }
+
+    /// Loses power at once. Where the file could not be written the next device call fails.
+    pub(crate) fn cut(&mut self, pick: u64)
+        ensures counted { counts_of (8 * self.new.rows.lines) self.new.tally
+            ≡ after_loss_of pick (counts_of (8 * self.old.rows.lines) self.old.tally) }
+        ensures armed { self.new.armed ≡ self.old.armed }
+    {
+        self.lose(pick);
+        self.tally.count_loss(pick);
+    }
+
+    /// Arms a cut in the place of one that is armed.
+    pub(crate) fn arm(&mut self, steps: u32, pick: u64)
+        ensures counted { counts_of (8 * self.new.rows.lines) self.new.tally
+            ≡ after_arm steps pick (counts_of (8 * self.old.rows.lines) self.old.tally) }
+        ensures armed { self.new.armed ≡ Option.Some (record { steps = steps; pick = pick }) }
+        ensures rows { self.new.rows ≡ self.old.rows }
+    {
+        self.armed = Some(ArmedCut { steps, pick });
+        self.tally.count_arm(steps, pick);
+    }
+
+    // Answers the fault of a power loss that could not be written, once.
+    fn pay_fault(&mut self) -> Result<(), HostFault>
+        ensures cause { counts_of (8 * self.new.rows.lines) self.new.tally
+            ≡ after_fault (fault_of result) (counts_of (8 * self.old.rows.lines) self.old.tally) }
+        ensures never_cut { fault_of result ≢ Option.Some HostFault.Cut }
+        ensures owed { self.old.owes_fault ≡ true → fault_of result ≡ Option.Some HostFault.Failed }
+        ensures rows { self.new.rows ≡ self.old.rows }
+        ensures armed { self.new.armed ≡ self.old.armed }
+    {
+        if self.owes_fault {
+            self.owes_fault = false;
+            return Err(self.fail());
+        }
+        Ok(())
+    }
+
+    // Begins a device step: it fails where a fault is owed, and is cut where the armed cut falls on it.
+    fn begin_step(&mut self) -> Result<(), HostFault>
+        ensures cause { counts_of (8 * self.new.rows.lines) self.new.tally
+            ≡ after_fault (fault_of result) (counts_of (8 * self.old.rows.lines) self.old.tally) }
+        ensures size { self.new.rows.lines ≡ self.old.rows.lines }
+        ensures kept { fault_of result ≢ Option.Some HostFault.Cut → self.new.armed ≡ self.old.armed }
+        ensures cut { fault_of result ≡ Option.Some HostFault.Cut → self.new.armed ≡ Option.None }
+    {
+        self.pay_fault()?;
+        match self.armed {
+            Some(cut) if cut.steps <= 1 => {
+                self.armed = None;
+                self.lose(cut.pick);
+                self.tally.count_cut();
+                Err(HostFault::Cut)
+            }
+            _ => Ok(()),
+        }
+    }
+
+    // Counts an armed cut down by a step that was carried out.
+    fn count_step(&mut self)
+        ensures rows { self.new.rows ≡ self.old.rows }
+        ensures tally { self.new.tally ≡ self.old.tally }
+    {
+        if let Some(cut) = self.armed {
+            self.armed = Some(ArmedCut {
+                steps: cut.steps.saturating_sub(1),
+                pick: cut.pick,
+            });
+        }
+    }
+
+    // Loses power: the file takes each line in which a durable word changed.
+    fn lose(&mut self, pick: u64)
+        ensures size { self.new.rows.lines ≡ self.old.rows.lines }
+        ensures tally { self.new.tally ≡ self.old.tally }
+        ensures armed { self.new.armed ≡ self.old.armed }
+    {
+        self.rows.lose(pick);
+        if !self.settle() {
+            self.owes_fault = true;
+        }
+    }
+
+    // Writes the noted lines and makes them durable, or leaves them noted where the file failed, and says which.
+    fn settle(&mut self) -> bool
+        ensures size { self.new.rows.lines ≡ self.old.rows.lines }
+        ensures tally { self.new.tally ≡ self.old.tally }
+        ensures armed { self.new.armed ≡ self.old.armed }
+        ensures durable { result ≡ false → self.new.rows.durable ≡ self.old.rows.durable }
+        ensures behind { result ≡ false → self.new.rows.is_behind ≡ true }
+    {
+        self.rows.sort_noted();
+        let is_written = device_file::write_due(&mut self.file, &self.rows).is_ok();
+        if is_written {
+            self.rows.settle();
+        } else {
+            self.rows.is_behind = true;
+        }
+        is_written
+    }
+}

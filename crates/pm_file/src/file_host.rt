@@ -1,0 +1,141 @@
+//! The host over real files.
+ghost use Rattle.std.specs.Prelude.{◌≡◌, ◌≢◌, ℕ, ◌*◌, ◌/◌, ◌<◌, ◌≤◌, Option, Result, IfOk, [], None, vec_len};
+ghost use Rattle.pm_model.specs.Words.{single};
+ghost use Rattle.pm_model.specs.Moments.{State};
+ghost use Rattle.pm_model.specs.Counts.{Counts, after_fault, file_fault_of};
+ghost use Rattle.pm_file.specs.Tallied.{counts_of, fresh_counts, silent};
+
+use crate::device::Device;
+use crate::device_file;
+use crate::device_rows::DeviceRows;
+use crate::script::Script;
+use crate::shelf;
+use crate::storage_fault::StorageFault;
+use pm_model::{FileFault, Host, HostFault};
+use std::alloc::{AllocError, Global};
+use std::io::{BufReader, Input};
+use std::rt::Files;
+
+/// The file of the device, in the current folder.
+const DEVICE_PATH: &str = "puddles.pm";
+
+/// The lines of the device: 2,139,648 words, eight to a line, in 17,117,184 bytes.
+const DEVICE_LINES: u32 = 267_456;
+
+/// The host over real files: its device is the file `puddles.pm` of the current folder, its shelf the files
+/// `<name>.pud` there, its stream standard input and output. It tells no content, and keeps the counts.
+#[derive(Drop)]
+pub struct FileHost<R: Files + Input + Print> {
+    runtime: R,
+    script: Script<R::Reader>,
+    device: Device<R::File>,
+}
+
+impl<R: Files + Input + Print + Clone + Drop> FileHost<R> {
+    /// Opens the device, which is made of zero words where its file is missing.
+    ///
+    /// # Errors
+    ///
+    /// `Memory` where memory was refused, `Host(Failed)` where the file could not be opened, made or read.
+    pub fn open(runtime: &R, alloc: Global) -> Result<FileHost<R>, FileFault>
+        ensures fresh { IfOk result (λ host. ⟦<FileHost<R> as Host>⟧.counts host ≡ fresh_counts 2139648) }
+        ensures never_cut { result ≢ Result.Err (FileFault.Host HostFault.Cut) }
+    {
+        match FileHost::open_at(runtime, alloc, DEVICE_PATH) {
+            Ok(host) => Ok(host),
+            Err(StorageFault::Memory) => Err(FileFault::Memory),
+            Err(StorageFault::Failed) => Err(FileFault::Host(HostFault::Failed)),
+        }
+    }
+
+    // Opens the device in the file of that path.
+    fn open_at(runtime: &R, alloc: Global, path: &str) -> Result<FileHost<R>, StorageFault>
+        ensures { IfOk result (λ host. counts_of (8 * host.device.rows.lines) host.device.tally ≡ fresh_counts 2139648) }
+    {
+        let runtime = runtime.clone()?;
+        let mut words = zeroes(alloc, DEVICE_LINES)?;
+        let file = device_file::open(&runtime, path, DEVICE_LINES, &mut words)?;
+        let rows = DeviceRows::new(alloc, DEVICE_LINES, words)?;
+        let script = Script::new(alloc, runtime.reader())?;
+        Ok(FileHost {
+            runtime,
+            script,
+            device: Device::new(file, rows),
+        })
+    }
+}
+
+// Lines of zero words.
+fn zeroes(alloc: Global, lines: u32) -> Result<Vec<u64>, AllocError>
+    ensures { IfOk result (λ words. vec_len words ≡ 8 * lines) }
+{
+    vec![in alloc; 0u64; lines as usize * 8]
+}
+
+impl<R: Files + Input + Print + Clone + Drop> Host for FileHost<R> {
+    ghost tells = { ⊥ };
+
+    ghost state = { λ _. silent };
+
+    ghost armed = { λ _. None };
+
+    ghost counts = { λ host. counts_of (8 * host.device.rows.lines) host.device.tally };
+
+    fn words(&self) -> u32 {
+        self.device.rows.words()
+    }
+
+    fn load(&mut self, w: u32) -> Result<u64, HostFault> {
+        self.device.load(w)
+    }
+
+    fn store(&mut self, w: u32, v: u64) -> Result<(), HostFault> {
+        self.device.store(w, v)
+    }
+
+    fn flush(&mut self, line: u32) -> Result<(), HostFault> {
+        self.device.flush(line)
+    }
+
+    fn fence(&mut self) -> Result<(), HostFault> {
+        self.device.fence()
+    }
+
+    fn cut(&mut self, pick: u64) {
+        self.device.cut(pick);
+    }
+
+    fn arm(&mut self, steps: u32, pick: u64) {
+        self.device.arm(steps, pick);
+    }
+
+    fn read(&mut self) -> Result<Option<u8>, HostFault> {
+        match self.script.next_byte() {
+            Ok(byte) => Ok(byte),
+            Err(_) => Err(self.device.fail()),
+        }
+    }
+
+    fn say(&mut self, bytes: &[u8]) -> Result<(), HostFault> {
+        match self.runtime.write_all(bytes) {
+            Ok(()) => Ok(()),
+            Err(_) => Err(self.device.fail()),
+        }
+    }
+
+    fn file_get(&mut self, alloc: Global, name: &str) -> Result<Option<Vec<u8>>, FileFault> {
+        match shelf::get(&self.runtime, alloc, name) {
+            Ok(found) => Ok(found),
+            Err(StorageFault::Memory) => Err(FileFault::Memory),
+            Err(StorageFault::Failed) => Err(FileFault::Host(self.device.fail())),
+        }
+    }
+
+    fn file_put(&mut self, alloc: Global, name: &str, bytes: &[u8]) -> Result<(), FileFault> {
+        match shelf::put(&self.runtime, alloc, name, bytes) {
+            Ok(()) => Ok(()),
+            Err(StorageFault::Memory) => Err(FileFault::Memory),
+            Err(StorageFault::Failed) => Err(FileFault::Host(self.device.fail())),
+        }
+    }
+}
