@@ -221,3 +221,6 @@ impl<F: Write + Seek + OpenFile> Device<F> {
         is_written
     }
 }
+
+#[cfg(test)]
+mod tests;

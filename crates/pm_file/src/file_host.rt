@@ -139,3 +139,6 @@ impl<R: Files + Input + Print + Clone + Drop> Host for FileHost<R> {
         }
     }
 }
+
+#[cfg(test)]
+mod tests;
