@@ -1,5 +1,5 @@
 -- What the device's rows of words hold after each step.
-use Rattle.std.specs.Prelude.{◌≡◌, ◌≢◌, ℕ, ◌/◌, ◌%◌, ◌^◌, ◌==◌, Bool, true, false, List, slice_index, cond, nat_lt}
+use Rattle.std.specs.Prelude.{◌≡◌, ℕ, ◌/◌, ◌%◌, ◌^◌, ◌==◌, Bool, true, false, List, slice_index, cond}
 use Rattle.std.specs.List.{list_any}
 
 -- whether a line is among those

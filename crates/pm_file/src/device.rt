@@ -1,23 +1,18 @@
 //! The device: its rows of words, the file behind them, the armed cut and the counts.
-ghost use Rattle.std.specs.Prelude.{◌≡◌, ◌≢◌, ℕ, ◌*◌, ◌/◌, ◌<◌, ◌≤◌, true, false, Option, Some, None, IfOk, OnErr};
+ghost use Rattle.std.specs.Prelude.{◌≡◌, ◌≢◌, ℕ, ◌*◌, ◌/◌, ◌<◌, ◌≤◌, true, false, Option, Some, None, IfOk, OnErr, slice_index, slice_set};
 ghost use Rattle.pm_model.specs.Counts.{risen, after_fault, after_arm, after_loss_of, fault_of};
+ghost use Rattle.pm_model.specs.Calls.{IsDue, CountsDown, counted_down};
+ghost use Rattle.pm_file.specs.Rows.{is_listed, TakesLine, TakesLines};
+ghost use Rattle.pm_file.specs.Steps.{armed_of, LosesRows, KeepsRows, Stops};
 ghost use Rattle.pm_file.specs.Tallied.{counts_of, fresh_counts};
 
+use crate::armed_cut::ArmedCut;
 use crate::device_file;
 use crate::device_rows::DeviceRows;
 use crate::tally::Tally;
 use pm_model::HostFault;
 use std::fs::OpenFile;
 use std::io::{Seek, Write};
-
-/// A cut that is to come.
-#[derive(Clone, Copy)]
-pub(crate) struct ArmedCut {
-    /// At which device step from now on, counted from 1.
-    pub(crate) steps: u32,
-    /// Which value each word keeps.
-    pub(crate) pick: u64,
-}
 
 /// A device over an open file.
 #[derive(Drop)]
@@ -52,6 +47,7 @@ impl<F: Write + Seek + OpenFile> Device<F> {
             ≡ after_fault (Option.Some result) (counts_of (8 * self.old.rows.lines) self.old.tally) }
         ensures rows { self.new.rows ≡ self.old.rows }
         ensures armed { self.new.armed ≡ self.old.armed }
+        ensures owed { self.new.owes_fault ≡ self.old.owes_fault }
     {
         self.tally.count_fault();
         HostFault::Failed
@@ -67,6 +63,9 @@ impl<F: Write + Seek + OpenFile> Device<F> {
         ensures cause { counts_of (8 * self.new.rows.lines) self.new.tally
             ≡ after_fault (fault_of result) (counts_of (8 * self.old.rows.lines) self.old.tally) }
         ensures never_cut { fault_of result ≢ Option.Some HostFault.Cut }
+        ensures value { IfOk result (λ value. value ≡ slice_index self.old.rows.newest.items word) }
+        ensures rows { self.new.rows ≡ self.old.rows }
+        ensures armed { self.new.armed ≡ self.old.armed }
     {
         self.pay_fault()?;
         Ok(self.rows.load(word))
@@ -81,6 +80,10 @@ impl<F: Write + Seek + OpenFile> Device<F> {
         requires { word < 8 * self.old.rows.lines }
         ensures cause { counts_of (8 * self.new.rows.lines) self.new.tally
             ≡ after_fault (fault_of result) (counts_of (8 * self.old.rows.lines) self.old.tally) }
+        ensures armed { CountsDown (fault_of result) (armed_of self.old.armed) (armed_of self.new.armed) }
+        ensures stopped { Stops (fault_of result) self.old.armed self.old.rows self.new.rows }
+        ensures stored { fault_of result ≡ Option.None → self.new.rows.newest.items
+            ≡ slice_set self.old.rows.newest.items word value }
     {
         self.begin_step()?;
         self.rows.store(word, value);
@@ -97,6 +100,11 @@ impl<F: Write + Seek + OpenFile> Device<F> {
         requires { line < self.old.rows.lines }
         ensures cause { counts_of (8 * self.new.rows.lines) self.new.tally
             ≡ after_fault (fault_of result) (counts_of (8 * self.old.rows.lines) self.old.tally) }
+        ensures armed { CountsDown (fault_of result) (armed_of self.old.armed) (armed_of self.new.armed) }
+        ensures stopped { Stops (fault_of result) self.old.armed self.old.rows self.new.rows }
+        ensures marked { fault_of result ≡ Option.None → TakesLine line self.old.rows.newest.items
+            self.old.rows.marked.items self.new.rows.marked.items }
+        ensures noted { fault_of result ≡ Option.None → is_listed line self.new.rows.noted.lines.items ≡ true }
     {
         self.begin_step()?;
         self.rows.flush(line);
@@ -112,6 +120,10 @@ impl<F: Write + Seek + OpenFile> Device<F> {
     pub(crate) fn fence(&mut self) -> Result<(), HostFault>
         ensures cause { counts_of (8 * self.new.rows.lines) self.new.tally
             ≡ after_fault (fault_of result) (counts_of (8 * self.old.rows.lines) self.old.tally) }
+        ensures armed { CountsDown (fault_of result) (armed_of self.old.armed) (armed_of self.new.armed) }
+        ensures stopped { Stops (fault_of result) self.old.armed self.old.rows self.new.rows }
+        ensures durable { fault_of result ≡ Option.None → TakesLines self.old.rows.noted.lines.items
+            self.old.rows.marked.items self.old.rows.durable.items self.new.rows.durable.items }
     {
         self.begin_step()?;
         if !self.settle() {
@@ -126,6 +138,7 @@ impl<F: Write + Seek + OpenFile> Device<F> {
         ensures counted { counts_of (8 * self.new.rows.lines) self.new.tally
             ≡ after_loss_of pick (counts_of (8 * self.old.rows.lines) self.old.tally) }
         ensures armed { self.new.armed ≡ self.old.armed }
+        ensures lost { LosesRows pick self.old.rows self.new.rows }
     {
         self.lose(pick);
         self.tally.count_loss(pick);
@@ -148,6 +161,7 @@ impl<F: Write + Seek + OpenFile> Device<F> {
             ≡ after_fault (fault_of result) (counts_of (8 * self.old.rows.lines) self.old.tally) }
         ensures never_cut { fault_of result ≢ Option.Some HostFault.Cut }
         ensures owed { self.old.owes_fault ≡ true → fault_of result ≡ Option.Some HostFault.Failed }
+        ensures paid { self.new.owes_fault ≡ false }
         ensures rows { self.new.rows ≡ self.old.rows }
         ensures armed { self.new.armed ≡ self.old.armed }
     {
@@ -163,8 +177,11 @@ impl<F: Write + Seek + OpenFile> Device<F> {
         ensures cause { counts_of (8 * self.new.rows.lines) self.new.tally
             ≡ after_fault (fault_of result) (counts_of (8 * self.old.rows.lines) self.old.tally) }
         ensures size { self.new.rows.lines ≡ self.old.rows.lines }
-        ensures kept { fault_of result ≢ Option.Some HostFault.Cut → self.new.armed ≡ self.old.armed }
-        ensures cut { fault_of result ≡ Option.Some HostFault.Cut → self.new.armed ≡ Option.None }
+        ensures not_due { fault_of result ≡ Option.None → IsDue (armed_of self.old.armed) → ⊥ }
+        ensures waits { fault_of result ≢ Option.Some HostFault.Cut → self.new.armed ≡ self.old.armed }
+        ensures fires { fault_of result ≡ Option.Some HostFault.Cut → self.new.armed ≡ Option.None }
+        ensures kept { fault_of result ≡ Option.None → self.new.rows ≡ self.old.rows }
+        ensures stopped { Stops (fault_of result) self.old.armed self.old.rows self.new.rows }
     {
         self.pay_fault()?;
         match self.armed {
@@ -182,6 +199,7 @@ impl<F: Write + Seek + OpenFile> Device<F> {
     fn count_step(&mut self)
         ensures rows { self.new.rows ≡ self.old.rows }
         ensures tally { self.new.tally ≡ self.old.tally }
+        ensures armed { armed_of self.new.armed ≡ counted_down (armed_of self.old.armed) }
     {
         if let Some(cut) = self.armed {
             self.armed = Some(ArmedCut {
@@ -196,6 +214,7 @@ impl<F: Write + Seek + OpenFile> Device<F> {
         ensures size { self.new.rows.lines ≡ self.old.rows.lines }
         ensures tally { self.new.tally ≡ self.old.tally }
         ensures armed { self.new.armed ≡ self.old.armed }
+        ensures lost { LosesRows pick self.old.rows self.new.rows }
     {
         self.rows.lose(pick);
         if !self.settle() {
@@ -208,7 +227,11 @@ impl<F: Write + Seek + OpenFile> Device<F> {
         ensures size { self.new.rows.lines ≡ self.old.rows.lines }
         ensures tally { self.new.tally ≡ self.old.tally }
         ensures armed { self.new.armed ≡ self.old.armed }
-        ensures durable { result ≡ false → self.new.rows.durable ≡ self.old.rows.durable }
+        ensures marked { self.new.rows.marked ≡ self.old.rows.marked }
+        ensures newest { self.new.rows.newest ≡ self.old.rows.newest }
+        ensures written { result ≡ true → TakesLines self.old.rows.noted.lines.items self.old.rows.marked.items
+            self.old.rows.durable.items self.new.rows.durable.items }
+        ensures unwritten { result ≡ false → self.new.rows.durable ≡ self.old.rows.durable }
         ensures behind { result ≡ false → self.new.rows.is_behind ≡ true }
     {
         self.rows.sort_noted();

@@ -22,7 +22,12 @@ const PIECE_BYTES: usize = WORD_BYTES * PIECE_WORDS;
 /// # Errors
 ///
 /// The file could not be opened, made or read.
-pub(crate) fn open<R: Files>(runtime: &R, path: &str, lines: u32, words: &mut Vec<u64>) -> io::Result<R::File>
+pub(crate) fn open<R: Files>(
+    runtime: &R,
+    path: &str,
+    lines: u32,
+    words: &mut Vec<u64>,
+) -> io::Result<R::File>
     requires { vec_len words.old ≡ 8 * lines }
     ensures { vec_len words.new ≡ 8 * lines }
 {
@@ -107,7 +112,10 @@ fn word_at(piece: &[u8], place: usize) -> u64
 /// # Errors
 ///
 /// A write or the sync failed: each of the lines may hold its marked words or not.
-pub(crate) fn write_due<F: Write + Seek + OpenFile>(file: &mut F, rows: &DeviceRows) -> io::Result<()> {
+pub(crate) fn write_due<F: Write + Seek + OpenFile>(
+    file: &mut F,
+    rows: &DeviceRows,
+) -> io::Result<()> {
     let mut run = LineRun::new();
     let mut is_written = false;
     for line in rows.noted.as_slice() {

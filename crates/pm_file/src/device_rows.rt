@@ -32,7 +32,11 @@ pub(crate) struct DeviceRows {
 
 impl DeviceRows {
     /// A device of that many lines at rest, each of its words durable.
-    pub(crate) fn new(alloc: Global, lines: u32, durable: Vec<u64>) -> Result<DeviceRows, AllocError>
+    pub(crate) fn new(
+        alloc: Global,
+        lines: u32,
+        durable: Vec<u64>,
+    ) -> Result<DeviceRows, AllocError>
         requires whole_lines { vec_len durable ≡ 8 * lines }
         requires few { lines < 2 ^ 29 }
         ensures size { IfOk result (λ rows. rows.lines ≡ lines) }
@@ -159,7 +163,11 @@ impl DeviceRows {
     {
         let at = word as usize;
         let durable = self.durable[at];
-        let value = if keeps_newest(pick, at) { self.newest[at] } else { durable };
+        let value = if keeps_newest(pick, at) {
+            self.newest[at]
+        } else {
+            durable
+        };
         if value != durable {
             self.durable[at] = value;
             self.noted.add(word / LINE_WORDS as u32);

@@ -3,14 +3,14 @@ ghost use Rattle.std.specs.Prelude.{◌≡◌, ◌≢◌, ℕ, ◌*◌, ◌/◌,
 ghost use Rattle.pm_model.specs.Words.{single};
 ghost use Rattle.pm_model.specs.Moments.{State};
 ghost use Rattle.pm_model.specs.Counts.{Counts, after_fault, file_fault_of};
+ghost use Rattle.pm_file.specs.Steps.{armed_of};
 ghost use Rattle.pm_file.specs.Tallied.{counts_of, fresh_counts, silent};
 
 use crate::device::Device;
-use crate::device_file;
 use crate::device_rows::DeviceRows;
 use crate::script::Script;
-use crate::shelf;
 use crate::storage_fault::StorageFault;
+use crate::{device_file, shelf};
 use pm_model::{FileFault, Host, HostFault};
 use std::alloc::{AllocError, Global};
 use std::io::{BufReader, Input};
@@ -77,7 +77,7 @@ impl<R: Files + Input + Print + Clone + Drop> Host for FileHost<R> {
 
     ghost state = { λ _. silent };
 
-    ghost armed = { λ _. None };
+    ghost armed = { λ host. armed_of host.device.armed };
 
     ghost counts = { λ host. counts_of (8 * host.device.rows.lines) host.device.tally };
 

@@ -2,6 +2,7 @@
 //! script from standard input and replies to standard output.
 #![tactic(auto)]
 
+mod armed_cut;
 mod device;
 mod device_file;
 mod device_rows;

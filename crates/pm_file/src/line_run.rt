@@ -45,7 +45,12 @@ impl LineRun {
     /// # Errors
     ///
     /// What waited could not be written.
-    pub(crate) fn put<F: Write + Seek>(&mut self, file: &mut F, line: u32, words: &[u64; 8]) -> io::Result<()> {
+    pub(crate) fn put<F: Write + Seek>(
+        &mut self,
+        file: &mut F,
+        line: u32,
+        words: &[u64; 8],
+    ) -> io::Result<()> {
         if !self.continues_at(line) {
             self.write(file)?;
             self.first = line;

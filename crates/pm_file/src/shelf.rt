@@ -4,11 +4,10 @@ ghost use Rattle.std.specs.Prelude.{◌≤◌, length, IfOk};
 use crate::storage_fault::StorageFault;
 use pm_model::FILE_READ_LIMIT;
 use std::alloc::Global;
-use std::fs;
 use std::fs::OpenFile;
-use std::io;
 use std::io::{ErrorKind, Read, Write};
 use std::rt::Files;
+use std::{fs, io};
 
 const PIECE_BYTES: usize = 4_096;
 
@@ -17,7 +16,11 @@ const PIECE_BYTES: usize = 4_096;
 /// # Errors
 ///
 /// `Memory` where memory was refused, `Failed` where the file is there and could not be read.
-pub(crate) fn get<R: Files>(runtime: &R, alloc: Global, name: &str) -> Result<Option<Vec<u8>>, StorageFault> {
+pub(crate) fn get<R: Files>(
+    runtime: &R,
+    alloc: Global,
+    name: &str,
+) -> Result<Option<Vec<u8>>, StorageFault> {
     if !is_file_name(name) {
         return Ok(None);
     }
@@ -35,7 +38,12 @@ pub(crate) fn get<R: Files>(runtime: &R, alloc: Global, name: &str) -> Result<Op
 ///
 /// `Memory` where memory was refused, which leaves the file as it was; `Failed` where it could not be made, written or
 /// synced, which may leave it in any state, or where the name is none of a file in the folder.
-pub(crate) fn put<R: Files>(runtime: &R, alloc: Global, name: &str, bytes: &[u8]) -> Result<(), StorageFault> {
+pub(crate) fn put<R: Files>(
+    runtime: &R,
+    alloc: Global,
+    name: &str,
+    bytes: &[u8],
+) -> Result<(), StorageFault> {
     if !is_file_name(name) {
         return Err(StorageFault::Failed);
     }
@@ -48,7 +56,9 @@ pub(crate) fn put<R: Files>(runtime: &R, alloc: Global, name: &str, bytes: &[u8]
 
 // A name with a slash would leave the folder, and one with a zero byte names no file.
 fn is_file_name(name: &str) -> bool {
-    name.as_bytes().iter().all(|byte| *byte != b'/' && *byte != 0)
+    name.as_bytes()
+        .iter()
+        .all(|byte| *byte != b'/' && *byte != 0)
 }
 
 fn read_limited<F: Read>(file: &mut F, alloc: Global) -> Result<Vec<u8>, StorageFault> {

@@ -136,7 +136,12 @@ fn a_fence_with_nothing_to_write_does_not_sync(rt: HostRuntime) -> Result<(), Fa
 #[test]
 fn a_cut_keeps_values_by_its_pick(rt: HostRuntime) -> Result<(), Fail> {
     // the pick, and what the words 0, 1, 64 and 65 hold after it, of 1 that is durable and 2 that is newest
-    let cases = [(0, [1, 1, 1, 1]), (1, [2, 2, 2, 2]), (2, [1, 2, 1, 2]), (5, [2, 1, 2, 1])];
+    let cases = [
+        (0, [1, 1, 1, 1]),
+        (1, [2, 2, 2, 2]),
+        (2, [1, 2, 1, 2]),
+        (5, [2, 1, 2, 1]),
+    ];
     for (pick, want) in cases {
         let mut device = fake_device(&rt, rt.alloc());
         for word in [0, 1, 64, 65] {
@@ -149,10 +154,18 @@ fn a_cut_keeps_values_by_its_pick(rt: HostRuntime) -> Result<(), Fail> {
         device.cut(pick);
         for (word, value) in [0u32, 1, 64, 65].iter().zip(&want) {
             assert!(rt; *word < device.rows.words());
-            assert_eq!(rt; device.load(*word), Ok(u64::from(*value)), "word {word} at pick {pick}");
+            assert_eq!(rt;
+                device.load(*word),
+                Ok(u64::from(*value)),
+                "word {word} at pick {pick}"
+            );
             let at = *word as usize * 8;
             assert!(rt; at < BYTES);
-            assert_eq!(rt; device.file.bytes[at], *value, "the file's word {word} at pick {pick}");
+            assert_eq!(rt;
+                device.file.bytes[at],
+                *value,
+                "the file's word {word} at pick {pick}"
+            );
         }
     }
     Ok(())

@@ -1,14 +1,13 @@
 use super::FileHost;
 use pm_model::{FILE_READ_LIMIT, FileFault, Host, HostFault};
 use std::alloc::Global;
-use std::env;
-use std::fs;
 use std::fs::{File, OpenFile};
 use std::io::{Seek, SeekFrom, Write};
 use std::path::Path;
 use std::process::Abort;
 use std::rt::Runtime;
 use std::test::Fail;
+use std::{env, fs};
 
 const DEVICE_BYTES: usize = 17_117_184;
 
@@ -74,7 +73,11 @@ fn what_is_fenced_is_read_again(rt: HostRuntime) -> Result<(), Fail> {
 #[test]
 fn short_and_long_files_are_taken_as_they_are(rt: HostRuntime) -> Result<(), Fail> {
     let path = fresh_path(&rt, "pm_file_length")?;
-    fs::write(&rt, path.as_str(), [1u8, 0, 0, 0, 0, 0, 0, 2, 3, 0, 4].as_slice())?;
+    fs::write(
+        &rt,
+        path.as_str(),
+        [1u8, 0, 0, 0, 0, 0, 0, 2, 3, 0, 4].as_slice(),
+    )?;
     let mut host = opened(&rt, rt.alloc(), path.as_str());
     assert_eq!(rt; load(&rt, &mut host, 0), 0x0200_0000_0000_0001);
     assert_eq!(rt; load(&rt, &mut host, 1), 0x0004_0003);
@@ -92,7 +95,10 @@ fn short_and_long_files_are_taken_as_they_are(rt: HostRuntime) -> Result<(), Fai
     drop(host);
     let bytes = fs::read(&rt, path.as_str())?;
     assert_eq!(rt; bytes.len(), DEVICE_BYTES + 4);
-    assert_eq!(rt; &bytes[DEVICE_BYTES - 8..], b"\x07\0\0\0\0\0\0\0kept".as_slice());
+    assert_eq!(rt;
+        &bytes[DEVICE_BYTES - 8..],
+        b"\x07\0\0\0\0\0\0\0kept".as_slice()
+    );
     fs::remove_file(&rt, path.as_str())?;
     Ok(())
 }
@@ -121,17 +127,29 @@ fn files_of_the_shelf_are_replaced_whole(rt: HostRuntime) -> Result<(), Fail> {
     let path = fresh_path(&rt, "pm_file_shelf")?;
     let name = "pm_file_shelf_test";
     let mut host = opened(&rt, rt.alloc(), path.as_str());
-    assert_eq!(rt; host.file_get(rt.alloc(), name).expect(&rt, "no file"), None);
+    assert_eq!(rt;
+        host.file_get(rt.alloc(), name).expect(&rt, "no file"),
+        None
+    );
     let long = vec![in rt.alloc(); 7u8; FILE_READ_LIMIT + 1]?;
     assert_eq!(rt; host.file_put(rt.alloc(), name, &long), Ok(()));
     let found = host.file_get(rt.alloc(), name).expect(&rt, "a file");
     assert_eq!(rt; found.expect(&rt, "its bytes").len(), FILE_READ_LIMIT);
     assert_eq!(rt; host.file_put(rt.alloc(), name, b"abc"), Ok(()));
     let found = host.file_get(rt.alloc(), name).expect(&rt, "a file");
-    assert_eq!(rt; found.expect(&rt, "its bytes").as_slice(), b"abc".as_slice());
+    assert_eq!(rt;
+        found.expect(&rt, "its bytes").as_slice(),
+        b"abc".as_slice()
+    );
     let below = "no_such_folder/file";
-    assert_eq!(rt; host.file_get(rt.alloc(), below).expect(&rt, "no file"), None);
-    assert_eq!(rt; host.file_put(rt.alloc(), below, b"abc"), Err(FileFault::Host(HostFault::Failed)));
+    assert_eq!(rt;
+        host.file_get(rt.alloc(), below).expect(&rt, "no file"),
+        None
+    );
+    assert_eq!(rt;
+        host.file_put(rt.alloc(), below, b"abc"),
+        Err(FileFault::Host(HostFault::Failed))
+    );
     fs::remove_file(&rt, Path::new("pm_file_shelf_test.pud"))?;
     fs::remove_file(&rt, path.as_str())?;
     Ok(())

@@ -1,6 +1,6 @@
-use Rattle.std.proofs.Common.{◌≡◌, ◌<◌, ◌/◌, ℕ, true, ◌∙◌, arith, length, get_or, slice_set, vec_len}
+use Rattle.std.proofs.Common.{◌≡◌, ◌<◌, ◌/◌, true, ◌∙◌, arith, length, get_or}
 use Rattle.pm_file.specs.Rows.{is_listed, picked}
-use Rattle.pm_file.proofs.Rows.{LosesBelow, LosesBelow-more, LosesBelow-next, changed-more}
+use Rattle.pm_file.proofs.Rows.{LosesBelow-more, LosesBelow-next, changed-more}
 use Rattle.pm_file.proofs.device_rows.DeviceRows.lose.Goals as goal
 
 pub loop-word-preserved : goal.loop-word-preserved
