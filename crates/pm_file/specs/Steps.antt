@@ -1,6 +1,6 @@
 -- What a step of the device does to its armed cut and to its rows.
 use Rattle.std.specs.Prelude.{◌≡◌, ℕ, Option, Some, None}
-use Rattle.pm_model.specs.Calls.{Armed}
+use Rattle.pm_model.specs.Calls.{Armed, IsDue}
 use Rattle.pm_model.specs.declared.host.HostFault.{HostFault}
 use Rattle.pm_model.specs.declared.host.HostFault.TheVariants.{Failed, Cut}
 use Rattle.pm_file.specs.declared.armed_cut.ArmedCut.{ArmedCut}
@@ -24,7 +24,8 @@ pub record KeepsRows (old new : DeviceRows) : Type 0 where
   pub marked : new.marked ≡ old.marked
   pub newest : new.newest ≡ old.newest
 
--- A step that fails keeps the rows, and one that is cut loses power with the armed pick.
+-- A step that fails keeps the rows; one that is cut was due to be, and loses power with the armed pick.
 pub record Stops (fault : Option HostFault) (armed : Option ArmedCut) (old new : DeviceRows) : Type 0 where
   pub failed : fault ≡ Some Failed → KeepsRows old new
+  pub due : fault ≡ Some Cut → IsDue (armed_of armed)
   pub cut : fault ≡ Some Cut → (cut : ArmedCut) → armed ≡ Some cut → LosesRows cut.pick old new
