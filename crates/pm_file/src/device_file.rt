@@ -1,5 +1,5 @@
 //! The file that keeps the device's durable words, each as eight bytes with the lowest first.
-ghost use Rattle.std.specs.Prelude.{◌≡◌, ◌+◌, ◌*◌, ◌<◌, ◌≤◌, ◌^◌, length, slice_range, vec_len, IfOk};
+ghost use Rattle.std.specs.Prelude.{◌≡◌, ℕ, ◌+◌, ◌*◌, ◌<◌, ◌≤◌, ◌^◌, length, slice_index, slice_range, vec_len, IfOk};
 ghost use Rattle.std.specs.Int.{from_le_bytes};
 ghost use mir.Syntax.{w64};
 
@@ -64,7 +64,8 @@ fn read_words<F: Read>(file: &mut F, words: &mut Vec<u64>) -> io::Result<()>
 
 // Fills the piece from the reader, with zeroes after its end, and says how many bytes it gave.
 fn fill<F: Read>(file: &mut F, piece: &mut [u8]) -> io::Result<usize>
-    ensures { IfOk result (λ filled. filled ≤ length piece.new) }
+    ensures within { IfOk result (λ filled. filled ≤ length piece.new) }
+    ensures ended { IfOk result (λ filled. (at : ℕ) → filled ≤ at → slice_index piece.new at ≡ 0) }
 {
     let mut filled = 0;
     for _ in 0..u64::MAX {

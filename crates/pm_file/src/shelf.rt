@@ -1,5 +1,5 @@
 //! The shelf: the files `<name>.pud` of the current folder.
-ghost use Rattle.std.specs.Prelude.{◌≤◌, length, IfOk};
+ghost use Rattle.std.specs.Prelude.{◌≤◌, length, vec_len, IfOk, IfSome};
 
 use crate::storage_fault::StorageFault;
 use pm_model::FILE_READ_LIMIT;
@@ -20,7 +20,9 @@ pub(crate) fn get<R: Files>(
     runtime: &R,
     alloc: Global,
     name: &str,
-) -> Result<Option<Vec<u8>>, StorageFault> {
+) -> Result<Option<Vec<u8>>, StorageFault>
+    ensures { IfOk result (λ found. IfSome found (λ bytes. vec_len bytes ≤ FILE_READ_LIMIT)) }
+{
     if !is_file_name(name) {
         return Ok(None);
     }
@@ -61,7 +63,9 @@ fn is_file_name(name: &str) -> bool {
         .all(|byte| *byte != b'/' && *byte != 0)
 }
 
-fn read_limited<F: Read>(file: &mut F, alloc: Global) -> Result<Vec<u8>, StorageFault> {
+fn read_limited<F: Read>(file: &mut F, alloc: Global) -> Result<Vec<u8>, StorageFault>
+    ensures { IfOk result (λ bytes. vec_len bytes ≤ FILE_READ_LIMIT) }
+{
     let mut bytes = Vec::new(alloc);
     let mut piece = [0u8; PIECE_BYTES];
     for _ in 0..u64::MAX {

@@ -1,4 +1,7 @@
 //! Why a file of the host could not be used.
+ghost use Rattle.std.specs.Prelude.{◌≡◌};
+ghost use Rattle.pm_file.specs.declared.storage_fault.StorageFault.TheVariants.{Memory, Failed};
+
 use std::alloc::AllocError;
 use std::io;
 
@@ -12,12 +15,16 @@ pub(crate) enum StorageFault {
 }
 
 impl From<AllocError> for StorageFault {
+    ghost from_gives = { λ _ fault. fault ≡ Memory };
+
     fn from(_error: AllocError) -> StorageFault {
         StorageFault::Memory
     }
 }
 
 impl From<io::Error> for StorageFault {
+    ghost from_gives = { λ _ fault. fault ≡ Failed };
+
     fn from(_error: io::Error) -> StorageFault {
         StorageFault::Failed
     }
