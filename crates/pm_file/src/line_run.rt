@@ -1,5 +1,5 @@
 //! A run of neighbouring lines, written to the device's file together.
-ghost use Rattle.std.specs.Prelude.{◌≡◌, ◌+◌, ◌*◌, ◌<◌, ◌≤◌, ◌++◌, take, length};
+ghost use Rattle.std.specs.Prelude.{◌≡◌, ◌+◌, ◌-◌, ◌*◌, ◌<◌, ◌≤◌, ◌++◌, true, take, drop, length, OnOk};
 ghost use Rattle.std.specs.List.{flat_map};
 ghost use Rattle.std.specs.Int.{to_le_bytes};
 ghost use mir.Syntax.{w64};
@@ -36,7 +36,10 @@ impl LineRun {
     }
 
     /// Whether a line goes on with the run, and there is room for it.
-    fn continues_at(&self, line: u32) -> bool {
+    fn continues_at(&self, line: u32) -> bool
+        ensures room { result ≡ true → self.now.lines < 64 }
+        ensures next { result ≡ true → line ≡ self.now.first + self.now.lines }
+    {
         self.lines < RUN_LINES && u64::from(line) == u64::from(self.first) + self.lines as u64
     }
 
@@ -50,14 +53,16 @@ impl LineRun {
         file: &mut F,
         line: u32,
         words: &[u64; 8],
-    ) -> io::Result<()> {
+    ) -> io::Result<()>
+        ensures place { OnOk result (self.new.first + self.new.lines ≡ line + 1) }
+        ensures bytes { OnOk result (drop (64 * self.new.lines - 64) (take (64 * self.new.lines) self.new.bytes)
+            ≡ flat_map (to_le_bytes w64) words.now) }
+    {
         if !self.continues_at(line) {
             self.write(file)?;
             self.first = line;
         }
-        if self.lines < RUN_LINES {
-            self.push(&line_bytes(words));
-        }
+        self.push(&line_bytes(words));
         Ok(())
     }
 
