@@ -1,0 +1,63 @@
+-- The rows follow the words at each step.
+use Rattle.std.proofs.Common.{◌≡◌, ◌≢◌, inl, inr, ℕ, ◌/◌, ◌<◌, Bool, true, false, cond, eqb, List, [], ◌∷◌, ◌++◌, length, set, get_or, refl, sym, ap, subst, ◌∙◌, get_or-set_same, get_or-set_other, arith}
+use Rattle.std.proofs.lemmas.Bool.{cases_eq}
+use Rattle.std.proofs.lemmas.Bool.Decides.{nat_tests}
+use Rattle.std.proofs.lemmas.List.{append-nil}
+use Rattle.pm_model.specs.Words.{Cell, last_or, durable, single, stored, marked, fenced, Words, Image, after_store, after_flush, after_fence, after_loss}
+use Rattle.pm_mem.specs.Events.{takes_newest, image_of}
+use Rattle.pm_mem.specs.Rows.{marked_value, AreOf, AreSingle}
+
+get_or-set : (row : List ℕ) (w v k : ℕ) → w < length row → get_or (set row w v) k 0 ≡ cond (eqb k w) v (get_or row k 0)
+get_or-set row w v k within = elim (cases_eq k w) [
+  | inl same ↦ let here : get_or (set row w v) k 0 ≡ v = rw same (get_or-set_same row w v 0 within) in grind (arith, nat_tests)
+  | inr other ↦ let there : get_or (set row w v) k 0 ≡ get_or row k 0 = get_or-set_other row w k v 0 other in grind (arith, nat_tests)
+]
+
+-- a function of a cell, at a choice of two
+at_choice : {X Y : Type 0} (f : X → Y) (b : Bool) (x y : X) → f (cond b x y) ≡ cond b (f x) (f y)
+at_choice f true x y = refl
+at_choice f false x y = refl
+
+same_choice : {X : Type 0} (b : Bool) (x : X) → cond b x x ≡ x
+same_choice true x = refl
+same_choice false x = refl
+
+pub AreOf-store : (newest marks durables : List ℕ) (words : Words) (w v : ℕ) → w < length newest → AreOf newest marks durables words → AreOf (set newest w v) marks durables (after_store w v words)
+AreOf-store newest marks durables words w v within rows = record {
+  newest = λ k. get_or-set newest w v k within ∙ ap (cond (eqb k w) v) (rows.newest k) ∙ sym (at_choice (λ (c : Cell). c.newest) (eqb k w) (stored v (words k)) (words k));
+  marked = λ k. rows.marked k ∙ sym (at_choice marked_value (eqb k w) (stored v (words k)) (words k) ∙ same_choice (eqb k w) (marked_value (words k)));
+  durables = λ k. rows.durables k ∙ sym (at_choice durable (eqb k w) (stored v (words k)) (words k) ∙ same_choice (eqb k w) (durable (words k)));
+}
+
+pub AreOf-flush : (newest marks new_marks durables : List ℕ) (words : Words) (line : ℕ)
+  → ((k : ℕ) → get_or new_marks k 0 ≡ cond (eqb (k / 8) line) (get_or newest k 0) (get_or marks k 0))
+  → AreOf newest marks durables words → AreOf newest new_marks durables (after_flush line words)
+AreOf-flush newest marks new_marks durables words line is rows = record {
+  newest = λ k. rows.newest k ∙ sym (at_choice (λ (c : Cell). c.newest) (eqb (k / 8) line) (marked (words k)) (words k) ∙ same_choice (eqb (k / 8) line) ((words k).newest));
+  marked = λ k. is k ∙ ap (λ (x : ℕ). cond (eqb (k / 8) line) x (get_or marks k 0)) (rows.newest k) ∙ ap (λ (x : ℕ). cond (eqb (k / 8) line) ((words k).newest) x) (rows.marked k)
+    ∙ sym (at_choice marked_value (eqb (k / 8) line) (marked (words k)) (words k));
+  durables = λ k. rows.durables k ∙ sym (at_choice durable (eqb (k / 8) line) (marked (words k)) (words k) ∙ same_choice (eqb (k / 8) line) (durable (words k)));
+}
+
+pub AreOf-fence : (newest marks durables : List ℕ) (words : Words) → AreOf newest marks durables words → AreOf newest marks marks (after_fence words)
+AreOf-fence newest marks durables words rows = record {
+  newest = rows.newest;
+  marked = rows.marked;
+  durables = λ k. rows.marked k ∙ sym (ap (last_or (words k).newest) (append-nil (words k).kept));
+}
+
+lost_values : (newest left marks durables : List ℕ) (words : Words) (pick : ℕ)
+  → ((k : ℕ) → get_or left k 0 ≡ cond (takes_newest pick k) (get_or newest k 0) (get_or durables k 0))
+  → AreOf newest marks durables words → (k : ℕ) → get_or left k 0 ≡ image_of pick words k
+lost_values newest left marks durables words pick is rows k =
+    is k ∙ ap (λ (x : ℕ). cond (takes_newest pick k) x (get_or durables k 0)) (rows.newest k) ∙ ap (λ (x : ℕ). cond (takes_newest pick k) ((words k).newest) x) (rows.durables k)
+
+pub AreOf-lost : (newest left marks durables : List ℕ) (words : Words) (pick : ℕ)
+  → ((k : ℕ) → get_or left k 0 ≡ cond (takes_newest pick k) (get_or newest k 0) (get_or durables k 0))
+  → AreOf newest marks durables words → AreOf left left left (after_loss (image_of pick words) words)
+AreOf-lost newest left marks durables words pick is rows =
+    let each : (k : ℕ) → get_or left k 0 ≡ image_of pick words k = lost_values newest left marks durables words pick is rows in
+    record { newest = each; marked = each; durables = each }
+
+pub AreSingle-lost : (image : Image) (words : Words) → AreSingle (after_loss image words)
+AreSingle-lost image words = record { each = λ k. refl }

@@ -1,0 +1,63 @@
+-- What is told of the moments so far, from the words at the start and what happened since.
+use Rattle.std.specs.Prelude.{ℕ, ◌/◌, ◌%◌, ◌^◌, Bool, ◌||◌, ◌==◌, cond, List, [], ◌∷◌, Option, None, slice_index}
+use Rattle.pm_model.specs.Words.{Cell, durable, single, Words, Image, after_store, after_flush, after_fence, after_loss}
+use Rattle.pm_model.specs.Moments.{Moment, State, stepped, one_said}
+use Rattle.pm_mem.specs.declared.event.Event.{Event}
+use Rattle.pm_mem.specs.declared.event.Event.TheVariants.{Store, Flush, Fence, Lost, Said, Blank}
+
+-- whether a power loss with that pick leaves the newest value of word k: pick 1 does of each word, and so pick 0 of none
+abbrev pub takes_newest : ℕ → ℕ → Bool
+takes_newest pick k = (pick == 1) || (pick / 2 ^ (k % 64) % 2 == 1)
+
+-- what a power loss with that pick leaves: of each word the newest value or the durable one
+abbrev pub image_of : ℕ → Words → Image
+image_of pick words k = cond (takes_newest pick k) (words k).newest (durable (words k))
+
+-- each word has its value at the start and no other
+abbrev pub words_from : List ℕ → Words
+words_from initial k = single (slice_index initial k)
+
+abbrev pub nothing : Words → Words
+nothing words = words
+
+abbrev pub after : Event → State → State
+after (Store w v) s = stepped (after_store w v) s
+after (Flush line) s = stepped (after_flush line) s
+after Fence s = stepped after_fence s
+after (Lost pick) s = stepped (after_loss (image_of pick s.now.words)) s
+after (Said byte) s = one_said byte s
+after Blank s = stepped nothing s
+
+abbrev pub replayed : List Event → State → State
+replayed [] s = s
+replayed (event ∷ events) s = replayed events (after event s)
+
+-- nothing was said, and there is nothing to read and no file
+abbrev pub start : List ℕ → State
+start initial = record { now = record { said = []; words = words_from initial }; past = []; script = []; shelf = λ name. None }
+
+abbrev pub told_events : List ℕ → List Event → State
+told_events initial events = replayed events (start initial)
+
+-- a store to word w is as if it had not been
+abbrev pub blanked : ℕ → Event → Event
+blanked w (Store word v) = cond (word == w) Blank (Store word v)
+blanked w (Flush line) = Flush line
+blanked w Fence = Fence
+blanked w (Lost pick) = Lost pick
+blanked w (Said byte) = Said byte
+blanked w Blank = Blank
+
+abbrev pub with_value : ℕ → ℕ → Words → Words
+with_value w v words k = cond (k == w) (single v) (words k)
+
+abbrev pub moment_with_value : ℕ → ℕ → Moment → Moment
+moment_with_value w v m = record m { words = with_value w v m.words }
+
+abbrev pub moments_with_value : ℕ → ℕ → List Moment → List Moment
+moments_with_value w v [] = []
+moments_with_value w v (m ∷ ms) = moment_with_value w v m ∷ moments_with_value w v ms
+
+-- as if word w had had that value at each moment, and no other
+abbrev pub always : ℕ → ℕ → State → State
+always w v s = record s { now = moment_with_value w v s.now; past = moments_with_value w v s.past }

@@ -1,0 +1,78 @@
+-- Which call comes next, and what becomes of it by the plan, the room and an armed cut.
+use Rattle.std.specs.Prelude.{ℕ, ◌+◌, ◌-◌, ◌^◌, Bool, ◌&&◌, ◌||◌, ◌==◌, nat_lt, nat_le, min, cond, List, [], ◌∷◌, Option, Some, None}
+use Rattle.std.specs.List.{list_any}
+use Rattle.pm_model.specs.declared.host.HostFault.{HostFault}
+use Rattle.pm_model.specs.declared.host.HostFault.TheVariants as faults
+use Rattle.pm_model.specs.Words.{Words, after_loss}
+use Rattle.pm_model.specs.Moments.{State, stepped}
+use Rattle.pm_model.specs.Calls.{Armed}
+use Rattle.pm_mem.specs.declared.turns.Arm.{Arm}
+use Rattle.pm_mem.specs.declared.turns.Turns.{Turns}
+use Rattle.pm_mem.specs.declared.turns.Turn.{Turn}
+use Rattle.pm_mem.specs.declared.turns.Turn.TheVariants.{Done, Failed, Cut}
+
+-- the number of the next call; at its type's end the count stands still
+abbrev pub call_number : Turns → ℕ
+call_number t = min (t.calls + 1) (2 ^ 32 - 1)
+
+-- the plan lists the call of that number; none lists the last number
+abbrev pub is_listed : List ℕ → ℕ → Bool
+is_listed fails n = list_any (λ x. x == n) fails && nat_lt n (2 ^ 32 - 1)
+
+-- the next call fails by the plan
+abbrev pub call_fails : Turns → Bool
+call_fails t = is_listed t.plan.fails.items (call_number t)
+
+abbrev pub after_call : Turns → Turns
+after_call t = record t { calls = call_number t }
+
+-- the pick of the first entry that lists the step
+abbrev pub planned : List (ℕ × ℕ) → ℕ → Option ℕ
+planned [] step = None
+planned (cut ∷ cuts) step = cond (cut.0 == step) (Some cut.1) (planned cuts step)
+
+-- the pick of an armed cut that falls on the next step
+abbrev pub armed_now : Option Arm → Option ℕ
+armed_now None = None
+armed_now (Some a) = cond (nat_le a.steps 1) (Some a.pick) None
+
+abbrev pub counted : Option Arm → Option Arm
+counted None = None
+counted (Some a) = Some (record a { steps = a.steps - 1 })
+
+abbrev pub first_of : Option ℕ → Option ℕ → Option ℕ
+first_of None other = other
+first_of (Some x) other = Some x
+
+-- the pick of the cut that falls on the next step: the plan's comes before an armed one
+abbrev pub pick_due : Turns → Option ℕ
+pick_due t = first_of (planned t.plan.cuts.items (t.steps + 1)) (armed_now t.armed)
+
+abbrev pub cut_or_done : Option ℕ → Turn
+cut_or_done None = Done
+cut_or_done (Some pick) = Cut pick
+
+-- what becomes of the next device step: it fails by the plan or for want of room, or it is cut, or it is carried out
+abbrev pub turn_of : Turns → Turn
+turn_of t = cond (call_fails t || t.steps == t.limit) Failed (cut_or_done (pick_due t))
+
+-- a step that fails does not count as a step; after a cut nothing is armed
+abbrev pub after_step : Turn → Turns → Turns
+after_step Failed t = after_call t
+after_step Done t = record (after_call t) { steps = t.steps + 1; armed = counted t.armed }
+after_step (Cut pick) t = record (after_call t) { steps = t.steps + 1; armed = None }
+
+-- the fault that a device step answers
+abbrev pub turn_fault : Turn → Option HostFault
+turn_fault Done = None
+turn_fault Failed = Some faults.Failed
+turn_fault (Cut pick) = Some faults.Cut
+
+-- the fault that another call answers
+abbrev pub call_fault : Bool → Option HostFault
+call_fault fails = cond fails (Some faults.Failed) None
+
+-- an armed cut as every host tells it
+abbrev pub told_armed : Option Arm → Option Armed
+told_armed None = None
+told_armed (Some a) = Some (record { steps = a.steps; pick = a.pick })

@@ -1,0 +1,101 @@
+//! Which call comes next, and what becomes of it by the plan, the room and an armed cut.
+ghost use Rattle.std.specs.Prelude.{◌≡◌, ◌≤◌};
+ghost use Rattle.pm_mem.specs.Turns.{planned, armed_now, counted, call_fails, after_call, turn_of, after_step};
+
+use crate::plan::Plan;
+
+/// A cut that is to come, at the device step of number `steps` from now on.
+#[derive(Clone, Copy, Debug)]
+pub struct Arm {
+    pub steps: u32,
+    pub pick: u64,
+}
+
+/// What becomes of a device step.
+#[derive(Clone, Copy, Debug)]
+pub enum Turn {
+    Done,
+    Failed,
+    /// Power is lost, with that pick.
+    Cut(u64),
+}
+
+/// How many calls and device steps there were, and what is to become of later ones.
+#[derive(Debug, Drop)]
+pub struct Turns {
+    pub plan: Plan,
+    /// The calls so far that might fail. It stays at 2^32 - 1.
+    pub calls: u32,
+    /// The device steps so far.
+    pub steps: u32,
+    /// The number of device steps that there is room for.
+    pub limit: u32,
+    pub armed: Option<Arm>,
+}
+
+impl Turns {
+    /// Counts a call that may fail, and says whether it does by the plan.
+    pub fn call(&mut self) -> bool
+        ensures fails { result ≡ call_fails self.old }
+        ensures counted { self.new ≡ after_call self.old }
+    {
+        self.calls = self.calls.saturating_add(1);
+        self.plan.fails.contains(&self.calls) && self.calls < u32::MAX
+    }
+
+    /// Counts a call that is a device step, and says what becomes of it.
+    pub fn step(&mut self) -> Turn
+        requires { self.old.steps ≤ self.old.limit }
+        ensures turn { result ≡ turn_of self.old }
+        ensures counted { self.new ≡ after_step (turn_of self.old) self.old }
+    {
+        if self.call() || self.steps == self.limit {
+            return Turn::Failed;
+        }
+        self.steps += 1;
+        match pick_at(&self.plan.cuts, self.steps).or(pick_now(self.armed)) {
+            Some(pick) => {
+                self.armed = None;
+                Turn::Cut(pick)
+            }
+            None => {
+                self.armed = count_down(self.armed);
+                Turn::Done
+            }
+        }
+    }
+}
+
+// The pick of the first entry that lists the step.
+fn pick_at(cuts: &[(u32, u64)], step: u32) -> Option<u64>
+    ensures { result ≡ planned cuts.now step }
+{
+    for cut in cuts {
+        if cut.0 == step {
+            return Some(cut.1);
+        }
+    }
+    None
+}
+
+// The pick of an armed cut that is due at the next step.
+fn pick_now(armed: Option<Arm>) -> Option<u64>
+    ensures { result ≡ armed_now armed }
+{
+    match armed {
+        Some(arm) if arm.steps <= 1 => Some(arm.pick),
+        _ => None,
+    }
+}
+
+fn count_down(armed: Option<Arm>) -> Option<Arm>
+    ensures { result ≡ counted armed }
+{
+    match armed {
+        Some(arm) => Some(Arm {
+            steps: arm.steps.saturating_sub(1),
+            pick: arm.pick,
+        }),
+        None => None,
+    }
+}
