@@ -1,12 +1,22 @@
 -- What is told after one more event.
-use Rattle.std.proofs.Common.{◌≡◌, ℕ, List, [], ◌∷◌, ◌++◌, refl}
+use Rattle.std.proofs.Common.{◌≡◌, ℕ, List, [], ◌∷◌, ◌++◌, refl, ap, ◌∙◌}
 use Rattle.pm_model.specs.Moments.{State}
 use Rattle.pm_mem.specs.declared.event.Event.{Event}
 use Rattle.pm_mem.specs.Events.{after, replayed, start, told_events}
 
 pub replayed-push : (events : List Event) (event : Event) (s : State) → replayed (events ++ event ∷ []) s ≡ after event (replayed events s)
+unfolding replayed
 replayed-push [] event s = refl
 replayed-push (e ∷ events) event s = replayed-push events event (after e s)
 
 pub told_events-push : (initial : List ℕ) (events : List Event) (event : Event) → told_events initial (events ++ event ∷ []) ≡ after event (told_events initial events)
+unfolding told_events
 told_events-push initial events event = replayed-push events event (start initial)
+
+pub told_after : (initial : List ℕ) (events new : List Event) (event : Event) → new ≡ events ++ event ∷ [] → told_events initial new ≡ after event (told_events initial events)
+told_after initial events new event is = ap (told_events initial) is ∙ told_events-push initial events event
+
+-- with no event yet
+pub told_events-none : (initial : List ℕ) → told_events initial [] ≡ start initial
+unfolding told_events replayed
+told_events-none initial = refl

@@ -4,7 +4,10 @@ use Rattle.std.proofs.lemmas.Bool.{cases_eq}
 use Rattle.std.proofs.lemmas.Bool.Decides.{nat_tests}
 use Rattle.std.proofs.lemmas.List.{append-nil}
 use Rattle.pm_model.specs.Words.{Cell, last_or, durable, single, stored, marked, fenced, Words, Image, after_store, after_flush, after_fence, after_loss}
-use Rattle.pm_mem.specs.Events.{takes_newest, image_of}
+use Rattle.pm_model.specs.Moments.{State}
+use Rattle.pm_mem.specs.declared.event.Event.{Event}
+use Rattle.pm_mem.specs.Events.{takes_newest, image_of, words_from, told_events}
+use Rattle.pm_mem.proofs.Events.{told_events-none}
 use Rattle.pm_mem.specs.Rows.{marked_value, AreOf, AreSingle}
 
 get_or-set : (row : List ℕ) (w v k : ℕ) → w < length row → get_or (set row w v) k 0 ≡ cond (eqb k w) v (get_or row k 0)
@@ -61,3 +64,17 @@ AreOf-lost newest left marks durables words pick is rows =
 
 pub AreSingle-lost : (image : Image) (words : Words) → AreSingle (after_loss image words)
 AreSingle-lost image words = record { each = λ k. refl }
+
+pub AreOf-start : (initial newest marks durables : List ℕ) (events : List Event) → events ≡ []
+  → ((k : ℕ) → get_or initial k 0 ≡ 0) → ((k : ℕ) → get_or newest k 0 ≡ 0) → ((k : ℕ) → get_or marks k 0 ≡ 0) → ((k : ℕ) → get_or durables k 0 ≡ 0)
+  → AreOf newest marks durables (told_events initial events).now.words
+AreOf-start initial newest marks durables events none i n m d =
+    let start : AreOf newest marks durables (words_from initial) = record { newest = λ k. n k ∙ sym (i k); marked = λ k. m k ∙ sym (i k); durables = λ k. d k ∙ sym (i k) } in
+    subst (λ (s : State). AreOf newest marks durables s.now.words) (sym (ap (told_events initial) none ∙ told_events-none initial)) start
+
+pub AreSingle-start : (initial : List ℕ) (events : List Event) → events ≡ [] → AreSingle (told_events initial events).now.words
+AreSingle-start initial events none =
+    subst (λ (s : State). AreSingle s.now.words) (sym (ap (told_events initial) none ∙ told_events-none initial)) (record { each = λ k. refl })
+
+pub said-start : (initial : List ℕ) (events : List Event) → events ≡ [] → (told_events initial events).now.said ≡ []
+said-start initial events none = ap (λ (s : State). s.now.said) (ap (told_events initial) none ∙ told_events-none initial)

@@ -28,7 +28,7 @@ after (Lost pick) s = stepped (after_loss (image_of pick s.now.words)) s
 after (Said byte) s = one_said byte s
 after Blank s = stepped nothing s
 
-abbrev pub replayed : List Event → State → State
+unfoldable pub replayed : List Event → State → State
 replayed [] s = s
 replayed (event ∷ events) s = replayed events (after event s)
 
@@ -36,7 +36,7 @@ replayed (event ∷ events) s = replayed events (after event s)
 abbrev pub start : List ℕ → State
 start initial = record { now = record { said = []; words = words_from initial }; past = []; script = []; shelf = λ name. None }
 
-abbrev pub told_events : List ℕ → List Event → State
+unfoldable pub told_events : List ℕ → List Event → State
 told_events initial events = replayed events (start initial)
 
 -- a store to word w is as if it had not been

@@ -1,0 +1,26 @@
+use Rattle.std.proofs.Common.{rules, ◌≡◌, ℕ, ◌/◌, ◌∷◌, [], cond, eqb, List, get_or, set, arith, refl, sym, ap, subst, ◌∙◌}
+use Rattle.pm_model.specs.Moments.{State}
+use Rattle.pm_mem.specs.declared.event.Event.TheVariants.{Store, Flush, Fence, Lost, Said}
+use Rattle.pm_model.specs.Words.{after_fence, after_loss}
+use Rattle.pm_mem.specs.Events.{told_events, after, takes_newest, image_of}
+use Rattle.pm_mem.specs.Rows.{AreOf, AreSingle}
+use Rattle.pm_mem.proofs.Events.{told_after}
+use Rattle.pm_mem.proofs.Followed.{AreOf-store, AreOf-flush, AreOf-fence, AreOf-lost, AreSingle-lost}
+use Rattle.pm_mem.proofs.device.Device.flush.Goals as goal
+
+pub invariant_of-self-clause-rows : goal.invariant_of-self-clause-rows
+invariant_of-self-clause-rows c =
+    let d = c.args.self.now in
+    let e = told_after d.initial.items d.events.items c.push_reserved.new.self.items (Flush c.args.line) c.push_reserved.ensures.items in
+    subst (λ (s : State). AreOf d.newest.items c.copy_line.new.to.items d.durable.items s.now.words) (sym e) (AreOf-flush d.newest.items d.marked.items c.copy_line.new.to.items d.durable.items (told_events d.initial.items d.events.items).now.words c.args.line (λ k. c.copy_line.ensures.values k ∙ ap (λ (row : List ℕ). cond (eqb (k / 8) c.args.line) (get_or row k 0) (get_or d.marked.items k 0)) c.deref.ensures.value) d.rows)
+
+pub invariant_of-self-clause-replies : goal.invariant_of-self-clause-replies
+invariant_of-self-clause-replies c =
+    let d = c.args.self.now in
+    let e = told_after d.initial.items d.events.items c.push_reserved.new.self.items (Flush c.args.line) c.push_reserved.ensures.items in
+    d.replies ∙ sym (ap (λ (s : State). s.now.said) e)
+
+pub returns-clause-adds : goal.returns-clause-adds
+returns-clause-adds c =
+    let d = c.args.self.now in
+    record { state = told_after d.initial.items d.events.items c.push_reserved.new.self.items (Flush c.args.line) c.push_reserved.ensures.items; moved_is = search rules; words = search rules; moments = search rules; moment_room = search rules }

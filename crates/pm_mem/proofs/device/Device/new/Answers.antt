@@ -1,0 +1,13 @@
+use Rattle.std.proofs.Common.{◌∙◌, sym}
+use Rattle.pm_mem.proofs.Followed.{AreOf-start, AreSingle-start, said-start}
+use Rattle.pm_mem.proofs.device.Device.new.Goals as goal
+
+pub invariant_of-result-clause-rows : goal.invariant_of-result-clause-rows
+invariant_of-result-clause-rows c =
+    AreOf-start _ _ _ _ _ c.in_ok-with_capacity-2.ensures.items c.in_ok-zeroes.ensures.zero c.in_ok-zeroes-2.ensures.zero c.in_ok-zeroes-3.ensures.zero c.in_ok-zeroes-4.ensures.zero
+
+pub invariant_of-result-clause-replies : goal.invariant_of-result-clause-replies
+invariant_of-result-clause-replies c = c.in_ok-with_capacity.ensures.items ∙ sym (said-start _ _ c.in_ok-with_capacity-2.ensures.items)
+
+pub invariant_of-result-clause-single : goal.invariant_of-result-clause-single
+invariant_of-result-clause-single c = λ _. AreSingle-start _ _ c.in_ok-with_capacity-2.ensures.items
