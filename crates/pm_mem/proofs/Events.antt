@@ -1,6 +1,6 @@
 -- What is told after one more event.
 use Rattle.std.proofs.Common.{◌≡◌, ℕ, List, [], ◌∷◌, ◌++◌, refl, ap, ◌∙◌}
-use Rattle.pm_model.specs.Moments.{State}
+use Rattle.pm_model.specs.Moments.{State, one_said, all_said}
 use Rattle.pm_mem.specs.declared.event.Event.{Event}
 use Rattle.pm_mem.specs.Events.{after, replayed, start, told_events}
 
@@ -20,3 +20,7 @@ told_after initial events new event is = ap (told_events initial) is ∙ told_ev
 pub told_events-none : (initial : List ℕ) → told_events initial [] ≡ start initial
 unfolding told_events replayed
 told_events-none initial = refl
+
+pub all_said-push : (bytes : List ℕ) (byte : ℕ) (s : State) → all_said (bytes ++ byte ∷ []) s ≡ one_said byte (all_said bytes s)
+all_said-push [] byte s = refl
+all_said-push (b ∷ bytes) byte s = all_said-push bytes byte (one_said b s)

@@ -10,14 +10,14 @@ use Rattle.pm_mem.specs.Events.{takes_newest, image_of, words_from, told_events}
 use Rattle.pm_mem.proofs.Events.{told_events-none}
 use Rattle.pm_mem.specs.Rows.{marked_value, AreOf, AreSingle}
 
-get_or-set : (row : List ℕ) (w v k : ℕ) → w < length row → get_or (set row w v) k 0 ≡ cond (eqb k w) v (get_or row k 0)
+pub get_or-set : (row : List ℕ) (w v k : ℕ) → w < length row → get_or (set row w v) k 0 ≡ cond (eqb k w) v (get_or row k 0)
 get_or-set row w v k within = elim (cases_eq k w) [
   | inl same ↦ let here : get_or (set row w v) k 0 ≡ v = rw same (get_or-set_same row w v 0 within) in grind (arith, nat_tests)
   | inr other ↦ let there : get_or (set row w v) k 0 ≡ get_or row k 0 = get_or-set_other row w k v 0 other in grind (arith, nat_tests)
 ]
 
 -- a function of a cell, at a choice of two
-at_choice : {X Y : Type 0} (f : X → Y) (b : Bool) (x y : X) → f (cond b x y) ≡ cond b (f x) (f y)
+pub at_choice : {X Y : Type 0} (f : X → Y) (b : Bool) (x y : X) → f (cond b x y) ≡ cond b (f x) (f y)
 at_choice f true x y = refl
 at_choice f false x y = refl
 

@@ -20,11 +20,15 @@ words_from initial k = single (slice_index initial k)
 abbrev pub nothing : Words → Words
 nothing words = words
 
+-- power is lost with that pick
+abbrev pub after_pick : ℕ → State → State
+after_pick pick s = stepped (after_loss (image_of pick s.now.words)) s
+
 abbrev pub after : Event → State → State
 after (Store w v) s = stepped (after_store w v) s
 after (Flush line) s = stepped (after_flush line) s
 after Fence s = stepped after_fence s
-after (Lost pick) s = stepped (after_loss (image_of pick s.now.words)) s
+after (Lost pick) s = after_pick pick s
 after (Said byte) s = one_said byte s
 after Blank s = stepped nothing s
 

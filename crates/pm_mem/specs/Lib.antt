@@ -3,3 +3,4 @@ pub mod Tallies
 pub mod Events
 pub mod Rows
 pub mod Device
+pub mod MemHost

@@ -3,9 +3,10 @@ use Rattle.std.specs.Prelude.{ℕ, ◌+◌, ◌-◌, ◌^◌, Bool, ◌&&◌, �
 use Rattle.std.specs.List.{list_any}
 use Rattle.pm_model.specs.declared.host.HostFault.{HostFault}
 use Rattle.pm_model.specs.declared.host.HostFault.TheVariants as faults
-use Rattle.pm_model.specs.Words.{Words, after_loss}
+use Rattle.pm_model.specs.Words.{Words}
 use Rattle.pm_model.specs.Moments.{State, stepped}
 use Rattle.pm_model.specs.Calls.{Armed}
+use Rattle.pm_mem.specs.Events.{after_pick}
 use Rattle.pm_mem.specs.declared.turns.Arm.{Arm}
 use Rattle.pm_mem.specs.declared.turns.Turns.{Turns}
 use Rattle.pm_mem.specs.declared.turns.Turn.{Turn}
@@ -25,6 +26,13 @@ call_fails t = is_listed t.plan.fails.items (call_number t)
 
 abbrev pub after_call : Turns → Turns
 after_call t = record t { calls = call_number t }
+
+-- the next call fails by the plan or for want of room, where it is to say so many bytes
+abbrev pub say_fails : ℕ → Turns → Bool
+say_fails count t = call_fails t || nat_lt t.room count
+
+abbrev pub after_say : ℕ → Turns → Turns
+after_say count t = cond (say_fails count t) (after_call t) (record (after_call t) { room = t.room - count })
 
 -- the pick of the first entry that lists the step
 abbrev pub planned : List (ℕ × ℕ) → ℕ → Option ℕ
@@ -61,6 +69,18 @@ abbrev pub after_step : Turn → Turns → Turns
 after_step Failed t = after_call t
 after_step Done t = record (after_call t) { steps = t.steps + 1; armed = counted t.armed }
 after_step (Cut pick) t = record (after_call t) { steps = t.steps + 1; armed = None }
+
+-- a device step makes f of the words, or power is lost in its place, or nothing happens
+abbrev pub after_turn : (Words → Words) → Turn → State → State
+after_turn f Done s = stepped f s
+after_turn f Failed s = s
+after_turn f (Cut pick) s = after_pick pick s
+
+-- the same before f, where the step is to be carried out
+abbrev pub before_step : Turn → State → State
+before_step Done s = s
+before_step Failed s = s
+before_step (Cut pick) s = after_pick pick s
 
 -- the fault that a device step answers
 abbrev pub turn_fault : Turn → Option HostFault

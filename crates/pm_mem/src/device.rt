@@ -1,7 +1,7 @@
 //! The words of a device in memory, the bytes said, and what happened at each moment.
-ghost use Rattle.std.specs.Prelude.{◌≡◌, ℕ, ◌+◌, ◌*◌, ◌/◌, ◌<◌, ◌≤◌, false, true, vec_len, vec_capacity};
+ghost use Rattle.std.specs.Prelude.{◌≡◌, ℕ, ◌+◌, ◌*◌, ◌/◌, ◌<◌, ◌≤◌, false, true, map, vec_len, vec_capacity};
 ghost use Rattle.std.proofs.Props.{props};
-ghost use Rattle.pm_mem.specs.Events.{told_events};
+ghost use Rattle.pm_mem.specs.Events.{told_events, blanked};
 ghost use Rattle.pm_mem.specs.Rows.{AreOf, AreSingle};
 
 use crate::event::Event;
@@ -31,9 +31,11 @@ pub struct Device {
 }
 
 impl Device {
-    ghost use Rattle.std.specs.Prelude.{[], OnOk, IfOk};
-    ghost use Rattle.pm_mem.specs.declared.event.Event.TheVariants.{Store, Flush, Fence, Lost, Said};
-    ghost use Rattle.pm_mem.specs.Device.{device_state, Adds, SaysNothing, SaysOne};
+    ghost use Rattle.std.specs.Prelude.{[], IfOk, length};
+    ghost use Rattle.pm_model.specs.Words.{after_store, after_flush, after_fence};
+    ghost use Rattle.pm_model.specs.Moments.{stepped, one_said, all_said};
+    ghost use Rattle.pm_mem.specs.Events.{after_pick, always};
+    ghost use Rattle.pm_mem.specs.Device.{device_state, GoesTo};
 
     /// A device of zero words with room for so many moments and so many said bytes.
     pub fn new(
@@ -63,8 +65,7 @@ impl Device {
     pub fn store(&mut self, word: u32, value: u64)
         requires within { word < self.old.words }
         requires room { vec_len self.old.events < vec_capacity self.old.events }
-        ensures adds { Adds (Store word value) true self.old self.new }
-        ensures silent { SaysNothing self.old self.new }
+        ensures { GoesTo (stepped (after_store word value) (device_state self.old)) true 1 0 self.old self.new }
     {
         self.newest[word as usize] = value;
         self.events.push_reserved(Event::Store(word, value));
@@ -74,8 +75,7 @@ impl Device {
     pub fn flush(&mut self, line: u32)
         requires within { 8 * line + 8 ≤ self.old.words }
         requires room { vec_len self.old.events < vec_capacity self.old.events }
-        ensures adds { Adds (Flush line) true self.old self.new }
-        ensures silent { SaysNothing self.old self.new }
+        ensures { GoesTo (stepped (after_flush line) (device_state self.old)) true 1 0 self.old self.new }
     {
         rows::copy_line(&mut self.marked, &self.newest, line);
         self.events.push_reserved(Event::Flush(line));
@@ -84,18 +84,17 @@ impl Device {
 
     pub fn fence(&mut self)
         requires { vec_len self.old.events < vec_capacity self.old.events }
-        ensures adds { Adds Fence true self.old self.new }
-        ensures silent { SaysNothing self.old self.new }
+        ensures { GoesTo (stepped after_fence (device_state self.old)) true 1 0 self.old self.new }
     {
         rows::copy(&mut self.durable, &self.marked);
         self.events.push_reserved(Event::Fence);
         self.moved = true;
     }
 
+    /// Loses power, with that pick.
     pub fn lose(&mut self, pick: u64)
         requires { vec_len self.old.events < vec_capacity self.old.events }
-        ensures adds { Adds (Lost pick) false self.old self.new }
-        ensures silent { SaysNothing self.old self.new }
+        ensures { GoesTo (after_pick pick (device_state self.old)) false 1 0 self.old self.new }
     {
         rows::lose(&mut self.newest, &self.durable, pick);
         rows::copy(&mut self.marked, &self.newest);
@@ -104,13 +103,54 @@ impl Device {
         self.moved = false;
     }
 
-    pub fn say(&mut self, byte: u8)
+    pub fn say(&mut self, bytes: &[u8])
+        requires room { vec_len self.old.events + length bytes.now ≤ vec_capacity self.old.events }
+        requires reply_room { vec_len self.old.said + length bytes.now ≤ vec_capacity self.old.said }
+        ensures { GoesTo (all_said bytes.now (device_state self.old)) self.old.moved (length bytes.now) (length bytes.now) self.old self.new }
+    {
+        for byte in bytes {
+            self.say_one(*byte);
+        }
+    }
+
+    fn say_one(&mut self, byte: u8)
         requires room { vec_len self.old.events < vec_capacity self.old.events }
         requires reply_room { vec_len self.old.said < vec_capacity self.old.said }
-        ensures adds { Adds (Said byte) self.old.moved self.old self.new }
-        ensures says { SaysOne self.old self.new }
+        ensures { GoesTo (one_said byte (device_state self.old)) self.old.moved 1 1 self.old self.new }
     {
         self.said.push_reserved(byte);
         self.events.push_reserved(Event::Said(byte));
+    }
+
+    /// Gives a word one durable value, as if it had always had that value and no other.
+    pub fn poke(&mut self, word: u32, value: u64)
+        requires { word < self.old.words }
+        ensures { GoesTo (always word value (device_state self.old)) self.old.moved 0 0 self.old self.new }
+    {
+        blank(&mut self.events, word);
+        self.initial[word as usize] = value;
+        self.newest[word as usize] = value;
+        self.marked[word as usize] = value;
+        self.durable[word as usize] = value;
+    }
+}
+
+// Makes each store to that word as if it had not been.
+fn blank(events: &mut Vec<Event>, word: u32)
+    ensures items { events.new.items ≡ map (blanked word) events.old.items }
+    ensures len { vec_len events.new ≡ vec_len events.old }
+    ensures capacity { vec_capacity events.new ≡ vec_capacity events.old }
+{
+    for at in 0..events.len() {
+        events[at] = blanked(events[at], word);
+    }
+}
+
+fn blanked(event: Event, word: u32) -> Event
+    ensures { result ≡ blanked word event }
+{
+    match event {
+        Event::Store(stored, _) if stored == word => Event::Blank,
+        _ => event,
     }
 }

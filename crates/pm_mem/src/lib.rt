@@ -4,9 +4,11 @@
 
 mod device;
 mod event;
+mod mem_host;
 mod plan;
 mod rows;
 mod tally;
 mod turns;
 
+pub use mem_host::MemHost;
 pub use plan::Plan;

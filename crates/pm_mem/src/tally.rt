@@ -1,6 +1,9 @@
 //! The counts that every host tells, and the count of the loads of a watched word.
 ghost use Rattle.std.specs.Prelude.{◌≡◌};
 ghost use Rattle.pm_model.specs.Counts.{risen};
+ghost use Rattle.pm_mem.specs.Tallies.{after_load};
+
+use pm_model::HostFault;
 
 /// How often calls failed and were cut, and what was armed and lost last. Each count stays at 2^64 - 1.
 #[derive(Clone, Copy, Debug)]
@@ -19,6 +22,54 @@ pub struct Tally {
 pub struct Watch {
     pub word: Option<u32>,
     pub count: u32,
+}
+
+impl Tally {
+    /// Counts a fault.
+    pub fn fault(&mut self) -> HostFault
+        ensures is { result ≡ HostFault.Failed }
+        ensures counted { self.new ≡ record self.old { faults = risen self.old.faults } }
+    {
+        rise(&mut self.faults);
+        HostFault::Failed
+    }
+
+    /// Counts a cut.
+    pub fn cut(&mut self) -> HostFault
+        ensures is { result ≡ HostFault.Cut }
+        ensures counted { self.new ≡ record self.old { cuts = risen self.old.cuts } }
+    {
+        rise(&mut self.cuts);
+        HostFault::Cut
+    }
+
+    /// Counts a cut that is armed.
+    pub fn arm(&mut self, steps: u32, pick: u64)
+        ensures { self.new ≡ record self.old { arms = risen self.old.arms; arm_steps = steps; arm_pick = pick } }
+    {
+        rise(&mut self.arms);
+        self.arm_steps = steps;
+        self.arm_pick = pick;
+    }
+
+    /// Counts a power loss at once.
+    pub fn loss(&mut self, pick: u64)
+        ensures { self.new ≡ record self.old { losses = risen self.old.losses; loss_pick = pick } }
+    {
+        rise(&mut self.losses);
+        self.loss_pick = pick;
+    }
+}
+
+impl Watch {
+    /// Counts a load of that word, if it is the watched one.
+    pub fn load(&mut self, w: u32)
+        ensures { self.new ≡ after_load w self.old }
+    {
+        if self.word == Some(w) {
+            self.count = self.count.saturating_add(1);
+        }
+    }
 }
 
 /// Adds one to a count, unless it is at its type's end.

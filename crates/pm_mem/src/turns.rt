@@ -1,6 +1,6 @@
 //! Which call comes next, and what becomes of it by the plan, the room and an armed cut.
 ghost use Rattle.std.specs.Prelude.{◌≡◌, ◌≤◌};
-ghost use Rattle.pm_mem.specs.Turns.{planned, armed_now, counted, call_fails, after_call, turn_of, after_step};
+ghost use Rattle.pm_mem.specs.Turns.{planned, armed_now, counted, call_fails, after_call, say_fails, after_say, turn_of, after_step};
 
 use crate::plan::Plan;
 
@@ -30,6 +30,8 @@ pub struct Turns {
     pub steps: u32,
     /// The number of device steps that there is room for.
     pub limit: u32,
+    /// The number of bytes that may be said yet.
+    pub room: u32,
     pub armed: Option<Arm>,
 }
 
@@ -41,6 +43,18 @@ impl Turns {
     {
         self.calls = self.calls.saturating_add(1);
         self.plan.fails.contains(&self.calls) && self.calls < u32::MAX
+    }
+
+    /// Counts a call that says so many bytes, and says whether it fails by the plan or for want of room.
+    pub fn say(&mut self, len: usize) -> bool
+        ensures fails { result ≡ say_fails len self.old }
+        ensures counted { self.new ≡ after_say len self.old }
+    {
+        if self.call() || (self.room as usize) < len {
+            return true;
+        }
+        self.room -= len as u32;
+        false
     }
 
     /// Counts a call that is a device step, and says what becomes of it.

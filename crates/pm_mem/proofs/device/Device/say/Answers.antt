@@ -1,32 +1,23 @@
-use Rattle.std.proofs.Common.{rules, ◌≡◌, ℕ, ◌/◌, ◌∷◌, ◌++◌, [], cond, eqb, List, get_or, set, arith, refl, sym, ap, subst, ◌∙◌}
-use Rattle.pm_model.specs.Moments.{State}
-use Rattle.pm_mem.specs.declared.event.Event.TheVariants.{Store, Flush, Fence, Lost, Said}
-use Rattle.pm_model.specs.Words.{after_fence, after_loss}
-use Rattle.pm_mem.specs.Events.{told_events, after, takes_newest, image_of}
-use Rattle.pm_mem.specs.Rows.{AreOf, AreSingle}
-use Rattle.pm_mem.proofs.Events.{told_after}
-use Rattle.pm_mem.proofs.Followed.{AreOf-store, AreOf-flush, AreOf-fence, AreOf-lost, AreSingle-lost}
+use Rattle.std.proofs.Common.{rules, arith, ◌∙◌, sym, ap, List, ℕ, ◌+◌, get_or, take}
+use Rattle.std.proofs.lemmas.List.{take_more, take_all}
+use Rattle.pm_model.specs.Moments.{State, all_said, one_said}
+use Rattle.pm_mem.specs.Device.{device_state, GoesTo}
+use Rattle.pm_mem.proofs.Events.{all_said-push}
 use Rattle.pm_mem.proofs.device.Device.say.Goals as goal
 
-pub invariant_of-self-clause-rows : goal.invariant_of-self-clause-rows
-invariant_of-self-clause-rows c =
-    let d = c.args.self.now in
-    let e = told_after d.initial.items d.events.items c.push_reserved-2.new.self.items (Said c.args.byte) c.push_reserved-2.ensures.items in
-    subst (λ (s : State). AreOf d.newest.items d.marked.items d.durable.items s.now.words) (sym e) d.rows
-
-pub invariant_of-self-clause-replies : goal.invariant_of-self-clause-replies
-invariant_of-self-clause-replies c =
-    let d = c.args.self.now in
-    let e = told_after d.initial.items d.events.items c.push_reserved-2.new.self.items (Said c.args.byte) c.push_reserved-2.ensures.items in
-    c.push_reserved.ensures.items ∙ ap (λ (said : List ℕ). said ++ c.args.byte ∷ []) d.replies ∙ sym (ap (λ (s : State). s.now.said) e)
-
-pub returns-clause-adds : goal.returns-clause-adds
-returns-clause-adds c =
-    let d = c.args.self.now in
-    record { state = told_after d.initial.items d.events.items c.push_reserved-2.new.self.items (Said c.args.byte) c.push_reserved-2.ensures.items; moved_is = search rules; words = search rules; moments = search rules; moment_room = search rules }
-
-pub invariant_of-self-clause-single : goal.invariant_of-self-clause-single
-invariant_of-self-clause-single c =
-    let d = c.args.self.now in
-    let e = told_after d.initial.items d.events.items c.push_reserved-2.new.self.items (Said c.args.byte) c.push_reserved-2.ensures.items in
-    λ still. subst (λ (s : State). AreSingle s.now.words) (sym e) (d.single still)
+pub loop-byte-preserved : goal.loop-byte-preserved
+loop-byte-preserved c =
+    let before = c.loop-byte.invariant in
+    let one = c.say_one.ensures in
+    let i = c.loop-byte.byte-index in
+    let bytes = c.args.bytes.now in
+    let start = device_state c.args.self.now in
+    record {
+      told = one.told ∙ ap (one_said (get_or bytes i 0)) before.told ∙ sym (ap (λ (l : List ℕ). all_said l start) (take_more bytes i 0 c.loop-byte-test.true) ∙ all_said-push (take i bytes) (get_or bytes i 0) start);
+      moved_is = one.moved_is ∙ before.moved_is;
+      words = one.words ∙ before.words;
+      events = omega arith;
+      said = omega arith;
+      moment_room = one.moment_room ∙ before.moment_room;
+      reply_room = one.reply_room ∙ before.reply_room
+    }

@@ -20,7 +20,7 @@ invariant_of-self-clause-replies c =
     let e = told_after d.initial.items d.events.items c.push_reserved.new.self.items (Store c.args.word c.args.value) c.push_reserved.ensures.items in
     d.replies ∙ sym (ap (λ (s : State). s.now.said) e)
 
-pub returns-clause-adds : goal.returns-clause-adds
-returns-clause-adds c =
+pub returns : goal.returns
+returns c =
     let d = c.args.self.now in
-    record { state = told_after d.initial.items d.events.items c.push_reserved.new.self.items (Store c.args.word c.args.value) c.push_reserved.ensures.items; moved_is = search rules; words = search rules; moments = search rules; moment_room = search rules }
+    record { told = told_after d.initial.items d.events.items c.push_reserved.new.self.items (Store c.args.word c.args.value) c.push_reserved.ensures.items; moved_is = search rules; words = search rules; events = search rules; said = search rules; moment_room = search rules; reply_room = search rules }

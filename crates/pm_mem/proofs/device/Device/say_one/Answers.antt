@@ -1,0 +1,32 @@
+use Rattle.std.proofs.Common.{rules, ◌≡◌, ℕ, ◌/◌, ◌∷◌, ◌++◌, [], cond, eqb, List, get_or, set, arith, refl, sym, ap, subst, ◌∙◌}
+use Rattle.pm_model.specs.Moments.{State}
+use Rattle.pm_mem.specs.declared.event.Event.TheVariants.{Store, Flush, Fence, Lost, Said}
+use Rattle.pm_model.specs.Words.{after_fence, after_loss}
+use Rattle.pm_mem.specs.Events.{told_events, after, takes_newest, image_of}
+use Rattle.pm_mem.specs.Rows.{AreOf, AreSingle}
+use Rattle.pm_mem.proofs.Events.{told_after}
+use Rattle.pm_mem.proofs.Followed.{AreOf-store, AreOf-flush, AreOf-fence, AreOf-lost, AreSingle-lost}
+use Rattle.pm_mem.proofs.device.Device.say_one.Goals as goal
+
+pub invariant_of-self-clause-rows : goal.invariant_of-self-clause-rows
+invariant_of-self-clause-rows c =
+    let d = c.args.self.now in
+    let e = told_after d.initial.items d.events.items c.push_reserved-2.new.self.items (Said c.args.byte) c.push_reserved-2.ensures.items in
+    subst (λ (s : State). AreOf d.newest.items d.marked.items d.durable.items s.now.words) (sym e) d.rows
+
+pub invariant_of-self-clause-replies : goal.invariant_of-self-clause-replies
+invariant_of-self-clause-replies c =
+    let d = c.args.self.now in
+    let e = told_after d.initial.items d.events.items c.push_reserved-2.new.self.items (Said c.args.byte) c.push_reserved-2.ensures.items in
+    c.push_reserved.ensures.items ∙ ap (λ (said : List ℕ). said ++ c.args.byte ∷ []) d.replies ∙ sym (ap (λ (s : State). s.now.said) e)
+
+pub returns : goal.returns
+returns c =
+    let d = c.args.self.now in
+    record { told = told_after d.initial.items d.events.items c.push_reserved-2.new.self.items (Said c.args.byte) c.push_reserved-2.ensures.items; moved_is = search rules; words = search rules; events = search rules; said = search rules; moment_room = search rules; reply_room = search rules }
+
+pub invariant_of-self-clause-single : goal.invariant_of-self-clause-single
+invariant_of-self-clause-single c =
+    let d = c.args.self.now in
+    let e = told_after d.initial.items d.events.items c.push_reserved-2.new.self.items (Said c.args.byte) c.push_reserved-2.ensures.items in
+    λ still. subst (λ (s : State). AreSingle s.now.words) (sym e) (d.single still)
