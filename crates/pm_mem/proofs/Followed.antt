@@ -6,7 +6,7 @@ use Rattle.std.proofs.lemmas.List.{append-nil}
 use Rattle.pm_model.specs.Words.{Cell, last_or, durable, single, stored, marked, fenced, Words, Image, after_store, after_flush, after_fence, after_loss}
 use Rattle.pm_model.specs.Moments.{State}
 use Rattle.pm_mem.specs.declared.event.Event.{Event}
-use Rattle.pm_mem.specs.Events.{takes_newest, image_of, words_from, told_events}
+use Rattle.pm_mem.specs.Events.{takes_newest, image_of, words_from, start, fresh, told_events}
 use Rattle.pm_mem.proofs.Events.{told_events-none}
 use Rattle.pm_mem.specs.Rows.{marked_value, AreOf, AreSingle}
 
@@ -78,3 +78,8 @@ AreSingle-start initial events none =
 
 pub said-start : (initial : List ℕ) (events : List Event) → events ≡ [] → (told_events initial events).now.said ≡ []
 said-start initial events none = ap (λ (s : State). s.now.said) (ap (told_events initial) none ∙ told_events-none initial)
+
+pub fresh-start : (initial : List ℕ) (events : List Event) → events ≡ [] → ((k : ℕ) → get_or initial k 0 ≡ 0) → told_events initial events ≡ fresh []
+fresh-start initial events none zero =
+    let same : words_from initial ≡ (λ k. single 0) = λ i k. (ap single (zero k)) i in
+    ap (told_events initial) none ∙ told_events-none initial ∙ ap (λ (words : Words). record (fresh []) { now = record { said = []; words = words } }) same

@@ -40,6 +40,10 @@ replayed (event ∷ events) s = replayed events (after event s)
 abbrev pub start : List ℕ → State
 start initial = record { now = record { said = []; words = words_from initial }; past = []; script = []; shelf = λ name. None }
 
+-- all words are zero and durable, nothing happened yet, and there is this to read
+abbrev pub fresh : List ℕ → State
+fresh script = record { now = record { said = []; words = λ k. single 0 }; past = []; script = script; shelf = λ name. None }
+
 unfoldable pub told_events : List ℕ → List Event → State
 told_events initial events = replayed events (start initial)
 

@@ -4,3 +4,4 @@ pub mod Events
 pub mod Rows
 pub mod Device
 pub mod MemHost
+pub mod Shelves

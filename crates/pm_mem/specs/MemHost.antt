@@ -1,8 +1,5 @@
 -- What a host in memory tells.
-use Rattle.std.specs.Prelude.{◌≡◌, ℕ, ◌+◌, Bool, false, cond, nat_eq, List, [], ◌∷◌, drop, Option, Some, None, option_map, Result, Ok, Err, string_bytes}
-use Rattle.std.specs.BTreeMap.{BTreeMap, get_by_text}
-use Rattle.std.specs.Prelude.{String, Vec}
-use Rattle.std.specs.declared.alloc.Global.{Global}
+use Rattle.std.specs.Prelude.{◌≡◌, ℕ, ◌+◌, ◌-◌, ◌*◌, ◌≤◌, Bool, cond, List, [], ◌∷◌, drop, Option, Some, None, Result, Ok, Err, vec_len, vec_capacity}
 use Rattle.pm_model.specs.declared.host.HostFault.{HostFault}
 use Rattle.pm_model.specs.declared.host.HostFault.TheVariants as faults
 use Rattle.pm_model.specs.Moments.{State, Shelf}
@@ -14,14 +11,11 @@ use Rattle.pm_mem.specs.declared.mem_host.MemHost.{MemHost}
 use Rattle.pm_mem.specs.Turns.{told_armed}
 use Rattle.pm_mem.specs.Tallies.{counts_of}
 use Rattle.pm_mem.specs.Device.{device_state}
+use Rattle.pm_mem.specs.Shelves.{shelf_of}
 
 -- the same moments, with this to read and these files
 abbrev pub told : State → List ℕ → Shelf → State
 told s script shelf = record s { script = script; shelf = shelf }
-
--- the files of a map, by the bytes of their names
-abbrev pub shelf_of : BTreeMap (String Global) (Vec ℕ Global) → Shelf
-shelf_of files name = option_map (λ file. file.items) (get_by_text files name)
 
 abbrev pub mem_state : MemHost → State
 mem_state m = told (device_state m.device) (drop m.taken m.script.items) (shelf_of m.shelf)
@@ -53,6 +47,10 @@ next_byte (byte ∷ bytes) = Some byte
 abbrev pub after_byte : List ℕ → List ℕ
 after_byte [] = []
 after_byte (byte ∷ bytes) = bytes
+
+-- the rest of room for one step more, which was counted
+pub record HasStepRoom (m : MemHost) : Type 0 where
+  pub moments : vec_len m.device.events + 2 * (m.turns.limit - m.turns.steps) + 2 + m.turns.room ≤ vec_capacity m.device.events
 
 -- only what it tells of moments, of bytes to read and of files may differ
 pub record KeepsCounts (old new : MemHost) : Type 0 where

@@ -34,7 +34,7 @@ impl Device {
     ghost use Rattle.std.specs.Prelude.{[], IfOk, length};
     ghost use Rattle.pm_model.specs.Words.{after_store, after_flush, after_fence};
     ghost use Rattle.pm_model.specs.Moments.{stepped, one_said, all_said};
-    ghost use Rattle.pm_mem.specs.Events.{after_pick, always};
+    ghost use Rattle.pm_mem.specs.Events.{after_pick, always, fresh};
     ghost use Rattle.pm_mem.specs.Device.{device_state, GoesTo};
 
     /// A device of zero words with room for so many moments and so many said bytes.
@@ -45,7 +45,9 @@ impl Device {
         replies: usize,
     ) -> Result<Device, AllocError>
         ensures words { IfOk result (λ device. device.words ≡ words) }
-        ensures events { IfOk result (λ device. device.events.items ≡ []) }
+        ensures state { IfOk result (λ device. device_state device ≡ fresh []) }
+        ensures events { IfOk result (λ device. vec_len device.events ≡ 0) }
+        ensures said { IfOk result (λ device. vec_len device.said ≡ 0) }
         ensures moment_room { IfOk result (λ device. vec_capacity device.events ≡ moments) }
         ensures reply_room { IfOk result (λ device. vec_capacity device.said ≡ replies) }
         ensures moved { IfOk result (λ device. device.moved ≡ false) }

@@ -1,5 +1,8 @@
 //! A host in memory, which tells everything.
 ghost use Rattle.std.specs.Prelude.{◌≡◌, ℕ, ◌+◌, ◌-◌, ◌*◌, ◌/◌, ◌%◌, ◌<◌, ◌≤◌, cond, vec_len, vec_capacity};
+ghost use Rattle.std.specs.Prelude.{Some, OnOk, OnErr};
+ghost use Rattle.pm_model.specs.Calls.{shelved};
+ghost use Rattle.pm_mem.specs.Shelves.{shelf_of};
 
 use crate::device::Device;
 use crate::plan::Plan;
@@ -33,14 +36,12 @@ pub struct MemHost {
 
 impl MemHost {
     ghost use Rattle.std.specs.Prelude.{Some, None, true, false, [], OnOk, OnErr, IfOk, slice_index};
-    ghost use Rattle.pm_model.specs.Words.{after_loss};
     ghost use Rattle.pm_model.specs.Moments.{with_script, with_shelf};
     ghost use Rattle.pm_model.specs.Counts.{after_fault, fault_of};
     ghost use Rattle.pm_model.specs.Calls.{shelved};
-    ghost use Rattle.pm_mem.specs.Events.{start, always, nothing};
+    ghost use Rattle.pm_mem.specs.Events.{fresh, always};
     ghost use Rattle.pm_mem.specs.Turns.{call_fails, after_call, turn_of, turn_fault, after_step, before_step};
-    ghost use Rattle.pm_mem.specs.Tallies.{counts_of};
-    ghost use Rattle.pm_mem.specs.MemHost.{mem_state, mem_counts, mem_turns, mem_watch, answer, KeepsCounts};
+    ghost use Rattle.pm_mem.specs.MemHost.{mem_state, mem_counts, mem_turns, mem_watch, answer, KeepsCounts, HasStepRoom};
 
     /// A host with a device of zero words, all of them durable, and with that script to read. There is room for
     /// `steps` device steps and `room` said bytes; what goes beyond either fails.
@@ -53,6 +54,7 @@ impl MemHost {
         plan: Plan,
     ) -> Result<MemHost, AllocError>
         requires { words % 8 ≡ 0 }
+        ensures state { IfOk result (λ host. mem_state host ≡ fresh script.now) }
         ensures turns { IfOk result (λ host. mem_turns host ≡ record { plan = plan; calls = 0; steps = 0; limit = steps; room = room; armed = None }) }
         ensures watch { IfOk result (λ host. mem_watch host ≡ record { word = None; count = 0 }) }
         ensures counts { IfOk result (λ host. mem_counts host ≡ record { size = words; faults = 0; cuts = 0; arms = 0; arm_steps = 0; arm_pick = 0; losses = 0; loss_pick = 0 }) }
@@ -86,4 +88,333 @@ impl MemHost {
             },
         })
     }
+
+    /// Gives a new script to read.
+    pub fn refill(&mut self, alloc: Global, script: &[u8]) -> Result<(), AllocError>
+        ensures ok { OnOk result (mem_state self.new ≡ with_script script.now (mem_state self.old)) }
+        ensures err { OnErr result (mem_state self.new ≡ mem_state self.old) }
+        ensures kept { KeepsCounts self.old self.new }
+    {
+        self.script = Vec::from_slice(alloc, script)?;
+        self.taken = 0;
+        Ok(())
+    }
+
+    /// Places a file, in the place of one of that name.
+    pub fn put_shelf(&mut self, alloc: Global, name: &str, bytes: &[u8]) -> Result<(), AllocError>
+        ensures ok { OnOk result (mem_state self.new ≡ with_shelf (shelved name.now (Some bytes.now) (mem_state self.old).shelf) (mem_state self.old)) }
+        ensures err { OnErr result (mem_state self.new ≡ mem_state self.old) }
+        ensures kept { KeepsCounts self.old self.new }
+    {
+        put(alloc, &mut self.shelf, name, bytes)
+    }
+
+    /// The newest value of each word.
+    pub fn read_back(&self, alloc: Global) -> Result<Vec<u64>, AllocError>
+        ensures len { IfOk result (λ row. vec_len row ≡ (mem_counts self.now).size) }
+        ensures newest { IfOk result (λ row. (k : ℕ) → slice_index row.items k ≡ ((mem_state self.now).now.words k).newest) }
+    {
+        Vec::from_slice(alloc, &self.device.newest)
+    }
+
+    /// Gives a word one durable value. The word then reads as if it had always had that value: each moment has it as
+    /// the word's only one. The clock, the other words and what was said stay.
+    pub fn poke(&mut self, w: u32, v: u64)
+        requires { w < (mem_counts self.old).size }
+        ensures told { mem_state self.new ≡ always w v (mem_state self.old) }
+        ensures kept { KeepsCounts self.old self.new }
+    {
+        self.device.poke(w, v);
+    }
+
+    /// The bytes said so far.
+    pub fn said(&self) -> &[u8]
+        ensures { result.now ≡ (mem_state self.now).now.said }
+    {
+        &self.device.said
+    }
+
+    /// Begins a new count of the loads of word `w` that are done.
+    pub fn watch(&mut self, w: u32)
+        ensures watch { mem_watch self.new ≡ record { word = Some w; count = 0 } }
+        ensures state { mem_state self.new ≡ mem_state self.old }
+        ensures counts { mem_counts self.new ≡ mem_counts self.old }
+        ensures turns { mem_turns self.new ≡ mem_turns self.old }
+    {
+        self.watch = Watch {
+            word: Some(w),
+            count: 0,
+        };
+    }
+
+    /// How often the watched word was loaded since [`MemHost::watch`]: 0 before that. It stays at 2^32 - 1.
+    pub fn watched(&self) -> u32
+        ensures { result ≡ (mem_watch self.now).count }
+    {
+        self.watch.count
+    }
+
+    // Counts a call that is no device step, and fails where the plan lists it.
+    fn call(&mut self) -> Result<(), HostFault>
+        ensures answer { result ≡ answer (call_fails (mem_turns self.old)) tt }
+        ensures turns { mem_turns self.new ≡ after_call (mem_turns self.old) }
+        ensures state { mem_state self.new ≡ mem_state self.old }
+        ensures watch { mem_watch self.new ≡ mem_watch self.old }
+        ensures counts { mem_counts self.new ≡ after_fault (fault_of result) (mem_counts self.old) }
+    {
+        if self.turns.call() {
+            return Err(self.tally.fault());
+        }
+        Ok(())
+    }
+
+    // Counts a device step, and fails or loses power in its place where that is to be. Where it is to be carried out
+    // there is room for its moment.
+    fn step(&mut self) -> Result<(), HostFault>
+        ensures answer { fault_of result ≡ turn_fault (turn_of (mem_turns self.old)) }
+        ensures turns { mem_turns self.new ≡ after_step (turn_of (mem_turns self.old)) (mem_turns self.old) }
+        ensures state { mem_state self.new ≡ before_step (turn_of (mem_turns self.old)) (mem_state self.old) }
+        ensures watch { mem_watch self.new ≡ mem_watch self.old }
+        ensures counts { mem_counts self.new ≡ after_fault (fault_of result) (mem_counts self.old) }
+        ensures room { OnOk result (HasStepRoom self.new) }
+    {
+        match self.turns.step() {
+            Turn::Done => Ok(()),
+            Turn::Failed => Err(self.tally.fault()),
+            Turn::Cut(pick) => {
+                self.device.lose(pick);
+                Err(self.tally.cut())
+            }
+        }
+    }
+}
+
+impl Host for MemHost {
+    ghost use Rattle.std.specs.Prelude.{Some, None, Option, Ok, ◌≢◌, ◌||◌, IfOk, OnErr, IsSome, take, option_map, length};
+    ghost use Rattle.pm_model.specs.declared.host.HostFault.TheVariants as faults;
+    ghost use Rattle.pm_model.specs.declared.host.FileFault.TheVariants as file_faults;
+    ghost use Rattle.pm_model.specs.Words.{after_store, after_flush, after_fence, after_loss};
+    ghost use Rattle.pm_model.specs.Moments.{all_said, with_script, with_shelf};
+    ghost use Rattle.pm_model.specs.Counts.{after_fault, after_arm, after_loss_of, fault_of, file_fault_of};
+    ghost use Rattle.pm_model.specs.Calls.{Armed, Steps, CountsDown, LosesAtOnce, TakesByte, Says, shelved, LeavesFile};
+    ghost use Rattle.pm_mem.specs.Events.{image_of};
+    ghost use Rattle.pm_mem.specs.Turns.{call_fails, after_call, call_fault, turn_of, turn_fault, after_step, after_turn, say_fails, after_say};
+    ghost use Rattle.pm_mem.specs.Tallies.{after_load};
+    ghost use Rattle.pm_mem.specs.MemHost.{mem_state, mem_counts, mem_turns, mem_armed, mem_watch, answer, next_byte, after_byte};
+
+    ghost tells = { Unit {0} };
+
+    ghost state = { mem_state };
+
+    ghost armed = { mem_armed };
+
+    ghost counts = { mem_counts };
+
+    fn words(&self) -> u32 {
+        self.device.words
+    }
+
+    fn load(&mut self, w: u32) -> Result<u64, HostFault>
+        requires { w < (mem_counts self.old).size }
+        ensures value { Unit {0} → IfOk result (λ v. v ≡ ((mem_state self.old).now.words w).newest) }
+        ensures state { Unit {0} → mem_state self.new ≡ mem_state self.old }
+        ensures armed { Unit {0} → mem_armed self.new ≡ mem_armed self.old }
+        ensures cause { mem_counts self.new ≡ after_fault (fault_of result) (mem_counts self.old) }
+        ensures never_cut { fault_of result ≢ Some faults.Cut }
+
+        // It fails exactly where the plan says so, and only a load that is done is watched.
+        ensures answer { result ≡ answer (call_fails (mem_turns self.old)) ((mem_state self.old).now.words w).newest }
+        ensures turns { mem_turns self.new ≡ after_call (mem_turns self.old) }
+        ensures watch { mem_watch self.new ≡ cond (call_fails (mem_turns self.old)) (mem_watch self.old) (after_load w (mem_watch self.old)) }
+    {
+        self.call()?;
+        self.watch.load(w);
+        Ok(self.device.newest[w as usize])
+    }
+
+    fn store(&mut self, w: u32, v: u64) -> Result<(), HostFault>
+        requires { w < (mem_counts self.old).size }
+        ensures state { Unit {0} → Steps (after_store w v) (fault_of result) (mem_state self.old) (mem_state self.new) }
+        ensures armed { Unit {0} → CountsDown (fault_of result) (mem_armed self.old) (mem_armed self.new) }
+        ensures cause { mem_counts self.new ≡ after_fault (fault_of result) (mem_counts self.old) }
+
+        // What becomes of the step, and what is left of the words, is known before.
+        ensures answer { fault_of result ≡ turn_fault (turn_of (mem_turns self.old)) }
+        ensures left { mem_state self.new ≡ after_turn (after_store w v) (turn_of (mem_turns self.old)) (mem_state self.old) }
+        ensures turns { mem_turns self.new ≡ after_step (turn_of (mem_turns self.old)) (mem_turns self.old) }
+        ensures watch { mem_watch self.new ≡ mem_watch self.old }
+    {
+        self.step()?;
+        self.device.store(w, v);
+        Ok(())
+    }
+
+    fn flush(&mut self, line: u32) -> Result<(), HostFault>
+        requires { line < (mem_counts self.old).size / 8 }
+        ensures state { Unit {0} → Steps (after_flush line) (fault_of result) (mem_state self.old) (mem_state self.new) }
+        ensures armed { Unit {0} → CountsDown (fault_of result) (mem_armed self.old) (mem_armed self.new) }
+        ensures cause { mem_counts self.new ≡ after_fault (fault_of result) (mem_counts self.old) }
+
+        ensures answer { fault_of result ≡ turn_fault (turn_of (mem_turns self.old)) }
+        ensures left { mem_state self.new ≡ after_turn (after_flush line) (turn_of (mem_turns self.old)) (mem_state self.old) }
+        ensures turns { mem_turns self.new ≡ after_step (turn_of (mem_turns self.old)) (mem_turns self.old) }
+        ensures watch { mem_watch self.new ≡ mem_watch self.old }
+    {
+        self.step()?;
+        self.device.flush(line);
+        Ok(())
+    }
+
+    fn fence(&mut self) -> Result<(), HostFault>
+        ensures state { Unit {0} → Steps after_fence (fault_of result) (mem_state self.old) (mem_state self.new) }
+        ensures armed { Unit {0} → CountsDown (fault_of result) (mem_armed self.old) (mem_armed self.new) }
+        ensures cause { mem_counts self.new ≡ after_fault (fault_of result) (mem_counts self.old) }
+
+        ensures answer { fault_of result ≡ turn_fault (turn_of (mem_turns self.old)) }
+        ensures left { mem_state self.new ≡ after_turn after_fence (turn_of (mem_turns self.old)) (mem_state self.old) }
+        ensures turns { mem_turns self.new ≡ after_step (turn_of (mem_turns self.old)) (mem_turns self.old) }
+        ensures watch { mem_watch self.new ≡ mem_watch self.old }
+    {
+        self.step()?;
+        self.device.fence();
+        Ok(())
+    }
+
+    fn cut(&mut self, pick: u64)
+        ensures state { Unit {0} → LosesAtOnce (mem_state self.old) (mem_state self.new) }
+        ensures armed { Unit {0} → mem_armed self.new ≡ mem_armed self.old }
+        ensures counted { mem_counts self.new ≡ after_loss_of pick (mem_counts self.old) }
+
+        // After a cut with no step since, that image is what the words hold, so another changes none.
+        ensures left { (mem_state self.new).now.words ≡ after_loss (image_of pick (mem_state self.old).now.words) (mem_state self.old).now.words }
+        ensures turns { mem_turns self.new ≡ mem_turns self.old }
+        ensures watch { mem_watch self.new ≡ mem_watch self.old }
+    {
+        self.tally.loss(pick);
+        if self.device.moved {
+            self.device.lose(pick);
+        }
+    }
+
+    fn arm(&mut self, steps: u32, pick: u64)
+        requires { 1 ≤ steps }
+        ensures state { Unit {0} → mem_state self.new ≡ mem_state self.old }
+        ensures armed { Unit {0} → mem_armed self.new ≡ Some (record { steps = steps; pick = pick }) }
+        ensures counted { mem_counts self.new ≡ after_arm steps pick (mem_counts self.old) }
+
+        ensures turns { mem_turns self.new ≡ record (mem_turns self.old) { armed = Some (record { steps = steps; pick = pick }) } }
+        ensures watch { mem_watch self.new ≡ mem_watch self.old }
+    {
+        self.tally.arm(steps, pick);
+        self.turns.armed = Some(Arm { steps, pick });
+    }
+
+    fn read(&mut self) -> Result<Option<u8>, HostFault>
+        ensures taken { Unit {0} → IfOk result (λ byte. TakesByte byte (mem_state self.old) (mem_state self.new)) }
+        ensures failed { Unit {0} → OnErr result (mem_state self.new ≡ mem_state self.old) }
+        ensures armed { Unit {0} → mem_armed self.new ≡ mem_armed self.old }
+        ensures cause { mem_counts self.new ≡ after_fault (fault_of result) (mem_counts self.old) }
+        ensures never_cut { fault_of result ≢ Some faults.Cut }
+
+        ensures answer { result ≡ answer (call_fails (mem_turns self.old)) (next_byte (mem_state self.old).script) }
+        ensures left { mem_state self.new ≡ cond (call_fails (mem_turns self.old)) (mem_state self.old) (with_script (after_byte (mem_state self.old).script) (mem_state self.old)) }
+        ensures turns { mem_turns self.new ≡ after_call (mem_turns self.old) }
+        ensures watch { mem_watch self.new ≡ mem_watch self.old }
+    {
+        self.call()?;
+        if self.taken < self.script.len() {
+            let byte = self.script[self.taken];
+            self.taken += 1;
+            Ok(Some(byte))
+        } else {
+            Ok(None)
+        }
+    }
+
+    /// Says the bytes, all of them or none.
+    fn say(&mut self, bytes: &[u8]) -> Result<(), HostFault>
+        ensures said { Unit {0} → Says bytes.now (fault_of result) (mem_state self.old) (mem_state self.new) }
+        ensures armed { Unit {0} → mem_armed self.new ≡ mem_armed self.old }
+        ensures cause { mem_counts self.new ≡ after_fault (fault_of result) (mem_counts self.old) }
+        ensures never_cut { fault_of result ≢ Some faults.Cut }
+
+        ensures answer { result ≡ answer (say_fails (length bytes.now) (mem_turns self.old)) tt }
+        ensures left { mem_state self.new ≡ cond (say_fails (length bytes.now) (mem_turns self.old)) (mem_state self.old) (all_said bytes.now (mem_state self.old)) }
+        ensures turns { mem_turns self.new ≡ after_say (length bytes.now) (mem_turns self.old) }
+        ensures watch { mem_watch self.new ≡ mem_watch self.old }
+    {
+        if self.turns.say(bytes.len()) {
+            return Err(self.tally.fault());
+        }
+        self.device.say(bytes);
+        Ok(())
+    }
+
+    fn file_get(&mut self, alloc: Global, name: &str) -> Result<Option<Vec<u8>>, FileFault>
+        ensures found { Unit {0} → IfOk result (λ found.
+            option_map (λ bytes. bytes.items) found ≡ option_map (take FILE_READ_LIMIT) ((mem_state self.old).shelf name.now)) }
+        ensures memory { Unit {0} → result ≡ Err FileFault.Memory → IsSome ((mem_state self.old).shelf name.now) }
+        ensures state { Unit {0} → mem_state self.new ≡ mem_state self.old }
+        ensures armed { Unit {0} → mem_armed self.new ≡ mem_armed self.old }
+        ensures cause { mem_counts self.new ≡ after_fault (file_fault_of result) (mem_counts self.old) }
+        ensures never_cut { file_fault_of result ≢ Some faults.Cut }
+
+        ensures answer { file_fault_of result ≡ call_fault (call_fails (mem_turns self.old)) }
+        ensures turns { mem_turns self.new ≡ after_call (mem_turns self.old) }
+        ensures watch { mem_watch self.new ≡ mem_watch self.old }
+    {
+        if let Err(fault) = self.call() {
+            return Err(FileFault::Host(fault));
+        }
+        match self.shelf.get(name) {
+            None => Ok(None),
+            Some(file) => {
+                let len = FILE_READ_LIMIT.min(file.len());
+                match Vec::from_slice(alloc, &file[..len]) {
+                    Ok(bytes) => Ok(Some(bytes)),
+                    Err(_) => Err(FileFault::Memory),
+                }
+            }
+        }
+    }
+
+    /// Replaces the whole file of that name. At an error all files are as they were.
+    fn file_put(&mut self, alloc: Global, name: &str, bytes: &[u8]) -> Result<(), FileFault>
+        ensures put { Unit {0} → IfOk result (λ _. mem_state self.new
+            ≡ with_shelf (shelved name.now (Some bytes.now) (mem_state self.old).shelf) (mem_state self.old)) }
+        ensures memory { Unit {0} → result ≡ Err FileFault.Memory → mem_state self.new ≡ mem_state self.old }
+        ensures failed { Unit {0} → LeavesFile name.now (mem_state self.old) (mem_state self.new) }
+        ensures armed { Unit {0} → mem_armed self.new ≡ mem_armed self.old }
+        ensures cause { mem_counts self.new ≡ after_fault (file_fault_of result) (mem_counts self.old) }
+        ensures never_cut { file_fault_of result ≢ Some faults.Cut }
+
+        ensures answer { file_fault_of result ≡ call_fault (call_fails (mem_turns self.old)) }
+        ensures kept { OnErr result (mem_state self.new ≡ mem_state self.old) }
+        ensures turns { mem_turns self.new ≡ after_call (mem_turns self.old) }
+        ensures watch { mem_watch self.new ≡ mem_watch self.old }
+    {
+        if let Err(fault) = self.call() {
+            return Err(FileFault::Host(fault));
+        }
+        match put(alloc, &mut self.shelf, name, bytes) {
+            Ok(()) => Ok(()),
+            Err(_) => Err(FileFault::Memory),
+        }
+    }
+}
+
+// Places a file in a map, or leaves the map as it was.
+fn put(
+    alloc: Global,
+    shelf: &mut BTreeMap<String, Vec<u8>>,
+    name: &str,
+    bytes: &[u8],
+) -> Result<(), AllocError>
+    ensures ok { OnOk result (shelf_of shelf.new ≡ shelved name.now (Some bytes.now) (shelf_of shelf.old)) }
+    ensures err { OnErr result (shelf_of shelf.new ≡ shelf_of shelf.old) }
+{
+    let key = String::from_str(alloc, name)?;
+    let file = Vec::from_slice(alloc, bytes)?;
+    shelf.insert(key, file)?;
+    Ok(())
 }

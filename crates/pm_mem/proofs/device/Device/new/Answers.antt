@@ -1,5 +1,5 @@
-use Rattle.std.proofs.Common.{◌∙◌, sym}
-use Rattle.pm_mem.proofs.Followed.{AreOf-start, AreSingle-start, said-start}
+use Rattle.std.proofs.Common.{◌∙◌, sym, ap}
+use Rattle.pm_mem.proofs.Followed.{AreOf-start, AreSingle-start, said-start, fresh-start}
 use Rattle.pm_mem.proofs.device.Device.new.Goals as goal
 
 pub invariant_of-result-clause-rows : goal.invariant_of-result-clause-rows
@@ -11,3 +11,6 @@ invariant_of-result-clause-replies c = c.in_ok-with_capacity.ensures.items ∙ s
 
 pub invariant_of-result-clause-single : goal.invariant_of-result-clause-single
 invariant_of-result-clause-single c = λ _. AreSingle-start _ _ c.in_ok-with_capacity-2.ensures.items
+
+pub returns-clause-state : goal.returns-clause-state
+returns-clause-state c = fresh-start _ _ c.in_ok-with_capacity-2.ensures.items c.in_ok-zeroes.ensures.zero
