@@ -4,3 +4,4 @@ pub mod Poked
 pub mod Losses
 pub mod Shelved
 pub mod Told
+pub mod Unplanned

@@ -1,5 +1,6 @@
 -- What a host in memory leaves at a power loss is one of each word's values.
-use Rattle.std.proofs.Common.{◌≡◌, ◌⊎◌, inl, inr, ℕ, Bool, true, false, cond, List, [], ◌∷◌, ◌++◌, Option, Some, None, refl, sym, ap, subst, ◌∙◌}
+use Rattle.std.proofs.lemmas.Nat.Bits.{bit_at-zero}
+use Rattle.std.proofs.Common.{◌≡◌, ◌⊎◌, inl, inr, ℕ, ◌%◌, Bool, true, false, cond, List, [], ◌∷◌, ◌++◌, Option, Some, None, refl, sym, ap, subst, ◌∙◌}
 use Rattle.pm_model.specs.declared.host.HostFault.{HostFault}
 use Rattle.pm_model.specs.declared.host.HostFault.TheVariants as faults
 use Rattle.pm_model.specs.Words.{Has, Cell, values, last_or, durable, single, Words, Picks, HasOnly, IsRested, after_loss}
@@ -45,3 +46,10 @@ same_either false c is = is ∙ ap single (sym (ap durable is))
 -- where each word has one value, a loss changes no word
 pub lost-single : (pick : ℕ) (words : Words) → AreSingle words → words ≡ after_loss (image_of pick words) words
 lost-single pick words h = λ i k. (same_either (takes_newest pick k) (words k) (h.each k)) i
+
+-- pick 0 leaves each word's durable value, pick 1 each word's newest
+pub takes_newest-zero : (k : ℕ) → takes_newest 0 k ≡ false
+takes_newest-zero k = rw (bit_at-zero (k % 64))
+
+pub takes_newest-one : (k : ℕ) → takes_newest 1 k ≡ true
+takes_newest-one k = refl

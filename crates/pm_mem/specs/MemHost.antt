@@ -17,6 +17,10 @@ use Rattle.pm_mem.specs.Shelves.{shelf_of}
 abbrev pub told : State → List ℕ → Shelf → State
 told s script shelf = record s { script = script; shelf = shelf }
 
+-- it tells everything
+abbrev pub mem_tells : Type 0
+mem_tells = Unit {0}
+
 abbrev pub mem_state : MemHost → State
 mem_state m = told (device_state m.device) (drop m.taken m.script.items) (shelf_of m.shelf)
 

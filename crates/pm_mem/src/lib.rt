@@ -12,3 +12,6 @@ mod turns;
 
 pub use mem_host::MemHost;
 pub use plan::Plan;
+
+#[cfg(test)]
+mod tests;

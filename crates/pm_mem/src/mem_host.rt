@@ -200,9 +200,9 @@ impl Host for MemHost {
     ghost use Rattle.pm_mem.specs.Events.{image_of};
     ghost use Rattle.pm_mem.specs.Turns.{call_fails, after_call, call_fault, turn_of, turn_fault, after_step, after_turn, say_fails, after_say};
     ghost use Rattle.pm_mem.specs.Tallies.{after_load};
-    ghost use Rattle.pm_mem.specs.MemHost.{mem_state, mem_counts, mem_turns, mem_armed, mem_watch, answer, next_byte, after_byte};
+    ghost use Rattle.pm_mem.specs.MemHost.{mem_tells, mem_state, mem_counts, mem_turns, mem_armed, mem_watch, answer, next_byte, after_byte};
 
-    ghost tells = { Unit {0} };
+    ghost tells = { mem_tells };
 
     ghost state = { mem_state };
 
@@ -216,9 +216,9 @@ impl Host for MemHost {
 
     fn load(&mut self, w: u32) -> Result<u64, HostFault>
         requires { w < (mem_counts self.old).size }
-        ensures value { Unit {0} → IfOk result (λ v. v ≡ ((mem_state self.old).now.words w).newest) }
-        ensures state { Unit {0} → mem_state self.new ≡ mem_state self.old }
-        ensures armed { Unit {0} → mem_armed self.new ≡ mem_armed self.old }
+        ensures value { mem_tells → IfOk result (λ v. v ≡ ((mem_state self.old).now.words w).newest) }
+        ensures state { mem_tells → mem_state self.new ≡ mem_state self.old }
+        ensures armed { mem_tells → mem_armed self.new ≡ mem_armed self.old }
         ensures cause { mem_counts self.new ≡ after_fault (fault_of result) (mem_counts self.old) }
         ensures never_cut { fault_of result ≢ Some faults.Cut }
 
@@ -234,8 +234,8 @@ impl Host for MemHost {
 
     fn store(&mut self, w: u32, v: u64) -> Result<(), HostFault>
         requires { w < (mem_counts self.old).size }
-        ensures state { Unit {0} → Steps (after_store w v) (fault_of result) (mem_state self.old) (mem_state self.new) }
-        ensures armed { Unit {0} → CountsDown (fault_of result) (mem_armed self.old) (mem_armed self.new) }
+        ensures state { mem_tells → Steps (after_store w v) (fault_of result) (mem_state self.old) (mem_state self.new) }
+        ensures armed { mem_tells → CountsDown (fault_of result) (mem_armed self.old) (mem_armed self.new) }
         ensures cause { mem_counts self.new ≡ after_fault (fault_of result) (mem_counts self.old) }
 
         // What becomes of the step, and what is left of the words, is known before.
@@ -251,8 +251,8 @@ impl Host for MemHost {
 
     fn flush(&mut self, line: u32) -> Result<(), HostFault>
         requires { line < (mem_counts self.old).size / 8 }
-        ensures state { Unit {0} → Steps (after_flush line) (fault_of result) (mem_state self.old) (mem_state self.new) }
-        ensures armed { Unit {0} → CountsDown (fault_of result) (mem_armed self.old) (mem_armed self.new) }
+        ensures state { mem_tells → Steps (after_flush line) (fault_of result) (mem_state self.old) (mem_state self.new) }
+        ensures armed { mem_tells → CountsDown (fault_of result) (mem_armed self.old) (mem_armed self.new) }
         ensures cause { mem_counts self.new ≡ after_fault (fault_of result) (mem_counts self.old) }
 
         ensures answer { fault_of result ≡ turn_fault (turn_of (mem_turns self.old)) }
@@ -266,8 +266,8 @@ impl Host for MemHost {
     }
 
     fn fence(&mut self) -> Result<(), HostFault>
-        ensures state { Unit {0} → Steps after_fence (fault_of result) (mem_state self.old) (mem_state self.new) }
-        ensures armed { Unit {0} → CountsDown (fault_of result) (mem_armed self.old) (mem_armed self.new) }
+        ensures state { mem_tells → Steps after_fence (fault_of result) (mem_state self.old) (mem_state self.new) }
+        ensures armed { mem_tells → CountsDown (fault_of result) (mem_armed self.old) (mem_armed self.new) }
         ensures cause { mem_counts self.new ≡ after_fault (fault_of result) (mem_counts self.old) }
 
         ensures answer { fault_of result ≡ turn_fault (turn_of (mem_turns self.old)) }
@@ -281,8 +281,8 @@ impl Host for MemHost {
     }
 
     fn cut(&mut self, pick: u64)
-        ensures state { Unit {0} → LosesAtOnce (mem_state self.old) (mem_state self.new) }
-        ensures armed { Unit {0} → mem_armed self.new ≡ mem_armed self.old }
+        ensures state { mem_tells → LosesAtOnce (mem_state self.old) (mem_state self.new) }
+        ensures armed { mem_tells → mem_armed self.new ≡ mem_armed self.old }
         ensures counted { mem_counts self.new ≡ after_loss_of pick (mem_counts self.old) }
 
         // After a cut with no step since, that image is what the words hold, so another changes none.
@@ -298,8 +298,8 @@ impl Host for MemHost {
 
     fn arm(&mut self, steps: u32, pick: u64)
         requires { 1 ≤ steps }
-        ensures state { Unit {0} → mem_state self.new ≡ mem_state self.old }
-        ensures armed { Unit {0} → mem_armed self.new ≡ Some (record { steps = steps; pick = pick }) }
+        ensures state { mem_tells → mem_state self.new ≡ mem_state self.old }
+        ensures armed { mem_tells → mem_armed self.new ≡ Some (record { steps = steps; pick = pick }) }
         ensures counted { mem_counts self.new ≡ after_arm steps pick (mem_counts self.old) }
 
         ensures turns { mem_turns self.new ≡ record (mem_turns self.old) { armed = Some (record { steps = steps; pick = pick }) } }
@@ -310,9 +310,9 @@ impl Host for MemHost {
     }
 
     fn read(&mut self) -> Result<Option<u8>, HostFault>
-        ensures taken { Unit {0} → IfOk result (λ byte. TakesByte byte (mem_state self.old) (mem_state self.new)) }
-        ensures failed { Unit {0} → OnErr result (mem_state self.new ≡ mem_state self.old) }
-        ensures armed { Unit {0} → mem_armed self.new ≡ mem_armed self.old }
+        ensures taken { mem_tells → IfOk result (λ byte. TakesByte byte (mem_state self.old) (mem_state self.new)) }
+        ensures failed { mem_tells → OnErr result (mem_state self.new ≡ mem_state self.old) }
+        ensures armed { mem_tells → mem_armed self.new ≡ mem_armed self.old }
         ensures cause { mem_counts self.new ≡ after_fault (fault_of result) (mem_counts self.old) }
         ensures never_cut { fault_of result ≢ Some faults.Cut }
 
@@ -333,8 +333,8 @@ impl Host for MemHost {
 
     /// Says the bytes, all of them or none.
     fn say(&mut self, bytes: &[u8]) -> Result<(), HostFault>
-        ensures said { Unit {0} → Says bytes.now (fault_of result) (mem_state self.old) (mem_state self.new) }
-        ensures armed { Unit {0} → mem_armed self.new ≡ mem_armed self.old }
+        ensures said { mem_tells → Says bytes.now (fault_of result) (mem_state self.old) (mem_state self.new) }
+        ensures armed { mem_tells → mem_armed self.new ≡ mem_armed self.old }
         ensures cause { mem_counts self.new ≡ after_fault (fault_of result) (mem_counts self.old) }
         ensures never_cut { fault_of result ≢ Some faults.Cut }
 
@@ -351,11 +351,11 @@ impl Host for MemHost {
     }
 
     fn file_get(&mut self, alloc: Global, name: &str) -> Result<Option<Vec<u8>>, FileFault>
-        ensures found { Unit {0} → IfOk result (λ found.
+        ensures found { mem_tells → IfOk result (λ found.
             option_map (λ bytes. bytes.items) found ≡ option_map (take FILE_READ_LIMIT) ((mem_state self.old).shelf name.now)) }
-        ensures memory { Unit {0} → result ≡ Err FileFault.Memory → IsSome ((mem_state self.old).shelf name.now) }
-        ensures state { Unit {0} → mem_state self.new ≡ mem_state self.old }
-        ensures armed { Unit {0} → mem_armed self.new ≡ mem_armed self.old }
+        ensures memory { mem_tells → result ≡ Err FileFault.Memory → IsSome ((mem_state self.old).shelf name.now) }
+        ensures state { mem_tells → mem_state self.new ≡ mem_state self.old }
+        ensures armed { mem_tells → mem_armed self.new ≡ mem_armed self.old }
         ensures cause { mem_counts self.new ≡ after_fault (file_fault_of result) (mem_counts self.old) }
         ensures never_cut { file_fault_of result ≢ Some faults.Cut }
 
@@ -380,11 +380,11 @@ impl Host for MemHost {
 
     /// Replaces the whole file of that name. At an error all files are as they were.
     fn file_put(&mut self, alloc: Global, name: &str, bytes: &[u8]) -> Result<(), FileFault>
-        ensures put { Unit {0} → IfOk result (λ _. mem_state self.new
+        ensures put { mem_tells → IfOk result (λ _. mem_state self.new
             ≡ with_shelf (shelved name.now (Some bytes.now) (mem_state self.old).shelf) (mem_state self.old)) }
-        ensures memory { Unit {0} → result ≡ Err FileFault.Memory → mem_state self.new ≡ mem_state self.old }
-        ensures failed { Unit {0} → LeavesFile name.now (mem_state self.old) (mem_state self.new) }
-        ensures armed { Unit {0} → mem_armed self.new ≡ mem_armed self.old }
+        ensures memory { mem_tells → result ≡ Err FileFault.Memory → mem_state self.new ≡ mem_state self.old }
+        ensures failed { mem_tells → LeavesFile name.now (mem_state self.old) (mem_state self.new) }
+        ensures armed { mem_tells → mem_armed self.new ≡ mem_armed self.old }
         ensures cause { mem_counts self.new ≡ after_fault (file_fault_of result) (mem_counts self.old) }
         ensures never_cut { file_fault_of result ≢ Some faults.Cut }
 
