@@ -33,12 +33,12 @@ AreOf-store newest marks durables words w v within rows = record {
 }
 
 pub AreOf-flush : (newest marks new_marks durables : List ℕ) (words : Words) (line : ℕ)
-  → ((k : ℕ) → get_or new_marks k 0 ≡ cond (eqb (k / 8) line) (get_or newest k 0) (get_or marks k 0))
-  → AreOf newest marks durables words → AreOf newest new_marks durables (after_flush line words)
+    → ((k : ℕ) → get_or new_marks k 0 ≡ cond (eqb (k / 8) line) (get_or newest k 0) (get_or marks k 0))
+    → AreOf newest marks durables words → AreOf newest new_marks durables (after_flush line words)
 AreOf-flush newest marks new_marks durables words line is rows = record {
   newest = λ k. rows.newest k ∙ sym (at_choice (λ (c : Cell). c.newest) (eqb (k / 8) line) (marked (words k)) (words k) ∙ same_choice (eqb (k / 8) line) ((words k).newest));
   marked = λ k. is k ∙ ap (λ (x : ℕ). cond (eqb (k / 8) line) x (get_or marks k 0)) (rows.newest k) ∙ ap (λ (x : ℕ). cond (eqb (k / 8) line) ((words k).newest) x) (rows.marked k)
-    ∙ sym (at_choice marked_value (eqb (k / 8) line) (marked (words k)) (words k));
+      ∙ sym (at_choice marked_value (eqb (k / 8) line) (marked (words k)) (words k));
   durables = λ k. rows.durables k ∙ sym (at_choice durable (eqb (k / 8) line) (marked (words k)) (words k) ∙ same_choice (eqb (k / 8) line) (durable (words k)));
 }
 
@@ -50,14 +50,14 @@ AreOf-fence newest marks durables words rows = record {
 }
 
 lost_values : (newest left marks durables : List ℕ) (words : Words) (pick : ℕ)
-  → ((k : ℕ) → get_or left k 0 ≡ cond (takes_newest pick k) (get_or newest k 0) (get_or durables k 0))
-  → AreOf newest marks durables words → (k : ℕ) → get_or left k 0 ≡ image_of pick words k
+    → ((k : ℕ) → get_or left k 0 ≡ cond (takes_newest pick k) (get_or newest k 0) (get_or durables k 0))
+    → AreOf newest marks durables words → (k : ℕ) → get_or left k 0 ≡ image_of pick words k
 lost_values newest left marks durables words pick is rows k =
     is k ∙ ap (λ (x : ℕ). cond (takes_newest pick k) x (get_or durables k 0)) (rows.newest k) ∙ ap (λ (x : ℕ). cond (takes_newest pick k) ((words k).newest) x) (rows.durables k)
 
 pub AreOf-lost : (newest left marks durables : List ℕ) (words : Words) (pick : ℕ)
-  → ((k : ℕ) → get_or left k 0 ≡ cond (takes_newest pick k) (get_or newest k 0) (get_or durables k 0))
-  → AreOf newest marks durables words → AreOf left left left (after_loss (image_of pick words) words)
+    → ((k : ℕ) → get_or left k 0 ≡ cond (takes_newest pick k) (get_or newest k 0) (get_or durables k 0))
+    → AreOf newest marks durables words → AreOf left left left (after_loss (image_of pick words) words)
 AreOf-lost newest left marks durables words pick is rows =
     let each : (k : ℕ) → get_or left k 0 ≡ image_of pick words k = lost_values newest left marks durables words pick is rows in
     record { newest = each; marked = each; durables = each }
@@ -66,8 +66,8 @@ pub AreSingle-lost : (image : Image) (words : Words) → AreSingle (after_loss i
 AreSingle-lost image words = record { each = λ k. refl }
 
 pub AreOf-start : (initial newest marks durables : List ℕ) (events : List Event) → events ≡ []
-  → ((k : ℕ) → get_or initial k 0 ≡ 0) → ((k : ℕ) → get_or newest k 0 ≡ 0) → ((k : ℕ) → get_or marks k 0 ≡ 0) → ((k : ℕ) → get_or durables k 0 ≡ 0)
-  → AreOf newest marks durables (told_events initial events).now.words
+    → ((k : ℕ) → get_or initial k 0 ≡ 0) → ((k : ℕ) → get_or newest k 0 ≡ 0) → ((k : ℕ) → get_or marks k 0 ≡ 0) → ((k : ℕ) → get_or durables k 0 ≡ 0)
+    → AreOf newest marks durables (told_events initial events).now.words
 AreOf-start initial newest marks durables events none i n m d =
     let start : AreOf newest marks durables (words_from initial) = record { newest = λ k. n k ∙ sym (i k); marked = λ k. m k ∙ sym (i k); durables = λ k. d k ∙ sym (i k) } in
     subst (λ (s : State). AreOf newest marks durables s.now.words) (sym (ap (told_events initial) none ∙ told_events-none initial)) start

@@ -28,7 +28,7 @@ LosesPower-pick pick old new is = record { image = image_of pick old.now.words; 
 
 -- a step that is not carried out
 pub Steps-err : (f : Words → Words) (turn : Turn) (x : HostFault) (fault : Option HostFault) (old new : State)
-  → fault ≡ Some x → Some x ≡ turn_fault turn → new ≡ before_step turn old → Steps f fault old new
+    → fault ≡ Some x → Some x ≡ turn_fault turn → new ≡ before_step turn old → Steps f fault old new
 Steps-err f Done x fault old new is answer left = absurd (cc answer)
 Steps-err f Failed x fault old new is answer left = record { done = λ none. absurd (cc (is, none)); failed = λ _. left; cut = λ cut. absurd (cc (is, answer, cut)) }
 Steps-err f (Cut pick) x fault old new is answer left = record { done = λ none. absurd (cc (is, none)); failed = λ failed. absurd (cc (is, answer, failed)); cut = λ _. LosesPower-pick pick old new left }

@@ -13,7 +13,7 @@ use Rattle.pm_mem.proofs.Followed.{get_or-set, at_choice}
 
 -- one event more is blanked
 pub blanks_more : (f : Event → Event) (xs ys : List Event) (i : ℕ) (x : Event) → i < length xs → ys ≡ map f (take i xs) ++ drop i xs → x ≡ get_or ys i x
-  → set ys i (f x) ≡ map f (take (i + 1) xs) ++ drop (i + 1) xs
+    → set ys i (f x) ≡ map f (take (i + 1) xs) ++ drop (i + 1) xs
 blanks_more f xs ys i x within is read =
     let p = map f (take i xs) in
     let g = get_or xs i x in
@@ -49,7 +49,7 @@ store_hidden : (w v x : ℕ) (words : Words) (k : ℕ) → cond (eqb k w) (singl
 store_hidden w v x words k = elim (eqb k w) as (λ b. cond b (single v) (words k) ≡ cond b (single v) (cond b (stored x (words k)) (words k))) [ true ↦ refl | false ↦ refl ]
 
 store_beside : (w word v x : ℕ) (words : Words) → word ≢ w → (k : ℕ)
-  → cond (eqb k word) (stored x (cond (eqb k w) (single v) (words k))) (cond (eqb k w) (single v) (words k)) ≡ cond (eqb k w) (single v) (cond (eqb k word) (stored x (words k)) (words k))
+    → cond (eqb k word) (stored x (cond (eqb k w) (single v) (words k))) (cond (eqb k w) (single v) (words k)) ≡ cond (eqb k w) (single v) (cond (eqb k word) (stored x (words k)) (words k))
 store_beside w word v x words other k = elim (cases_eq k w) [
   | inl here ↦ let a : eqb k w ≡ true = grind (arith, nat_tests) in let b : eqb k word ≡ false = grind (arith, nat_tests) in
       rw (a, b)
@@ -82,18 +82,18 @@ replayed-blanked w v (e ∷ events) s = ap (replayed (map (blanked w) events)) (
 start-set : (initial : List ℕ) (w v : ℕ) → w < length initial → start (set initial w v) ≡ always w v (start initial)
 start-set initial w v within =
     let each : (k : ℕ) → words_from (set initial w v) k ≡ with_value w v (words_from initial) k =
-        λ k. ap single (get_or-set initial w v k within) ∙ at_choice single (eqb k w) v (get_or initial k 0) in
+    λ k. ap single (get_or-set initial w v k within) ∙ at_choice single (eqb k w) v (get_or initial k 0) in
     let same : words_from (set initial w v) ≡ with_value w v (words_from initial) = λ i k. (each k) i in
     ap (λ (words : Words). record (start initial) { now = record { said = []; words = words } }) same
 
 pub told_events-blanked : (initial : List ℕ) (events new : List Event) (w v : ℕ) → w < length initial → new ≡ map (blanked w) events
-  → told_events (set initial w v) new ≡ always w v (told_events initial events)
+    → told_events (set initial w v) new ≡ always w v (told_events initial events)
 unfolding told_events
 told_events-blanked initial events new w v within is =
     ap (told_events (set initial w v)) is ∙ ap (replayed (map (blanked w) events)) (start-set initial w v within) ∙ replayed-blanked w v events (start initial)
 
 pub AreOf-poked : (newest marks durables : List ℕ) (words : Words) (w v : ℕ) → w < length newest → w < length marks → w < length durables
-  → AreOf newest marks durables words → AreOf (set newest w v) (set marks w v) (set durables w v) (with_value w v words)
+    → AreOf newest marks durables words → AreOf (set newest w v) (set marks w v) (set durables w v) (with_value w v words)
 AreOf-poked newest marks durables words w v n m d rows = record {
   newest = λ k. get_or-set newest w v k n ∙ ap (cond (eqb k w) v) (rows.newest k) ∙ sym (at_choice (λ (c : Cell). c.newest) (eqb k w) (single v) (words k));
   marked = λ k. get_or-set marks w v k m ∙ ap (cond (eqb k w) v) (rows.marked k) ∙ sym (at_choice marked_value (eqb k w) (single v) (words k));

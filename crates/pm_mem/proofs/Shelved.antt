@@ -19,12 +19,12 @@ bytes_eq-swap xs ys = same_from_decides (bytes_eq xs ys) (bytes_eq ys xs) (bytes
 
 -- under any name
 put-each : (old new : BTreeMap (String Global) (Vec ℕ Global)) (name : List ℕ) (file : Vec ℕ Global)
-  → UpdatesBy string_cmp (λ k. slice_cmp nat_cmp name (string_bytes k)) old new (Some file) → (other : List ℕ) → shelf_of new other ≡ shelved name (Some file.items) (shelf_of old) other
+    → UpdatesBy string_cmp (λ k. slice_cmp nat_cmp name (string_bytes k)) old new (Some file) → (other : List ℕ) → shelf_of new other ≡ shelved name (Some file.items) (shelf_of old) other
 put-each old new name file updates other =
     ap (option_map (λ (f : Vec ℕ Global). f.items)) (btree_map_updates_text name old new (Some file) updates other)
     ∙ at_choice (option_map (λ (f : Vec ℕ Global). f.items)) (bytes_eq name other) (Some file) (get_by_text old other)
     ∙ ap (λ (b : Bool). cond b (Some file.items) (shelf_of old other)) (bytes_eq-swap name other)
 
 pub shelf_of-put : (old new : BTreeMap (String Global) (Vec ℕ Global)) (name : List ℕ) (file : Vec ℕ Global)
-  → UpdatesBy string_cmp (λ k. slice_cmp nat_cmp name (string_bytes k)) old new (Some file) → shelf_of new ≡ shelved name (Some file.items) (shelf_of old)
+    → UpdatesBy string_cmp (λ k. slice_cmp nat_cmp name (string_bytes k)) old new (Some file) → shelf_of new ≡ shelved name (Some file.items) (shelf_of old)
 shelf_of-put old new name file updates = λ i other. (put-each old new name file updates other) i

@@ -94,7 +94,10 @@ fn a_flush_and_a_fence_make_a_line_durable(rt: HostRuntime) -> Result<(), Fail> 
     host.fence()?;
     host.cut(0);
     let row = host.read_back(rt.alloc())?;
-    assert_eq!(rt; row.as_slice(), [0, 0, 0, 7, 0, 0, 0, 8, 0, 0, 0, 0, 0, 0, 0, 0].as_slice());
+    assert_eq!(rt;
+        row.as_slice(),
+        [0, 0, 0, 7, 0, 0, 0, 8, 0, 0, 0, 0, 0, 0, 0, 0].as_slice()
+    );
     Ok(())
 }
 
@@ -106,7 +109,10 @@ fn another_pick_takes_the_newest_where_its_bit_is_set(rt: HostRuntime) -> Result
     }
     host.cut(0b10_0000_0110);
     let row = host.read_back(rt.alloc())?;
-    assert_eq!(rt; row.as_slice(), [0, 5, 5, 0, 0, 0, 0, 0, 0, 5, 0, 0, 0, 0, 0, 0].as_slice());
+    assert_eq!(rt;
+        row.as_slice(),
+        [0, 5, 5, 0, 0, 0, 0, 0, 0, 5, 0, 0, 0, 0, 0, 0].as_slice()
+    );
     Ok(())
 }
 
@@ -209,7 +215,11 @@ fn files_are_replaced_whole(rt: HostRuntime) -> Result<(), Fail> {
     assert!(rt; put);
     for (name, want) in [("x", Some("new!")), ("y", Some("other")), ("z", None)] {
         let found = host.file_get(alloc, name).ok().flatten();
-        assert_eq!(rt; found.as_ref().map(|bytes| bytes.as_slice()), want.map(|text| text.as_bytes()), "{name}");
+        assert_eq!(rt;
+            found.as_ref().map(|bytes| bytes.as_slice()),
+            want.map(|text| text.as_bytes()),
+            "{name}"
+        );
     }
     Ok(())
 }

@@ -9,7 +9,7 @@ loop-at-preserved c =
     let before = c.loop-at.invariant in
     record {
       items = ap (λ (e : Event). set c.loop-at.events.items c.loop-at.at e) c.blanked.ensures
-        ∙ blanks_more (blanked c.args.word) c.args.events.now.items c.loop-at.events.items c.loop-at.at c.index.result.now (omega arith) before.items c.index.ensures;
+          ∙ blanks_more (blanked c.args.word) c.args.events.now.items c.loop-at.events.items c.loop-at.at c.index.result.now (omega arith) before.items c.index.ensures;
       len = before.len;
-      capacity = before.capacity
+      capacity = before.capacity;
     }

@@ -7,5 +7,5 @@ abbrev pub invariant-loop-at : goal.invariant-loop-at
 invariant-loop-at l = record {
   items : l.events.items ≡ map (blanked l.word) (take l.at l.initial.events.items) ++ drop l.at l.initial.events.items;
   len : vec_len l.events ≡ vec_len l.initial.events;
-  capacity : vec_capacity l.events ≡ vec_capacity l.initial.events
+  capacity : vec_capacity l.events ≡ vec_capacity l.initial.events;
 }

@@ -29,5 +29,10 @@ returns c =
     let d = c.args.self.now in
     record {
       told = told_events-blanked d.initial.items d.events.items c.blank.new.events.items c.args.word c.args.value (omega arith) c.blank.ensures.items;
-      moved_is = search rules; words = search rules; events = search rules; said = search rules; moment_room = search rules; reply_room = search rules
+      moved_is = search rules;
+      words = search rules;
+      events = search rules;
+      said = search rules;
+      moment_room = search rules;
+      reply_room = search rules;
     }

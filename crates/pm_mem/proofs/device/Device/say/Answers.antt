@@ -19,5 +19,5 @@ loop-byte-preserved c =
       events = omega arith;
       said = omega arith;
       moment_room = one.moment_room ∙ before.moment_room;
-      reply_room = one.reply_room ∙ before.reply_room
+      reply_room = one.reply_room ∙ before.reply_room;
     }

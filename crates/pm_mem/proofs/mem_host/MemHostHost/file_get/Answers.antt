@@ -17,7 +17,7 @@ returns-in-Ok-clause-found c =
     let here : Some file.items ≡ shelf_of c.call.new.self.shelf c.args.name.now = ap (option_map (λ (f : Vec ℕ Global). f.items)) c.in-Some.ensures.value in
     let count : c.min-len.result ≡ min FILE_READ_LIMIT (length file.items) = c.min-len.ensures ∙ ap (min FILE_READ_LIMIT) (c.len.ensures ∙ file.ok.0) in
     let copied : c.in-Ok.bytes.items ≡ take FILE_READ_LIMIT file.items =
-        c.in-Ok.ensures.items ∙ ap (take c.min-len.result) c.deref.ensures.value ∙ ap (λ (n : ℕ). take n file.items) count ∙ take_min FILE_READ_LIMIT file.items in
+    c.in-Ok.ensures.items ∙ ap (take c.min-len.result) c.deref.ensures.value ∙ ap (λ (n : ℕ). take n file.items) count ∙ take_min FILE_READ_LIMIT file.items in
     λ _. ap Some copied ∙ ap (option_map (take FILE_READ_LIMIT)) (here ∙ ap (λ (s : State). s.shelf c.args.name.now) c.call.ensures.state)
 
 pub returns-in-Err-from_slice-clause-memory : goal.returns-in-Err-from_slice-clause-memory
