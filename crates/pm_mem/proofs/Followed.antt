@@ -1,12 +1,12 @@
 -- The rows follow the words at each step.
-use Rattle.std.proofs.Common.{◌≡◌, ◌≢◌, inl, inr, ℕ, ◌/◌, ◌<◌, Bool, true, false, cond, eqb, List, [], ◌∷◌, ◌++◌, length, set, get_or, refl, sym, ap, subst, ◌∙◌, get_or-set_same, get_or-set_other, arith}
+use Rattle.std.proofs.Common.{◌≡◌, inl, inr, ℕ, ◌/◌, ◌<◌, Bool, true, false, cond, eqb, List, [], length, set, get_or, refl, sym, ap, subst, ◌∙◌, get_or-set_same, get_or-set_other, arith}
 use Rattle.std.proofs.lemmas.Bool.{cases_eq}
 use Rattle.std.proofs.lemmas.Bool.Decides.{nat_tests}
 use Rattle.std.proofs.lemmas.List.{append-nil}
-use Rattle.pm_model.specs.Words.{Cell, last_or, durable, single, stored, marked, fenced, Words, Image, after_store, after_flush, after_fence, after_loss}
+use Rattle.pm_model.specs.Words.{Cell, last_or, durable, single, stored, marked, Words, Image, after_store, after_flush, after_fence, after_loss}
 use Rattle.pm_model.specs.Moments.{State}
 use Rattle.pm_mem.specs.declared.event.Event.{Event}
-use Rattle.pm_mem.specs.Events.{takes_newest, image_of, words_from, start, fresh, told_events}
+use Rattle.pm_mem.specs.Events.{takes_newest, image_of, words_from, fresh, told_events}
 use Rattle.pm_mem.proofs.Events.{told_events-none}
 use Rattle.pm_mem.specs.Rows.{marked_value, AreOf, AreSingle}
 

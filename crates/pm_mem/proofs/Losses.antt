@@ -1,16 +1,14 @@
 -- What a host in memory leaves at a power loss is one of each word's values.
 use Rattle.std.proofs.lemmas.Nat.Bits.{bit_at-zero}
-use Rattle.std.proofs.Common.{◌≡◌, ◌⊎◌, inl, inr, ℕ, ◌%◌, Bool, true, false, cond, List, [], ◌∷◌, ◌++◌, Option, Some, None, refl, sym, ap, subst, ◌∙◌}
+use Rattle.std.proofs.Common.{◌≡◌, inl, inr, ℕ, ◌%◌, Bool, true, false, cond, List, [], ◌∷◌, ◌++◌, Option, Some, refl}
 use Rattle.pm_model.specs.declared.host.HostFault.{HostFault}
-use Rattle.pm_model.specs.declared.host.HostFault.TheVariants as faults
-use Rattle.pm_model.specs.Words.{Has, Cell, values, last_or, durable, single, Words, Picks, HasOnly, IsRested, after_loss}
-use Rattle.pm_model.specs.Moments.{State, stepped}
-use Rattle.pm_model.specs.Calls.{LosesPower, LosesAtOnce, Steps}
+use Rattle.pm_model.specs.Words.{Has, Cell, values, last_or, durable, Words, Picks}
+use Rattle.pm_model.specs.Moments.{State}
+use Rattle.pm_model.specs.Calls.{LosesPower, Steps}
 use Rattle.pm_mem.specs.declared.turns.Turn.{Turn}
 use Rattle.pm_mem.specs.declared.turns.Turn.TheVariants.{Done, Failed, Cut}
 use Rattle.pm_mem.specs.Events.{takes_newest, image_of, after_pick}
 use Rattle.pm_mem.specs.Turns.{turn_fault, before_step}
-use Rattle.pm_mem.specs.Rows.{AreSingle}
 
 Has-last : (x : ℕ) (xs : List ℕ) → Has (x ∷ xs) (last_or x xs)
 Has-last x [] = inl refl
@@ -32,20 +30,6 @@ pub Steps-err : (f : Words → Words) (turn : Turn) (x : HostFault) (fault : Opt
 Steps-err f Done x fault old new is answer left = absurd (cc answer)
 Steps-err f Failed x fault old new is answer left = record { done = λ none. absurd (cc (is, none)); failed = λ _. left; cut = λ cut. absurd (cc (is, answer, cut)) }
 Steps-err f (Cut pick) x fault old new is answer left = record { done = λ none. absurd (cc (is, none)); failed = λ failed. absurd (cc (is, answer, failed)); cut = λ _. LosesPower-pick pick old new left }
-
-HasOnly-single : (c : Cell) → c ≡ single c.newest → HasOnly c c.newest
-HasOnly-single c is = record { each = λ x has. elim (subst (λ (d : Cell). Has (values d) x) is has) [ inl e ↦ e | inr none ↦ absurd none ] }
-
-pub IsRested-single : (words : Words) → AreSingle words → IsRested words
-IsRested-single words h = record { each = λ k. HasOnly-single (words k) (h.each k) }
-
-same_either : (b : Bool) (c : Cell) → c ≡ single c.newest → c ≡ single (cond b c.newest (durable c))
-same_either true c is = is
-same_either false c is = is ∙ ap single (sym (ap durable is))
-
--- where each word has one value, a loss changes no word
-pub lost-single : (pick : ℕ) (words : Words) → AreSingle words → words ≡ after_loss (image_of pick words) words
-lost-single pick words h = λ i k. (same_either (takes_newest pick k) (words k) (h.each k)) i
 
 -- pick 0 leaves each word's durable value, pick 1 each word's newest
 pub takes_newest-zero : (k : ℕ) → takes_newest 0 k ≡ false

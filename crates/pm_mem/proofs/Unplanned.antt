@@ -1,9 +1,8 @@
 -- Over a plan that lists nothing, with room left, no call fails, and only an armed cut cuts.
-use Rattle.std.proofs.Common.{◌≡◌, ℕ, ◌+◌, ◌<◌, ◌≤◌, Bool, true, false, cond, ◌||◌, eqb, ltb, leb, List, [], Option, Some, None, refl, ap, ◌∙◌, arith}
+use Rattle.std.proofs.Common.{◌≡◌, ℕ, ◌+◌, ◌<◌, ◌≤◌, Bool, false, cond, ◌||◌, eqb, ltb, List, [], Option, None, ap, ◌∙◌, arith}
 use Rattle.std.proofs.lemmas.Bool.Decides.{nat_tests}
 use Rattle.pm_mem.specs.declared.turns.Arm.{Arm}
-use Rattle.pm_mem.specs.declared.turns.Turn.{Turn}
-use Rattle.pm_mem.specs.declared.turns.Turn.TheVariants.{Done, Failed, Cut}
+use Rattle.pm_mem.specs.declared.turns.Turn.TheVariants.{Done, Failed}
 use Rattle.pm_mem.specs.declared.turns.Turns.{Turns}
 use Rattle.pm_mem.specs.Turns.{call_number, is_listed, call_fails, say_fails, planned, armed_now, first_of, pick_due, cut_or_done, turn_of}
 

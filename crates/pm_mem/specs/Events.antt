@@ -1,6 +1,6 @@
 -- What is told of the moments so far, from the words at the start and what happened since.
-use Rattle.std.specs.Prelude.{ℕ, ◌/◌, ◌%◌, ◌^◌, Bool, ◌||◌, ◌==◌, cond, List, [], ◌∷◌, Option, None, slice_index}
-use Rattle.pm_model.specs.Words.{Cell, durable, single, Words, Image, after_store, after_flush, after_fence, after_loss}
+use Rattle.std.specs.Prelude.{ℕ, ◌/◌, ◌%◌, ◌^◌, Bool, ◌||◌, ◌==◌, cond, List, [], ◌∷◌, None, slice_index}
+use Rattle.pm_model.specs.Words.{durable, single, Words, Image, after_store, after_flush, after_fence, after_loss}
 use Rattle.pm_model.specs.Moments.{Moment, State, stepped, one_said}
 use Rattle.pm_mem.specs.declared.event.Event.{Event}
 use Rattle.pm_mem.specs.declared.event.Event.TheVariants.{Store, Flush, Fence, Lost, Said, Blank}

@@ -5,3 +5,4 @@ pub mod Rows
 pub mod Device
 pub mod MemHost
 pub mod Shelves
+pub mod Examples

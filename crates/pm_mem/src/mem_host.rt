@@ -1,6 +1,5 @@
 //! A host in memory, which tells everything.
-ghost use Rattle.std.specs.Prelude.{◌≡◌, ℕ, ◌+◌, ◌-◌, ◌*◌, ◌/◌, ◌%◌, ◌<◌, ◌≤◌, cond, vec_len, vec_capacity};
-ghost use Rattle.std.specs.Prelude.{Some, OnOk, OnErr};
+ghost use Rattle.std.specs.Prelude.{◌≡◌, ℕ, ◌+◌, ◌-◌, ◌*◌, ◌/◌, ◌%◌, ◌<◌, ◌≤◌, cond, Some, OnOk, OnErr, vec_len, vec_capacity};
 ghost use Rattle.pm_model.specs.Calls.{shelved};
 ghost use Rattle.pm_mem.specs.Shelves.{shelf_of};
 
@@ -35,10 +34,9 @@ pub struct MemHost {
 }
 
 impl MemHost {
-    ghost use Rattle.std.specs.Prelude.{Some, None, true, false, [], OnOk, OnErr, IfOk, slice_index};
+    ghost use Rattle.std.specs.Prelude.{None, IfOk, slice_index};
     ghost use Rattle.pm_model.specs.Moments.{with_script, with_shelf};
     ghost use Rattle.pm_model.specs.Counts.{after_fault, fault_of};
-    ghost use Rattle.pm_model.specs.Calls.{shelved};
     ghost use Rattle.pm_mem.specs.Events.{fresh, always};
     ghost use Rattle.pm_mem.specs.Turns.{call_fails, after_call, turn_of, turn_fault, after_step, before_step};
     ghost use Rattle.pm_mem.specs.MemHost.{mem_state, mem_counts, mem_turns, mem_watch, answer, KeepsCounts, HasStepRoom};
@@ -62,30 +60,12 @@ impl MemHost {
         let moments = 2 * steps as usize + room as usize;
         Ok(MemHost {
             device: Device::new(alloc, words, moments, room as usize)?,
-            turns: Turns {
-                plan,
-                calls: 0,
-                steps: 0,
-                limit: steps,
-                room,
-                armed: None,
-            },
+            turns: Turns::new(plan, steps, room),
             script: Vec::from_slice(alloc, script)?,
             taken: 0,
             shelf: BTreeMap::new(alloc),
-            tally: Tally {
-                faults: 0,
-                cuts: 0,
-                arms: 0,
-                arm_steps: 0,
-                arm_pick: 0,
-                losses: 0,
-                loss_pick: 0,
-            },
-            watch: Watch {
-                word: None,
-                count: 0,
-            },
+            tally: Tally::new(),
+            watch: Watch::new(),
         })
     }
 
@@ -190,13 +170,12 @@ impl MemHost {
 }
 
 impl Host for MemHost {
-    ghost use Rattle.std.specs.Prelude.{Some, None, Option, Ok, ◌≢◌, ◌||◌, IfOk, OnErr, IsSome, take, option_map, length};
+    ghost use Rattle.std.specs.Prelude.{◌≢◌, IfOk, IsSome, take, option_map, length};
     ghost use Rattle.pm_model.specs.declared.host.HostFault.TheVariants as faults;
-    ghost use Rattle.pm_model.specs.declared.host.FileFault.TheVariants as file_faults;
     ghost use Rattle.pm_model.specs.Words.{after_store, after_flush, after_fence, after_loss};
     ghost use Rattle.pm_model.specs.Moments.{all_said, with_script, with_shelf};
     ghost use Rattle.pm_model.specs.Counts.{after_fault, after_arm, after_loss_of, fault_of, file_fault_of};
-    ghost use Rattle.pm_model.specs.Calls.{Armed, Steps, CountsDown, LosesAtOnce, TakesByte, Says, shelved, LeavesFile};
+    ghost use Rattle.pm_model.specs.Calls.{Steps, CountsDown, LosesAtOnce, TakesByte, Says, LeavesFile};
     ghost use Rattle.pm_mem.specs.Events.{image_of};
     ghost use Rattle.pm_mem.specs.Turns.{call_fails, after_call, call_fault, turn_of, turn_fault, after_step, after_turn, say_fails, after_say};
     ghost use Rattle.pm_mem.specs.Tallies.{after_load};

@@ -25,6 +25,20 @@ pub struct Watch {
 }
 
 impl Tally {
+    pub fn new() -> Tally
+        ensures { result ≡ record { faults = 0; cuts = 0; arms = 0; arm_steps = 0; arm_pick = 0; losses = 0; loss_pick = 0 } }
+    {
+        Tally {
+            faults: 0,
+            cuts: 0,
+            arms: 0,
+            arm_steps: 0,
+            arm_pick: 0,
+            losses: 0,
+            loss_pick: 0,
+        }
+    }
+
     /// Counts a fault.
     pub fn fault(&mut self) -> HostFault
         ensures is { result ≡ HostFault.Failed }
@@ -62,6 +76,16 @@ impl Tally {
 }
 
 impl Watch {
+    /// No word is watched.
+    pub fn new() -> Watch
+        ensures { result ≡ record { word = None; count = 0 } }
+    {
+        Watch {
+            word: None,
+            count: 0,
+        }
+    }
+
     /// Counts a load of that word, if it is the watched one.
     pub fn load(&mut self, w: u32)
         ensures { self.new ≡ after_load w self.old }

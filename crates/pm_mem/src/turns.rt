@@ -36,6 +36,20 @@ pub struct Turns {
 }
 
 impl Turns {
+    /// Before the first call.
+    pub fn new(plan: Plan, limit: u32, room: u32) -> Turns
+        ensures { result ≡ record { plan = plan; calls = 0; steps = 0; limit = limit; room = room; armed = None } }
+    {
+        Turns {
+            plan,
+            calls: 0,
+            steps: 0,
+            limit,
+            room,
+            armed: None,
+        }
+    }
+
     /// Counts a call that may fail, and says whether it does by the plan.
     pub fn call(&mut self) -> bool
         ensures fails { result ≡ call_fails self.old }

@@ -1,4 +1,4 @@
-use Rattle.std.proofs.Common.{◌≡◌, ℕ, ◌*◌, ◌<◌, ◌≤◌, ◌&&◌, cond, ltb, leb, length, get_or, vec_len}
+use Rattle.std.proofs.Common.{◌≡◌, ℕ, ◌<◌, ◌≤◌, get_or, vec_len}
 use Rattle.pm_mem.proofs.rows.copy_line.Given as goal
 
 abbrev pub invariant-loop-word : goal.invariant-loop-word

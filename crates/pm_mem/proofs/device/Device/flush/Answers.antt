@@ -1,11 +1,10 @@
-use Rattle.std.proofs.Common.{rules, ◌≡◌, ℕ, ◌/◌, ◌∷◌, [], cond, eqb, List, get_or, set, arith, refl, sym, ap, subst, ◌∙◌}
+use Rattle.std.proofs.Common.{rules, ℕ, ◌/◌, cond, eqb, List, get_or, sym, ap, subst, ◌∙◌}
 use Rattle.pm_model.specs.Moments.{State}
-use Rattle.pm_mem.specs.declared.event.Event.TheVariants.{Store, Flush, Fence, Lost, Said}
-use Rattle.pm_model.specs.Words.{after_fence, after_loss}
-use Rattle.pm_mem.specs.Events.{told_events, after, takes_newest, image_of}
-use Rattle.pm_mem.specs.Rows.{AreOf, AreSingle}
+use Rattle.pm_mem.specs.declared.event.Event.TheVariants.{Flush}
+use Rattle.pm_mem.specs.Events.{told_events}
+use Rattle.pm_mem.specs.Rows.{AreOf}
 use Rattle.pm_mem.proofs.Events.{told_after}
-use Rattle.pm_mem.proofs.Followed.{AreOf-store, AreOf-flush, AreOf-fence, AreOf-lost, AreSingle-lost}
+use Rattle.pm_mem.proofs.Followed.{AreOf-flush}
 use Rattle.pm_mem.proofs.device.Device.flush.Goals as goal
 
 pub invariant_of-self-clause-rows : goal.invariant_of-self-clause-rows

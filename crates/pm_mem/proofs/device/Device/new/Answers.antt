@@ -1,4 +1,4 @@
-use Rattle.std.proofs.Common.{◌∙◌, sym, ap}
+use Rattle.std.proofs.Common.{◌∙◌, sym}
 use Rattle.pm_mem.proofs.Followed.{AreOf-start, AreSingle-start, said-start, fresh-start}
 use Rattle.pm_mem.proofs.device.Device.new.Goals as goal
 

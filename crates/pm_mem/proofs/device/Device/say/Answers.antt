@@ -1,7 +1,7 @@
-use Rattle.std.proofs.Common.{rules, arith, ◌∙◌, sym, ap, List, ℕ, ◌+◌, get_or, take}
-use Rattle.std.proofs.lemmas.List.{take_more, take_all}
-use Rattle.pm_model.specs.Moments.{State, all_said, one_said}
-use Rattle.pm_mem.specs.Device.{device_state, GoesTo}
+use Rattle.std.proofs.Common.{arith, ◌∙◌, sym, ap, List, ℕ, get_or, take}
+use Rattle.std.proofs.lemmas.List.{take_more}
+use Rattle.pm_model.specs.Moments.{all_said, one_said}
+use Rattle.pm_mem.specs.Device.{device_state}
 use Rattle.pm_mem.proofs.Events.{all_said-push}
 use Rattle.pm_mem.proofs.device.Device.say.Goals as goal
 
