@@ -1,6 +1,5 @@
 //! The words of a device in memory, the bytes said, and what happened at each moment.
 ghost use Rattle.std.specs.Prelude.{◌≡◌, ℕ, ◌+◌, ◌*◌, ◌/◌, ◌<◌, ◌≤◌, false, true, map, vec_len, vec_capacity};
-ghost use Rattle.std.proofs.Props.{props};
 ghost use Rattle.pm_mem.specs.Events.{told_events, blanked};
 ghost use Rattle.pm_mem.specs.Rows.{AreOf, AreSingle};
 
@@ -25,9 +24,9 @@ pub struct Device {
     ghost newest_len: { vec_len newest ≡ words },
     ghost marked_len: { vec_len marked ≡ words },
     ghost durable_len: { vec_len durable ≡ words },
-    ghost rows: { AreOf newest.items marked.items durable.items (told_events initial.items events.items).now.words } by { Prim.hlevel props },
-    ghost replies: { said.items ≡ (told_events initial.items events.items).now.said } by { Prim.hlevel props },
-    ghost single: { moved ≡ false → AreSingle (told_events initial.items events.items).now.words } by { Prim.hlevel props },
+    ghost rows: { AreOf newest.items marked.items durable.items (told_events initial.items events.items).now.words },
+    ghost replies: { said.items ≡ (told_events initial.items events.items).now.said },
+    ghost single: { moved ≡ false → AreSingle (told_events initial.items events.items).now.words },
 }
 
 impl Device {
