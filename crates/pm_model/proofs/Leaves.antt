@@ -43,8 +43,8 @@ Leaves-changes P may fault old new each c =
         bytes = [];
         said = c.quiet m h ∙ sym (append-nil old.now.said);
         each = λ image picked.
-          let o = origin may old.now.words m.words image (c.within m h) picked in
-          (refl, each o.before image o.picked o.from);
+            let o = origin may old.now.words m.words image (c.within m h) picked in
+            (refl, each o.before image o.picked o.from);
       };
     }
 
@@ -144,7 +144,7 @@ Leaves-says bytes fault P old new each says =
 since_start : (added : List Moment) (old new : State) → new.now ∷ new.past ≡ added ++ old.now ∷ old.past → since (clock old) new ≡ added ++ old.now ∷ []
 since_start added old new e =
     let count : length (added ++ old.now ∷ old.past) - length old.past ≡ length (added ++ old.now ∷ []) =
-        omega (arith, length-append added (old.now ∷ old.past), length-append added (old.now ∷ [])) in
+    omega (arith, length-append added (old.now ∷ old.past), length-append added (old.now ∷ [])) in
     ap (λ (l : List Moment). take (length l - length old.past) l) e
     ∙ ap (λ (l : List Moment). take (length (added ++ old.now ∷ old.past) - length old.past) l) (sym (append_assoc added (old.now ∷ []) old.past))
     ∙ take_at (added ++ old.now ∷ []) old.past (length (added ++ old.now ∷ old.past) - length old.past) (sym count)

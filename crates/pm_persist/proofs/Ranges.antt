@@ -87,7 +87,7 @@ Writes-flushed write below from to fault s t u under lines stores flushes =
     record {
       changes = Changes-then (written write) fault s t u stores.changes (Changes-wider Nothing (written write) fault t u (λ k v none. absurd none) flushes.changes);
       newest = λ e k v is.
-        (flushes.changes.keeps (λ cut. let no : None ≡ Some Cut = sym e ∙ cut in none_is_not_some Cut no) k (λ x none. none)).newest ∙ stores.newest refl k v (under k v is) is;
+          (flushes.changes.keeps (λ cut. let no : None ≡ Some Cut = sym e ∙ cut in none_is_not_some Cut no) k (λ x none. none)).newest ∙ stores.newest refl k v (under k v is) is;
       marked = λ e k v is. flushes.marked e k (lines k v is).0 (lines k v is).1;
     }
 

@@ -73,7 +73,7 @@ module _ (F id : ℕ) where
   described s t u first second =
       let zero = zeroed_words s t first in
       let kept : (k : ℕ) → (k ≡ 0) ⊎ (4 < k) → k < frames_at F → HasOnly (u.now.words k) 0 = λ k outside below.
-          HasOnly-kept (may_be_written (placed VERSION_WORD (header F id))) None t u k 0 second.changes (λ x may. outside_header k x outside may) (zero k below) in
+      HasOnly-kept (may_be_written (placed VERSION_WORD (header F id))) None t u k 0 second.changes (λ x may. outside_header k x outside may) (zero k below) in
       record {
         magic = kept MAGIC_WORD (inl refl) (omega arith);
         version = second.durable refl VERSION_WORD VERSION refl;
@@ -121,18 +121,18 @@ module _ (F id : ℕ) where
   below_frames : (u v : State) → IsReadyForMagic u.now.words → ((k : ℕ) → (k ≡ MAGIC_WORD → ⊥) → (x : ℕ) → HasOnly (u.now.words k) x → HasOnly (v.now.words k) (v.now.words k).newest)
       → (k : ℕ) → (k ≡ MAGIC_WORD → ⊥) → k < frames_at F → HasOnly (v.now.words k) (v.now.words k).newest
   below_frames u v ready still k apart below = ⊎_elim
-    (λ behind. still k apart 0 (ready.rest k behind below))
-    (λ front. ⊎_elim
+      (λ behind. still k apart 0 (ready.rest k behind below))
+      (λ front. ⊎_elim
       (λ e. still k apart VERSION (subst (λ (n : ℕ). HasOnly (u.now.words n) VERSION) (sym e) ready.version))
       (λ not1. ⊎_elim
-        (λ e. still k apart id (subst (λ (n : ℕ). HasOnly (u.now.words n) id) (sym e) ready.machine))
-        (λ not2. ⊎_elim
-          (λ e. still k apart F (subst (λ (n : ℕ). HasOnly (u.now.words n) F) (sym e) ready.frames))
-          (λ not3. let last : k ≡ NEXT_NUMBER_WORD = omega arith in still k apart 1 (subst (λ (n : ℕ). HasOnly (u.now.words n) 1) (sym last) ready.number))
-          (cases_eq k FRAMES_WORD))
-        (cases_eq k MACHINE_WORD))
+      (λ e. still k apart id (subst (λ (n : ℕ). HasOnly (u.now.words n) id) (sym e) ready.machine))
+      (λ not2. ⊎_elim
+      (λ e. still k apart F (subst (λ (n : ℕ). HasOnly (u.now.words n) F) (sym e) ready.frames))
+      (λ not3. let last : k ≡ NEXT_NUMBER_WORD = omega arith in still k apart 1 (subst (λ (n : ℕ). HasOnly (u.now.words n) 1) (sym last) ready.number))
+      (cases_eq k FRAMES_WORD))
+      (cases_eq k MACHINE_WORD))
       (cases_eq k VERSION_WORD))
-    (cases_lt NEXT_NUMBER_WORD k)
+      (cases_lt NEXT_NUMBER_WORD k)
 
   faulty : (fault : HostFault) → Some fault ≡ None → ⊥
   faulty fault e = cc
@@ -165,22 +165,22 @@ module _ (F id : ℕ) where
       let ready = described s t u first second in
       let changes = Changes-then _ fault s u v two (Changes-wider _ _ fault u v magic_below third.changes) in
       let still : (k : ℕ) → (k ≡ MAGIC_WORD → ⊥) → (x : ℕ) → HasOnly (u.now.words k) x → HasOnly (v.now.words k) (v.now.words k).newest = λ k apart x one.
-          HasOnly-own (v.now.words k) x (HasOnly-kept _ fault u v k x third.changes (λ y may. apart (only_at MAGIC_WORD DEVICE_MAGIC k y may)) one) in
+      HasOnly-own (v.now.words k) x (HasOnly-kept _ fault u v k x third.changes (λ y may. apart (only_at MAGIC_WORD DEVICE_MAGIC k y may)) one) in
       record {
         changes = changes;
         moments = λ none. silent (IsOnTheWay F id) _ s u v two
             (silent (IsOnTheWay F id) _ s t u first.changes (zeroing None s t first none) (describing None t u (zeroed_words s t first MAGIC_WORD (omega arith)) second))
             (finishing fault u v ready third);
         blank = λ e image picked.
-          let w = image_after_one MAGIC_WORD DEVICE_MAGIC u v image (subst (λ (f : Option HostFault). Persists (only MAGIC_WORD DEVICE_MAGIC) f u v) e third) picked in
-          subst (λ (f : Image). IsBlank F id f) (sym w.is) (blank_with_magic u.now.words w.before ready w.picked);
+            let w = image_after_one MAGIC_WORD DEVICE_MAGIC u v image (subst (λ (f : Option HostFault). Persists (only MAGIC_WORD DEVICE_MAGIC) f u v) e third) picked in
+            subst (λ (f : Image). IsBlank F id f) (sym w.is) (blank_with_magic u.now.words w.before ready w.picked);
         rested = λ e held. record {
           each = λ k. ⊎_elim
-            (λ below. ⊎_elim
+              (λ below. ⊎_elim
               (λ first_word. HasOnly-own (v.now.words k) DEVICE_MAGIC (third.durable e k DEVICE_MAGIC (ap (λ (n : ℕ). only MAGIC_WORD DEVICE_MAGIC n) first_word)))
               (λ apart. below_frames u v ready still k apart below)
               (cases_eq k MAGIC_WORD))
-            (λ beyond. HasOnly-own (v.now.words k) (s.now.words k).newest (HasOnly-kept (BelowFrames F) fault s v k (s.now.words k).newest changes (λ x may. absurd (omega arith)) (held.each k)))
-            (cases_lt k (frames_at F));
+              (λ beyond. HasOnly-own (v.now.words k) (s.now.words k).newest (HasOnly-kept (BelowFrames F) fault s v k (s.now.words k).newest changes (λ x may. absurd (omega arith)) (held.each k)))
+              (cases_lt k (frames_at F));
         };
       }

@@ -44,9 +44,9 @@ module _ (size : ℕ) (w : World) (start : State) (rested : IsRested start.now.w
   start_moments turns fault now s =
       Leaves-weaker _ _ start now
       (λ bytes image m.
-        let part = newlines_part bytes m.0.rest in
-        let one = ap newlines (sym m.0.is) ∙ newlines-start_text in
-        stands_at_start turns (newlines bytes) image (omega arith) (each_stands image m.1)) s.moments
+      let part = newlines_part bytes m.0.rest in
+      let one = ap newlines (sym m.0.is) ∙ newlines-start_text in
+      stands_at_start turns (newlines bytes) image (omega arith) (each_stands image m.1)) s.moments
 
   -- the host failed within the start
   pub Headline-in_start : (status : ℕ) (fault : HostFault) (now : State) → status_fault status ≡ Some fault → start.shelf ≡ w.shelf → Starts (Some fault) start now → Headline size w status start now
@@ -90,7 +90,7 @@ module _ (size : ℕ) (w : World) (start : State) (rested : IsRested start.now.w
       → Answered size w ended fault mid now → Headline size w status start now
   Headline-behind_start status ended fault mid now shelf s kept is done too_long a =
       let first : mid.now.said ≡ start.now.said ++ start_text =
-          s.says.said ∙ ap (λ (l : List ℕ). start.now.said ++ l) (sym (s.says.part ∙ ap (λ (l : List ℕ). s.says.bytes ++ l) (s.says.whole refl) ∙ append-nil s.says.bytes)) in
+      s.says.said ∙ ap (λ (l : List ℕ). start.now.said ++ l) (sym (s.says.part ∙ ap (λ (l : List ℕ). s.says.bytes ++ l) (s.says.whole refl) ∙ append-nil s.says.bytes)) in
       record {
         taken = a.taken;
         ended = ended;
@@ -105,16 +105,16 @@ module _ (size : ℕ) (w : World) (start : State) (rested : IsRested start.now.w
         said = said_behind mid now (replies_text a.answered) a.more first a.said;
         how_far = inr (record { more = a.more; rest = a.rest; said = refl; part = a.part });
         whole = λ none.
-          let nothing = a.whole (sym is ∙ none) in
-          let no_more = nothing_more a.more a.rest (ap replies_text (sym nothing) ∙ a.part) in
-          (nothing, ap (λ (l : List ℕ). start_text ++ replies_text a.answered ++ l) no_more ∙ append-nil (start_text ++ replies_text a.answered));
+            let nothing = a.whole (sym is ∙ none) in
+            let no_more = nothing_more a.more a.rest (ap replies_text (sym nothing) ∙ a.part) in
+            (nothing, ap (λ (l : List ℕ). start_text ++ replies_text a.answered ++ l) no_more ∙ append-nil (start_text ++ replies_text a.answered));
         all_lines = done;
         not_ended = too_long;
         ends = λ none. (a.ready (sym is ∙ none)).stands;
         shelf = kept ∙ s.shelf ∙ shelf;
         moments = Leaves-then _ (StandsWith size w (a.answered ++ a.pending)) _ start_text start mid now first
-          (λ front image p. p)
-          (λ more image p. subst (λ (n : ℕ). StandsBehindStart size w (a.answered ++ a.pending) n image)
+            (λ front image p. p)
+            (λ more image p. subst (λ (n : ℕ). StandsBehindStart size w (a.answered ++ a.pending) n image)
             (sym (newlines-append start_text more ∙ ap (λ (n : ℕ). n + newlines more) newlines-start_text ∙ one-add (newlines more))) p)
-          (start_moments (a.answered ++ a.pending) None mid s) a.moments;
+            (start_moments (a.answered ++ a.pending) None mid s) a.moments;
       }

@@ -28,7 +28,10 @@ pub fn mode_of(words: &[String]) -> Option<Mode>
 {
     match words {
         [_, word] if word.as_str() == "run" => Some(Mode::Run),
-        [_, word, frames, id] if word.as_str() == "format" => format_of(frames.as_bytes(), id.as_bytes()),
+        [_, word, frames, id] if word.as_str() == "format" => format_of(
+            frames.as_bytes(),
+            id.as_bytes(),
+        ),
         _ => None,
     }
 }

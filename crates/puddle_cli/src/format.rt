@@ -9,7 +9,9 @@ ghost use Rattle.puddle_cli.specs.Formatting.{is_refused, LaysOut, Formats};
 use crate::status::{DONE, NOT_USABLE, TOO_LONG, status_of};
 use pm_model::{Host, HostFault};
 use pm_persist::{persist_range, persist_word, zero_range};
-use pud_defs::layout::{DEVICE_MAGIC, MAGIC_WORD, MAX_FRAMES, VERSION, VERSION_WORD, device_words, frames_at};
+use pud_defs::layout::{
+    DEVICE_MAGIC, MAGIC_WORD, MAX_FRAMES, VERSION, VERSION_WORD, device_words, frames_at,
+};
 
 /// The number that the first pool or puddle draws.
 const FIRST_NUMBER: u64 = 1;
@@ -23,7 +25,11 @@ fn lay_out<H: Host>(h: &mut H, frames: u32, id: u64) -> Result<(), HostFault>
     ensures cause { H.counts h.new ≡ after_fault (fault_of result) (H.counts h.old) }
 {
     zero_range(h, MAGIC_WORD, frames_at(frames))?;
-    persist_range(h, VERSION_WORD, &[VERSION, id, u64::from(frames), FIRST_NUMBER])?;
+    persist_range(
+        h,
+        VERSION_WORD,
+        &[VERSION, id, u64::from(frames), FIRST_NUMBER],
+    )?;
     persist_word(h, MAGIC_WORD, DEVICE_MAGIC)
 }
 

@@ -8,4 +8,51 @@ mod run;
 mod status;
 mod top;
 
-fn main() {}
+use crate::command_line::mode_of;
+use crate::status::{DEVICE_FAULT, NO_MEMORY, USAGE, message_of};
+use crate::top::puddle_main;
+use pm_file::FileHost;
+use pm_model::FileFault;
+use std::env;
+use std::io;
+use std::process::ExitCode;
+
+/// The words of the command line, or the status where they cannot be had: words that are not UTF-8 are no mode.
+fn words_of(rt: &HostRuntime) -> Result<Vec<String>, u8> {
+    let arguments = match env::args(rt) {
+        Ok(arguments) => arguments,
+        Err(error) if error.kind() == io::ErrorKind::OutOfMemory => return Err(NO_MEMORY),
+        Err(_) => return Err(USAGE),
+    };
+    let mut words = Vec::new(rt.alloc());
+    for word in arguments {
+        if words.push(word).is_err() {
+            return Err(NO_MEMORY);
+        }
+    }
+    Ok(words)
+}
+
+/// Does what the words ask for on the file `puddles.pm` of the current folder. Words that are no mode touch no file.
+fn status_with(rt: &HostRuntime) -> u8 {
+    let words = match words_of(rt) {
+        Ok(words) => words,
+        Err(status) => return status,
+    };
+    if mode_of(&words).is_none() {
+        return USAGE;
+    }
+    match FileHost::open(rt, rt.alloc()) {
+        Ok(mut host) => puddle_main(rt.alloc(), &words, &mut host),
+        Err(FileFault::Memory) => NO_MEMORY,
+        Err(FileFault::Host(_)) => DEVICE_FAULT,
+    }
+}
+
+fn main(rt: HostRuntime) -> ExitCode {
+    let status = status_with(&rt);
+    if let Some(message) = message_of(status) {
+        let _ = eprintln!(rt; "{message}");
+    }
+    ExitCode::from(status)
+}

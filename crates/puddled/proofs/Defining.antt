@@ -39,9 +39,9 @@ module _ (size : ℕ) (w : World) (image : Image) (id map : ℕ) (stands : Stand
 
   found_by : (found : Option ℕ) → map_of id types ≡ found → cond (is_some found) None (first_free image 0 TYPE_RECORDS) ≡ None → unless_refused (refusal_of w (Define id map)) w (after w (Define id map)) ≡ w
   found_by (Some other) e none = ⊎_elim
-    (λ same. ap (λ (o : Option Refusal). unless_refused o w (after w (Define id map))) (define-same w id map (e ∙ ap Some same)) ∙ after-same w id map (types_sorted size image (closed w) stands) (e ∙ ap Some same))
-    (λ apart. ap (λ (o : Option Refusal). unless_refused o w (after w (Define id map))) (define-clash w id map other e apart))
-    (cases_eq other map)
+      (λ same. ap (λ (o : Option Refusal). unless_refused o w (after w (Define id map))) (define-same w id map (e ∙ ap Some same)) ∙ after-same w id map (types_sorted size image (closed w) stands) (e ∙ ap Some same))
+      (λ apart. ap (λ (o : Option Refusal). unless_refused o w (after w (Define id map))) (define-clash w id map other e apart))
+      (cases_eq other map)
   found_by None e none =
       let many = full_of_world size image (closed w) stands none in
       ap (λ (o : Option Refusal). unless_refused o w (after w (Define id map))) (define-full w id map e (omega arith))
@@ -107,15 +107,18 @@ new_applies size w id map r fault old new ready legal_id legal_map place d =
     let high = is_new.lowest.high in
     let free = free_in size w old id map r ready is_new in
     let gives : (image : Image) → Picks old.now.words image → world_of size (defined r id map image) ≡ Some (closed (after w (Define id map))) = λ image picked.
-        world_of-defined size image (closed w) r id map (ready.stands image picked) (omega arith) (free image picked) legal_id legal_map is_new.missing ∙ ap Some (sym (closed_after w id map)) in
+    world_of-defined size image (closed w) r id map (ready.stands image picked) (omega arith) (free image picked) legal_id legal_map is_new.missing ∙ ap Some (sym (closed_after w id map)) in
     subst (λ (v : World). Applies size w v fault old new) (sym is_new.world) (record {
-      moments = Leaves-weaker _ _ old new (λ bytes image m. (m.0, elim m.1.is [
-        | inl same ↦ inl (ap (world_of size) same ∙ ready.stands m.1.before m.1.picked)
-        | inr more ↦ elim more [
-          | inl half ↦ inl (ap (world_of size) half ∙ world_of-map_written size m.1.before (closed w) r map (ready.stands m.1.before m.1.picked) (omega arith) (free m.1.before m.1.picked))
-          | inr whole ↦ inr (ap (world_of size) whole ∙ gives m.1.before m.1.picked)
-        ]
-      ])) d.moments;
+      moments = Leaves-weaker _ _ old new (λ bytes image m. (
+        m.0,
+        elim m.1.is [
+          | inl same ↦ inl (ap (world_of size) same ∙ ready.stands m.1.before m.1.picked)
+          | inr more ↦ elim more [
+            | inl half ↦ inl (ap (world_of size) half ∙ world_of-map_written size m.1.before (closed w) r map (ready.stands m.1.before m.1.picked) (omega arith) (free m.1.before m.1.picked))
+            | inr whole ↦ inr (ap (world_of size) whole ∙ gives m.1.before m.1.picked)
+          ]
+        ],
+      )) d.moments;
       quiet = Changes-said _ fault old new d.changes;
       ready = λ none. record {
         stands = λ image picked. let h = d.done none image picked in ap (world_of size) h.is ∙ gives h.before h.picked;

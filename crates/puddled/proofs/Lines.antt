@@ -150,9 +150,9 @@ Answers-said size w line fault old mid new a says =
       of_line = refl;
       is_turn = is_turn_of w line;
       moments = Leaves-then (StandsWith size w (t ∷ [])) (StandsWith size w (t ∷ [])) (StandsWith size w (t ∷ [])) [] old mid new (a.quiet ∙ sym (append-nil old.now.said))
-        (λ front image p. p) (λ more image p. p)
-        (silent_moments size w line None old mid a)
-        (Leaves-says text fault (StandsWith size w (t ∷ [])) mid new
+          (λ front image p. p) (λ more image p. p)
+          (silent_moments size w line None old mid a)
+          (Leaves-says text fault (StandsWith size w (t ∷ [])) mid new
           (λ front image prefix picked. stands_by_count size w line (newlines front) image (front_of_reply (step_reply w line) front prefix) (ready.stands image picked)) says);
       says = record { bytes = part.bytes; rest = part.rest; part = part.part; said = part.said ∙ ap (λ (l : List ℕ). l ++ part.bytes) a.quiet; whole = part.whole };
       ready = λ none. IsReady-said size (step_world w line) mid new (words_said text fault mid new says) (shelf_said text fault mid new says) ready;

@@ -45,16 +45,16 @@ again image ids id (suc n) few fits above read =
     let here : get_or ids n 0 ≡ image (type_record_at from) = read n (omega arith) in
     let so_far = again image ids id n (omega arith) (omega arith) above (λ k less. read k (omega arith)) in
     let taken : list_any (λ y. eqb y id) (take (suc n) ids) ≡ (list_any (λ y. eqb y id) (take n ids) || (eqb (get_or ids n 0) id || false)) =
-        ap (λ (l : List ℕ). list_any (λ y. eqb y id) l) (let more : take (n + 1) ids ≡ take n ids ++ get_or ids n 0 ∷ [] = take_more ids n 0 (omega arith) in rw add-one at more)
-        ∙ list_any-append (λ y. eqb y id) (take n ids) (get_or ids n 0 ∷ []) in
+    ap (λ (l : List ℕ). list_any (λ y. eqb y id) l) (let more : take (n + 1) ids ≡ take n ids ++ get_or ids n 0 ∷ [] = take_more ids n 0 (omega arith) in rw add-one at more)
+    ∙ list_any-append (λ y. eqb y id) (take n ids) (get_or ids n 0 ∷ []) in
     let records : map_of id (last_records image (suc n)) ≡ map_of id (type_records image from (TYPE_RECORDS - from)) =
-        ap (λ (rs : List (ℕ × ℕ)). map_of id rs) (let same = same_records image n from refl below in rw add-one at same) in
+    ap (λ (rs : List (ℕ × ℕ)). map_of id rs) (let same = same_records image n from refl below in rw add-one at same) in
     ⊎_elim
-      (λ same. ap is_none (records ∙ map_of_record image id from TYPE_RECORDS (omega arith) above (sym here ∙ same))
-          ∙ sym (ap not (taken ∙ ap (λ (b : Bool). list_any (λ y. eqb y id) (take n ids) || (b || false)) (eq-eqb (get_or ids n 0) id same) ∙ or-true (list_any (λ y. eqb y id) (take n ids)))))
-      (λ other. ap is_none (records ∙ map_of_record_other image id from TYPE_RECORDS (omega arith) (λ e. other (here ∙ e)) ∙ ap (λ (rs : List (ℕ × ℕ)). map_of id rs) (records_behind image n from refl below))
-          ∙ so_far ∙ sym (ap not (taken ∙ ap (λ (b : Bool). list_any (λ y. eqb y id) (take n ids) || (b || false)) (ne_eqb (get_or ids n 0) id other) ∙ or-false (list_any (λ y. eqb y id) (take n ids)))))
-      (cases_eq (get_or ids n 0) id)
+    (λ same. ap is_none (records ∙ map_of_record image id from TYPE_RECORDS (omega arith) above (sym here ∙ same))
+    ∙ sym (ap not (taken ∙ ap (λ (b : Bool). list_any (λ y. eqb y id) (take n ids) || (b || false)) (eq-eqb (get_or ids n 0) id same) ∙ or-true (list_any (λ y. eqb y id) (take n ids)))))
+    (λ other. ap is_none (records ∙ map_of_record_other image id from TYPE_RECORDS (omega arith) (λ e. other (here ∙ e)) ∙ ap (λ (rs : List (ℕ × ℕ)). map_of id rs) (records_behind image n from refl below))
+    ∙ so_far ∙ sym (ap not (taken ∙ ap (λ (b : Bool). list_any (λ y. eqb y id) (take n ids) || (b || false)) (ne_eqb (get_or ids n 0) id other) ∙ or-false (list_any (λ y. eqb y id) (take n ids)))))
+    (cases_eq (get_or ids n 0) id)
 
 -- a used record: its own test, its id among those behind, and these
 pub legal_used : (image : Image) (ids : List ℕ) (n : ℕ) → n < TYPE_RECORDS → n ≤ length ids → (image (type_record_at (63 - n)) ≡ 0 → ⊥) → ((k : ℕ) → k < n → get_or ids k 0 ≡ image (type_record_at (63 - k)))
@@ -76,10 +76,10 @@ legal_more image ids n id map below fits id_is map_is read =
     let legal = are_legal_types (last_records image n) in
     let again_by = λ (x : ℕ). list_any (λ y. eqb y x) (take n ids) in
     let words : with_one_more id map (again_by id) legal ≡ with_one_more (image (type_record_at (63 - n))) (image (type_record_at (63 - n) + 1)) (again_by (image (type_record_at (63 - n)))) legal =
-        ap₂ (λ (x m : ℕ). with_one_more x m (again_by x) legal) id_is map_is in
+    ap₂ (λ (x m : ℕ). with_one_more x m (again_by x) legal) id_is map_is in
     words ∙ ⊎_elim
-      (λ free. ap (λ (b : Bool). cond b legal (is_legal_type_id (image (type_record_at (63 - n))) && is_legal_map (image (type_record_at (63 - n) + 1)) && not (again_by (image (type_record_at (63 - n)))) && legal)) (eq-eqb (image (type_record_at (63 - n))) 0 free)
-          ∙ sym (legal_free image n below free))
-      (λ used. ap (λ (b : Bool). cond b legal (is_legal_type_id (image (type_record_at (63 - n))) && is_legal_map (image (type_record_at (63 - n) + 1)) && not (again_by (image (type_record_at (63 - n)))) && legal)) (ne_eqb (image (type_record_at (63 - n))) 0 used)
-          ∙ sym (legal_used image ids n below fits used read))
-      (cases_eq (image (type_record_at (63 - n))) 0)
+    (λ free. ap (λ (b : Bool). cond b legal (is_legal_type_id (image (type_record_at (63 - n))) && is_legal_map (image (type_record_at (63 - n) + 1)) && not (again_by (image (type_record_at (63 - n)))) && legal)) (eq-eqb (image (type_record_at (63 - n))) 0 free)
+    ∙ sym (legal_free image n below free))
+    (λ used. ap (λ (b : Bool). cond b legal (is_legal_type_id (image (type_record_at (63 - n))) && is_legal_map (image (type_record_at (63 - n) + 1)) && not (again_by (image (type_record_at (63 - n)))) && legal)) (ne_eqb (image (type_record_at (63 - n))) 0 used)
+    ∙ sym (legal_used image ids n below fits used read))
+    (cases_eq (image (type_record_at (63 - n))) 0)

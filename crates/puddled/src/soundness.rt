@@ -9,8 +9,9 @@ ghost use Rattle.puddled.specs.Soundness.{IsRoomFor, frames_by, frames_described
 
 use pm_model::{Host, HostFault};
 use pud_defs::layout::{
-    DAEMON_LOG, DEVICE_MAGIC, FRAMES_WORD, MAGIC_WORD, MAX_FRAMES, MIN_FRAMES, NEXT_NUMBER_WORD, NUMBER_LIMIT,
-    POOL_TABLE, TYPE_RECORD_WORDS, TYPE_RECORDS, TYPE_TABLE, VERSION, VERSION_WORD, device_words, tables_end,
+    DAEMON_LOG, DEVICE_MAGIC, FRAMES_WORD, MAGIC_WORD, MAX_FRAMES, MIN_FRAMES, NEXT_NUMBER_WORD,
+    NUMBER_LIMIT, POOL_TABLE, TYPE_RECORD_WORDS, TYPE_RECORDS, TYPE_TABLE, VERSION, VERSION_WORD,
+    device_words, tables_end,
 };
 use pud_defs::type_map::{is_legal_map, is_legal_type_id};
 

@@ -54,25 +54,25 @@ Defines-both r id map fault s t u first second =
     let P = Silently (IsDefining s.now.words r id map) in
     let said = Changes-said (may_be_written (only (type_record_at r + 1) map)) None s t first.changes in
     let later = Leaves-changes (IsDefining s.now.words r id map) (may_be_written (only (type_record_at r) id)) fault t u
-        (λ half image picked from.
-          let w = image_after_one (type_record_at r + 1) map s t half first picked in
-          record {
-            before = w.before;
-            picked = w.picked;
-            is = elim (image_of_one (type_record_at r) id half image from) [
-              | inl same ↦ inr (inl (same ∙ w.is))
-              | inr new ↦ inr (inr (new ∙ ap (λ (f : Image). written (type_record_at r) id f) w.is))
-            ];
-          }) second.changes in
+    (λ half image picked from.
+    let w = image_after_one (type_record_at r + 1) map s t half first picked in
+    record {
+      before = w.before;
+      picked = w.picked;
+      is = elim (image_of_one (type_record_at r) id half image from) [
+        | inl same ↦ inr (inl (same ∙ w.is))
+        | inr new ↦ inr (inr (new ∙ ap (λ (f : Image). written (type_record_at r) id f) w.is))
+      ];
+    }) second.changes in
     record {
       changes = Changes-then (may_be_written (record_write r id map)) fault s t u
           (Changes-wider (may_be_written (only (type_record_at r + 1) map)) (may_be_written (record_write r id map)) None s t (map_is_written r id map) first.changes)
           (Changes-wider (may_be_written (only (type_record_at r) id)) (may_be_written (record_write r id map)) fault t u (id_is_written r id map) second.changes);
       moments = Leaves-then P P P [] s t u (said ∙ sym (append-nil s.now.said)) (λ front image p. p) (λ more image p. p) (first_images r id map None s t first.changes) later;
       done = λ none image picked.
-        let w = image_after_one (type_record_at r) id t u image (subst (λ (f : Option HostFault). Persists (only (type_record_at r) id) f t u) none second) picked in
-        let half = image_after_one (type_record_at r + 1) map s t w.before first w.picked in
-        record { before = half.before; picked = half.picked; is = w.is ∙ ap (λ (f : Image). written (type_record_at r) id f) half.is };
+          let w = image_after_one (type_record_at r) id t u image (subst (λ (f : Option HostFault). Persists (only (type_record_at r) id) f t u) none second) picked in
+          let half = image_after_one (type_record_at r + 1) map s t w.before first w.picked in
+          record { before = half.before; picked = half.picked; is = w.is ∙ ap (λ (f : Image). written (type_record_at r) id f) half.is };
       durable = λ none held. record {
         each = λ k low high. elim (cases_eq k (type_record_at r)) [
           | inl id_word ↦ HasOnly-own (u.now.words k) id (second.durable none k id (rw (eq-eqb k (type_record_at r) id_word) refl))

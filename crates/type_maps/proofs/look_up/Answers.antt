@@ -30,17 +30,17 @@ loop-record-preserved g c = record {
   counts = c.load.ensures.cause ∙ ap (λ r. after_fault (fault_of r) (g.H.Host.counts c.loop-record.h)) c.in_ok-used_by.was ∙ c.loop-record.invariant.counts;
   stays = λ t. c.load.ensures.state t ∙ c.loop-record.invariant.stays t;
   place = λ t.
-    let i = c.loop-record.record in
-    let image = reads (g.H.Host.state c.args.h.now).now.words in
-    let word : c.in_ok-used_by.used_by ≡ image (type_record_at i) = c.in_ok-used_by.ensures.value t ∙ ap (λ (s : State). reads s.now.words (type_record_at i)) (c.loop-record.invariant.stays t) in
-    c.loop-record.invariant.place t ∙ elim c.if-used_by-eq0.branch [
-      | then-used_by-eq0 w ↦
-          let empty : image (type_record_at i) ≡ 0 = omega arith in
-          place_from-free image c.args.id c.loop-record.free i (omega arith) empty ∙ ap (λ (f : Option ℕ). place_from image c.args.id f (i + 1)) (sym (w.free-is ∙ w.or-free.ensures))
-      | else-used_by-eq0+else-used_by-from w ↦
-          place_from-other image c.args.id c.loop-record.free i (omega arith) (λ zero. absurd (omega arith)) (λ same. absurd (omega arith))
-          ∙ ap (λ (f : Option ℕ). place_from image c.args.id f (i + 1)) (sym w.free-is)
-    ];
+      let i = c.loop-record.record in
+      let image = reads (g.H.Host.state c.args.h.now).now.words in
+      let word : c.in_ok-used_by.used_by ≡ image (type_record_at i) = c.in_ok-used_by.ensures.value t ∙ ap (λ (s : State). reads s.now.words (type_record_at i)) (c.loop-record.invariant.stays t) in
+      c.loop-record.invariant.place t ∙ elim c.if-used_by-eq0.branch [
+        | then-used_by-eq0 w ↦
+            let empty : image (type_record_at i) ≡ 0 = omega arith in
+            place_from-free image c.args.id c.loop-record.free i (omega arith) empty ∙ ap (λ (f : Option ℕ). place_from image c.args.id f (i + 1)) (sym (w.free-is ∙ w.or-free.ensures))
+        | else-used_by-eq0+else-used_by-from w ↦
+            place_from-other image c.args.id c.loop-record.free i (omega arith) (λ zero. absurd (omega arith)) (λ same. absurd (omega arith))
+            ∙ ap (λ (f : Option ℕ). place_from image c.args.id f (i + 1)) (sym w.free-is)
+      ];
 }
 
 pub returns-in-Some-clause-place : goal.returns-in-Some-clause-place

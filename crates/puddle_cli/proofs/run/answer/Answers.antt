@@ -14,9 +14,9 @@ pub returns-in_err-exec-clause-answers : goal.returns-in_err-exec-clause-answers
 returns-in_err-exec-clause-answers g c =
     let p = err_from_is_err_and c.from_residual.result c.from_residual.ensures.1 in
     rw (p.1, p.2) (λ t size e w ready line kept.
-      let some : c.args.piece.now ≡ [] → ⊥ = λ none. let no : true ≡ false = sym (c.is_empty.ensures.1 none) ∙ c.if-is_empty.false in cc in
-      let answers = rw c.bytes.ensures at (c.in_err-exec.ensures.answers t size e w ready) in
-      AnswersLine-turn size w c.args.piece.now line _ _ _ some kept answers)
+    let some : c.args.piece.now ≡ [] → ⊥ = λ none. let no : true ≡ false = sym (c.is_empty.ensures.1 none) ∙ c.if-is_empty.false in cc in
+    let answers = rw c.bytes.ensures at (c.in_err-exec.ensures.answers t size e w ready) in
+    AnswersLine-turn size w c.args.piece.now line _ _ _ some kept answers)
 
 pub returns-clause-answers : goal.returns-clause-answers
 returns-clause-answers g c = λ t size e w ready line kept.

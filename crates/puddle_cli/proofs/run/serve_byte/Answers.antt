@@ -17,10 +17,10 @@ pub returns-in_err-answer-in-Some-eq10-clause-answered : goal.returns-in_err-ans
 returns-in_err-answer-in-Some-eq10-clause-answered g c =
     let p = err_from_is_err_and c.from_residual-in_err-answer-in-Some-eq10.result c.from_residual-in_err-answer-in-Some-eq10.ensures.1 in
     rw (p.1, p.2) (λ t size e w start s.
-      let took = rw c.in-Some-eq10.is at (c.in_ok-read.ensures.taken t) in
-      let ready = ready_read size w start _ _ c.args.piece.now (Some c.in-Some-eq10.field-0) s took in
-      let line = c.in_err-answer-in-Some-eq10.ensures.answers t size (e ∙ sym (ap (λ (x : Counts). x.size) c.in_ok-read.ensures.cause)) (last_world w s.turns) ready (open_rest s.taken) s.under_way in
-      Answered-newline size w start _ _ c.args.piece.now s c.in-Some-eq10.field-0 _ _ c.in-Some-eq10.field-0-test took line)
+    let took = rw c.in-Some-eq10.is at (c.in_ok-read.ensures.taken t) in
+    let ready = ready_read size w start _ _ c.args.piece.now (Some c.in-Some-eq10.field-0) s took in
+    let line = c.in_err-answer-in-Some-eq10.ensures.answers t size (e ∙ sym (ap (λ (x : Counts). x.size) c.in_ok-read.ensures.cause)) (last_world w s.turns) ready (open_rest s.taken) s.under_way in
+    Answered-newline size w start _ _ c.args.piece.now s c.in-Some-eq10.field-0 _ _ c.in-Some-eq10.field-0-test took line)
 
 pub returns-in_err-answer-in-Some-eq10-clause-takes : goal.returns-in_err-answer-in-Some-eq10-clause-takes
 returns-in_err-answer-in-Some-eq10-clause-takes g c = λ t count start so_far.

@@ -23,6 +23,6 @@ returns-in_ok-tables-in-Some-clause-sound g c = λ t.
     let types = c.in_ok-types-in-Some.ensures.legal t ∙ ap (λ (s : State). has_legal_types (reads s.now.words)) first in
     let log = c.in_ok-log-in-Some.ensures.zero t ∙ ap (λ (s : State). are_zero (reads s.now.words) DAEMON_LOG (DAEMON_LOG + 1 - DAEMON_LOG)) second in
     let tables = c.in_ok-tables-in-Some.ensures.zero t ∙ ap (λ (s : State). are_zero (reads s.now.words) POOL_TABLE (c.tables_end.result - POOL_TABLE)) third
-        ∙ ap (λ (n : ℕ). are_zero image POOL_TABLE (n - POOL_TABLE)) c.tables_end.ensures in
+    ∙ ap (λ (n : ℕ). are_zero image POOL_TABLE (n - POOL_TABLE)) c.tables_end.ensures in
     let described = sym (c.in_ok-described_frames.ensures.frames t) ∙ c.in-Some.is in
     c.are_all.ensures ∙ (λ i. types i && log i && tables i) ∙ sym (sound_parts size image frames described)

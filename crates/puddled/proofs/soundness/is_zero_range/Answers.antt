@@ -18,8 +18,8 @@ loop-at-preserved g c =
       counts = c.in_ok-load.ensures.cause ∙ c.loop-at.invariant.counts;
       stays = λ t. c.load.ensures.state t ∙ c.loop-at.invariant.stays t;
       zero = λ t.
-        let word = c.in_ok-load.ensures.value t ∙ ap (λ (s : State). reads s.now.words c.loop-at.at) (c.loop-at.invariant.stays t) in
-        c.loop-at.invariant.zero t ∙ are_zero_more image c.loop-at.at c.args.to (omega arith) (sym word ∙ c.if-branch-ne0.false);
+          let word = c.in_ok-load.ensures.value t ∙ ap (λ (s : State). reads s.now.words c.loop-at.at) (c.loop-at.invariant.stays t) in
+          c.loop-at.invariant.zero t ∙ are_zero_more image c.loop-at.at c.args.to (omega arith) (sym word ∙ c.if-branch-ne0.false);
     }
 
 pub returns-clause-zero : goal.returns-clause-zero

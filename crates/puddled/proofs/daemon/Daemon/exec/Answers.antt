@@ -18,8 +18,8 @@ pub returns-in_err-say_reply-clause-answers : goal.returns-in_err-say_reply-clau
 returns-in_err-say_reply-clause-answers g c =
     let p = err_from_is_err_and c.from_residual-in_err-say_reply.result c.from_residual-in_err-say_reply.ensures.1 in
     rw (p.1, p.2, c.if-aloud.true) (λ t size e w ready.
-      let said = rw (c.in_ok-reply.ensures.reply t size e w ready) at (c.in_err-say_reply.ensures.says t) in
-      Answers-said size w c.args.line.now _ _ _ _ (c.in_ok-reply.ensures.applies t size e w ready) said)
+    let said = rw (c.in_ok-reply.ensures.reply t size e w ready) at (c.in_err-say_reply.ensures.says t) in
+    Answers-said size w c.args.line.now _ _ _ _ (c.in_ok-reply.ensures.applies t size e w ready) said)
 
 pub returns-clause-answers : goal.returns-clause-answers
 returns-clause-answers g c = λ t size e w ready. elim c.if-aloud.branch [
