@@ -1,10 +1,10 @@
 -- How the calls of a host compose: from one step to many.
-use Rattle.std.proofs.Common.{◌≡◌, ◌≢◌, ◌⊎◌, inl, inr, ℕ, ◌/◌, List, [], ◌∷◌, ◌++◌, Option, Some, None, refl, sym, ap, subst, ◌∙◌, append_assoc}
+use Rattle.std.proofs.Common.{◌≡◌, ◌⊎◌, inl, inr, ℕ, ◌/◌, List, [], ◌∷◌, ◌++◌, Option, Some, None, refl, sym, ap, subst, ◌∙◌, append_assoc}
 use Rattle.pm_model.specs.declared.host.HostFault.{HostFault}
 use Rattle.pm_model.specs.declared.host.HostFault.TheVariants.{Failed, Cut}
-use Rattle.pm_model.specs.Words.{Has, Cell, values, Words, Image, after_store, after_flush, after_fence, after_loss, reads, Picks, HasOnly, IsRested}
-use Rattle.pm_model.specs.Moments.{Moment, State, stepped}
-use Rattle.pm_model.specs.Calls.{Steps, LosesPower}
+use Rattle.pm_model.specs.Words.{Has, Cell, values, Words, after_store, after_flush, after_fence, after_loss, HasOnly}
+use Rattle.pm_model.specs.Moments.{Moment, State}
+use Rattle.pm_model.specs.Calls.{Steps}
 use Rattle.pm_model.specs.Changes.{IsKept, Changes, Footprint, Write, only, written, Writes, Persists}
 use Rattle.pm_model.proofs.Has.{Has-append_cases}
 use Rattle.pm_model.proofs.Words.{store_adds, flush_adds, values-fenced, store_keeps, flush_keeps, HasOnly-fenced, only_at, stored_newest, flushed_newest, flushed_marked}

@@ -1,13 +1,12 @@
 -- The images that may be left during some calls, from one call to many.
-use Rattle.std.proofs.Common.{◌≡◌, ◌≢◌, ◌⊎◌, inl, inr, ℕ, zero, suc, ◌+◌, ◌-◌, ◌≤◌, List, [], ◌∷◌, ◌++◌, length, Option, Some, None, refl, sym, ap, subst, ◌∙◌, append_assoc, length-append, take, drop, take-append-drop, arith}
+use Rattle.std.proofs.Common.{◌≡◌, ◌⊎◌, inl, inr, ℕ, ◌-◌, List, [], ◌∷◌, ◌++◌, length, Option, refl, sym, ap, subst, ◌∙◌, append_assoc, length-append, take, drop, take-append-drop, arith}
 use Rattle.std.proofs.lemmas.List.{append-nil, take_at}
 use Rattle.pm_model.specs.declared.host.HostFault.{HostFault}
-use Rattle.pm_model.specs.Words.{Has, Image, Words, values, Picks, reads}
+use Rattle.pm_model.specs.Words.{Has, Image, Words, values, Picks}
 use Rattle.pm_model.specs.Moments.{Moment, State, MayLeave, one_said, all_said, clock, since}
 use Rattle.pm_model.specs.Calls.{Says}
-use Rattle.pm_model.specs.Changes.{LeavesAt, Leaves, Silently, Changes, Footprint, IsFrom}
-use Rattle.pm_model.proofs.Has.{Has-append_cases, Has-append_left, Has-append_right}
-use Rattle.pm_model.proofs.Words.{Picks-reads}
+use Rattle.pm_model.specs.Changes.{Leaves, Silently, Changes, Footprint, IsFrom}
+use Rattle.pm_model.proofs.Has.{Has-append_cases}
 use Rattle.pm_model.proofs.Changes.{now_among}
 
 -- an image left while some words change, and the image of the start that it is from

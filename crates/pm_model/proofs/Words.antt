@@ -1,8 +1,8 @@
 -- What a step adds to the values of the words.
-use Rattle.std.proofs.Common.{◌≡◌, ◌≢◌, ◌⊎◌, inl, inr, ℕ, ◌/◌, Bool, true, false, cond, eqb, List, [], ◌∷◌, ◌++◌, Option, Some, None, refl, sym, ap, subst, ◌∙◌}
+use Rattle.std.proofs.Common.{◌≡◌, ◌⊎◌, inl, inr, ℕ, ◌/◌, Bool, true, false, cond, eqb, List, [], ◌∷◌, ◌++◌, Some, None, refl, sym, ap, subst, ◌∙◌}
 use Rattle.std.proofs.lemmas.Bool.{cases_eq, ne_eqb, eq-eqb}
-use Rattle.pm_model.specs.Words.{Has, Cell, values, single, stored, marked, fenced, Words, Image, after_store, after_flush, after_fence, after_loss, reads, Picks, HasOnly, IsRested}
-use Rattle.pm_model.specs.Changes.{IsKept, Write, written, only}
+use Rattle.pm_model.specs.Words.{Has, Cell, values, stored, marked, fenced, Words, Image, after_store, after_flush, reads, Picks, HasOnly, IsRested}
+use Rattle.pm_model.specs.Changes.{IsKept, written, only}
 use Rattle.pm_model.proofs.Has.{Has-append_cases, Has-append_left}
 
 -- an image that the device reads is one that it may leave

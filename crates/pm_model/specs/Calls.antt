@@ -1,10 +1,10 @@
 -- What each call of a host does to what it tells.
-use Rattle.std.specs.Prelude.{◌≡◌, ◌⊎◌, ℕ, ◌-◌, ◌≤◌, List, [], ◌∷◌, Option, Some, None, Result, length, take, cond}
+use Rattle.std.specs.Prelude.{◌≡◌, ◌⊎◌, ℕ, ◌-◌, ◌≤◌, List, [], ◌∷◌, Option, Some, None, length, take, cond}
 use Rattle.std.specs.Str.{bytes_eq}
 use Rattle.pm_model.specs.declared.host.HostFault.{HostFault}
 use Rattle.pm_model.specs.declared.host.HostFault.TheVariants.{Failed, Cut}
 use Rattle.pm_model.specs.Words.{Image, Words, Picks, IsRested, after_loss}
-use Rattle.pm_model.specs.Moments.{Moment, State, Shelf, stepped, all_said, with_script, with_shelf}
+use Rattle.pm_model.specs.Moments.{State, Shelf, stepped, all_said, with_script, with_shelf}
 
 -- power is lost: each word has one of its values, and no other
 pub record LosesPower (old new : State) : Type 0 where

@@ -2,7 +2,7 @@
 use Rattle.std.specs.Prelude.{◌≡◌, ◌⊎◌, ℕ, ◌-◌, ◌==◌, nat_le, cond, List, [], ◌∷◌, ◌++◌, slice_get, Option, Some, None}
 use Rattle.pm_model.specs.declared.host.HostFault.{HostFault}
 use Rattle.pm_model.specs.declared.host.HostFault.TheVariants.{Cut}
-use Rattle.pm_model.specs.Words.{Has, Cell, values, Image, Words, Picks, HasOnly, IsRested}
+use Rattle.pm_model.specs.Words.{Has, Cell, values, Image, Picks, HasOnly, IsRested}
 use Rattle.pm_model.specs.Moments.{Moment, State}
 
 -- At this moment some bytes had been said since start, and each image that may be left has P with them.

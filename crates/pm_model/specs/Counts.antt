@@ -1,5 +1,5 @@
 -- What every host tells: its size, its faults, and what was armed and lost.
-use Rattle.std.specs.Prelude.{◌≡◌, ℕ, ◌+◌, ◌-◌, ◌^◌, ◌≤◌, Option, Some, None, Result, Ok, Err, cond, nat_lt}
+use Rattle.std.specs.Prelude.{ℕ, ◌+◌, ◌-◌, ◌^◌, ◌≤◌, Option, Some, None, Result, Ok, Err, cond, nat_lt}
 use Rattle.pm_model.specs.declared.host.HostFault.{HostFault}
 use Rattle.pm_model.specs.declared.host.HostFault.TheVariants.{Failed, Cut}
 use Rattle.pm_model.specs.declared.host.FileFault.{FileFault}

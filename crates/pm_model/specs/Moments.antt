@@ -1,6 +1,6 @@
 -- What a host has told at each moment of its clock, and the images that a power loss may have left.
-use Rattle.std.specs.Prelude.{◌≡◌, ◌⊎◌, ℕ, ◌+◌, ◌-◌, List, [], ◌∷◌, ◌++◌, Option, length, take, drop, cond}
-use Rattle.pm_model.specs.Words.{Has, Image, Words, Picks, IsRested, after_loss}
+use Rattle.std.specs.Prelude.{◌≡◌, ℕ, ◌-◌, List, [], ◌∷◌, ◌++◌, Option, length, take}
+use Rattle.pm_model.specs.Words.{Has, Image, Words, Picks}
 
 -- the bytes said so far, and the words
 pub record Moment : Type 0 where

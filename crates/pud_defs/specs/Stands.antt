@@ -1,7 +1,7 @@
 -- Which world an image stands for while a run is answered.
-use Rattle.std.specs.Prelude.{◌≡◌, ◌⊎◌, ℕ, zero, suc, List, [], ◌∷◌, Option, Some}
+use Rattle.std.specs.Prelude.{◌≡◌, ◌⊎◌, ℕ, zero, suc, List, [], ◌∷◌, Some}
 use Rattle.pud_defs.specs.Image.{Image}
-use Rattle.pud_defs.specs.World.{StoredWorld, World, world_of, closed}
+use Rattle.pud_defs.specs.World.{World, world_of, closed}
 use Rattle.pud_defs.specs.Run.{Turn, newlines}
 
 -- With so many whole reply lines said, the image stands for the closed world after as many turns or, where a further line was taken, for
