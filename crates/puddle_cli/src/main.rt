@@ -6,6 +6,8 @@ mod format;
 mod piece;
 mod run;
 mod status;
+#[cfg(test)]
+mod tests;
 mod top;
 
 use crate::command_line::mode_of;
@@ -13,9 +15,8 @@ use crate::status::{DEVICE_FAULT, NO_MEMORY, USAGE, message_of};
 use crate::top::puddle_main;
 use pm_file::FileHost;
 use pm_model::FileFault;
-use std::env;
-use std::io;
 use std::process::ExitCode;
+use std::{env, io};
 
 /// The words of the command line, or the status where they cannot be had: words that are not UTF-8 are no mode.
 fn words_of(rt: &HostRuntime) -> Result<Vec<String>, u8> {
