@@ -1,5 +1,5 @@
 -- The search of the table, record by record.
-use Rattle.std.proofs.Common.{◌≡◌, ℕ, ◌+◌, ◌-◌, ◌<◌, ◌≤◌, ◌&&◌, cond, leb, List, length, Option, Some, None, IfSome, is_none, refl, sym, ap, ap₂, ◌∙◌, arith}
+use Rattle.std.proofs.Common.{◌≡◌, ℕ, ◌+◌, ◌-◌, ◌<◌, ◌≤◌, ◌&&◌, cond, leb, List, length, Option, Some, None, IfSome, is_none, refl, ap, ap₂, ◌∙◌, arith}
 use Rattle.std.proofs.lemmas.Bool.{le-leb, lt-leb}
 use Rattle.pud_defs.specs.declared.machine.Refusal.TheVariants as refusals
 use Rattle.pud_defs.specs.Step.{is_other}
@@ -7,7 +7,7 @@ use Rattle.std.specs.Option.{option_or}
 use Rattle.pud_defs.specs.declared.layout.TheConstants.{TYPE_RECORDS}
 use Rattle.pud_defs.specs.Image.{Image}
 use Rattle.pud_defs.specs.Types.{type_record_at, type_records, type_table, first_free, map_of}
-use Rattle.pud_defs.proofs.TypeTable.{type_records_free, type_records_none, first_free_used, first_free_here, first_free_none, map_of_record, map_of_record_other, map_of_record_none, length-type_records_full, first_free_some}
+use Rattle.pud_defs.proofs.TypeTable.{type_records_free, first_free_used, first_free_here, first_free_none, map_of_record, map_of_record_other, map_of_record_none, length-type_records_full, first_free_some}
 use Rattle.type_maps.specs.declared.Place.{Place}
 use Rattle.type_maps.specs.declared.Place.TheVariants as places
 use Rattle.type_maps.specs.Define.{place_by, place_of, table_refusal}

@@ -1,20 +1,18 @@
 -- What writing a record does at every moment.
-use Rattle.std.proofs.Common.{◌≡◌, ◌⊎◌, inl, inr, ℕ, ◌+◌, ◌*◌, ◌<◌, ◌≤◌, eqb, List, [], ◌++◌, Option, Some, None, refl, sym, ap, subst, ◌∙◌, arith}
+use Rattle.std.proofs.Common.{◌≡◌, inl, inr, ℕ, ◌+◌, [], Option, Some, None, refl, sym, ap, subst, ◌∙◌, arith}
 use Rattle.std.proofs.lemmas.Bool.{cases_eq, eq-eqb, ne_eqb}
 use Rattle.std.proofs.lemmas.List.{append-nil}
 use Rattle.pm_model.specs.declared.host.HostFault.{HostFault}
 use Rattle.pm_model.specs.declared.host.HostFault.TheVariants.{Cut}
-use Rattle.pm_model.specs.Words.{Words, Picks, HasOnly}
 use Rattle.pm_model.specs.Moments.{State}
-use Rattle.pm_model.specs.Changes.{Changes, Leaves, Silently, Persists, only, IsFrom, written as may_be_written}
+use Rattle.pm_model.specs.Changes.{Changes, Leaves, Silently, Persists, only, written as may_be_written}
 use Rattle.pm_model.proofs.Words.{only_at, HasOnly-own}
 use Rattle.pm_model.proofs.Changes.{Changes-still, Changes-wider, Changes-then, Changes-said, HasOnly-kept}
 use Rattle.pm_model.proofs.Leaves.{Leaves-changes, Leaves-still, Leaves-then}
-use Rattle.pud_defs.specs.declared.layout.TheConstants.{TYPE_TABLE, TYPE_RECORDS, POOL_TABLE}
 use Rattle.pud_defs.specs.Image.{Image, written}
 use Rattle.pud_defs.specs.Types.{type_record_at}
-use Rattle.type_maps.specs.Define.{record_write, half_defined, defined, IsDefining, IsDefined, HasDurableTypes, Defines}
-use Rattle.type_maps.proofs.OneWord.{image_of_one, image_after_one, IsWritten}
+use Rattle.type_maps.specs.Define.{record_write, IsDefining, Defines}
+use Rattle.type_maps.proofs.OneWord.{image_of_one, image_after_one}
 
 map_is_written : (r id map k v : ℕ) → may_be_written (only (type_record_at r + 1) map) k v → may_be_written (record_write r id map) k v
 map_is_written r id map k v one =

@@ -1,12 +1,12 @@
 -- The images that are left while one word is written, and after it.
-use Rattle.std.proofs.Common.{◌≡◌, ◌⊎◌, inl, inr, ℕ, eqb, Option, Some, None, refl, sym, ap, ◌∙◌}
+use Rattle.std.proofs.Common.{◌≡◌, ◌⊎◌, inl, inr, ℕ, Some, None, refl, sym, ap, ◌∙◌}
 use Rattle.std.proofs.lemmas.Bool.{cases_eq, eq-eqb}
-use Rattle.pm_model.specs.Words.{Words, Picks, HasOnly}
+use Rattle.pm_model.specs.Words.{Words, Picks}
 use Rattle.pm_model.specs.Moments.{State}
 use Rattle.pm_model.specs.Changes.{only, IsFrom, Persists, written as may_be_written}
 use Rattle.pm_model.proofs.Words.{only_at}
 use Rattle.pm_model.proofs.Changes.{Changes-now}
-use Rattle.pm_model.proofs.Leaves.{origin, HasOrigin}
+use Rattle.pm_model.proofs.Leaves.{origin}
 use Rattle.pud_defs.specs.Image.{Image, written}
 use Rattle.pud_defs.proofs.Images.{written_there, written_other}
 

@@ -122,3 +122,6 @@ pub fn define<H: Host>(h: &mut H, id: u32, map: u64) -> Result<(), TypeFault>
         Place::Free(record) => Ok(write_record(h, record, id, map)?),
     }
 }
+
+#[cfg(test)]
+mod tests;
