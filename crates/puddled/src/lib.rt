@@ -6,3 +6,6 @@ mod daemon;
 mod soundness;
 
 pub use daemon::{Daemon, StartFault};
+
+#[cfg(test)]
+mod tests;
