@@ -1,5 +1,5 @@
 -- A device is formatted, and it is said.
-use Rattle.std.proofs.Common.{◌≡◌, ◌≢◌, ◌⊎◌, inl, inr, ℕ, ◌<◌, ◌≤◌, Bool, true, false, ◌||◌, ltb, List, [], ◌++◌, Option, Some, None, refl, sym, ap, subst, ◌∙◌, arith}
+use Rattle.std.proofs.Common.{◌≡◌, ◌⊎◌, inl, inr, ℕ, ◌≤◌, Bool, true, false, ◌||◌, ltb, List, [], ◌++◌, Option, Some, None, refl, sym, ap, subst, ◌∙◌}
 use Rattle.std.proofs.lemmas.Bool.{eqb-false}
 use Rattle.std.proofs.lemmas.List.{append-nil}
 use Rattle.pm_model.specs.declared.host.HostFault.{HostFault}
@@ -9,7 +9,7 @@ use Rattle.pm_model.specs.Calls.{Says}
 use Rattle.pm_model.specs.Changes.{Leaves, Silently}
 use Rattle.pm_model.proofs.Words.{Picks-reads, reads_only}
 use Rattle.pm_model.proofs.Changes.{Changes-said}
-use Rattle.pm_model.proofs.Leaves.{Leaves-then, Leaves-weaker, Leaves-says, Leaves-still}
+use Rattle.pm_model.proofs.Leaves.{Leaves-then, Leaves-weaker, Leaves-each, Leaves-says, Leaves-still}
 use Rattle.pud_defs.specs.declared.layout.TheConstants.{DEVICE_MAGIC, MAGIC_WORD}
 use Rattle.pud_defs.specs.Layout.{device_words, is_legal_frame_count}
 use Rattle.pud_defs.specs.Image.{Image}
@@ -18,9 +18,16 @@ use Rattle.pud_defs.specs.World.{world_of, blank_world, IsBlank}
 use Rattle.pud_defs.specs.Texts.{formatted_text}
 use Rattle.pud_defs.proofs.Worlds.{world_of-no_magic}
 use Rattle.pud_defs.proofs.Blank.{world_of-blank}
-use Rattle.puddled.specs.Daemon.{SaysPart}
 use Rattle.puddled.proofs.Lines.{SaysPart-says, SaysPart-nothing, words_said, script_said, shelf_said}
-use Rattle.puddle_cli.specs.Formatting.{is_refused, HasNoMagic, BelowFrames, LaysOut, Formats}
+use Rattle.puddle_cli.specs.Formatting.{is_refused, HasNoMagic, LaysOut, Formats}
+
+-- each image left is not sound, or stands for the empty world
+abbrev IsBlankOrNone : (size F id : ℕ) → List ℕ → Image → Type 0
+IsBlankOrNone size F id said image = (world_of size image ≡ None) ⊎ (world_of size image ≡ Some (blank_world F id))
+
+-- nothing was said, or the image stands for the empty world
+abbrev IsBlankOrUnsaid : (size F id : ℕ) → List ℕ → Image → Type 0
+IsBlankOrUnsaid size F id said image = (said ≡ []) ⊎ (world_of size image ≡ Some (blank_world F id))
 
 neither : (a b : Bool) → (a || b) ≡ false → (a ≡ false) × (b ≡ false)
 neither true b e = absurd (let no : true ≡ false = e in cc)
@@ -41,8 +48,8 @@ module _ (size F id : ℕ) (legal : is_legal_frame_count F ≡ true) (room : dev
       let moments : IsRested old.now.words → Leaves (Silently (λ image. (has_magic image ≡ false) ⊎ IsBlank F id image)) old new = λ rested. l.moments (no_magic_when_rested old.now.words rested without) in
       record {
         says = SaysPart-nothing formatted_text fault old new (Changes-said _ (Some fault) old new l.changes);
-        moments = λ rested _. Leaves-weaker _ _ old new (λ bytes image m. stands_on_the_way image m.1) (moments rested);
-        acknowledged = λ rested. Leaves-weaker _ _ old new (λ bytes image m. inl m.0) (moments rested);
+        moments = λ rested _. Leaves-each (IsBlankOrNone size F id) old new (Leaves-weaker _ _ old new (λ bytes image m. stands_on_the_way image m.1) (moments rested));
+        acknowledged = λ rested. Leaves-each (IsBlankOrUnsaid size F id) old new (Leaves-weaker _ _ old new (λ bytes image m. inl m.0) (moments rested));
         world = λ e. absurd (let no : Some fault ≡ None = e in cc);
         rested = λ e. absurd (let no : Some fault ≡ None = e in cc);
         script = l.changes.script;
@@ -60,8 +67,10 @@ module _ (size F id : ℕ) (legal : is_legal_frame_count F ≡ true) (room : dev
       let late = Leaves-says formatted_text fault (λ bytes image. world_of size image ≡ Some (blank_world F id)) mid new (λ front image prefix picked. stands image picked) says in
       record {
         says = record { bytes = part.bytes; rest = part.rest; part = part.part; said = part.said ∙ ap (λ (s : List ℕ). s ++ part.bytes) quiet; whole = part.whole };
-        moments = λ rested _. Leaves-then _ _ _ [] old mid new (quiet ∙ sym (append-nil old.now.said)) (λ bytes image m. stands_on_the_way image m.1) (λ bytes image m. inr m) (moments rested) late;
-        acknowledged = λ rested. Leaves-then _ _ _ [] old mid new (quiet ∙ sym (append-nil old.now.said)) (λ bytes image m. inl m.0) (λ bytes image m. inr m) (moments rested) late;
+        moments = λ rested _. Leaves-each (IsBlankOrNone size F id) old new
+            (Leaves-then _ _ _ [] old mid new (quiet ∙ sym (append-nil old.now.said)) (λ bytes image m. stands_on_the_way image m.1) (λ bytes image m. inr m) (moments rested) late);
+        acknowledged = λ rested. Leaves-each (IsBlankOrUnsaid size F id) old new
+            (Leaves-then _ _ _ [] old mid new (quiet ∙ sym (append-nil old.now.said)) (λ bytes image m. inl m.0) (λ bytes image m. inr m) (moments rested) late);
         world = λ _. ap (λ (w : Words). world_of size (reads w)) words ∙ stands (reads mid.now.words) (Picks-reads mid.now.words);
         rested = λ _ rested. subst (λ (w : Words). IsRested w) (sym words) (l.rested refl rested);
         script = script_said formatted_text fault mid new says ∙ l.changes.script;
@@ -73,8 +82,9 @@ pub Formats-none : (size F id : ℕ) (fault : HostFault) (old new : State) → n
 Formats-none size F id fault old new same =
     record {
       says = SaysPart-nothing formatted_text fault old new (ap (λ (s : State). s.now.said) same);
-      moments = λ rested without. Leaves-still _ old new (λ image picked. inl (world_of-no_magic size image (eqb-false (image MAGIC_WORD) DEVICE_MAGIC (ap has_magic (reads_only old.now.words image rested picked) ∙ without)))) same;
-      acknowledged = λ rested. Leaves-still _ old new (λ image picked. inl refl) same;
+      moments = λ rested without. Leaves-each (IsBlankOrNone size F id) old new
+          (Leaves-still _ old new (λ image picked. inl (world_of-no_magic size image (eqb-false (image MAGIC_WORD) DEVICE_MAGIC (ap has_magic (reads_only old.now.words image rested picked) ∙ without)))) same);
+      acknowledged = λ rested. Leaves-each (IsBlankOrUnsaid size F id) old new (Leaves-still _ old new (λ image picked. inl refl) same);
       world = λ e. absurd (let no : Some fault ≡ None = e in cc);
       rested = λ e. absurd (let no : Some fault ≡ None = e in cc);
       script = ap (λ (s : State). s.script) same;

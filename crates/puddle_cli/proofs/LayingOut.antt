@@ -1,11 +1,11 @@
 -- A device is laid out in three durable groups: zeroes, the words that describe it, the magic.
-use Rattle.std.proofs.Common.{◌≡◌, ◌≢◌, ◌⊎◌, inl, inr, ℕ, ◌+◌, ◌*◌, ◌<◌, ◌≤◌, Bool, true, false, eqb, List, [], ◌∷◌, ◌++◌, Option, Some, None, refl, sym, ap, subst, ◌∙◌, ⊎_elim, arith}
+use Rattle.std.proofs.Common.{◌≡◌, ◌⊎◌, inl, inr, ℕ, ◌<◌, false, List, [], ◌∷◌, Option, Some, None, refl, sym, ap, subst, ◌∙◌, ⊎_elim, arith}
 use Rattle.std.proofs.lemmas.Bool.{cases_eq, ne_eqb, cases_lt}
 use Rattle.std.proofs.lemmas.List.{append-nil}
 use Rattle.pm_model.specs.declared.host.HostFault.{HostFault}
-use Rattle.pm_model.specs.Words.{Words, Picks, HasOnly, IsRested}
+use Rattle.pm_model.specs.Words.{Words, Picks, HasOnly}
 use Rattle.pm_model.specs.Moments.{State}
-use Rattle.pm_model.specs.Changes.{Changes, Footprint, Leaves, Silently, Persists, IsFrom, only, placed, written as may_be_written}
+use Rattle.pm_model.specs.Changes.{Changes, Footprint, Leaves, Silently, Persists, only, placed, written as may_be_written}
 use Rattle.pm_model.proofs.Words.{HasOnly-own, only_at}
 use Rattle.pm_model.proofs.Changes.{Changes-wider, Changes-then, Changes-said, HasOnly-kept}
 use Rattle.pm_model.proofs.Leaves.{Leaves-changes, Leaves-then}
@@ -17,7 +17,7 @@ use Rattle.pud_defs.specs.Image.{Image, written}
 use Rattle.pud_defs.specs.Registry.{has_magic}
 use Rattle.pud_defs.specs.World.{IsBlank}
 use Rattle.pud_defs.proofs.Images.{written_there, written_other}
-use Rattle.type_maps.proofs.OneWord.{image_of_one, image_after_one, IsWritten}
+use Rattle.type_maps.proofs.OneWord.{image_of_one, image_after_one}
 use Rattle.puddle_cli.specs.Formatting.{HasNoMagic, BelowFrames, LaysOut}
 
 -- the words that describe the device, from word 1 on

@@ -1,25 +1,25 @@
 -- One run over a script, from the start to the exit.
-use Rattle.std.proofs.Common.{◌≡◌, ◌⊎◌, inl, inr, ℕ, zero, suc, ◌+◌, ◌≤◌, Bool, true, false, List, [], ◌∷◌, ◌++◌, length, Option, Some, None, refl, sym, ap, subst, ◌∙◌, arith, append_assoc}
+use Rattle.std.proofs.Common.{◌≡◌, inl, inr, ℕ, zero, suc, ◌+◌, ◌≤◌, Bool, true, false, List, [], ◌∷◌, ◌++◌, Option, Some, None, refl, sym, ap, subst, ◌∙◌, arith, append_assoc}
 use Rattle.std.proofs.lemmas.List.{append-nil}
 use Rattle.std.proofs.Math.Numerals.{one-add}
 use Rattle.pm_model.specs.declared.host.HostFault.{HostFault}
-use Rattle.pm_model.specs.Words.{Words, Image, Picks, IsRested, HasOnly, reads}
+use Rattle.pm_model.specs.Words.{Words, Image, Picks, IsRested, reads}
 use Rattle.pm_model.specs.Moments.{State}
 use Rattle.pm_model.specs.Changes.{Leaves}
 use Rattle.pm_model.proofs.Words.{reads_only}
-use Rattle.pm_model.proofs.Leaves.{Leaves-then, Leaves-weaker}
+use Rattle.pm_model.proofs.Leaves.{Leaves-then, Leaves-weaker, Leaves-each}
 use Rattle.pud_defs.specs.World.{World, world_of, closed}
-use Rattle.pud_defs.specs.Run.{Turn, last_world, newlines, lines_taken}
+use Rattle.pud_defs.specs.Run.{Turn, newlines}
 use Rattle.pud_defs.specs.Texts.{start_text, replies_text}
 use Rattle.pud_defs.specs.Stands.{StandsWith, StandsBehindStart}
 use Rattle.pud_defs.proofs.Lines.{newlines-append, newlines_part, lines_taken-nothing}
 use Rattle.pud_defs.proofs.Said.{newlines-start_text}
 use Rattle.type_maps.specs.Define.{HasDurableTypes}
-use Rattle.puddled.specs.Daemon.{IsReady, IsPart, SaysPart, Starts}
+use Rattle.puddled.specs.Daemon.{IsReady, Starts}
 use Rattle.puddle_cli.specs.declared.status.TheConstants.{DONE, TOO_LONG}
 use Rattle.puddle_cli.specs.Status.{status_fault}
 use Rattle.puddle_cli.specs.Serving.{Answered}
-use Rattle.puddle_cli.specs.Headline.{IsInStart, IsBehindStart, Headline}
+use Rattle.puddle_cli.specs.Headline.{Headline}
 
 -- a rested device whose words stand for the world is one to start on
 module _ (size : ℕ) (w : World) (start : State) (rested : IsRested start.now.words) (stands : world_of size (reads start.now.words) ≡ Some (closed w)) where
@@ -70,7 +70,8 @@ module _ (size : ℕ) (w : World) (start : State) (rested : IsRested start.now.w
         not_ended = λ _. refl;
         ends = λ none. absurd (not_whole none);
         shelf = s.shelf ∙ shelf;
-        moments = start_moments [] (Some fault) now s;
+        shelf_of_run = λ none. absurd (not_whole none);
+        moments = Leaves-each (λ said image. StandsBehindStart size w [] (newlines said) image) start now (start_moments [] (Some fault) now s);
       }
 
   said_behind : (mid now : State) (replies more : List ℕ) → mid.now.said ≡ start.now.said ++ start_text → now.now.said ≡ mid.now.said ++ replies ++ more
@@ -112,9 +113,10 @@ module _ (size : ℕ) (w : World) (start : State) (rested : IsRested start.now.w
         not_ended = too_long;
         ends = λ none. (a.ready (sym is ∙ none)).stands;
         shelf = kept ∙ s.shelf ∙ shelf;
-        moments = Leaves-then _ (StandsWith size w (a.answered ++ a.pending)) _ start_text start mid now first
+        shelf_of_run = λ none. (a.ready (sym is ∙ none)).shelf;
+        moments = Leaves-each (λ said image. StandsBehindStart size w (a.answered ++ a.pending) (newlines said) image) start now (Leaves-then _ (StandsWith size w (a.answered ++ a.pending)) _ start_text start mid now first
             (λ front image p. p)
             (λ more image p. subst (λ (n : ℕ). StandsBehindStart size w (a.answered ++ a.pending) n image)
             (sym (newlines-append start_text more ∙ ap (λ (n : ℕ). n + newlines more) newlines-start_text ∙ one-add (newlines more))) p)
-            (start_moments (a.answered ++ a.pending) None mid s) a.moments;
+            (start_moments (a.answered ++ a.pending) None mid s) a.moments);
       }

@@ -1,8 +1,8 @@
 -- What formatting leaves and says, at every moment.
-use Rattle.std.specs.Prelude.{◌≡◌, ◌≢◌, ◌⊎◌, ℕ, ◌<◌, Bool, true, false, ◌||◌, nat_lt, List, [], ◌++◌, Option, Some, None}
+use Rattle.std.specs.Prelude.{◌≡◌, ◌≢◌, ◌⊎◌, ℕ, ◌<◌, Bool, false, ◌||◌, nat_lt, List, [], Option, Some, None}
 use Rattle.pm_model.specs.declared.host.HostFault.{HostFault}
 use Rattle.pm_model.specs.Words.{Has, values, Words, Picks, IsRested, reads}
-use Rattle.pm_model.specs.Moments.{State}
+use Rattle.pm_model.specs.Moments.{State, MayLeave}
 use Rattle.pm_model.specs.Changes.{Changes, Leaves, Silently}
 use Rattle.pud_defs.specs.declared.layout.TheConstants.{DEVICE_MAGIC, MAGIC_WORD}
 use Rattle.pud_defs.specs.Layout.{frames_at, device_words}
@@ -37,9 +37,9 @@ pub record LaysOut (F id : ℕ) (fault : Option HostFault) (old new : State) : T
 -- the empty world, and a rested device stays rested.
 pub record Formats (size F id : ℕ) (fault : Option HostFault) (old new : State) : Type 0 where
   pub says : SaysPart formatted_text fault old new
-  pub moments : IsRested old.now.words → has_magic (reads old.now.words) ≡ false
-      → Leaves (λ bytes image. (world_of size image ≡ None) ⊎ (world_of size image ≡ Some (blank_world F id))) old new
-  pub acknowledged : IsRested old.now.words → Leaves (λ bytes image. (bytes ≡ []) ⊎ (world_of size image ≡ Some (blank_world F id))) old new
+  pub moments : IsRested old.now.words → has_magic (reads old.now.words) ≡ false → (said : List ℕ) (image : Image) → MayLeave old new said image
+      → (world_of size image ≡ None) ⊎ (world_of size image ≡ Some (blank_world F id))
+  pub acknowledged : IsRested old.now.words → (said : List ℕ) (image : Image) → MayLeave old new said image → (said ≡ []) ⊎ (world_of size image ≡ Some (blank_world F id))
   pub world : fault ≡ None → world_of size (reads new.now.words) ≡ Some (blank_world F id)
   pub rested : fault ≡ None → IsRested old.now.words → IsRested new.now.words
   pub script : new.script ≡ old.script

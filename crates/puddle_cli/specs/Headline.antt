@@ -1,8 +1,7 @@
 -- What the program says and leaves over a script, for one and the same run of the machine.
-use Rattle.std.specs.Prelude.{◌≡◌, ◌⊎◌, ℕ, ◌<◌, ◌≤◌, Bool, true, false, List, [], ◌++◌, length, map, Option, Some, None}
+use Rattle.std.specs.Prelude.{◌≡◌, ◌⊎◌, ℕ, ◌<◌, ◌≤◌, Bool, true, false, List, [], ◌++◌, length, map, Some, None}
 use Rattle.pm_model.specs.Words.{Picks}
-use Rattle.pm_model.specs.Moments.{State}
-use Rattle.pm_model.specs.Changes.{Leaves}
+use Rattle.pm_model.specs.Moments.{State, MayLeave}
 use Rattle.pud_defs.specs.declared.layout.TheConstants.{SCRIPT_LIMIT}
 use Rattle.pud_defs.specs.Image.{Image}
 use Rattle.pud_defs.specs.World.{World, world_of, closed}
@@ -58,5 +57,6 @@ pub record Headline (size : ℕ) (w : World) (status : ℕ) (start end : State) 
   pub not_ended : status ≡ TOO_LONG → ended ≡ false
   pub ends : status_fault status ≡ None → (image : Image) → Picks end.now.words image → world_of size image ≡ Some (closed (last_world w answered))
   pub shelf : end.shelf ≡ w.shelf
-  -- at every moment
-  pub moments : Leaves (λ said image. StandsBehindStart size w (answered ++ pending) (newlines said) image) start end
+  pub shelf_of_run : status_fault status ≡ None → end.shelf ≡ (last_world w answered).shelf
+  -- at every moment: an image that may have been left since the start of the call, together with the bytes said since then
+  pub moments : (said : List ℕ) (image : Image) → MayLeave start end said image → StandsBehindStart size w (answered ++ pending) (newlines said) image

@@ -2,7 +2,7 @@
 use Rattle.std.specs.Prelude.{ℕ, ◌≡◌, ◌⊎◌, ◌==◌, cond, Option, Some, None}
 use Rattle.pm_model.specs.declared.host.HostFault.{HostFault}
 use Rattle.pm_model.specs.declared.host.HostFault.TheVariants.{Failed, Cut}
-use Rattle.puddle_cli.specs.declared.status.TheConstants.{DONE, USAGE, NOT_USABLE, DEVICE_FAULT, POWER_LOST, TOO_LONG}
+use Rattle.puddle_cli.specs.declared.status.TheConstants.{DONE, NOT_USABLE, DEVICE_FAULT, POWER_LOST, TOO_LONG}
 
 -- the host's fault that a status stands for
 abbrev pub status_fault : ℕ → Option HostFault

@@ -1,7 +1,7 @@
 //! The top call: all that the program does.
-ghost use Rattle.std.specs.Prelude.{◌≡◌, ◌≢◌, ◌↔◌, ℕ, IsTrue, Option, None, Some, map, string_bytes};
+ghost use Rattle.std.specs.Prelude.{◌≡◌, ◌≢◌, ◌⊎◌, ◌↔◌, ℕ, IsTrue, false, Option, None, Some, map, string_bytes};
 ghost use Rattle.pm_model.specs.Words.{IsRested, reads};
-ghost use Rattle.pm_model.specs.Counts.{after_fault};
+ghost use Rattle.pm_model.specs.Counts.{Rose, after_fault};
 ghost use Rattle.pud_defs.specs.World.{World, world_of, closed};
 ghost use Rattle.puddle_cli.specs.declared.command_line.Mode.TheVariants.{Format, Run};
 ghost use Rattle.puddle_cli.specs.CommandLine.{mode_of};
@@ -12,7 +12,7 @@ ghost use Rattle.puddle_cli.specs.Headline.{TakesScript, Headline};
 use crate::command_line::{Mode, mode_of};
 use crate::format::format;
 use crate::run::run;
-use crate::status::{NOT_USABLE, TOO_LONG, USAGE};
+use crate::status::{DONE, NOT_USABLE, TOO_LONG, USAGE};
 use pm_model::Host;
 use std::alloc::Global;
 
@@ -42,10 +42,20 @@ pub fn puddle_main<H: Host>(_alloc: Global, words: &[String], host: &mut H) -> u
         → world_of (H.counts host.old).size (reads (H.state host.old).now.words) ≡ Some (closed w)
         → Headline (H.counts host.old).size w result (H.state host.old) (H.state host.new) }
 
+    // Where the device is sound and neither count rose, the script was run.
+    ensures run_completes { H.tells → mode_of (map string_bytes words.now) ≡ Some Run
+        → world_of (H.counts host.old).size (reads (H.state host.old).now.words) ≢ None
+        → (Rose (H.counts host.old).faults (H.counts host.new).faults → ⊥) → (Rose (H.counts host.old).cuts (H.counts host.new).cuts → ⊥)
+        → (result ≡ DONE) ⊎ (result ≡ TOO_LONG) }
+
     ensures format_not_usable { H.tells → (F id : ℕ) → mode_of (map string_bytes words.now) ≡ Some (Format F id) → status_fault result ≡ None
         → (result ≡ NOT_USABLE) ↔ IsTrue (is_refused (H.counts host.old).size F (reads (H.state host.old).now.words)) }
     ensures formats { H.tells → (F id : ℕ) → mode_of (map string_bytes words.now) ≡ Some (Format F id) → result ≢ NOT_USABLE
         → Formats (H.counts host.old).size F id (status_fault result) (H.state host.old) (H.state host.new) }
+    ensures format_completes { H.tells → (F id : ℕ) → mode_of (map string_bytes words.now) ≡ Some (Format F id)
+        → is_refused (H.counts host.old).size F (reads (H.state host.old).now.words) ≡ false
+        → (Rose (H.counts host.old).faults (H.counts host.new).faults → ⊥) → (Rose (H.counts host.old).cuts (H.counts host.new).cuts → ⊥)
+        → result ≡ DONE }
     ensures format_never_too_long { (F id : ℕ) → mode_of (map string_bytes words.now) ≡ Some (Format F id) → result ≢ TOO_LONG }
 {
     match mode_of(words) {

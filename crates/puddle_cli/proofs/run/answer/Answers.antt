@@ -1,8 +1,5 @@
-use Rattle.std.proofs.Common.{◌≡◌, [], true, false, refl, sym, ◌∙◌, subst}
+use Rattle.std.proofs.Common.{◌≡◌, [], true, false, refl, sym, ◌∙◌}
 use Rattle.std.proofs.lemmas.Result.{err_from_is_err_and}
-use Rattle.std.specs.Prelude.{List, ℕ}
-use Rattle.pm_model.specs.Counts.{fault_of}
-use Rattle.puddled.specs.Daemon.{Answers}
 use Rattle.puddle_cli.proofs.Answering.{AnswersLine-turn, AnswersLine-nothing}
 use Rattle.puddle_cli.proofs.run.answer.Goals as goal
 

@@ -1,11 +1,11 @@
-use Rattle.std.proofs.Common.{◌≡◌, ◌+◌, ◌∙◌, [], Bool, Result, Some, None, refl, sym, ap, subst, arith}
+use Rattle.std.proofs.Common.{◌+◌, ◌∙◌, Bool, Result, Some, refl, sym, ap, subst, arith}
 use Rattle.std.specs.Prelude.{List, ℕ}
 use Rattle.std.proofs.lemmas.Result.{err_from_is_err_and}
 use Rattle.pm_model.specs.declared.host.HostFault.{HostFault}
 use Rattle.pm_model.specs.Counts.{Counts}
 use Rattle.pud_defs.specs.Run.{last_world, open_rest}
 use Rattle.puddle_cli.specs.Serving.{Serves, TakesOne}
-use Rattle.puddle_cli.proofs.Answering.{ready_read, Answered-newline, Answered-so_far, Serves-line, Serves-byte, Takes-more, Takes-kept, TakesAtMost-takes}
+use Rattle.puddle_cli.proofs.Answering.{ready_read, Answered-newline, Answered-so_far, Serves-line, Serves-byte, Takes-more, TakesAtMost-takes}
 use Rattle.puddle_cli.proofs.run.serve_byte.Goals as goal
 
 pub returns-in_err-read-clause-answered : goal.returns-in_err-read-clause-answered
