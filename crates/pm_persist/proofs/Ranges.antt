@@ -1,16 +1,16 @@
 -- A range is written word by word, and flushed line by line.
-use Rattle.std.proofs.Common.{◌≡◌, ◌≢◌, ◌⊎◌, inl, inr, ℕ, ◌+◌, ◌-◌, ◌/◌, ◌<◌, ◌≤◌, ◌&&◌, Bool, true, false, cond, eqb, leb, List, [], ◌∷◌, length, get_or, Option, Some, None, refl, sym, ap, subst, ◌∙◌, arith}
-use Rattle.std.proofs.lemmas.Bool.{cases_eq, ne_eqb, eq-eqb, le-leb, lt-leb, lt-ltb}
+use Rattle.std.proofs.Common.{◌≡◌, inl, inr, ℕ, ◌+◌, ◌-◌, ◌/◌, ◌<◌, ◌≤◌, Bool, true, cond, leb, List, [], length, get_or, Option, Some, None, refl, sym, ap, subst, ◌∙◌, arith}
+use Rattle.std.proofs.lemmas.Bool.{cases_eq, eq-eqb, le-leb, lt-ltb}
 use Rattle.std.proofs.lemmas.Bool.Decides.{leb_tells, nat_tests}
 use Rattle.std.proofs.lemmas.Option.{slice_get-get_or, slice_get_within}
 use Rattle.std.specs.List.{slice_get}
 use Rattle.pm_model.specs.declared.host.HostFault.{HostFault}
 use Rattle.pm_model.specs.declared.host.HostFault.TheVariants.{Cut}
-use Rattle.pm_model.specs.Words.{Has, values, Words, after_store, after_flush}
+use Rattle.pm_model.specs.Words.{after_store, after_flush}
 use Rattle.pm_model.specs.Moments.{State}
 use Rattle.pm_model.specs.Calls.{Steps}
-use Rattle.pm_model.specs.Changes.{Changes, Footprint, Write, only, placed, written, Writes, Persists}
-use Rattle.pm_model.proofs.Words.{stored_newest, flushed_newest, flushed_marked, only_at}
+use Rattle.pm_model.specs.Changes.{Changes, Write, only, placed, written, Writes}
+use Rattle.pm_model.proofs.Words.{stored_newest, flushed_marked, only_at}
 use Rattle.pm_model.proofs.Changes.{Changes-still, Changes-store, Changes-flush, Changes-then, Changes-wider}
 use Rattle.pm_persist.specs.Ranges.{Nothing, zeroed, StoresBelow, FlushesLines}
 
