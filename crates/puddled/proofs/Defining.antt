@@ -1,10 +1,9 @@
 -- What the definition of a type does to the worlds that images stand for.
-use Rattle.std.proofs.Common.{◌≡◌, ◌⊎◌, inl, inr, ℕ, ◌+◌, ◌*◌, ◌<◌, ◌≤◌, Bool, true, false, ◌&&◌, leb, cond, T, List, [], length, Option, Some, None, is_some, is_none, refl, sym, ap, ap₂, subst, ◌∙◌, ⊎_elim, arith}
+use Rattle.std.proofs.Common.{◌≡◌, inl, inr, ℕ, true, ◌&&◌, leb, cond, List, Option, Some, None, is_some, is_none, refl, sym, ap, subst, ◌∙◌, ⊎_elim, arith}
 use Rattle.std.proofs.lemmas.Bool.{cases_eq}
 use Rattle.pm_model.specs.declared.host.HostFault.{HostFault}
-use Rattle.pm_model.specs.Words.{Words, Picks, reads, HasOnly}
+use Rattle.pm_model.specs.Words.{Picks, reads}
 use Rattle.pm_model.specs.Moments.{State}
-use Rattle.pm_model.specs.Changes.{Changes, Leaves, Silently}
 use Rattle.pm_model.proofs.Words.{Picks-reads}
 use Rattle.pm_model.proofs.Changes.{Changes-said}
 use Rattle.pm_model.proofs.Leaves.{Leaves-still, Leaves-weaker}
@@ -12,7 +11,7 @@ use Rattle.pud_defs.specs.declared.layout.TheConstants.{TYPE_RECORDS}
 use Rattle.pud_defs.specs.declared.machine.Command.TheVariants.{Define}
 use Rattle.pud_defs.specs.declared.machine.Refusal.{Refusal}
 use Rattle.pud_defs.specs.declared.machine.Refusal.TheVariants.{Clash, Full}
-use Rattle.pud_defs.specs.Image.{Image, written}
+use Rattle.pud_defs.specs.Image.{Image}
 use Rattle.pud_defs.specs.TypeMap.{is_legal_map, is_legal_type_id}
 use Rattle.pud_defs.specs.Types.{type_record_at, type_table, first_free, map_of, with_type}
 use Rattle.pud_defs.specs.World.{World, world_of, closed}
@@ -21,7 +20,7 @@ use Rattle.pud_defs.proofs.TypeTable.{IsLowestFree, first_free_some}
 use Rattle.pud_defs.proofs.Worlds.{StandsFor, standing_of_world, types_sorted, map_of_world, length_of_world, full_of_world, room_of_world}
 use Rattle.pud_defs.proofs.Definitions.{world_of-map_written, world_of-defined}
 use Rattle.pud_defs.proofs.Steps.{refusal_of-define, define-same, define-clash, define-full, define-new, after-same}
-use Rattle.type_maps.specs.Define.{table_refusal, place_for, record_write, half_defined, defined, IsDefining, IsDefined, HasDurableTypes, Defines}
+use Rattle.type_maps.specs.Define.{table_refusal, place_for, defined, Defines}
 use Rattle.puddled.specs.Daemon.{KeepsRest, IsReady, Applies}
 
 abbrev table_refusal_by : Option ℕ → ℕ → ℕ → Option Refusal

@@ -1,11 +1,11 @@
 -- One line, from what was done without a word to what was said of it.
-use Rattle.std.proofs.Common.{◌≡◌, ◌⊎◌, inl, inr, ℕ, zero, suc, ◌+◌, ◌≤◌, Bool, true, false, List, [], ◌∷◌, ◌++◌, length, take, drop, Option, Some, None, refl, sym, ap, subst, ◌∙◌, arith, take-append-drop}
-use Rattle.std.proofs.lemmas.List.{append-nil, take_all, drop_all}
+use Rattle.std.proofs.Common.{◌≡◌, inr, ℕ, zero, suc, ◌≤◌, Bool, true, false, List, [], ◌∷◌, ◌++◌, take, drop, Option, Some, None, refl, sym, ap, subst, ◌∙◌, arith, take-append-drop}
+use Rattle.std.proofs.lemmas.List.{append-nil, drop_all}
 use Rattle.pm_model.specs.declared.host.HostFault.{HostFault}
 use Rattle.pm_model.specs.Words.{Words, Picks}
-use Rattle.pm_model.specs.Moments.{State, all_said}
+use Rattle.pm_model.specs.Moments.{State}
 use Rattle.pm_model.specs.Calls.{Says}
-use Rattle.pm_model.specs.Changes.{Leaves, Silently}
+use Rattle.pm_model.specs.Changes.{Leaves}
 use Rattle.pm_model.proofs.Leaves.{Leaves-then, Leaves-weaker, Leaves-says, Leaves-still, IsPrefix}
 use Rattle.pm_model.proofs.Said.{words-all_said, said-all_said, script-all_said, shelf-all_said}
 use Rattle.pud_defs.specs.declared.machine.Reply.{Reply}
@@ -15,10 +15,10 @@ use Rattle.pud_defs.specs.Step.{step_reply, step_world}
 use Rattle.pud_defs.specs.Run.{Turn, IsTurn, newlines}
 use Rattle.pud_defs.specs.Texts.{start_text, reply_text}
 use Rattle.pud_defs.specs.Stands.{StandsAfter, StandsWith}
-use Rattle.pud_defs.proofs.Lines.{newlines-append, newlines_part}
+use Rattle.pud_defs.proofs.Lines.{newlines_part}
 use Rattle.pud_defs.proofs.Said.{newlines-reply_text}
 use Rattle.type_maps.specs.Define.{HasDurableTypes}
-use Rattle.puddled.specs.Daemon.{KeepsRest, IsReady, IsPart, SaysPart, Applies, Starts, spoken, Answers}
+use Rattle.puddled.specs.Daemon.{KeepsRest, IsReady, SaysPart, Applies, Starts, spoken, Answers}
 
 some_is_not_none : (fault : HostFault) → Some fault ≡ None → ⊥
 some_is_not_none fault e = cc

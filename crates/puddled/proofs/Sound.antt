@@ -1,11 +1,11 @@
 -- Soundness from its parts.
-use Rattle.std.proofs.Common.{◌≡◌, ℕ, ◌+◌, ◌-◌, ◌*◌, ◌<◌, ◌≤◌, Bool, true, false, ◌&&◌, cond, eqb, Option, Some, None, refl, sym, ap, ◌∙◌, arith}
+use Rattle.std.proofs.Common.{◌≡◌, ℕ, ◌+◌, ◌-◌, ◌<◌, Bool, true, false, ◌&&◌, cond, eqb, Some, None, refl, sym, ap, ◌∙◌, arith}
 use Rattle.std.proofs.lemmas.Option.{cond_some}
 use Rattle.pud_defs.specs.declared.layout.TheConstants.{DAEMON_LOG, POOL_TABLE, MIN_FRAMES}
 use Rattle.pud_defs.specs.Layout.{tables_end, device_words}
 use Rattle.pud_defs.specs.Image.{Image}
 use Rattle.pud_defs.specs.Registry.{frames_of, is_sound, are_zero, has_magic, has_version, has_room, has_legal_number, has_legal_types, has_empty_log, has_empty_tables}
-use Rattle.pud_defs.proofs.Worlds.{StandsFor, standing_of_world, world_of-sound}
+use Rattle.pud_defs.proofs.Worlds.{standing_of_world, world_of-sound}
 use Rattle.puddled.specs.Soundness.{frames_described}
 
 described : ℕ → Image → Bool

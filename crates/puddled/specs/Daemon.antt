@@ -1,7 +1,7 @@
 -- What the daemon's start and one line do, at every moment.
 use Rattle.std.specs.Prelude.{◌≡◌, ◌⊎◌, ℕ, Bool, true, false, cond, List, [], ◌∷◌, ◌++◌, Option, Some, None, Result, Ok, Err}
 use Rattle.pm_model.specs.declared.host.HostFault.{HostFault}
-use Rattle.pm_model.specs.Words.{Words, Picks, reads}
+use Rattle.pm_model.specs.Words.{Picks}
 use Rattle.pm_model.specs.Moments.{State}
 use Rattle.pm_model.specs.Changes.{Leaves, Silently}
 use Rattle.pud_defs.specs.declared.machine.Reply.{Reply}

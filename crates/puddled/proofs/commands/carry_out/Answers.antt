@@ -1,4 +1,4 @@
-use Rattle.std.proofs.Common.{◌≡◌, ℕ, IfOk, Some, refl, sym, subst}
+use Rattle.std.proofs.Common.{◌≡◌, IfOk, Some, refl, sym, subst}
 use borrow.Enum.Total.{values_d}
 use Rattle.pm_model.specs.Counts.{fault_of}
 use Rattle.pud_defs.specs.contracts.machine.Command.{enum}

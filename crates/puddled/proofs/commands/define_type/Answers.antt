@@ -1,4 +1,4 @@
-use Rattle.std.proofs.Common.{Option, Some, None, refl, sym, ap, ◌∙◌}
+use Rattle.std.proofs.Common.{Option, Some, None, refl, ap, ◌∙◌}
 use Rattle.pm_model.specs.Words.{reads}
 use Rattle.pud_defs.specs.declared.machine.Refusal.{Refusal}
 use Rattle.pud_defs.specs.Step.{reply_to}

@@ -1,4 +1,4 @@
-use Rattle.std.proofs.Common.{◌≡◌, ℕ, ◌+◌, ◌*◌, ◌-◌, ◌<◌, length, get_or}
+use Rattle.std.proofs.Common.{◌≡◌, ℕ, ◌-◌, ◌<◌, length, get_or}
 use Rattle.pm_model.specs.Words.{reads}
 use Rattle.pud_defs.specs.Types.{type_record_at, are_legal_types}
 use Rattle.puddled.specs.Soundness.{last_records}

@@ -1,10 +1,5 @@
-use Rattle.std.proofs.Common.{◌≡◌, Option, Some, None, true, false, Bool, refl, sym, ap, subst, ◌∙◌}
+use Rattle.std.proofs.Common.{None}
 use Rattle.std.proofs.lemmas.Result.{err_from_is_err_and}
-use Rattle.pm_model.specs.Moments.{State}
-use Rattle.pm_model.specs.Calls.{Says}
-use Rattle.pud_defs.specs.declared.machine.Reply.{Reply}
-use Rattle.pud_defs.specs.Texts.{reply_text}
-use Rattle.puddled.specs.Daemon.{Answers}
 use Rattle.puddled.proofs.Lines.{Answers-silent, Answers-unsaid, Answers-said, KeepsRest-says}
 use Rattle.puddled.proofs.daemon.Daemon.exec.Goals as goal
 use Rattle.puddled.proofs.daemon.Daemon.exec.Goals.{then-aloud+in_ok-say_reply, else-aloud}
