@@ -132,3 +132,7 @@ said_clash = refl
 said_full : reply_text (replies.No refusals.Full) ≡ codes "no full" ++ 10 ∷ []
 unfolding opened
 said_full = refl
+
+said_cut : reply_text replies.Cut ≡ codes "cut" ++ 10 ∷ []
+unfolding opened
+said_cut = refl

@@ -14,6 +14,7 @@ newlines-reply_text replies.Ok = refl
 newlines-reply_text (replies.No refusals.Bad) = refl
 newlines-reply_text (replies.No refusals.Clash) = refl
 newlines-reply_text (replies.No refusals.Full) = refl
+newlines-reply_text replies.Cut = refl
 
 pub newlines-start_text : newlines start_text ≡ 1
 unfolding start_text

@@ -11,7 +11,7 @@ use Rattle.pud_defs.specs.declared.machine.Refusal.TheVariants as refusals
 use Rattle.pud_defs.specs.Types.{map_of}
 use Rattle.pud_defs.specs.World.{World}
 use Rattle.pud_defs.specs.Grammar.{command_of}
-use Rattle.pud_defs.specs.Step.{is_other, is_clash, is_full, holds, refusal_of, after, refusal_by, reply_to, world_by, unless_refused, Step}
+use Rattle.pud_defs.specs.Step.{is_other, is_clash, is_full, holds, refusal_of, after, refusal_by, reply_to, world_by, step_world, unless_refused, Step}
 use Rattle.pud_defs.proofs.TypeLists.{with_type-same, is_sorted-with_type}
 
 -- the first of the two causes, by whether each holds
@@ -70,3 +70,19 @@ step-done w line c e h = record {
 pub is_sorted-after : (w : World) (c : Command) → T (is_sorted nat_cmp w.stored.types) → T (is_sorted nat_cmp (after w c).stored.types)
 unfolding after
 is_sorted-after w (Define id map) h = is_sorted-with_type id map w.stored.types h
+
+shelf_after : (w : World) (c : Command) → (after w c).shelf ≡ w.shelf
+unfolding after
+shelf_after w (Define id map) = refl
+
+shelf_unless : (r : Option Refusal) (before later : World) → later.shelf ≡ before.shelf → (unless_refused r before later).shelf ≡ before.shelf
+shelf_unless None before later same = same
+shelf_unless (Some r) before later same = refl
+
+shelf_by : (w : World) (c : Option Command) → (world_by w c).shelf ≡ w.shelf
+shelf_by w None = refl
+shelf_by w (Some c) = shelf_unless (refusal_of w c) w (after w c) (shelf_after w c)
+
+-- the shelf stays
+pub shelf_of_step : (w : World) (line : List ℕ) → (step_world w line).shelf ≡ w.shelf
+shelf_of_step w line = shelf_by w (command_of line)

@@ -1,10 +1,11 @@
 -- A run: the turns of the machine over the lines of a script.
-use Rattle.std.specs.Prelude.{◌≡◌, ℕ, Bool, cond, not, ◌==◌, List, [], ◌∷◌, length, map, take, filter, count_by, ⊤}
+use Rattle.std.specs.Prelude.{◌≡◌, ◌⊎◌, ℕ, Bool, true, false, cond, not, ◌==◌, List, [], ◌∷◌, length, map, take, filter, count_by, ⊤}
 use Rattle.std.specs.List.{after_last}
 use Rattle.pud_defs.specs.declared.machine.Reply.{Reply}
-use Rattle.pud_defs.specs.World.{World}
+use Rattle.pud_defs.specs.declared.machine.Reply.TheVariants as replies
+use Rattle.pud_defs.specs.World.{World, restart}
 use Rattle.pud_defs.specs.Grammar.{split_at}
-use Rattle.pud_defs.specs.Step.{Step}
+use Rattle.pud_defs.specs.Step.{Step, step_world}
 
 -- A line with its reply, the world that the line gives, and the world from which the run goes on.
 pub record Turn : Type 0 where
@@ -14,9 +15,28 @@ pub record Turn : Type 0 where
   pub next : World
 
 -- a step of the machine, whose world the run goes on from
-pub record IsTurn (w : World) (t : Turn) : Type 0 where
+pub record IsStep (w : World) (t : Turn) : Type 0 where
   pub step : Step w t.line t.reply t.under
   pub goes_on : t.next ≡ t.under
+
+-- Power was lost while the line was carried out: the run goes on from the restarted world of before it, or of what the line gives.
+pub record IsCutOff (w : World) (t : Turn) : Type 0 where
+  pub answered : t.reply ≡ replies.Cut
+  pub given : t.under ≡ step_world w t.line
+  pub goes_on : (t.next ≡ restart w) ⊎ (t.next ≡ restart t.under)
+
+abbrev pub IsTurn : World → Turn → Type 0
+IsTurn w t = IsStep w t ⊎ IsCutOff w t
+
+-- whether the reply is `cut`
+abbrev pub is_cut : Reply → Bool
+is_cut replies.Ok = false
+is_cut (replies.No refusal) = false
+is_cut replies.Cut = true
+
+-- how many replies are `cut`
+abbrev pub cuts_of : List Turn → ℕ
+cuts_of turns = count_by (λ t. is_cut t.reply) turns
 
 -- each is a turn from the world that the one before it left
 abbrev pub IsRun : World → List Turn → Type 0

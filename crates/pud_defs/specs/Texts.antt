@@ -27,6 +27,7 @@ refusal_word refusals.Full = codes "full"
 unfoldable pub reply_text : Reply → List ℕ
 reply_text replies.Ok = line_of (codes "ok")
 reply_text (replies.No refusal) = line_of (codes "no " ++ refusal_word refusal)
+reply_text replies.Cut = line_of (codes "cut")
 
 -- what a run says
 abbrev pub replies_text : List Turn → List ℕ

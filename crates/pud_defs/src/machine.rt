@@ -14,6 +14,9 @@ pub enum Reply {
     Ok,
     /// The line was refused, and nothing changed.
     No(Refusal),
+    /// Power was lost while the line was carried out, and the daemon started again. The line was done wholly or not at
+    /// all.
+    Cut,
 }
 
 /// Why a line is refused. The first that holds, in this order, is answered.

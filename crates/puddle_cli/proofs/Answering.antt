@@ -1,7 +1,7 @@
 -- A script is answered line by line.
-use Rattle.std.proofs.Common.{◌≡◌, ℕ, zero, suc, ◌+◌, ◌<◌, ◌≤◌, Bool, true, false, List, [], ◌∷◌, ◌++◌, length, map, take, Option, Some, None, refl, sym, ap, subst, ◌∙◌, arith, append_assoc, length-append}
+use Rattle.std.proofs.Common.{◌≡◌, ℕ, zero, suc, ◌+◌, ◌<◌, ◌≤◌, Bool, true, false, List, [], ◌∷◌, ◌++◌, length, map, take, Option, Some, None, Result, inl, inr, refl, sym, ap, subst, ◌∙◌, arith, append_assoc, length-append}
 use Rattle.std.proofs.lemmas.List.{append-nil, map-append}
-use Rattle.pm_model.specs.declared.host.HostFault.{HostFault}
+use Rattle.pm_model.specs.Counts.{Counts}
 use Rattle.pm_model.specs.Words.{Image}
 use Rattle.pm_model.specs.Moments.{State, with_script}
 use Rattle.pm_model.specs.Calls.{TakesByte}
@@ -12,7 +12,7 @@ use Rattle.pud_defs.specs.declared.machine.Command.{Command}
 use Rattle.pud_defs.specs.World.{World}
 use Rattle.pud_defs.specs.Grammar.{command_of}
 use Rattle.pud_defs.specs.Step.{reply_to, refusal_by, world_by}
-use Rattle.pud_defs.specs.Run.{Turn, IsTurn, IsRun, last_world, newlines, open_rest, lines_taken, lines_among}
+use Rattle.pud_defs.specs.Run.{Turn, IsTurn, cuts_of, IsRun, last_world, newlines, open_rest, lines_taken, lines_among}
 use Rattle.pud_defs.specs.Texts.{reply_text, replies_text}
 use Rattle.pud_defs.specs.Stands.{StandsWith}
 use Rattle.pud_defs.proofs.Commands.{command_of-front}
@@ -20,6 +20,10 @@ use Rattle.pud_defs.proofs.Lines.{open_rest-newline, open_rest-other, open_rest-
 use Rattle.pud_defs.proofs.Runs.{IsRun-append, last_world-append}
 use Rattle.pud_defs.proofs.Said.{replies_text-append}
 use Rattle.pud_defs.proofs.Stands.{StandsAfter-more, StandsWith-later}
+use Rattle.puddled.specs.declared.daemon.RunFault.{RunFault}
+use Rattle.puddled.specs.declared.daemon.RunFault.TheVariants.{NotSound}
+use Rattle.puddled.specs.Faults.{run_fault, CountsTurns, IsCounted}
+use Rattle.puddled.proofs.Counted.{none_is_sound, counted_nothing, CountsTurns-one, CountsTurns-append}
 use Rattle.puddled.specs.Daemon.{KeepsRest, IsReady, SaysPart, Answers}
 use Rattle.puddle_cli.specs.Serving.{Takes, TakesAtMost, TakesAll, AnswersLine, Serves, Answered}
 
@@ -44,23 +48,32 @@ kept_more xs byte = kept_shorter 129 xs byte
 relined : Turn → List ℕ → Turn
 relined t line = record t { line = line }
 
-is_turn_relined : (w : World) (t : Turn) (piece line : List ℕ) → t.line ≡ piece → piece ≡ take 129 line → IsTurn w t → IsTurn w (relined t line)
-unfolding relined
-is_turn_relined w t piece line of_line kept turn =
-    let same : command_of t.line ≡ command_of line = ap command_of (of_line ∙ kept) ∙ command_of-front line in
-    record {
-      step = record {
-        answered = turn.step.answered ∙ ap (λ (c : Option Command). reply_to (refusal_by w c)) same;
-        given = turn.step.given ∙ ap (λ (c : Option Command). world_by w c) same;
-      };
-      goes_on = turn.goes_on;
-    }
+module _ (w : World) (t : Turn) (piece line : List ℕ) (of_line : t.line ≡ piece) (kept : piece ≡ take 129 line) where
+  same_command : command_of t.line ≡ command_of line
+  same_command = ap command_of (of_line ∙ kept) ∙ command_of-front line
+
+  is_turn_relined : IsTurn w t → IsTurn w (relined t line)
+  unfolding relined
+  is_turn_relined (inl turn) =
+      inl (record {
+        step = record {
+          answered = turn.step.answered ∙ ap (λ (c : Option Command). reply_to (refusal_by w c)) same_command;
+          given = turn.step.given ∙ ap (λ (c : Option Command). world_by w c) same_command;
+        };
+        goes_on = turn.goes_on;
+      })
+  is_turn_relined (inr turn) =
+      inr (record {
+        answered = turn.answered;
+        given = turn.given ∙ ap (λ (c : Option Command). world_by w c) same_command;
+        goes_on = turn.goes_on;
+      })
 
 -- a line that is not empty
-pub AnswersLine-turn : (size : ℕ) (w : World) (piece line : List ℕ) (fault : Option HostFault) (old new : State) → (piece ≡ [] → ⊥) → piece ≡ take 129 line
-    → Answers size w piece true fault old new → AnswersLine size w line fault old new
+pub AnswersLine-turn : (size : ℕ) (w : World) (piece line : List ℕ) (result : Result Bool RunFault) (before after : Counts) (old new : State) → (piece ≡ [] → ⊥) → piece ≡ take 129 line
+    → Answers size w piece true result before after old new → AnswersLine size w line (run_fault result) before after old new
 unfolding relined
-AnswersLine-turn size w piece line fault old new some kept a =
+AnswersLine-turn size w piece line result before after old new some kept a =
     let t = relined a.turn line in
     let longer : length line ≡ 0 → ⊥ = λ none. some (kept ∙ ap (λ (l : List ℕ). take 129 l) (nothing_long line none)) in
     record {
@@ -69,15 +82,19 @@ AnswersLine-turn size w piece line fault old new some kept a =
       lines = sym (lines_among_line line longer);
       is_run = (is_turn_relined w a.turn piece line a.of_line kept a.is_turn, tt);
       moments = a.moments;
-      says = subst (λ (text : List ℕ). SaysPart text fault old new) (sym (append-nil (reply_text a.turn.reply))) a.says;
+      says = subst (λ (text : List ℕ). SaysPart text (run_fault result) old new) (sym (append-nil (reply_text a.turn.reply))) a.says;
       ready = a.ready;
+      counted = a.counted;
+      turns_counted = λ none. CountsTurns-one t before after (run_fault result) none a.counted;
+      sound = a.sound;
       script = a.script;
     }
 
 -- an empty one
-pub AnswersLine-nothing : (size : ℕ) (w : World) (line : List ℕ) (old new : State) → IsReady size w old → take 129 line ≡ [] → new ≡ old → AnswersLine size w line None old new
-AnswersLine-nothing size w line old new ready none same =
-    subst (λ (n : State). AnswersLine size w line None old n) (sym same) (record {
+pub AnswersLine-nothing : (size : ℕ) (w : World) (line : List ℕ) (before after : Counts) (old new : State) → IsReady size w old → take 129 line ≡ [] → after ≡ before → new ≡ old
+    → AnswersLine size w line None before after old new
+AnswersLine-nothing size w line before after old new ready none uncounted same =
+    subst (λ (n : State). AnswersLine size w line None before after old n) (sym same) (record {
       turns = [];
       few = omega arith;
       lines = sym (lines_among_empty line (ap length (nothing_from_take line none)));
@@ -85,6 +102,9 @@ AnswersLine-nothing size w line old new ready none same =
       moments = Leaves-still (StandsWith size w []) old old (λ image picked. ready.stands image picked) refl;
       says = record { bytes = []; rest = []; part = refl; said = sym (append-nil old.now.said); whole = λ _. refl };
       ready = λ _. ready;
+      counted = counted_nothing before after uncounted;
+      turns_counted = λ _. uncounted;
+      sound = none_is_sound;
       script = refl;
     })
 
@@ -96,13 +116,18 @@ IsReady-script : (size : ℕ) (w : World) (bytes : List ℕ) (s : State) → IsR
 IsReady-script size w bytes s r = record { stands = r.stands; types = r.types; shelf = r.shelf }
 
 -- ready where the bytes taken left the daemon, after a byte more was read
-pub ready_read : (size : ℕ) (w : World) (start now after : State) (piece : List ℕ) (byte : Option ℕ) → (s : Serves size w start now piece) → TakesByte byte now after → IsReady size (last_world w s.turns) after
-ready_read size w start now after piece None s took = subst (λ (n : State). IsReady size (last_world w s.turns) n) (sym took.1) s.ready
-ready_read size w start now after piece (Some b) s took =
+pub ready_read : (size : ℕ) (w : World) (before : Counts) (start : State) (counts : Counts) (now after : State) (piece : List ℕ) (byte : Option ℕ)
+    → (s : Serves size w before start counts now piece) → TakesByte byte now after → IsReady size (last_world w s.turns) after
+ready_read size w before start counts now after piece None s took = subst (λ (n : State). IsReady size (last_world w s.turns) n) (sym took.1) s.ready
+ready_read size w before start counts now after piece (Some b) s took =
     subst (λ (n : State). IsReady size (last_world w s.turns) n) (sym took.1) (IsReady-script size (last_world w s.turns) after.script now s.ready)
 
 -- one line more, behind those that were answered: at the exit of a call that answered it
-module _ (size : ℕ) (w : World) (start now read : State) (piece : List ℕ) (s : Serves size w start now piece) where
+module _ (size : ℕ) (w : World) (before : Counts) (start : State) (counts : Counts) (now : State) (read_counts : Counts) (read : State) (piece : List ℕ) (uncounted : read_counts ≡ counts) (s : Serves size w before start counts now piece) where
+  -- the counts stay as a byte is read
+  so_far_counted : CountsTurns s.turns before read_counts
+  so_far_counted = subst (λ (x : Counts). CountsTurns s.turns before x) (sym uncounted) s.counted
+
   joined_moments : (turns : List Turn) (new : State) → Leaves (StandsWith size w s.turns) start read → read.now.said ≡ start.now.said ++ replies_text s.turns
       → Leaves (StandsWith size (last_world w s.turns) turns) read new → Leaves (StandsWith size w (s.turns ++ turns)) start new
   joined_moments turns new so_far said line =
@@ -117,12 +142,13 @@ module _ (size : ℕ) (w : World) (start now read : State) (piece : List ℕ) (s
       map-append (λ (t : Turn). t.line) s.turns turns ∙ (λ i. s.lines i ++ line i) ∙ sym all
 
   -- with a fault, or at the end of the script
-  pub Answered-line : (taken : List ℕ) (ended : Bool) (fault : Option HostFault) (new : State)
+  pub Answered-line : (taken : List ℕ) (ended : Bool) (fault : Option RunFault) (after : Counts) (new : State)
       → lines_taken taken ended ≡ lines_taken s.taken false ++ lines_among (open_rest s.taken ∷ [])
       → start.script ≡ taken ++ read.script → (ended ≡ true → read.script ≡ [])
       → Leaves (StandsWith size w s.turns) start read → read.now.said ≡ start.now.said ++ replies_text s.turns
-      → (a : AnswersLine size (last_world w s.turns) (open_rest s.taken) fault read new) → (fault ≡ None → ⊥) → Answered size w ended fault start new
-  Answered-line taken ended fault new all script to_end so_far said a faulty =
+      → (a : AnswersLine size (last_world w s.turns) (open_rest s.taken) fault read_counts after read new) → (fault ≡ None → ⊥)
+      → Answered size w ended fault before after start new
+  Answered-line taken ended fault after new all script to_end so_far said a faulty =
       record {
         taken = taken;
         answered = s.turns;
@@ -139,6 +165,10 @@ module _ (size : ℕ) (w : World) (start now read : State) (piece : List ℕ) (s
         whole = λ none. absurd (faulty none);
         moments = joined_moments a.turns new so_far said a.moments;
         ready = λ none. absurd (faulty none);
+        mid = read_counts;
+        turns_counted = so_far_counted;
+        counted = a.counted;
+        sound = a.sound;
       }
 
   all_said_whole : (turns : List Turn) (bytes rest : List ℕ) (old new : State) → replies_text turns ≡ bytes ++ rest → rest ≡ [] → new.now.said ≡ old.now.said ++ bytes
@@ -149,8 +179,9 @@ module _ (size : ℕ) (w : World) (start now read : State) (piece : List ℕ) (s
       ∙ ap (λ (l : List ℕ). start.now.said ++ (replies_text s.turns ++ l)) (sym whole) ∙ ap (λ (l : List ℕ). start.now.said ++ l) (sym (replies_text-append s.turns turns))
 
   -- the script is answered to its end
-  pub Answered-end : (new : State) → read ≡ now → now.script ≡ [] → (a : AnswersLine size (last_world w s.turns) (open_rest s.taken) None read new) → Answered size w true None start new
-  Answered-end new same none_left a =
+  pub Answered-end : (after : Counts) (new : State) → read ≡ now → now.script ≡ [] → (a : AnswersLine size (last_world w s.turns) (open_rest s.taken) None read_counts after read new)
+      → Answered size w true None before after start new
+  Answered-end after new same none_left a =
       let said = ap (λ (x : State). x.now.said) same ∙ s.said in
       let so_far = subst (λ (n : State). Leaves (StandsWith size w s.turns) start n) (sym same) s.moments in
       record {
@@ -169,11 +200,16 @@ module _ (size : ℕ) (w : World) (start now read : State) (piece : List ℕ) (s
         whole = λ _. refl;
         moments = subst (λ (ts : List Turn). Leaves (StandsWith size w ts) start new) (sym (append-nil (s.turns ++ a.turns))) (joined_moments a.turns new so_far said a.moments);
         ready = λ _. subst (λ (v : World). IsReady size v new) (sym (last_world-append w s.turns a.turns)) (a.ready refl);
+        mid = after;
+        turns_counted = CountsTurns-append s.turns a.turns before read_counts after so_far_counted (a.turns_counted refl);
+        counted = counted_nothing after after refl;
+        sound = none_is_sound;
       }
 
   -- a newline was taken, and the line that it ends was answered
-  pub Serves-line : (byte : ℕ) (new : State) → byte ≡ 10 → TakesByte (Some byte) now read → (a : AnswersLine size (last_world w s.turns) (open_rest s.taken) None read new) → Serves size w start new []
-  Serves-line byte new newline took a =
+  pub Serves-line : (byte : ℕ) (after : Counts) (new : State) → byte ≡ 10 → TakesByte (Some byte) now read
+      → (a : AnswersLine size (last_world w s.turns) (open_rest s.taken) None read_counts after read new) → Serves size w before start after new []
+  Serves-line byte after new newline took a =
       let said : read.now.said ≡ start.now.said ++ replies_text s.turns = ap (λ (x : State). x.now.said) took.1 ∙ s.said in
       let so_far : Leaves (StandsWith size w s.turns) start read = subst (λ (n : State). Leaves (StandsWith size w s.turns) start n) (sym took.1) (Leaves-script (StandsWith size w s.turns) read.script start now s.moments) in
       record {
@@ -186,13 +222,14 @@ module _ (size : ℕ) (w : World) (start now read : State) (piece : List ℕ) (s
         said = all_said_whole a.turns a.says.bytes a.says.rest read new a.says.part (a.says.whole refl) a.says.said said;
         moments = joined_moments a.turns new so_far said a.moments;
         ready = subst (λ (v : World). IsReady size v new) (sym (last_world-append w s.turns a.turns)) (a.ready refl);
+        counted = CountsTurns-append s.turns a.turns before read_counts after so_far_counted (a.turns_counted refl);
       }
 
   -- it was taken, and the line was not answered whole
-  pub Answered-newline : (byte : ℕ) (fault : HostFault) (new : State) → byte ≡ 10 → TakesByte (Some byte) now read → AnswersLine size (last_world w s.turns) (open_rest s.taken) (Some fault) read new
-      → Answered size w false (Some fault) start new
-  Answered-newline byte fault new newline took a =
-      Answered-line (s.taken ++ byte ∷ []) false (Some fault) new (lines_taken-newline s.taken byte newline)
+  pub Answered-newline : (byte : ℕ) (fault : RunFault) (after : Counts) (new : State) → byte ≡ 10 → TakesByte (Some byte) now read
+      → AnswersLine size (last_world w s.turns) (open_rest s.taken) (Some fault) read_counts after read new → Answered size w false (Some fault) before after start new
+  Answered-newline byte fault after new newline took a =
+      Answered-line (s.taken ++ byte ∷ []) false (Some fault) after new (lines_taken-newline s.taken byte newline)
       (s.script ∙ ap (λ (l : List ℕ). s.taken ++ l) took.0 ∙ sym (append_assoc s.taken (byte ∷ []) read.script))
       (λ e. absurd (let no : false ≡ true = e in cc))
       (subst (λ (n : State). Leaves (StandsWith size w s.turns) start n) (sym took.1) (Leaves-script (StandsWith size w s.turns) read.script start now s.moments))
@@ -200,9 +237,10 @@ module _ (size : ℕ) (w : World) (start now read : State) (piece : List ℕ) (s
       a (λ none. let no : Some fault ≡ None = none in cc)
 
   -- the end was read, and the last line was not answered whole
-  pub Answered-last : (fault : HostFault) (new : State) → read ≡ now → now.script ≡ [] → AnswersLine size (last_world w s.turns) (open_rest s.taken) (Some fault) read new → Answered size w true (Some fault) start new
-  Answered-last fault new same none_left a =
-      Answered-line s.taken true (Some fault) new (lines_taken-end s.taken)
+  pub Answered-last : (fault : RunFault) (after : Counts) (new : State) → read ≡ now → now.script ≡ []
+      → AnswersLine size (last_world w s.turns) (open_rest s.taken) (Some fault) read_counts after read new → Answered size w true (Some fault) before after start new
+  Answered-last fault after new same none_left a =
+      Answered-line s.taken true (Some fault) after new (lines_taken-end s.taken)
       (s.script ∙ ap (λ (x : State). s.taken ++ x.script) (sym same))
       (λ _. ap (λ (x : State). x.script) same ∙ none_left)
       (subst (λ (n : State). Leaves (StandsWith size w s.turns) start n) (sym same) s.moments)
@@ -210,9 +248,9 @@ module _ (size : ℕ) (w : World) (start now read : State) (piece : List ℕ) (s
       a (λ none. let no : Some fault ≡ None = none in cc)
 
   -- nothing more was taken or said
-  pub Answered-so_far : (fault : Option HostFault) → read ≡ now → Answered size w false fault start read
-  Answered-so_far fault same =
-      subst (λ (n : State). Answered size w false fault start n) (sym same) (record {
+  pub Answered-so_far : (fault : Option RunFault) (after : Counts) → read ≡ now → IsCounted fault 0 read_counts after → (fault ≡ Some NotSound → ⊥) → Answered size w false fault before after start read
+  Answered-so_far fault after same last is_sound =
+      subst (λ (n : State). Answered size w false fault before after start n) (sym same) (record {
         taken = s.taken;
         answered = s.turns;
         pending = [];
@@ -228,10 +266,14 @@ module _ (size : ℕ) (w : World) (start now read : State) (piece : List ℕ) (s
         whole = λ _. refl;
         moments = subst (λ (ts : List Turn). Leaves (StandsWith size w ts) start now) (sym (append-nil s.turns)) s.moments;
         ready = λ _. s.ready;
+        mid = read_counts;
+        turns_counted = so_far_counted;
+        counted = last;
+        sound = is_sound;
       })
 
   -- another byte was taken
-  pub Serves-byte : (byte : ℕ) → (byte ≡ 10 → ⊥) → TakesByte (Some byte) now read → Serves size w start read (take 129 (piece ++ byte ∷ []))
+  pub Serves-byte : (byte : ℕ) → (byte ≡ 10 → ⊥) → TakesByte (Some byte) now read → Serves size w before start read_counts read (take 129 (piece ++ byte ∷ []))
   Serves-byte byte other took =
       record {
         taken = s.taken ++ byte ∷ [];
@@ -243,12 +285,13 @@ module _ (size : ℕ) (w : World) (start now read : State) (piece : List ℕ) (s
         said = ap (λ (x : State). x.now.said) took.1 ∙ s.said;
         moments = subst (λ (n : State). Leaves (StandsWith size w s.turns) start n) (sym took.1) (Leaves-script (StandsWith size w s.turns) read.script start now s.moments);
         ready = subst (λ (n : State). IsReady size (last_world w s.turns) n) (sym took.1) (IsReady-script size (last_world w s.turns) read.script now s.ready);
+        counted = so_far_counted;
       }
 
 -- before any byte is taken
-pub Serves-start : (size : ℕ) (w : World) (start now : State) → now ≡ start → IsReady size w start → Serves size w start now []
-Serves-start size w start now same ready =
-    subst (λ (n : State). Serves size w start n []) (sym same) (record {
+pub Serves-start : (size : ℕ) (w : World) (before : Counts) (start now : State) → now ≡ start → IsReady size w start → Serves size w before start before now []
+Serves-start size w before start now same ready =
+    subst (λ (n : State). Serves size w before start before n []) (sym same) (record {
       taken = [];
       turns = [];
       is_run = tt;
@@ -258,6 +301,7 @@ Serves-start size w start now same ready =
       said = sym (append-nil start.now.said);
       moments = Leaves-still (StandsWith size w []) start start (λ image picked. ready.stands image picked) refl;
       ready = ready;
+      counted = refl;
     })
 
 -- ---- the bytes taken, whatever the device holds

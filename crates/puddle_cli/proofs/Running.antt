@@ -3,23 +3,43 @@ use Rattle.std.proofs.Common.{◌≡◌, inl, inr, ℕ, zero, suc, ◌+◌, ◌�
 use Rattle.std.proofs.lemmas.List.{append-nil}
 use Rattle.std.proofs.Math.Numerals.{one-add}
 use Rattle.pm_model.specs.declared.host.HostFault.{HostFault}
+use Rattle.pm_model.specs.declared.host.HostFault.TheVariants as hosts
+use Rattle.pm_model.specs.Counts.{Counts, after_fault}
 use Rattle.pm_model.specs.Words.{Words, Image, Picks, IsRested, reads}
 use Rattle.pm_model.specs.Moments.{State}
 use Rattle.pm_model.specs.Changes.{Leaves}
 use Rattle.pm_model.proofs.Words.{reads_only}
 use Rattle.pm_model.proofs.Leaves.{Leaves-then, Leaves-weaker, Leaves-each}
 use Rattle.pud_defs.specs.World.{World, world_of, closed}
-use Rattle.pud_defs.specs.Run.{Turn, newlines}
+use Rattle.pud_defs.specs.Run.{Turn, cuts_of, newlines}
 use Rattle.pud_defs.specs.Texts.{start_text, replies_text}
 use Rattle.pud_defs.specs.Stands.{StandsWith, StandsBehindStart}
 use Rattle.pud_defs.proofs.Lines.{newlines-append, newlines_part, lines_taken-nothing}
 use Rattle.pud_defs.proofs.Said.{newlines-start_text}
 use Rattle.type_maps.specs.Define.{HasDurableTypes}
+use Rattle.puddled.specs.declared.daemon.RunFault.{RunFault}
+use Rattle.puddled.specs.declared.daemon.RunFault.TheVariants as faults
+use Rattle.puddled.specs.Faults.{RoseBy, CountsTurns, IsCounted}
+use Rattle.puddled.proofs.Counted.{counted_failed, IsCounted-then, CountsTurns-cuts, RoseBy-fewer, rose_of_counted, rose_with_losses}
 use Rattle.puddled.specs.Daemon.{IsReady, Starts}
-use Rattle.puddle_cli.specs.declared.status.TheConstants.{DONE, TOO_LONG}
-use Rattle.puddle_cli.specs.Status.{status_fault}
+use Rattle.puddle_cli.specs.declared.status.TheConstants.{DONE, DEVICE_FAULT, POWER_LOST, TOO_LONG}
+use Rattle.puddle_cli.specs.Status.{status_fault, run_fault_at, IsStatusOfMode}
 use Rattle.puddle_cli.specs.Serving.{Answered}
 use Rattle.puddle_cli.specs.Headline.{Headline}
+use Rattle.puddle_cli.proofs.Statuses.{failed_status}
+
+-- the counts of all lines, and of what ended the run
+all_counted : (fault : Option RunFault) (answered : List Turn) (n : ℕ) (before mid after : Counts) → CountsTurns answered before mid → IsCounted fault n mid after
+    → IsCounted fault (n + cuts_of answered) before after
+all_counted fault answered n before mid after turns last = IsCounted-then fault (cuts_of answered) n before mid after (CountsTurns-cuts answered before mid turns) last
+
+rose_at_least : (fault : Option RunFault) (n k : ℕ) (before after : Counts) → IsCounted fault (n + k) before after → RoseBy k before.cuts after.cuts
+rose_at_least fault n k before after c = RoseBy-fewer n k before.cuts after.cuts (rose_of_counted fault (n + k) before after c)
+
+rose_in_start : (n k : ℕ) (before after : Counts) → IsCounted (Some faults.CutInStart) (n + k) before after → RoseBy (2 + k) before.cuts after.cuts
+rose_in_start n k before after c =
+    let more : 2 + (n + k) ≡ n + (2 + k) = omega arith in
+    RoseBy-fewer n (2 + k) before.cuts after.cuts (subst (λ (x : ℕ). RoseBy x before.cuts after.cuts) more (rose_with_losses (Some faults.CutInStart) (n + k) before after c))
 
 -- a rested device whose words stand for the world is one to start on
 module _ (size : ℕ) (w : World) (start : State) (rested : IsRested start.now.words) (stands : world_of size (reads start.now.words) ≡ Some (closed w)) where
@@ -49,9 +69,10 @@ module _ (size : ℕ) (w : World) (start : State) (rested : IsRested start.now.w
       stands_at_start turns (newlines bytes) image (omega arith) (each_stands image m.1)) s.moments
 
   -- the host failed within the start
-  pub Headline-in_start : (status : ℕ) (fault : HostFault) (now : State) → status_fault status ≡ Some fault → start.shelf ≡ w.shelf → Starts (Some fault) start now → Headline size w status start now
-  Headline-in_start status fault now is shelf s =
-      let not_whole : status_fault status ≡ None → ⊥ = λ none. let no : Some fault ≡ None = sym is ∙ none in cc in
+  pub Headline-in_start : (before after : Counts) (now : State) → after ≡ after_fault (Some hosts.Failed) before → start.shelf ≡ w.shelf → Starts (Some hosts.Failed) start now
+      → Headline size w DEVICE_FAULT before after start now
+  Headline-in_start before after now last shelf s =
+      let not_whole : run_fault_at DEVICE_FAULT ≡ None → ⊥ = λ none. let no : Some faults.Failed ≡ None = none in cc in
       record {
         taken = [];
         ended = false;
@@ -66,13 +87,24 @@ module _ (size : ℕ) (w : World) (start : State) (rested : IsRested start.now.w
         said = s.says.said;
         how_far = inl (record { nothing_taken = refl; no_turns = refl; rest = s.says.rest; part = s.says.part });
         whole = λ none. absurd (not_whole none);
-        all_lines = λ done. absurd (not_whole (ap status_fault done));
+        all_lines = λ done. absurd (not_whole (ap run_fault_at done));
         not_ended = λ _. refl;
         ends = λ none. absurd (not_whole none);
         shelf = s.shelf ∙ shelf;
         shelf_of_run = λ none. absurd (not_whole none);
-        moments = Leaves-each (λ said image. StandsBehindStart size w [] (newlines said) image) start now (start_moments [] (Some fault) now s);
+        moments = Leaves-each (λ said image. StandsBehindStart size w [] (newlines said) image) start now (start_moments [] (Some hosts.Failed) now s);
+        mid = before;
+        turns_counted = refl;
+        counted = counted_failed before after last;
+        cuts = rose_of_counted (Some faults.Failed) 0 before after (counted_failed before after last);
+        cuts_in_start = λ e. absurd (let no : DEVICE_FAULT ≡ POWER_LOST = e in cc);
       }
+
+  pub Headline-failed : (fault : HostFault) (status : ℕ) (before after : Counts) (now : State) → (Some fault ≡ Some hosts.Cut → ⊥) → IsStatusOfMode status → status_fault status ≡ Some fault
+      → after ≡ after_fault (Some fault) before → start.shelf ≡ w.shelf → Starts (Some fault) start now → Headline size w status before after start now
+  Headline-failed hosts.Failed status before after now never_cut of_mode is last shelf s =
+      subst (λ (x : ℕ). Headline size w x before after start now) (sym (failed_status status of_mode is)) (Headline-in_start before after now last shelf s)
+  Headline-failed hosts.Cut status before after now never_cut of_mode is last shelf s = absurd (never_cut refl)
 
   said_behind : (mid now : State) (replies more : List ℕ) → mid.now.said ≡ start.now.said ++ start_text → now.now.said ≡ mid.now.said ++ replies ++ more
       → now.now.said ≡ start.now.said ++ (start_text ++ replies ++ more)
@@ -86,10 +118,10 @@ module _ (size : ℕ) (w : World) (start : State) (rested : IsRested start.now.w
   nothing_more (b ∷ more) rest e = absurd (let no : [] ≡ b ∷ (more ++ rest) = e in cc)
 
   -- the start was said whole, and the script was answered so far
-  pub Headline-behind_start : (status : ℕ) (ended : Bool) (fault : Option HostFault) (mid now : State) → start.shelf ≡ w.shelf → Starts None start mid → now.shelf ≡ mid.shelf
-      → status_fault status ≡ fault → (status ≡ DONE → ended ≡ true) → (status ≡ TOO_LONG → ended ≡ false)
-      → Answered size w ended fault mid now → Headline size w status start now
-  Headline-behind_start status ended fault mid now shelf s kept is done too_long a =
+  pub Headline-behind_start : (status : ℕ) (ended : Bool) (fault : Option RunFault) (before after : Counts) (mid now : State) → start.shelf ≡ w.shelf → Starts None start mid → now.shelf ≡ mid.shelf
+      → run_fault_at status ≡ fault → (status ≡ DONE → ended ≡ true) → (status ≡ TOO_LONG → ended ≡ false)
+      → Answered size w ended fault before after mid now → Headline size w status before after start now
+  Headline-behind_start status ended fault before after mid now shelf s kept is done too_long a =
       let first : mid.now.said ≡ start.now.said ++ start_text =
       s.says.said ∙ ap (λ (l : List ℕ). start.now.said ++ l) (sym (s.says.part ∙ ap (λ (l : List ℕ). s.says.bytes ++ l) (s.says.whole refl) ∙ append-nil s.says.bytes)) in
       record {
@@ -119,4 +151,12 @@ module _ (size : ℕ) (w : World) (start : State) (rested : IsRested start.now.w
             (λ more image p. subst (λ (n : ℕ). StandsBehindStart size w (a.answered ++ a.pending) n image)
             (sym (newlines-append start_text more ∙ ap (λ (n : ℕ). n + newlines more) newlines-start_text ∙ one-add (newlines more))) p)
             (start_moments (a.answered ++ a.pending) None mid s) a.moments);
+        mid = a.mid;
+        turns_counted = a.turns_counted;
+        counted = subst (λ (f : Option RunFault). IsCounted f (cuts_of a.pending) a.mid after) (sym is) a.counted;
+        cuts = rose_at_least fault (cuts_of a.pending) (cuts_of a.answered) before after (all_counted fault a.answered (cuts_of a.pending) before a.mid after a.turns_counted a.counted);
+        cuts_in_start = λ lost.
+            let cut : fault ≡ Some faults.CutInStart = sym is ∙ ap run_fault_at lost in
+            rose_in_start (cuts_of a.pending) (cuts_of a.answered) before after
+            (subst (λ (f : Option RunFault). IsCounted f (cuts_of a.pending + cuts_of a.answered) before after) cut (all_counted fault a.answered (cuts_of a.pending) before a.mid after a.turns_counted a.counted));
       }

@@ -1,15 +1,17 @@
 -- What the program says and leaves over a script, for one and the same run of the machine.
-use Rattle.std.specs.Prelude.{◌≡◌, ◌⊎◌, ℕ, ◌<◌, ◌≤◌, Bool, true, false, List, [], ◌++◌, length, map, Some, None}
+use Rattle.std.specs.Prelude.{◌≡◌, ◌⊎◌, ℕ, ◌+◌, ◌<◌, ◌≤◌, Bool, true, false, List, [], ◌++◌, length, map, Some, None}
 use Rattle.pm_model.specs.Words.{Picks}
+use Rattle.pm_model.specs.Counts.{Counts}
 use Rattle.pm_model.specs.Moments.{State, MayLeave}
 use Rattle.pud_defs.specs.declared.layout.TheConstants.{SCRIPT_LIMIT}
 use Rattle.pud_defs.specs.Image.{Image}
 use Rattle.pud_defs.specs.World.{World, world_of, closed}
-use Rattle.pud_defs.specs.Run.{Turn, IsRun, last_world, lines_taken, newlines}
+use Rattle.pud_defs.specs.Run.{Turn, cuts_of, IsRun, last_world, lines_taken, newlines}
 use Rattle.pud_defs.specs.Texts.{start_text, replies_text}
 use Rattle.pud_defs.specs.Stands.{StandsBehindStart}
-use Rattle.puddle_cli.specs.declared.status.TheConstants.{DONE, NOT_USABLE, TOO_LONG}
-use Rattle.puddle_cli.specs.Status.{status_fault}
+use Rattle.puddle_cli.specs.declared.status.TheConstants.{DONE, POWER_LOST, TOO_LONG}
+use Rattle.puddled.specs.Faults.{RoseBy, CountsTurns, IsCounted}
+use Rattle.puddle_cli.specs.Status.{run_fault_at}
 
 -- Bytes of the script were taken: all of them at status 0, and 2^20 at status 7.
 pub record TakesScript (status : ℕ) (start end : State) : Type 0 where
@@ -18,7 +20,6 @@ pub record TakesScript (status : ℕ) (start end : State) : Type 0 where
   pub within : length taken ≤ SCRIPT_LIMIT
   pub done : status ≡ DONE → (end.script ≡ []) × (length taken < SCRIPT_LIMIT)
   pub too_long : status ≡ TOO_LONG → length taken ≡ SCRIPT_LIMIT
-  pub not_usable : status ≡ NOT_USABLE → taken ≡ []
   pub shelf : end.shelf ≡ start.shelf
 
 -- Within the start some bytes of the start text were said and nothing was taken. Behind it the start text, the replies to the lines answered
@@ -36,7 +37,7 @@ pub record IsBehindStart (answered pending : List Turn) (bytes : List ℕ) : Typ
   pub part : replies_text pending ≡ more ++ rest
 
 -- The exit and the moments of one run over a script, from a device whose images all stand for the stored world of w.
-pub record Headline (size : ℕ) (w : World) (status : ℕ) (start end : State) : Type 0 where
+pub record Headline (size : ℕ) (w : World) (status : ℕ) (before after : Counts) (start end : State) : Type 0 where
   -- the bytes taken, whether their end was read, and the lines that they are: some answered, and at most one without a whole reply
   pub taken : List ℕ
   pub ended : Bool
@@ -52,11 +53,17 @@ pub record Headline (size : ℕ) (w : World) (status : ℕ) (start end : State) 
   pub said : end.now.said ≡ start.now.said ++ bytes
   pub how_far : IsInStart taken (answered ++ pending) bytes ⊎ IsBehindStart answered pending bytes
   -- at status 0 and 7 the run is whole, and each image left stands for its closed last world
-  pub whole : status_fault status ≡ None → (pending ≡ []) × (bytes ≡ start_text ++ replies_text answered)
+  pub whole : run_fault_at status ≡ None → (pending ≡ []) × (bytes ≡ start_text ++ replies_text answered)
   pub all_lines : status ≡ DONE → ended ≡ true
   pub not_ended : status ≡ TOO_LONG → ended ≡ false
-  pub ends : status_fault status ≡ None → (image : Image) → Picks end.now.words image → world_of size image ≡ Some (closed (last_world w answered))
+  pub ends : run_fault_at status ≡ None → (image : Image) → Picks end.now.words image → world_of size image ≡ Some (closed (last_world w answered))
   pub shelf : end.shelf ≡ w.shelf
-  pub shelf_of_run : status_fault status ≡ None → end.shelf ≡ (last_world w answered).shelf
+  pub shelf_of_run : run_fault_at status ≡ None → end.shelf ≡ (last_world w answered).shelf
   -- at every moment: an image that may have been left since the start of the call, together with the bytes said since then
   pub moments : (said : List ℕ) (image : Image) → MayLeave start end said image → StandsBehindStart size w (answered ++ pending) (newlines said) image
+  -- power was lost in each line whose reply is `cut`, and at status 6 twice more in the line that has no reply
+  pub mid : Counts
+  pub turns_counted : CountsTurns answered before mid
+  pub counted : IsCounted (run_fault_at status) (cuts_of pending) mid after
+  pub cuts : RoseBy (cuts_of answered) before.cuts after.cuts
+  pub cuts_in_start : status ≡ POWER_LOST → RoseBy (2 + cuts_of answered) before.cuts after.cuts

@@ -1,13 +1,16 @@
 -- How far a script was answered.
-use Rattle.std.specs.Prelude.{◌≡◌, ℕ, ◌+◌, ◌<◌, ◌≤◌, Bool, true, false, List, [], ◌∷◌, ◌++◌, length, map, take, Option, Some, None, Result, Ok, Err}
-use Rattle.pm_model.specs.declared.host.HostFault.{HostFault}
+use Rattle.std.specs.Prelude.{◌≡◌, ◌≢◌, ℕ, ◌+◌, ◌<◌, ◌≤◌, Bool, true, false, List, [], ◌∷◌, ◌++◌, length, map, take, Option, Some, None, Result, Ok, Err}
+use Rattle.pm_model.specs.Counts.{Counts}
 use Rattle.pm_model.specs.Moments.{State}
 use Rattle.pm_model.specs.Changes.{Leaves}
 use Rattle.pud_defs.specs.declared.layout.TheConstants.{SCRIPT_LIMIT}
 use Rattle.pud_defs.specs.World.{World}
-use Rattle.pud_defs.specs.Run.{Turn, IsRun, last_world, open_rest, lines_taken, lines_among}
+use Rattle.pud_defs.specs.Run.{Turn, cuts_of, IsRun, last_world, open_rest, lines_taken, lines_among}
 use Rattle.pud_defs.specs.Texts.{replies_text}
 use Rattle.pud_defs.specs.Stands.{StandsWith}
+use Rattle.puddled.specs.declared.daemon.RunFault.{RunFault}
+use Rattle.puddled.specs.declared.daemon.RunFault.TheVariants.{NotSound}
+use Rattle.puddled.specs.Faults.{CountsTurns, IsCounted}
 use Rattle.puddled.specs.Daemon.{IsReady, SaysPart}
 
 -- so many bytes of the script were taken
@@ -33,19 +36,19 @@ pub record TakesAll (start now : State) : Type 0 where
   pub shelf : now.shelf ≡ start.shelf
 
 -- what a call that reads a script took of it, by whether it came to its end
-abbrev pub TakesBy : Result Bool HostFault → State → State → Type 0
+abbrev pub TakesBy : Result Bool RunFault → State → State → Type 0
 TakesBy (Ok true) start now = TakesAll start now
 TakesBy (Ok false) start now = Takes SCRIPT_LIMIT start now
 TakesBy (Err fault) start now = TakesAtMost SCRIPT_LIMIT start now
 
 -- a turn of the loop took a byte, or none was left, or one may have been taken
-abbrev pub TakesOne : Result Bool HostFault → ℕ → State → State → Type 0
+abbrev pub TakesOne : Result Bool RunFault → ℕ → State → State → Type 0
 TakesOne (Ok true) count start now = Takes (count + 1) start now
 TakesOne (Ok false) count start now = Takes count start now
 TakesOne (Err fault) count start now = TakesAtMost (count + 1) start now
 
 -- A line was answered: by no turn where it is empty, else by one turn of the machine, whose reply is said whole without a fault.
-pub record AnswersLine (size : ℕ) (w : World) (line : List ℕ) (fault : Option HostFault) (old new : State) : Type 0 where
+pub record AnswersLine (size : ℕ) (w : World) (line : List ℕ) (fault : Option RunFault) (before after : Counts) (old new : State) : Type 0 where
   pub turns : List Turn
   pub few : length turns ≤ 1
   pub lines : map (λ t. t.line) turns ≡ lines_among (line ∷ [])
@@ -53,11 +56,14 @@ pub record AnswersLine (size : ℕ) (w : World) (line : List ℕ) (fault : Optio
   pub moments : Leaves (StandsWith size w turns) old new
   pub says : SaysPart (replies_text turns) fault old new
   pub ready : fault ≡ None → IsReady size (last_world w turns) new
+  pub counted : IsCounted fault (cuts_of turns) before after
+  pub turns_counted : fault ≡ None → CountsTurns turns before after
+  pub sound : fault ≢ Some NotSound
   pub script : new.script ≡ old.script
 
 -- The lines that the bytes taken close were answered, each by a turn of the machine, and the bytes behind them are the piece under way, of
 -- which the first 129 are kept.
-pub record Serves (size : ℕ) (w : World) (start now : State) (piece : List ℕ) : Type 0 where
+pub record Serves (size : ℕ) (w : World) (before : Counts) (start : State) (counts : Counts) (now : State) (piece : List ℕ) : Type 0 where
   pub taken : List ℕ
   pub turns : List Turn
   pub is_run : IsRun w turns
@@ -67,9 +73,11 @@ pub record Serves (size : ℕ) (w : World) (start now : State) (piece : List ℕ
   pub said : now.now.said ≡ start.now.said ++ replies_text turns
   pub moments : Leaves (StandsWith size w turns) start now
   pub ready : IsReady size (last_world w turns) now
+  pub counted : CountsTurns turns before counts
 
--- The script was answered so far: some lines whole, and at most one more whose reply is not whole. Without a fault there is none such.
-pub record Answered (size : ℕ) (w : World) (ended : Bool) (fault : Option HostFault) (start now : State) : Type 0 where
+-- The script was answered so far: some lines whole, and at most one more whose reply is not whole. Without a fault there is none such. Up to
+-- some counts power was lost in each line whose reply is `cut`, and then the line under way ended so.
+pub record Answered (size : ℕ) (w : World) (ended : Bool) (fault : Option RunFault) (before after : Counts) (start now : State) : Type 0 where
   pub taken : List ℕ
   pub answered : List Turn
   pub pending : List Turn
@@ -85,8 +93,12 @@ pub record Answered (size : ℕ) (w : World) (ended : Bool) (fault : Option Host
   pub whole : fault ≡ None → pending ≡ []
   pub moments : Leaves (StandsWith size w (answered ++ pending)) start now
   pub ready : fault ≡ None → IsReady size (last_world w answered) now
+  pub mid : Counts
+  pub turns_counted : CountsTurns answered before mid
+  pub counted : IsCounted fault (cuts_of pending) mid after
+  pub sound : fault ≢ Some NotSound
 
--- the same by what the call answered: whether the end of the script was read, or the host's fault
-abbrev pub AnsweredBy : ℕ → World → Result Bool HostFault → State → State → Type 0
-AnsweredBy size w (Ok ended) start now = Answered size w ended None start now
-AnsweredBy size w (Err fault) start now = (ended : Bool) × Answered size w ended (Some fault) start now
+-- the same by what the call answered: whether the end of the script was read, or why the run cannot go on
+abbrev pub AnsweredBy : ℕ → World → Result Bool RunFault → Counts → Counts → State → State → Type 0
+AnsweredBy size w (Ok ended) before after start now = Answered size w ended None before after start now
+AnsweredBy size w (Err fault) before after start now = (ended : Bool) × Answered size w ended (Some fault) before after start now

@@ -1,54 +1,59 @@
 //! A script is run: the daemon starts, and each line is answered as it is read.
-ghost use Rattle.std.specs.Prelude.{◌≡◌, ◌≢◌, ◌↔◌, ◌+◌, ◌≤◌, ℕ, List, [], take, true, false, IfOk, IfErr, OnOk, Option};
+ghost use Rattle.std.specs.Prelude.{◌≡◌, ◌≢◌, ◌⊎◌, ◌↔◌, ◌+◌, ◌≤◌, ℕ, List, [], take, true, false, IfOk, IfErr, OnOk, Option};
 ghost use Rattle.pm_model.specs.Words.{IsRested, reads};
 ghost use Rattle.pm_model.specs.Moments.{State};
-ghost use Rattle.pm_model.specs.Counts.{after_fault, fault_of};
+ghost use Rattle.pm_model.specs.Counts.{Counts, Rose};
 ghost use Rattle.pud_defs.specs.Layout.{device_words};
 ghost use Rattle.pud_defs.specs.World.{World, world_of, closed};
+ghost use Rattle.puddled.specs.Faults.{run_fault, IsCounted};
 ghost use Rattle.puddled.specs.Daemon.{KeepsRest, IsReady};
-ghost use Rattle.puddle_cli.specs.Status.{status_fault, IsStatusOfMode};
+ghost use Rattle.puddle_cli.specs.Status.{status_fault, IsStatusOfMode, Causes};
 ghost use Rattle.puddle_cli.specs.Serving.{Takes, TakesOne, TakesBy, AnswersLine, Serves, Answered, AnsweredBy};
 ghost use Rattle.puddle_cli.specs.Headline.{TakesScript, Headline};
 
 use crate::piece::Piece;
-use crate::status::{DONE, NOT_USABLE, TOO_LONG, status_of};
-use pm_model::{Host, HostFault};
+use crate::status::{DONE, NOT_USABLE, TOO_LONG, status_of, status_of_run};
+use pm_model::Host;
 use pud_defs::layout::{MIN_FRAMES, SCRIPT_LIMIT};
-use puddled::{Daemon, StartFault};
+use puddled::{Daemon, RunFault, StartFault};
+use std::alloc::Global;
 
 /// Answers the line that was read, where it is not empty.
-fn answer<H: Host>(daemon: &mut Daemon, h: &mut H, piece: &mut Piece) -> Result<(), HostFault>
+fn answer<H: Host>(alloc: Global, daemon: &mut Daemon, h: &mut H, piece: &mut Piece) -> Result<(), RunFault>
     requires { device_words MIN_FRAMES ≤ (H.counts h.old).size }
     ensures answers { H.tells → (size : ℕ) → size ≡ (H.counts h.old).size → (w : World) → IsReady size w (H.state h.old)
-        → (line : List ℕ) → piece.old ≡ take 129 line → AnswersLine size w line (fault_of result) (H.state h.old) (H.state h.new) }
+        → (line : List ℕ) → piece.old ≡ take 129 line
+        → AnswersLine size w line (run_fault result) (H.counts h.old) (H.counts h.new) (H.state h.old) (H.state h.new) }
     ensures piece { OnOk result (piece.new ≡ []) }
     ensures rest { H.tells → KeepsRest (H.state h.old) (H.state h.new) }
-    ensures cause { H.counts h.new ≡ after_fault (fault_of result) (H.counts h.old) }
+    ensures cause { IsCounted (run_fault result) 0 (H.counts h.old) (H.counts h.new) }
 {
     if piece.is_empty() {
         return Ok(());
     }
-    daemon.exec(h, piece.bytes(), true)?;
+    daemon.exec(alloc, h, piece.bytes(), true)?;
     piece.clear();
     Ok(())
 }
 
 /// Takes one byte of the script, and answers the line that it ends. The answer is whether there was a byte.
-fn serve_byte<H: Host>(daemon: &mut Daemon, h: &mut H, piece: &mut Piece) -> Result<bool, HostFault>
+fn serve_byte<H: Host>(alloc: Global, daemon: &mut Daemon, h: &mut H, piece: &mut Piece) -> Result<bool, RunFault>
     requires { device_words MIN_FRAMES ≤ (H.counts h.old).size }
-    ensures serves { H.tells → (size : ℕ) → size ≡ (H.counts h.old).size → (w : World) → (start : State)
-        → Serves size w start (H.state h.old) piece.old → IfOk result (λ more. Serves size w start (H.state h.new) piece.new) }
+    ensures serves { H.tells → (size : ℕ) → size ≡ (H.counts h.old).size → (w : World) → (before : Counts) → (start : State)
+        → Serves size w before start (H.counts h.old) (H.state h.old) piece.old
+        → IfOk result (λ more. Serves size w before start (H.counts h.new) (H.state h.new) piece.new) }
     ensures ended { H.tells → IfOk result (λ more. more ≡ false → (H.state h.new).script ≡ []) }
-    ensures answered { H.tells → (size : ℕ) → size ≡ (H.counts h.old).size → (w : World) → (start : State)
-        → Serves size w start (H.state h.old) piece.old → IfErr result (λ fault. Answered size w false (Option.Some fault) start (H.state h.new)) }
+    ensures answered { H.tells → (size : ℕ) → size ≡ (H.counts h.old).size → (w : World) → (before : Counts) → (start : State)
+        → Serves size w before start (H.counts h.old) (H.state h.old) piece.old
+        → IfErr result (λ fault. Answered size w false (Option.Some fault) before (H.counts h.new) start (H.state h.new)) }
     ensures takes { H.tells → (count : ℕ) → (start : State) → Takes count start (H.state h.old)
         → TakesOne result count start (H.state h.new) }
-    ensures cause { H.counts h.new ≡ after_fault (fault_of result) (H.counts h.old) }
+    ensures cause { IsCounted (run_fault result) 0 (H.counts h.old) (H.counts h.new) }
 {
     match h.read()? {
         None => Ok(false),
         Some(b'\n') => {
-            answer(daemon, h, piece)?;
+            answer(alloc, daemon, h, piece)?;
             Ok(true)
         }
         Some(byte) => {
@@ -59,18 +64,18 @@ fn serve_byte<H: Host>(daemon: &mut Daemon, h: &mut H, piece: &mut Piece) -> Res
 }
 
 /// Answers the script's lines. The answer is whether the script was read to its end; else 2^20 bytes were taken.
-fn serve<H: Host>(daemon: Daemon, h: &mut H) -> Result<bool, HostFault>
+fn serve<H: Host>(alloc: Global, daemon: Daemon, h: &mut H) -> Result<bool, RunFault>
     requires { device_words MIN_FRAMES ≤ (H.counts h.old).size }
     ensures answered { H.tells → (size : ℕ) → size ≡ (H.counts h.old).size → (w : World) → IsReady size w (H.state h.old)
-        → AnsweredBy size w result (H.state h.old) (H.state h.new) }
+        → AnsweredBy size w result (H.counts h.old) (H.counts h.new) (H.state h.old) (H.state h.new) }
     ensures takes { H.tells → TakesBy result (H.state h.old) (H.state h.new) }
-    ensures cause { H.counts h.new ≡ after_fault (fault_of result) (H.counts h.old) }
+    ensures cause { IsCounted (run_fault result) 0 (H.counts h.old) (H.counts h.new) }
 {
     let mut daemon = daemon;
     let mut piece = Piece::new();
     for _taken in 0..SCRIPT_LIMIT {
-        if !serve_byte(&mut daemon, h, &mut piece)? {
-            answer(&mut daemon, h, &mut piece)?;
+        if !serve_byte(alloc, &mut daemon, h, &mut piece)? {
+            answer(alloc, &mut daemon, h, &mut piece)?;
             daemon.stop();
             return Ok(true);
         }
@@ -80,24 +85,27 @@ fn serve<H: Host>(daemon: Daemon, h: &mut H) -> Result<bool, HostFault>
 }
 
 /// The mode `run`, with its status.
-pub fn run<H: Host>(h: &mut H) -> u8
+pub fn run<H: Host>(alloc: Global, h: &mut H) -> u8
     ensures status { IsStatusOfMode result }
-    ensures not_usable { H.tells → status_fault result ≡ Option.None
+    ensures not_usable { H.tells → IsRested (H.state h.old).now.words → status_fault result ≡ Option.None
         → (result ≡ NOT_USABLE) ↔ (world_of (H.counts h.old).size (reads (H.state h.old).now.words) ≡ Option.None) }
-    ensures unchanged { H.tells → result ≡ NOT_USABLE → H.state h.new ≡ H.state h.old }
+    ensures unchanged { H.tells → IsRested (H.state h.old).now.words → result ≡ NOT_USABLE → H.state h.new ≡ H.state h.old }
+    ensures completes { H.tells → world_of (H.counts h.old).size (reads (H.state h.old).now.words) ≢ Option.None
+        → (Rose (H.counts h.old).faults (H.counts h.new).faults → ⊥) → (Rose (H.counts h.old).cuts (H.counts h.new).cuts → ⊥)
+        → (result ≡ DONE) ⊎ (result ≡ TOO_LONG) }
     ensures takes { H.tells → TakesScript result (H.state h.old) (H.state h.new) }
     ensures headline { H.tells → (w : World) → IsRested (H.state h.old).now.words → (H.state h.old).shelf ≡ w.shelf
         → world_of (H.counts h.old).size (reads (H.state h.old).now.words) ≡ Option.Some (closed w)
-        → Headline (H.counts h.old).size w result (H.state h.old) (H.state h.new) }
-    ensures cause { H.counts h.new ≡ after_fault (status_fault result) (H.counts h.old) }
+        → Headline (H.counts h.old).size w result (H.counts h.old) (H.counts h.new) (H.state h.old) (H.state h.new) }
+    ensures cause { Causes result (H.counts h.old) (H.counts h.new) }
 {
     match Daemon::start(h) {
         Err(StartFault::NotSound) => NOT_USABLE,
         Err(StartFault::Host(fault)) => status_of(fault),
-        Ok(daemon) => match serve(daemon, h) {
+        Ok(daemon) => match serve(alloc, daemon, h) {
             Ok(true) => DONE,
             Ok(false) => TOO_LONG,
-            Err(fault) => status_of(fault),
+            Err(fault) => status_of_run(fault),
         },
     }
 }

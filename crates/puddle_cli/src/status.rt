@@ -1,8 +1,9 @@
 //! The status that the program ends with, and the line that it then prints to standard error.
 ghost use Rattle.std.specs.Prelude.{◌≡◌, Option};
-ghost use Rattle.puddle_cli.specs.Status.{status_fault, IsStatusOfMode};
+ghost use Rattle.puddle_cli.specs.Status.{status_fault, status_at, IsStatusOfMode};
 
 use pm_model::HostFault;
+use puddled::RunFault;
 
 /// The mode is done, or the script was read to its end.
 pub const DONE: u8 = 0;
@@ -27,6 +28,17 @@ pub fn status_of(fault: HostFault) -> u8
     match fault {
         HostFault::Failed => DEVICE_FAULT,
         HostFault::Cut => POWER_LOST,
+    }
+}
+
+/// The status where a run cannot go on.
+pub fn status_of_run(fault: RunFault) -> u8
+    ensures status { result ≡ status_at fault }
+{
+    match fault {
+        RunFault::Failed => DEVICE_FAULT,
+        RunFault::CutInStart => POWER_LOST,
+        RunFault::NotSound => NOT_USABLE,
     }
 }
 

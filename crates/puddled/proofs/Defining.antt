@@ -2,7 +2,8 @@
 use Rattle.std.proofs.Common.{◌≡◌, inl, inr, ℕ, true, ◌&&◌, leb, cond, List, Option, Some, None, is_some, is_none, refl, sym, ap, subst, ◌∙◌, ⊎_elim, arith}
 use Rattle.std.proofs.lemmas.Bool.{cases_eq}
 use Rattle.pm_model.specs.declared.host.HostFault.{HostFault}
-use Rattle.pm_model.specs.Words.{Picks, reads}
+use Rattle.pm_model.specs.declared.host.HostFault.TheVariants.{Cut}
+use Rattle.pm_model.specs.Words.{Picks, IsRested, reads}
 use Rattle.pm_model.specs.Moments.{State}
 use Rattle.pm_model.proofs.Words.{Picks-reads}
 use Rattle.pm_model.proofs.Changes.{Changes-said}
@@ -80,15 +81,17 @@ shelf_after w id map = refl
 standing : (size : ℕ) (w : World) (s : State) → IsReady size w s → StandsFor size (reads s.now.words) (closed w)
 standing size w s ready = standing_of_world size (reads s.now.words) (closed w) (ready.stands (reads s.now.words) (Picks-reads s.now.words))
 
-idle_applies : (size : ℕ) (w next : World) (fault : Option HostFault) (old new : State) → IsReady size w old → next ≡ w → new ≡ old → Applies size w next fault old new
-idle_applies size w next fault old new ready stays same =
-    subst (λ (n : State). Applies size w next fault old n) (sym same) (subst (λ (v : World). Applies size w v fault old old) (sym stays) (record {
-      moments = Leaves-still _ old old (λ image picked. (refl, inl (ready.stands image picked))) refl;
-      quiet = refl;
-      ready = λ _. ready;
-      script = refl;
-      shelf = refl;
-    }))
+idle_applies : (size : ℕ) (w next : World) (fault : Option HostFault) (old new : State) → IsReady size w old → next ≡ w → new ≡ old
+    → (fault ≡ Some Cut → IsRested new.now.words) → Applies size w next fault old new
+idle_applies size w next fault old new ready stays same lost =
+    record {
+      moments = Leaves-still _ old new (λ image picked. (refl, inl (ready.stands image picked))) same;
+      quiet = ap (λ (s : State). s.now.said) same;
+      ready = λ _. subst (λ (n : State). IsReady size next n) (sym same) (subst (λ (v : World). IsReady size v old) (sym stays) ready);
+      lost = lost;
+      script = ap (λ (s : State). s.script) same;
+      shelf = ap (λ (s : State). s.shelf) same;
+    }
 
 -- in each image of these words record r is free
 free_in : (size : ℕ) (w : World) (s : State) (id map r : ℕ) (ready : IsReady size w s) → IsNew size w (reads s.now.words) id map (standing size w s ready) r
@@ -124,6 +127,7 @@ new_applies size w id map r fault old new ready legal_id legal_map place d =
         types = d.durable none ready.types;
         shelf = d.changes.shelf ∙ ready.shelf ∙ shelf_after w id map;
       };
+      lost = d.changes.rests;
       script = d.changes.script;
       shelf = d.changes.shelf;
     })
@@ -131,26 +135,28 @@ new_applies size w id map r fault old new ready legal_id legal_map place d =
 place_applies : (size : ℕ) (w : World) (id map : ℕ) (fault : Option HostFault) (old new : State) → IsReady size w old → is_legal_type_id id ≡ true → is_legal_map map ≡ true
     → (place : Option ℕ) → place_for (reads old.now.words) id ≡ place
     → (place_for (reads old.now.words) id ≡ None → new ≡ old) → ((r : ℕ) → place_for (reads old.now.words) id ≡ Some r → Defines r id map fault old new)
+    → (fault ≡ Some Cut → IsRested new.now.words)
     → Applies size w (world_by w (Some (Define id map))) fault old new
-place_applies size w id map fault old new ready legal_id legal_map None place idle defines =
-    idle_applies size w _ fault old new ready (idle_world size w (reads old.now.words) id map (standing size w old ready) place) (idle place)
-place_applies size w id map fault old new ready legal_id legal_map (Some r) place idle defines =
+place_applies size w id map fault old new ready legal_id legal_map None place idle defines lost =
+    idle_applies size w _ fault old new ready (idle_world size w (reads old.now.words) id map (standing size w old ready) place) (idle place) lost
+place_applies size w id map fault old new ready legal_id legal_map (Some r) place idle defines lost =
     new_applies size w id map r fault old new ready legal_id legal_map place (defines r place)
 
 -- a definition is carried out or refused as the machine has it
 pub Applies-define : (size : ℕ) (w : World) (id map : ℕ) (fault : Option HostFault) (old new : State) → IsReady size w old → is_legal_type_id id ≡ true → is_legal_map map ≡ true
     → (place_for (reads old.now.words) id ≡ None → new ≡ old) → ((r : ℕ) → place_for (reads old.now.words) id ≡ Some r → Defines r id map fault old new)
+    → (fault ≡ Some Cut → IsRested new.now.words)
     → Applies size w (world_by w (Some (Define id map))) fault old new
-Applies-define size w id map fault old new ready legal_id legal_map idle defines =
-    place_applies size w id map fault old new ready legal_id legal_map (place_for (reads old.now.words) id) refl idle defines
+Applies-define size w id map fault old new ready legal_id legal_map idle defines lost =
+    place_applies size w id map fault old new ready legal_id legal_map (place_for (reads old.now.words) id) refl idle defines lost
 
 -- the reply is the machine's
 pub refusal_when_ready : (size : ℕ) (w : World) (id map : ℕ) (old : State) → IsReady size w old → table_refusal (type_table (reads old.now.words)) id map ≡ refusal_of w (Define id map)
 refusal_when_ready size w id map old ready = refusal_of_table size w (reads old.now.words) id map (standing size w old ready)
 
 -- a line that is no command leaves all as it was
-pub Applies-nothing : (size : ℕ) (w : World) (fault : Option HostFault) (old new : State) → IsReady size w old → new ≡ old → Applies size w w fault old new
-Applies-nothing size w fault old new ready same = idle_applies size w w fault old new ready refl same
+pub Applies-nothing : (size : ℕ) (w : World) (old new : State) → IsReady size w old → new ≡ old → Applies size w w None old new
+Applies-nothing size w old new ready same = idle_applies size w w None old new ready refl same (λ no. absurd (cc))
 
 rest_by_place : (image : Image) (id map : ℕ) (fault : Option HostFault) (old new : State) → (place : Option ℕ) → place_for image id ≡ place
     → (place_for image id ≡ None → new ≡ old) → ((r : ℕ) → place_for image id ≡ Some r → Defines r id map fault old new) → KeepsRest old new

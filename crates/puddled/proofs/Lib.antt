@@ -1,4 +1,6 @@
 pub mod Records
 pub mod Sound
 pub mod Defining
+pub mod Turns
+pub mod Counted
 pub mod Lines

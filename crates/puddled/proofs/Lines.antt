@@ -1,24 +1,35 @@
 -- One line, from what was done without a word to what was said of it.
-use Rattle.std.proofs.Common.{◌≡◌, inr, ℕ, zero, suc, ◌≤◌, Bool, true, false, List, [], ◌∷◌, ◌++◌, take, drop, Option, Some, None, refl, sym, ap, subst, ◌∙◌, arith, take-append-drop}
+use Rattle.std.proofs.Common.{◌≡◌, ◌≢◌, ◌⊎◌, ◌↔◌, inl, inr, ℕ, zero, suc, ◌≤◌, Bool, true, false, List, [], ◌∷◌, ◌++◌, take, drop, Option, Some, None, Result, Ok, Err, IfOk, refl, sym, ap, subst, ◌∙◌, arith, take-append-drop}
 use Rattle.std.proofs.lemmas.List.{append-nil, drop_all}
 use Rattle.pm_model.specs.declared.host.HostFault.{HostFault}
-use Rattle.pm_model.specs.Words.{Words, Picks}
+use Rattle.pm_model.specs.declared.host.HostFault.TheVariants as hosts
+use Rattle.pm_model.specs.Counts.{Counts}
+use Rattle.pm_model.specs.Words.{Words, Picks, reads}
 use Rattle.pm_model.specs.Moments.{State}
 use Rattle.pm_model.specs.Calls.{Says}
-use Rattle.pm_model.specs.Changes.{Leaves}
-use Rattle.pm_model.proofs.Leaves.{Leaves-then, Leaves-weaker, Leaves-says, Leaves-still, IsPrefix}
+use Rattle.pm_model.specs.Changes.{Leaves, Silently}
+use Rattle.pm_model.proofs.Words.{Picks-reads, reads_only}
+use Rattle.pm_model.proofs.Leaves.{Leaves-then, Leaves-weaker, Leaves-says, Leaves-still, Leaves-now, IsPrefix}
 use Rattle.pm_model.proofs.Said.{words-all_said, said-all_said, script-all_said, shelf-all_said}
 use Rattle.pud_defs.specs.declared.machine.Reply.{Reply}
+use Rattle.pud_defs.specs.declared.machine.Reply.TheVariants.{Cut}
+use Rattle.pud_defs.specs.declared.machine.Reply.TheVariants as replies
 use Rattle.pud_defs.specs.Image.{Image}
-use Rattle.pud_defs.specs.World.{World, world_of, closed}
+use Rattle.pud_defs.specs.World.{World, world_of, closed, restart}
 use Rattle.pud_defs.specs.Step.{step_reply, step_world}
-use Rattle.pud_defs.specs.Run.{Turn, IsTurn, newlines}
+use Rattle.pud_defs.specs.Run.{Turn, IsTurn, cuts_of, newlines}
 use Rattle.pud_defs.specs.Texts.{start_text, reply_text}
 use Rattle.pud_defs.specs.Stands.{StandsAfter, StandsWith}
 use Rattle.pud_defs.proofs.Lines.{newlines_part}
 use Rattle.pud_defs.proofs.Said.{newlines-reply_text}
+use Rattle.pud_defs.proofs.Steps.{shelf_of_step}
 use Rattle.type_maps.specs.Define.{HasDurableTypes}
-use Rattle.puddled.specs.Daemon.{KeepsRest, IsReady, SaysPart, Applies, Starts, spoken, Answers}
+use Rattle.puddled.specs.declared.daemon.RunFault.{RunFault}
+use Rattle.puddled.specs.declared.daemon.RunFault.TheVariants.{NotSound}
+use Rattle.puddled.specs.Faults.{run_fault, IsCounted}
+use Rattle.puddled.specs.Daemon.{KeepsRest, IsReady, SaysPart, Applies, Settles, Starts, spoken, begins_with_ok, Answers}
+use Rattle.puddled.proofs.Turns.{turn_of, is_turn_of, cut_turn, is_cut_turn}
+use Rattle.puddled.proofs.Counted.{counted_nothing, counted_step}
 
 some_is_not_none : (fault : HostFault) → Some fault ≡ None → ⊥
 some_is_not_none fault e = cc
@@ -69,14 +80,6 @@ Starts-nothing fault old new same =
       shelf = ap (λ (x : State). x.shelf) same;
     }
 
--- the turn of a line
-pub turn_of : World → List ℕ → Turn
-turn_of w line = record { line = line; reply = step_reply w line; under = step_world w line; next = step_world w line }
-
-is_turn_of : (w : World) (line : List ℕ) → IsTurn w (turn_of w line)
-unfolding turn_of
-is_turn_of w line = record { step = record { answered = refl; given = refl }; goes_on = refl }
-
 IsReady-said : (size : ℕ) (w : World) (old new : State) → new.now.words ≡ old.now.words → new.shelf ≡ old.shelf → IsReady size w old → IsReady size w new
 IsReady-said size w old new words shelf ready =
     record {
@@ -85,50 +88,154 @@ IsReady-said size w old new words shelf ready =
       shelf = shelf ∙ ready.shelf;
     }
 
+-- the images between the world before a turn and the one that it gives
+abbrev Between : (size : ℕ) → World → World → Image → Type 0
+Between size w under image = (world_of size image ≡ Some (closed w)) ⊎ (world_of size image ≡ Some (closed under))
+
+-- The line was done: the reply is the machine's.
+pub Settles-done : (size : ℕ) (w : World) (line : List ℕ) (reply : Reply) (before after : Counts) (old new : State) → Applies size w (step_world w line) None old new
+    → reply ≡ step_reply w line → after ≡ before → Settles size w line (Ok reply) before after old new
+Settles-done size w line reply before after old new a same counts =
+    record {
+      turn = turn_of w line;
+      of_line = refl;
+      is_turn = is_turn_of w line;
+      replied = sym same;
+      moments = a.moments;
+      quiet = a.quiet;
+      ready = λ _. a.ready refl;
+      counted = counted_step w line None before after (counted_nothing before after counts);
+      sound = λ no. cc;
+      script = a.script;
+      shelf = a.shelf;
+    }
+
+-- The host failed: nothing was said of the line.
+pub Settles-fault : (size : ℕ) (w : World) (line : List ℕ) (fault : RunFault) (before after : Counts) (old mid new : State) (lost : Option HostFault)
+    → Applies size w (step_world w line) lost old mid → new ≡ mid → (Some fault ≡ Some NotSound → ⊥) → IsCounted (Some fault) 0 before after
+    → Settles size w line (Err fault) before after old new
+Settles-fault size w line fault before after old mid new lost a same sound counts =
+    subst (λ (n : State). Settles size w line (Err fault) before after old n) (sym same) (record {
+      turn = turn_of w line;
+      of_line = refl;
+      is_turn = is_turn_of w line;
+      replied = tt;
+      moments = a.moments;
+      quiet = a.quiet;
+      ready = λ no. absurd (cc);
+      counted = counted_step w line (Some fault) before after counts;
+      sound = sound;
+      script = a.script;
+      shelf = a.shelf;
+    })
+
+-- After a power loss each image left is the one that the device reads.
+module _ (size : ℕ) (w : World) (line : List ℕ) (old mid : State) (a : Applies size w (step_world w line) (Some hosts.Cut) old mid) where
+  read_image : Between size w (step_world w line) (reads mid.now.words)
+  read_image = (Leaves-now (Silently (Between size w (step_world w line))) [] old mid (a.quiet ∙ sym (append-nil old.now.said)) a.moments (reads mid.now.words) (Picks-reads mid.now.words)).1
+
+  ready_restarted : (next : World) → world_of size (reads mid.now.words) ≡ Some (closed next) → next.shelf ≡ w.shelf → old.shelf ≡ w.shelf → IsReady size (restart next) mid
+  ready_restarted next stands shelf was =
+      record {
+        stands = λ image picked. ap (world_of size) (reads_only mid.now.words image (a.lost refl) picked) ∙ stands;
+        types = record { each = λ k _ _. (a.lost refl).each k };
+        shelf = a.shelf ∙ was ∙ sym shelf;
+      }
+
+  -- the restart finds a sound device
+  pub restart_sound : world_of size (reads mid.now.words) ≢ None
+  restart_sound none = elim read_image [
+    | inl before ↦ let no : Some (closed w) ≡ None = sym before ∙ none in cc
+    | inr later ↦ let no : Some (closed (step_world w line)) ≡ None = sym later ∙ none in cc
+  ]
+
+  cut_off : (before after : Counts) (next : World) → (next ≡ restart w) ⊎ (next ≡ restart (step_world w line)) → IsReady size next mid → IsCounted None 1 before after
+      → Settles size w line (Ok Cut) before after old mid
+  cut_off before after next goes_on ready counts =
+      record {
+        turn = cut_turn w line next;
+        of_line = refl;
+        is_turn = is_cut_turn w line next goes_on;
+        replied = refl;
+        moments = a.moments;
+        quiet = a.quiet;
+        ready = λ _. ready;
+        counted = counts;
+        sound = λ no. cc;
+        script = a.script;
+        shelf = a.shelf;
+      }
+
+  -- the daemon started again
+  pub Settles-cut : (before after : Counts) (new : State) → new ≡ mid → old.shelf ≡ w.shelf → IsCounted None 1 before after → Settles size w line (Ok Cut) before after old new
+  Settles-cut before after new same was counts =
+      subst (λ (n : State). Settles size w line (Ok Cut) before after old n) (sym same) (elim read_image [
+        | inl stands ↦ cut_off before after (restart w) (inl refl) (ready_restarted w stands refl was) counts
+        | inr stands ↦ cut_off before after (restart (step_world w line)) (inr refl) (ready_restarted (step_world w line) stands (shelf_of_step w line) was) counts
+      ])
+
+-- only the reply `ok` begins with `ok`
+pub begins_by_eq : (reply : Reply) (ok : Bool) → ((ok ≡ true) ↔ (reply ≡ replies.Ok)) → ok ≡ begins_with_ok reply
+begins_by_eq replies.Ok ok is = is.1 refl
+begins_by_eq (replies.No r) true is = absurd (let no = is.0 refl in cc no)
+begins_by_eq (replies.No r) false is = refl
+begins_by_eq replies.Cut true is = absurd (let no = is.0 refl in cc no)
+begins_by_eq replies.Cut false is = refl
+
 -- nothing was said yet
-silent_moments : (size : ℕ) (w : World) (line : List ℕ) (fault : Option HostFault) (old new : State) → Applies size w (step_world w line) fault old new
-    → Leaves (StandsWith size w (turn_of w line ∷ [])) old new
-unfolding turn_of
-silent_moments size w line fault old new a =
-    Leaves-weaker _ _ old new (λ bytes image m. subst (λ (b : List ℕ). StandsWith size w (turn_of w line ∷ []) b image) (sym m.0) m.1) a.moments
+silent_moments : (size : ℕ) (w : World) (t : Turn) (old new : State) → Leaves (Silently (Between size w t.under)) old new → Leaves (StandsWith size w (t ∷ [])) old new
+silent_moments size w t old new moments =
+    Leaves-weaker _ _ old new (λ bytes image m. subst (λ (b : List ℕ). StandsWith size w (t ∷ []) b image) (sym m.0) m.1) moments
 
--- the host failed, or the reply is not said aloud
-pub Answers-silent : (size : ℕ) (w : World) (line : List ℕ) (aloud : Bool) (fault : HostFault) (old new : State) → Applies size w (step_world w line) (Some fault) old new
-    → Answers size w line aloud (Some fault) old new
-unfolding turn_of
-Answers-silent size w line aloud fault old new a =
+-- the host failed before a byte was said
+pub Answers-fault : (size : ℕ) (w : World) (line : List ℕ) (aloud : Bool) (fault : RunFault) (before after : Counts) (old new : State)
+    → Settles size w line (Err fault) before after old new → Answers size w line aloud (Err fault) before after old new
+Answers-fault size w line aloud fault before after old new s =
     record {
-      turn = turn_of w line;
-      of_line = refl;
-      is_turn = is_turn_of w line;
-      moments = silent_moments size w line (Some fault) old new a;
-      says = SaysPart-nothing (spoken aloud (step_reply w line)) fault old new a.quiet;
-      ready = λ none. absurd (some_is_not_none fault none);
-      script = a.script;
-      shelf = a.shelf;
+      turn = s.turn;
+      of_line = s.of_line;
+      is_turn = s.is_turn;
+      ok = tt;
+      moments = silent_moments size w s.turn old new s.moments;
+      says = record { bytes = []; rest = spoken aloud s.turn.reply; part = refl; said = s.quiet ∙ sym (append-nil old.now.said); whole = λ no. absurd (cc) };
+      ready = s.ready;
+      counted = s.counted;
+      sound = s.sound;
+      script = s.script;
+      shelf = s.shelf;
     }
 
-pub Answers-unsaid : (size : ℕ) (w : World) (line : List ℕ) (old new : State) → Applies size w (step_world w line) None old new
-    → Answers size w line false None old new
-unfolding turn_of
-Answers-unsaid size w line old new a =
+-- the reply is not said aloud
+pub Answers-unsaid : (size : ℕ) (w : World) (line : List ℕ) (reply : Reply) (ok : Bool) (before after : Counts) (old new : State)
+    → Settles size w line (Ok reply) before after old new → ok ≡ begins_with_ok reply → Answers size w line false (Ok ok) before after old new
+Answers-unsaid size w line reply ok before after old new s is =
     record {
-      turn = turn_of w line;
-      of_line = refl;
-      is_turn = is_turn_of w line;
-      moments = silent_moments size w line None old new a;
-      says = record { bytes = []; rest = []; part = refl; said = a.quiet ∙ sym (append-nil old.now.said); whole = λ _. refl };
-      ready = a.ready;
-      script = a.script;
-      shelf = a.shelf;
+      turn = s.turn;
+      of_line = s.of_line;
+      is_turn = s.is_turn;
+      ok = is ∙ ap begins_with_ok (sym s.replied);
+      moments = silent_moments size w s.turn old new s.moments;
+      says = record { bytes = []; rest = []; part = refl; said = s.quiet ∙ sym (append-nil old.now.said); whole = λ _. refl };
+      ready = s.ready;
+      counted = s.counted;
+      sound = λ no. cc;
+      script = s.script;
+      shelf = s.shelf;
     }
 
-stands_by_count : (size : ℕ) (w : World) (line : List ℕ) (count : ℕ) (image : Image) → count ≤ 1 → world_of size image ≡ Some (closed (step_world w line))
-    → StandsAfter size w (turn_of w line ∷ []) count image
-unfolding turn_of
-stands_by_count size w line zero image few stands = inr stands
-stands_by_count size w line (suc zero) image few stands = stands
-stands_by_count size w line (suc (suc n)) image few stands = absurd (omega arith)
+-- where the turn's next world stands, one of its two does
+next_between : (size : ℕ) (w : World) (t : Turn) (image : Image) → IsTurn w t → world_of size image ≡ Some (closed t.next) → Between size w t.under image
+next_between size w t image (inl step) stands = inr (stands ∙ ap (λ (v : World). Some (closed v)) step.goes_on)
+next_between size w t image (inr cut) stands = elim cut.goes_on [
+  | inl before ↦ inl (stands ∙ ap (λ (v : World). Some (closed v)) before)
+  | inr later ↦ inr (stands ∙ ap (λ (v : World). Some (closed v)) later)
+]
+
+stands_by_count : (size : ℕ) (w : World) (t : Turn) (count : ℕ) (image : Image) → IsTurn w t → count ≤ 1 → world_of size image ≡ Some (closed t.next)
+    → StandsAfter size w (t ∷ []) count image
+stands_by_count size w t zero image is few stands = next_between size w t image is stands
+stands_by_count size w t (suc zero) image is few stands = stands
+stands_by_count size w t (suc (suc n)) image is few stands = absurd (omega arith)
 
 front_of_reply : (reply : Reply) (front : List ℕ) → IsPrefix front (reply_text reply) → newlines front ≤ 1
 front_of_reply reply front prefix =
@@ -136,29 +243,40 @@ front_of_reply reply front prefix =
     let whole = ap newlines (sym prefix.is) ∙ newlines-reply_text reply in
     omega arith
 
--- the line was done, and its reply is said
-pub Answers-said : (size : ℕ) (w : World) (line : List ℕ) (fault : Option HostFault) (old mid new : State) → Applies size w (step_world w line) None old mid
-    → Says (reply_text (step_reply w line)) fault mid new → Answers size w line true fault old new
-unfolding turn_of
-Answers-said size w line fault old mid new a says =
-    let t = turn_of w line in
-    let text = reply_text (step_reply w line) in
-    let ready = a.ready refl in
-    let part = SaysPart-says text fault mid new says in
-    record {
-      turn = t;
-      of_line = refl;
-      is_turn = is_turn_of w line;
-      moments = Leaves-then (StandsWith size w (t ∷ [])) (StandsWith size w (t ∷ [])) (StandsWith size w (t ∷ [])) [] old mid new (a.quiet ∙ sym (append-nil old.now.said))
-          (λ front image p. p) (λ more image p. p)
-          (silent_moments size w line None old mid a)
-          (Leaves-says text fault (StandsWith size w (t ∷ [])) mid new
-          (λ front image prefix picked. stands_by_count size w line (newlines front) image (front_of_reply (step_reply w line) front prefix) (ready.stands image picked)) says);
-      says = record { bytes = part.bytes; rest = part.rest; part = part.part; said = part.said ∙ ap (λ (l : List ℕ). l ++ part.bytes) a.quiet; whole = part.whole };
-      ready = λ none. IsReady-said size (step_world w line) mid new (words_said text fault mid new says) (shelf_said text fault mid new says) ready;
-      script = script_said text fault mid new says ∙ a.script;
-      shelf = shelf_said text fault mid new says ∙ a.shelf;
-    }
+-- the line was settled, and its reply is said
+module _ (size : ℕ) (w : World) (line : List ℕ) (reply : Reply) (before between after : Counts) (old mid new : State) (s : Settles size w line (Ok reply) before between old mid) where
+  said_moments : (fault : Option HostFault) → Says (reply_text s.turn.reply) fault mid new → Leaves (StandsWith size w (s.turn ∷ [])) old new
+  said_moments fault says =
+      let t = s.turn in
+      let ready = s.ready refl in
+      Leaves-then (StandsWith size w (t ∷ [])) (StandsWith size w (t ∷ [])) (StandsWith size w (t ∷ [])) [] old mid new (s.quiet ∙ sym (append-nil old.now.said))
+      (λ front image p. p) (λ more image p. p)
+      (silent_moments size w t old mid s.moments)
+      (Leaves-says (reply_text t.reply) fault (StandsWith size w (t ∷ [])) mid new
+      (λ front image prefix picked. stands_by_count size w t (newlines front) image s.is_turn (front_of_reply t.reply front prefix) (ready.stands image picked)) says)
+
+  text_is : (fault : Option HostFault) → Says (reply_text reply) fault mid new → Says (reply_text s.turn.reply) fault mid new
+  text_is fault says = subst (λ (r : Reply). Says (reply_text r) fault mid new) (sym s.replied) says
+
+  pub Answers-said : (result : Result Bool RunFault) (fault : Option HostFault) → Says (reply_text reply) fault mid new → (run_fault result ≡ None → fault ≡ None)
+      → IfOk result (λ ok. ok ≡ begins_with_ok reply) → (run_fault result ≡ Some NotSound → ⊥) → IsCounted (run_fault result) (cuts_of (s.turn ∷ [])) before after
+      → Answers size w line true result before after old new
+  Answers-said result fault spoken_text none is sound counts =
+      let says = text_is fault spoken_text in
+      let part = SaysPart-says (reply_text s.turn.reply) fault mid new says in
+      record {
+        turn = s.turn;
+        of_line = s.of_line;
+        is_turn = s.is_turn;
+        ok = subst (λ (r : Reply). IfOk result (λ ok. ok ≡ begins_with_ok r)) (sym s.replied) is;
+        moments = said_moments fault says;
+        says = record { bytes = part.bytes; rest = part.rest; part = part.part; said = part.said ∙ ap (λ (l : List ℕ). l ++ part.bytes) s.quiet; whole = λ n. part.whole (none n) };
+        ready = λ n. IsReady-said size s.turn.next mid new (words_said _ fault mid new says) (shelf_said _ fault mid new says) (s.ready refl);
+        counted = counts;
+        sound = sound;
+        script = script_said _ fault mid new says ∙ s.script;
+        shelf = shelf_said _ fault mid new says ∙ s.shelf;
+      }
 
 pub KeepsRest-says : (text : List ℕ) (fault : Option HostFault) (old mid new : State) → KeepsRest old mid → Says text fault mid new → KeepsRest old new
 KeepsRest-says text fault old mid new k says =

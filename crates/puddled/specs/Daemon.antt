@@ -1,30 +1,27 @@
 -- What the daemon's start and one line do, at every moment.
-use Rattle.std.specs.Prelude.{◌≡◌, ◌⊎◌, ℕ, Bool, true, false, cond, List, [], ◌∷◌, ◌++◌, Option, Some, None, Result, Ok, Err}
+use Rattle.std.specs.Prelude.{◌≡◌, ◌≢◌, ◌⊎◌, ℕ, Bool, true, false, cond, List, [], ◌∷◌, ◌++◌, Option, Some, None, Result, IfOk}
 use Rattle.pm_model.specs.declared.host.HostFault.{HostFault}
-use Rattle.pm_model.specs.Words.{Picks}
+use Rattle.pm_model.specs.declared.host.HostFault.TheVariants as hosts
+use Rattle.pm_model.specs.Words.{Picks, IsRested}
+use Rattle.pm_model.specs.Counts.{Counts}
 use Rattle.pm_model.specs.Moments.{State}
 use Rattle.pm_model.specs.Changes.{Leaves, Silently}
 use Rattle.pud_defs.specs.declared.machine.Reply.{Reply}
 use Rattle.pud_defs.specs.declared.machine.Reply.TheVariants as replies
 use Rattle.pud_defs.specs.Image.{Image}
 use Rattle.pud_defs.specs.World.{World, world_of, closed}
-use Rattle.pud_defs.specs.Run.{Turn, IsTurn}
+use Rattle.pud_defs.specs.Run.{Turn, IsTurn, cuts_of}
 use Rattle.pud_defs.specs.Texts.{start_text, reply_text}
 use Rattle.pud_defs.specs.Stands.{StandsWith}
 use Rattle.type_maps.specs.Define.{HasDurableTypes}
-use Rattle.puddled.specs.declared.daemon.StartFault.{StartFault}
-use Rattle.puddled.specs.declared.daemon.StartFault.TheVariants as starts
+use Rattle.puddled.specs.declared.daemon.RunFault.{RunFault}
+use Rattle.puddled.specs.declared.daemon.RunFault.TheVariants as faults
+use Rattle.puddled.specs.Faults.{run_fault, IsCounted}
 
 -- the bytes left to read and the shelf stay
 pub record KeepsRest (old new : State) : Type 0 where
   pub script : new.script ≡ old.script
   pub shelf : new.shelf ≡ old.shelf
-
--- the host's fault that a start answered
-abbrev pub start_fault : {T : Type 0} → Result T StartFault → Option HostFault
-start_fault (Ok x) = None
-start_fault (Err starts.NotSound) = None
-start_fault (Err (starts.Host fault)) = Some fault
 
 -- What the daemon needs of a device between two lines: each image that may be left stands for the world with nothing under way, the type
 -- table is durable, and the shelf is the world's.
@@ -39,7 +36,7 @@ pub record IsPart (bytes text : List ℕ) : Type 0 where
   pub is : text ≡ bytes ++ rest
 
 -- some bytes of a text were said, from its front; without a fault all of them
-pub record SaysPart (text : List ℕ) (fault : Option HostFault) (old new : State) : Type 0 where
+pub record SaysPart {Fault : Type 0} (text : List ℕ) (fault : Option Fault) (old new : State) : Type 0 where
   pub bytes : List ℕ
   pub rest : List ℕ
   pub part : text ≡ bytes ++ rest
@@ -52,6 +49,22 @@ pub record Applies (size : ℕ) (w next : World) (fault : Option HostFault) (old
   pub moments : Leaves (Silently (λ image. (world_of size image ≡ Some (closed w)) ⊎ (world_of size image ≡ Some (closed next)))) old new
   pub quiet : new.now.said ≡ old.now.said
   pub ready : fault ≡ None → IsReady size next new
+  pub lost : fault ≡ Some hosts.Cut → IsRested new.now.words
+  pub script : new.script ≡ old.script
+  pub shelf : new.shelf ≡ old.shelf
+
+-- A line was carried out, or refused, or cut off and the daemon started again, all without a word: at every moment the images stand for the
+-- world before it or the one that it gives, and without a fault the daemon is ready in the world from which the run goes on.
+pub record Settles (size : ℕ) (w : World) (line : List ℕ) (result : Result Reply RunFault) (before after : Counts) (old new : State) : Type 0 where
+  pub turn : Turn
+  pub of_line : turn.line ≡ line
+  pub is_turn : IsTurn w turn
+  pub replied : IfOk result (λ reply. turn.reply ≡ reply)
+  pub moments : Leaves (Silently (λ image. (world_of size image ≡ Some (closed w)) ⊎ (world_of size image ≡ Some (closed turn.under)))) old new
+  pub quiet : new.now.said ≡ old.now.said
+  pub ready : run_fault result ≡ None → IsReady size turn.next new
+  pub counted : IsCounted (run_fault result) (cuts_of (turn ∷ [])) before after
+  pub sound : run_fault result ≢ Some faults.NotSound
   pub script : new.script ≡ old.script
   pub shelf : new.shelf ≡ old.shelf
 
@@ -66,19 +79,24 @@ pub record Starts (fault : Option HostFault) (old new : State) : Type 0 where
 abbrev pub begins_with_ok : Reply → Bool
 begins_with_ok replies.Ok = true
 begins_with_ok (replies.No refusal) = false
+begins_with_ok replies.Cut = false
 
 -- what is said of a reply: its text where it is said aloud
 abbrev pub spoken : Bool → Reply → List ℕ
 spoken aloud reply = cond aloud (reply_text reply) []
 
 -- One line is one turn of the machine: at every moment the images stand for the world before it or the one that it gives, with its reply said
--- only once that one is durable; without a fault the reply is whole and the daemon ready for the next line.
-pub record Answers (size : ℕ) (w : World) (line : List ℕ) (aloud : Bool) (fault : Option HostFault) (old new : State) : Type 0 where
+-- only once that one is durable; without a fault the reply is whole and the daemon ready for the next line. Where the reply is `cut` power
+-- was lost.
+pub record Answers (size : ℕ) (w : World) (line : List ℕ) (aloud : Bool) (result : Result Bool RunFault) (before after : Counts) (old new : State) : Type 0 where
   pub turn : Turn
   pub of_line : turn.line ≡ line
   pub is_turn : IsTurn w turn
+  pub ok : IfOk result (λ ok. ok ≡ begins_with_ok turn.reply)
   pub moments : Leaves (StandsWith size w (turn ∷ [])) old new
-  pub says : SaysPart (spoken aloud turn.reply) fault old new
-  pub ready : fault ≡ None → IsReady size turn.next new
+  pub says : SaysPart (spoken aloud turn.reply) (run_fault result) old new
+  pub ready : run_fault result ≡ None → IsReady size turn.next new
+  pub counted : IsCounted (run_fault result) (cuts_of (turn ∷ [])) before after
+  pub sound : run_fault result ≢ Some faults.NotSound
   pub script : new.script ≡ old.script
   pub shelf : new.shelf ≡ old.shelf

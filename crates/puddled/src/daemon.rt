@@ -1,12 +1,13 @@
 //! The daemon's own calls: start, one line, stop.
-ghost use Rattle.std.specs.Prelude.{◌≡◌, ◌≢◌, ◌≤◌, ◌↔◌, ℕ, IfOk, IsOk, Option, Result};
+ghost use Rattle.std.specs.Prelude.{◌≡◌, ◌≢◌, ◌≤◌, ◌↔◌, ℕ, IsOk, Option, Result};
 ghost use Rattle.pm_model.specs.Words.{reads};
 ghost use Rattle.pm_model.specs.Counts.{after_fault, fault_of};
 ghost use Rattle.pud_defs.specs.Layout.{device_words};
 ghost use Rattle.pm_model.specs.Calls.{Says};
 ghost use Rattle.pud_defs.specs.World.{World, world_of};
-ghost use Rattle.pud_defs.specs.Step.{step_reply};
 ghost use Rattle.pud_defs.specs.Texts.{reply_text};
+ghost use Rattle.puddled.specs.Faults.{start_fault, run_fault, IsCounted};
+ghost use Rattle.puddled.specs.Daemon.{KeepsRest, IsReady, Settles};
 
 use crate::commands::apply;
 use crate::soundness::is_sound;
@@ -14,6 +15,7 @@ use pm_model::{Host, HostFault};
 use pud_defs::layout::MIN_FRAMES;
 use pud_defs::machine::Reply;
 use script::print_reply;
+use std::alloc::Global;
 
 /// Why the daemon did not start.
 #[derive(Clone, Copy, Debug, PartialEq, Eq)]
@@ -34,16 +36,88 @@ impl From<HostFault> for StartFault {
     }
 }
 
+/// Why the run cannot go on behind a line. No further line is to be given.
+#[derive(Clone, Copy, Debug, PartialEq, Eq)]
+pub enum RunFault {
+    /// A call of the host failed.
+    Failed,
+    /// Power was lost in the restart that followed a power loss.
+    CutInStart,
+    /// The restart found that the device is not a sound registry.
+    NotSound,
+}
+
+impl From<HostFault> for RunFault {
+    ghost use Rattle.puddled.specs.Faults.{of_host};
+
+    ghost from_gives = { λ fault e. e ≡ of_host fault };
+
+    fn from(fault: HostFault) -> Self {
+        match fault {
+            HostFault::Failed => RunFault::Failed,
+            HostFault::Cut => RunFault::CutInStart,
+        }
+    }
+}
+
+impl From<StartFault> for RunFault {
+    ghost use Rattle.puddled.specs.Faults.{of_start};
+
+    ghost from_gives = { λ fault e. e ≡ of_start fault };
+
+    fn from(fault: StartFault) -> Self {
+        match fault {
+            StartFault::NotSound => RunFault::NotSound,
+            StartFault::Host(fault) => RunFault::from(fault),
+        }
+    }
+}
+
 /// A daemon that has started on a device.
 #[derive(Drop)]
 pub struct Daemon {
     started: (),
 }
 
+/// Judges the device as a start does. Nothing is said and nothing changes.
+fn recover<H: Host>(h: &mut H) -> Result<(), StartFault>
+    ensures not_sound { H.tells → start_fault result ≡ Option.None
+        → (result ≡ Result.Err StartFault.NotSound) ↔ (world_of (H.counts h.old).size (reads (H.state h.old).now.words) ≡ Option.None) }
+    ensures stays { H.tells → H.state h.new ≡ H.state h.old }
+    ensures room { IsOk result → device_words MIN_FRAMES ≤ (H.counts h.old).size }
+    ensures cause { H.counts h.new ≡ after_fault (start_fault result) (H.counts h.old) }
+    ensures never_cut { start_fault result ≢ Option.Some HostFault.Cut }
+{
+    if is_sound(h)? {
+        Ok(())
+    } else {
+        Err(StartFault::NotSound)
+    }
+}
+
+/// Carries out one line without a word. Where power is lost in it the daemon starts again, and the reply is `Cut`.
+fn settle<H: Host>(h: &mut H, line: &[u8]) -> Result<Reply, RunFault>
+    requires { device_words MIN_FRAMES ≤ (H.counts h.old).size }
+    ensures settles { H.tells → (size : ℕ) → size ≡ (H.counts h.old).size → (w : World) → IsReady size w (H.state h.old)
+        → Settles size w line.now result (H.counts h.old) (H.counts h.new) (H.state h.old) (H.state h.new) }
+    ensures rest { H.tells → KeepsRest (H.state h.old) (H.state h.new) }
+    ensures cause { IsCounted (run_fault result) 0 (H.counts h.old) (H.counts h.new) }
+{
+    match apply(h, line) {
+        Ok(reply) => Ok(reply),
+        Err(HostFault::Failed) => Err(RunFault::Failed),
+        Err(HostFault::Cut) => {
+            recover(h)?;
+            Ok(Reply::Cut)
+        }
+    }
+}
+
 /// Says the reply with its newline.
 fn say_reply<H: Host>(h: &mut H, reply: Reply) -> Result<(), HostFault>
     ensures says { H.tells → Says (reply_text reply) (fault_of result) (H.state h.old) (H.state h.new) }
     ensures cause { H.counts h.new ≡ after_fault (fault_of result) (H.counts h.old) }
+    ensures never_cut { fault_of result ≢ Option.Some HostFault.Cut }
 {
     let mut text = [0u8; 32];
     let length = print_reply(reply, &mut text);
@@ -51,7 +125,7 @@ fn say_reply<H: Host>(h: &mut H, reply: Reply) -> Result<(), HostFault>
 }
 
 impl Daemon {
-    ghost use Rattle.puddled.specs.Daemon.{KeepsRest, start_fault, Starts, IsReady, Answers, begins_with_ok};
+    ghost use Rattle.puddled.specs.Daemon.{Starts, Answers};
 
     /// Starts on the device, and says the start text. Nothing on the device changes.
     ///
@@ -65,9 +139,7 @@ impl Daemon {
         ensures cause { H.counts h.new ≡ after_fault (start_fault result) (H.counts h.old) }
         ensures never_cut { start_fault result ≢ Option.Some HostFault.Cut }
     {
-        if !is_sound(h)? {
-            return Err(StartFault::NotSound);
-        }
+        recover(h)?;
         h.say(b"ready\n")?;
         Ok(Daemon { started: () })
     }
@@ -75,18 +147,18 @@ impl Daemon {
     /// Carries out one line, given without its newline, and says the reply where `aloud`. The answer is whether the
     /// reply begins with `ok`.
     ///
-    /// The device is the one that this daemon started on. The only errors are the host's own; then no further line
-    /// is to be given.
-    pub fn exec<H: Host>(&mut self, h: &mut H, line: &[u8], aloud: bool) -> Result<bool, HostFault>
+    /// Where power is lost in the line the daemon starts again within the call, and the reply is `cut`: the line was
+    /// done wholly or not at all. The device is the one that this daemon started on. `Failed` comes where a call of the
+    /// host failed, `CutInStart` where power was lost in that restart too, `NotSound` where the restart read a registry
+    /// that is not sound; then no further line is to be given.
+    pub fn exec<H: Host>(&mut self, _alloc: Global, h: &mut H, line: &[u8], aloud: bool) -> Result<bool, RunFault>
         requires { device_words MIN_FRAMES ≤ (H.counts h.old).size }
         ensures answers { H.tells → (size : ℕ) → size ≡ (H.counts h.old).size → (w : World) → IsReady size w (H.state h.old)
-            → Answers size w line.now aloud (fault_of result) (H.state h.old) (H.state h.new) }
-        ensures ok { H.tells → (size : ℕ) → size ≡ (H.counts h.old).size → (w : World) → IsReady size w (H.state h.old)
-            → IfOk result (λ ok. ok ≡ begins_with_ok (step_reply w line.now)) }
+            → Answers size w line.now aloud result (H.counts h.old) (H.counts h.new) (H.state h.old) (H.state h.new) }
         ensures rest { H.tells → KeepsRest (H.state h.old) (H.state h.new) }
-        ensures cause { H.counts h.new ≡ after_fault (fault_of result) (H.counts h.old) }
+        ensures cause { IsCounted (run_fault result) 0 (H.counts h.old) (H.counts h.new) }
     {
-        let reply = apply(h, line)?;
+        let reply = settle(h, line)?;
         if aloud {
             say_reply(h, reply)?;
         }

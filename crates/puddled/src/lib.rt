@@ -5,7 +5,7 @@ mod commands;
 mod daemon;
 mod soundness;
 
-pub use daemon::{Daemon, StartFault};
+pub use daemon::{Daemon, RunFault, StartFault};
 
 #[cfg(test)]
 mod tests;

@@ -16,6 +16,7 @@ fn text_of(reply: Reply) -> &'static [u8]
         Reply::No(Refusal::Bad) => b"no bad\n",
         Reply::No(Refusal::Clash) => b"no clash\n",
         Reply::No(Refusal::Full) => b"no full\n",
+        Reply::Cut => b"cut\n",
     }
 }
 
@@ -41,6 +42,7 @@ mod tests {
             (Reply::No(Refusal::Bad), "no bad\n"),
             (Reply::No(Refusal::Clash), "no clash\n"),
             (Reply::No(Refusal::Full), "no full\n"),
+            (Reply::Cut, "cut\n"),
         ] {
             let mut out = [0; 32];
             let length = print_reply(reply, &mut out);

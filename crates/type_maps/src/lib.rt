@@ -2,7 +2,7 @@
 #![tactic(auto)]
 
 ghost use Rattle.std.specs.Prelude.{◌≡◌, ◌≢◌, ◌+◌, ◌*◌, ◌<◌, ◌≤◌, ◌^◌, ℕ, Option, IfOk, IsSome};
-ghost use Rattle.pm_model.specs.Words.{reads};
+ghost use Rattle.pm_model.specs.Words.{IsRested, reads};
 ghost use Rattle.pm_model.specs.Counts.{after_fault, fault_of};
 ghost use Rattle.pud_defs.specs.Types.{map_of, type_table};
 ghost use Rattle.type_maps.specs.Define.{fault_in, refusal_in, table_refusal, place_for, place_of, IsInTable, Defines};
@@ -108,6 +108,7 @@ pub fn define<H: Host>(h: &mut H, id: u32, map: u64) -> Result<(), TypeFault>
     ensures idle { H.tells → place_for (reads (H.state h.old).now.words) id ≡ Option.None → H.state h.new ≡ H.state h.old }
     ensures defines { H.tells → (r : ℕ) → place_for (reads (H.state h.old).now.words) id ≡ Option.Some r
         → Defines r id map (fault_in result) (H.state h.old) (H.state h.new) }
+    ensures rests { H.tells → fault_in result ≡ Option.Some HostFault.Cut → IsRested (H.state h.new).now.words }
     ensures cause { H.counts h.new ≡ after_fault (fault_in result) (H.counts h.old) }
 {
     match look_up(h, id)? {

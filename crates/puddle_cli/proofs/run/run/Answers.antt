@@ -1,14 +1,12 @@
-use Rattle.std.proofs.Common.{◌≡◌, Bool, true, false, Ok, Some, None, refl, sym, ap, subst, ◌∙◌}
+use Rattle.std.proofs.Common.{◌≡◌, Bool, true, false, Ok, Err, Option, Some, None, refl, sym, ap, subst, ◌∙◌}
 use Rattle.pm_model.specs.Counts.{Counts}
-use Rattle.puddle_cli.specs.Status.{status_fault}
+use Rattle.pm_model.specs.Words.{reads}
+use Rattle.pud_defs.specs.World.{World}
+use Rattle.puddle_cli.specs.Status.{run_fault_at}
 use Rattle.puddle_cli.specs.Serving.{Answered, TakesBy}
-use Rattle.puddle_cli.proofs.Running.{ready_after_start, Headline-in_start, Headline-behind_start}
+use Rattle.puddle_cli.proofs.Running.{ready_after_start, Headline-failed, Headline-behind_start}
+use Rattle.puddle_cli.proofs.Statuses.{usable_by, fault_at_status, not_whole_at}
 use Rattle.puddle_cli.proofs.run.run.Goals as goal
-
-pub returns-in-Err-Host-clause-headline : goal.returns-in-Err-Host-clause-headline
-returns-in-Err-Host-clause-headline g c = λ t w rested shelf stands.
-    let starts = rw c.in-Err-Host.field-0-is at c.in-Err-Host.ensures.starts in
-    Headline-in_start (g.H.Host.counts c.args.h.now).size w _ rested stands _ c.in-Err-Host.fault _ c.status_of.ensures.fault shelf (starts t (λ e. cc e))
 
 pub returns-in-Ok-true-clause-headline : goal.returns-in-Ok-true-clause-headline
 returns-in-Ok-true-clause-headline g c = λ t w rested shelf stands.
@@ -16,9 +14,11 @@ returns-in-Ok-true-clause-headline g c = λ t w rested shelf stands.
     let starts = c.in-Ok.ensures.starts t (λ e. cc e) in
     let ready = ready_after_start size w _ rested stands None _ shelf starts in
     let same = sym (ap (λ (x : Counts). x.size) c.in-Ok.ensures.cause) in
-    let answered = subst (λ (b : Bool). Answered size w b None (g.H.Host.state c.start.new.h) (g.H.Host.state c.serve.new.h)) c.in-Ok-true.field-0-test (c.in-Ok-true.ensures.answered t size same w ready) in
+    let by_end = c.in-Ok-true.ensures.answered t size same w ready in
+    let answered = subst (λ (b : Bool). Answered size w b None (g.H.Host.counts c.start.new.h) (g.H.Host.counts c.serve.new.h) (g.H.Host.state c.start.new.h) (g.H.Host.state c.serve.new.h)) c.in-Ok-true.field-0-test by_end in
+    let from_start = subst (λ (x : Counts). Answered size w true None x (g.H.Host.counts c.serve.new.h) (g.H.Host.state c.start.new.h) (g.H.Host.state c.serve.new.h)) c.in-Ok.ensures.cause answered in
     let takes = subst (λ (b : Bool). TakesBy (Ok b) (g.H.Host.state c.start.new.h) (g.H.Host.state c.serve.new.h)) c.in-Ok-true.field-0-test (c.in-Ok-true.ensures.takes t) in
-    Headline-behind_start size w _ rested stands 0 true None _ _ shelf starts takes.shelf refl (λ _. refl) (λ e. absurd (cc e)) answered
+    Headline-behind_start size w _ rested stands 0 true None _ _ _ _ shelf starts takes.shelf refl (λ _. refl) (λ e. absurd (cc e)) from_start
 
 pub returns-in-Ok-false-clause-headline : goal.returns-in-Ok-false-clause-headline
 returns-in-Ok-false-clause-headline g c = λ t w rested shelf stands.
@@ -26,9 +26,19 @@ returns-in-Ok-false-clause-headline g c = λ t w rested shelf stands.
     let starts = c.in-Ok.ensures.starts t (λ e. cc e) in
     let ready = ready_after_start size w _ rested stands None _ shelf starts in
     let same = sym (ap (λ (x : Counts). x.size) c.in-Ok.ensures.cause) in
-    let answered = subst (λ (b : Bool). Answered size w b None (g.H.Host.state c.start.new.h) (g.H.Host.state c.serve.new.h)) c.in-Ok-false.field-0-test (c.in-Ok-false.ensures.answered t size same w ready) in
+    let by_end = c.in-Ok-false.ensures.answered t size same w ready in
+    let answered = subst (λ (b : Bool). Answered size w b None (g.H.Host.counts c.start.new.h) (g.H.Host.counts c.serve.new.h) (g.H.Host.state c.start.new.h) (g.H.Host.state c.serve.new.h)) c.in-Ok-false.field-0-test by_end in
+    let from_start = subst (λ (x : Counts). Answered size w false None x (g.H.Host.counts c.serve.new.h) (g.H.Host.state c.start.new.h) (g.H.Host.state c.serve.new.h)) c.in-Ok.ensures.cause answered in
     let takes = subst (λ (b : Bool). TakesBy (Ok b) (g.H.Host.state c.start.new.h) (g.H.Host.state c.serve.new.h)) c.in-Ok-false.field-0-test (c.in-Ok-false.ensures.takes t) in
-    Headline-behind_start size w _ rested stands 7 false None _ _ shelf starts takes.shelf refl (λ e. absurd (cc e)) (λ _. refl) answered
+    Headline-behind_start size w _ rested stands 7 false None _ _ _ _ shelf starts takes.shelf refl (λ e. absurd (cc e)) (λ _. refl) from_start
+
+pub returns-in-Err-Host-clause-headline : goal.returns-in-Err-Host-clause-headline
+returns-in-Err-Host-clause-headline g c = λ t w rested shelf stands.
+    let starts = rw c.in-Err-Host.field-0-is at c.in-Err-Host.ensures.starts in
+    let never_cut = rw c.in-Err-Host.field-0-is at c.in-Err-Host.ensures.never_cut in
+    let last = rw c.in-Err-Host.field-0-is at c.in-Err-Host.ensures.cause in
+    let is = rw c.in-Err-Host.field-0-is at c.status_of.ensures.fault in
+    Headline-failed (g.H.Host.counts c.args.h.now).size w _ rested stands c.in-Err-Host.fault _ _ _ _ never_cut c.status_of.ensures.status is last shelf (starts t (λ e. cc e))
 
 pub returns-in-Err-clause-headline : goal.returns-in-Err-clause-headline
 returns-in-Err-clause-headline g c = λ t w rested shelf stands.
@@ -36,7 +46,31 @@ returns-in-Err-clause-headline g c = λ t w rested shelf stands.
     let starts = c.in-Ok.ensures.starts t (λ e. cc e) in
     let ready = ready_after_start size w _ rested stands None _ shelf starts in
     let same = sym (ap (λ (x : Counts). x.size) c.in-Ok.ensures.cause) in
+    let fault = c.in-Err.fault in
     let answered = c.in-Err.ensures.answered t size same w ready in
-    let is = c.status_of-in-Err.ensures.fault in
-    Headline-behind_start size w _ rested stands c.status_of-in-Err.result answered.0 (Some c.in-Err.fault) _ _ shelf starts (c.in-Err.ensures.takes t).shelf is
-    (λ e. absurd (let no : None ≡ Some c.in-Err.fault = ap status_fault (sym e) ∙ is in cc)) (λ e. absurd (let no : None ≡ Some c.in-Err.fault = ap status_fault (sym e) ∙ is in cc)) answered.1
+    let from_start = subst (λ (x : Counts). Answered size w answered.0 (Some fault) x (g.H.Host.counts c.serve.new.h) (g.H.Host.state c.start.new.h) (g.H.Host.state c.serve.new.h)) c.in-Ok.ensures.cause answered.1 in
+    let status = c.status_of_run.ensures.status in
+    Headline-behind_start size w _ rested stands c.status_of_run.result answered.0 (Some fault) _ _ _ _ shelf starts (c.in-Err.ensures.takes t).shelf (ap run_fault_at status ∙ fault_at_status fault)
+    (λ e. absurd (not_whole_at fault 0 refl (sym status ∙ e))) (λ e. absurd (not_whole_at fault 7 refl (sym status ∙ e))) from_start
+
+pub returns-in-Err-clause-not_usable : goal.returns-in-Err-clause-not_usable
+returns-in-Err-clause-not_usable g c = λ t rested none.
+    let size = (g.H.Host.counts c.args.h.now).size in
+    let same = sym (ap (λ (x : Counts). x.size) c.in-Ok.ensures.cause) in
+    (λ is. usable_by size (reads (g.H.Host.state c.args.h.now).now.words) _ refl c.in-Err.fault
+    (λ s stands unsound.
+    let w : World = record { stored = s; shelf = (g.H.Host.state c.args.h.now).shelf } in
+    let ready = ready_after_start size w (g.H.Host.state c.args.h.now) rested stands None _ refl (c.in-Ok.ensures.starts t (λ e. cc e)) in
+    (c.in-Err.ensures.answered t size same w ready).1.sound unsound) (sym c.status_of_run.ensures.status ∙ is),
+    λ unsound. absurd (let no = (c.in-Ok.ensures.not_sound t refl).1 unsound in cc no))
+
+pub returns-in-Err-clause-unchanged : goal.returns-in-Err-clause-unchanged
+returns-in-Err-clause-unchanged g c = λ t rested is.
+    let size = (g.H.Host.counts c.args.h.now).size in
+    let same = sym (ap (λ (x : Counts). x.size) c.in-Ok.ensures.cause) in
+    let unsound = usable_by size (reads (g.H.Host.state c.args.h.now).now.words) _ refl c.in-Err.fault
+    (λ s stands unsound.
+    let w : World = record { stored = s; shelf = (g.H.Host.state c.args.h.now).shelf } in
+    let ready = ready_after_start size w (g.H.Host.state c.args.h.now) rested stands None _ refl (c.in-Ok.ensures.starts t (λ e. cc e)) in
+    (c.in-Err.ensures.answered t size same w ready).1.sound unsound) (sym c.status_of_run.ensures.status ∙ is) in
+    absurd (let no = (c.in-Ok.ensures.not_sound t refl).1 unsound in cc no)

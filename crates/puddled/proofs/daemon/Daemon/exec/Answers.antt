@@ -1,28 +1,39 @@
-use Rattle.std.proofs.Common.{None}
+use Rattle.std.proofs.Common.{None, Some, Ok, Err, refl, rules}
 use Rattle.std.proofs.lemmas.Result.{err_from_is_err_and}
-use Rattle.puddled.proofs.Lines.{Answers-silent, Answers-unsaid, Answers-said, KeepsRest-says}
+use Rattle.puddled.specs.Faults.{of_host}
+use Rattle.puddled.proofs.Counted.{not_none, none_is_sound, counted_say, counted_same, host_is_sound}
+use Rattle.puddled.proofs.Lines.{Answers-fault, Answers-unsaid, Answers-said, begins_by_eq, KeepsRest-says}
 use Rattle.puddled.proofs.daemon.Daemon.exec.Goals as goal
 use Rattle.puddled.proofs.daemon.Daemon.exec.Goals.{then-aloud+in_ok-say_reply, else-aloud}
 
 pub returns-in_err-reply-clause-answers : goal.returns-in_err-reply-clause-answers
 returns-in_err-reply-clause-answers g c =
     let p = err_from_is_err_and c.from_residual.result c.from_residual.ensures.1 in
-    rw (p.1, p.2) (λ t size e w ready. Answers-silent size w c.args.line.now c.args.aloud _ _ _ (c.in_err-reply.ensures.applies t size e w ready))
+    rw (p.1, p.2) (λ t size e w ready. Answers-fault size w c.args.line.now c.args.aloud _ _ _ _ _ (c.in_err-reply.ensures.settles t size e w ready))
 
 pub returns-in_err-say_reply-clause-answers : goal.returns-in_err-say_reply-clause-answers
 returns-in_err-say_reply-clause-answers g c =
     let p = err_from_is_err_and c.from_residual-in_err-say_reply.result c.from_residual-in_err-say_reply.ensures.1 in
     rw (p.1, p.2, c.if-aloud.true) (λ t size e w ready.
-    let said = rw (c.in_ok-reply.ensures.reply t size e w ready) at (c.in_err-say_reply.ensures.says t) in
-    Answers-said size w c.args.line.now _ _ _ _ (c.in_ok-reply.ensures.applies t size e w ready) said)
+    let s = c.in_ok-reply.ensures.settles t size e w ready in
+    let fault = c.in_err-say_reply.field-0.0 in
+    Answers-said size w c.args.line.now _ _ _ _ _ _ _ s (Err (of_host fault)) (Some fault) (c.in_err-say_reply.ensures.says t) (λ no. absurd (not_none (of_host fault) no)) tt (host_is_sound fault)
+    (counted_say fault _ _ _ _ s.counted c.in_err-say_reply.ensures.cause c.in_err-say_reply.ensures.never_cut))
+
+pub returns-in_err-say_reply-clause-cause : goal.returns-in_err-say_reply-clause-cause
+returns-in_err-say_reply-clause-cause g c =
+    let p = err_from_is_err_and c.from_residual-in_err-say_reply.result c.from_residual-in_err-say_reply.ensures.1 in
+    rw (p.1, p.2) (counted_say c.in_err-say_reply.field-0.0 _ _ _ _ c.in_ok-reply.ensures.cause c.in_err-say_reply.ensures.cause c.in_err-say_reply.ensures.never_cut)
 
 pub returns-clause-answers : goal.returns-clause-answers
-returns-clause-answers g c = λ t size e w ready. elim c.if-aloud.branch [
-  | then-aloud+in_ok-say_reply b ↦
-      let said = rw (c.in_ok-reply.ensures.reply t size e w ready) at (b.in_ok-say_reply.ensures.says t) in
-      rw (b.if-aloud.true, b.h-is) (Answers-said size w c.args.line.now None _ _ _ (c.in_ok-reply.ensures.applies t size e w ready) said)
-  | else-aloud b ↦ rw (b.if-aloud.false, b.h-is) (Answers-unsaid size w c.args.line.now _ _ (c.in_ok-reply.ensures.applies t size e w ready))
-]
+returns-clause-answers g c = λ t size e w ready.
+    let s = c.in_ok-reply.ensures.settles t size e w ready in
+    elim c.if-aloud.branch [
+      | then-aloud+in_ok-say_reply b ↦
+          rw (b.if-aloud.true, b.h-is) (Answers-said size w c.args.line.now _ _ _ _ _ _ _ s (Ok c.eq.result) None (b.in_ok-say_reply.ensures.says t) (λ _. refl)
+          (begins_by_eq _ _ (search rules)) (none_is_sound) (counted_same _ _ _ _ _ s.counted b.in_ok-say_reply.ensures.cause))
+      | else-aloud b ↦ rw (b.if-aloud.false, b.h-is) (Answers-unsaid size w c.args.line.now _ c.eq.result _ _ _ _ s (begins_by_eq _ _ (search rules)))
+    ]
 
 pub returns-in_err-say_reply-clause-rest : goal.returns-in_err-say_reply-clause-rest
 returns-in_err-say_reply-clause-rest g c = λ t. KeepsRest-says _ _ _ _ _ (c.in_ok-reply.ensures.rest t) (c.in_err-say_reply.ensures.says t)
