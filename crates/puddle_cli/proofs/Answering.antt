@@ -12,7 +12,7 @@ use Rattle.pud_defs.specs.declared.machine.Command.{Command}
 use Rattle.pud_defs.specs.World.{World}
 use Rattle.pud_defs.specs.Grammar.{command_of}
 use Rattle.pud_defs.specs.Step.{reply_to, refusal_by, world_by}
-use Rattle.pud_defs.specs.Run.{Turn, IsTurn, cuts_of, IsRun, last_world, newlines, open_rest, lines_taken, lines_among}
+use Rattle.pud_defs.specs.Run.{Turn, IsTurn, IsRun, last_world, newlines, open_rest, lines_taken, lines_among}
 use Rattle.pud_defs.specs.Texts.{reply_text, replies_text}
 use Rattle.pud_defs.specs.Stands.{StandsWith}
 use Rattle.pud_defs.proofs.Commands.{command_of-front}

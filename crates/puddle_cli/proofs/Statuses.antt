@@ -1,5 +1,5 @@
 -- Why each status comes, by the counts.
-use Rattle.std.proofs.Common.{◌≡◌, ◌≢◌, ◌⊎◌, inl, inr, ℕ, ◌≤◌, Option, Some, None, refl, sym, ap, subst, ◌∙◌, arith}
+use Rattle.std.proofs.Common.{◌≡◌, inl, inr, ℕ, Option, Some, None, refl, sym, ap, subst, ◌∙◌, arith}
 use Rattle.pm_model.specs.declared.host.HostFault.TheVariants as hosts
 use Rattle.pm_model.specs.Counts.{Counts, Rose, risen, after_fault}
 use Rattle.pud_defs.specs.Image.{Image}
@@ -7,7 +7,7 @@ use Rattle.pud_defs.specs.World.{StoredWorld, world_of}
 use Rattle.puddled.specs.declared.daemon.RunFault.{RunFault}
 use Rattle.puddled.specs.declared.daemon.RunFault.TheVariants as faults
 use Rattle.puddled.specs.Faults.{CountsCuts, IsCounted}
-use Rattle.puddled.proofs.Counted.{counted_cuts, RoseBy-fewer, rose_with_losses, rose_of_counted, risen_least}
+use Rattle.puddled.proofs.Counted.{RoseBy-fewer, rose_with_losses, risen_least}
 use Rattle.puddle_cli.specs.declared.status.TheConstants.{DONE, NOT_USABLE, DEVICE_FAULT, POWER_LOST, TOO_LONG}
 use Rattle.puddle_cli.specs.Status.{status_fault, run_fault_at, status_at, IsStatusOfMode, Causes}
 

@@ -19,7 +19,12 @@ use puddled::{Daemon, RunFault, StartFault};
 use std::alloc::Global;
 
 /// Answers the line that was read, where it is not empty.
-fn answer<H: Host>(alloc: Global, daemon: &mut Daemon, h: &mut H, piece: &mut Piece) -> Result<(), RunFault>
+fn answer<H: Host>(
+    alloc: Global,
+    daemon: &mut Daemon,
+    h: &mut H,
+    piece: &mut Piece,
+) -> Result<(), RunFault>
     requires { device_words MIN_FRAMES ≤ (H.counts h.old).size }
     ensures answers { H.tells → (size : ℕ) → size ≡ (H.counts h.old).size → (w : World) → IsReady size w (H.state h.old)
         → (line : List ℕ) → piece.old ≡ take 129 line
@@ -37,7 +42,12 @@ fn answer<H: Host>(alloc: Global, daemon: &mut Daemon, h: &mut H, piece: &mut Pi
 }
 
 /// Takes one byte of the script, and answers the line that it ends. The answer is whether there was a byte.
-fn serve_byte<H: Host>(alloc: Global, daemon: &mut Daemon, h: &mut H, piece: &mut Piece) -> Result<bool, RunFault>
+fn serve_byte<H: Host>(
+    alloc: Global,
+    daemon: &mut Daemon,
+    h: &mut H,
+    piece: &mut Piece,
+) -> Result<bool, RunFault>
     requires { device_words MIN_FRAMES ≤ (H.counts h.old).size }
     ensures serves { H.tells → (size : ℕ) → size ≡ (H.counts h.old).size → (w : World) → (before : Counts) → (start : State)
         → Serves size w before start (H.counts h.old) (H.state h.old) piece.old

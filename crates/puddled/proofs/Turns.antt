@@ -1,7 +1,6 @@
 -- The turns of a line.
-use Rattle.std.proofs.Common.{◌≡◌, ◌⊎◌, inl, inr, ℕ, List, [], ◌∷◌, Option, Some, None, refl, ap}
-use Rattle.pud_defs.specs.declared.machine.Reply.{Reply}
-use Rattle.pud_defs.specs.declared.machine.Reply.TheVariants.{Ok, No, Cut}
+use Rattle.std.proofs.Common.{◌≡◌, ◌⊎◌, inl, inr, ℕ, List, [], ◌∷◌, Option, Some, None, refl}
+use Rattle.pud_defs.specs.declared.machine.Reply.TheVariants.{Cut}
 use Rattle.pud_defs.specs.declared.machine.Refusal.{Refusal}
 use Rattle.pud_defs.specs.World.{World, restart}
 use Rattle.pud_defs.specs.Step.{refusal, reply_to, step_reply, step_world}

@@ -18,11 +18,13 @@ use script::print_reply;
 use std::alloc::Global;
 
 /// Why the daemon did not start.
-#[derive(Clone, Copy, Debug, PartialEq, Eq)]
+#[derive(Clone, Copy, Debug, PartialEq, Eq, thiserror::Error)]
 pub enum StartFault {
     /// The device is not a sound registry. No word was changed and nothing was said.
+    #[error("the device is not a sound registry")]
     NotSound,
     /// The host's own fault.
+    #[error("the host failed")]
     Host(HostFault),
 }
 
@@ -37,13 +39,16 @@ impl From<HostFault> for StartFault {
 }
 
 /// Why the run cannot go on behind a line. No further line is to be given.
-#[derive(Clone, Copy, Debug, PartialEq, Eq)]
+#[derive(Clone, Copy, Debug, PartialEq, Eq, thiserror::Error)]
 pub enum RunFault {
     /// A call of the host failed.
+    #[error("a call of the host failed")]
     Failed,
     /// Power was lost in the restart that followed a power loss.
+    #[error("power was lost in the restart that followed a power loss")]
     CutInStart,
     /// The restart found that the device is not a sound registry.
+    #[error("the device is not a sound registry behind a power loss")]
     NotSound,
 }
 
@@ -151,7 +156,13 @@ impl Daemon {
     /// done wholly or not at all. The device is the one that this daemon started on. `Failed` comes where a call of the
     /// host failed, `CutInStart` where power was lost in that restart too, `NotSound` where the restart read a registry
     /// that is not sound; then no further line is to be given.
-    pub fn exec<H: Host>(&mut self, _alloc: Global, h: &mut H, line: &[u8], aloud: bool) -> Result<bool, RunFault>
+    pub fn exec<H: Host>(
+        &mut self,
+        _alloc: Global,
+        h: &mut H,
+        line: &[u8],
+        aloud: bool,
+    ) -> Result<bool, RunFault>
         requires { device_words MIN_FRAMES ≤ (H.counts h.old).size }
         ensures answers { H.tells → (size : ℕ) → size ≡ (H.counts h.old).size → (w : World) → IsReady size w (H.state h.old)
             → Answers size w line.now aloud result (H.counts h.old) (H.counts h.new) (H.state h.old) (H.state h.new) }

@@ -1,4 +1,4 @@
-use crate::{Daemon, StartFault};
+use crate::{Daemon, RunFault, StartFault};
 use pm_mem::{MemHost, Plan};
 use pm_model::{Host, HostFault};
 use pud_defs::layout::{
@@ -44,13 +44,14 @@ fn started(host: &mut MemHost) -> Result<(), StartFault> {
 // Carries out a line on the device that the daemon started on.
 fn exec(
     rt: &impl Abort,
+    alloc: Global,
     daemon: &mut Daemon,
     host: &mut MemHost,
     line: &[u8],
     aloud: bool,
-) -> Result<bool, HostFault> {
+) -> Result<bool, RunFault> {
     assert!(rt; device_words(MIN_FRAMES) <= host.words());
-    daemon.exec(host, line, aloud)
+    daemon.exec(alloc, host, line, aloud)
 }
 
 #[test]
@@ -108,12 +109,15 @@ fn lines_are_carried_out_and_answered(rt: HostRuntime) -> Result<(), Fail> {
     let mut host = formatted(&rt, rt.alloc())?;
     let mut daemon = Daemon::start(&mut host)?;
     assert_eq!(rt;
-        exec(&rt, &mut daemon, &mut host, b"type 1 2 1", true),
+        exec(&rt, rt.alloc(), &mut daemon, &mut host, b"type 1 2 1", true),
         Ok(true)
     );
-    assert_eq!(rt; exec(&rt, &mut daemon, &mut host, b"x", true), Ok(false));
     assert_eq!(rt;
-        exec(&rt, &mut daemon, &mut host, b"type 1 2 0", true),
+        exec(&rt, rt.alloc(), &mut daemon, &mut host, b"x", true),
+        Ok(false)
+    );
+    assert_eq!(rt;
+        exec(&rt, rt.alloc(), &mut daemon, &mut host, b"type 1 2 0", true),
         Ok(false)
     );
     assert_eq!(rt; host.said(), b"ready\nok\nno bad\nno clash\n".as_slice());
@@ -126,11 +130,25 @@ fn a_silent_line_is_carried_out(rt: HostRuntime) -> Result<(), Fail> {
     let mut host = formatted(&rt, rt.alloc())?;
     let mut daemon = Daemon::start(&mut host)?;
     assert_eq!(rt;
-        exec(&rt, &mut daemon, &mut host, b"type 1 2 1", false),
+        exec(
+            &rt,
+            rt.alloc(),
+            &mut daemon,
+            &mut host,
+            b"type 1 2 1",
+            false
+        ),
         Ok(true)
     );
     assert_eq!(rt;
-        exec(&rt, &mut daemon, &mut host, b"type 1 2 0", false),
+        exec(
+            &rt,
+            rt.alloc(),
+            &mut daemon,
+            &mut host,
+            b"type 1 2 0",
+            false
+        ),
         Ok(false)
     );
     assert_eq!(rt; host.said(), b"ready\n".as_slice());
@@ -143,17 +161,39 @@ fn what_is_answered_is_durable(rt: HostRuntime) -> Result<(), Fail> {
     let mut host = formatted(&rt, rt.alloc())?;
     let mut daemon = Daemon::start(&mut host)?;
     assert_eq!(rt;
-        exec(&rt, &mut daemon, &mut host, b"type 1 2 1", true),
+        exec(&rt, rt.alloc(), &mut daemon, &mut host, b"type 1 2 1", true),
         Ok(true)
     );
     daemon.stop();
     host.cut(0);
     let mut daemon = Daemon::start(&mut host)?;
     assert_eq!(rt;
-        exec(&rt, &mut daemon, &mut host, b"type 1 2 0", true),
+        exec(&rt, rt.alloc(), &mut daemon, &mut host, b"type 1 2 0", true),
         Ok(false)
     );
     assert_eq!(rt; host.said(), b"ready\nok\nready\nno clash\n".as_slice());
     daemon.stop();
+    Ok(())
+}
+
+#[test]
+fn power_lost_in_a_line_is_answered_cut_and_the_next_is_carried_out(
+    rt: HostRuntime,
+) -> Result<(), Fail> {
+    for (steps, pick, defined) in [(1, 0, false), (6, 0, false), (6, 1, true)] {
+        let mut host = formatted(&rt, rt.alloc())?;
+        let mut daemon = Daemon::start(&mut host)?;
+        host.arm(steps, pick);
+        assert_eq!(rt;
+            exec(&rt, rt.alloc(), &mut daemon, &mut host, b"type 1 2 1", true),
+            Ok(false)
+        );
+        assert_eq!(rt; host.said(), b"ready\ncut\n".as_slice());
+        assert_eq!(rt;
+            exec(&rt, rt.alloc(), &mut daemon, &mut host, b"type 1 2 0", true),
+            Ok(!defined)
+        );
+        daemon.stop();
+    }
     Ok(())
 }

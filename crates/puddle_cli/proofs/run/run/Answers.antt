@@ -1,4 +1,4 @@
-use Rattle.std.proofs.Common.{◌≡◌, Bool, true, false, Ok, Err, Option, Some, None, refl, sym, ap, subst, ◌∙◌}
+use Rattle.std.proofs.Common.{Bool, true, false, Ok, Some, None, refl, sym, ap, subst, ◌∙◌}
 use Rattle.pm_model.specs.Counts.{Counts}
 use Rattle.pm_model.specs.Words.{reads}
 use Rattle.pud_defs.specs.World.{World}
@@ -56,13 +56,14 @@ returns-in-Err-clause-headline g c = λ t w rested shelf stands.
 pub returns-in-Err-clause-not_usable : goal.returns-in-Err-clause-not_usable
 returns-in-Err-clause-not_usable g c = λ t rested none.
     let size = (g.H.Host.counts c.args.h.now).size in
-    let same = sym (ap (λ (x : Counts). x.size) c.in-Ok.ensures.cause) in
-    (λ is. usable_by size (reads (g.H.Host.state c.args.h.now).now.words) _ refl c.in-Err.fault
-    (λ s stands unsound.
-    let w : World = record { stored = s; shelf = (g.H.Host.state c.args.h.now).shelf } in
-    let ready = ready_after_start size w (g.H.Host.state c.args.h.now) rested stands None _ refl (c.in-Ok.ensures.starts t (λ e. cc e)) in
-    (c.in-Err.ensures.answered t size same w ready).1.sound unsound) (sym c.status_of_run.ensures.status ∙ is),
-    λ unsound. absurd (let no = (c.in-Ok.ensures.not_sound t refl).1 unsound in cc no))
+    let same = sym (ap (λ (x : Counts). x.size) c.in-Ok.ensures.cause) in (
+      λ is. usable_by size (reads (g.H.Host.state c.args.h.now).now.words) _ refl c.in-Err.fault
+          (λ s stands unsound.
+          let w : World = record { stored = s; shelf = (g.H.Host.state c.args.h.now).shelf } in
+          let ready = ready_after_start size w (g.H.Host.state c.args.h.now) rested stands None _ refl (c.in-Ok.ensures.starts t (λ e. cc e)) in
+          (c.in-Err.ensures.answered t size same w ready).1.sound unsound) (sym c.status_of_run.ensures.status ∙ is),
+      λ unsound. absurd (let no = (c.in-Ok.ensures.not_sound t refl).1 unsound in cc no),
+    )
 
 pub returns-in-Err-clause-unchanged : goal.returns-in-Err-clause-unchanged
 returns-in-Err-clause-unchanged g c = λ t rested is.

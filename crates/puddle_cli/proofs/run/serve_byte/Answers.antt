@@ -5,7 +5,7 @@ use Rattle.pm_model.specs.Counts.{Counts}
 use Rattle.pud_defs.specs.Run.{last_world, open_rest}
 use Rattle.puddled.specs.declared.daemon.RunFault.{RunFault}
 use Rattle.puddled.specs.Faults.{of_host}
-use Rattle.puddled.proofs.Counted.{counted_nothing, counted_say, host_is_sound, counted_on, CountsCuts-still}
+use Rattle.puddled.proofs.Counted.{counted_nothing, counted_say, host_is_sound}
 use Rattle.puddle_cli.specs.Serving.{Serves, TakesOne}
 use Rattle.puddle_cli.proofs.Answering.{ready_read, Answered-newline, Answered-so_far, Serves-line, Serves-byte, Takes-more, TakesAtMost-takes}
 use Rattle.puddle_cli.proofs.run.serve_byte.Goals as goal

@@ -1,6 +1,5 @@
-use Rattle.std.proofs.Common.{◌≡◌, ℕ, Option, Some, Result, Err, refl, sym, ap, subst, ◌∙◌}
+use Rattle.std.proofs.Common.{ℕ, Err, refl, sym, ap, ◌∙◌}
 use Rattle.std.proofs.lemmas.Result.{err_from_is_err_and}
-use Rattle.pm_model.specs.Moments.{State}
 use Rattle.pm_model.specs.Words.{reads}
 use Rattle.pm_model.specs.Counts.{Counts}
 use Rattle.pud_defs.specs.World.{world_of}
