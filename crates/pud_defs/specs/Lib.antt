@@ -1,6 +1,8 @@
 pub mod Layout
 pub mod Image
 pub mod TypeMap
+pub mod Entries
+pub mod Replay
 pub mod Types
 pub mod Registry
 pub mod World

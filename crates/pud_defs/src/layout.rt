@@ -27,6 +27,21 @@ pub const NEXT_NUMBER_WORD: u32 = 4;
 /// The first word of the daemon log, which is its gate.
 pub const DAEMON_LOG: u32 = 64;
 
+/// How many words a log has.
+pub const LOG_WORDS: u32 = 1024;
+
+/// How many words of a log stand before its entry words: the gate, and seven that are not read.
+pub const LOG_HEADER_WORDS: u32 = 8;
+
+/// How many entry words a log has.
+pub const LOG_ENTRY_WORDS: u32 = 1016;
+
+/// How many words an entry has before its values: the address, and the word that says how many values there are.
+pub const ENTRY_HEADER_WORDS: u32 = 2;
+
+/// The most values that an entry has.
+pub const MAX_ENTRY_VALUES: u32 = 32;
+
 /// The first word of the type table.
 pub const TYPE_TABLE: u32 = 1088;
 
@@ -83,7 +98,7 @@ pub const fn frames_at(frames: u32) -> u32
     requires { frames ≤ MAX_FRAMES }
     ensures { result ≡ frames_at frames }
 {
-    tables_end(frames) + 32 * 1_024
+    tables_end(frames) + 32 * LOG_WORDS
 }
 
 /// How many words a device of so many frames needs. A device may be larger; the rest is not read.

@@ -3,5 +3,6 @@
 #![tactic(auto)]
 
 pub mod layout;
+pub mod log_words;
 pub mod machine;
 pub mod type_map;

@@ -1,0 +1,132 @@
+//! The entries of a log on a device: written as words, and read one by one.
+//!
+//! An entry is its address, a word with the number of its values, its sequence number and its order, and then its 1 to
+//! 32 values. A log's gate counts the entry words that are read; what they hold may be anything, so a reader stops
+//! where they spell no entry.
+#![tactic(auto)]
+
+ghost use Rattle.std.specs.Prelude.{◌≡◌, ◌≢◌, ◌+◌, ◌<◌, ◌≤◌, ◌^◌, ℕ, Option, IfOk, IfSome, OnErr, option_map, is_some, length, take};
+ghost use Rattle.pm_model.specs.Words.{reads};
+ghost use Rattle.pm_model.specs.Counts.{after_fault, fault_of};
+ghost use Rattle.pud_defs.specs.declared.layout.TheConstants.{LOG_WORDS, LOG_ENTRY_WORDS, ENTRY_HEADER_WORDS, MAX_ENTRY_VALUES};
+ghost use Rattle.pud_defs.specs.Entries.{spelled, entries_of};
+ghost use Rattle.log_entry.specs.Reading.{Reading, entry_next, entry_from, Passes};
+
+use pm_model::{Host, HostFault};
+use pud_defs::layout::{ENTRY_HEADER_WORDS, LOG_ENTRY_WORDS, LOG_HEADER_WORDS, LOG_WORDS, MAX_ENTRY_VALUES};
+use pud_defs::log_words::{entry_n, entry_order, entry_seq, entry_word, gate_used, is_legal_entry_word, is_legal_gate};
+use std::marker::Model;
+
+/// An entry of a log on a device.
+#[derive(Clone, Copy, Debug, PartialEq, Eq)]
+pub struct Entry {
+    /// The place that it names: a device word in the daemon log, a global address in a client's.
+    pub addr: u64,
+    /// How many values it has, 1 to 32.
+    pub n: u32,
+    /// The sequence number, 0 to 65,535: it counts where this lies within the log's range.
+    pub seq: u32,
+    /// 0 of an undo entry, 1 of a redo entry.
+    pub order: u32,
+    /// The device word that holds its first value.
+    pub at: u32,
+}
+
+/// Writes an entry as words into the front of `out`, and gives their number, `vals.len() + 2`.
+///
+/// There are 1 to 32 values, and the sequence number has 16 bits.
+pub fn encode(addr: u64, seq: u32, order: u32, vals: &[u64], out: &mut [u64; 34]) -> usize
+    requires some { 1 ≤ length vals.now }
+    requires no_more { length vals.now ≤ MAX_ENTRY_VALUES }
+    requires seq_fits { seq < 2 ^ 16 }
+    ensures count { result ≡ length vals.now + ENTRY_HEADER_WORDS }
+    ensures spells { take result out.new ≡ spelled (record { address = addr; seq = seq; order = order; vals = vals.now }) }
+{
+    out[0] = addr;
+    out[1] = entry_word(vals.len() as u32, seq, order);
+    out[2..2 + vals.len()].copy_from_slice(vals);
+    vals.len() + 2
+}
+
+/// Reads the entries of a log, the oldest first.
+#[derive(Drop)]
+pub struct EntryReader {
+    log_at: u32,
+    passed: u32,
+}
+
+impl Model for EntryReader {
+    ghost Value = { Reading };
+
+    ghost view = { λ r. record { log_at = r.log_at; passed = r.passed } };
+
+    ghost invariant = { λ r. r.passed ≤ LOG_ENTRY_WORDS };
+}
+
+impl EntryReader {
+    /// A reader before the first entry of the log whose gate is word `log_at`.
+    pub fn new(log_at: u32) -> EntryReader
+        ensures { result ≡ record { log_at = log_at; passed = 0 } }
+    {
+        EntryReader { log_at, passed: 0 }
+    }
+
+    /// The next entry. None comes exactly where the gate counts more words than a log has, or all that it counts are
+    /// read, or they spell no entry from here on.
+    ///
+    /// The log lies in the device. The only errors are the host's own; after one the reader is where it was.
+    pub fn next<H: Host>(&mut self, h: &mut H) -> Result<Option<Entry>, HostFault>
+        requires { self.old.log_at + LOG_WORDS ≤ (H.counts h.old).size }
+        ensures next { H.tells → IfOk result (λ found. option_map (entry_from (reads (H.state h.old).now.words)) found
+            ≡ entry_next (reads (H.state h.old).now.words) self.old) }
+        ensures passes { IfOk result (λ found. Passes found self.old self.new) }
+        ensures failed { OnErr result (self.new ≡ self.old) }
+        ensures stays { H.tells → H.state h.new ≡ H.state h.old }
+        ensures cause { H.counts h.new ≡ after_fault (fault_of result) (H.counts h.old) }
+        ensures never_cut { fault_of result ≢ Option.Some HostFault.Cut }
+    {
+        let _words = h.words();
+        let used = gate_used(h.load(self.log_at)?);
+        if used > LOG_ENTRY_WORDS || used < self.passed + ENTRY_HEADER_WORDS {
+            return Ok(None);
+        }
+        let at = self.log_at + LOG_HEADER_WORDS + self.passed;
+        let word = h.load(at + 1)?;
+        let n = entry_n(word);
+        if !is_legal_entry_word(word) || used < self.passed + ENTRY_HEADER_WORDS + n {
+            return Ok(None);
+        }
+        let addr = h.load(at)?;
+        self.passed += ENTRY_HEADER_WORDS + n;
+        Ok(Some(Entry {
+            addr,
+            n,
+            seq: entry_seq(word),
+            order: entry_order(word),
+            at: at + ENTRY_HEADER_WORDS,
+        }))
+    }
+}
+
+/// Whether the log whose gate is word `log_at` is well formed: its gate is legal, and the entry words that it counts
+/// are wholly a list of entries.
+///
+/// The log lies in the device. The only errors are the host's own.
+pub fn well_formed<H: Host>(h: &mut H, log_at: u32) -> Result<bool, HostFault>
+    requires { log_at + LOG_WORDS ≤ (H.counts h.old).size }
+    ensures answer { H.tells → IfOk result (λ ok. ok ≡ is_some (entries_of (reads (H.state h.old).now.words) log_at)) }
+    ensures stays { H.tells → H.state h.new ≡ H.state h.old }
+    ensures cause { H.counts h.new ≡ after_fault (fault_of result) (H.counts h.old) }
+    ensures never_cut { fault_of result ≢ Option.Some HostFault.Cut }
+{
+    let gate = h.load(log_at)?;
+    if !is_legal_gate(gate) {
+        return Ok(false);
+    }
+    let mut reader = EntryReader::new(log_at);
+    let mut passed = 0;
+    while let Some(entry) = reader.next(h)? {
+        passed += ENTRY_HEADER_WORDS + entry.n;
+    }
+    Ok(passed == gate_used(gate))
+}

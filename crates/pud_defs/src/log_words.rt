@@ -1,0 +1,158 @@
+//! The packed words of a log: its gate, and the second word of an entry.
+//!
+//! A gate has the range `lo` in bits 0 to 7 and `hi` in bits 8 to 15, and in bits 16 to 31 `used`, how many entry words
+//! count. The second word of an entry has in bits 0 to 15 the number of values that follow, in bits 16 to 31 the
+//! sequence number, and in bits 32 to 63 the order. The readers answer for every word, legal or not.
+
+ghost use Rattle.std.specs.Prelude.{◌≡◌, ◌<◌, ◌^◌};
+ghost use Rattle.pud_defs.specs.Entries.{gate_lo, gate_hi, gate_used, gate_word, entry_n, entry_seq, entry_order, entry_word, is_legal_gate, is_legal_entry_word};
+
+use crate::layout::{LOG_ENTRY_WORDS, MAX_ENTRY_VALUES};
+
+/// The sequence number of an undo entry.
+pub const UNDO_SEQ: u32 = 1;
+
+/// The sequence number of a redo entry, and of an entry of a batch.
+pub const REDO_SEQ: u32 = 3;
+
+/// The order of an undo entry: of those in range the newest is applied first.
+pub const UNDO_ORDER: u32 = 0;
+
+/// The order of a redo entry: of those in range the oldest is applied first, and all after the undo entries.
+pub const REDO_ORDER: u32 = 1;
+
+/// The lower end of the range of a running log, in which undo entries lie.
+pub const RUNNING_LO: u32 = 0;
+
+/// The upper end of the range of a running log.
+pub const RUNNING_HI: u32 = 2;
+
+/// The lower end of the range of a committing log, in which redo entries lie.
+pub const COMMITTING_LO: u32 = 2;
+
+/// The upper end of the range of a committing log, and both ends of that of a closed one.
+pub const COMMITTING_HI: u32 = 4;
+
+/// The gate of a running log without an entry: the range (0,2) and nothing used.
+pub const RUNNING_GATE: u64 = 512;
+
+/// The gate of a closed log: the range (4,4), in which nothing lies, and nothing used.
+pub const CLOSED_GATE: u64 = 1028;
+
+/// The lower end of the gate's range, 0 to 255: the entries above it and below the upper end are in range.
+pub fn gate_lo(v: u64) -> u32
+    ensures { result ≡ gate_lo v }
+{
+    (v & 0xff) as u32
+}
+
+/// The upper end of the gate's range, 0 to 255.
+pub fn gate_hi(v: u64) -> u32
+    ensures { result ≡ gate_hi v }
+{
+    ((v >> 8) & 0xff) as u32
+}
+
+/// How many entry words the gate counts, 0 to 65,535.
+pub fn gate_used(v: u64) -> u32
+    ensures { result ≡ gate_used v }
+{
+    ((v >> 16) & 0xffff) as u32
+}
+
+/// The gate of this range that counts so many entry words. Each part fits its bits.
+pub fn gate_word(lo: u32, hi: u32, used: u32) -> u64
+    requires lo_fits { lo < 2 ^ 8 }
+    requires hi_fits { hi < 2 ^ 8 }
+    requires used_fits { used < 2 ^ 16 }
+    ensures { result ≡ gate_word lo hi used }
+{
+    u64::from(lo) + (u64::from(hi) << 8) + (u64::from(used) << 16)
+}
+
+/// Whether the word is a gate: its upper half is 0, and it counts no more words than a log has.
+pub fn is_legal_gate(v: u64) -> bool
+    ensures { result ≡ is_legal_gate v }
+{
+    v >> 32 == 0 && gate_used(v) <= LOG_ENTRY_WORDS
+}
+
+/// How many values follow the second word of an entry, 0 to 65,535.
+pub fn entry_n(v: u64) -> u32
+    ensures { result ≡ entry_n v }
+{
+    (v & 0xffff) as u32
+}
+
+/// The sequence number of an entry, 0 to 65,535.
+pub fn entry_seq(v: u64) -> u32
+    ensures { result ≡ entry_seq v }
+{
+    ((v >> 16) & 0xffff) as u32
+}
+
+/// The order of an entry.
+pub fn entry_order(v: u64) -> u32
+    ensures { result ≡ entry_order v }
+{
+    (v >> 32) as u32
+}
+
+/// The second word of an entry of `n` values with this sequence number and order. Each part fits its bits.
+pub fn entry_word(n: u32, seq: u32, order: u32) -> u64
+    requires n_fits { n < 2 ^ 16 }
+    requires seq_fits { seq < 2 ^ 16 }
+    ensures { result ≡ entry_word n seq order }
+{
+    u64::from(n) + (u64::from(seq) << 16) + (u64::from(order) << 32)
+}
+
+/// Whether the word is the second word of an entry: 1 to 32 values, and an order of undo or redo entries.
+pub fn is_legal_entry_word(v: u64) -> bool
+    ensures { result ≡ is_legal_entry_word v }
+{
+    let n = entry_n(v);
+    n >= 1 && n <= MAX_ENTRY_VALUES && entry_order(v) <= REDO_ORDER
+}
+
+#[cfg(test)]
+mod tests {
+    use super::*;
+
+    #[test]
+    fn gates_and_their_parts(rt: HostRuntime) {
+        for (lo, hi, used, word) in [
+            (0, 2, 6, 393_728),
+            (0, 2, 3, 197_120),
+            (RUNNING_LO, RUNNING_HI, 0, RUNNING_GATE),
+            (COMMITTING_HI, COMMITTING_HI, 0, CLOSED_GATE),
+            (COMMITTING_LO, COMMITTING_HI, 1_016, 66_585_602),
+        ] {
+            assert_eq!(rt; gate_word(lo, hi, used), word);
+            assert_eq!(rt; (gate_lo(word), gate_hi(word), gate_used(word)), (lo, hi, used));
+            assert_eq!(rt; is_legal_gate(word), true, "gate {word}");
+        }
+        assert_eq!(rt; is_legal_gate(1_017 << 16), false);
+        assert_eq!(rt; is_legal_gate(1 << 32), false);
+    }
+
+    #[test]
+    fn second_words_of_entries(rt: HostRuntime) {
+        for (n, seq, order, word) in [
+            (1, UNDO_SEQ, UNDO_ORDER, 65_537),
+            (1, REDO_SEQ, REDO_ORDER, 4_295_163_905),
+        ] {
+            assert_eq!(rt; entry_word(n, seq, order), word);
+            assert_eq!(rt; (entry_n(word), entry_seq(word), entry_order(word)), (n, seq, order));
+        }
+        for (n, order, want) in [
+            (0, 0, false),
+            (1, 0, true),
+            (32, 1, true),
+            (33, 1, false),
+            (1, 2, false),
+        ] {
+            assert_eq!(rt; is_legal_entry_word(entry_word(n, 65_535, order)), want, "{n} values, order {order}");
+        }
+    }
+}
