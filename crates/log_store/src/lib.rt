@@ -1,13 +1,144 @@
-// A library with one function.
+//! A log that grows by whole entries.
+//!
+//! An entry becomes part of its log by one word: the entry is durable before the gate that counts it is stored. So at
+//! each moment a power loss leaves the log as it was or with the whole entry. The range moves by one word too.
 #![tactic(auto)]
 
-ghost use Rattle.std.specs.Prelude.{◌≡◌};
-ghost use Rattle.log_store.specs.Echo.{echo_of};
+ghost use Rattle.std.specs.Prelude.{◌≡◌, ◌≢◌, ◌↔◌, ◌+◌, ◌<◌, ◌≤◌, ◌^◌, ℕ, List, [], ◌∷◌, ◌++◌, Option, Result, IfOk, OnErr, length};
+ghost use Rattle.pm_model.specs.Counts.{after_fault, fault_of};
+ghost use Rattle.pm_model.specs.Changes.{only, Changes, Persists};
+ghost use Rattle.pud_defs.specs.declared.layout.TheConstants.{LOG_WORDS, LOG_ENTRY_WORDS, ENTRY_HEADER_WORDS, MAX_ENTRY_VALUES};
+ghost use Rattle.pud_defs.specs.declared.log_words.TheConstants.{RUNNING_LO, RUNNING_HI, RUNNING_GATE, COMMITTING_LO, COMMITTING_HI, CLOSED_GATE, REDO_ORDER};
+ghost use Rattle.pud_defs.specs.Entries.{Entry, gate_word};
+ghost use Rattle.log_store.specs.Store.{OpenLog, append_fault, InLog, IsOpen, Appends, committing, longer};
 
-// The `ensures` clause is the contract: what `echo` returns is `echo_of` of its argument, a definition
-// in `specs/Echo.antt`, which a caller's clause can cite too.
-pub fn echo(x: usize) -> usize
-    ensures { result ≡ echo_of x }
+use log_entry::encode;
+use pm_model::{Host, HostFault};
+use pm_persist::{persist_range, persist_word};
+use pud_defs::layout::{ENTRY_HEADER_WORDS, LOG_ENTRY_WORDS, LOG_HEADER_WORDS};
+use pud_defs::log_words::{CLOSED_GATE, COMMITTING_HI, COMMITTING_LO, RUNNING_GATE, RUNNING_HI, RUNNING_LO, gate_word};
+use std::marker::Model;
+
+/// Why an entry was not appended.
+#[derive(Clone, Copy, Debug, PartialEq, Eq, thiserror::Error)]
+pub enum AppendFault {
+    /// The log has no room for the entry. Nothing changed.
+    #[error("the log has no room for the entry")]
+    TooBig,
+    /// The host's own fault.
+    #[error("the host failed")]
+    Host(HostFault),
+}
+
+impl From<HostFault> for AppendFault {
+    ghost use Rattle.log_store.specs.declared.AppendFault.TheVariants.{Host};
+
+    ghost from_gives = { λ fault e. e ≡ Host fault };
+
+    fn from(fault: HostFault) -> Self {
+        AppendFault::Host(fault)
+    }
+}
+
+/// A log that was opened: where it stands, its range, and how many entry words count.
+#[derive(Drop)]
+pub struct Log {
+    at: u32,
+    lo: u32,
+    hi: u32,
+    used: u32,
+}
+
+impl Model for Log {
+    ghost Value = { OpenLog };
+
+    ghost view = { λ log. record { at = log.at; lo = log.lo; hi = log.hi; used = log.used } };
+
+    ghost invariant = { λ log. (log.lo < 2 ^ 8) × (log.hi < 2 ^ 8) × (log.used ≤ LOG_ENTRY_WORDS) };
+}
+
+/// Makes an entry durable in the words behind those that count. Nothing counts it yet.
+fn persist_entry<H: Host>(h: &mut H, at: u32, addr: u64, seq: u32, order: u32, vals: &[u64]) -> Result<(), HostFault>
 {
-    x
+    let mut words = [0u64; 34];
+    let n = encode(addr, seq, order, vals, &mut words);
+    persist_range(h, at, &words[..n])
+}
+
+impl Log {
+    /// Opens the log whose gate is word `at`: at `Ok` it is running, with the range (0,2) and no entry, durably.
+    ///
+    /// The log lies in the device. The only errors are the host's own. The one word written is the gate.
+    pub fn open_running<H: Host>(h: &mut H, at: u32) -> Result<Log, HostFault>
+        requires { at + LOG_WORDS ≤ (H.counts h.old).size }
+        ensures opened { IfOk result (λ log. log ≡ record { at = at; lo = RUNNING_LO; hi = RUNNING_HI; used = 0 }) }
+        ensures persists { H.tells → Persists (only at RUNNING_GATE) (fault_of result) (H.state h.old) (H.state h.new) }
+        ensures open { H.tells → IfOk result (λ log. IsOpen log [] (H.state h.new).now.words) }
+        ensures cause { H.counts h.new ≡ after_fault (fault_of result) (H.counts h.old) }
+    {
+        persist_word(h, at, RUNNING_GATE)?;
+        Ok(Log {
+            at,
+            lo: RUNNING_LO,
+            hi: RUNNING_HI,
+            used: 0,
+        })
+    }
+
+    /// Appends an entry. At `Ok` each image has it; before, each has the log as it was or with the whole entry.
+    ///
+    /// There are 1 to 32 values, the sequence number has 16 bits, and the order is 0 or 1. `TooBig` comes exactly where
+    /// the entry's words and those used are more than 1,016 together. After an error the log is as it was.
+    pub fn append<H: Host>(&mut self, h: &mut H, addr: u64, seq: u32, order: u32, vals: &[u64]) -> Result<(), AppendFault>
+        requires place { self.old.at + LOG_WORDS ≤ (H.counts h.old).size }
+        requires some { 1 ≤ length vals.now }
+        requires no_more { length vals.now ≤ MAX_ENTRY_VALUES }
+        requires seq_fits { seq < 2 ^ 16 }
+        requires order_known { order ≤ REDO_ORDER }
+        ensures too_big { (result ≡ Result.Err AppendFault.TooBig) ↔ (LOG_ENTRY_WORDS < self.old.used + (length vals.now + ENTRY_HEADER_WORDS)) }
+        ensures too_big_stays { H.tells → result ≡ Result.Err AppendFault.TooBig → H.state h.new ≡ H.state h.old }
+        ensures appended { IfOk result (λ _. self.new ≡ longer (length vals.now + ENTRY_HEADER_WORDS) self.old) }
+        ensures failed { OnErr result (self.new ≡ self.old) }
+        ensures changes { H.tells → Changes (InLog self.old.at) (append_fault result) (H.state h.old) (H.state h.new) }
+        ensures appends { H.tells → (es : List Entry) → IsOpen self.old es (H.state h.old).now.words
+            → Appends self.old es (record { address = addr; seq = seq; order = order; vals = vals.now }) (append_fault result) (H.state h.old) (H.state h.new) }
+        ensures cause { H.counts h.new ≡ after_fault (append_fault result) (H.counts h.old) }
+    {
+        let words = vals.len() as u32 + ENTRY_HEADER_WORDS;
+        if self.used + words > LOG_ENTRY_WORDS {
+            return Err(AppendFault::TooBig);
+        }
+        persist_entry(h, self.at + LOG_HEADER_WORDS + self.used, addr, seq, order, vals)?;
+        persist_word(h, self.at, gate_word(self.lo, self.hi, self.used + words))?;
+        self.used += words;
+        Ok(())
+    }
+
+    /// Moves the range to (2,4), by one word, durably at `Ok`: redo entries count from then on, undo entries no more.
+    ///
+    /// The only errors are the host's own; after one the log is as it was.
+    pub fn to_committing<H: Host>(&mut self, h: &mut H) -> Result<(), HostFault>
+        requires { self.old.at + LOG_WORDS ≤ (H.counts h.old).size }
+        ensures moved { IfOk result (λ _. self.new ≡ committing self.old) }
+        ensures failed { OnErr result (self.new ≡ self.old) }
+        ensures persists { H.tells → Persists (only self.old.at (gate_word COMMITTING_LO COMMITTING_HI self.old.used)) (fault_of result) (H.state h.old) (H.state h.new) }
+        ensures open { H.tells → (es : List Entry) → IsOpen self.old es (H.state h.old).now.words → IfOk result (λ _. IsOpen self.new es (H.state h.new).now.words) }
+        ensures cause { H.counts h.new ≡ after_fault (fault_of result) (H.counts h.old) }
+    {
+        persist_word(h, self.at, gate_word(COMMITTING_LO, COMMITTING_HI, self.used))?;
+        self.lo = COMMITTING_LO;
+        self.hi = COMMITTING_HI;
+        Ok(())
+    }
+
+    /// Closes the log, durably at `Ok`: its range is (4,4), in which no entry lies, and no entry word counts.
+    ///
+    /// The only errors are the host's own. The one word written is the gate.
+    pub fn close<H: Host>(self, h: &mut H) -> Result<(), HostFault>
+        requires { self.at + LOG_WORDS ≤ (H.counts h.old).size }
+        ensures persists { H.tells → Persists (only self.at CLOSED_GATE) (fault_of result) (H.state h.old) (H.state h.new) }
+        ensures cause { H.counts h.new ≡ after_fault (fault_of result) (H.counts h.old) }
+    {
+        persist_word(h, self.at, CLOSED_GATE)
+    }
 }

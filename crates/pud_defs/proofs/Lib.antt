@@ -2,6 +2,7 @@ pub mod Words
 pub mod Images
 pub mod TypeLists
 pub mod TypeTable
+pub mod Entries
 pub mod Zeroes
 pub mod Worlds
 pub mod Definitions

@@ -1,5 +1,5 @@
 -- The entries of a log, as its words spell them.
-use Rattle.std.specs.Prelude.{ℕ, zero, suc, ◌+◌, ◌*◌, ◌/◌, ◌%◌, ◌^◌, Bool, ◌&&◌, nat_le, nat_lt, cond, List, [], ◌∷◌, length, take, Option, Some, None, option_map}
+use Rattle.std.specs.Prelude.{ℕ, zero, suc, ◌+◌, ◌*◌, ◌/◌, ◌%◌, ◌^◌, ◌<◌, ◌≤◌, Bool, ◌&&◌, nat_le, nat_lt, cond, List, [], ◌∷◌, length, take, Option, Some, None, option_map}
 use Rattle.pud_defs.specs.declared.layout.TheConstants.{LOG_HEADER_WORDS, LOG_ENTRY_WORDS, MAX_ENTRY_VALUES}
 use Rattle.pud_defs.specs.declared.log_words.TheConstants.{REDO_ORDER}
 use Rattle.pud_defs.specs.Image.{Image}
@@ -43,6 +43,13 @@ pub record Entry : Type 0 where
   pub seq : ℕ
   pub order : ℕ
   pub vals : List ℕ
+
+-- 1 to 32 values, a sequence number of 16 bits, and the order of undo or redo entries
+pub record IsLegalEntry (e : Entry) : Type 0 where
+  pub some : 1 ≤ length e.vals
+  pub no_more : length e.vals ≤ MAX_ENTRY_VALUES
+  pub seq_fits : e.seq < 2 ^ 16
+  pub order_known : e.order ≤ REDO_ORDER
 
 -- the words that spell an entry
 abbrev pub spelled : Entry → List ℕ
