@@ -3,6 +3,7 @@ pub mod Images
 pub mod TypeLists
 pub mod TypeTable
 pub mod Entries
+pub mod Replay
 pub mod Zeroes
 pub mod Worlds
 pub mod Definitions

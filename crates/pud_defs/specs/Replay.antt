@@ -58,6 +58,10 @@ entries_or_none (Some es) = es
 unfoldable pub new_value : Place → Log → ℕ → Option ℕ
 new_value place log w = given place log (entries_or_none log.entries) w
 
+-- words written, and then others: where both are, the later counts
+abbrev pub over : (ℕ → Option ℕ) → (ℕ → Option ℕ) → ℕ → Option ℕ
+over first later w = option_or (later w) (first w)
+
 -- the image with these words written over it
 abbrev pub overwritten : (ℕ → Option ℕ) → Image → Image
 overwritten write image w = unwrap_or (write w) (image w)

@@ -1,0 +1,147 @@
+-- What replay makes of an image: which words stay, in which order, and once more.
+use Rattle.std.proofs.Common.{◌≡◌, ◌⊎◌, inl, inr, ℕ, ◌+◌, ◌<◌, ◌≤◌, Bool, true, false, ◌&&◌, not, cond, leb, ltb, eqb, List, [], ◌∷◌, ◌++◌, Option, Some, None, refl, sym, ap, ap₂, ◌∙◌, arith}
+use Rattle.std.specs.Prelude.{unwrap_or}
+use Rattle.std.specs.Option.{option_or}
+use Rattle.std.proofs.lemmas.Bool.{le-leb, lt-leb, and_left, cond-true, cond-false, cases_Bool}
+use Rattle.std.proofs.lemmas.Bool.Decides.{leb_tells, nat_tests}
+use Rattle.pud_defs.specs.declared.log_words.TheConstants.{UNDO_ORDER, REDO_ORDER}
+use Rattle.pud_defs.specs.Image.{Image}
+use Rattle.pud_defs.specs.Entries.{Entry, Log, log_of}
+use Rattle.pud_defs.specs.Replay.{Place, device_word, is_in_range, given_by, undone, redone, given, entries_or_none, new_value, over, overwritten, replayed, is_in_log, settled_by}
+
+-- ---- words written over an image
+
+-- what is not written stays
+pub overwritten-stays : (write : ℕ → Option ℕ) (image : Image) (w : ℕ) → write w ≡ None → overwritten write image w ≡ image w
+overwritten-stays write image w none = ap (λ o. unwrap_or o (image w)) none
+
+-- what is written has its value
+pub overwritten-there : (write : ℕ → Option ℕ) (image : Image) (w v : ℕ) → write w ≡ Some v → overwritten write image w ≡ v
+overwritten-there write image w v some = ap (λ o. unwrap_or o (image w)) some
+
+same_or : (o : Option ℕ) (v x : ℕ) → (o ≡ None → v ≡ x) → unwrap_or o v ≡ unwrap_or o x
+same_or None v x same = same refl
+same_or (Some y) v x same = refl
+
+-- images that agree where nothing is written are the same behind it
+pub overwritten-again : (write : ℕ → Option ℕ) (i j : Image) → ((w : ℕ) → write w ≡ None → j w ≡ i w) → overwritten write j ≡ overwritten write i
+overwritten-again write i j same = λ p w. same_or (write w) (j w) (i w) (same w) p
+
+then_or : (f g : Option ℕ) (v : ℕ) → unwrap_or g (unwrap_or f v) ≡ unwrap_or (option_or g f) v
+then_or f None v = refl
+then_or f (Some y) v = refl
+
+-- written in turn
+pub overwritten-then : (f g : ℕ → Option ℕ) (image : Image) → overwritten g (overwritten f image) ≡ overwritten (over f g) image
+overwritten-then f g image = λ p w. then_or (f w) (g w) (image w) p
+
+either_first : (f g : Option ℕ) (v : ℕ) → (f ≡ None) ⊎ (g ≡ None) → unwrap_or g (unwrap_or f v) ≡ unwrap_or f (unwrap_or g v)
+either_first None g v apart = refl
+either_first (Some x) None v apart = refl
+either_first (Some x) (Some y) v (inl no_first) = absurd (cc)
+either_first (Some x) (Some y) v (inr no_second) = absurd (cc)
+
+-- words apart are written in either order
+pub overwritten-either_order : (f g : ℕ → Option ℕ) (image : Image) → ((w : ℕ) → (f w ≡ None) ⊎ (g w ≡ None)) → overwritten g (overwritten f image) ≡ overwritten f (overwritten g image)
+overwritten-either_order f g image apart = λ p w. either_first (f w) (g w) (image w) (apart w) p
+
+-- nothing written changes nothing
+pub overwritten-nothing : (write : ℕ → Option ℕ) (image : Image) → ((w : ℕ) → write w ≡ None) → overwritten write image ≡ image
+overwritten-nothing write image none = λ p w. overwritten-stays write image w (none w) p
+
+-- ---- what entries give
+
+pub undone-first : (place : Place) (log : Log) (e : Entry) (es : List Entry) (w : ℕ) → undone place log (e ∷ es) w ≡ option_or (given_by place log UNDO_ORDER e w) (undone place log es w)
+unfolding undone
+undone-first place log e es w = refl
+
+pub redone-first : (place : Place) (log : Log) (e : Entry) (es : List Entry) (w : ℕ) → redone place log (e ∷ es) w ≡ option_or (redone place log es w) (given_by place log REDO_ORDER e w)
+unfolding redone
+redone-first place log e es w = refl
+
+pub undone-none : (place : Place) (log : Log) (w : ℕ) → undone place log [] w ≡ None
+unfolding undone
+undone-none place log w = refl
+
+pub redone-none : (place : Place) (log : Log) (w : ℕ) → redone place log [] w ≡ None
+unfolding redone
+redone-none place log w = refl
+
+or_assoc : (a b c : Option ℕ) → option_or a (option_or b c) ≡ option_or (option_or a b) c
+or_assoc None b c = refl
+or_assoc (Some x) b c = refl
+
+or_none : (a : Option ℕ) → a ≡ option_or a None
+or_none None = refl
+or_none (Some x) = refl
+
+pub undone-append : (place : Place) (log : Log) (xs ys : List Entry) (w : ℕ) → undone place log (xs ++ ys) w ≡ option_or (undone place log xs w) (undone place log ys w)
+unfolding undone
+undone-append place log [] ys w = refl
+undone-append place log (e ∷ xs) ys w = ap (option_or (given_by place log UNDO_ORDER e w)) (undone-append place log xs ys w) ∙ or_assoc (given_by place log UNDO_ORDER e w) (undone place log xs w) (undone place log ys w)
+
+pub redone-append : (place : Place) (log : Log) (xs ys : List Entry) (w : ℕ) → redone place log (xs ++ ys) w ≡ option_or (redone place log ys w) (redone place log xs w)
+unfolding redone
+redone-append place log [] ys w = or_none (redone place log ys w)
+redone-append place log (e ∷ xs) ys w =
+    ap (λ o. option_or o (given_by place log REDO_ORDER e w)) (redone-append place log xs ys w)
+    ∙ sym (or_assoc (redone place log ys w) (redone place log xs w) (given_by place log REDO_ORDER e w))
+
+-- nothing lies in a closed range
+nothing_between : (lo hi seq : ℕ) → hi ≤ lo + 1 → (ltb lo seq && ltb seq hi) ≡ false
+nothing_between lo hi seq closed = elim (leb_tells hi seq) [
+  | inl above ↦ grind (arith, nat_tests)
+  | inr below ↦ grind (arith, nat_tests)
+]
+
+closed_range : (log : Log) (e : Entry) → log.hi ≤ log.lo + 1 → is_in_range log e ≡ false
+closed_range log e closed = nothing_between log.lo log.hi e.seq closed
+
+pub given_by-closed : (place : Place) (log : Log) (order : ℕ) (e : Entry) (w : ℕ) → log.hi ≤ log.lo + 1 → given_by place log order e w ≡ None
+given_by-closed place log order e w closed = cond-false _ _ _ (and_left (is_in_range log e) (eqb e.order order) (closed_range log e closed))
+
+undone-closed : (place : Place) (log : Log) (es : List Entry) (w : ℕ) → log.hi ≤ log.lo + 1 → undone place log es w ≡ None
+unfolding undone
+undone-closed place log [] w closed = refl
+undone-closed place log (e ∷ es) w closed = ap₂ option_or (given_by-closed place log UNDO_ORDER e w closed) (undone-closed place log es w closed)
+
+redone-closed : (place : Place) (log : Log) (es : List Entry) (w : ℕ) → log.hi ≤ log.lo + 1 → redone place log es w ≡ None
+unfolding redone
+redone-closed place log [] w closed = refl
+redone-closed place log (e ∷ es) w closed = ap₂ option_or (redone-closed place log es w closed) (given_by-closed place log REDO_ORDER e w closed)
+
+-- ---- logs
+
+-- a closed log gives nothing
+pub new_value-closed : (place : Place) (log : Log) (w : ℕ) → log.hi ≤ log.lo + 1 → new_value place log w ≡ None
+unfolding new_value
+new_value-closed place log w closed =
+    ap₂ option_or (redone-closed place log (entries_or_none log.entries) w closed) (undone-closed place log (entries_or_none log.entries) w closed)
+
+-- so its replay changes nothing
+pub replayed-closed : (place : Place) (log : Log) (image : Image) → log.hi ≤ log.lo + 1 → replayed place log image ≡ image
+replayed-closed place log image closed = overwritten-nothing (new_value place log) image (λ w. new_value-closed place log w closed)
+
+-- what the entries of a log give
+pub new_value-of : (place : Place) (log : Log) (es : List Entry) (w : ℕ) → log.entries ≡ Some es → new_value place log w ≡ given place log es w
+unfolding new_value
+new_value-of place log es w some = ap (λ o. given place log (entries_or_none o) w) some
+
+-- ---- the image with a log of device words replayed
+
+pub settled_by-inside : (at : ℕ) (image : Image) (w : ℕ) → is_in_log at w ≡ true → settled_by at image w ≡ 0
+unfolding settled_by
+settled_by-inside at image w inside = cond-true _ _ _ inside
+
+pub settled_by-outside : (at : ℕ) (image : Image) (w : ℕ) → is_in_log at w ≡ false → settled_by at image w ≡ replayed device_word (log_of image at) image w
+unfolding settled_by
+settled_by-outside at image w outside = cond-false _ _ _ outside
+
+-- it is the same for images that replay to the same outside the log
+pub settled_by-same : (at : ℕ) (i j : Image) → ((w : ℕ) → is_in_log at w ≡ false → replayed device_word (log_of i at) i w ≡ replayed device_word (log_of j at) j w) → settled_by at i ≡ settled_by at j
+settled_by-same at i j same =
+    let each : (w : ℕ) → settled_by at i w ≡ settled_by at j w = λ w. elim (cases_Bool (is_in_log at w)) [
+      | inl inside ↦ settled_by-inside at i w inside ∙ sym (settled_by-inside at j w inside)
+      | inr outside ↦ settled_by-outside at i w outside ∙ same w outside ∙ sym (settled_by-outside at j w outside)
+    ] in
+    λ p w. each w p
