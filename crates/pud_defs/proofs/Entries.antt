@@ -2,8 +2,8 @@
 use Rattle.std.proofs.Common.{◌≡◌, ◌⊎◌, inl, inr, ℕ, zero, suc, ◌+◌, ◌-◌, ◌*◌, ◌/◌, ◌%◌, ◌^◌, ◌<◌, ◌≤◌, Bool, true, false, ◌&&◌, cond, leb, ltb, List, [], ◌∷◌, ◌++◌, length, take, drop, get_or, Option, Some, None, option_map, refl, sym, ap, ap₂, subst, ◌∙◌, arith, zero-add, add-zero, suc-add, add_assoc, zero-le, append_assoc, length-append}
 use Rattle.std.proofs.lemmas.Bool.{le-leb, lt-leb, lt-ltb, and_parts, and_from, and_left, cond-true, cond-false, cases_Bool, leb-true}
 use Rattle.std.proofs.lemmas.Bool.Decides.{leb_tells}
-use Rattle.std.proofs.lemmas.List.{take-append-le, length-take-le, append-nil}
-use Rattle.std.proofs.Math.Seq.{take-length, drop-length}
+use Rattle.std.proofs.lemmas.List.{take-append-le, length-take-le, take_all, append-nil}
+use Rattle.std.proofs.Math.Seq.{take-length, drop-length, drop-append_seam}
 use Rattle.pud_defs.specs.declared.layout.TheConstants.{LOG_HEADER_WORDS, LOG_ENTRY_WORDS, MAX_ENTRY_VALUES}
 use Rattle.pud_defs.specs.declared.log_words.TheConstants.{REDO_ORDER}
 use Rattle.pud_defs.specs.Image.{Image}
@@ -32,6 +32,28 @@ words_from-add image at (suc a) b =
     ap (words_from image at) (suc-add a b)
     ∙ ap (λ ws. image at ∷ ws) (words_from-add image (at + 1) a b)
     ∙ ap (λ k. image at ∷ words_from image (at + 1) a ++ words_from image k b) place
+
+-- one word more
+pub words_from-more : (image : Image) (at n : ℕ) → words_from image at (n + 1) ≡ words_from image at n ++ image (at + n) ∷ []
+words_from-more image at n = words_from-add image at n 1 ∙ ap (λ ws. words_from image at n ++ ws) (words_from-step image (at + n) 1 0 refl ∙ ap (λ ws. image (at + n) ∷ ws) (words_from-none image (at + n + 1) 0 refl))
+
+-- the first m of so many words, and those without them
+pub words_from-take : (image : Image) (at n m : ℕ) → m ≤ n → take m (words_from image at n) ≡ words_from image at m
+words_from-take image at n m h =
+    let sum : n ≡ m + (n - m) = omega arith in
+    ap (λ k. take m (words_from image at k)) sum
+    ∙ ap (take m) (words_from-add image at m (n - m))
+    ∙ take-append-le m (words_from image at m) (words_from image (at + m) (n - m)) (omega (arith, words_from-length image at m))
+    ∙ take_all m (words_from image at m) (omega (arith, words_from-length image at m))
+
+pub words_from-drop : (image : Image) (at n m : ℕ) → m ≤ n → drop m (words_from image at n) ≡ words_from image (at + m) (n - m)
+words_from-drop image at n m h =
+    let sum : n ≡ m + (n - m) = omega arith in
+    let front : length (words_from image at m) ≡ m = words_from-length image at m in
+    ap (λ k. drop m (words_from image at k)) sum
+    ∙ ap (drop m) (words_from-add image at m (n - m))
+    ∙ ap (λ k. drop k (words_from image at m ++ words_from image (at + m) (n - m))) (sym front)
+    ∙ drop-append_seam (words_from image at m) (words_from image (at + m) (n - m))
 
 -- images that agree there have the same words
 pub words_from-same : (i j : Image) (at n : ℕ) → ((k : ℕ) → at ≤ k → k < at + n → i k ≡ j k) → words_from i at n ≡ words_from j at n
@@ -111,6 +133,17 @@ first_entry-few [] h = refl
 first_entry-few (a ∷ []) h = refl
 first_entry-few (a ∷ w ∷ rest) h = absurd (omega arith)
 
+-- words that begin with an entry have room for it
+pub first_entry-fits : (ws : List ℕ) (e : Entry) → first_entry ws ≡ Some e → length e.vals + 2 ≤ length ws
+unfolding first_entry
+first_entry-fits [] e found = absurd (cc)
+first_entry-fits (a ∷ []) e found = absurd (cc)
+first_entry-fits (a ∷ w ∷ rest) e found =
+    let b = begins a w rest e found in
+    let many : length e.vals ≡ entry_n w = ap (λ (x : Entry). length x.vals) b.is ∙ length-entry_by a w rest b.enough in
+    let enough = b.enough in
+    omega arith
+
 -- the entries of words that begin with one are it, and those of the words behind it
 pub entries_in-first : (ws : List ℕ) (e : Entry) (n : ℕ) → first_entry ws ≡ Some e → n ≡ length e.vals + 2 → entries_in 0 ws ≡ option_map (λ es. e ∷ es) (entries_in 0 (drop n ws))
 unfolding entries_in first_entry
@@ -184,6 +217,11 @@ entries_in-append_behind zero (a ∷ w ∷ rest) ys es some =
     ∙ ap₂ (λ (x : Entry) (o : Option (List Entry)). option_map (λ es. x ∷ es) o) same later
     ∙ twice (λ es. entry_by a w rest ∷ es) (λ fs. f.behind ++ fs) (entries_in 0 ys)
     ∙ ap (λ (l : List Entry). option_map (λ fs. l ++ fs) (entries_in 0 ys)) (sym f.is)
+
+-- no word spells no entry
+pub entries_in-nothing : (ws : List ℕ) → ws ≡ [] → entries_in 0 ws ≡ Some []
+unfolding entries_in
+entries_in-nothing ws none = ap (entries_in 0) none
 
 pub entries_in-append : (xs ys : List ℕ) (es : List Entry) → entries_in 0 xs ≡ Some es → entries_in 0 (xs ++ ys) ≡ option_map (λ fs. es ++ fs) (entries_in 0 ys)
 entries_in-append xs ys es some = entries_in-append_behind 0 xs ys es some

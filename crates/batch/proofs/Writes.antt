@@ -1,0 +1,119 @@
+-- What the entries of a batch write, and what a log that counts them gives.
+use Rattle.std.proofs.Common.{◌≡◌, ◌⊎◌, inl, inr, ℕ, ◌+◌, ◌-◌, ◌<◌, ◌≤◌, Bool, true, false, ◌&&◌, not, cond, leb, ltb, eqb, List, [], ◌∷◌, ◌++◌, length, get_or, Option, Some, None, IsTrue, refl, sym, ap, ap₂, subst, ◌∙◌, arith}
+use Rattle.std.specs.Prelude.{All, unwrap_or, slice_get}
+use Rattle.std.specs.Option.{option_or}
+use Rattle.std.proofs.lemmas.Bool.{le-leb, lt-leb, lt-ltb, leb-true, and_from, and_parts, and_left, cond-true, cond-false, cases_Bool, eq-eqb, eqb-true, ltb-true}
+use Rattle.std.proofs.lemmas.Bool.Decides.{leb_tells, nat_tests}
+use Rattle.std.proofs.lemmas.Option.{slice_get_past, slice_get_within}
+use Rattle.std.proofs.lemmas.List.Elements.{All-head, All-tail}
+use Rattle.pud_defs.specs.declared.layout.TheConstants.{LOG_WORDS, LOG_HEADER_WORDS, LOG_ENTRY_WORDS}
+use Rattle.pud_defs.specs.declared.log_words.TheConstants.{UNDO_ORDER, REDO_ORDER, REDO_SEQ, COMMITTING_LO, COMMITTING_HI}
+use Rattle.pud_defs.specs.Image.{Image}
+use Rattle.pud_defs.specs.Entries.{Entry, Log, log_of, gate_lo, gate_hi, gate_used, is_legal_gate}
+use Rattle.pud_defs.specs.Replay.{device_word, value_at, is_in_range, given_by, undone, redone, new_value, overwritten, replayed, is_in_log, settled_by}
+use Rattle.pud_defs.proofs.Replay.{undone-first, redone-first, undone-none, redone-none, new_value-of, replayed-closed, settled_by-inside, settled_by-outside, settled_by-same}
+use Rattle.log_replay.specs.Replaying.{NamesApart}
+use Rattle.batch.specs.Batches.{batch_write, committed, IsBatchEntry, AreBatched, is_closed_gate}
+
+-- ---- what a committed log gives is what its entries write
+
+counts : (es : List Entry) (e : Entry) → IsBatchEntry e → is_in_range (committed es) e ≡ true
+counts es e b = ap (λ (n : ℕ). ltb COMMITTING_LO n && ltb n COMMITTING_HI) b.seq
+
+redo_given : (es : List Entry) (e : Entry) (k : ℕ) → IsBatchEntry e → given_by device_word (committed es) REDO_ORDER e k ≡ value_at e.address e.vals k
+redo_given es e k b = cond-true _ _ _ (and_from (is_in_range (committed es) e) (eqb e.order REDO_ORDER) (counts es e b) (eq-eqb e.order REDO_ORDER b.order))
+
+undo_given : (es : List Entry) (e : Entry) (k : ℕ) → IsBatchEntry e → given_by device_word (committed es) UNDO_ORDER e k ≡ None
+undo_given es e k b =
+    let other : (is_in_range (committed es) e && eqb e.order UNDO_ORDER) ≡ false = ap₂ (λ (x : Bool) (n : ℕ). x && eqb n UNDO_ORDER) (counts es e b) b.order in
+    cond-false _ _ _ other
+
+redone_written : (log : List Entry) (es : List Entry) (k : ℕ) → AreBatched es → redone device_word (committed log) es k ≡ batch_write es k
+unfolding batch_write
+redone_written log [] k b = redone-none device_word (committed log) k
+redone_written log (e ∷ es) k b =
+    redone-first device_word (committed log) e es k
+    ∙ ap₂ option_or (redone_written log es k (All-tail IsBatchEntry e es b)) (redo_given log e k (All-head IsBatchEntry e es b))
+
+undone_nothing : (log : List Entry) (es : List Entry) (k : ℕ) → AreBatched es → undone device_word (committed log) es k ≡ None
+undone_nothing log [] k b = undone-none device_word (committed log) k
+undone_nothing log (e ∷ es) k b =
+    undone-first device_word (committed log) e es k
+    ∙ ap₂ option_or (undo_given log e k (All-head IsBatchEntry e es b)) (undone_nothing log es k (All-tail IsBatchEntry e es b))
+
+or_none : (o : Option ℕ) → option_or o None ≡ o
+or_none None = refl
+or_none (Some x) = refl
+
+pub new_value-committed : (es : List Entry) (k : ℕ) → AreBatched es → new_value device_word (committed es) k ≡ batch_write es k
+new_value-committed es k b =
+    new_value-of device_word (committed es) es k refl
+    ∙ ap₂ option_or (redone_written es es k b) (undone_nothing es es k b)
+    ∙ or_none (batch_write es k)
+
+-- ---- the words of a batch lie apart from the log
+
+value_apart : (e : Entry) (size at k : ℕ) → NamesApart device_word size at e → at ≤ k → k < at + LOG_WORDS → value_at e.address e.vals k ≡ None
+value_apart e size at k names low high =
+    let here : e.address ≡ names.first = let p = names.placed in cc in
+    elim names.apart [
+      | inl before ↦ elim (leb_tells e.address k) [
+        | inl above ↦ cond-true _ _ _ above.0 ∙ slice_get_past e.vals (k - e.address) (omega arith)
+        | inr below ↦ cond-false _ _ _ below.0
+      ]
+      | inr behind ↦ cond-false _ _ _ (lt-leb e.address k (omega arith))
+    ]
+
+pub batch_write-apart : (es : List Entry) (size at k : ℕ) → All (NamesApart device_word size at) es → at ≤ k → k < at + LOG_WORDS → batch_write es k ≡ None
+unfolding batch_write
+batch_write-apart [] size at k apart low high = refl
+batch_write-apart (e ∷ es) size at k apart low high =
+    ap₂ option_or (batch_write-apart es size at k (All-tail (NamesApart device_word size at) e es apart) low high)
+    (value_apart e size at k (All-head (NamesApart device_word size at) e es apart) low high)
+
+-- ---- a closed log
+
+-- its replay changes nothing
+pub settled_by-closed : (at : ℕ) (image : Image) (w : ℕ) → is_closed_gate (image at) ≡ true → is_in_log at w ≡ false → settled_by at image w ≡ image w
+settled_by-closed at image w closed outside =
+    let narrow : gate_hi (image at) ≤ gate_lo (image at) + 1 = leb-true _ _ (and_parts (is_legal_gate (image at) && eqb (gate_used (image at)) 0) (leb (gate_hi (image at)) (gate_lo (image at) + 1)) closed).1 in
+    settled_by-outside at image w outside ∙ ap (λ (i : Image). i w) (replayed-closed device_word (log_of image at) image narrow)
+
+-- a word outside the log, and one within
+pub outside_log : (at k : ℕ) → (k < at) ⊎ (at + LOG_WORDS ≤ k) → is_in_log at k ≡ false
+outside_log at k (inl before) = and_left _ _ (lt-leb at k before)
+outside_log at k (inr behind) = grind (arith, nat_tests)
+
+pub within_log : (at k : ℕ) → is_in_log at k ≡ true → (at ≤ k) × (k < at + LOG_WORDS)
+within_log at k inside = let parts = and_parts (leb at k) (ltb k (at + LOG_WORDS)) inside in (leb-true at k parts.0, ltb-true k (at + LOG_WORDS) parts.1)
+
+pub beside_log : (at k : ℕ) → is_in_log at k ≡ false → at ≤ k → k < at + LOG_WORDS → ⊥
+beside_log at k outside low high = absurd (let it : true ≡ false = sym (and_from (leb at k) (ltb k (at + LOG_WORDS)) (le-leb at k low) (lt-ltb k (at + LOG_WORDS) high)) ∙ outside in cc)
+
+-- images with a closed log that are the same beside it settle the same
+pub settled_by-closed_same : (at : ℕ) (i j : Image) → is_closed_gate (i at) ≡ true → is_closed_gate (j at) ≡ true → ((w : ℕ) → is_in_log at w ≡ false → i w ≡ j w) → settled_by at i ≡ settled_by at j
+settled_by-closed_same at i j closed_i closed_j same =
+    let each : (w : ℕ) → settled_by at i w ≡ settled_by at j w = λ w. elim (cases_Bool (is_in_log at w)) [
+      | inl inside ↦ settled_by-inside at i w inside ∙ sym (settled_by-inside at j w inside)
+      | inr outside ↦ settled_by-closed at i w closed_i outside ∙ same w outside ∙ sym (settled_by-closed at j w closed_j outside)
+    ] in
+    λ p w. each w p
+
+-- ---- a committed log
+
+-- with it replayed the batch's words are over those of the image
+pub settled_by-committed : (size at : ℕ) (es : List Entry) (i j : Image) → AreBatched es → All (NamesApart device_word size at) es → log_of i at ≡ committed es → is_closed_gate (j at) ≡ true
+    → ((w : ℕ) → is_in_log at w ≡ false → i w ≡ j w) → settled_by at i ≡ overwritten (batch_write es) (settled_by at j)
+settled_by-committed size at es i j batched apart log closed same =
+    let write = batch_write es in
+    let each : (w : ℕ) → settled_by at i w ≡ overwritten write (settled_by at j) w = λ w. elim (cases_Bool (is_in_log at w)) [
+      | inl inside ↦
+          let place = within_log at w inside in
+          settled_by-inside at i w inside ∙ sym (settled_by-inside at j w inside)
+          ∙ ap (λ (o : Option ℕ). unwrap_or o (settled_by at j w)) (sym (batch_write-apart es size at w apart place.0 place.1))
+      | inr outside ↦
+          settled_by-outside at i w outside
+          ∙ ap (λ (l : Log). replayed device_word l i w) log
+          ∙ ap₂ unwrap_or (new_value-committed es w batched) (same w outside ∙ sym (settled_by-closed at j w closed outside))
+    ] in
+    λ p w. each w p

@@ -1,0 +1,111 @@
+-- What a batch of words is, and what writing it does at every moment.
+use Rattle.std.specs.Prelude.{◌≡◌, ◌⊎◌, ℕ, ◌+◌, ◌<◌, ◌≤◌, Bool, false, ◌&&◌, nat_le, nat_lt, ◌==◌, List, [], ◌∷◌, All, IsTrue, length, take, sum_by, Option, Some, None}
+use Rattle.std.specs.Option.{option_or}
+use Rattle.pm_model.specs.declared.host.HostFault.{HostFault}
+use Rattle.pm_model.specs.Words.{Has, values, Words, reads, Picks, HasOnly}
+use Rattle.pm_model.specs.Moments.{State}
+use Rattle.pm_model.specs.Changes.{Footprint, Write, Changes, Leaves, Silently}
+use Rattle.pud_defs.specs.declared.layout.TheConstants.{LOG_WORDS, LOG_ENTRY_WORDS, ENTRY_HEADER_WORDS}
+use Rattle.pud_defs.specs.declared.log_words.TheConstants.{REDO_SEQ, REDO_ORDER, COMMITTING_LO, COMMITTING_HI, CLOSED_GATE}
+use Rattle.pud_defs.specs.Image.{Image}
+use Rattle.pud_defs.specs.Entries.{Entry, Log, log_of, gate_lo, gate_hi, gate_used, is_legal_gate, entries_in}
+use Rattle.pud_defs.specs.Replay.{device_word, value_at, entries_or_none, overwritten, is_in_log, settled_by}
+use Rattle.log_replay.specs.Replaying.{NamesApart, IsNamed, IsReplayable}
+
+-- these values, for the words from w on
+abbrev pub batch_entry : ℕ → List ℕ → Entry
+batch_entry w vals = record { address = w; seq = REDO_SEQ; order = REDO_ORDER; vals = vals }
+
+-- how many entry words the entries take
+abbrev pub words_of : List Entry → ℕ
+words_of es = sum_by (λ e. length e.vals + ENTRY_HEADER_WORDS) es
+
+-- what the entries of a batch write: of two that name a word the later counts
+unfoldable pub batch_write : List Entry → Write
+batch_write [] k = None
+batch_write (e ∷ es) k = option_or (batch_write es k) (value_at e.address e.vals k)
+
+-- the entry is one of a batch
+pub record IsBatchEntry (e : Entry) : Type 0 where
+  pub seq : e.seq ≡ REDO_SEQ
+  pub order : e.order ≡ REDO_ORDER
+
+abbrev pub AreBatched : List Entry → Type 0
+AreBatched es = All IsBatchEntry es
+
+-- the entries that so many words at the front spell
+abbrev pub entries_spelled : ℕ → List ℕ → List Entry
+entries_spelled used words = entries_or_none (entries_in 0 (take used words))
+
+-- so many words at the front spell the entries of a batch
+pub record IsBuffer (used : ℕ) (words : List ℕ) : Type 0 where
+  pub within : used ≤ LOG_ENTRY_WORDS
+  pub spells : entries_in 0 (take used words) ≡ Some (entries_spelled used words)
+  pub count : used ≡ words_of (entries_spelled used words)
+  pub batched : AreBatched (entries_spelled used words)
+
+-- the gate is one of a closed log with nothing that counts
+abbrev pub is_closed_gate : ℕ → Bool
+is_closed_gate v = is_legal_gate v && gate_used v == 0 && nat_le (gate_hi v) (gate_lo v + 1)
+
+-- The log whose gate is this word is closed in each image, and the words of the batch lie in the device, apart from it.
+pub record IsFree (size at : ℕ) (es : List Entry) (words : Words) : Type 0 where
+  pub closed : (v : ℕ) → Has (values (words at)) v → IsTrue (is_closed_gate v)
+  pub apart : All (NamesApart device_word size at) es
+
+-- the log that was made durable and whose range counts these entries
+abbrev pub committed : List Entry → Log
+committed es = record { lo = COMMITTING_LO; hi = COMMITTING_HI; entries = Some es }
+
+-- any value may come to the words of the log, and to those of the batch
+abbrev pub ByBatch : ℕ → List Entry → Footprint
+ByBatch at es k v = ((at ≤ k) × (k < at + LOG_WORDS)) ⊎ IsNamed (batch_write es) k
+
+-- An image that is one of these words but in the log and in words of the batch. With the log replayed it is as it was, or has all of the
+-- batch's words.
+pub record IsBatched (words : Words) (at : ℕ) (es : List Entry) (image : Image) : Type 0 where
+  pub before : Image
+  pub picked : Picks words before
+  pub outside : (k : ℕ) → is_in_log at k ≡ false → batch_write es k ≡ None → image k ≡ before k
+  pub settled : (settled_by at image ≡ settled_by at before) ⊎ (settled_by at image ≡ overwritten (batch_write es) (settled_by at before))
+
+-- An image that is one of these words but in the log and in words of the batch, and that with the log replayed is the same.
+pub record SettlesSame (words : Words) (at : ℕ) (es : List Entry) (image : Image) : Type 0 where
+  pub before : Image
+  pub picked : Picks words before
+  pub outside : (k : ℕ) → is_in_log at k ≡ false → batch_write es k ≡ None → image k ≡ before k
+  pub same : settled_by at image ≡ settled_by at before
+
+-- the log has one value in each word that is read of it, and its range counts the entries of the batch
+pub record IsPrepared (size at : ℕ) (es : List Entry) (words : Words) : Type 0 where
+  pub replayable : IsReplayable device_word size at es words
+  pub log : log_of (reads words) at ≡ committed es
+
+-- an image of these words with the log replayed has all of the batch's words
+pub record IsBatchedWholly (words : Words) (at : ℕ) (es : List Entry) (image : Image) : Type 0 where
+  pub before : Image
+  pub picked : Picks words before
+  pub outside : (k : ℕ) → is_in_log at k ≡ false → batch_write es k ≡ None → image k ≡ before k
+  pub settled : settled_by at image ≡ overwritten (batch_write es) (settled_by at before)
+
+-- The entries are made durable in the log, and then its range counts them; nothing else changes. At Ok the log can be replayed, and each
+-- image has all of the batch's words with it.
+pub record Prepares (size at : ℕ) (es : List Entry) (fault : Option HostFault) (old new : State) : Type 0 where
+  pub changes : Changes (ByBatch at es) fault old new
+  pub moments : Leaves (Silently (IsBatched old.now.words at es)) old new
+  pub prepared : fault ≡ None → IsPrepared size at es new.now.words
+  pub done : fault ≡ None → (image : Image) → Picks new.now.words image → IsBatchedWholly old.now.words at es image
+
+-- What the log names is written to its places, and then the log is closed.
+pub record Finishes (at : ℕ) (es : List Entry) (fault : Option HostFault) (old new : State) : Type 0 where
+  pub changes : Changes (ByBatch at es) fault old new
+  pub moments : Leaves (Silently (SettlesSame old.now.words at es)) old new
+  pub durable : fault ≡ None → (k v : ℕ) → batch_write es k ≡ Some v → HasOnly (new.now.words k) v
+  pub closed : fault ≡ None → HasOnly (new.now.words at) CLOSED_GATE
+
+-- The batch is written: all or none at each moment; without a fault each word has its new value and no other, and the log is closed.
+pub record Commits (at : ℕ) (es : List Entry) (fault : Option HostFault) (old new : State) : Type 0 where
+  pub changes : Changes (ByBatch at es) fault old new
+  pub moments : Leaves (Silently (IsBatched old.now.words at es)) old new
+  pub durable : fault ≡ None → (k v : ℕ) → batch_write es k ≡ Some v → HasOnly (new.now.words k) v
+  pub closed : fault ≡ None → HasOnly (new.now.words at) CLOSED_GATE

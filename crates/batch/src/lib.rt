@@ -1,0 +1,130 @@
+//! Words of a device changed together, all or none, by the daemon log.
+//!
+//! The words to be written stand in the daemon log as entries and are durable before its range counts them, which one
+//! word does. Then they are written to their places, and the log is closed once they are durable there. So each image
+//! left meanwhile, with the daemon log replayed, has all of the new words or all of the old. A batch costs four fences.
+#![tactic(auto)]
+
+ghost use Rattle.std.specs.Prelude.{◌≡◌, ◌↔◌, ◌+◌, ◌<◌, ◌≤◌, ℕ, List, [], ◌∷◌, ◌++◌, Option, Result, All, IfOk, OnErr, length};
+ghost use Rattle.pm_model.specs.Counts.{after_fault, fault_of};
+ghost use Rattle.pud_defs.specs.declared.layout.TheConstants.{DAEMON_LOG, LOG_WORDS, LOG_ENTRY_WORDS, ENTRY_HEADER_WORDS, MAX_ENTRY_VALUES};
+ghost use Rattle.pud_defs.specs.Entries.{Entry, entries_in};
+ghost use Rattle.pud_defs.specs.Replay.{device_word};
+ghost use Rattle.log_replay.specs.Replaying.{NamesApart};
+ghost use Rattle.batch.specs.Batches.{batch_entry, words_of, AreBatched, IsFree, IsPrepared, Prepares, Finishes, Commits};
+
+use log_entry::encode;
+use log_replay::{Target, replay_range};
+use pm_model::{Host, HostFault};
+use pm_persist::{persist_range, persist_word};
+use pud_defs::layout::{DAEMON_LOG, ENTRY_HEADER_WORDS, LOG_ENTRY_WORDS, LOG_HEADER_WORDS};
+use pud_defs::log_words::{CLOSED_GATE, COMMITTING_HI, COMMITTING_LO, REDO_ORDER, REDO_SEQ, gate_word};
+use std::marker::Model;
+
+/// The words do not fit into the batch any more. It is as it was.
+#[derive(Clone, Copy, Debug, PartialEq, Eq, thiserror::Error)]
+#[error("the words do not fit into the batch")]
+pub struct TooBig;
+
+/// Words to be written together.
+#[derive(Drop)]
+pub struct Batch {
+    words: [u64; 1016],
+    used: u32,
+}
+
+impl Model for Batch {
+    ghost use Rattle.batch.specs.Batches.{entries_spelled, IsBuffer};
+
+    ghost Value = { List Entry };
+
+    ghost view = { λ b. entries_spelled b.used b.words };
+
+    ghost invariant = { λ b. IsBuffer b.used b.words };
+}
+
+/// Makes the entries durable in the log whose gate is word `at`, and then its range counts them.
+fn prepare<H: Host>(h: &mut H, at: u32, words: &[u64]) -> Result<(), HostFault>
+    requires place { at + LOG_WORDS ≤ (H.counts h.old).size }
+    requires fits { length words.now ≤ LOG_ENTRY_WORDS }
+    ensures prepares { H.tells → (size : ℕ) → size ≡ (H.counts h.old).size → (es : List Entry) → entries_in 0 words.now ≡ Option.Some es → AreBatched es
+        → IsFree size at es (H.state h.old).now.words → Prepares size at es (fault_of result) (H.state h.old) (H.state h.new) }
+    ensures cause { H.counts h.new ≡ after_fault (fault_of result) (H.counts h.old) }
+{
+    let _words = h.words();
+    persist_range(h, at + LOG_HEADER_WORDS, words)?;
+    persist_word(h, at, gate_word(COMMITTING_LO, COMMITTING_HI, words.len() as u32))
+}
+
+/// Writes what the log names to its places, and then closes it.
+fn finish<H: Host>(h: &mut H, at: u32) -> Result<(), HostFault>
+    requires { at + LOG_WORDS ≤ (H.counts h.old).size }
+    ensures finishes { H.tells → (size : ℕ) → size ≡ (H.counts h.old).size → (es : List Entry) → AreBatched es → All (NamesApart device_word size at) es
+        → IsPrepared size at es (H.state h.old).now.words → Finishes at es (fault_of result) (H.state h.old) (H.state h.new) }
+    ensures cause { H.counts h.new ≡ after_fault (fault_of result) (H.counts h.old) }
+{
+    replay_range(h, at, Target::Words)?;
+    persist_word(h, at, CLOSED_GATE)
+}
+
+/// Writes the words that these entries name, all or none, by the log whose gate is word `at`.
+fn commit_by<H: Host>(h: &mut H, at: u32, words: &[u64]) -> Result<(), HostFault>
+    requires place { at + LOG_WORDS ≤ (H.counts h.old).size }
+    requires fits { length words.now ≤ LOG_ENTRY_WORDS }
+    ensures commits { H.tells → (size : ℕ) → size ≡ (H.counts h.old).size → (es : List Entry) → entries_in 0 words.now ≡ Option.Some es → AreBatched es
+        → IsFree size at es (H.state h.old).now.words → Commits at es (fault_of result) (H.state h.old) (H.state h.new) }
+    ensures cause { H.counts h.new ≡ after_fault (fault_of result) (H.counts h.old) }
+{
+    prepare(h, at, words)?;
+    finish(h, at)
+}
+
+impl Batch {
+    /// A batch of no words.
+    pub fn new() -> Batch
+        ensures { result ≡ [] }
+    {
+        Batch {
+            words: [0; 1016],
+            used: 0,
+        }
+    }
+
+    /// Adds the words from `w` on, 1 to 32, with these values. What is added later counts over what was added before.
+    ///
+    /// `TooBig` comes exactly where these values and two words more, with those of what was added before, are more
+    /// than the 1,016 entry words of the daemon log; then the batch is as it was.
+    pub fn add(&mut self, w: u32, vals: &[u64]) -> Result<(), TooBig>
+        requires some { 1 ≤ length vals.now }
+        requires no_more { length vals.now ≤ MAX_ENTRY_VALUES }
+        ensures too_big { (result ≡ Result.Err TooBig) ↔ (LOG_ENTRY_WORDS < words_of self.old + (length vals.now + ENTRY_HEADER_WORDS)) }
+        ensures added { IfOk result (λ _. self.new ≡ self.old ++ batch_entry w vals.now ∷ []) }
+        ensures failed { OnErr result (self.new ≡ self.old) }
+    {
+        let more = vals.len() as u32 + ENTRY_HEADER_WORDS;
+        if self.used + more > LOG_ENTRY_WORDS {
+            return Err(TooBig);
+        }
+        let mut entry = [0u64; 34];
+        let n = encode(u64::from(w), REDO_SEQ, REDO_ORDER, vals, &mut entry);
+        let at = self.used as usize;
+        self.words[at..at + n].copy_from_slice(&entry[..n]);
+        self.used += more;
+        Ok(())
+    }
+
+    /// Writes the words of the batch, all or none, durably at `Ok`.
+    ///
+    /// The device has the daemon log. Where that log is closed in each image, with nothing that counts, and the words of
+    /// the batch lie in the device apart from it, each image left meanwhile stands, with the daemon log replayed, for the
+    /// device before the batch or behind it; at `Ok` the words have their new values and no other, and the daemon log is
+    /// closed. The only errors are the host's own.
+    pub fn commit<H: Host>(self, h: &mut H) -> Result<(), HostFault>
+        requires { DAEMON_LOG + LOG_WORDS ≤ (H.counts h.old).size }
+        ensures commits { H.tells → (size : ℕ) → size ≡ (H.counts h.old).size → IsFree size DAEMON_LOG self (H.state h.old).now.words
+            → Commits DAEMON_LOG self (fault_of result) (H.state h.old) (H.state h.new) }
+        ensures cause { H.counts h.new ≡ after_fault (fault_of result) (H.counts h.old) }
+    {
+        commit_by(h, DAEMON_LOG, &self.words[..self.used as usize])
+    }
+}

@@ -1,0 +1,119 @@
+-- Words overwritten entry by entry.
+use Rattle.std.proofs.Common.{◌≡◌, ◌⊎◌, inl, inr, ℕ, ◌+◌, ◌-◌, ◌<◌, ◌≤◌, Bool, true, false, ◌&&◌, cond, leb, ltb, eqb, List, [], ◌∷◌, length, Option, Some, None, IsTrue, refl, sym, ap, ap₂, subst, ◌∙◌, arith}
+use Rattle.std.specs.Option.{option_or}
+use Rattle.std.proofs.lemmas.Bool.{and_from, cond-true, cond-false, lt-ltb, eq-eqb}
+use Rattle.pm_model.specs.declared.host.HostFault.{HostFault}
+use Rattle.pm_model.specs.declared.host.HostFault.TheVariants.{Cut}
+use Rattle.pm_model.specs.Moments.{State}
+use Rattle.pm_model.specs.Changes.{Write, Writes, Changes, placed, written}
+use Rattle.pm_model.proofs.Changes.{Changes-still, Changes-wider, Changes-then}
+use Rattle.pud_defs.specs.Entries.{Entry, Log}
+use Rattle.pud_defs.specs.Replay.{Place, is_in_range, given_by, value_from, over}
+use Rattle.log_replay.specs.Replaying.{IsNamed, Named, Applies, NamesApart}
+
+-- nothing is written
+pub Applies-nothing : (write : Write) (s t : State) → ((w : ℕ) → write w ≡ None) → t ≡ s → Applies write None s t
+Applies-nothing write s t none same =
+    record {
+      changes = Changes-still (Named write) None s t (λ cut. cc) same;
+      newest = λ e k v is. absurd (let it : None ≡ Some v = sym (none k) ∙ is in cc);
+      marked = λ e k v is. absurd (let it : None ≡ Some v = sym (none k) ∙ is in cc);
+    }
+
+-- words that are written and marked
+pub Applies-writes : (write placing : Write) (fault : Option HostFault) (s t : State) → ((w : ℕ) → write w ≡ placing w) → Writes placing fault s t → Applies write fault s t
+Applies-writes write placing fault s t same writes =
+    record {
+      changes = Changes-wider (written placing) (Named write) fault s t (λ k v may. record { value = v; is = same k ∙ may }) writes.changes;
+      newest = λ e k v is. writes.newest e k v (sym (same k) ∙ is);
+      marked = λ e k v is. writes.marked e k v (sym (same k) ∙ is);
+    }
+
+-- what an entry gives that counts: its values, from the first word that it names on
+pub given_by-counts : (place : Place) (log : Log) (order : ℕ) (e : Entry) (first w : ℕ) → is_in_range log e ≡ true → e.order ≡ order → place e.address ≡ Some first
+    → given_by place log order e w ≡ placed first e.vals w
+given_by-counts place log order e first w counts same there =
+    cond-true _ _ _ (and_from (is_in_range log e) (eqb e.order order) counts (eq-eqb e.order order same))
+    ∙ ap (λ (o : Option ℕ). value_from o e.vals w) there
+
+pub in_range : (log : Log) (e : Entry) → log.lo < e.seq → e.seq < log.hi → is_in_range log e ≡ true
+in_range log e low high = and_from (ltb log.lo e.seq) (ltb e.seq log.hi) (lt-ltb _ _ low) (lt-ltb _ _ high)
+
+-- where an entry that counts goes, by a search that finds the place of each that lies in the device
+pub record GoesTo (place : Place) (e : Entry) (found : Option ℕ) : Type 0 where
+  pub first : ℕ
+  pub there : found ≡ Some first
+  pub placed : place e.address ≡ Some first
+
+pub goes_to : (place : Place) (size log_at : ℕ) (log : Log) (e : Entry) (found : Option ℕ) → is_in_range log e ≡ true → (IsTrue (is_in_range log e) → NamesApart place size log_at e)
+    → ((first : ℕ) → place e.address ≡ Some first → first + length e.vals ≤ size → found ≡ Some first) → GoesTo place e found
+goes_to place size log_at log e found counts apart finds =
+    let names = apart counts in
+    record { first = names.first; there = finds names.first names.placed names.within; placed = names.placed }
+
+-- ---- one after the other
+
+pub Applies-same : (f g : Write) (fault : Option HostFault) (s t : State) → ((w : ℕ) → g w ≡ f w) → Applies f fault s t → Applies g fault s t
+Applies-same f g fault s t same a =
+    record {
+      changes = Changes-wider (Named f) (Named g) fault s t (λ k v named. record { value = named.value; is = same k ∙ named.is }) a.changes;
+      newest = λ e k v is. a.newest e k v (sym (same k) ∙ is);
+      marked = λ e k v is. a.marked e k v (sym (same k) ∙ is);
+    }
+
+-- what either names, both name together
+named_first : (f g : Write) (k : ℕ) (o : Option ℕ) → g k ≡ o → IsNamed f k → IsNamed (over f g) k
+named_first f g k None none named = record { value = named.value; is = ap (λ (x : Option ℕ). option_or x (f k)) none ∙ named.is }
+named_first f g k (Some v) some named = record { value = v; is = ap (λ (x : Option ℕ). option_or x (f k)) some }
+
+named_later : (f g : Write) (k : ℕ) → IsNamed g k → IsNamed (over f g) k
+named_later f g k named = record { value = named.value; is = ap (λ (x : Option ℕ). option_or x (f k)) named.is }
+
+not_named : (g : Write) (k : ℕ) → g k ≡ None → (v : ℕ) → Named g k v → ⊥
+not_named g k none v named = absurd (let it : None ≡ Some named.value = sym none ∙ named.is in cc)
+
+-- a value of both together is the later's, or the first's where the later names nothing
+record Either (f g : Write) (k v : ℕ) : Type 0 where
+  which : (g k ≡ Some v) ⊎ ((g k ≡ None) × (f k ≡ Some v))
+
+either : (f g : Write) (k v : ℕ) (o : Option ℕ) → g k ≡ o → over f g k ≡ Some v → Either f g k v
+either f g k v None none is = record { which = inr (none, ap (λ (x : Option ℕ). option_or x (f k)) (sym none) ∙ is) }
+either f g k v (Some y) some is = record { which = inl (some ∙ (ap (λ (x : Option ℕ). option_or x (f k)) (sym some) ∙ is)) }
+
+pub Applies-then : (f g : Write) (fault : Option HostFault) (a b c : State) → Applies f None a b → Applies g fault b c → Applies (over f g) fault a c
+Applies-then f g fault a b c first later =
+    let still : fault ≡ None → fault ≡ Some Cut → ⊥ = λ none cut. absurd (let it : None ≡ Some Cut = sym none ∙ cut in cc) in
+    record {
+      changes = Changes-then (Named (over f g)) fault a b c
+          (Changes-wider (Named f) (Named (over f g)) None a b (λ k v named. named_first f g k (g k) refl named) first.changes)
+          (Changes-wider (Named g) (Named (over f g)) fault b c (λ k v named. named_later f g k named) later.changes);
+      newest = λ e k v is. elim (either f g k v (g k) refl is).which [
+        | inl there ↦ later.newest e k v there
+        | inr before ↦ (later.changes.keeps (still e) k (not_named g k before.0)).newest ∙ first.newest refl k v before.1
+      ];
+      marked = λ e k v is. elim (either f g k v (g k) refl is).which [
+        | inl there ↦ later.marked e k v there
+        | inr before ↦ (later.changes.keeps (still e) k (not_named g k before.0)).marked (first.marked refl k v before.1)
+      ];
+    }
+
+-- a fault came before all was written
+pub Applies-failed : (f write : Write) (fault : HostFault) (s t : State) → ((k : ℕ) → IsNamed f k → IsNamed write k) → Changes (Named f) (Some fault) s t → Applies write (Some fault) s t
+Applies-failed f write fault s t wider changes =
+    record {
+      changes = Changes-wider (Named f) (Named write) (Some fault) s t (λ k v named. wider k named) changes;
+      newest = λ e. absurd (let it : None ≡ Some fault = sym e in cc);
+      marked = λ e. absurd (let it : None ≡ Some fault = sym e in cc);
+    }
+
+-- the first part of what is written alone, and not wholly
+pub Applies-failed_first : (f g : Write) (fault : HostFault) (s t : State) → Applies f (Some fault) s t → Applies (over f g) (Some fault) s t
+Applies-failed_first f g fault s t a = Applies-failed f (over f g) fault s t (λ k named. named_first f g k (g k) refl named) a.changes
+
+-- nothing was written yet
+pub Applies-failed_still : (write : Write) (fault : HostFault) (s t : State) → (Some fault ≡ Some Cut → ⊥) → t ≡ s → Applies write (Some fault) s t
+Applies-failed_still write fault s t not_cut same = Applies-failed write write fault s t (λ k named. named) (Changes-still (Named write) (Some fault) s t not_cut same)
+
+-- behind a call that changed nothing
+pub Applies-behind : (write : Write) (fault : Option HostFault) (s t u : State) → t ≡ s → Applies write fault t u → Applies write fault s u
+Applies-behind write fault s t u same a = subst (λ (x : State). Applies write fault x u) same a

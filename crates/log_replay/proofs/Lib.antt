@@ -1,0 +1,3 @@
+pub mod Applying
+pub mod Left
+pub mod Whole

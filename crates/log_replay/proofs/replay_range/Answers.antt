@@ -1,0 +1,14 @@
+use Rattle.std.proofs.lemmas.Result.{err_from_is_err_and}
+use Rattle.pm_model.specs.Counts.{fault_of}
+use Rattle.log_replay.specs.Replaying.{place_of}
+use Rattle.log_replay.proofs.Whole.{Replays-failed, Replays-fence}
+use Rattle.log_replay.proofs.replay_range.Goals as goal
+
+pub returns-in_err-overwrite-clause-replays : goal.returns-in_err-overwrite-clause-replays
+returns-in_err-overwrite-clause-replays g c =
+    let p = err_from_is_err_and c.from_residual.result c.from_residual.ensures.1 in
+    rw (p.1, p.2) (λ t size same es r. Replays-failed (place_of c.args.to) size c.args.log_at es _ _ _ r (c.in_err-overwrite.ensures.overwrites t size same es r))
+
+pub returns-clause-replays : goal.returns-clause-replays
+returns-clause-replays g c = λ t size same es r.
+    Replays-fence (place_of c.args.to) size c.args.log_at es (fault_of c.fence.result) _ _ _ r (c.in_ok-overwrite.ensures.overwrites t size same es r) (c.fence.ensures.state t)
