@@ -5,16 +5,20 @@
 //! where they spell no entry.
 #![tactic(auto)]
 
-ghost use Rattle.std.specs.Prelude.{◌≡◌, ◌≢◌, ◌+◌, ◌<◌, ◌≤◌, ◌^◌, ℕ, Option, IfOk, IfSome, OnErr, option_map, is_some, length, take};
+ghost use Rattle.std.specs.Prelude.{◌≡◌, ◌≢◌, ◌+◌, ◌<◌, ◌≤◌, ◌^◌, ℕ, Option, IfOk, IfSome, OnErr, ◌&&◌, nat_le, option_map, is_some, length, take};
 ghost use Rattle.pm_model.specs.Words.{reads};
 ghost use Rattle.pm_model.specs.Counts.{after_fault, fault_of};
 ghost use Rattle.pud_defs.specs.declared.layout.TheConstants.{LOG_WORDS, LOG_ENTRY_WORDS, ENTRY_HEADER_WORDS, MAX_ENTRY_VALUES};
-ghost use Rattle.pud_defs.specs.Entries.{spelled, entries_of};
+ghost use Rattle.pud_defs.specs.Entries.{entry_n, is_legal_entry_word, spelled, entries_of};
 ghost use Rattle.log_entry.specs.Reading.{Reading, entry_next, entry_from, Passes};
 
 use pm_model::{Host, HostFault};
-use pud_defs::layout::{ENTRY_HEADER_WORDS, LOG_ENTRY_WORDS, LOG_HEADER_WORDS, LOG_WORDS, MAX_ENTRY_VALUES};
-use pud_defs::log_words::{entry_n, entry_order, entry_seq, entry_word, gate_used, is_legal_entry_word, is_legal_gate};
+use pud_defs::layout::{
+    ENTRY_HEADER_WORDS, LOG_ENTRY_WORDS, LOG_HEADER_WORDS, LOG_WORDS, MAX_ENTRY_VALUES,
+};
+use pud_defs::log_words::{
+    entry_n, entry_order, entry_seq, entry_word, gate_used, is_legal_entry_word, is_legal_gate,
+};
 use std::marker::Model;
 
 /// An entry of a log on a device.
@@ -46,6 +50,13 @@ pub fn encode(addr: u64, seq: u32, order: u32, vals: &[u64], out: &mut [u64; 34]
     out[1] = entry_word(vals.len() as u32, seq, order);
     out[2..2 + vals.len()].copy_from_slice(vals);
     vals.len() + 2
+}
+
+// Whether an entry has this second word, where so many words stand behind it.
+fn begins_entry(word: u64, behind: u32) -> bool
+    ensures { result ≡ (is_legal_entry_word word && nat_le (entry_n word) behind) }
+{
+    is_legal_entry_word(word) && entry_n(word) <= behind
 }
 
 /// Reads the entries of a log, the oldest first.
@@ -92,10 +103,10 @@ impl EntryReader {
         }
         let at = self.log_at + LOG_HEADER_WORDS + self.passed;
         let word = h.load(at + 1)?;
-        let n = entry_n(word);
-        if !is_legal_entry_word(word) || used < self.passed + ENTRY_HEADER_WORDS + n {
+        if !begins_entry(word, used - self.passed - ENTRY_HEADER_WORDS) {
             return Ok(None);
         }
+        let n = entry_n(word);
         let addr = h.load(at)?;
         self.passed += ENTRY_HEADER_WORDS + n;
         Ok(Some(Entry {
@@ -130,3 +141,6 @@ pub fn well_formed<H: Host>(h: &mut H, log_at: u32) -> Result<bool, HostFault>
     }
     Ok(passed == gate_used(gate))
 }
+
+#[cfg(test)]
+mod tests;
