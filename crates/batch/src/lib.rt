@@ -5,7 +5,7 @@
 //! left meanwhile, with the daemon log replayed, has all of the new words or all of the old. A batch costs four fences.
 #![tactic(auto)]
 
-ghost use Rattle.std.specs.Prelude.{◌≡◌, ◌↔◌, ◌+◌, ◌<◌, ◌≤◌, ℕ, List, [], ◌∷◌, ◌++◌, Option, Result, All, IfOk, OnErr, length};
+ghost use Rattle.std.specs.Prelude.{◌≡◌, ◌↔◌, ◌+◌, ◌<◌, ◌≤◌, ℕ, List, [], ◌∷◌, ◌++◌, Option, Result, All, IfOk, IsErr, OnErr, length};
 ghost use Rattle.pm_model.specs.Counts.{after_fault, fault_of};
 ghost use Rattle.pud_defs.specs.declared.layout.TheConstants.{DAEMON_LOG, LOG_WORDS, LOG_ENTRY_WORDS, ENTRY_HEADER_WORDS, MAX_ENTRY_VALUES};
 ghost use Rattle.pud_defs.specs.Entries.{Entry, entries_in};
@@ -34,6 +34,8 @@ pub struct Batch {
 }
 
 impl Model for Batch {
+    ghost use Rattle.std.specs.Prelude.{List};
+    ghost use Rattle.pud_defs.specs.Entries.{Entry};
     ghost use Rattle.batch.specs.Batches.{entries_spelled, IsBuffer};
 
     ghost Value = { List Entry };
@@ -97,7 +99,7 @@ impl Batch {
     pub fn add(&mut self, w: u32, vals: &[u64]) -> Result<(), TooBig>
         requires some { 1 ≤ length vals.now }
         requires no_more { length vals.now ≤ MAX_ENTRY_VALUES }
-        ensures too_big { (result ≡ Result.Err TooBig) ↔ (LOG_ENTRY_WORDS < words_of self.old + (length vals.now + ENTRY_HEADER_WORDS)) }
+        ensures too_big { (IsErr result) ↔ (LOG_ENTRY_WORDS < words_of self.old + (length vals.now + ENTRY_HEADER_WORDS)) }
         ensures added { IfOk result (λ _. self.new ≡ self.old ++ batch_entry w vals.now ∷ []) }
         ensures failed { OnErr result (self.new ≡ self.old) }
     {

@@ -1,0 +1,16 @@
+use Rattle.std.proofs.Common.{sym, ap, ◌∙◌, refl}
+use Rattle.std.proofs.lemmas.Result.{err_from_is_err_and}
+use Rattle.pm_model.specs.Counts.{Counts, fault_of}
+use Rattle.batch.proofs.Phases.{Commits-prepare, Commits-finish}
+use Rattle.batch.proofs.commit_by.Goals as goal
+
+pub returns-in_err-prepare-clause-commits : goal.returns-in_err-prepare-clause-commits
+returns-in_err-prepare-clause-commits g c =
+    let p = err_from_is_err_and c.from_residual.result c.from_residual.ensures.1 in
+    rw (p.1, p.2) (λ t size same es spell batched free. Commits-prepare size c.args.at es _ _ _ (c.in_err-prepare.ensures.prepares t size same es spell batched free))
+
+pub returns-clause-commits : goal.returns-clause-commits
+returns-clause-commits g c = λ t size same es spell batched free.
+    let prepared = c.in_ok-prepare.ensures.prepares t size same es spell batched free in
+    Commits-finish size c.args.at es (fault_of c.finish.result) _ _ _ prepared
+    (c.finish.ensures.finishes t size (same ∙ sym (ap (λ (n : Counts). n.size) c.in_ok-prepare.ensures.cause)) es batched free.apart (prepared.prepared refl))
