@@ -1,5 +1,5 @@
 -- Entries of a log: how words spell them, one behind the other.
-use Rattle.std.proofs.Common.{◌≡◌, ◌⊎◌, inl, inr, ℕ, zero, suc, ◌+◌, ◌-◌, ◌*◌, ◌/◌, ◌%◌, ◌^◌, ◌<◌, ◌≤◌, Bool, true, false, ◌&&◌, cond, leb, ltb, List, [], ◌∷◌, ◌++◌, length, take, drop, get_or, Option, Some, None, option_map, refl, sym, ap, ap₂, subst, ◌∙◌, arith, zero-add, add-zero, suc-add, add_assoc, zero-le, append_assoc, length-append}
+use Rattle.std.proofs.Common.{◌≡◌, ◌⊎◌, inl, inr, ℕ, zero, suc, ◌+◌, ◌-◌, ◌^◌, ◌<◌, ◌≤◌, true, false, ◌&&◌, cond, leb, ltb, List, [], ◌∷◌, ◌++◌, length, take, drop, get_or, Option, Some, None, option_map, refl, sym, ap, ap₂, ◌∙◌, arith, zero-add, add-zero, suc-add, length-append}
 use Rattle.std.proofs.lemmas.Bool.{le-leb, lt-leb, lt-ltb, and_parts, and_from, and_left, cond-true, cond-false, cases_Bool, leb-true}
 use Rattle.std.proofs.lemmas.Bool.Decides.{leb_tells}
 use Rattle.std.proofs.lemmas.List.{take-append-le, length-take-le, take_all, append-nil}
@@ -7,7 +7,7 @@ use Rattle.std.proofs.Math.Seq.{take-length, drop-length, drop-append_seam}
 use Rattle.pud_defs.specs.declared.layout.TheConstants.{LOG_HEADER_WORDS, LOG_ENTRY_WORDS, MAX_ENTRY_VALUES}
 use Rattle.pud_defs.specs.declared.log_words.TheConstants.{REDO_ORDER}
 use Rattle.pud_defs.specs.Image.{Image}
-use Rattle.pud_defs.specs.Entries.{Entry, Log, log_of, gate_lo, gate_hi, gate_used, gate_word, is_legal_gate, entry_n, entry_seq, entry_order, entry_word, is_legal_entry_word, spelled, entry_by, with_entry, IsLegalEntry, entries_in, first_entry, words_from, used_words, entries_of}
+use Rattle.pud_defs.specs.Entries.{Entry, log_of, gate_lo, gate_hi, gate_used, gate_word, is_legal_gate, entry_n, entry_seq, entry_order, entry_word, is_legal_entry_word, spelled, entry_by, with_entry, IsLegalEntry, entries_in, first_entry, words_from, used_words, entries_of}
 
 -- ---- words of an image
 

@@ -17,4 +17,5 @@ pub mod Opened
 pub mod ExamplesGrammar
 pub mod ExamplesImage
 pub mod ExamplesRun
+pub mod ExamplesLogs
 pub mod Stands

@@ -1,4 +1,6 @@
 -- All definitions of the crate opened by one word, for examples that compute.
+use Rattle.pud_defs.specs.Entries.{entries_in, first_entry, words_from, entries_of}
+use Rattle.pud_defs.specs.Replay.{undone, redone, new_value, settled_by}
 use Rattle.pud_defs.specs.Types.{type_records, first_free}
 use Rattle.pud_defs.specs.Registry.{are_zero, is_sound}
 use Rattle.pud_defs.specs.World.{stored_by, world_of}
@@ -8,5 +10,5 @@ use Rattle.pud_defs.specs.Run.{closed_pieces, open_rest, lines_taken}
 use Rattle.pud_defs.specs.Texts.{start_text, formatted_text, reply_text}
 
 unfoldable pub opened : Unit {0}
-unfolding type_records first_free are_zero is_sound stored_by world_of number_of fields_from pointers_of definition_of command_of holds refusal_of after closed_pieces open_rest lines_taken start_text formatted_text reply_text
+unfolding entries_in first_entry words_from entries_of undone redone new_value settled_by type_records first_free are_zero is_sound stored_by world_of number_of fields_from pointers_of definition_of command_of holds refusal_of after closed_pieces open_rest lines_taken start_text formatted_text reply_text
 opened = tt

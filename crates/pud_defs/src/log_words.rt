@@ -129,7 +129,10 @@ mod tests {
             (COMMITTING_LO, COMMITTING_HI, 1_016, 66_585_602),
         ] {
             assert_eq!(rt; gate_word(lo, hi, used), word);
-            assert_eq!(rt; (gate_lo(word), gate_hi(word), gate_used(word)), (lo, hi, used));
+            assert_eq!(rt;
+                (gate_lo(word), gate_hi(word), gate_used(word)),
+                (lo, hi, used)
+            );
             assert_eq!(rt; is_legal_gate(word), true, "gate {word}");
         }
         assert_eq!(rt; is_legal_gate(1_017 << 16), false);
@@ -143,7 +146,10 @@ mod tests {
             (1, REDO_SEQ, REDO_ORDER, 4_295_163_905),
         ] {
             assert_eq!(rt; entry_word(n, seq, order), word);
-            assert_eq!(rt; (entry_n(word), entry_seq(word), entry_order(word)), (n, seq, order));
+            assert_eq!(rt;
+                (entry_n(word), entry_seq(word), entry_order(word)),
+                (n, seq, order)
+            );
         }
         for (n, order, want) in [
             (0, 0, false),
@@ -152,7 +158,11 @@ mod tests {
             (33, 1, false),
             (1, 2, false),
         ] {
-            assert_eq!(rt; is_legal_entry_word(entry_word(n, 65_535, order)), want, "{n} values, order {order}");
+            assert_eq!(rt;
+                is_legal_entry_word(entry_word(n, 65_535, order)),
+                want,
+                "{n} values, order {order}"
+            );
         }
     }
 }

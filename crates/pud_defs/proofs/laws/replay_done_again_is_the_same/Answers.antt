@@ -1,0 +1,6 @@
+use Rattle.pud_defs.specs.Replay.{new_value}
+use Rattle.pud_defs.proofs.Replay.{overwritten-again}
+use Rattle.pud_defs.proofs.laws.replay_done_again_is_the_same.Goals as goal
+
+pub returns : goal.returns
+returns c = λ place log i j same. overwritten-again (new_value place log) i j same

@@ -1,0 +1,35 @@
+//! Laws of logs and of their replay, on which every layer above stands. Each function here does nothing; its contract is
+//! the law.
+
+ghost use Rattle.std.specs.Prelude.{◌≡◌, ◌⊎◌, ◌+◌, ◌≤◌, ℕ, List, ◌++◌, Option, option_map};
+ghost use Rattle.pud_defs.specs.Image.{Image};
+ghost use Rattle.pud_defs.specs.Entries.{Entry, Log, entries_in};
+ghost use Rattle.pud_defs.specs.Replay.{Place, new_value, replayed};
+
+/// A word that no entry in range names keeps its value.
+pub fn word_not_named_stays()
+    ensures { (place : Place) (log : Log) (image : Image) (w : ℕ) → new_value place log w ≡ Option.None → replayed place log image w ≡ image w }
+{}
+
+/// A log whose range is closed changes nothing.
+pub fn closed_log_replays_nothing()
+    ensures { (place : Place) (log : Log) (image : Image) → log.hi ≤ log.lo + 1 → replayed place log image ≡ image }
+{}
+
+/// A replay that was cut off and is done again gives the same: images that differ only in words that the log names replay
+/// to the same.
+pub fn replay_done_again_is_the_same()
+    ensures { (place : Place) (log : Log) (i : Image) (j : Image) → ((w : ℕ) → new_value place log w ≡ Option.None → j w ≡ i w)
+        → replayed place log j ≡ replayed place log i }
+{}
+
+/// Two logs that name no word in common replay in either order.
+pub fn logs_apart_replay_in_either_order()
+    ensures { (place : Place) (one : Log) (other : Log) (image : Image) → ((w : ℕ) → (new_value place one w ≡ Option.None) ⊎ (new_value place other w ≡ Option.None))
+        → replayed place other (replayed place one image) ≡ replayed place one (replayed place other image) }
+{}
+
+/// Words that spell entries, with others behind them, spell these entries and then those of the others.
+pub fn joined_words_spell_joined_entries()
+    ensures { (xs : List ℕ) (ys : List ℕ) (es : List Entry) → entries_in 0 xs ≡ Option.Some es → entries_in 0 (xs ++ ys) ≡ option_map (λ fs. es ++ fs) (entries_in 0 ys) }
+{}
