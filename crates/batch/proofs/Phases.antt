@@ -22,7 +22,7 @@ use Rattle.pud_defs.proofs.Replay.{settled_by-inside, settled_by-outside, settle
 use Rattle.log_replay.specs.Replaying.{NamesApart, AreApart, IsReplayable, IsNamed, Named, ReplaysSame, Replays}
 use Rattle.log_replay.proofs.Whole.{log_of_picked}
 use Rattle.batch.specs.Batches.{batch_write, committed, AreBatched, is_closed_gate, IsFree, ByBatch, IsBatched, IsBatchedWholly, SettlesSame, IsPrepared, Prepares, Finishes, Commits}
-use Rattle.batch.proofs.Writes.{new_value-committed, batch_write-apart, settled_by-closed, settled_by-closed_same, settled_by-committed, within_log, beside_log}
+use Rattle.batch.proofs.Writes.{new_value-committed, batch_write-apart, settled_by-closed, settled_by-closed_same, settled_by-committed, within_log, not_inside}
 
 -- ---- one word written
 
@@ -44,7 +44,7 @@ one_word w v before image from =
     ]
 
 gate_apart : (at k : ℕ) → is_in_log at k ≡ false → k ≡ at → ⊥
-gate_apart at k outside here = beside_log at k outside (omega arith) (omega arith)
+gate_apart at k outside here = not_inside at k outside (omega arith) (omega arith)
 
 -- ---- the entries are made durable behind a closed gate
 
@@ -59,7 +59,7 @@ module _ (size at : ℕ) (es : List Entry) (words : List ℕ) (s : State) (free 
       (λ before image picked from.
       let outside : (k : ℕ) → is_in_log at k ≡ false → image k ≡ before k = λ k out. elim (from.each k) [
         | inl same ↦ same
-        | inr new ↦ absurd (let place = entries_apart k (image k) new in let low = place.0 in beside_log at k out (omega arith) place.1)
+        | inr new ↦ absurd (let place = entries_apart k (image k) new in let low = place.0 in not_inside at k out (omega arith) place.1)
       ] in
       let gate : image at ≡ before at = elim (from.each at) [ inl same ↦ same | inr new ↦ absurd (let low = (entries_apart at (image at) new).0 in omega arith) ] in
       let closed = free.closed (before at) (picked.each at) in

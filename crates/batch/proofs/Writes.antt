@@ -73,23 +73,6 @@ batch_write-apart (e ∷ es) size at k apart low high =
 
 -- ---- a closed log
 
--- its replay changes nothing
-pub settled_by-closed : (at : ℕ) (image : Image) (w : ℕ) → is_closed_gate (image at) ≡ true → is_in_log at w ≡ false → settled_by at image w ≡ image w
-settled_by-closed at image w closed outside =
-    let narrow : gate_hi (image at) ≤ gate_lo (image at) + 1 = leb-true _ _ (and_parts (is_legal_gate (image at) && eqb (gate_used (image at)) 0) (leb (gate_hi (image at)) (gate_lo (image at) + 1)) closed).1 in
-    settled_by-outside at image w outside ∙ ap (λ (i : Image). i w) (replayed-closed device_word (log_of image at) image narrow)
-
--- a word outside the log, and one within
-pub outside_log : (at k : ℕ) → (k < at) ⊎ (at + LOG_WORDS ≤ k) → is_in_log at k ≡ false
-outside_log at k (inl before) = and_left _ _ (lt-leb at k before)
-outside_log at k (inr behind) = grind (arith, nat_tests)
-
-pub within_log : (at k : ℕ) → is_in_log at k ≡ true → (at ≤ k) × (k < at + LOG_WORDS)
-within_log at k inside = let parts = and_parts (leb at k) (ltb k (at + LOG_WORDS)) inside in (leb-true at k parts.0, ltb-true k (at + LOG_WORDS) parts.1)
-
-pub beside_log : (at k : ℕ) → is_in_log at k ≡ false → at ≤ k → k < at + LOG_WORDS → ⊥
-beside_log at k outside low high = absurd (let it : true ≡ false = sym (and_from (leb at k) (ltb k (at + LOG_WORDS)) (le-leb at k low) (lt-ltb k (at + LOG_WORDS) high)) ∙ outside in cc)
-
 -- images with a closed log that are the same beside it settle the same
 pub settled_by-closed_same : (at : ℕ) (i j : Image) → is_closed_gate (i at) ≡ true → is_closed_gate (j at) ≡ true → ((w : ℕ) → is_in_log at w ≡ false → i w ≡ j w) → settled_by at i ≡ settled_by at j
 settled_by-closed_same at i j closed_i closed_j same =

@@ -8,7 +8,7 @@ use Rattle.pm_model.specs.Changes.{Footprint, Write, Changes, Leaves, Silently}
 use Rattle.pud_defs.specs.declared.layout.TheConstants.{LOG_WORDS, LOG_ENTRY_WORDS, ENTRY_HEADER_WORDS}
 use Rattle.pud_defs.specs.declared.log_words.TheConstants.{REDO_SEQ, REDO_ORDER, COMMITTING_LO, COMMITTING_HI, CLOSED_GATE}
 use Rattle.pud_defs.specs.Image.{Image}
-use Rattle.pud_defs.specs.Entries.{Entry, Log, log_of, gate_lo, gate_hi, gate_used, is_legal_gate, entries_in}
+use Rattle.pud_defs.specs.Entries.{Entry, Log, log_of, is_closed_gate, entries_in}
 use Rattle.pud_defs.specs.Replay.{device_word, value_at, entries_or_none, overwritten, is_in_log, settled_by}
 use Rattle.log_replay.specs.Replaying.{NamesApart, IsNamed, IsReplayable}
 
@@ -43,10 +43,6 @@ pub record IsBuffer (used : ℕ) (words : List ℕ) : Type 0 where
   pub spells : entries_in 0 (take used words) ≡ Some (entries_spelled used words)
   pub count : used ≡ words_of (entries_spelled used words)
   pub batched : AreBatched (entries_spelled used words)
-
--- the gate is one of a closed log with nothing that counts
-abbrev pub is_closed_gate : ℕ → Bool
-is_closed_gate v = is_legal_gate v && gate_used v == 0 && nat_le (gate_hi v) (gate_lo v + 1)
 
 -- The log whose gate is this word is closed in each image, and the words of the batch lie in the device, apart from it.
 pub record IsFree (size at : ℕ) (es : List Entry) (words : Words) : Type 0 where

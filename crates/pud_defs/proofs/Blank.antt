@@ -1,12 +1,17 @@
 -- The image of a device that was just formatted.
-use Rattle.std.proofs.Common.{nat_le, ◌≡◌, ℕ, zero, suc, ◌+◌, ◌<◌, ◌≤◌, true, [], Some, refl, ap, ◌∙◌, arith, leb-true, eq-eqb}
-use Rattle.std.proofs.lemmas.Bool.{and_parts, cond-true}
-use Rattle.pud_defs.specs.declared.layout.TheConstants.{TYPE_RECORDS, MIN_FRAMES, MAX_FRAMES}
+use Rattle.std.proofs.Common.{nat_le, ◌≡◌, inl, inr, ℕ, zero, suc, ◌+◌, ◌<◌, ◌≤◌, true, [], Some, refl, ap, ◌∙◌, arith, leb-true, eq-eqb}
+use Rattle.std.proofs.lemmas.Bool.{and_parts, cond-true, cases_Bool}
+use Rattle.pud_defs.specs.declared.layout.TheConstants.{TYPE_RECORDS, MIN_FRAMES, MAX_FRAMES, DAEMON_LOG, MAGIC_WORD, VERSION_WORD, MACHINE_WORD, FRAMES_WORD, NEXT_NUMBER_WORD}
 use Rattle.pud_defs.specs.Layout.{device_words, is_legal_frame_count}
 use Rattle.pud_defs.specs.Image.{Image}
 use Rattle.pud_defs.specs.Types.{type_record_at, type_records, type_table, by_id, are_legal_types}
 use Rattle.pud_defs.specs.World.{IsBlank, world_of, blank_world}
-use Rattle.pud_defs.proofs.Worlds.{StandsFor, world_of_standing}
+use Rattle.pud_defs.specs.Entries.{is_closed_gate}
+use Rattle.pud_defs.specs.Replay.{is_in_log, beside_log}
+use Rattle.pud_defs.specs.Spaces.{space_record_at}
+use Rattle.pud_defs.proofs.Replay.{beside_log-outside, outside_log}
+use Rattle.pud_defs.proofs.Spaces.{are_legal_spaces-none, are_closed_logs-none}
+use Rattle.pud_defs.proofs.Worlds.{StandsFor, registry_world_standing, world_of-closed}
 
 -- records whose id words are 0 are free
 pub type_records-blank : (image : Image) (from count : ℕ) → ((i : ℕ) → from ≤ i → i < from + count → image (type_record_at i) ≡ 0) → type_records image from count ≡ []
@@ -32,9 +37,26 @@ standing_blank size F machine image legal room h =
       number_high = leb-true _ _ refl;
       types = ap by_id none;
       legal = ap are_legal_types none;
-      empty_log = h.rest 64 (omega arith) (omega arith);
-      empty_tables = λ k from below. h.rest k (omega arith) (omega arith);
+      no_pools = λ k from below. h.rest k (omega arith) (omega arith);
+      no_puddles = λ k from below. h.rest k (omega arith) (omega arith);
+      spaces = are_legal_spaces-none image (λ k from below. h.rest k (omega arith) (omega arith));
+      logs = are_closed_logs-none image F (λ c below. h.rest (space_record_at c) (omega arith) (omega arith));
     }
 
+-- beside the daemon log, which is closed, it is blank too
 pub world_of-blank : (size F machine : ℕ) (image : Image) → is_legal_frame_count F ≡ true → device_words F ≤ size → IsBlank F machine image → world_of size image ≡ Some (blank_world F machine)
-world_of-blank size F machine image legal room h = world_of_standing size image (blank_world F machine) (standing_blank size F machine image legal room h)
+world_of-blank size F machine image legal room h =
+    let closed : is_closed_gate (image DAEMON_LOG) ≡ true = ap is_closed_gate (h.rest DAEMON_LOG (omega arith) (omega arith)) in
+    let read : (k : ℕ) → k < DAEMON_LOG → beside_log DAEMON_LOG image k ≡ image k = λ k low. beside_log-outside DAEMON_LOG image k (outside_log DAEMON_LOG k (inl low)) in
+    world_of-closed size image closed
+    ∙ registry_world_standing size (beside_log DAEMON_LOG image) (blank_world F machine) (standing_blank size F machine (beside_log DAEMON_LOG image) legal room (record {
+      magic = read MAGIC_WORD (omega arith) ∙ h.magic;
+      version = read VERSION_WORD (omega arith) ∙ h.version;
+      machine = read MACHINE_WORD (omega arith) ∙ h.machine;
+      frames = read FRAMES_WORD (omega arith) ∙ h.frames;
+      next_number = read NEXT_NUMBER_WORD (omega arith) ∙ h.next_number;
+      rest = λ k low high. elim (cases_Bool (is_in_log DAEMON_LOG k)) [
+        | inl inside ↦ cond-true _ _ _ inside
+        | inr outside ↦ beside_log-outside DAEMON_LOG image k outside ∙ h.rest k low high
+      ];
+    }))

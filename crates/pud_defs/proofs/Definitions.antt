@@ -1,15 +1,20 @@
 -- What the two writes of a type's definition do to the world that an image stands for.
-use Rattle.std.proofs.Common.{◌≡◌, ℕ, ◌+◌, ◌-◌, ◌<◌, ◌≤◌, true, ◌∷◌, ◌++◌, Some, None, refl, sym, ap, ◌∙◌, arith, leb-true}
-use Rattle.std.proofs.lemmas.Bool.{and_parts}
+use Rattle.std.proofs.Common.{◌≡◌, inl, inr, cond, false, eq-eqb, ℕ, ◌+◌, ◌-◌, ◌<◌, ◌≤◌, true, ◌∷◌, ◌++◌, Some, None, refl, sym, ap, ◌∙◌, arith, leb-true}
+use Rattle.std.proofs.lemmas.Bool.{and_parts, cond-true, cond-false, cases_eq}
 use Rattle.pud_defs.specs.declared.layout.TheConstants.{TYPE_RECORDS, MAGIC_WORD, VERSION_WORD, MACHINE_WORD, FRAMES_WORD, NEXT_NUMBER_WORD, DAEMON_LOG}
 use Rattle.pud_defs.specs.Image.{Image, written}
 use Rattle.pud_defs.specs.TypeMap.{is_legal_map, is_legal_type_id}
 use Rattle.pud_defs.specs.Types.{type_record_at, type_records, type_table, types_of, by_id, map_of, with_type, are_legal_types}
-use Rattle.pud_defs.specs.World.{StoredWorld, world_of}
+use Rattle.pud_defs.specs.World.{StoredWorld, registry_world, world_of}
+use Rattle.pud_defs.specs.Entries.{is_closed_gate}
+use Rattle.pud_defs.specs.Replay.{is_in_log, beside_log}
+use Rattle.pud_defs.specs.Spaces.{are_closed_logs}
+use Rattle.pud_defs.proofs.Replay.{beside_log-outside, outside_log}
+use Rattle.pud_defs.proofs.Spaces.{are_legal_spaces-same, are_closed_logs-same}
 use Rattle.pud_defs.proofs.Images.{written_there, written_other}
 use Rattle.pud_defs.proofs.TypeLists.{by_id-insert, are_legal_types-insert}
 use Rattle.pud_defs.proofs.TypeTable.{type_records_but, type_records-map_written, type_records-id_written}
-use Rattle.pud_defs.proofs.Worlds.{StandsFor, standing_of_world, world_of_standing, map_of_world}
+use Rattle.pud_defs.proofs.Worlds.{StandsFor, registry_world_standing, standing_closed, world_of-closed, map_of_world}
 
 -- a word of the type table is written: what else is read stays
 rest_stays : (size : ℕ) (image : Image) (s t : StoredWorld) (w v : ℕ) → type_record_at 0 ≤ w → w < type_record_at TYPE_RECORDS → StandsFor size image s
@@ -28,8 +33,12 @@ rest_stays size image s t w v low high h frames machine number types legal = rec
   number_high = let most = h.number_high in omega arith;
   types = types;
   legal = legal;
-  empty_log = written_other w v image DAEMON_LOG (λ e. absurd (omega arith)) ∙ h.empty_log;
-  empty_tables = λ k from below. written_other w v image k (λ e. absurd (omega arith)) ∙ h.empty_tables k from (omega arith);
+  no_pools = λ k from below. written_other w v image k (λ e. absurd (omega arith)) ∙ h.no_pools k from below;
+  no_puddles = λ k from below. written_other w v image k (λ e. absurd (omega arith)) ∙ h.no_puddles k from (omega arith);
+  spaces = are_legal_spaces-same (written w v image) image (λ k from below. written_other w v image k (λ e. absurd (omega arith))) ∙ h.spaces;
+  logs = ap (are_closed_logs (written w v image)) frames
+      ∙ are_closed_logs-same (written w v image) image s.frames (λ k from below. written_other w v image k (λ e. absurd (omega arith))) (λ k from below. written_other w v image k (λ e. absurd (omega arith)))
+      ∙ h.logs;
 }
 
 -- the map word of a free record is written: the image stands for the same world
@@ -53,24 +62,53 @@ standing-id_written size image s r id map h within free there legal_id legal_map
     (ap by_id now ∙ by_id-insert id map before behind apart ∙ ap (with_type id map) (ap by_id (sym but) ∙ h.types))
     (ap are_legal_types now ∙ are_legal_types-insert id map before behind legal_id legal_map apart (ap are_legal_types (sym but) ∙ h.legal))
 
--- the same two, of the world that an image has
+-- ---- the same two, of an image whose daemon log is closed and counts no word
 
-pub world_of-map_written : (size : ℕ) (image : Image) (s : StoredWorld) (r v : ℕ) → world_of size image ≡ Some s → r < TYPE_RECORDS → image (type_record_at r) ≡ 0 → world_of size (written (type_record_at r + 1) v image) ≡ Some s
-world_of-map_written size image s r v h within free = world_of_standing size _ s (standing-map_written size image s r v (standing_of_world size image s h) within free)
+-- a word of the type table is written beside the log
+beside_written : (image : Image) (w v : ℕ) → type_record_at 0 ≤ w → beside_log DAEMON_LOG (written w v image) ≡ written w v (beside_log DAEMON_LOG image)
+beside_written image w v low =
+    let each : (k : ℕ) → beside_log DAEMON_LOG (written w v image) k ≡ written w v (beside_log DAEMON_LOG image) k = λ k. elim (cases_eq k w) [
+      | inl here ↦
+          let outside : is_in_log DAEMON_LOG k ≡ false = outside_log DAEMON_LOG k (inr (omega arith)) in
+          cond-false _ _ _ outside ∙ cond-true _ _ _ (eq-eqb k w here) ∙ sym (cond-true _ _ _ (eq-eqb k w here))
+      | inr other ↦ ap (λ (x : ℕ). cond (is_in_log DAEMON_LOG k) 0 x) (written_other w v image k other) ∙ sym (written_other w v (beside_log DAEMON_LOG image) k other)
+    ] in
+    λ p k. each k p
 
-pub world_of-id_written : (size : ℕ) (image : Image) (s : StoredWorld) (r id map : ℕ) → world_of size image ≡ Some s → r < TYPE_RECORDS → image (type_record_at r) ≡ 0 → image (type_record_at r + 1) ≡ map
-    → is_legal_type_id id ≡ true → is_legal_map map ≡ true → map_of id s.types ≡ None
+-- the record reads the same there
+beside_read : (image : Image) (k : ℕ) → type_record_at 0 ≤ k → beside_log DAEMON_LOG image k ≡ image k
+beside_read image k low = beside_log-outside DAEMON_LOG image k (outside_log DAEMON_LOG k (inr (omega arith)))
+
+gate_written : (image : Image) (w v : ℕ) → type_record_at 0 ≤ w → is_closed_gate (image DAEMON_LOG) ≡ true → is_closed_gate (written w v image DAEMON_LOG) ≡ true
+gate_written image w v low closed = ap is_closed_gate (written_other w v image DAEMON_LOG (λ e. absurd (omega arith))) ∙ closed
+
+pub world_of-map_written : (size : ℕ) (image : Image) (s : StoredWorld) (r v : ℕ) → is_closed_gate (image DAEMON_LOG) ≡ true → world_of size image ≡ Some s → r < TYPE_RECORDS → image (type_record_at r) ≡ 0
+    → world_of size (written (type_record_at r + 1) v image) ≡ Some s
+world_of-map_written size image s r v closed h within free =
+    let low : type_record_at 0 ≤ type_record_at r + 1 = omega arith in
+    world_of-closed size (written (type_record_at r + 1) v image) (gate_written image (type_record_at r + 1) v low closed)
+    ∙ ap (registry_world size) (beside_written image (type_record_at r + 1) v low)
+    ∙ registry_world_standing size _ s
+    (standing-map_written size (beside_log DAEMON_LOG image) s r v (standing_closed size image s closed h) within (beside_read image (type_record_at r) (omega arith) ∙ free))
+
+pub world_of-id_written : (size : ℕ) (image : Image) (s : StoredWorld) (r id map : ℕ) → is_closed_gate (image DAEMON_LOG) ≡ true → world_of size image ≡ Some s → r < TYPE_RECORDS → image (type_record_at r) ≡ 0
+    → image (type_record_at r + 1) ≡ map → is_legal_type_id id ≡ true → is_legal_map map ≡ true → map_of id s.types ≡ None
     → world_of size (written (type_record_at r) id image) ≡ Some (record s { types = with_type id map s.types })
-world_of-id_written size image s r id map h within free there legal_id legal_map none =
-    world_of_standing size _ _ (standing-id_written size image s r id map (standing_of_world size image s h) within free there legal_id legal_map none)
+world_of-id_written size image s r id map closed h within free there legal_id legal_map none =
+    let low : type_record_at 0 ≤ type_record_at r = omega arith in
+    world_of-closed size (written (type_record_at r) id image) (gate_written image (type_record_at r) id low closed)
+    ∙ ap (registry_world size) (beside_written image (type_record_at r) id low)
+    ∙ registry_world_standing size _ _
+    (standing-id_written size (beside_log DAEMON_LOG image) s r id map (standing_closed size image s closed h) within
+    (beside_read image (type_record_at r) low ∙ free) (beside_read image (type_record_at r + 1) (omega arith) ∙ there) legal_id legal_map none)
 
 -- both writes
-pub world_of-defined : (size : ℕ) (image : Image) (s : StoredWorld) (r id map : ℕ) → world_of size image ≡ Some s → r < TYPE_RECORDS → image (type_record_at r) ≡ 0
+pub world_of-defined : (size : ℕ) (image : Image) (s : StoredWorld) (r id map : ℕ) → is_closed_gate (image DAEMON_LOG) ≡ true → world_of size image ≡ Some s → r < TYPE_RECORDS → image (type_record_at r) ≡ 0
     → is_legal_type_id id ≡ true → is_legal_map map ≡ true → map_of id s.types ≡ None
     → world_of size (written (type_record_at r) id (written (type_record_at r + 1) map image)) ≡ Some (record s { types = with_type id map s.types })
-world_of-defined size image s r id map h within free legal_id legal_map none =
+world_of-defined size image s r id map closed h within free legal_id legal_map none =
     let placed = written (type_record_at r + 1) map image in
-    world_of-id_written size placed s r id map (world_of-map_written size image s r map h within free) within
+    world_of-id_written size placed s r id map (gate_written image (type_record_at r + 1) map (omega arith) closed) (world_of-map_written size image s r map closed h within free) within
     (written_other (type_record_at r + 1) map image (type_record_at r) (λ e. absurd (omega arith)) ∙ free)
     (written_there (type_record_at r + 1) map image)
     legal_id legal_map none

@@ -1,8 +1,9 @@
 -- Images, and what they stand for.
-use Rattle.std.proofs.Common.{◌≡◌, ◌+◌, ◌*◌, ◌^◌, true, false, [], ◌∷◌, Some, refl}
+use Rattle.std.proofs.Common.{ℕ, ◌≡◌, ◌+◌, ◌*◌, ◌^◌, true, false, [], ◌∷◌, Some, refl}
 use Rattle.pud_defs.specs.declared.layout.TheConstants.{DEVICE_MAGIC}
 use Rattle.pud_defs.specs.Layout.{tables_end, frames_at, device_words}
 use Rattle.pud_defs.specs.Image.{Image, written}
+use Rattle.pud_defs.specs.Entries.{gate_word, entry_word}
 use Rattle.pud_defs.specs.Types.{first_free}
 use Rattle.pud_defs.specs.Registry.{is_sound}
 use Rattle.pud_defs.specs.World.{world_of, blank_world}
@@ -114,9 +115,9 @@ id_twice : is_sound 42528 (written 1090 1 two_types) ≡ false
 unfolding opened
 id_twice = refl
 
-log_with_entries : is_sound 42528 (written 64 1 blank) ≡ false
+log_not_well_formed : is_sound 42528 (written 64 (2 ^ 32) blank) ≡ false
 unfolding opened
-log_with_entries = refl
+log_not_well_formed = refl
 
 pool_there : is_sound 42528 (written 1216 97 blank) ≡ false
 unfolding opened
@@ -125,3 +126,49 @@ pool_there = refl
 last_puddle_word : is_sound 42528 (written 1567 1 blank) ≡ false
 unfolding opened
 last_puddle_word = refl
+
+client_flag_2 : is_sound 42528 (written 1472 2 blank) ≡ false
+unfolding opened
+client_flag_2 = refl
+
+uid_too_large : is_sound 42528 (written 1472 1 (written 1473 65536 blank)) ≡ false
+unfolding opened
+uid_too_large = refl
+
+-- a registered log is closed: by its range, also that of a log that was never opened
+abbrev pub first_client : ℕ → Image
+first_client gate = written 1472 1 (written 1473 5 (written 1474 5 (written 1568 gate blank)))
+
+registered_logs : (is_sound 42528 (first_client 0) ≡ true) × (is_sound 42528 (first_client 1028) ≡ true) × (is_sound 42528 (first_client 512) ≡ false) × (is_sound 42528 (written 1472 0 (first_client 512)) ≡ true)
+unfolding opened
+registered_logs = (refl, refl, refl, refl)
+
+last_log_of_the_last_client : is_sound 42528 (written 1528 1 (written 33312 512 blank)) ≡ false
+unfolding opened
+last_log_of_the_last_client = refl
+
+-- ---- the daemon log
+
+-- the image with an entry of two words for a place in the daemon log, which is in range
+abbrev pub logged_at : ℕ → Image
+logged_at place = written 64 (gate_word 2 4 4) (written 72 place (written 73 (entry_word 2 3 1) (written 74 1 (written 75 8589934594 blank))))
+
+-- a batch under way counts
+batch_under_way : world_of 42528 (logged_at 1088) ≡ Some (record { frames = 4; machine = 7; next_number = 1; types = (1, 8589934594) ∷ [] })
+unfolding opened
+batch_under_way = refl
+
+-- the same out of range does not
+batch_before_its_range : world_of 42528 (written 64 (gate_word 0 2 4) (logged_at 1088)) ≡ Some (blank_world 4 7)
+unfolding opened
+batch_before_its_range = refl
+
+-- an entry in range lies in the tables from the types on, or in the frames
+places_of_entries : (is_sound 42528 (logged_at 3) ≡ false) × (is_sound 42528 (logged_at 1087) ≡ false) × (is_sound 42528 (logged_at 1567) ≡ false) × (is_sound 42528 (logged_at 1568) ≡ false) × (is_sound 42528 (logged_at 34336) ≡ true) × (is_sound 42528 (logged_at 42527) ≡ false)
+unfolding opened
+places_of_entries = (refl, refl, refl, refl, refl, refl)
+
+-- the next number alone may be written beside them
+next_number_logged : (is_sound 42528 (written 64 (gate_word 2 4 3) (written 72 4 (written 73 (entry_word 1 3 1) (written 74 9 blank)))) ≡ true) × (is_sound 42528 (logged_at 4) ≡ false)
+unfolding opened
+next_number_logged = (refl, refl)

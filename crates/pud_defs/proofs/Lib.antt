@@ -5,6 +5,8 @@ pub mod TypeTable
 pub mod Entries
 pub mod Replay
 pub mod Zeroes
+pub mod Spaces
+pub mod Logged
 pub mod Worlds
 pub mod Definitions
 pub mod Blank

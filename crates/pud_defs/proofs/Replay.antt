@@ -1,13 +1,15 @@
 -- What replay makes of an image: which words stay, in which order, and once more.
-use Rattle.std.proofs.Common.{◌≡◌, ◌⊎◌, inl, inr, ℕ, ◌+◌, ◌≤◌, true, false, ◌&&◌, ltb, eqb, List, [], ◌∷◌, ◌++◌, Option, Some, None, refl, sym, ap, ap₂, ◌∙◌, arith}
+use Rattle.std.proofs.Common.{◌≡◌, ◌⊎◌, inl, inr, ℕ, ◌+◌, ◌<◌, ◌≤◌, true, false, ◌&&◌, ltb, leb, eqb, List, [], ◌∷◌, ◌++◌, Option, Some, None, refl, sym, ap, ap₂, ◌∙◌, arith}
 use Rattle.std.specs.Prelude.{unwrap_or}
 use Rattle.std.specs.Option.{option_or}
-use Rattle.std.proofs.lemmas.Bool.{and_left, cond-true, cond-false, cases_Bool}
+use Rattle.std.proofs.lemmas.Bool.{leb-true, eqb-true, ltb-true, le-leb, lt-leb, lt-ltb, and_from, and_parts, and_left, cond-true, cond-false, cases_Bool}
 use Rattle.std.proofs.lemmas.Bool.Decides.{leb_tells, nat_tests}
 use Rattle.pud_defs.specs.declared.log_words.TheConstants.{UNDO_ORDER, REDO_ORDER}
 use Rattle.pud_defs.specs.Image.{Image}
-use Rattle.pud_defs.specs.Entries.{Entry, Log, log_of}
-use Rattle.pud_defs.specs.Replay.{Place, device_word, is_in_range, given_by, undone, redone, given, entries_or_none, new_value, over, overwritten, replayed, is_in_log, settled_by}
+use Rattle.pud_defs.specs.declared.layout.TheConstants.{LOG_WORDS, LOG_HEADER_WORDS}
+use Rattle.pud_defs.specs.Entries.{Entry, Log, log_of, gate_lo, gate_hi, gate_used, is_legal_gate, is_closed_gate, entries_of, words_from}
+use Rattle.pud_defs.specs.Replay.{Place, device_word, is_in_range, given_by, undone, redone, given, entries_or_none, new_value, over, overwritten, replayed, is_in_log, settled_by, beside_log}
+use Rattle.pud_defs.proofs.Entries.{words_from-none, entries_of-is, entries_in-nothing}
 
 -- ---- words written over an image
 
@@ -145,3 +147,42 @@ settled_by-same at i j same =
       | inr outside ↦ settled_by-outside at i w outside ∙ same w outside ∙ sym (settled_by-outside at j w outside)
     ] in
     λ p w. each w p
+
+-- ---- a closed log that counts no word
+
+pub closed_range_of : (v : ℕ) → is_closed_gate v ≡ true → gate_hi v ≤ gate_lo v + 1
+closed_range_of v closed = leb-true _ _ (and_parts (is_legal_gate v && eqb (gate_used v) 0) (leb (gate_hi v) (gate_lo v + 1)) closed).1
+
+pub entries_of-closed : (image : Image) (at : ℕ) → is_closed_gate (image at) ≡ true → entries_of image at ≡ Some []
+entries_of-closed image at closed =
+    let parts = and_parts (is_legal_gate (image at) && eqb (gate_used (image at)) 0) (leb (gate_hi (image at)) (gate_lo (image at) + 1)) closed in
+    let gate = and_parts (is_legal_gate (image at)) (eqb (gate_used (image at)) 0) parts.0 in
+    let none : words_from image (at + LOG_HEADER_WORDS) (gate_used (image at)) ≡ [] = words_from-none image (at + LOG_HEADER_WORDS) (gate_used (image at)) (eqb-true _ _ gate.1) in
+    entries_of-is image at (image at) [] refl gate.0 none ∙ entries_in-nothing [] refl
+
+-- its replay changes nothing
+pub settled_by-closed : (at : ℕ) (image : Image) (w : ℕ) → is_closed_gate (image at) ≡ true → is_in_log at w ≡ false → settled_by at image w ≡ image w
+settled_by-closed at image w closed outside =
+    settled_by-outside at image w outside ∙ ap (λ (i : Image). i w) (replayed-closed device_word (log_of image at) image (closed_range_of (image at) closed))
+
+pub settled_by-beside : (at : ℕ) (image : Image) → is_closed_gate (image at) ≡ true → settled_by at image ≡ beside_log at image
+settled_by-beside at image closed =
+    let each : (w : ℕ) → settled_by at image w ≡ beside_log at image w = λ w. elim (cases_Bool (is_in_log at w)) [
+      | inl inside ↦ settled_by-inside at image w inside ∙ sym (cond-true _ _ _ inside)
+      | inr outside ↦ settled_by-closed at image w closed outside ∙ sym (cond-false _ _ _ outside)
+    ] in
+    λ p w. each w p
+
+pub beside_log-outside : (at : ℕ) (image : Image) (w : ℕ) → is_in_log at w ≡ false → beside_log at image w ≡ image w
+beside_log-outside at image w outside = cond-false _ _ _ outside
+
+-- a word outside the log, and one within
+pub outside_log : (at k : ℕ) → (k < at) ⊎ (at + LOG_WORDS ≤ k) → is_in_log at k ≡ false
+outside_log at k (inl before) = and_left _ _ (lt-leb at k before)
+outside_log at k (inr behind) = grind (arith, nat_tests)
+
+pub within_log : (at k : ℕ) → is_in_log at k ≡ true → (at ≤ k) × (k < at + LOG_WORDS)
+within_log at k inside = let parts = and_parts (leb at k) (ltb k (at + LOG_WORDS)) inside in (leb-true at k parts.0, ltb-true k (at + LOG_WORDS) parts.1)
+
+pub not_inside : (at k : ℕ) → is_in_log at k ≡ false → at ≤ k → k < at + LOG_WORDS → ⊥
+not_inside at k outside low high = absurd (let it : true ≡ false = sym (and_from (leb at k) (ltb k (at + LOG_WORDS)) (le-leb at k low) (lt-ltb k (at + LOG_WORDS) high)) ∙ outside in cc)

@@ -1,15 +1,21 @@
--- What it says that an image stands for a world, point by point.
-use Rattle.std.proofs.Common.{◌≡◌, ℕ, ◌-◌, ◌<◌, ◌≤◌, true, ◌&&◌, T, length, Option, Some, None, nat_cmp, refl, sym, ap, ◌∙◌, arith, eqb-true, eq-eqb, leb-true, le-leb, subst, false, cond, ap₂}
+-- What it says that an image stands for a world, point by point: an image with nothing to replay first, and then any.
+use Rattle.std.proofs.Common.{◌≡◌, inl, inr, Bool, ℕ, ◌-◌, ◌<◌, ◌≤◌, true, ◌&&◌, T, length, Option, Some, None, nat_cmp, refl, sym, ap, ◌∙◌, arith, eqb-true, eq-eqb, leb-true, le-leb, subst, false, cond, ap₂}
 use Rattle.std.specs.FinMap.Entries.{is_sorted}
 use Rattle.std.specs.Bool.{one_answer}
-use Rattle.std.proofs.lemmas.Bool.{and_parts, and_from, cond-true, cond-false}
+use Rattle.std.proofs.lemmas.Bool.{and_parts, and_from, cond-true, cond-false, cases_Bool}
 use Rattle.std.proofs.lemmas.Option.{cond_some}
-use Rattle.pud_defs.specs.declared.layout.TheConstants.{DEVICE_MAGIC, VERSION, MIN_FRAMES, MAX_FRAMES, NUMBER_LIMIT, MAGIC_WORD, VERSION_WORD, MACHINE_WORD, FRAMES_WORD, NEXT_NUMBER_WORD, DAEMON_LOG, POOL_TABLE, TYPE_RECORDS}
-use Rattle.pud_defs.specs.Layout.{tables_end, device_words}
+use Rattle.pud_defs.specs.declared.layout.TheConstants.{DEVICE_MAGIC, VERSION, MIN_FRAMES, MAX_FRAMES, NUMBER_LIMIT, MAGIC_WORD, VERSION_WORD, MACHINE_WORD, FRAMES_WORD, NEXT_NUMBER_WORD, DAEMON_LOG, POOL_TABLE, SPACE_TABLE, PUDDLE_TABLE, TYPE_RECORDS}
+use Rattle.pud_defs.specs.Layout.{tables_end, frames_at, device_words}
 use Rattle.pud_defs.specs.Image.{Image, IsSameBelow}
 use Rattle.pud_defs.specs.Types.{type_table, types_of, by_id, map_of, first_free, are_legal_types}
-use Rattle.pud_defs.specs.Registry.{frames_of, is_sound, has_magic, has_version, has_room, has_legal_number, has_legal_types, has_empty_log, has_empty_tables}
-use Rattle.pud_defs.specs.World.{StoredWorld, stored_by, world_of}
+use Rattle.pud_defs.specs.Registry.{frames_of, is_sound, has_magic, has_version, has_room, has_legal_number, has_legal_types, has_no_pools, has_no_puddles, has_legal_spaces, has_closed_logs, is_registry, has_legal_log, are_allowed}
+use Rattle.pud_defs.specs.World.{StoredWorld, stored_by, registry_world, world_of}
+use Rattle.pud_defs.specs.Entries.{is_closed_gate, log_of}
+use Rattle.pud_defs.specs.Replay.{settled_by, beside_log}
+use Rattle.pud_defs.specs.Spaces.{are_legal_spaces, are_closed_logs}
+use Rattle.pud_defs.proofs.Replay.{entries_of-closed, settled_by-beside}
+use Rattle.pud_defs.proofs.Spaces.{are_legal_spaces-same, are_closed_logs-same}
+use Rattle.pud_defs.proofs.Logged.{settled_by-unlogged}
 use Rattle.pud_defs.proofs.TypeLists.{is_sorted-by_id, map_of-by_id, length-by_id}
 use Rattle.pud_defs.proofs.TypeTable.{type_records_same, length-type_records, length-type_records_full, first_free_some}
 use Rattle.pud_defs.proofs.Zeroes.{zero_at, are_zero_from}
@@ -18,7 +24,7 @@ none_from : {A : Type 0} (o : Option A) → ((x : A) → o ≡ Some x → ⊥) �
 none_from None h = refl
 none_from (Some x) h = absurd (h x refl)
 
--- the image of a device of so many words stands for this world
+-- an image with nothing to replay stands for this world, on a device of so many words
 pub record StandsFor (size : ℕ) (image : Image) (s : StoredWorld) : Type 0 where
   pub magic : image MAGIC_WORD ≡ DEVICE_MAGIC
   pub version : image VERSION_WORD ≡ VERSION
@@ -32,11 +38,13 @@ pub record StandsFor (size : ℕ) (image : Image) (s : StoredWorld) : Type 0 whe
   pub number_high : s.next_number ≤ NUMBER_LIMIT
   pub types : types_of image ≡ s.types
   pub legal : are_legal_types (type_table image) ≡ true
-  pub empty_log : image DAEMON_LOG ≡ 0
-  pub empty_tables : (k : ℕ) → POOL_TABLE ≤ k → k < tables_end s.frames → image k ≡ 0
+  pub no_pools : (k : ℕ) → POOL_TABLE ≤ k → k < SPACE_TABLE → image k ≡ 0
+  pub no_puddles : (k : ℕ) → PUDDLE_TABLE ≤ k → k < tables_end s.frames → image k ≡ 0
+  pub spaces : are_legal_spaces image ≡ true
+  pub logs : are_closed_logs image s.frames ≡ true
 
-sound_from : (size : ℕ) (image : Image) (s : StoredWorld) → StandsFor size image s → is_sound size image ≡ true
-unfolding is_sound
+sound_from : (size : ℕ) (image : Image) (s : StoredWorld) → StandsFor size image s → is_registry size image ≡ true
+unfolding is_registry
 sound_from size image s h =
     let frames = h.frames in
     let low : MIN_FRAMES ≤ frames_of image = let few = h.enough_frames in omega arith in
@@ -45,29 +53,33 @@ sound_from size image s h =
     let number = h.next_number in
     let number_low : 1 ≤ image NEXT_NUMBER_WORD = let least = h.number_low in omega arith in
     let number_high : image NEXT_NUMBER_WORD ≤ NUMBER_LIMIT = let most = h.number_high in omega arith in
-    and_from _ _ (and_from _ _ (and_from _ _ (and_from _ _ (and_from _ _ (and_from _ _
+    and_from _ _ (and_from _ _ (and_from _ _ (and_from _ _ (and_from _ _ (and_from _ _ (and_from _ _ (and_from _ _
     (eq-eqb _ _ h.magic)
     (eq-eqb _ _ h.version))
     (and_from _ _ (and_from _ _ (le-leb _ _ low) (le-leb _ _ high)) (le-leb _ _ room)))
     (and_from _ _ (le-leb _ _ number_low) (le-leb _ _ number_high)))
     h.legal)
-    (eq-eqb _ _ h.empty_log))
-    (are_zero_from image POOL_TABLE (tables_end (frames_of image) - POOL_TABLE) (λ k from below. h.empty_tables k from (omega arith)))
+    (are_zero_from image POOL_TABLE (SPACE_TABLE - POOL_TABLE) (λ k from below. h.no_pools k from (omega arith))))
+    (are_zero_from image PUDDLE_TABLE (tables_end (frames_of image) - PUDDLE_TABLE) (λ k from below. h.no_puddles k from (omega arith))))
+    h.spaces)
+    (ap (are_closed_logs image) frames ∙ h.logs)
 
 stored_from : (size : ℕ) (image : Image) (s : StoredWorld) → StandsFor size image s → stored_by image ≡ s
 unfolding stored_by
 stored_from size image s h = λ i. record { frames = h.frames i; machine = h.machine i; next_number = h.next_number i; types = h.types i }
 
-pub world_of_standing : (size : ℕ) (image : Image) (s : StoredWorld) → StandsFor size image s → world_of size image ≡ Some s
-unfolding world_of
-world_of_standing size image s h = cond-true (is_sound size image) (Some (stored_by image)) None (sound_from size image s h) ∙ ap Some (stored_from size image s h)
+pub registry_world_standing : (size : ℕ) (image : Image) (s : StoredWorld) → StandsFor size image s → registry_world size image ≡ Some s
+unfolding registry_world
+registry_world_standing size image s h = cond-true (is_registry size image) (Some (stored_by image)) None (sound_from size image s h) ∙ ap Some (stored_from size image s h)
 
-standing_by : (size : ℕ) (image : Image) → is_sound size image ≡ true → StandsFor size image (stored_by image)
-unfolding is_sound stored_by
+standing_by : (size : ℕ) (image : Image) → is_registry size image ≡ true → StandsFor size image (stored_by image)
+unfolding is_registry stored_by
 standing_by size image sound =
-    let tables = and_parts (has_magic image && has_version image && has_room size image && has_legal_number image && has_legal_types image && has_empty_log image) (has_empty_tables image) sound in
-    let log = and_parts (has_magic image && has_version image && has_room size image && has_legal_number image && has_legal_types image) (has_empty_log image) tables.0 in
-    let types = and_parts (has_magic image && has_version image && has_room size image && has_legal_number image) (has_legal_types image) log.0 in
+    let logs = and_parts (has_magic image && has_version image && has_room size image && has_legal_number image && has_legal_types image && has_no_pools image && has_no_puddles image && has_legal_spaces image) (has_closed_logs image) sound in
+    let spaces = and_parts (has_magic image && has_version image && has_room size image && has_legal_number image && has_legal_types image && has_no_pools image && has_no_puddles image) (has_legal_spaces image) logs.0 in
+    let puddles = and_parts (has_magic image && has_version image && has_room size image && has_legal_number image && has_legal_types image && has_no_pools image) (has_no_puddles image) spaces.0 in
+    let pools = and_parts (has_magic image && has_version image && has_room size image && has_legal_number image && has_legal_types image) (has_no_pools image) puddles.0 in
+    let types = and_parts (has_magic image && has_version image && has_room size image && has_legal_number image) (has_legal_types image) pools.0 in
     let number = and_parts (has_magic image && has_version image && has_room size image) (has_legal_number image) types.0 in
     let room = and_parts (has_magic image && has_version image) (has_room size image) number.0 in
     let first = and_parts (has_magic image) (has_version image) room.0 in
@@ -87,33 +99,68 @@ standing_by size image sound =
       number_high = leb-true _ _ numbers.1;
       types = refl;
       legal = types.1;
-      empty_log = eqb-true _ _ log.1;
-      empty_tables = λ k from below. zero_at image POOL_TABLE (tables_end (frames_of image) - POOL_TABLE) tables.1 k from (omega arith);
+      no_pools = λ k from below. zero_at image POOL_TABLE (SPACE_TABLE - POOL_TABLE) pools.1 k from (omega arith);
+      no_puddles = λ k from below. zero_at image PUDDLE_TABLE (tables_end (frames_of image) - PUDDLE_TABLE) puddles.1 k from (omega arith);
+      spaces = spaces.1;
+      logs = logs.1;
     }
 
-pub standing_of_world : (size : ℕ) (image : Image) (s : StoredWorld) → world_of size image ≡ Some s → StandsFor size image s
-unfolding world_of
-standing_of_world size image s h =
-    let parts = cond_some (is_sound size image) (stored_by image) s h in
+pub standing_of_registry : (size : ℕ) (image : Image) (s : StoredWorld) → registry_world size image ≡ Some s → StandsFor size image s
+unfolding registry_world
+standing_of_registry size image s h =
+    let parts = cond_some (is_registry size image) (stored_by image) s h in
     subst (λ w. StandsFor size image w) parts.1 (standing_by size image parts.0)
+
+-- ---- once the daemon log is replayed
+
+-- the image with the daemon log replayed stands for the world that the image does
+pub standing_of_world : (size : ℕ) (image : Image) (s : StoredWorld) → world_of size image ≡ Some s → StandsFor size (settled_by DAEMON_LOG image) s
+unfolding world_of
+standing_of_world size image s h = elim (cases_Bool (has_legal_log image)) [
+  | inl legal ↦ standing_of_registry size (settled_by DAEMON_LOG image) s (sym (cond-true _ _ _ legal) ∙ h)
+  | inr illegal ↦ absurd (let it : None ≡ Some s = sym (cond-false _ _ _ illegal) ∙ h in cc)
+]
+
+pub world_of_standing : (size : ℕ) (image : Image) (s : StoredWorld) → has_legal_log image ≡ true → StandsFor size (settled_by DAEMON_LOG image) s → world_of size image ≡ Some s
+unfolding world_of
+world_of_standing size image s legal h = cond-true _ _ _ legal ∙ registry_world_standing size (settled_by DAEMON_LOG image) s h
 
 -- an image that stands for no world has none
 pub no_world : (size : ℕ) (image : Image) → ((s : StoredWorld) → world_of size image ≡ Some s → ⊥) → world_of size image ≡ None
 no_world size image h = none_from (world_of size image) h
 
 -- an image is sound exactly where it has a world
-pub world_of-sound : (size : ℕ) (image : Image) → is_sound size image ≡ true → world_of size image ≡ Some (stored_by image)
-unfolding world_of
-world_of-sound size image e = cond-true (is_sound size image) (Some (stored_by image)) None e
+pub world_of-sound : (size : ℕ) (image : Image) → is_sound size image ≡ true → world_of size image ≡ Some (stored_by (settled_by DAEMON_LOG image))
+unfolding is_sound world_of registry_world
+world_of-sound size image e =
+    let parts = and_parts (has_legal_log image) (is_registry size (settled_by DAEMON_LOG image)) e in
+    cond-true _ _ _ parts.0 ∙ cond-true _ _ _ parts.1
 
 pub world_of-unsound : (size : ℕ) (image : Image) → is_sound size image ≡ false → world_of size image ≡ None
+unfolding is_sound world_of registry_world
+world_of-unsound size image e = elim (cases_Bool (has_legal_log image)) [
+  | inl legal ↦ cond-true _ _ _ legal ∙ cond-false _ _ _ (sym (ap (λ (b : Bool). b && is_registry size (settled_by DAEMON_LOG image)) legal) ∙ e)
+  | inr illegal ↦ cond-false _ _ _ illegal
+]
+
+-- ---- a daemon log that is closed and counts no word
+
+pub legal_log_closed : (image : Image) → is_closed_gate (image DAEMON_LOG) ≡ true → has_legal_log image ≡ true
+unfolding has_legal_log
+legal_log_closed image closed = ap (are_allowed (frames_of image) (log_of image DAEMON_LOG)) (entries_of-closed image DAEMON_LOG closed)
+
+-- the image beside that log stands for the world
+pub world_of-closed : (size : ℕ) (image : Image) → is_closed_gate (image DAEMON_LOG) ≡ true → world_of size image ≡ registry_world size (beside_log DAEMON_LOG image)
 unfolding world_of
-world_of-unsound size image e = cond-false (is_sound size image) (Some (stored_by image)) None e
+world_of-closed size image closed = cond-true _ _ _ (legal_log_closed image closed) ∙ ap (registry_world size) (settled_by-beside DAEMON_LOG image closed)
+
+pub standing_closed : (size : ℕ) (image : Image) (s : StoredWorld) → is_closed_gate (image DAEMON_LOG) ≡ true → world_of size image ≡ Some s → StandsFor size (beside_log DAEMON_LOG image) s
+standing_closed size image s closed h = standing_of_registry size (beside_log DAEMON_LOG image) s (sym (world_of-closed size image closed) ∙ h)
 
 -- ---- images that agree on all that is read
 
--- an image that is the same below the end of the tables stands for the same world
-pub standing_same : (size : ℕ) (i j : Image) (s : StoredWorld) → StandsFor size i s → IsSameBelow (tables_end s.frames) i j → StandsFor size j s
+-- an image that is the same below the frames stands for the same world
+pub standing_same : (size : ℕ) (i j : Image) (s : StoredWorld) → StandsFor size i s → IsSameBelow (frames_at s.frames) i j → StandsFor size j s
 standing_same size i j s h same =
     let table : type_table i ≡ type_table j = type_records_same i j 0 TYPE_RECORDS (λ k low high. same.at k (omega arith)) in
     record {
@@ -129,35 +176,20 @@ standing_same size i j s h same =
       number_high = h.number_high;
       types = sym (ap by_id table) ∙ h.types;
       legal = sym (ap are_legal_types table) ∙ h.legal;
-      empty_log = sym (same.at DAEMON_LOG (omega arith)) ∙ h.empty_log;
-      empty_tables = λ k from below. sym (same.at k below) ∙ h.empty_tables k from below;
+      no_pools = λ k from below. sym (same.at k (omega arith)) ∙ h.no_pools k from below;
+      no_puddles = λ k from below. sym (same.at k (omega arith)) ∙ h.no_puddles k from below;
+      spaces = sym (are_legal_spaces-same i j (λ k low high. same.at k (omega arith))) ∙ h.spaces;
+      logs = sym (are_closed_logs-same i j s.frames (λ k low high. same.at k (omega arith)) (λ k low high. same.at k high)) ∙ h.logs;
     }
 
-sound_same : (size : ℕ) (i j : Image) (F : ℕ) → F ≡ frames_of i → IsSameBelow (tables_end F) i j → is_sound size i ≡ true → is_sound size j ≡ true
-unfolding stored_by
-sound_same size i j F e same sound = sound_from size j (stored_by i) (standing_same size i j (stored_by i) (standing_by size i sound) (record { at = λ k below. same.at k (omega arith) }))
+-- ---- an image without the device magic stands for nothing
 
--- images that agree there are sound together
-pub is_sound-same : (size : ℕ) (i j : Image) → IsSameBelow (tables_end (frames_of i)) i j → is_sound size i ≡ is_sound size j
-is_sound-same size i j same =
-    one_answer {P = is_sound size j ≡ true} (is_sound size i) (is_sound size j)
-    (sound_same size i j (frames_of i) refl same, sound_same size j i (frames_of i) (same.at FRAMES_WORD (omega arith)) (record { at = λ k below. sym (same.at k below) }))
-    (λ e. e, λ e. e)
-
-stored_same : (i j : Image) → IsSameBelow (tables_end (frames_of i)) i j → stored_by i ≡ stored_by j
-unfolding stored_by
-stored_same i j same =
-    let table : type_table i ≡ type_table j = type_records_same i j 0 TYPE_RECORDS (λ k low high. same.at k (omega arith)) in
-    λ p. record { frames = same.at FRAMES_WORD (omega arith) p; machine = same.at MACHINE_WORD (omega arith) p; next_number = same.at NEXT_NUMBER_WORD (omega arith) p; types = by_id (table p) }
-
--- and stand for the same
-pub world_of-same : (size : ℕ) (i j : Image) → IsSameBelow (tables_end (frames_of i)) i j → world_of size i ≡ world_of size j
-unfolding world_of
-world_of-same size i j same = ap₂ (λ b s. cond b (Some s) None) (is_sound-same size i j same) (stored_same i j same)
-
--- an image without the device magic stands for nothing
 pub world_of-no_magic : (size : ℕ) (image : Image) → (image MAGIC_WORD ≡ DEVICE_MAGIC → ⊥) → world_of size image ≡ None
-world_of-no_magic size image h = no_world size image (λ s e. h ((standing_of_world size image s e).magic))
+unfolding world_of
+world_of-no_magic size image h = elim (cases_Bool (has_legal_log image)) [
+  | inl legal ↦ no_world size image (λ s e. h (sym (settled_by-unlogged image MAGIC_WORD legal (omega arith)) ∙ (standing_of_world size image s e).magic))
+  | inr illegal ↦ cond-false _ _ _ illegal
+]
 
 -- ---- the world's types are those of the table
 

@@ -1,5 +1,5 @@
 -- The entries of a log, as its words spell them.
-use Rattle.std.specs.Prelude.{ℕ, zero, suc, ◌+◌, ◌*◌, ◌/◌, ◌%◌, ◌^◌, ◌<◌, ◌≤◌, Bool, ◌&&◌, nat_le, nat_lt, cond, List, [], ◌∷◌, length, take, Option, Some, None, option_map}
+use Rattle.std.specs.Prelude.{ℕ, zero, suc, ◌+◌, ◌*◌, ◌/◌, ◌%◌, ◌^◌, ◌<◌, ◌≤◌, Bool, ◌&&◌, nat_le, nat_lt, ◌==◌, cond, List, [], ◌∷◌, length, take, Option, Some, None, option_map}
 use Rattle.pud_defs.specs.declared.layout.TheConstants.{LOG_HEADER_WORDS, LOG_ENTRY_WORDS, MAX_ENTRY_VALUES}
 use Rattle.pud_defs.specs.declared.log_words.TheConstants.{REDO_ORDER}
 use Rattle.pud_defs.specs.Image.{Image}
@@ -20,6 +20,10 @@ gate_word lo hi used = lo + hi * 2 ^ 8 + used * 2 ^ 16
 -- nothing stands above bit 31, and no more words are counted than there are
 abbrev pub is_legal_gate : ℕ → Bool
 is_legal_gate v = nat_lt v (2 ^ 32) && nat_le (gate_used v) LOG_ENTRY_WORDS
+
+-- the gate is one of a closed log that counts no word
+abbrev pub is_closed_gate : ℕ → Bool
+is_closed_gate v = is_legal_gate v && gate_used v == 0 && nat_le (gate_hi v) (gate_lo v + 1)
 
 -- the number of values, the sequence number and the order, by the second word of an entry
 abbrev pub entry_n : ℕ → ℕ

@@ -1,10 +1,14 @@
 -- Where the parts of a device of F frames lie.
 use Rattle.std.specs.Prelude.{ℕ, ◌+◌, ◌*◌, Bool, ◌&&◌, nat_le}
-use Rattle.pud_defs.specs.declared.layout.TheConstants.{MIN_FRAMES, MAX_FRAMES, PUDDLE_TABLE, PUDDLE_RECORD_WORDS}
+use Rattle.pud_defs.specs.declared.layout.TheConstants.{MIN_FRAMES, MAX_FRAMES, LOG_WORDS, CLIENT_LOGS, PUDDLE_TABLE, PUDDLE_RECORD_WORDS}
 
 -- the first word behind the puddle table, which has a record for each frame
 abbrev pub tables_end : ℕ → ℕ
 tables_end F = PUDDLE_TABLE + PUDDLE_RECORD_WORDS * F
+
+-- the gate of a client's log
+abbrev pub log_at : ℕ → ℕ → ℕ → ℕ
+log_at F client number = tables_end F + LOG_WORDS * (CLIENT_LOGS * client + number)
 
 -- the first word of the first frame, behind 32 logs of 1,024 words
 abbrev pub frames_at : ℕ → ℕ

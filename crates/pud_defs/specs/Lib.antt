@@ -3,6 +3,7 @@ pub mod Image
 pub mod TypeMap
 pub mod Entries
 pub mod Replay
+pub mod Spaces
 pub mod Types
 pub mod Registry
 pub mod World

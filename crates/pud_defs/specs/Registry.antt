@@ -1,8 +1,12 @@
 -- When an image is a sound registry.
-use Rattle.std.specs.Prelude.{ℕ, zero, suc, ◌+◌, ◌-◌, Bool, true, ◌&&◌, nat_le, ◌==◌}
-use Rattle.pud_defs.specs.declared.layout.TheConstants.{DEVICE_MAGIC, VERSION, MAGIC_WORD, VERSION_WORD, FRAMES_WORD, NEXT_NUMBER_WORD, DAEMON_LOG, POOL_TABLE, NUMBER_LIMIT}
+use Rattle.std.specs.Prelude.{ℕ, zero, suc, ◌+◌, ◌-◌, Bool, true, false, not, ◌&&◌, ◌||◌, nat_le, ◌==◌, List, length, Option, Some, None}
+use Rattle.std.specs.List.{list_all}
+use Rattle.pud_defs.specs.declared.layout.TheConstants.{DEVICE_MAGIC, VERSION, MAGIC_WORD, VERSION_WORD, FRAMES_WORD, NEXT_NUMBER_WORD, DAEMON_LOG, TYPE_TABLE, POOL_TABLE, SPACE_TABLE, PUDDLE_TABLE, NUMBER_LIMIT}
 use Rattle.pud_defs.specs.Image.{Image}
-use Rattle.pud_defs.specs.Layout.{tables_end, device_words, is_legal_frame_count}
+use Rattle.pud_defs.specs.Layout.{tables_end, frames_at, device_words, is_legal_frame_count}
+use Rattle.pud_defs.specs.Entries.{Entry, Log, log_of}
+use Rattle.pud_defs.specs.Replay.{is_in_range, settled_by}
+use Rattle.pud_defs.specs.Spaces.{are_legal_spaces, are_closed_logs}
 use Rattle.pud_defs.specs.Types.{type_table, are_legal_types}
 
 abbrev pub frames_of : Image → ℕ
@@ -26,21 +30,49 @@ has_legal_number image = nat_le 1 (image NEXT_NUMBER_WORD) && nat_le (image NEXT
 abbrev pub has_legal_types : Image → Bool
 has_legal_types image = are_legal_types (type_table image)
 
--- the daemon log's gate is 0: it has no entry
-abbrev pub has_empty_log : Image → Bool
-has_empty_log image = image DAEMON_LOG == 0
-
 -- so many words are 0, from a word on
 unfoldable pub are_zero : Image → ℕ → ℕ → Bool
 are_zero image at zero = true
 are_zero image at (suc count) = image at == 0 && are_zero image (at + 1) count
 
--- no pool, no log space and no puddle is there: the words of these tables are 0
-abbrev pub has_empty_tables : Image → Bool
-has_empty_tables image = are_zero image POOL_TABLE (tables_end (frames_of image) - POOL_TABLE)
+-- no pool and no puddle is there: the words of these tables are 0
+abbrev pub has_no_pools : Image → Bool
+has_no_pools image = are_zero image POOL_TABLE (SPACE_TABLE - POOL_TABLE)
 
--- the image of a device of so many words is a sound registry
-unfoldable pub is_sound : ℕ → Image → Bool
-is_sound size image =
+abbrev pub has_no_puddles : Image → Bool
+has_no_puddles image = are_zero image PUDDLE_TABLE (tables_end (frames_of image) - PUDDLE_TABLE)
+
+abbrev pub has_legal_spaces : Image → Bool
+has_legal_spaces image = are_legal_spaces image
+
+-- each log of a registered log space is closed
+abbrev pub has_closed_logs : Image → Bool
+has_closed_logs image = are_closed_logs image (frames_of image)
+
+-- what an image with nothing to replay holds is a sound registry, on a device of so many words
+unfoldable pub is_registry : ℕ → Image → Bool
+is_registry size image =
     has_magic image && has_version image && has_room size image && has_legal_number image && has_legal_types image
-    && has_empty_log image && has_empty_tables image
+    && has_no_pools image && has_no_puddles image && has_legal_spaces image && has_closed_logs image
+
+-- so many words from a word on lie wholly where the daemon log may write: the next number, the tables from that of the types on, the frames
+abbrev pub may_be_logged : ℕ → ℕ → ℕ → Bool
+may_be_logged F at n =
+    (at == NEXT_NUMBER_WORD && n == 1) || (nat_le TYPE_TABLE at && nat_le (at + n) (tables_end F)) || (nat_le (frames_at F) at && nat_le (at + n) (device_words F))
+
+-- the entry is out of range, or lies there
+abbrev pub is_allowed : ℕ → Log → Entry → Bool
+is_allowed F log e = not (is_in_range log e) || may_be_logged F e.address (length e.vals)
+
+-- all entries are there, and allowed
+abbrev pub are_allowed : ℕ → Log → Option (List Entry) → Bool
+are_allowed F log None = false
+are_allowed F log (Some es) = list_all (is_allowed F log) es
+
+-- the daemon log is well formed, and its entries in range lie where they may
+unfoldable pub has_legal_log : Image → Bool
+has_legal_log image = are_allowed (frames_of image) (log_of image DAEMON_LOG) (log_of image DAEMON_LOG).entries
+
+-- the image of a device of so many words is a sound registry, once the daemon log is replayed
+unfoldable pub is_sound : ℕ → Image → Bool
+is_sound size image = has_legal_log image && is_registry size (settled_by DAEMON_LOG image)

@@ -77,3 +77,7 @@ is_in_log at w = nat_le at w && nat_lt w (at + LOG_WORDS)
 -- The image with the log of device words at this word replayed, and 0 in the words of that log, which are for replay alone.
 unfoldable pub settled_by : ℕ → Image → Image
 settled_by at image w = cond (is_in_log at w) 0 (replayed device_word (log_of image at) image w)
+
+-- the image with 0 in the words of that log
+abbrev pub beside_log : ℕ → Image → Image
+beside_log at image w = cond (is_in_log at w) 0 (image w)

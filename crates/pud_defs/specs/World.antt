@@ -1,10 +1,11 @@
 -- The world that lines move: what a device stands for, and the shelf of files beside it.
 use Rattle.std.specs.Prelude.{◌≡◌, ◌<◌, ℕ, cond, List, [], Option, Some, None}
-use Rattle.pud_defs.specs.declared.layout.TheConstants.{DEVICE_MAGIC, VERSION, MAGIC_WORD, VERSION_WORD, MACHINE_WORD, FRAMES_WORD, NEXT_NUMBER_WORD}
+use Rattle.pud_defs.specs.declared.layout.TheConstants.{DEVICE_MAGIC, VERSION, MAGIC_WORD, VERSION_WORD, MACHINE_WORD, FRAMES_WORD, NEXT_NUMBER_WORD, DAEMON_LOG}
 use Rattle.pud_defs.specs.Layout.{frames_at}
 use Rattle.pud_defs.specs.Image.{Image}
+use Rattle.pud_defs.specs.Replay.{settled_by}
 use Rattle.pud_defs.specs.Types.{types_of}
-use Rattle.pud_defs.specs.Registry.{frames_of, is_sound}
+use Rattle.pud_defs.specs.Registry.{frames_of, has_legal_log, is_registry}
 
 -- What a device stands for: its number of frames, its machine id, the next UUID number, and the map of each
 -- defined type, by ascending ids.
@@ -14,13 +15,17 @@ pub record StoredWorld : Type 0 where
   pub next_number : ℕ
   pub types : List (ℕ × ℕ)
 
--- what the words of an image stand for, where it is sound
+-- what the words of an image with nothing to replay stand for, where it is sound
 unfoldable pub stored_by : Image → StoredWorld
 stored_by image = record { frames = frames_of image; machine = image MACHINE_WORD; next_number = image NEXT_NUMBER_WORD; types = types_of image }
 
--- what the image of a device of so many words stands for: nothing exactly where it is not sound
+-- what an image with nothing to replay stands for, on a device of so many words: nothing exactly where it is no sound registry
+unfoldable pub registry_world : ℕ → Image → Option StoredWorld
+registry_world size image = cond (is_registry size image) (Some (stored_by image)) None
+
+-- what the image of a device of so many words stands for, once the daemon log is replayed
 unfoldable pub world_of : ℕ → Image → Option StoredWorld
-world_of size image = cond (is_sound size image) (Some (stored_by image)) None
+world_of size image = cond (has_legal_log image) (registry_world size (settled_by DAEMON_LOG image)) None
 
 -- the stored world, and the shelf: which files there are, by the bytes of their names, and what they hold
 pub record World : Type 0 where

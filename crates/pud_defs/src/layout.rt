@@ -1,7 +1,7 @@
 //! Where things lie on a device: word numbers, sizes and limits.
 
 ghost use Rattle.std.specs.Prelude.{◌≡◌, ◌≤◌};
-ghost use Rattle.pud_defs.specs.Layout.{tables_end, frames_at, device_words};
+ghost use Rattle.pud_defs.specs.Layout.{tables_end, log_at, frames_at, device_words};
 
 /// The value of word 0 of a formatted device: the eight bytes `PUDDEV01`, lowest first.
 pub const DEVICE_MAGIC: u64 = 0x3130_5645_4444_5550;
@@ -54,6 +54,18 @@ pub const TYPE_RECORD_WORDS: u32 = 2;
 /// The first word of the pool table.
 pub const POOL_TABLE: u32 = 1216;
 
+/// The first word of the log-space table.
+pub const SPACE_TABLE: u32 = 1472;
+
+/// How many words a log-space record has.
+pub const SPACE_RECORD_WORDS: u32 = 8;
+
+/// How many clients there are, each with a log-space record of its own.
+pub const CLIENTS: u32 = 8;
+
+/// How many logs each client has.
+pub const CLIENT_LOGS: u32 = 4;
+
 /// The first word of the puddle table, which has a record for each frame.
 pub const PUDDLE_TABLE: u32 = 1536;
 
@@ -75,6 +87,9 @@ pub const NUMBER_LIMIT: u64 = 0x8000_0000_0000_0000;
 /// The largest type id.
 pub const MAX_TYPE_ID: u32 = 65535;
 
+/// The largest uid, and the largest gid.
+pub const MAX_OWNER_ID: u32 = 65535;
+
 /// The most fields that a type has.
 pub const MAX_FIELDS: u32 = 30;
 
@@ -92,13 +107,23 @@ pub const fn tables_end(frames: u32) -> u32
     PUDDLE_TABLE + PUDDLE_RECORD_WORDS * frames
 }
 
+/// The gate of log `number` of client `client` on a device of so many frames.
+pub const fn log_at(frames: u32, client: u32, number: u32) -> u32
+    requires few_frames { frames ≤ MAX_FRAMES }
+    requires known_client { client < CLIENTS }
+    requires known_log { number < CLIENT_LOGS }
+    ensures { result ≡ log_at frames client number }
+{
+    tables_end(frames) + LOG_WORDS * (CLIENT_LOGS * client + number)
+}
+
 /// The first word of the first frame of a device of so many frames. Between the puddle table and the frames lie
 /// 32 logs of 1,024 words.
 pub const fn frames_at(frames: u32) -> u32
     requires { frames ≤ MAX_FRAMES }
     ensures { result ≡ frames_at frames }
 {
-    tables_end(frames) + 32 * LOG_WORDS
+    tables_end(frames) + CLIENTS * CLIENT_LOGS * LOG_WORDS
 }
 
 /// How many words a device of so many frames needs. A device may be larger; the rest is not read.

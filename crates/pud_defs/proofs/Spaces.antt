@@ -1,0 +1,74 @@
+-- The log-space table: images that agree on what is read of it and of the clients' logs.
+use Rattle.std.proofs.Common.{◌≡◌, ℕ, zero, suc, ◌+◌, ◌*◌, ◌^◌, ◌<◌, ◌≤◌, Bool, true, false, not, ◌&&◌, ◌||◌, cond, eqb, leb, ltb, Option, Some, None, refl, sym, ap, ap₂, ◌∙◌, ⊎_elim, inl, inr, arith, eq-eqb, eqb-true}
+use Rattle.std.specs.Prelude.{nat_le, is_some}
+use Rattle.std.proofs.lemmas.Bool.{and_parts, and_from, cond-true, cond-false, cases_Bool, cases_eq, or_left, leb-true}
+use Rattle.pud_defs.specs.declared.layout.TheConstants.{SPACE_TABLE, SPACE_RECORD_WORDS, CLIENTS, CLIENT_LOGS, MAX_OWNER_ID, LOG_WORDS, LOG_HEADER_WORDS, LOG_ENTRY_WORDS, PUDDLE_TABLE}
+use Rattle.pud_defs.specs.Image.{Image}
+use Rattle.pud_defs.specs.Layout.{tables_end, log_at, frames_at}
+use Rattle.pud_defs.specs.Entries.{gate_used, is_legal_gate, entries_of, entries_in, used_words}
+use Rattle.pud_defs.specs.Spaces.{space_record_at, all_below, is_legal_space, is_closed_range, is_closed_log, has_closed_logs, are_legal_spaces, are_closed_logs}
+use Rattle.pud_defs.proofs.Entries.{entries_of-same}
+
+pub all_below-same : (n : ℕ) (f g : ℕ → Bool) → ((k : ℕ) → k < n → f k ≡ g k) → all_below n f ≡ all_below n g
+unfolding all_below
+all_below-same zero f g same = refl
+all_below-same (suc n) f g same = ap₂ (λ (x y : Bool). x && y) (all_below-same n f g (λ k below. same k (omega arith))) (same n (omega arith))
+
+pub all_below-from : (n : ℕ) (f : ℕ → Bool) → ((k : ℕ) → k < n → f k ≡ true) → all_below n f ≡ true
+unfolding all_below
+all_below-from zero f each = refl
+all_below-from (suc n) f each = and_from (all_below n f) (f n) (all_below-from n f (λ k below. each k (omega arith))) (each n (omega arith))
+
+pub all_below-each : (n : ℕ) (f : ℕ → Bool) → all_below n f ≡ true → (k : ℕ) → k < n → f k ≡ true
+unfolding all_below
+all_below-each zero f all k below = absurd (omega arith)
+all_below-each (suc n) f all k below =
+    let parts = and_parts (all_below n f) (f n) all in
+    ⊎_elim (λ here. ap f here ∙ parts.1) (λ other. all_below-each n f parts.0 k (omega arith)) (cases_eq k n)
+
+-- images that agree on the words of a log have the same entries there
+pub entries_of-within : (i j : Image) (at : ℕ) → ((k : ℕ) → at ≤ k → k < at + LOG_WORDS → i k ≡ j k) → entries_of i at ≡ entries_of j at
+unfolding entries_of
+entries_of-within i j at same =
+    let gate : i at ≡ j at = same at (omega arith) (omega arith) in
+    elim (cases_Bool (is_legal_gate (i at))) [
+      | inl legal ↦
+          let within : gate_used (i at) ≤ LOG_ENTRY_WORDS = leb-true _ _ (and_parts (ltb (i at) (2 ^ 32)) (leb (gate_used (i at)) LOG_ENTRY_WORDS) legal).1 in
+          entries_of-same i j at gate (λ k low high. same k (omega arith) (omega arith))
+      | inr illegal ↦ cond-false _ _ _ illegal ∙ sym (cond-false _ _ _ (ap is_legal_gate (sym gate) ∙ illegal))
+    ]
+
+pub is_closed_log-same : (i j : Image) (at : ℕ) → ((k : ℕ) → at ≤ k → k < at + LOG_WORDS → i k ≡ j k) → is_closed_log i at ≡ is_closed_log j at
+is_closed_log-same i j at same = ap₂ (λ (v : ℕ) (x : Bool). is_closed_range v && x) (same at (omega arith) (omega arith)) (ap is_some (entries_of-within i j at same))
+
+pub has_closed_logs-same : (i j : Image) (F client : ℕ) → client < CLIENTS → ((k : ℕ) → tables_end F ≤ k → k < frames_at F → i k ≡ j k) → has_closed_logs i F client ≡ has_closed_logs j F client
+has_closed_logs-same i j F client known same =
+    all_below-same CLIENT_LOGS (λ n. is_closed_log i (log_at F client n)) (λ n. is_closed_log j (log_at F client n))
+    (λ n below. is_closed_log-same i j (log_at F client n) (λ k low high. same k (omega arith) (omega arith)))
+
+-- images that agree on the table, and on the clients' logs
+pub are_legal_spaces-same : (i j : Image) → ((k : ℕ) → SPACE_TABLE ≤ k → k < PUDDLE_TABLE → i k ≡ j k) → are_legal_spaces i ≡ are_legal_spaces j
+are_legal_spaces-same i j same =
+    all_below-same CLIENTS (is_legal_space i) (is_legal_space j)
+    (λ c below.
+    let used = same (space_record_at c) (omega arith) (omega arith) in
+    let uid = same (space_record_at c + 1) (omega arith) (omega arith) in
+    let gid = same (space_record_at c + 2) (omega arith) (omega arith) in
+    λ p. eqb (used p) 0 || (eqb (used p) 1 && leb (uid p) MAX_OWNER_ID && leb (gid p) MAX_OWNER_ID))
+
+pub are_closed_logs-same : (i j : Image) (F : ℕ) → ((k : ℕ) → SPACE_TABLE ≤ k → k < PUDDLE_TABLE → i k ≡ j k) → ((k : ℕ) → tables_end F ≤ k → k < frames_at F → i k ≡ j k)
+    → are_closed_logs i F ≡ are_closed_logs j F
+are_closed_logs-same i j F table logs =
+    all_below-same CLIENTS (λ c. eqb (i (space_record_at c)) 0 || has_closed_logs i F c) (λ c. eqb (j (space_record_at c)) 0 || has_closed_logs j F c)
+    (λ c below. ap₂ (λ (v : ℕ) (x : Bool). eqb v 0 || x) (table (space_record_at c) (omega arith) (omega arith)) (has_closed_logs-same i j F c below logs))
+
+-- a table of zeroes is legal, and no log is registered
+pub are_legal_spaces-none : (image : Image) → ((k : ℕ) → SPACE_TABLE ≤ k → k < PUDDLE_TABLE → image k ≡ 0) → are_legal_spaces image ≡ true
+are_legal_spaces-none image none =
+    all_below-from CLIENTS (is_legal_space image)
+    (λ c below. or_left (eqb (image (space_record_at c)) 0) _ (eq-eqb _ 0 (none (space_record_at c) (omega arith) (omega arith))))
+
+pub are_closed_logs-none : (image : Image) (F : ℕ) → ((c : ℕ) → c < CLIENTS → image (space_record_at c) ≡ 0) → are_closed_logs image F ≡ true
+are_closed_logs-none image F none =
+    all_below-from CLIENTS (λ c. eqb (image (space_record_at c)) 0 || has_closed_logs image F c)
+    (λ c below. or_left (eqb (image (space_record_at c)) 0) _ (eq-eqb _ 0 (none c below)))
