@@ -15,14 +15,14 @@ use Rattle.pm_persist.proofs.Ranges.{placed_within, placed_at}
 use Rattle.pud_defs.specs.declared.layout.TheConstants.{LOG_WORDS, LOG_HEADER_WORDS, LOG_ENTRY_WORDS}
 use Rattle.pud_defs.specs.declared.log_words.TheConstants.{COMMITTING_LO, COMMITTING_HI, CLOSED_GATE}
 use Rattle.pud_defs.specs.Image.{Image}
-use Rattle.pud_defs.specs.Entries.{Entry, Log, log_of, gate_lo, gate_hi, gate_used, gate_word, entries_in, entries_of, words_from}
+use Rattle.pud_defs.specs.Entries.{Entry, Log, log_of, gate_lo, gate_hi, gate_used, gate_word, is_closed_gate, entries_in, entries_of, words_from}
 use Rattle.pud_defs.specs.Replay.{device_word, is_in_range, new_value, overwritten, replayed, is_in_log, settled_by}
 use Rattle.pud_defs.proofs.Entries.{words_from-holds, entries_of-is, gate_lo-of, gate_hi-of, gate_used-of, is_legal_gate-of}
-use Rattle.pud_defs.proofs.Replay.{settled_by-inside, settled_by-outside, settled_by-same}
+use Rattle.pud_defs.proofs.Replay.{settled_by-inside, settled_by-outside, settled_by-same, settled_by-closed, within_log, not_inside}
 use Rattle.log_replay.specs.Replaying.{NamesApart, AreApart, IsReplayable, IsNamed, Named, ReplaysSame, Replays}
 use Rattle.log_replay.proofs.Whole.{log_of_picked}
-use Rattle.batch.specs.Batches.{batch_write, committed, AreBatched, is_closed_gate, IsFree, ByBatch, IsBatched, IsBatchedWholly, SettlesSame, IsPrepared, Prepares, Finishes, Commits}
-use Rattle.batch.proofs.Writes.{new_value-committed, batch_write-apart, settled_by-closed, settled_by-closed_same, settled_by-committed, within_log, not_inside}
+use Rattle.batch.specs.Batches.{batch_write, committed, AreBatched, IsFree, ByBatch, IsBatched, IsBatchedWholly, SettlesSame, IsPrepared, Prepares, Finishes, Commits}
+use Rattle.batch.proofs.Writes.{new_value-committed, batch_write-apart, settled_by-closed_same, settled_by-committed}
 
 -- ---- one word written
 

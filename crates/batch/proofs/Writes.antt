@@ -9,11 +9,11 @@ use Rattle.std.proofs.lemmas.List.Elements.{All-head, All-tail}
 use Rattle.pud_defs.specs.declared.layout.TheConstants.{LOG_WORDS, LOG_HEADER_WORDS, LOG_ENTRY_WORDS}
 use Rattle.pud_defs.specs.declared.log_words.TheConstants.{UNDO_ORDER, REDO_ORDER, REDO_SEQ, COMMITTING_LO, COMMITTING_HI}
 use Rattle.pud_defs.specs.Image.{Image}
-use Rattle.pud_defs.specs.Entries.{Entry, Log, log_of, gate_lo, gate_hi, gate_used, is_legal_gate}
+use Rattle.pud_defs.specs.Entries.{Entry, Log, log_of, gate_lo, gate_hi, gate_used, is_legal_gate, is_closed_gate}
 use Rattle.pud_defs.specs.Replay.{device_word, value_at, is_in_range, given_by, undone, redone, new_value, overwritten, replayed, is_in_log, settled_by}
-use Rattle.pud_defs.proofs.Replay.{undone-first, redone-first, undone-none, redone-none, new_value-of, replayed-closed, settled_by-inside, settled_by-outside, settled_by-same}
+use Rattle.pud_defs.proofs.Replay.{undone-first, redone-first, undone-none, redone-none, new_value-of, replayed-closed, settled_by-inside, settled_by-outside, settled_by-same, settled_by-closed, within_log, not_inside, outside_log}
 use Rattle.log_replay.specs.Replaying.{NamesApart}
-use Rattle.batch.specs.Batches.{batch_write, committed, IsBatchEntry, AreBatched, is_closed_gate}
+use Rattle.batch.specs.Batches.{batch_write, committed, IsBatchEntry, AreBatched}
 
 -- ---- what a committed log gives is what its entries write
 

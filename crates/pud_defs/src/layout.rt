@@ -1,6 +1,6 @@
 //! Where things lie on a device: word numbers, sizes and limits.
 
-ghost use Rattle.std.specs.Prelude.{◌≡◌, ◌≤◌};
+ghost use Rattle.std.specs.Prelude.{◌≡◌, ◌<◌, ◌≤◌};
 ghost use Rattle.pud_defs.specs.Layout.{tables_end, log_at, frames_at, device_words};
 
 /// The value of word 0 of a formatted device: the eight bytes `PUDDEV01`, lowest first.
