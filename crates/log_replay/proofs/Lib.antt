@@ -1,3 +1,4 @@
 pub mod Applying
 pub mod Left
 pub mod Whole
+pub mod Closing

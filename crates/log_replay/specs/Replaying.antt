@@ -1,13 +1,14 @@
 -- What a replay needs of the words of a device, and what it does to them.
-use Rattle.std.specs.Prelude.{◌≡◌, ◌⊎◌, ℕ, ◌+◌, ◌-◌, ◌<◌, ◌≤◌, IsTrue, List, [], All, length, Option, Some, None}
+use Rattle.std.specs.Prelude.{◌≡◌, ◌⊎◌, ℕ, ◌+◌, ◌-◌, ◌<◌, ◌≤◌, true, false, IsTrue, List, [], All, length, Option, Some, None}
 use Rattle.pm_model.specs.declared.host.HostFault.{HostFault}
 use Rattle.pm_model.specs.Words.{Words, reads, Picks, HasOnly}
 use Rattle.pm_model.specs.Moments.{State}
 use Rattle.pm_model.specs.Changes.{Footprint, Write, Changes, Leaves, Silently}
 use Rattle.pud_defs.specs.declared.layout.TheConstants.{LOG_WORDS, LOG_HEADER_WORDS, LOG_ENTRY_WORDS}
+use Rattle.pud_defs.specs.declared.log_words.TheConstants.{CLOSED_GATE}
 use Rattle.pud_defs.specs.Image.{Image}
-use Rattle.pud_defs.specs.Entries.{Entry, Log, log_of, gate_used, entries_of, entries_in, words_from}
-use Rattle.pud_defs.specs.Replay.{Place, device_word, is_in_range, new_value, replayed}
+use Rattle.pud_defs.specs.Entries.{Entry, Log, log_of, gate_used, is_closed_gate, entries_of, entries_in, words_from}
+use Rattle.pud_defs.specs.Replay.{Place, device_word, is_in_range, new_value, replayed, is_in_log, settled_by}
 use Rattle.log_entry.specs.Reading.{Reading}
 use Rattle.log_replay.specs.declared.Target.{Target}
 use Rattle.log_replay.specs.declared.Target.TheVariants as targets
@@ -78,3 +79,24 @@ pub record Replays (place : Place) (size at : ℕ) (es : List Entry) (fault : Op
   pub again : IsReplayable place size at es new.now.words
   pub durable : fault ≡ None → (k v : ℕ) → new_value place (log_of (reads old.now.words) at) k ≡ Some v → HasOnly (new.now.words k) v
   pub reads_so : fault ≡ None → reads new.now.words ≡ replayed place (log_of (reads old.now.words) at) (reads old.now.words)
+
+-- any value may come to the words of the log whose gate is this word, and to those that are written
+abbrev pub ByLog : ℕ → Write → Footprint
+ByLog at write k v = ((at ≤ k) × (k < at + LOG_WORDS)) ⊎ IsNamed write k
+
+-- An image that is one of these words but in the log's own and in those that it names. With the log replayed it is the same; the log is as it
+-- was, or closed with no word that counts.
+pub record SettlesSame (words : Words) (at : ℕ) (log : Log) (image : Image) : Type 0 where
+  pub before : Image
+  pub picked : Picks words before
+  pub outside : (k : ℕ) → is_in_log at k ≡ false → new_value device_word log k ≡ None → image k ≡ before k
+  pub same : settled_by at image ≡ settled_by at before
+  pub gate : (log_of image at ≡ log) ⊎ (is_closed_gate (image at) ≡ true)
+
+-- The log of device words is replayed and then closed: with it replayed each image stays as it was. At Ok each word that it names has its new
+-- value and no other, and the log is closed.
+pub record SettlesLog (at : ℕ) (fault : Option HostFault) (old new : State) : Type 0 where
+  pub changes : Changes (ByLog at (new_value device_word (log_of (reads old.now.words) at))) fault old new
+  pub moments : Leaves (Silently (SettlesSame old.now.words at (log_of (reads old.now.words) at))) old new
+  pub durable : fault ≡ None → (k v : ℕ) → new_value device_word (log_of (reads old.now.words) at) k ≡ Some v → HasOnly (new.now.words k) v
+  pub closed : fault ≡ None → HasOnly (new.now.words at) CLOSED_GATE

@@ -11,14 +11,14 @@ ghost use Rattle.pm_model.specs.Changes.{placed, Writes};
 ghost use Rattle.pud_defs.specs.declared.layout.TheConstants.{LOG_WORDS, LOG_ENTRY_WORDS, MAX_ENTRY_VALUES};
 ghost use Rattle.pud_defs.specs.declared.log_words.TheConstants.{UNDO_ORDER, REDO_ORDER};
 ghost use Rattle.pud_defs.specs.Entries.{Entry as LoggedEntry, Log, log_of, words_from};
-ghost use Rattle.pud_defs.specs.Replay.{is_in_range, given_by, undone, redone, new_value};
+ghost use Rattle.pud_defs.specs.Replay.{device_word, is_in_range, given_by, undone, redone, new_value};
 ghost use Rattle.log_entry.specs.Reading.{entry_from};
-ghost use Rattle.log_replay.specs.Replaying.{place_of, NamesApart, HasRange, IsLeft, IsReplayable, Applies, Replays};
+ghost use Rattle.log_replay.specs.Replaying.{place_of, NamesApart, HasRange, IsLeft, IsReplayable, Applies, Replays, SettlesLog};
 
 use log_entry::{Entry, EntryReader};
 use pm_model::{Host, HostFault};
-use pm_persist::write_range;
-use pud_defs::log_words::{REDO_ORDER, UNDO_ORDER, gate_hi, gate_lo};
+use pm_persist::{persist_word, write_range};
+use pud_defs::log_words::{CLOSED_GATE, REDO_ORDER, UNDO_ORDER, gate_hi, gate_lo};
 
 /// Which places the addresses of a log's entries are.
 #[derive(Clone, Copy, Debug, PartialEq, Eq)]
@@ -157,4 +157,19 @@ pub fn replay_range<H: Host>(h: &mut H, log_at: u32, to: Target) -> Result<(), H
 {
     overwrite(h, log_at, to)?;
     h.fence()
+}
+
+/// Replays the log of device words whose gate is word `log_at`, and then closes it. With the log replayed each image left
+/// meanwhile is as it was. At `Ok` the words that it names have their new values and no others, and the log is closed.
+///
+/// The log lies in the device; where it may be replayed ([`replay_range`]) and its own words stay apart. The only errors
+/// are the host's own.
+pub fn settle_log<H: Host>(h: &mut H, log_at: u32) -> Result<(), HostFault>
+    requires { log_at + LOG_WORDS ≤ (H.counts h.old).size }
+    ensures settles { H.tells → (size : ℕ) → size ≡ (H.counts h.old).size → (es : List LoggedEntry) → IsReplayable device_word size log_at es (H.state h.old).now.words
+        → SettlesLog log_at (fault_of result) (H.state h.old) (H.state h.new) }
+    ensures cause { H.counts h.new ≡ after_fault (fault_of result) (H.counts h.old) }
+{
+    replay_range(h, log_at, Target::Words)?;
+    persist_word(h, log_at, CLOSED_GATE)
 }

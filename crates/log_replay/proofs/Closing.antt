@@ -1,0 +1,148 @@
+-- A log replayed and then closed: what is left at each moment, and at the end.
+use Rattle.std.proofs.Common.{◌≡◌, ◌⊎◌, inl, inr, ℕ, ◌+◌, ◌<◌, ◌≤◌, true, false, [], Option, Some, None, refl, sym, ap, subst, ◌∙◌, arith}
+use Rattle.std.specs.Prelude.{List, unwrap_or}
+use Rattle.std.proofs.lemmas.Bool.{cases_eq, cases_Bool, eq-eqb}
+use Rattle.std.proofs.lemmas.List.{append-nil}
+use Rattle.pm_model.specs.declared.host.HostFault.{HostFault}
+use Rattle.pm_model.specs.Words.{reads, Picks, HasOnly}
+use Rattle.pm_model.specs.Moments.{State}
+use Rattle.pm_model.specs.Changes.{Changes, Leaves, Silently, IsFrom, Persists, only, written}
+use Rattle.pm_model.proofs.Words.{only_at}
+use Rattle.pm_model.proofs.Changes.{Changes-said, Changes-wider, Changes-then, HasOnly-kept}
+use Rattle.pm_model.proofs.Leaves.{Leaves-changes, Leaves-now, Leaves-then, Leaves-weaker}
+use Rattle.pud_defs.specs.declared.layout.TheConstants.{LOG_WORDS}
+use Rattle.pud_defs.specs.declared.log_words.TheConstants.{CLOSED_GATE}
+use Rattle.pud_defs.specs.Image.{Image}
+use Rattle.pud_defs.specs.Entries.{Entry, Log, log_of, is_closed_gate}
+use Rattle.pud_defs.specs.Replay.{device_word, new_value, replayed, is_in_log, settled_by}
+use Rattle.pud_defs.proofs.Replay.{settled_by-inside, settled_by-outside, settled_by-same, settled_by-closed, not_inside}
+use Rattle.log_replay.specs.Replaying.{IsReplayable, IsNamed, Named, ReplaysSame, Replays, ByLog, SettlesSame, SettlesLog}
+use Rattle.log_replay.proofs.Whole.{log_of_picked, new_value-apart}
+
+-- ---- one word written
+
+-- an image while one word is written: it is as it was, or has the word's new value
+abbrev pub IsOneWord : ℕ → ℕ → Image → Image → Type 0
+IsOneWord w v before image = (image ≡ before) ⊎ ((image w ≡ v) × ((k : ℕ) → (k ≡ w → ⊥) → image k ≡ before k))
+
+value_of_only : (w v x : ℕ) → only w v w ≡ Some x → x ≡ v
+value_of_only w v x e = let here : only w v w ≡ Some v = rw (eq-eqb w w refl) refl in cc
+
+pub one_word : (w v : ℕ) (before image : Image) → IsFrom (written (only w v)) before image → IsOneWord w v before image
+one_word w v before image from =
+    let other : (k : ℕ) → (k ≡ w → ⊥) → image k ≡ before k = λ k apart. elim (from.each k) [ inl same ↦ same | inr new ↦ absurd (apart (only_at w v k (image k) new)) ] in
+    elim (from.each w) [
+      | inl same ↦
+          let each : (k : ℕ) → image k ≡ before k = λ k. elim (cases_eq k w) [ inl here ↦ ap image here ∙ same ∙ ap before (sym here) | inr apart ↦ other k apart ] in
+          inl (λ i k. each k i)
+      | inr new ↦ inr (value_of_only w v (image w) new, other)
+    ]
+
+pub gate_apart : (at k : ℕ) → is_in_log at k ≡ false → k ≡ at → ⊥
+gate_apart at k outside here = not_inside at k outside (omega arith) (omega arith)
+
+-- ---- replayed
+
+module _ (size at : ℕ) (es : List Entry) (b : State) (replayable : IsReplayable device_word size at es b.now.words) where
+
+  settles : (image : Image) → ReplaysSame device_word at b.now.words image → SettlesSame b.now.words at (log_of (reads b.now.words) at) image
+  settles image r =
+      let log = log_of_picked device_word size at es b.now.words r.before replayable r.picked in
+      record {
+        before = r.before;
+        picked = r.picked;
+        outside = λ k out none. r.stays k (ap (λ (l : Log). new_value device_word l k) log ∙ none);
+        same = settled_by-same at image r.before (λ w out. ap (λ (i : Image). i w) r.same);
+        gate = inl (r.log ∙ log);
+      }
+
+  replay_left : (fault : Option HostFault) (c : State) → Replays device_word size at es fault b c → Leaves (Silently (SettlesSame b.now.words at (log_of (reads b.now.words) at))) b c
+  replay_left fault c r = Leaves-weaker (Silently (ReplaysSame device_word at b.now.words)) (Silently (SettlesSame b.now.words at (log_of (reads b.now.words) at))) b c (λ bytes image p. (p.0, settles image p.1)) r.moments
+
+  replay_changes : (fault : Option HostFault) (c : State) → Replays device_word size at es fault b c → Changes (ByLog at (new_value device_word (log_of (reads b.now.words) at))) fault b c
+  replay_changes fault c r = Changes-wider (Named (new_value device_word (log_of (reads b.now.words) at))) (ByLog at (new_value device_word (log_of (reads b.now.words) at))) fault b c
+      (λ k v named. inr named) r.changes
+
+  pub SettlesLog-replay : (fault : HostFault) (c : State) → Replays device_word size at es (Some fault) b c → SettlesLog at (Some fault) b c
+  SettlesLog-replay fault c r =
+      record {
+        changes = replay_changes (Some fault) c r;
+        moments = replay_left (Some fault) c r;
+        durable = λ e. absurd (let it : None ≡ Some fault = sym e in cc);
+        closed = λ e. absurd (let it : None ≡ Some fault = sym e in cc);
+      }
+
+  -- an image behind a whole replay: the words named are in their places, and the log is as it was
+  record IsPlaced (image : Image) : Type 0 where
+    so_far : SettlesSame b.now.words at (log_of (reads b.now.words) at) image
+    log : log_of image at ≡ log_of (reads b.now.words) at
+    there : (k v : ℕ) → new_value device_word (log_of (reads b.now.words) at) k ≡ Some v → image k ≡ v
+
+  placed_now : (c : State) → Replays device_word size at es None b c → (image : Image) → Picks c.now.words image → IsPlaced image
+  placed_now c r image picked =
+      let now = (Leaves-now (Silently (ReplaysSame device_word at b.now.words)) [] b c (Changes-said (Named (new_value device_word (log_of (reads b.now.words) at))) None b c r.changes ∙ sym (append-nil b.now.said)) r.moments image picked).1 in
+      record {
+        so_far = settles image now;
+        log = now.log ∙ log_of_picked device_word size at es b.now.words now.before replayable now.picked;
+        there = λ k v is. (r.durable refl k v is).each (image k) (picked.each k);
+      }
+
+  unwrapped : (o : Option ℕ) (x : ℕ) → ((v : ℕ) → o ≡ Some v → x ≡ v) → unwrap_or o x ≡ x
+  unwrapped None x there = refl
+  unwrapped (Some v) x there = sym (there v refl)
+
+  -- with the log replayed nothing changes any more
+  settled_placed : (image : Image) → IsPlaced image → (w : ℕ) → is_in_log at w ≡ false → settled_by at image w ≡ image w
+  settled_placed image p w out =
+      settled_by-outside at image w out
+      ∙ ap (λ (l : Log). replayed device_word l image w) p.log
+      ∙ unwrapped (new_value device_word (log_of (reads b.now.words) at) w) (image w) (p.there w)
+
+  closed_gate : is_closed_gate CLOSED_GATE ≡ true
+  closed_gate = refl
+
+  close_left : (fault : Option HostFault) (c d : State) → Replays device_word size at es None b c → Changes (written (only at CLOSED_GATE)) fault c d
+      → Leaves (Silently (SettlesSame b.now.words at (log_of (reads b.now.words) at))) c d
+  close_left fault c d r changes =
+      Leaves-changes (SettlesSame b.now.words at (log_of (reads b.now.words) at)) (written (only at CLOSED_GATE)) fault c d
+      (λ before image picked from.
+      let p = placed_now c r before picked in
+      elim (one_word at CLOSED_GATE before image from) [
+        | inl same ↦ record {
+          before = p.so_far.before;
+          picked = p.so_far.picked;
+          outside = λ k out none. ap (λ (i : Image). i k) same ∙ p.so_far.outside k out none;
+          same = ap (settled_by at) same ∙ p.so_far.same;
+          gate = inl (ap (λ (i : Image). log_of i at) same ∙ p.log);
+        }
+        | inr shut ↦
+            let each : (w : ℕ) → settled_by at image w ≡ settled_by at before w = λ w. elim (cases_Bool (is_in_log at w)) [
+              | inl inside ↦ settled_by-inside at image w inside ∙ sym (settled_by-inside at before w inside)
+              | inr out ↦ settled_by-closed at image w (ap is_closed_gate shut.0 ∙ closed_gate) out ∙ shut.1 w (gate_apart at w out) ∙ sym (settled_placed before p w out)
+            ] in
+            record {
+              before = p.so_far.before;
+              picked = p.so_far.picked;
+              outside = λ k out none. shut.1 k (gate_apart at k out) ∙ p.so_far.outside k out none;
+              same = (λ i w. each w i) ∙ p.so_far.same;
+              gate = inr (ap is_closed_gate shut.0 ∙ closed_gate);
+            }
+      ]) changes
+
+  pub SettlesLog-close : (fault : Option HostFault) (c d : State) → Replays device_word size at es None b c → Persists (only at CLOSED_GATE) fault c d → SettlesLog at fault b d
+  SettlesLog-close fault c d r close =
+      let write = new_value device_word (log_of (reads b.now.words) at) in
+      let P = Silently (SettlesSame b.now.words at (log_of (reads b.now.words) at)) in
+      let said = Changes-said (ByLog at write) None b c (replay_changes None c r) in
+      record {
+        changes = Changes-then (ByLog at write) fault b c d (replay_changes None c r)
+            (Changes-wider (written (only at CLOSED_GATE)) (ByLog at write) fault c d
+            (λ k v new. let here = only_at at CLOSED_GATE k v new in inl ((let low : at ≤ k = omega arith in low), (let high : k < at + LOG_WORDS = omega arith in high))) close.changes);
+        moments = Leaves-then P P P [] b c d (said ∙ sym (append-nil b.now.said)) (λ front image p. p) (λ more image p. p) (replay_left None c r) (close_left fault c d r close.changes);
+        durable = λ none k v is.
+            HasOnly-kept (written (only at CLOSED_GATE)) fault c d k v close.changes
+            (λ x new. let here = only_at at CLOSED_GATE k x new in
+            absurd (let it : None ≡ Some v = sym (new_value-apart device_word size at es b.now.words replayable k (omega arith) (omega arith)) ∙ is in cc))
+            (r.durable refl k v is);
+        closed = λ none. close.durable none at CLOSED_GATE (rw (eq-eqb at at refl) refl);
+      }

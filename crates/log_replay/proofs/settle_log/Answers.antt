@@ -1,0 +1,13 @@
+use Rattle.std.proofs.lemmas.Result.{err_from_is_err_and}
+use Rattle.pm_model.specs.Counts.{fault_of}
+use Rattle.log_replay.proofs.Closing.{SettlesLog-replay, SettlesLog-close}
+use Rattle.log_replay.proofs.settle_log.Goals as goal
+
+pub returns-in_err-replay_range-clause-settles : goal.returns-in_err-replay_range-clause-settles
+returns-in_err-replay_range-clause-settles g c =
+    let p = err_from_is_err_and c.from_residual.result c.from_residual.ensures.1 in
+    rw (p.1, p.2) (λ t size same es r. SettlesLog-replay size c.args.log_at es _ r _ _ (c.in_err-replay_range.ensures.replays t size same es r))
+
+pub returns-clause-settles : goal.returns-clause-settles
+returns-clause-settles g c = λ t size same es r.
+    SettlesLog-close size c.args.log_at es _ r (fault_of c.persist_word.result) _ _ (c.in_ok-replay_range.ensures.replays t size same es r) (c.persist_word.ensures.persists t)
