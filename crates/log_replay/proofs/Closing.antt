@@ -137,7 +137,7 @@ module _ (size at : ℕ) (es : List Entry) (b : State) (replayable : IsReplayabl
       record {
         changes = Changes-then (ByLog at write) fault b c d (replay_changes None c r)
             (Changes-wider (written (only at CLOSED_GATE)) (ByLog at write) fault c d
-            (λ k v new. let here = only_at at CLOSED_GATE k v new in inl ((let low : at ≤ k = omega arith in low), (let high : k < at + LOG_WORDS = omega arith in high))) close.changes);
+            (λ k v new. inl (only_at at CLOSED_GATE k v new)) close.changes);
         moments = Leaves-then P P P [] b c d (said ∙ sym (append-nil b.now.said)) (λ front image p. p) (λ more image p. p) (replay_left None c r) (close_left fault c d r close.changes);
         durable = λ none k v is.
             HasOnly-kept (written (only at CLOSED_GATE)) fault c d k v close.changes

@@ -80,9 +80,9 @@ pub record Replays (place : Place) (size at : ℕ) (es : List Entry) (fault : Op
   pub durable : fault ≡ None → (k v : ℕ) → new_value place (log_of (reads old.now.words) at) k ≡ Some v → HasOnly (new.now.words k) v
   pub reads_so : fault ≡ None → reads new.now.words ≡ replayed place (log_of (reads old.now.words) at) (reads old.now.words)
 
--- any value may come to the words of the log whose gate is this word, and to those that are written
+-- any value may come to the gate, which is this word, and to the words that are written
 abbrev pub ByLog : ℕ → Write → Footprint
-ByLog at write k v = ((at ≤ k) × (k < at + LOG_WORDS)) ⊎ IsNamed write k
+ByLog at write k v = (k ≡ at) ⊎ IsNamed write k
 
 -- An image that is one of these words but in the log's own and in those that it names. With the log replayed it is the same; the log is as it
 -- was, or closed with no word that counts.

@@ -44,25 +44,28 @@ not_redone F w log (e ∷ es) allowed low =
     redone-first device_word log e es w ∙ ap₂ option_or (not_redone F w log es parts.1 low) (not_given F REDO_ORDER w log e parts.0 low)
 
 -- the entries of a legal daemon log
-record LegalEntries (image : Image) : Type 0 where
-  entries : List Entry
-  are : (log_of image DAEMON_LOG).entries ≡ Some entries
-  allowed : list_all (is_allowed (frames_of image) (log_of image DAEMON_LOG)) entries ≡ true
+pub record LegalEntries (image : Image) : Type 0 where
+  pub entries : List Entry
+  pub are : (log_of image DAEMON_LOG).entries ≡ Some entries
+  pub allowed : list_all (is_allowed (frames_of image) (log_of image DAEMON_LOG)) entries ≡ true
 
 allowed_entries : (image : Image) (o : Option (List Entry)) → (log_of image DAEMON_LOG).entries ≡ o → are_allowed (frames_of image) (log_of image DAEMON_LOG) o ≡ true → LegalEntries image
 allowed_entries image None are allowed = absurd (let it : false ≡ true = allowed in cc)
 allowed_entries image (Some es) are allowed = record { entries = es; are = are; allowed = allowed }
 
-legal_entries : (image : Image) → has_legal_log image ≡ true → LegalEntries image
+pub legal_entries : (image : Image) → has_legal_log image ≡ true → LegalEntries image
 unfolding has_legal_log
 legal_entries image legal = allowed_entries image (log_of image DAEMON_LOG).entries refl legal
 
--- the words that tell what the device is read the same with the daemon log replayed
-pub settled_by-unlogged : (image : Image) (w : ℕ) → has_legal_log image ≡ true → w < NEXT_NUMBER_WORD → settled_by DAEMON_LOG image w ≡ image w
-settled_by-unlogged image w legal low =
+-- a legal daemon log gives nothing to the words that tell what the device is
+pub new_value-unlogged : (image : Image) (w : ℕ) → has_legal_log image ≡ true → w < NEXT_NUMBER_WORD → new_value device_word (log_of image DAEMON_LOG) w ≡ None
+new_value-unlogged image w legal low =
     let l = legal_entries image legal in
     let log = log_of image DAEMON_LOG in
+    new_value-of device_word log l.entries w l.are ∙ ap₂ option_or (not_redone (frames_of image) w log l.entries l.allowed low) (not_undone (frames_of image) w log l.entries l.allowed low)
+
+-- so they read the same with it replayed
+pub settled_by-unlogged : (image : Image) (w : ℕ) → has_legal_log image ≡ true → w < NEXT_NUMBER_WORD → settled_by DAEMON_LOG image w ≡ image w
+settled_by-unlogged image w legal low =
     let outside : is_in_log DAEMON_LOG w ≡ false = outside_log DAEMON_LOG w (inl (omega arith)) in
-    settled_by-outside DAEMON_LOG image w outside
-    ∙ overwritten-stays (new_value device_word log) image w
-    (new_value-of device_word log l.entries w l.are ∙ ap₂ option_or (not_redone (frames_of image) w log l.entries l.allowed low) (not_undone (frames_of image) w log l.entries l.allowed low))
+    settled_by-outside DAEMON_LOG image w outside ∙ overwritten-stays (new_value device_word (log_of image DAEMON_LOG)) image w (new_value-unlogged image w legal low)

@@ -125,6 +125,19 @@ pub world_of_standing : (size : ℕ) (image : Image) (s : StoredWorld) → has_l
 unfolding world_of
 world_of_standing size image s legal h = cond-true _ _ _ legal ∙ registry_world_standing size (settled_by DAEMON_LOG image) s h
 
+-- its daemon log is legal
+pub legal_log_of_world : (size : ℕ) (image : Image) (s : StoredWorld) → world_of size image ≡ Some s → has_legal_log image ≡ true
+unfolding world_of
+legal_log_of_world size image s h = elim (cases_Bool (has_legal_log image)) [
+  | inl legal ↦ legal
+  | inr illegal ↦ absurd (let it : None ≡ Some s = sym (cond-false _ _ _ illegal) ∙ h in cc)
+]
+
+-- with a legal daemon log the image stands for what it does once that is replayed
+pub world_of_legal : (size : ℕ) (image : Image) → has_legal_log image ≡ true → world_of size image ≡ registry_world size (settled_by DAEMON_LOG image)
+unfolding world_of
+world_of_legal size image legal = cond-true _ _ _ legal
+
 -- an image that stands for no world has none
 pub no_world : (size : ℕ) (image : Image) → ((s : StoredWorld) → world_of size image ≡ Some s → ⊥) → world_of size image ≡ None
 no_world size image h = none_from (world_of size image) h

@@ -1,0 +1,41 @@
+-- A registry that is up to date, and what brings it up to date or changes it.
+use Rattle.std.specs.Prelude.{◌≡◌, ◌⊎◌, ℕ, ◌+◌, ◌<◌, ◌≤◌, true, List, [], ◌∷◌, Option, Some, None}
+use Rattle.pm_model.specs.declared.host.HostFault.{HostFault}
+use Rattle.pm_model.specs.declared.host.HostFault.TheVariants.{Cut}
+use Rattle.pm_model.specs.Words.{Has, values, Words, reads, Picks, HasOnly, IsRested}
+use Rattle.pm_model.specs.Moments.{State}
+use Rattle.pm_model.specs.Changes.{Changes, Leaves, Silently}
+use Rattle.pud_defs.specs.declared.layout.TheConstants.{DAEMON_LOG, CLIENTS}
+use Rattle.pud_defs.specs.declared.log_words.TheConstants.{CLOSED_GATE}
+use Rattle.pud_defs.specs.Image.{Image}
+use Rattle.pud_defs.specs.Entries.{Entry, log_of, is_closed_gate}
+use Rattle.pud_defs.specs.Replay.{device_word, new_value}
+use Rattle.pud_defs.specs.Spaces.{space_record_at}
+use Rattle.pud_defs.specs.World.{StoredWorld, world_of}
+use Rattle.log_replay.specs.Replaying.{ByLog}
+use Rattle.batch.specs.Batches.{batch_entry, ByBatch}
+
+-- Each image that may be left stands for this world, and the daemon log is closed in it and counts no word.
+pub record IsSettled (size : ℕ) (s : StoredWorld) (words : Words) : Type 0 where
+  pub stands : (image : Image) → Picks words image → world_of size image ≡ Some s
+  pub closed : (v : ℕ) → Has (values (words DAEMON_LOG)) v → is_closed_gate v ≡ true
+
+-- The daemon log was applied and closed on a rested device: at each moment each image stands for the world; without a fault the device is
+-- rested again, and the log closed.
+pub record AppliesLog (size : ℕ) (s : StoredWorld) (fault : Option HostFault) (old new : State) : Type 0 where
+  pub changes : Changes (ByLog DAEMON_LOG (new_value device_word (log_of (reads old.now.words) DAEMON_LOG))) fault old new
+  pub moments : Leaves (Silently (λ image. world_of size image ≡ Some s)) old new
+  pub settled : fault ≡ None → IsSettled size s new.now.words
+  pub rested : fault ≡ None → IsRested new.now.words
+
+-- the batch that empties the records of these clients
+abbrev pub clearing : List ℕ → List Entry
+clearing [] = []
+clearing (client ∷ clients) = batch_entry (space_record_at client) (0 ∷ []) ∷ clearing clients
+
+-- The log-space table was emptied: at each moment each image stands for the world; without a fault no record is used, durably.
+pub record Clears (size : ℕ) (s : StoredWorld) (fault : Option HostFault) (old new : State) : Type 0 where
+  pub changes : Changes (ByBatch DAEMON_LOG (clearing (0 ∷ 1 ∷ 2 ∷ 3 ∷ 4 ∷ 5 ∷ 6 ∷ 7 ∷ []))) fault old new
+  pub moments : Leaves (Silently (λ image. world_of size image ≡ Some s)) old new
+  pub settled : fault ≡ None → IsSettled size s new.now.words
+  pub cleared : fault ≡ None → (client : ℕ) → client < CLIENTS → HasOnly (new.now.words (space_record_at client)) 0
