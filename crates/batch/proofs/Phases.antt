@@ -49,7 +49,6 @@ gate_apart at k outside here = not_inside at k outside (omega arith) (omega arit
 -- ---- the entries are made durable behind a closed gate
 
 module _ (size at : ℕ) (es : List Entry) (words : List ℕ) (s : State) (free : IsFree size at es s.now.words) (fits : length words ≤ LOG_ENTRY_WORDS) where
-
   entries_apart : (k v : ℕ) → written (placed (at + LOG_HEADER_WORDS) words) k v → (at + LOG_HEADER_WORDS ≤ k) × (k < at + LOG_WORDS)
   entries_apart k v is = let within = placed_within (at + LOG_HEADER_WORDS) k v words is in (within.0, let h = within.1 in omega arith)
 
@@ -91,16 +90,15 @@ committed_log i at words es gate fits holds spell =
     let small : length words < 2 ^ 16 = omega arith in
     let used = gate_used-of COMMITTING_LO COMMITTING_HI (length words) (omega arith) (omega arith) small in
     let there : words_from i (at + LOG_HEADER_WORDS) (gate_used (gate_word COMMITTING_LO COMMITTING_HI (length words))) ≡ words =
-        ap (words_from i (at + LOG_HEADER_WORDS)) used ∙ words_from-holds i (at + LOG_HEADER_WORDS) words holds in
+    ap (words_from i (at + LOG_HEADER_WORDS)) used ∙ words_from-holds i (at + LOG_HEADER_WORDS) words holds in
     let entries : entries_of i at ≡ Some es =
-        entries_of-is i at (gate_word COMMITTING_LO COMMITTING_HI (length words)) words gate (is_legal_gate-of COMMITTING_LO COMMITTING_HI (length words) (omega arith) (omega arith) fits) there ∙ spell in
+    entries_of-is i at (gate_word COMMITTING_LO COMMITTING_HI (length words)) words gate (is_legal_gate-of COMMITTING_LO COMMITTING_HI (length words) (omega arith) (omega arith) fits) there ∙ spell in
     let lo : gate_lo (i at) ≡ COMMITTING_LO = ap gate_lo gate ∙ gate_lo-of COMMITTING_LO COMMITTING_HI (length words) (omega arith) (omega arith) small in
     let hi : gate_hi (i at) ≡ COMMITTING_HI = ap gate_hi gate ∙ gate_hi-of COMMITTING_LO COMMITTING_HI (length words) (omega arith) (omega arith) small in
     λ p. record { lo = lo p; hi = hi p; entries = entries p }
 
 module _ (size at : ℕ) (es : List Entry) (words : List ℕ) (s a : State) (free : IsFree size at es s.now.words) (fits : length words ≤ LOG_ENTRY_WORDS)
     (spell : entries_in 0 words ≡ Some es) (batched : AreBatched es) (first : Persists (placed (at + LOG_HEADER_WORDS) words) None s a) where
-
   -- an image of the words behind the durable entries has them
   entries_there : (image : Image) → Picks a.now.words image → (j : ℕ) → j < length words → image (at + LOG_HEADER_WORDS + j) ≡ get_or words j 0
   entries_there image picked j below =
@@ -153,15 +151,15 @@ module _ (size at : ℕ) (es : List Entry) (words : List ℕ) (s a : State) (fre
       let others : (k : ℕ) → (k ≡ at → ⊥) → (v : ℕ) → written gate_write k v → ⊥ = λ k apart v new. apart (only_at at (gate_word COMMITTING_LO COMMITTING_HI (length words)) k v new) in
       let gate_value : fault ≡ None → HasOnly (b.now.words at) (gate_word COMMITTING_LO COMMITTING_HI (length words)) = λ none. second.durable none at (gate_word COMMITTING_LO COMMITTING_HI (length words)) (rw (eq-eqb at at refl) refl) in
       let entry_value : (k v : ℕ) → placed (at + LOG_HEADER_WORDS) words k ≡ Some v → HasOnly (b.now.words k) v = λ k v is.
-          HasOnly-kept (written gate_write) fault a b k v second.changes
-          (λ x new. others k (λ e. absurd (let low = (placed_within (at + LOG_HEADER_WORDS) k v words is).0 in omega arith)) x new) (first.durable refl k v is) in
+      HasOnly-kept (written gate_write) fault a b k v second.changes
+      (λ x new. others k (λ e. absurd (let low = (placed_within (at + LOG_HEADER_WORDS) k v words is).0 in omega arith)) x new) (first.durable refl k v is) in
       let early = Leaves-weaker (Silently (SettlesSame s.now.words at es)) P s a
-          (λ bytes image p. (p.0, record { before = p.1.before; picked = p.1.picked; outside = p.1.outside; settled = inl p.1.same }))
-          (entries_left size at es words s free fits None a first.changes) in
+      (λ bytes image p. (p.0, record { before = p.1.before; picked = p.1.picked; outside = p.1.outside; settled = inl p.1.same }))
+      (entries_left size at es words s free fits None a first.changes) in
       let reads_log : fault ≡ None → log_of (reads b.now.words) at ≡ committed es = λ none.
-          committed_log (reads b.now.words) at words es (HasOnly-newest (b.now.words at) (gate_word COMMITTING_LO COMMITTING_HI (length words)) (gate_value none)) fits
-          (λ j below. HasOnly-newest (b.now.words (at + LOG_HEADER_WORDS + j)) (get_or words j 0)
-          (entry_value (at + LOG_HEADER_WORDS + j) (get_or words j 0) (placed_at (at + LOG_HEADER_WORDS) j (at + LOG_HEADER_WORDS + j) words refl below))) spell in
+      committed_log (reads b.now.words) at words es (HasOnly-newest (b.now.words at) (gate_word COMMITTING_LO COMMITTING_HI (length words)) (gate_value none)) fits
+      (λ j below. HasOnly-newest (b.now.words (at + LOG_HEADER_WORDS + j)) (get_or words j 0)
+      (entry_value (at + LOG_HEADER_WORDS + j) (get_or words j 0) (placed_at (at + LOG_HEADER_WORDS) j (at + LOG_HEADER_WORDS + j) words refl below))) spell in
       record {
         changes = Changes-then (ByBatch at es) fault s a b (entries_change size at es words s free fits None a first.changes)
             (Changes-wider (written gate_write) (ByBatch at es) fault a b gate_only second.changes);
@@ -207,7 +205,6 @@ Prepares-entries size at es words fault s a free fits first =
 -- ---- the words are written to their places
 
 module _ (size at : ℕ) (es : List Entry) (b : State) (batched : AreBatched es) (apart : All (NamesApart device_word size at) es) (prepared : IsPrepared size at es b.now.words) where
-
   log_left : (image : Image) → Picks b.now.words image → log_of image at ≡ committed es
   log_left image picked = log_of_picked device_word size at es b.now.words image prepared.replayable picked ∙ prepared.log
 
@@ -324,13 +321,15 @@ Commits-finish size at es fault s b d p f =
     let P = Silently (IsBatched s.now.words at es) in
     let late = Leaves-weaker (Silently (SettlesSame b.now.words at es)) P b d
     (λ bytes image q.
-    let whole = p.done refl q.1.before q.1.picked in
-    (q.0, record {
-      before = whole.before;
-      picked = whole.picked;
-      outside = λ k out none. q.1.outside k out none ∙ whole.outside k out none;
-      settled = inr (q.1.same ∙ whole.settled);
-    })) f.moments in
+    let whole = p.done refl q.1.before q.1.picked in (
+      q.0,
+      record {
+        before = whole.before;
+        picked = whole.picked;
+        outside = λ k out none. q.1.outside k out none ∙ whole.outside k out none;
+        settled = inr (q.1.same ∙ whole.settled);
+      },
+    )) f.moments in
     record {
       changes = Changes-then (ByBatch at es) fault s b d p.changes f.changes;
       moments = Leaves-then P P P [] s b d (Changes-said (ByBatch at es) None s b p.changes ∙ sym (append-nil s.now.said)) (λ front image q. q) (λ more image q. q) p.moments late;

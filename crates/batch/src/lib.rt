@@ -18,7 +18,9 @@ use log_replay::{Target, replay_range};
 use pm_model::{Host, HostFault};
 use pm_persist::{persist_range, persist_word};
 use pud_defs::layout::{DAEMON_LOG, ENTRY_HEADER_WORDS, LOG_ENTRY_WORDS, LOG_HEADER_WORDS};
-use pud_defs::log_words::{CLOSED_GATE, COMMITTING_HI, COMMITTING_LO, REDO_ORDER, REDO_SEQ, gate_word};
+use pud_defs::log_words::{
+    CLOSED_GATE, COMMITTING_HI, COMMITTING_LO, REDO_ORDER, REDO_SEQ, gate_word,
+};
 use std::marker::Model;
 
 /// The words do not fit into the batch any more. It is as it was.
@@ -55,7 +57,11 @@ fn prepare<H: Host>(h: &mut H, at: u32, words: &[u64]) -> Result<(), HostFault>
 {
     let _words = h.words();
     persist_range(h, at + LOG_HEADER_WORDS, words)?;
-    persist_word(h, at, gate_word(COMMITTING_LO, COMMITTING_HI, words.len() as u32))
+    persist_word(
+        h,
+        at,
+        gate_word(COMMITTING_LO, COMMITTING_HI, words.len() as u32),
+    )
 }
 
 /// Writes what the log names to its places, and then closes it.
@@ -130,3 +136,6 @@ impl Batch {
         commit_by(h, DAEMON_LOG, &self.words[..self.used as usize])
     }
 }
+
+#[cfg(test)]
+mod tests;

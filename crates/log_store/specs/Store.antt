@@ -1,13 +1,13 @@
 -- What the words of a device hold of an open log, and how an entry is appended.
-use Rattle.std.specs.Prelude.{◌≡◌, ◌⊎◌, ℕ, ◌+◌, ◌<◌, ◌≤◌, List, [], ◌∷◌, ◌++◌, length, Option, Some, None, option_map, Result, Ok, Err}
+use Rattle.std.specs.Prelude.{◌≡◌, ◌⊎◌, ℕ, ◌+◌, ◌<◌, ◌≤◌, ◌==◌, cond, List, [], ◌∷◌, ◌++◌, length, Option, Some, None, option_map, Result, Ok, Err, IfOk}
 use Rattle.pm_model.specs.declared.host.HostFault.{HostFault}
 use Rattle.pm_model.specs.Words.{Words, reads, Picks, HasOnly}
 use Rattle.pm_model.specs.Moments.{State}
-use Rattle.pm_model.specs.Changes.{Footprint, Changes, Leaves, Silently}
+use Rattle.pm_model.specs.Changes.{Footprint, Changes, Leaves, Silently, Write, placed, written}
 use Rattle.pud_defs.specs.declared.layout.TheConstants.{LOG_WORDS, LOG_HEADER_WORDS, ENTRY_HEADER_WORDS}
 use Rattle.pud_defs.specs.declared.log_words.TheConstants.{COMMITTING_LO, COMMITTING_HI}
 use Rattle.pud_defs.specs.Image.{Image}
-use Rattle.pud_defs.specs.Entries.{Entry, Log, log_of, gate_word, entries_of}
+use Rattle.pud_defs.specs.Entries.{Entry, Log, log_of, gate_word, spelled}
 use Rattle.log_store.specs.declared.AppendFault.{AppendFault}
 use Rattle.log_store.specs.declared.AppendFault.TheVariants as faults
 
@@ -24,6 +24,10 @@ longer words log = record log { used = log.used + words }
 abbrev pub committing : OpenLog → OpenLog
 committing log = record log { lo = COMMITTING_LO; hi = COMMITTING_HI }
 
+-- the log that it is with these entries
+abbrev pub saying : OpenLog → List Entry → Log
+saying log es = record { lo = log.lo; hi = log.hi; entries = Some es }
+
 -- the host's fault that an append answered
 abbrev pub append_fault : {T : Type 0} → Result T AppendFault → Option HostFault
 append_fault (Ok x) = None
@@ -34,12 +38,18 @@ append_fault (Err (faults.Host fault)) = Some fault
 abbrev pub InLog : ℕ → Footprint
 InLog at k v = (at ≤ k) × (k < at + LOG_WORDS)
 
--- The words hold this log with these entries: its gate and each entry word that counts have one value, and spell it. What stands behind the
--- words that count may be anything.
+-- The words hold this log with these entries: its gate and each entry word that counts have one value, and say this. What stands behind
+-- the words that count may be anything.
 pub record IsOpen (log : OpenLog) (es : List Entry) (words : Words) : Type 0 where
   pub gate : HasOnly (words log.at) (gate_word log.lo log.hi log.used)
   pub counted : (k : ℕ) → log.at + LOG_HEADER_WORDS ≤ k → k < log.at + LOG_HEADER_WORDS + log.used → HasOnly (words k) (words k).newest
-  pub spells : entries_of (reads words) log.at ≡ Some es
+  pub says : log_of (reads words) log.at ≡ saying log es
+
+-- the words of an entry behind those that count, and the gate that counts them too
+abbrev pub entry_write : OpenLog → Entry → Write
+entry_write log e k =
+    cond (k == log.at) (Some (gate_word log.lo log.hi (log.used + (length e.vals + ENTRY_HEADER_WORDS))))
+    (placed (log.at + LOG_HEADER_WORDS + log.used) (spelled e) k)
 
 -- the log with an entry last
 abbrev pub with_last : Entry → Log → Log
@@ -52,7 +62,9 @@ pub record HasGrown (words : Words) (at : ℕ) (e : Entry) (image : Image) : Typ
   pub outside : (k : ℕ) → ((at ≤ k) × (k < at + LOG_WORDS) → ⊥) → image k ≡ before k
   pub log : (log_of image at ≡ log_of before at) ⊎ (log_of image at ≡ with_last e (log_of before at))
 
--- The entry is appended: at each moment each image has the log as it was or with the whole entry, and without a fault each has it.
-pub record Appends (log : OpenLog) (es : List Entry) (e : Entry) (fault : Option HostFault) (old new : State) : Type 0 where
+-- The entry is appended: only its words and the gate that counts it are written; at each moment each image has the log as it was or with the
+-- whole entry; at Ok each has it.
+pub record Appends (log : OpenLog) (es : List Entry) (e : Entry) (result : Result (Unit {0}) AppendFault) (old new : State) : Type 0 where
+  pub writes : Changes (written (entry_write log e)) (append_fault result) old new
   pub moments : Leaves (Silently (HasGrown old.now.words log.at e)) old new
-  pub done : fault ≡ None → IsOpen (longer (length e.vals + ENTRY_HEADER_WORDS) log) (es ++ e ∷ []) new.now.words
+  pub done : IfOk result (λ _. IsOpen (longer (length e.vals + ENTRY_HEADER_WORDS) log) (es ++ e ∷ []) new.now.words)

@@ -19,9 +19,11 @@ use std::alloc::Global;
 /// Does what the words ask for, the program's name first, on the host's device and streams, and gives the status that
 /// the program ends with.
 ///
-/// The status is 0 where the mode is done or the script was read to its end, 2 exactly where the words are no mode, 4
-/// exactly where the device is not usable, 5 only where the host failed, 6 only where power was lost, and 7 exactly where
-/// 2^20 bytes of script were taken without an end. At 2 and 4 nothing was said and no word changed.
+/// The status is 0 where the mode is done or the script was read to its end, 2 exactly where the words are no mode, 5 only
+/// where the host failed, 6 only where power was lost, and 7 exactly where 2^20 bytes of script were taken without an end.
+/// It is 4 where the device is not usable, and no call failed first: for `format` exactly there, and for `run` exactly there
+/// on a device that was rested at entry, where each word has one value. At 2 nothing was said and no word changed; so at 4
+/// for `format`, and for `run` on a device that was rested at entry.
 pub fn puddle_main<H: Host>(alloc: Global, words: &[String], host: &mut H) -> u8
     // The words, and nothing else, decide status 2.
     ensures usage { (result ≡ USAGE) ↔ (mode_of (map string_bytes words.now) ≡ None) }

@@ -281,3 +281,8 @@ module _ (size : ℕ) (w : World) (line : List ℕ) (reply : Reply) (before betw
 pub KeepsRest-says : (text : List ℕ) (fault : Option HostFault) (old mid new : State) → KeepsRest old mid → Says text fault mid new → KeepsRest old new
 KeepsRest-says text fault old mid new k says =
     record { script = script_said text fault mid new says ∙ k.script; shelf = shelf_said text fault mid new says ∙ k.shelf }
+
+-- a reply is said of words that are sound still
+pub sound_said : (size : ℕ) (text : List ℕ) (fault : Option HostFault) (mid new : State) → Says text fault mid new → world_of size (reads mid.now.words) ≢ None
+    → world_of size (reads new.now.words) ≢ None
+sound_said size text fault mid new says sound none = sound (ap (λ (x : Words). world_of size (reads x)) (sym (words_said text fault mid new says)) ∙ none)

@@ -1,5 +1,5 @@
 //! Commands carried out on the device, before anything is said of them.
-ghost use Rattle.std.specs.Prelude.{◌≡◌, ◌≤◌, ℕ, true, IfOk, Option};
+ghost use Rattle.std.specs.Prelude.{◌≡◌, ◌≢◌, ◌≤◌, ℕ, true, IfOk, Option, Result};
 ghost use Rattle.pm_model.specs.Counts.{after_fault, fault_of};
 ghost use Rattle.pud_defs.specs.Layout.{device_words};
 ghost use Rattle.pud_defs.specs.TypeMap.{is_legal_type_id, is_legal_map};
@@ -23,6 +23,7 @@ fn define_type<H: Host>(h: &mut H, id: u32, map: u64) -> Result<Reply, HostFault
     ensures applies { H.tells → (size : ℕ) → size ≡ (H.counts h.old).size → (w : World) → IsReady size w (H.state h.old)
         → is_legal_type_id id ≡ true → is_legal_map map ≡ true
         → Applies size w (world_by w (Option.Some (Define id map))) (fault_of result) (H.state h.old) (H.state h.new) }
+    ensures no_cut_reply { result ≢ Result.Ok Reply.Cut }
     ensures rest { H.tells → KeepsRest (H.state h.old) (H.state h.new) }
     ensures cause { H.counts h.new ≡ after_fault (fault_of result) (H.counts h.old) }
 {
@@ -42,6 +43,7 @@ fn carry_out<H: Host>(h: &mut H, command: Command) -> Result<Reply, HostFault>
     ensures applies { H.tells → (size : ℕ) → size ≡ (H.counts h.old).size → (w : World) → IsReady size w (H.state h.old)
         → IsLegalCommand command
         → Applies size w (world_by w (Option.Some command)) (fault_of result) (H.state h.old) (H.state h.new) }
+    ensures no_cut_reply { result ≢ Result.Ok Reply.Cut }
     ensures rest { H.tells → KeepsRest (H.state h.old) (H.state h.new) }
     ensures cause { H.counts h.new ≡ after_fault (fault_of result) (H.counts h.old) }
 {
@@ -57,6 +59,7 @@ pub fn apply<H: Host>(h: &mut H, line: &[u8]) -> Result<Reply, HostFault>
         → IfOk result (λ reply. reply ≡ step_reply w line.now) }
     ensures applies { H.tells → (size : ℕ) → size ≡ (H.counts h.old).size → (w : World) → IsReady size w (H.state h.old)
         → Applies size w (step_world w line.now) (fault_of result) (H.state h.old) (H.state h.new) }
+    ensures no_cut_reply { result ≢ Result.Ok Reply.Cut }
     ensures rest { H.tells → KeepsRest (H.state h.old) (H.state h.new) }
     ensures cause { H.counts h.new ≡ after_fault (fault_of result) (H.counts h.old) }
 {

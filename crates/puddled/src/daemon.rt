@@ -105,6 +105,13 @@ fn settle<H: Host>(h: &mut H, line: &[u8]) -> Result<Reply, RunFault>
     requires { device_words MIN_FRAMES ≤ (H.counts h.old).size }
     ensures settles { H.tells → (size : ℕ) → size ≡ (H.counts h.old).size → (w : World) → IsReady size w (H.state h.old)
         → Settles size w line.now result (H.counts h.old) (H.counts h.new) (H.state h.old) (H.state h.new) }
+    // Whatever the device holds: at `Cut` it then reads as a sound one, and without a fault the reply is `Cut` wherever the
+    // count of power losses moved.
+    ensures restarted { H.tells → result ≡ Result.Ok Reply.Cut
+        → world_of (H.counts h.old).size (reads (H.state h.new).now.words) ≢ Option.None }
+    ensures told { IsOk result → (H.counts h.new).cuts ≢ (H.counts h.old).cuts → result ≡ Result.Ok Reply.Cut }
+    ensures not_sound { H.tells → result ≡ Result.Err RunFault.NotSound
+        → world_of (H.counts h.old).size (reads (H.state h.new).now.words) ≡ Option.None }
     ensures rest { H.tells → KeepsRest (H.state h.old) (H.state h.new) }
     ensures cause { IsCounted (run_fault result) 0 (H.counts h.old) (H.counts h.new) }
 {
@@ -166,6 +173,12 @@ impl Daemon {
         requires { device_words MIN_FRAMES ≤ (H.counts h.old).size }
         ensures answers { H.tells → (size : ℕ) → size ≡ (H.counts h.old).size → (w : World) → IsReady size w (H.state h.old)
             → Answers size w line.now aloud result (H.counts h.old) (H.counts h.new) (H.state h.old) (H.state h.new) }
+        // Whatever the device holds: where the count of power losses moved without a fault it then reads as a sound one, and
+        // at `NotSound` it does not.
+        ensures restarted { H.tells → IsOk result → (H.counts h.new).cuts ≢ (H.counts h.old).cuts
+            → world_of (H.counts h.old).size (reads (H.state h.new).now.words) ≢ Option.None }
+        ensures not_sound { H.tells → result ≡ Result.Err RunFault.NotSound
+            → world_of (H.counts h.old).size (reads (H.state h.new).now.words) ≡ Option.None }
         ensures rest { H.tells → KeepsRest (H.state h.old) (H.state h.new) }
         ensures cause { IsCounted (run_fault result) 0 (H.counts h.old) (H.counts h.new) }
     {
