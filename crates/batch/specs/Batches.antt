@@ -1,5 +1,5 @@
 -- What a batch of words is, and what writing it does at every moment.
-use Rattle.std.specs.Prelude.{◌≡◌, ◌⊎◌, ℕ, ◌+◌, ◌<◌, ◌≤◌, Bool, false, ◌&&◌, nat_le, nat_lt, ◌==◌, List, [], ◌∷◌, All, IsTrue, length, take, sum_by, Option, Some, None}
+use Rattle.std.specs.Prelude.{◌≡◌, ◌⊎◌, ℕ, ◌+◌, ◌<◌, ◌≤◌, Bool, true, false, ◌&&◌, nat_le, nat_lt, ◌==◌, List, [], ◌∷◌, All, IsTrue, length, take, sum_by, Option, Some, None}
 use Rattle.std.specs.Option.{option_or}
 use Rattle.pm_model.specs.declared.host.HostFault.{HostFault}
 use Rattle.pm_model.specs.Words.{Has, values, Words, reads, Picks, HasOnly}
@@ -58,19 +58,21 @@ abbrev pub ByBatch : ℕ → List Entry → Footprint
 ByBatch at es k v = ((at ≤ k) × (k < at + LOG_WORDS)) ⊎ IsNamed (batch_write es) k
 
 -- An image that is one of these words but in the log and in words of the batch. With the log replayed it is as it was, or has all of the
--- batch's words.
+-- batch's words. The log is closed and counts no word, or its range counts the entries of the batch.
 pub record IsBatched (words : Words) (at : ℕ) (es : List Entry) (image : Image) : Type 0 where
   pub before : Image
   pub picked : Picks words before
   pub outside : (k : ℕ) → is_in_log at k ≡ false → batch_write es k ≡ None → image k ≡ before k
   pub settled : (settled_by at image ≡ settled_by at before) ⊎ (settled_by at image ≡ overwritten (batch_write es) (settled_by at before))
+  pub log : (is_closed_gate (image at) ≡ true) ⊎ (log_of image at ≡ committed es)
 
--- An image that is one of these words but in the log and in words of the batch, and that with the log replayed is the same.
-pub record SettlesSame (words : Words) (at : ℕ) (es : List Entry) (image : Image) : Type 0 where
+-- An image that is one of these words but in the log, which is closed, and that with the log replayed is the same.
+pub record IsUntouched (words : Words) (at : ℕ) (image : Image) : Type 0 where
   pub before : Image
   pub picked : Picks words before
-  pub outside : (k : ℕ) → is_in_log at k ≡ false → batch_write es k ≡ None → image k ≡ before k
+  pub outside : (k : ℕ) → is_in_log at k ≡ false → image k ≡ before k
   pub same : settled_by at image ≡ settled_by at before
+  pub closed : is_closed_gate (image at) ≡ true
 
 -- the log has one value in each word that is read of it, and its range counts the entries of the batch
 pub record IsPrepared (size at : ℕ) (es : List Entry) (words : Words) : Type 0 where
@@ -83,6 +85,7 @@ pub record IsBatchedWholly (words : Words) (at : ℕ) (es : List Entry) (image :
   pub picked : Picks words before
   pub outside : (k : ℕ) → is_in_log at k ≡ false → batch_write es k ≡ None → image k ≡ before k
   pub settled : settled_by at image ≡ overwritten (batch_write es) (settled_by at before)
+  pub log : log_of image at ≡ committed es
 
 -- The entries are made durable in the log, and then its range counts them; nothing else changes. At Ok the log can be replayed, and each
 -- image has all of the batch's words with it.
@@ -91,13 +94,6 @@ pub record Prepares (size at : ℕ) (es : List Entry) (fault : Option HostFault)
   pub moments : Leaves (Silently (IsBatched old.now.words at es)) old new
   pub prepared : fault ≡ None → IsPrepared size at es new.now.words
   pub done : fault ≡ None → (image : Image) → Picks new.now.words image → IsBatchedWholly old.now.words at es image
-
--- What the log names is written to its places, and then the log is closed.
-pub record Finishes (at : ℕ) (es : List Entry) (fault : Option HostFault) (old new : State) : Type 0 where
-  pub changes : Changes (ByBatch at es) fault old new
-  pub moments : Leaves (Silently (SettlesSame old.now.words at es)) old new
-  pub durable : fault ≡ None → (k v : ℕ) → batch_write es k ≡ Some v → HasOnly (new.now.words k) v
-  pub closed : fault ≡ None → HasOnly (new.now.words at) CLOSED_GATE
 
 -- The batch is written: all or none at each moment; without a fault each word has its new value and no other, and the log is closed.
 pub record Commits (at : ℕ) (es : List Entry) (fault : Option HostFault) (old new : State) : Type 0 where

@@ -5,22 +5,18 @@
 //! left meanwhile, with the daemon log replayed, has all of the new words or all of the old. A batch costs four fences.
 #![tactic(auto)]
 
-ghost use Rattle.std.specs.Prelude.{◌≡◌, ◌↔◌, ◌+◌, ◌<◌, ◌≤◌, ℕ, List, [], ◌∷◌, ◌++◌, Option, Result, All, IfOk, IsErr, OnErr, length};
+ghost use Rattle.std.specs.Prelude.{◌≡◌, ◌↔◌, ◌+◌, ◌<◌, ◌≤◌, ℕ, List, [], ◌∷◌, ◌++◌, Option, Result, IfOk, IsErr, OnErr, length};
 ghost use Rattle.pm_model.specs.Counts.{after_fault, fault_of};
 ghost use Rattle.pud_defs.specs.declared.layout.TheConstants.{DAEMON_LOG, LOG_WORDS, LOG_ENTRY_WORDS, ENTRY_HEADER_WORDS, MAX_ENTRY_VALUES};
 ghost use Rattle.pud_defs.specs.Entries.{Entry, entries_in};
-ghost use Rattle.pud_defs.specs.Replay.{device_word};
-ghost use Rattle.log_replay.specs.Replaying.{NamesApart};
-ghost use Rattle.batch.specs.Batches.{batch_entry, words_of, AreBatched, IsFree, IsPrepared, Prepares, Finishes, Commits};
+ghost use Rattle.batch.specs.Batches.{batch_entry, words_of, AreBatched, IsFree, Prepares, Commits};
 
 use log_entry::encode;
-use log_replay::{Target, replay_range};
+use log_replay::settle_log;
 use pm_model::{Host, HostFault};
 use pm_persist::{persist_range, persist_word};
 use pud_defs::layout::{DAEMON_LOG, ENTRY_HEADER_WORDS, LOG_ENTRY_WORDS, LOG_HEADER_WORDS};
-use pud_defs::log_words::{
-    CLOSED_GATE, COMMITTING_HI, COMMITTING_LO, REDO_ORDER, REDO_SEQ, gate_word,
-};
+use pud_defs::log_words::{COMMITTING_HI, COMMITTING_LO, REDO_ORDER, REDO_SEQ, gate_word};
 use std::marker::Model;
 
 /// The words do not fit into the batch any more. It is as it was.
@@ -64,17 +60,6 @@ fn prepare<H: Host>(h: &mut H, at: u32, words: &[u64]) -> Result<(), HostFault>
     )
 }
 
-/// Writes what the log names to its places, and then closes it.
-fn finish<H: Host>(h: &mut H, at: u32) -> Result<(), HostFault>
-    requires { at + LOG_WORDS ≤ (H.counts h.old).size }
-    ensures finishes { H.tells → (size : ℕ) → size ≡ (H.counts h.old).size → (es : List Entry) → AreBatched es → All (NamesApart device_word size at) es
-        → IsPrepared size at es (H.state h.old).now.words → Finishes at es (fault_of result) (H.state h.old) (H.state h.new) }
-    ensures cause { H.counts h.new ≡ after_fault (fault_of result) (H.counts h.old) }
-{
-    replay_range(h, at, Target::Words)?;
-    persist_word(h, at, CLOSED_GATE)
-}
-
 /// Writes the words that these entries name, all or none, by the log whose gate is word `at`.
 fn commit_by<H: Host>(h: &mut H, at: u32, words: &[u64]) -> Result<(), HostFault>
     requires place { at + LOG_WORDS ≤ (H.counts h.old).size }
@@ -84,7 +69,7 @@ fn commit_by<H: Host>(h: &mut H, at: u32, words: &[u64]) -> Result<(), HostFault
     ensures cause { H.counts h.new ≡ after_fault (fault_of result) (H.counts h.old) }
 {
     prepare(h, at, words)?;
-    finish(h, at)
+    settle_log(h, at)
 }
 
 impl Batch {

@@ -1,7 +1,7 @@
 use Rattle.std.proofs.Common.{sym, ap, ◌∙◌, refl}
 use Rattle.std.proofs.lemmas.Result.{err_from_is_err_and}
 use Rattle.pm_model.specs.Counts.{Counts, fault_of}
-use Rattle.batch.proofs.Phases.{Commits-prepare, Commits-finish}
+use Rattle.batch.proofs.Phases.{Commits-prepare, Commits-settle}
 use Rattle.batch.proofs.commit_by.Goals as goal
 
 pub returns-in_err-prepare-clause-commits : goal.returns-in_err-prepare-clause-commits
@@ -12,5 +12,5 @@ returns-in_err-prepare-clause-commits g c =
 pub returns-clause-commits : goal.returns-clause-commits
 returns-clause-commits g c = λ t size same es spell batched free.
     let prepared = c.in_ok-prepare.ensures.prepares t size same es spell batched free in
-    Commits-finish size c.args.at es (fault_of c.finish.result) _ _ _ prepared
-    (c.finish.ensures.finishes t size (same ∙ sym (ap (λ (n : Counts). n.size) c.in_ok-prepare.ensures.cause)) es batched free.apart (prepared.prepared refl))
+    Commits-settle size c.args.at es (fault_of c.settle_log.result) _ _ _ batched prepared
+    (c.settle_log.ensures.settles t size (same ∙ sym (ap (λ (n : Counts). n.size) c.in_ok-prepare.ensures.cause)) es (prepared.prepared refl).replayable)
