@@ -56,6 +56,7 @@ impl Replay {
     /// The first device word that an entry names, where all its words lie in the device.
     fn first_word<H: Host>(&self, h: &H, entry: &Entry) -> Option<u32>
         requires { entry.now.n ≤ MAX_ENTRY_VALUES }
+        ensures is { IfSome result (λ first. place_of self.now.to entry.now.addr ≡ Option.Some first) }
         ensures within { IfSome result (λ first. first + entry.now.n ≤ (H.counts h.now).size) }
         ensures found { (first : ℕ) → place_of self.now.to entry.now.addr ≡ Option.Some first → first + entry.now.n ≤ (H.counts h.now).size → result ≡ Option.Some first }
     {
@@ -158,3 +159,6 @@ pub fn replay_range<H: Host>(h: &mut H, log_at: u32, to: Target) -> Result<(), H
     overwrite(h, log_at, to)?;
     h.fence()
 }
+
+#[cfg(test)]
+mod tests;
