@@ -1,14 +1,11 @@
 -- Entries that are left to read, while words apart from their log are overwritten.
-use Rattle.std.proofs.Common.{◌≡◌, ◌⊎◌, inl, inr, ℕ, ◌+◌, ◌-◌, ◌<◌, ◌≤◌, Bool, true, false, ◌&&◌, cond, leb, eqb, List, [], ◌∷◌, length, drop, Option, Some, None, IsTrue, option_map, refl, sym, ap, ap₂, subst, ◌∙◌, arith}
-use Rattle.std.specs.Prelude.{All, slice_get}
+use Rattle.std.proofs.Common.{◌≡◌, ◌⊎◌, inl, inr, ℕ, ◌+◌, ◌-◌, ◌<◌, ◌≤◌, ◌&&◌, eqb, List, [], ◌∷◌, length, drop, Option, Some, None, IsTrue, option_map, refl, sym, ap, ap₂, subst, ◌∙◌, arith}
 use Rattle.std.specs.Option.{option_or}
-use Rattle.std.proofs.lemmas.Bool.{lt-leb, and_left, and_parts, cond-true, cond-false, cases_Bool}
+use Rattle.std.proofs.lemmas.Bool.{lt-leb, and_parts, cond-true, cond-false, cases_Bool}
 use Rattle.std.proofs.lemmas.Bool.Decides.{leb_tells}
 use Rattle.std.proofs.lemmas.Option.{slice_get_past}
 use Rattle.std.proofs.lemmas.List.Elements.{All-head, All-tail}
-use Rattle.pm_model.specs.declared.host.HostFault.{HostFault}
-use Rattle.pm_model.specs.declared.host.HostFault.TheVariants.{Cut}
-use Rattle.pm_model.specs.Words.{Words, reads, HasOnly}
+use Rattle.pm_model.specs.Words.{Words, reads}
 use Rattle.pm_model.specs.Moments.{State}
 use Rattle.pm_model.specs.Changes.{Write, Changes}
 use Rattle.pud_defs.specs.declared.layout.TheConstants.{LOG_WORDS, LOG_HEADER_WORDS, LOG_ENTRY_WORDS, ENTRY_HEADER_WORDS}
@@ -21,7 +18,7 @@ use Rattle.pud_defs.proofs.Replay.{undone-first, undone-none, redone-first, redo
 use Rattle.log_entry.specs.declared.Entry.{Entry as Found}
 use Rattle.log_entry.specs.Reading.{Reading, entry_next, entry_from, PassesOne, Passes}
 use Rattle.log_entry.proofs.Readings.{next-by}
-use Rattle.log_replay.specs.Replaying.{NamesApart, AreApart, IsLeft, Named, IsNamed}
+use Rattle.log_replay.specs.Replaying.{NamesApart, AreApart, IsLeft, Named}
 
 -- ---- entries give nothing to the words of their log
 

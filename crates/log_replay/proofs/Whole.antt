@@ -1,25 +1,23 @@
 -- A whole replay: what is left at each moment, and at the end.
-use Rattle.std.proofs.Common.{◌≡◌, ◌⊎◌, inl, inr, ℕ, ◌+◌, ◌-◌, ◌<◌, ◌≤◌, true, List, [], ◌∷◌, Option, Some, None, refl, sym, ap, ap₂, subst, ◌∙◌, arith, add-zero}
+use Rattle.std.proofs.Common.{◌≡◌, inl, inr, ℕ, ◌+◌, ◌-◌, ◌<◌, ◌≤◌, List, Option, Some, None, refl, sym, ap, ap₂, subst, ◌∙◌, arith, add-zero}
 use Rattle.std.specs.Prelude.{unwrap_or}
 use Rattle.std.specs.Option.{option_or}
 use Rattle.pm_model.specs.declared.host.HostFault.{HostFault}
-use Rattle.pm_model.specs.declared.host.HostFault.TheVariants.{Cut}
 use Rattle.pm_model.specs.Words.{Words, reads, Picks, HasOnly, after_fence}
 use Rattle.pm_model.specs.Moments.{State}
 use Rattle.pm_model.specs.Calls.{Steps}
-use Rattle.pm_model.specs.Changes.{Changes, Leaves, Silently, IsFrom}
+use Rattle.pm_model.specs.Changes.{Changes, Leaves, Silently}
 use Rattle.pm_model.proofs.Words.{HasOnly-fenced}
 use Rattle.pm_model.proofs.Changes.{Changes-then, Changes-fence, HasOnly-kept}
 use Rattle.pm_model.proofs.Leaves.{Leaves-changes}
 use Rattle.pud_defs.specs.declared.layout.TheConstants.{LOG_WORDS, LOG_HEADER_WORDS, LOG_ENTRY_WORDS}
 use Rattle.pud_defs.specs.Image.{Image}
-use Rattle.pud_defs.specs.Entries.{Entry, Log, log_of, gate_used, entries_of, entries_in, words_from, used_words}
-use Rattle.pud_defs.specs.Replay.{Place, undone, redone, given, new_value, over, overwritten, replayed}
+use Rattle.pud_defs.specs.Entries.{Entry, Log, log_of, gate_used, entries_in, words_from}
+use Rattle.pud_defs.specs.Replay.{Place, undone, redone, new_value, over, replayed}
 use Rattle.pud_defs.proofs.Entries.{entries_of-same, log_of-same, spells, used_within}
-use Rattle.pud_defs.proofs.Replay.{overwritten-again, overwritten-stays, overwritten-there, new_value-of}
+use Rattle.pud_defs.proofs.Replay.{overwritten-again, new_value-of}
 use Rattle.log_entry.specs.Reading.{Reading}
-use Rattle.log_replay.specs.Replaying.{IsReplayable, AreApart, IsLeft, IsNamed, Named, Applies, ReplaysSame, Replays}
-use Rattle.log_replay.proofs.Applying.{Applies-same, Applies-then, Applies-failed_first}
+use Rattle.log_replay.specs.Replaying.{IsReplayable, AreApart, IsLeft, Named, Applies, ReplaysSame, Replays}
 use Rattle.log_replay.proofs.Left.{undone-apart, redone-apart}
 
 -- ---- the log's own words
@@ -58,36 +56,35 @@ new_value-parts place size at es words r w = new_value-of place (log_of (reads w
 
 module _ (place : Place) (size at : ℕ) (es : List Entry) (fault : Option HostFault) (s t : State)
     (r : IsReplayable place size at es s.now.words) (changes : Changes (Named (new_value place (log_of (reads s.now.words) at))) fault s t) where
-
   nothing_there : (k : ℕ) → at ≤ k → k < at + LOG_WORDS → (v : ℕ) → Named (new_value place (log_of (reads s.now.words) at)) k v → ⊥
   nothing_there k low high v named = absurd (let it : None ≡ Some named.value = sym (new_value-apart place size at es s.now.words r k low high) ∙ named.is in cc)
 
   -- each image left replays to the same
   pub replays_same : Leaves (Silently (ReplaysSame place at s.now.words)) s t
   replays_same =
-    let log = log_of (reads s.now.words) at in
-    let write = new_value place log in
-    Leaves-changes (ReplaysSame place at s.now.words) (Named write) fault s t
-    (λ before image picked from.
-    let before_log : log_of before at ≡ log = log_of_picked place size at es s.now.words before r picked in
-    let stays : (k : ℕ) → write k ≡ None → image k ≡ before k = λ k none. elim (from.each k) [
-      | inl same ↦ same
-      | inr named ↦ absurd (let it : None ≡ Some named.value = sym none ∙ named.is in cc)
-    ] in
-    let inside : (k : ℕ) → at ≤ k → k < at + LOG_WORDS → image k ≡ before k = λ k low high. stays k (new_value-apart place size at es s.now.words r k low high) in
-    let gate : image at ≡ before at = inside at (omega arith) (omega arith) in
-    let used : gate_used (image at) ≤ LOG_ENTRY_WORDS =
-        subst (λ (v : ℕ). gate_used v ≤ LOG_ENTRY_WORDS) (sym (gate ∙ r.gate.each (before at) (picked.each at))) (used_within (reads s.now.words) at es r.spells) in
-    let same_log : log_of image at ≡ log_of before at = log_of-same image before at gate (λ k low high. inside k (omega arith) (omega arith)) in
-    record {
-      before = before;
-      picked = picked;
-      stays = λ k none. stays k (ap (λ (l : Log). new_value place l k) (sym before_log) ∙ none);
-      log = same_log;
-      same = ap (λ (l : Log). replayed place l image) (same_log ∙ before_log)
-          ∙ overwritten-again write before image stays
-          ∙ ap (λ (l : Log). replayed place l before) (sym before_log);
-    }) changes
+      let log = log_of (reads s.now.words) at in
+      let write = new_value place log in
+      Leaves-changes (ReplaysSame place at s.now.words) (Named write) fault s t
+      (λ before image picked from.
+      let before_log : log_of before at ≡ log = log_of_picked place size at es s.now.words before r picked in
+      let stays : (k : ℕ) → write k ≡ None → image k ≡ before k = λ k none. elim (from.each k) [
+        | inl same ↦ same
+        | inr named ↦ absurd (let it : None ≡ Some named.value = sym none ∙ named.is in cc)
+      ] in
+      let inside : (k : ℕ) → at ≤ k → k < at + LOG_WORDS → image k ≡ before k = λ k low high. stays k (new_value-apart place size at es s.now.words r k low high) in
+      let gate : image at ≡ before at = inside at (omega arith) (omega arith) in
+      let used : gate_used (image at) ≤ LOG_ENTRY_WORDS =
+      subst (λ (v : ℕ). gate_used v ≤ LOG_ENTRY_WORDS) (sym (gate ∙ r.gate.each (before at) (picked.each at))) (used_within (reads s.now.words) at es r.spells) in
+      let same_log : log_of image at ≡ log_of before at = log_of-same image before at gate (λ k low high. inside k (omega arith) (omega arith)) in
+      record {
+        before = before;
+        picked = picked;
+        stays = λ k none. stays k (ap (λ (l : Log). new_value place l k) (sym before_log) ∙ none);
+        log = same_log;
+        same = ap (λ (l : Log). replayed place l image) (same_log ∙ before_log)
+            ∙ overwritten-again write before image stays
+            ∙ ap (λ (l : Log). replayed place l before) (sym before_log);
+      }) changes
 
   -- a word of the log has its one value still
   still : (k : ℕ) → at ≤ k → k < at + LOG_WORDS → HasOnly (s.now.words k) (reads s.now.words k) → HasOnly (t.now.words k) (reads s.now.words k)
@@ -99,21 +96,21 @@ module _ (place : Place) (size at : ℕ) (es : List Entry) (fault : Option HostF
   -- the log can be replayed again
   pub replayable_again : IsReplayable place size at es t.now.words
   replayable_again =
-    let i = reads s.now.words in
-    let j = reads t.now.words in
-    let used : gate_used (i at) ≤ LOG_ENTRY_WORDS = used_within i at es r.spells in
-    let gate : j at ≡ i at = reads_still at (omega arith) (omega arith) r.gate in
-    let read : (k : ℕ) → at + LOG_HEADER_WORDS ≤ k → k < at + LOG_HEADER_WORDS + gate_used (i at) → j k ≡ i k =
-        λ k low high. reads_still k (omega arith) (omega arith) (r.counted k low high) in
-    let counted : (k : ℕ) → at + LOG_HEADER_WORDS ≤ k → k < at + LOG_HEADER_WORDS + gate_used (i at) → HasOnly (t.now.words k) (j k) =
-        λ k low high. subst (λ (v : ℕ). HasOnly (t.now.words k) v) (sym (read k low high)) (still k (omega arith) (omega arith) (r.counted k low high)) in
-    let same : log_of i at ≡ log_of j at = log_of-same i j at (sym gate) (λ k low high. sym (read k low high)) in
-    record {
-      gate = subst (λ (v : ℕ). HasOnly (t.now.words at) v) (sym gate) (still at (omega arith) (omega arith) r.gate);
-      counted = λ k low high. counted k low (subst (λ (v : ℕ). k < at + LOG_HEADER_WORDS + gate_used v) gate high);
-      spells = sym (entries_of-same i j at (sym gate) (λ k low high. sym (read k low high))) ∙ r.spells;
-      apart = subst (λ (l : Log). AreApart place size at l es) same r.apart;
-    }
+      let i = reads s.now.words in
+      let j = reads t.now.words in
+      let used : gate_used (i at) ≤ LOG_ENTRY_WORDS = used_within i at es r.spells in
+      let gate : j at ≡ i at = reads_still at (omega arith) (omega arith) r.gate in
+      let read : (k : ℕ) → at + LOG_HEADER_WORDS ≤ k → k < at + LOG_HEADER_WORDS + gate_used (i at) → j k ≡ i k =
+      λ k low high. reads_still k (omega arith) (omega arith) (r.counted k low high) in
+      let counted : (k : ℕ) → at + LOG_HEADER_WORDS ≤ k → k < at + LOG_HEADER_WORDS + gate_used (i at) → HasOnly (t.now.words k) (j k) =
+      λ k low high. subst (λ (v : ℕ). HasOnly (t.now.words k) v) (sym (read k low high)) (still k (omega arith) (omega arith) (r.counted k low high)) in
+      let same : log_of i at ≡ log_of j at = log_of-same i j at (sym gate) (λ k low high. sym (read k low high)) in
+      record {
+        gate = subst (λ (v : ℕ). HasOnly (t.now.words at) v) (sym gate) (still at (omega arith) (omega arith) r.gate);
+        counted = λ k low high. counted k low (subst (λ (v : ℕ). k < at + LOG_HEADER_WORDS + gate_used v) gate high);
+        spells = sym (entries_of-same i j at (sym gate) (λ k low high. sym (read k low high))) ∙ r.spells;
+        apart = subst (λ (l : Log). AreApart place size at l es) same r.apart;
+      }
 
 -- ---- all words are overwritten, and then a fence
 
@@ -147,8 +144,8 @@ Replays-fence place size at es fault s t u r a step =
       durable = λ e k v is. subst (λ (x : State). HasOnly (x.now.words k) v) (sym (step.done e)) (HasOnly-fenced (t.now.words k) v (a.newest refl k v is) (a.marked refl k v is));
       reads_so = λ e.
           let each : (k : ℕ) → reads u.now.words k ≡ unwrap_or (write k) (reads s.now.words k) = λ k.
-              ap (λ (i : Image). i k) (fence_keeps t u fault step e)
-              ∙ reads_one (reads t.now.words k) (reads s.now.words k) (write k) (a.newest refl k)
-              (λ none. (a.changes.keeps (λ cut. cc) k (λ v named. absurd (let it : None ≡ Some named.value = sym none ∙ named.is in cc))).newest) in
+          ap (λ (i : Image). i k) (fence_keeps t u fault step e)
+          ∙ reads_one (reads t.now.words k) (reads s.now.words k) (write k) (a.newest refl k)
+          (λ none. (a.changes.keeps (λ cut. cc) k (λ v named. absurd (let it : None ≡ Some named.value = sym none ∙ named.is in cc))).newest) in
           λ p k. each k p;
     }

@@ -56,6 +56,7 @@ impl Replay {
     /// The first device word that an entry names, where all its words lie in the device.
     fn first_word<H: Host>(&self, h: &H, entry: &Entry) -> Option<u32>
         requires { entry.now.n ≤ MAX_ENTRY_VALUES }
+        ensures is { IfSome result (λ first. place_of self.now.to entry.now.addr ≡ Option.Some first) }
         ensures within { IfSome result (λ first. first + entry.now.n ≤ (H.counts h.now).size) }
         ensures found { (first : ℕ) → place_of self.now.to entry.now.addr ≡ Option.Some first → first + entry.now.n ≤ (H.counts h.now).size → result ≡ Option.Some first }
     {
@@ -173,3 +174,6 @@ pub fn settle_log<H: Host>(h: &mut H, log_at: u32) -> Result<(), HostFault>
     replay_range(h, log_at, Target::Words)?;
     persist_word(h, log_at, CLOSED_GATE)
 }
+
+#[cfg(test)]
+mod tests;

@@ -1,4 +1,4 @@
-use Rattle.std.proofs.Common.{◌≡◌, ℕ, ◌+◌, ◌<◌, List, [], ◌∷◌, ◌++◌, length, refl, sym, ap, ap₂, ◌∙◌, arith}
+use Rattle.std.proofs.Common.{◌≡◌, ℕ, ◌+◌, List, [], ◌∷◌, ◌++◌, length, Some, refl, sym, ap, ap₂, ◌∙◌, arith}
 use Rattle.std.proofs.lemmas.List.{take_more_set, length-set}
 use Rattle.std.proofs.lemmas.Result.{err_from_is_err_and}
 use Rattle.pm_model.specs.Words.{reads}
@@ -23,7 +23,7 @@ loop-i-preserved g c =
     let room : length l.values ≡ 32 = l.invariant.room in
     record {
       room = length-set l.values l.i c.in_ok-values.field-0 ∙ room;
-      counts = c.in_ok-values.ensures.cause ∙ l.invariant.counts;
+      counts = ◌∙◌ {b = g.H.Host.counts l.h} c.in_ok-values.ensures.cause l.invariant.counts;
       stays = λ t. c.in_ok-values.ensures.state t ∙ l.invariant.stays t;
       taken = λ t.
           let image = reads (g.H.Host.state c.args.h.now).now.words in
@@ -37,5 +37,8 @@ pub returns-in_err-values-clause-writes : goal.returns-in_err-values-clause-writ
 returns-in_err-values-clause-writes g c =
     let p = err_from_is_err_and c.from_residual.result c.from_residual.ensures.1 in
     rw (p.1, p.2) (λ t.
-    let write = placed c.args.to (words_from (reads (g.H.Host.state c.args.h.now).now.words) c.args.from c.args.n) in
-    Writes-failed write _ _ _ (Changes-still (written write) _ _ _ (c.in_err-values.ensures.never_cut) (c.in_err-values.ensures.state t ∙ c.loop-i.invariant.stays t)))
+    let s = g.H.Host.state c.args.h.now in
+    let end = g.H.Host.state c.load.new.self in
+    let fault = c.in_err-values.field-0.0 in
+    let write = placed c.args.to (words_from (reads s.now.words) c.args.from c.args.n) in
+    Writes-failed write fault s end (Changes-still (written write) (Some fault) s end c.in_err-values.ensures.never_cut (c.in_err-values.ensures.state t ∙ c.loop-i.invariant.stays t)))

@@ -1,6 +1,5 @@
-use Rattle.std.proofs.Common.{◌≡◌, ℕ, ◌+◌, ◌<◌, ◌≤◌, List, [], ◌∷◌, Option, Some, None, IsTrue, sym, ap, subst, ◌∙◌}
+use Rattle.std.proofs.Common.{◌≡◌, ℕ, ◌+◌, ◌<◌, ◌≤◌, List, None, IsTrue, sym, ap, subst, ◌∙◌}
 use Rattle.std.proofs.lemmas.Result.{err_from_is_err_and}
-use Rattle.pm_model.specs.declared.host.HostFault.{HostFault}
 use Rattle.pm_model.specs.Words.{reads}
 use Rattle.pm_model.specs.Counts.{Counts, fault_of}
 use Rattle.pm_model.specs.Moments.{State}
@@ -10,7 +9,7 @@ use Rattle.pud_defs.specs.Entries.{Entry as LoggedEntry}
 use Rattle.pud_defs.specs.Replay.{is_in_range, given_by, redone, over}
 use Rattle.pud_defs.proofs.Replay.{redone-first, redone-none}
 use Rattle.log_entry.specs.Reading.{entry_from}
-use Rattle.log_replay.specs.Replaying.{place_of, NamesApart, AreApart, Applies}
+use Rattle.log_replay.specs.Replaying.{place_of, NamesApart, Applies}
 use Rattle.log_replay.proofs.Applying.{Applies-nothing, Applies-same, Applies-then, Applies-failed_first, Applies-failed_still, Applies-behind}
 use Rattle.log_replay.proofs.Left.{is_found, is_none_left, given_by-apart, IsLeft-kept}
 use Rattle.log_replay.proofs.Replay.+redo.Goals as goal
@@ -35,11 +34,11 @@ returns-in_err-apply-in-Some-clause-redoes g m c =
     let t1 = g.H.Host.state c.next.new.h in
     let e = entry_from (reads s.now.words) c.in-Some.entry in
     let f = is_found place size log c.args.reader.now c.next.new.self c.in_ok-next.field-0 c.in-Some.entry es s t1
-            c.in-Some.is (c.in_ok-next.ensures.next t) c.in_ok-next.ensures.passes (c.in_ok-next.ensures.stays t) left in
+    c.in-Some.is (c.in_ok-next.ensures.next t) c.in_ok-next.ensures.passes (c.in_ok-next.ensures.stays t) left in
     let after_next : size ≡ (g.H.Host.counts c.next.new.h).size = same ∙ sym (ap (λ (n : Counts). n.size) c.in_ok-next.ensures.cause) in
     let read : entry_from (reads t1.now.words) c.in-Some.entry ≡ e = ap (λ (x : State). entry_from (reads x.now.words) c.in-Some.entry) (c.in_ok-next.ensures.stays t) in
     let first = c.in_err-apply-in-Some.ensures.applies t log e c.args.reader.now.log_at range read
-            (subst (λ (n : ℕ). IsTrue (is_in_range log e) → NamesApart place n c.args.reader.now.log_at e) after_next f.apart) in
+    (subst (λ (n : ℕ). IsTrue (is_in_range log e) → NamesApart place n c.args.reader.now.log_at e) after_next f.apart) in
     Applies-same (over (given_by place log REDO_ORDER e) (redone place log f.behind)) (redone place log es) _ s _
     (λ w. ap (λ (fs : List LoggedEntry). redone place log fs w) f.is ∙ redone-first place log e f.behind w)
     (Applies-failed_first (given_by place log REDO_ORDER e) (redone place log f.behind) _ s _
@@ -53,15 +52,15 @@ returns-in_ok-apply-in-Some-clause-redoes g m c = λ t size same log es range le
     let mid = g.H.Host.state c.apply.new.h in
     let e = entry_from (reads s.now.words) c.in-Some.entry in
     let f = is_found place size log c.args.reader.now c.next.new.self c.in_ok-next.field-0 c.in-Some.entry es s t1
-            c.in-Some.is (c.in_ok-next.ensures.next t) c.in_ok-next.ensures.passes (c.in_ok-next.ensures.stays t) left in
+    c.in-Some.is (c.in_ok-next.ensures.next t) c.in_ok-next.ensures.passes (c.in_ok-next.ensures.stays t) left in
     let after_next : size ≡ (g.H.Host.counts c.next.new.h).size = same ∙ sym (ap (λ (n : Counts). n.size) c.in_ok-next.ensures.cause) in
     let after_apply : size ≡ (g.H.Host.counts c.apply.new.h).size = after_next ∙ sym (ap (λ (n : Counts). n.size) c.in_ok-apply-in-Some.ensures.cause) in
     let read : entry_from (reads t1.now.words) c.in-Some.entry ≡ e = ap (λ (x : State). entry_from (reads x.now.words) c.in-Some.entry) (c.in_ok-next.ensures.stays t) in
     let first : Applies (given_by place log REDO_ORDER e) None t1 mid = c.in_ok-apply-in-Some.ensures.applies t log e c.args.reader.now.log_at range read
-            (subst (λ (n : ℕ). IsTrue (is_in_range log e) → NamesApart place n c.args.reader.now.log_at e) after_next f.apart) in
+    (subst (λ (n : ℕ). IsTrue (is_in_range log e) → NamesApart place n c.args.reader.now.log_at e) after_next f.apart) in
     let untouched : (k : ℕ) → c.next.new.self.log_at ≤ k → k < c.next.new.self.log_at + LOG_WORDS → given_by place log REDO_ORDER e k ≡ None =
-        subst (λ (at : ℕ). (k : ℕ) → at ≤ k → k < at + LOG_WORDS → given_by place log REDO_ORDER e k ≡ None) (sym f.passes.same_log)
-        (given_by-apart place size c.args.reader.now.log_at REDO_ORDER log e f.apart) in
+    subst (λ (at : ℕ). (k : ℕ) → at ≤ k → k < at + LOG_WORDS → given_by place log REDO_ORDER e k ≡ None) (sym f.passes.same_log)
+    (given_by-apart place size c.args.reader.now.log_at REDO_ORDER log e f.apart) in
     let left_then = IsLeft-kept place size log c.next.new.self f.behind (given_by place log REDO_ORDER e) t1 mid first.changes untouched f.left in
     let later = c.redo.ensures.redoes t size after_apply log f.behind range left_then in
     Applies-same (over (given_by place log REDO_ORDER e) (redone place log f.behind)) (redone place log es) (fault_of c.redo.result) s (g.H.Host.state c.redo.new.h)

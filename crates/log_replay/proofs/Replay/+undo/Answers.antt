@@ -1,9 +1,7 @@
-use Rattle.std.proofs.Common.{◌≡◌, ℕ, ◌+◌, ◌<◌, ◌≤◌, List, [], ◌∷◌, Option, Some, None, IsTrue, sym, ap, subst, ◌∙◌}
+use Rattle.std.proofs.Common.{◌≡◌, ℕ, List, None, IsTrue, sym, ap, subst, ◌∙◌}
 use Rattle.std.proofs.lemmas.Result.{err_from_is_err_and}
-use Rattle.pm_model.specs.declared.host.HostFault.{HostFault}
 use Rattle.pm_model.specs.Words.{reads}
 use Rattle.pm_model.specs.Counts.{Counts, fault_of}
-use Rattle.pm_model.specs.Moments.{State}
 use Rattle.pud_defs.specs.declared.log_words.TheConstants.{UNDO_ORDER}
 use Rattle.pud_defs.specs.Entries.{Entry as LoggedEntry}
 use Rattle.pud_defs.specs.Replay.{is_in_range, given_by, undone, over}
@@ -33,7 +31,7 @@ returns-in_err-undo-in-Some-clause-undoes g m c =
     let s = g.H.Host.state c.args.h.now in
     let e = entry_from (reads s.now.words) c.in-Some.entry in
     let f = is_found place size log c.args.reader.now c.next.new.self c.in_ok-next.field-0 c.in-Some.entry es s (g.H.Host.state c.next.new.h)
-            c.in-Some.is (c.in_ok-next.ensures.next t) c.in_ok-next.ensures.passes (c.in_ok-next.ensures.stays t) left in
+    c.in-Some.is (c.in_ok-next.ensures.next t) c.in_ok-next.ensures.passes (c.in_ok-next.ensures.stays t) left in
     let first = c.in_err-undo-in-Some.ensures.undoes t size (same ∙ sym (ap (λ (n : Counts). n.size) c.in_ok-next.ensures.cause)) log f.behind range f.left in
     Applies-same (over (undone place log f.behind) (given_by place log UNDO_ORDER e)) (undone place log es) _ s _
     (λ w. ap (λ (fs : List LoggedEntry). undone place log fs w) f.is ∙ undone-first place log e f.behind w)
@@ -47,16 +45,16 @@ returns-in_ok-undo-in-Some-clause-undoes g m c = λ t size same log es range lef
     let mid = g.H.Host.state c.undo.new.h in
     let e = entry_from (reads s.now.words) c.in-Some.entry in
     let f = is_found place size log c.args.reader.now c.next.new.self c.in_ok-next.field-0 c.in-Some.entry es s (g.H.Host.state c.next.new.h)
-            c.in-Some.is (c.in_ok-next.ensures.next t) c.in_ok-next.ensures.passes (c.in_ok-next.ensures.stays t) left in
+    c.in-Some.is (c.in_ok-next.ensures.next t) c.in_ok-next.ensures.passes (c.in_ok-next.ensures.stays t) left in
     let after_next : size ≡ (g.H.Host.counts c.next.new.h).size = same ∙ sym (ap (λ (n : Counts). n.size) c.in_ok-next.ensures.cause) in
     let after_undo : size ≡ (g.H.Host.counts c.undo.new.h).size = after_next ∙ sym (ap (λ (n : Counts). n.size) c.in_ok-undo-in-Some.ensures.cause) in
     let first : Applies (undone place log f.behind) None s mid = Applies-behind (undone place log f.behind) None s _ mid (c.in_ok-next.ensures.stays t)
-            (c.in_ok-undo-in-Some.ensures.undoes t size after_next log f.behind range f.left) in
+    (c.in_ok-undo-in-Some.ensures.undoes t size after_next log f.behind range f.left) in
     let untouched = undone-apart place size c.args.reader.now.log_at log f.behind (subst (λ (k : ℕ). AreApart place size k log f.behind) f.passes.same_log f.left.apart) in
     let kept : entry_from (reads mid.now.words) c.in-Some.entry ≡ e =
-        entry_kept (reads s.now.words) (reads mid.now.words) c.in-Some.entry c.args.reader.now c.next.new.self f.passes (reads_log (undone place log f.behind) c.args.reader.now.log_at s mid first.changes untouched) in
+    entry_kept (reads s.now.words) (reads mid.now.words) c.in-Some.entry c.args.reader.now c.next.new.self f.passes (reads_log (undone place log f.behind) c.args.reader.now.log_at s mid first.changes untouched) in
     let later = c.apply.ensures.applies t log e c.args.reader.now.log_at range kept
-            (subst (λ (n : ℕ). IsTrue (is_in_range log e) → NamesApart place n c.args.reader.now.log_at e) after_undo f.apart) in
+    (subst (λ (n : ℕ). IsTrue (is_in_range log e) → NamesApart place n c.args.reader.now.log_at e) after_undo f.apart) in
     Applies-same (over (undone place log f.behind) (given_by place log UNDO_ORDER e)) (undone place log es) (fault_of c.apply.result) s (g.H.Host.state c.apply.new.h)
     (λ w. ap (λ (fs : List LoggedEntry). undone place log fs w) f.is ∙ undone-first place log e f.behind w)
     (Applies-then (undone place log f.behind) (given_by place log UNDO_ORDER e) (fault_of c.apply.result) s mid (g.H.Host.state c.apply.new.h) first later)

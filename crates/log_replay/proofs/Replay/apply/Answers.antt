@@ -2,7 +2,7 @@ use Rattle.std.proofs.Common.{◌≡◌, ℕ, ◌+◌, ◌<◌, ◌≤◌, true,
 use Rattle.pm_model.specs.Words.{reads}
 use Rattle.pm_model.specs.Counts.{fault_of}
 use Rattle.pm_model.specs.Changes.{placed}
-use Rattle.pud_defs.specs.Entries.{Entry as LoggedEntry, Log, words_from}
+use Rattle.pud_defs.specs.Entries.{Entry as LoggedEntry, Log}
 use Rattle.pud_defs.specs.Replay.{Place, is_in_range, given_by}
 use Rattle.pud_defs.specs.Image.{Image}
 use Rattle.pud_defs.proofs.Entries.{words_from-length}
@@ -32,7 +32,7 @@ returns-in-Some-clause-applies g c = λ t log e log_at range same apart.
     let place = place_of c.args.self.now.to in
     let e0 = entry_from image c.args.entry.now in
     let k = counted c.args.self.now place (g.H.Host.counts c.args.h.now).size log_at image c.args.entry.now log c.first_word.result range c.if-entry-self.false c.if-self-entry.false
-            (subst (λ (x : LoggedEntry). IsTrue (is_in_range log x) → NamesApart place (g.H.Host.counts c.args.h.now).size log_at x) (sym same) apart) c.first_word.ensures.found in
+    (subst (λ (x : LoggedEntry). IsTrue (is_in_range log x) → NamesApart place (g.H.Host.counts c.args.h.now).size log_at x) (sym same) apart) c.first_word.ensures.found in
     let first : k.goes.first ≡ c.in-Some.first = let s = c.in-Some.is in let there = k.goes.there in cc in
     subst (λ (x : LoggedEntry). Applies (given_by place log c.args.order x) (fault_of c.copy_words.result) (g.H.Host.state c.args.h.now) (g.H.Host.state c.copy_words.new.h)) same
     (Applies-writes (given_by place log c.args.order e0) (placed c.in-Some.first e0.vals) (fault_of c.copy_words.result) (g.H.Host.state c.args.h.now) (g.H.Host.state c.copy_words.new.h)
@@ -44,5 +44,5 @@ returns-in-None-clause-applies g c = λ t log e log_at range same apart.
     let image = reads (g.H.Host.state c.args.h.now).now.words in
     let place = place_of c.args.self.now.to in
     let k = counted c.args.self.now place (g.H.Host.counts c.args.h.now).size log_at image c.args.entry.now log c.first_word.result range c.if-entry-self.false c.if-self-entry.false
-            (subst (λ (x : LoggedEntry). IsTrue (is_in_range log x) → NamesApart place (g.H.Host.counts c.args.h.now).size log_at x) (sym same) apart) c.first_word.ensures.found in
+    (subst (λ (x : LoggedEntry). IsTrue (is_in_range log x) → NamesApart place (g.H.Host.counts c.args.h.now).size log_at x) (sym same) apart) c.first_word.ensures.found in
     absurd (let it : None ≡ Some k.goes.first = sym c.in-None.is ∙ k.goes.there in cc)
