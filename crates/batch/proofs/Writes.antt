@@ -51,6 +51,21 @@ new_value-committed es k b =
     ∙ ap₂ option_or (redone_written es es k b) (undone_nothing es es k b)
     ∙ or_none (batch_write es k)
 
+or_assoc : (a b c : Option ℕ) → option_or a (option_or b c) ≡ option_or (option_or a b) c
+or_assoc None b c = refl
+or_assoc (Some x) b c = refl
+
+-- of entries and then others the others count
+pub batch_write-append : (xs ys : List Entry) (k : ℕ) → batch_write (xs ++ ys) k ≡ option_or (batch_write ys k) (batch_write xs k)
+unfolding batch_write
+batch_write-append [] ys k = sym (or_none (batch_write ys k))
+batch_write-append (e ∷ xs) ys k = ap (λ (o : Option ℕ). option_or o (value_at e.address e.vals k)) (batch_write-append xs ys k) ∙ sym (or_assoc (batch_write ys k) (batch_write xs k) (value_at e.address e.vals k))
+
+-- one entry writes what it gives
+pub batch_write-single : (e : Entry) (k : ℕ) → batch_write (e ∷ []) k ≡ value_at e.address e.vals k
+unfolding batch_write
+batch_write-single e k = refl
+
 -- ---- the words of a batch lie apart from the log
 
 value_apart : (e : Entry) (size at k : ℕ) → NamesApart device_word size at e → at ≤ k → k < at + LOG_WORDS → value_at e.address e.vals k ≡ None

@@ -39,7 +39,7 @@ standing_blank size F machine image legal room h =
       legal = ap are_legal_types none;
       no_pools = λ k from below. h.rest k (omega arith) (omega arith);
       no_puddles = λ k from below. h.rest k (omega arith) (omega arith);
-      spaces = are_legal_spaces-none image (λ k from below. h.rest k (omega arith) (omega arith));
+      spaces = are_legal_spaces-none image (λ c below. h.rest (space_record_at c) (omega arith) (omega arith));
       logs = are_closed_logs-none image F (λ c below. h.rest (space_record_at c) (omega arith) (omega arith));
     }
 

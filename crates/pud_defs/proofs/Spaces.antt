@@ -62,11 +62,10 @@ are_closed_logs-same i j F table logs =
     all_below-same CLIENTS (λ c. eqb (i (space_record_at c)) 0 || has_closed_logs i F c) (λ c. eqb (j (space_record_at c)) 0 || has_closed_logs j F c)
     (λ c below. ap₂ (λ (v : ℕ) (x : Bool). eqb v 0 || x) (table (space_record_at c) (omega arith) (omega arith)) (has_closed_logs-same i j F c below logs))
 
--- a table of zeroes is legal, and no log is registered
-pub are_legal_spaces-none : (image : Image) → ((k : ℕ) → SPACE_TABLE ≤ k → k < PUDDLE_TABLE → image k ≡ 0) → are_legal_spaces image ≡ true
+-- a table in which no record is used is legal, and no log is registered
+pub are_legal_spaces-none : (image : Image) → ((c : ℕ) → c < CLIENTS → image (space_record_at c) ≡ 0) → are_legal_spaces image ≡ true
 are_legal_spaces-none image none =
-    all_below-from CLIENTS (is_legal_space image)
-    (λ c below. or_left (eqb (image (space_record_at c)) 0) _ (eq-eqb _ 0 (none (space_record_at c) (omega arith) (omega arith))))
+    all_below-from CLIENTS (is_legal_space image) (λ c below. or_left (eqb (image (space_record_at c)) 0) _ (eq-eqb _ 0 (none c below)))
 
 pub are_closed_logs-none : (image : Image) (F : ℕ) → ((c : ℕ) → c < CLIENTS → image (space_record_at c) ≡ 0) → are_closed_logs image F ≡ true
 are_closed_logs-none image F none =

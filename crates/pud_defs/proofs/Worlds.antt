@@ -195,6 +195,30 @@ standing_same size i j s h same =
       logs = sym (are_closed_logs-same i j s.frames (λ k low high. same.at k (omega arith)) (λ k low high. same.at k high)) ∙ h.logs;
     }
 
+-- an image that differs in the log-space table alone, and whose registered logs are closed, stands for the same world
+pub standing_spaces : (size : ℕ) (i j : Image) (s : StoredWorld) → StandsFor size i s → ((k : ℕ) → k < SPACE_TABLE → j k ≡ i k) → ((k : ℕ) → PUDDLE_TABLE ≤ k → k < frames_at s.frames → j k ≡ i k)
+    → are_legal_spaces j ≡ true → are_closed_logs j s.frames ≡ true → StandsFor size j s
+standing_spaces size i j s h below behind spaces logs =
+    let table : type_table j ≡ type_table i = type_records_same j i 0 TYPE_RECORDS (λ k low high. below k (omega arith)) in
+    record {
+      magic = below MAGIC_WORD (omega arith) ∙ h.magic;
+      version = below VERSION_WORD (omega arith) ∙ h.version;
+      machine = below MACHINE_WORD (omega arith) ∙ h.machine;
+      frames = below FRAMES_WORD (omega arith) ∙ h.frames;
+      next_number = below NEXT_NUMBER_WORD (omega arith) ∙ h.next_number;
+      enough_frames = h.enough_frames;
+      no_more_frames = h.no_more_frames;
+      room = h.room;
+      number_low = h.number_low;
+      number_high = h.number_high;
+      types = ap by_id table ∙ h.types;
+      legal = ap are_legal_types table ∙ h.legal;
+      no_pools = λ k from high. below k high ∙ h.no_pools k from high;
+      no_puddles = λ k from high. behind k from (omega arith) ∙ h.no_puddles k from high;
+      spaces = spaces;
+      logs = logs;
+    }
+
 -- ---- an image without the device magic stands for nothing
 
 pub world_of-no_magic : (size : ℕ) (image : Image) → (image MAGIC_WORD ≡ DEVICE_MAGIC → ⊥) → world_of size image ≡ None

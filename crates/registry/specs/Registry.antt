@@ -1,5 +1,5 @@
 -- A registry that is up to date, and what brings it up to date or changes it.
-use Rattle.std.specs.Prelude.{◌≡◌, ◌⊎◌, ℕ, ◌+◌, ◌<◌, ◌≤◌, true, List, [], ◌∷◌, Option, Some, None}
+use Rattle.std.specs.Prelude.{◌≡◌, ℕ, zero, suc, ◌<◌, true, List, [], ◌∷◌, ◌++◌, Option, Some, None}
 use Rattle.pm_model.specs.declared.host.HostFault.{HostFault}
 use Rattle.pm_model.specs.declared.host.HostFault.TheVariants.{Cut}
 use Rattle.pm_model.specs.Words.{Has, values, Words, reads, Picks, HasOnly, IsRested}
@@ -28,14 +28,14 @@ pub record AppliesLog (size : ℕ) (s : StoredWorld) (fault : Option HostFault) 
   pub settled : fault ≡ None → IsSettled size s new.now.words
   pub rested : fault ≡ None → IsRested new.now.words
 
--- the batch that empties the records of these clients
-abbrev pub clearing : List ℕ → List Entry
-clearing [] = []
-clearing (client ∷ clients) = batch_entry (space_record_at client) (0 ∷ []) ∷ clearing clients
+-- the batch that empties the records of the clients below n
+unfoldable pub clearing : ℕ → List Entry
+clearing zero = []
+clearing (suc n) = clearing n ++ batch_entry (space_record_at n) (0 ∷ []) ∷ []
 
 -- The log-space table was emptied: at each moment each image stands for the world; without a fault no record is used, durably.
 pub record Clears (size : ℕ) (s : StoredWorld) (fault : Option HostFault) (old new : State) : Type 0 where
-  pub changes : Changes (ByBatch DAEMON_LOG (clearing (0 ∷ 1 ∷ 2 ∷ 3 ∷ 4 ∷ 5 ∷ 6 ∷ 7 ∷ []))) fault old new
+  pub changes : Changes (ByBatch DAEMON_LOG (clearing CLIENTS)) fault old new
   pub moments : Leaves (Silently (λ image. world_of size image ≡ Some s)) old new
   pub settled : fault ≡ None → IsSettled size s new.now.words
   pub cleared : fault ≡ None → (client : ℕ) → client < CLIENTS → HasOnly (new.now.words (space_record_at client)) 0
