@@ -7,6 +7,8 @@
 
 ghost use Rattle.std.specs.Prelude.{◌≡◌, ◌↔◌, ◌+◌, ◌<◌, ◌≤◌, ℕ, List, [], ◌∷◌, ◌++◌, Option, Result, IfOk, IsErr, OnErr, length};
 ghost use Rattle.pm_model.specs.Counts.{after_fault, fault_of};
+ghost use Rattle.pm_model.specs.Changes.{Changes};
+ghost use Rattle.log_replay.specs.Replaying.{Anything};
 ghost use Rattle.pud_defs.specs.declared.layout.TheConstants.{DAEMON_LOG, LOG_WORDS, LOG_ENTRY_WORDS, ENTRY_HEADER_WORDS, MAX_ENTRY_VALUES};
 ghost use Rattle.pud_defs.specs.Entries.{Entry, entries_in};
 ghost use Rattle.batch.specs.Batches.{batch_entry, words_of, AreBatched, IsFree, Prepares, Commits};
@@ -49,6 +51,7 @@ fn prepare<H: Host>(h: &mut H, at: u32, words: &[u64]) -> Result<(), HostFault>
     requires fits { length words.now ≤ LOG_ENTRY_WORDS }
     ensures prepares { H.tells → (size : ℕ) → size ≡ (H.counts h.old).size → (es : List Entry) → entries_in 0 words.now ≡ Option.Some es → AreBatched es
         → IsFree size at es (H.state h.old).now.words → Prepares size at es (fault_of result) (H.state h.old) (H.state h.new) }
+    ensures any { H.tells → Changes Anything (fault_of result) (H.state h.old) (H.state h.new) }
     ensures cause { H.counts h.new ≡ after_fault (fault_of result) (H.counts h.old) }
 {
     let _words = h.words();
@@ -66,6 +69,7 @@ fn commit_by<H: Host>(h: &mut H, at: u32, words: &[u64]) -> Result<(), HostFault
     requires fits { length words.now ≤ LOG_ENTRY_WORDS }
     ensures commits { H.tells → (size : ℕ) → size ≡ (H.counts h.old).size → (es : List Entry) → entries_in 0 words.now ≡ Option.Some es → AreBatched es
         → IsFree size at es (H.state h.old).now.words → Commits at es (fault_of result) (H.state h.old) (H.state h.new) }
+    ensures any { H.tells → Changes Anything (fault_of result) (H.state h.old) (H.state h.new) }
     ensures cause { H.counts h.new ≡ after_fault (fault_of result) (H.counts h.old) }
 {
     prepare(h, at, words)?;
@@ -116,6 +120,7 @@ impl Batch {
         requires { DAEMON_LOG + LOG_WORDS ≤ (H.counts h.old).size }
         ensures commits { H.tells → (size : ℕ) → size ≡ (H.counts h.old).size → IsFree size DAEMON_LOG self (H.state h.old).now.words
             → Commits DAEMON_LOG self (fault_of result) (H.state h.old) (H.state h.new) }
+        ensures any { H.tells → Changes Anything (fault_of result) (H.state h.old) (H.state h.new) }
         ensures cause { H.counts h.new ≡ after_fault (fault_of result) (H.counts h.old) }
     {
         commit_by(h, DAEMON_LOG, &self.words[..self.used as usize])

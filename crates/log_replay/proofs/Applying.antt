@@ -5,11 +5,11 @@ use Rattle.std.proofs.lemmas.Bool.{and_from, cond-true, lt-ltb, eq-eqb}
 use Rattle.pm_model.specs.declared.host.HostFault.{HostFault}
 use Rattle.pm_model.specs.declared.host.HostFault.TheVariants.{Cut}
 use Rattle.pm_model.specs.Moments.{State}
-use Rattle.pm_model.specs.Changes.{Write, Writes, Changes, placed, written}
+use Rattle.pm_model.specs.Changes.{Footprint, Write, Writes, Changes, placed, written}
 use Rattle.pm_model.proofs.Changes.{Changes-still, Changes-wider, Changes-then}
 use Rattle.pud_defs.specs.Entries.{Entry, Log}
 use Rattle.pud_defs.specs.Replay.{Place, is_in_range, given_by, value_from, over}
-use Rattle.log_replay.specs.Replaying.{IsNamed, Named, Applies, NamesApart}
+use Rattle.log_replay.specs.Replaying.{Anything, IsNamed, Named, Applies, NamesApart}
 
 -- nothing is written
 pub Applies-nothing : (write : Write) (s t : State) → ((w : ℕ) → write w ≡ None) → t ≡ s → Applies write None s t
@@ -117,3 +117,14 @@ Applies-failed_still write fault s t not_cut same = Applies-failed write write f
 -- behind a call that changed nothing
 pub Applies-behind : (write : Write) (fault : Option HostFault) (s t u : State) → t ≡ s → Applies write fault t u → Applies write fault s u
 Applies-behind write fault s t u same a = subst (λ (x : State). Applies write fault x u) same a
+
+-- ---- whatever the words hold
+
+pub any_still : (fault : Option HostFault) (s t : State) → (fault ≡ Some Cut → ⊥) → t ≡ s → Changes Anything fault s t
+any_still fault s t not_cut same = Changes-still Anything fault s t not_cut same
+
+pub any_then : (fault : Option HostFault) (a b c : State) → Changes Anything None a b → Changes Anything fault b c → Changes Anything fault a c
+any_then fault a b c p q = Changes-then Anything fault a b c p q
+
+pub any_wider : (may : Footprint) (fault : Option HostFault) (s t : State) → Changes may fault s t → Changes Anything fault s t
+any_wider may fault s t changes = Changes-wider may Anything fault s t (λ k v m. tt) changes

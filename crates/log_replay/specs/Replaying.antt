@@ -1,5 +1,5 @@
 -- What a replay needs of the words of a device, and what it does to them.
-use Rattle.std.specs.Prelude.{◌≡◌, ◌⊎◌, ℕ, ◌+◌, ◌-◌, ◌<◌, ◌≤◌, true, false, IsTrue, List, [], All, length, Option, Some, None}
+use Rattle.std.specs.Prelude.{◌≡◌, ◌⊎◌, ℕ, ◌+◌, ◌-◌, ◌<◌, ◌≤◌, true, false, IsTrue, List, [], All, length, Option, Some, None, ⊤}
 use Rattle.pm_model.specs.declared.host.HostFault.{HostFault}
 use Rattle.pm_model.specs.Words.{Words, reads, Picks, HasOnly}
 use Rattle.pm_model.specs.Moments.{State}
@@ -47,6 +47,10 @@ pub record IsLeft (place : Place) (size : ℕ) (log : Log) (r : Reading) (es : L
   pub within : gate_used (reads words r.log_at) ≤ LOG_ENTRY_WORDS
   pub spells : entries_in 0 (words_from (reads words) (r.log_at + LOG_HEADER_WORDS + r.passed) (gate_used (reads words r.log_at) - r.passed)) ≡ Some es
   pub apart : AreApart place size r.log_at log es
+
+-- any value may come to any word
+abbrev pub Anything : Footprint
+Anything k v = ⊤
 
 -- the word is one of those written
 pub record IsNamed (write : Write) (k : ℕ) : Type 0 where

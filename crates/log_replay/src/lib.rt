@@ -7,13 +7,13 @@
 ghost use Rattle.std.specs.Prelude.{◌≡◌, ◌≢◌, ◌+◌, ◌-◌, ◌<◌, ◌≤◌, ◌^◌, ℕ, List, Option, IfOk, IfSome, IsTrue, length, take};
 ghost use Rattle.pm_model.specs.Words.{reads};
 ghost use Rattle.pm_model.specs.Counts.{after_fault, fault_of};
-ghost use Rattle.pm_model.specs.Changes.{placed, Writes};
+ghost use Rattle.pm_model.specs.Changes.{placed, Changes, Writes};
 ghost use Rattle.pud_defs.specs.declared.layout.TheConstants.{LOG_WORDS, LOG_ENTRY_WORDS, MAX_ENTRY_VALUES};
 ghost use Rattle.pud_defs.specs.declared.log_words.TheConstants.{UNDO_ORDER, REDO_ORDER};
 ghost use Rattle.pud_defs.specs.Entries.{Entry as LoggedEntry, Log, log_of, words_from};
 ghost use Rattle.pud_defs.specs.Replay.{device_word, is_in_range, given_by, undone, redone, new_value};
 ghost use Rattle.log_entry.specs.Reading.{entry_from};
-ghost use Rattle.log_replay.specs.Replaying.{place_of, NamesApart, HasRange, IsLeft, IsReplayable, Applies, Replays, SettlesLog};
+ghost use Rattle.log_replay.specs.Replaying.{Anything, place_of, NamesApart, HasRange, IsLeft, IsReplayable, Applies, Replays, SettlesLog};
 
 use log_entry::{Entry, EntryReader};
 use pm_model::{Host, HostFault};
@@ -41,6 +41,7 @@ fn copy_words<H: Host>(h: &mut H, from: u32, n: u32, to: u32) -> Result<(), Host
     requires source { from + n ≤ (H.counts h.old).size }
     requires target { to + n ≤ (H.counts h.old).size }
     ensures writes { H.tells → Writes (placed to (words_from (reads (H.state h.old).now.words) from n)) (fault_of result) (H.state h.old) (H.state h.new) }
+    ensures any { H.tells → Changes Anything (fault_of result) (H.state h.old) (H.state h.new) }
     ensures cause { H.counts h.new ≡ after_fault (fault_of result) (H.counts h.old) }
 {
     let words = h.words();
@@ -79,6 +80,7 @@ impl Replay {
         ensures applies { H.tells → (log : Log) (e : LoggedEntry) (log_at : ℕ) → HasRange self.now log → entry_from (reads (H.state h.old).now.words) entry.now ≡ e
             → (IsTrue (is_in_range log e) → NamesApart (place_of self.now.to) (H.counts h.old).size log_at e)
             → Applies (given_by (place_of self.now.to) log order e) (fault_of result) (H.state h.old) (H.state h.new) }
+        ensures any { H.tells → Changes Anything (fault_of result) (H.state h.old) (H.state h.new) }
         ensures cause { H.counts h.new ≡ after_fault (fault_of result) (H.counts h.old) }
     {
         if entry.order != order || entry.seq <= self.lo || self.hi <= entry.seq {
@@ -96,6 +98,7 @@ impl Replay {
         ensures undoes { H.tells → (size : ℕ) → size ≡ (H.counts h.old).size → (log : Log) (es : List LoggedEntry) → HasRange self.now log
             → IsLeft (place_of self.now.to) size log reader.old es (H.state h.old).now.words
             → Applies (undone (place_of self.now.to) log es) (fault_of result) (H.state h.old) (H.state h.new) }
+        ensures any { H.tells → Changes Anything (fault_of result) (H.state h.old) (H.state h.new) }
         ensures cause { H.counts h.new ≡ after_fault (fault_of result) (H.counts h.old) }
     {
         match reader.next(h)? {
@@ -113,6 +116,7 @@ impl Replay {
         ensures redoes { H.tells → (size : ℕ) → size ≡ (H.counts h.old).size → (log : Log) (es : List LoggedEntry) → HasRange self.now log
             → IsLeft (place_of self.now.to) size log reader.old es (H.state h.old).now.words
             → Applies (redone (place_of self.now.to) log es) (fault_of result) (H.state h.old) (H.state h.new) }
+        ensures any { H.tells → Changes Anything (fault_of result) (H.state h.old) (H.state h.new) }
         ensures cause { H.counts h.new ≡ after_fault (fault_of result) (H.counts h.old) }
     {
         match reader.next(h)? {
@@ -130,6 +134,7 @@ fn overwrite<H: Host>(h: &mut H, log_at: u32, to: Target) -> Result<(), HostFaul
     requires { log_at + LOG_WORDS ≤ (H.counts h.old).size }
     ensures overwrites { H.tells → (size : ℕ) → size ≡ (H.counts h.old).size → (es : List LoggedEntry) → IsReplayable (place_of to) size log_at es (H.state h.old).now.words
         → Applies (new_value (place_of to) (log_of (reads (H.state h.old).now.words) log_at)) (fault_of result) (H.state h.old) (H.state h.new) }
+    ensures any { H.tells → Changes Anything (fault_of result) (H.state h.old) (H.state h.new) }
     ensures cause { H.counts h.new ≡ after_fault (fault_of result) (H.counts h.old) }
 {
     let gate = h.load(log_at)?;
@@ -154,6 +159,7 @@ pub fn replay_range<H: Host>(h: &mut H, log_at: u32, to: Target) -> Result<(), H
     requires { log_at + LOG_WORDS ≤ (H.counts h.old).size }
     ensures replays { H.tells → (size : ℕ) → size ≡ (H.counts h.old).size → (es : List LoggedEntry) → IsReplayable (place_of to) size log_at es (H.state h.old).now.words
         → Replays (place_of to) size log_at es (fault_of result) (H.state h.old) (H.state h.new) }
+    ensures any { H.tells → Changes Anything (fault_of result) (H.state h.old) (H.state h.new) }
     ensures cause { H.counts h.new ≡ after_fault (fault_of result) (H.counts h.old) }
 {
     overwrite(h, log_at, to)?;
@@ -169,6 +175,7 @@ pub fn settle_log<H: Host>(h: &mut H, log_at: u32) -> Result<(), HostFault>
     requires { log_at + LOG_WORDS ≤ (H.counts h.old).size }
     ensures settles { H.tells → (size : ℕ) → size ≡ (H.counts h.old).size → (es : List LoggedEntry) → IsReplayable device_word size log_at es (H.state h.old).now.words
         → SettlesLog log_at (fault_of result) (H.state h.old) (H.state h.new) }
+    ensures any { H.tells → Changes Anything (fault_of result) (H.state h.old) (H.state h.new) }
     ensures cause { H.counts h.new ≡ after_fault (fault_of result) (H.counts h.old) }
 {
     replay_range(h, log_at, Target::Words)?;

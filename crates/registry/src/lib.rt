@@ -4,6 +4,8 @@
 ghost use Rattle.std.specs.Prelude.{◌≡◌, ◌≢◌, ◌+◌, ◌≤◌, ℕ, Option};
 ghost use Rattle.pm_model.specs.Words.{IsRested, reads};
 ghost use Rattle.pm_model.specs.Counts.{after_fault, fault_of};
+ghost use Rattle.pm_model.specs.Changes.{Changes};
+ghost use Rattle.log_replay.specs.Replaying.{Anything};
 ghost use Rattle.pud_defs.specs.declared.layout.TheConstants.{DAEMON_LOG, LOG_WORDS, PUDDLE_TABLE};
 ghost use Rattle.pud_defs.specs.World.{StoredWorld, world_of};
 ghost use Rattle.registry.specs.Registry.{AppliesLog, IsSettled, Clears};
@@ -18,6 +20,7 @@ fn apply_log<H: Host>(h: &mut H) -> Result<(), HostFault>
     requires { DAEMON_LOG + LOG_WORDS ≤ (H.counts h.old).size }
     ensures applies { H.tells → (size : ℕ) → size ≡ (H.counts h.old).size → (s : StoredWorld) → IsRested (H.state h.old).now.words
         → world_of size (reads (H.state h.old).now.words) ≡ Option.Some s → AppliesLog size s (fault_of result) (H.state h.old) (H.state h.new) }
+    ensures any { H.tells → Changes Anything (fault_of result) (H.state h.old) (H.state h.new) }
     ensures cause { H.counts h.new ≡ after_fault (fault_of result) (H.counts h.old) }
 {
     settle_log(h, DAEMON_LOG)
@@ -30,6 +33,7 @@ pub fn clear_spaces<H: Host>(h: &mut H) -> Result<(), HostFault>
     requires { PUDDLE_TABLE ≤ (H.counts h.old).size }
     ensures clears { H.tells → (size : ℕ) → size ≡ (H.counts h.old).size → (s : StoredWorld) → IsSettled size s (H.state h.old).now.words
         → Clears size s (fault_of result) (H.state h.old) (H.state h.new) }
+    ensures any { H.tells → Changes Anything (fault_of result) (H.state h.old) (H.state h.new) }
     ensures cause { H.counts h.new ≡ after_fault (fault_of result) (H.counts h.old) }
 {
     let mut batch = Batch::new();

@@ -2,6 +2,7 @@ use Rattle.std.proofs.Common.{sym, ap, ◌∙◌, refl}
 use Rattle.std.proofs.lemmas.Result.{err_from_is_err_and}
 use Rattle.pm_model.specs.Counts.{Counts, fault_of}
 use Rattle.batch.proofs.Phases.{Commits-prepare, Commits-settle}
+use Rattle.log_replay.proofs.Applying.{any_then}
 use Rattle.batch.proofs.commit_by.Goals as goal
 
 pub returns-in_err-prepare-clause-commits : goal.returns-in_err-prepare-clause-commits
@@ -14,3 +15,6 @@ returns-clause-commits g c = λ t size same es spell batched free.
     let prepared = c.in_ok-prepare.ensures.prepares t size same es spell batched free in
     Commits-settle size c.args.at es (fault_of c.settle_log.result) _ _ _ batched prepared
     (c.settle_log.ensures.settles t size (same ∙ sym (ap (λ (n : Counts). n.size) c.in_ok-prepare.ensures.cause)) es (prepared.prepared refl).replayable)
+
+pub returns-clause-any : goal.returns-clause-any
+returns-clause-any g c = λ t. any_then (fault_of c.settle_log.result) _ _ _ (c.in_ok-prepare.ensures.any t) (c.settle_log.ensures.any t)

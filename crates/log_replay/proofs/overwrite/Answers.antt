@@ -10,6 +10,7 @@ use Rattle.log_replay.specs.Replaying.{place_of, IsLeft, HasRange, Applies}
 use Rattle.log_replay.proofs.Applying.{Applies-same, Applies-then, Applies-failed_first, Applies-failed_still, Applies-behind}
 use Rattle.log_replay.proofs.Left.{undone-apart, IsLeft-kept}
 use Rattle.log_replay.proofs.Whole.{all_left, new_value-parts}
+use Rattle.log_replay.proofs.Applying.{any_still, any_then}
 use Rattle.log_replay.proofs.overwrite.Goals as goal
 
 -- what was read of the gate is the log's range
@@ -55,3 +56,9 @@ returns-clause-overwrites g c = λ t size same es r.
     let later = c.redo.ensures.redoes t size after_undo log es range left_then in
     Applies-same (over (undone place log es) (redone place log es)) (new_value place log) (fault_of c.redo.result) s end (new_value-parts place size c.args.log_at es s.now.words r)
     (Applies-then (undone place log es) (redone place log es) (fault_of c.redo.result) s mid end first later)
+
+pub returns-clause-any : goal.returns-clause-any
+returns-clause-any g c = λ t.
+    any_then (fault_of c.redo.result) _ (g.H.Host.state c.undo.new.h) _
+    (any_then None _ (g.H.Host.state c.load.new.self) _ (any_still None _ _ (λ cut. cc) (c.in_ok-gate.ensures.state t)) (c.in_ok-undo.ensures.any t))
+    (c.redo.ensures.any t)

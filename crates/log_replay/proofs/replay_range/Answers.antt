@@ -2,6 +2,9 @@ use Rattle.std.proofs.lemmas.Result.{err_from_is_err_and}
 use Rattle.pm_model.specs.Counts.{fault_of}
 use Rattle.log_replay.specs.Replaying.{place_of}
 use Rattle.log_replay.proofs.Whole.{Replays-failed, Replays-fence}
+use Rattle.pm_model.proofs.Changes.{Changes-fence}
+use Rattle.log_replay.specs.Replaying.{Anything}
+use Rattle.log_replay.proofs.Applying.{any_then}
 use Rattle.log_replay.proofs.replay_range.Goals as goal
 
 pub returns-in_err-overwrite-clause-replays : goal.returns-in_err-overwrite-clause-replays
@@ -12,3 +15,6 @@ returns-in_err-overwrite-clause-replays g c =
 pub returns-clause-replays : goal.returns-clause-replays
 returns-clause-replays g c = λ t size same es r.
     Replays-fence (place_of c.args.to) size c.args.log_at es (fault_of c.fence.result) _ _ _ r (c.in_ok-overwrite.ensures.overwrites t size same es r) (c.fence.ensures.state t)
+
+pub returns-clause-any : goal.returns-clause-any
+returns-clause-any g c = λ t. any_then (fault_of c.fence.result) _ _ _ (c.in_ok-overwrite.ensures.any t) (Changes-fence Anything (fault_of c.fence.result) _ _ (c.fence.ensures.state t))

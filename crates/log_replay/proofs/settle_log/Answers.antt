@@ -1,6 +1,7 @@
 use Rattle.std.proofs.lemmas.Result.{err_from_is_err_and}
 use Rattle.pm_model.specs.Counts.{fault_of}
 use Rattle.log_replay.proofs.Closing.{SettlesLog-replay, SettlesLog-close}
+use Rattle.log_replay.proofs.Applying.{any_then, any_wider}
 use Rattle.log_replay.proofs.settle_log.Goals as goal
 
 pub returns-in_err-replay_range-clause-settles : goal.returns-in_err-replay_range-clause-settles
@@ -11,3 +12,6 @@ returns-in_err-replay_range-clause-settles g c =
 pub returns-clause-settles : goal.returns-clause-settles
 returns-clause-settles g c = λ t size same es r.
     SettlesLog-close size c.args.log_at es _ r (fault_of c.persist_word.result) _ _ (c.in_ok-replay_range.ensures.replays t size same es r) (c.persist_word.ensures.persists t)
+
+pub returns-clause-any : goal.returns-clause-any
+returns-clause-any g c = λ t. any_then (fault_of c.persist_word.result) _ _ _ (c.in_ok-replay_range.ensures.any t) (any_wider _ (fault_of c.persist_word.result) _ _ (c.persist_word.ensures.persists t).changes)

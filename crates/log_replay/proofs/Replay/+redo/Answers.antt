@@ -12,6 +12,7 @@ use Rattle.log_entry.specs.Reading.{entry_from}
 use Rattle.log_replay.specs.Replaying.{place_of, NamesApart, Applies}
 use Rattle.log_replay.proofs.Applying.{Applies-nothing, Applies-same, Applies-then, Applies-failed_first, Applies-failed_still, Applies-behind}
 use Rattle.log_replay.proofs.Left.{is_found, is_none_left, given_by-apart, IsLeft-kept}
+use Rattle.log_replay.proofs.Applying.{any_still, any_then}
 use Rattle.log_replay.proofs.Replay.+redo.Goals as goal
 
 pub returns-in_err-next-clause-redoes : goal.returns-in_err-next-clause-redoes
@@ -67,3 +68,17 @@ returns-in_ok-apply-in-Some-clause-redoes g m c = λ t size same log es range le
     (λ w. ap (λ (fs : List LoggedEntry). redone place log fs w) f.is ∙ redone-first place log e f.behind w)
     (Applies-then (given_by place log REDO_ORDER e) (redone place log f.behind) (fault_of c.redo.result) s mid (g.H.Host.state c.redo.new.h)
     (Applies-behind (given_by place log REDO_ORDER e) None s t1 mid (c.in_ok-next.ensures.stays t) first) later)
+
+pub returns-in_err-next-clause-any : goal.returns-in_err-next-clause-any
+returns-in_err-next-clause-any g m c =
+    let p = err_from_is_err_and c.from_residual.result c.from_residual.ensures.1 in
+    rw (p.1, p.2) (λ t. any_still _ _ _ c.in_err-next.ensures.never_cut (c.in_err-next.ensures.stays t))
+
+pub returns-in-None-clause-any : goal.returns-in-None-clause-any
+returns-in-None-clause-any g m c = λ t. any_still None _ _ (λ cut. cc) (c.in_ok-next.ensures.stays t)
+
+pub returns-in_ok-apply-in-Some-clause-any : goal.returns-in_ok-apply-in-Some-clause-any
+returns-in_ok-apply-in-Some-clause-any g m c = λ t.
+    any_then (fault_of c.redo.result) _ (g.H.Host.state c.apply.new.h) _
+    (any_then None _ (g.H.Host.state c.next.new.h) _ (any_still None _ _ (λ cut. cc) (c.in_ok-next.ensures.stays t)) (c.in_ok-apply-in-Some.ensures.any t))
+    (c.redo.ensures.any t)

@@ -10,6 +10,7 @@ use Rattle.log_entry.specs.Reading.{entry_from}
 use Rattle.log_replay.specs.Replaying.{place_of, NamesApart, AreApart, Applies}
 use Rattle.log_replay.proofs.Applying.{Applies-nothing, Applies-same, Applies-then, Applies-failed_first, Applies-failed_still, Applies-behind}
 use Rattle.log_replay.proofs.Left.{is_found, is_none_left, undone-apart, reads_log, entry_kept}
+use Rattle.log_replay.proofs.Applying.{any_still, any_then}
 use Rattle.log_replay.proofs.Replay.+undo.Goals as goal
 
 pub returns-in_err-next-clause-undoes : goal.returns-in_err-next-clause-undoes
@@ -58,3 +59,17 @@ returns-in_ok-undo-in-Some-clause-undoes g m c = λ t size same log es range lef
     Applies-same (over (undone place log f.behind) (given_by place log UNDO_ORDER e)) (undone place log es) (fault_of c.apply.result) s (g.H.Host.state c.apply.new.h)
     (λ w. ap (λ (fs : List LoggedEntry). undone place log fs w) f.is ∙ undone-first place log e f.behind w)
     (Applies-then (undone place log f.behind) (given_by place log UNDO_ORDER e) (fault_of c.apply.result) s mid (g.H.Host.state c.apply.new.h) first later)
+
+pub returns-in_err-next-clause-any : goal.returns-in_err-next-clause-any
+returns-in_err-next-clause-any g m c =
+    let p = err_from_is_err_and c.from_residual.result c.from_residual.ensures.1 in
+    rw (p.1, p.2) (λ t. any_still _ _ _ c.in_err-next.ensures.never_cut (c.in_err-next.ensures.stays t))
+
+pub returns-in-None-clause-any : goal.returns-in-None-clause-any
+returns-in-None-clause-any g m c = λ t. any_still None _ _ (λ cut. cc) (c.in_ok-next.ensures.stays t)
+
+pub returns-in_ok-undo-in-Some-clause-any : goal.returns-in_ok-undo-in-Some-clause-any
+returns-in_ok-undo-in-Some-clause-any g m c = λ t.
+    any_then (fault_of c.apply.result) _ (g.H.Host.state c.undo.new.h) _
+    (any_then None _ (g.H.Host.state c.next.new.h) _ (any_still None _ _ (λ cut. cc) (c.in_ok-next.ensures.stays t)) (c.in_ok-undo-in-Some.ensures.any t))
+    (c.apply.ensures.any t)
