@@ -1,0 +1,5 @@
+//! The registry of a device: what it holds once its daemon log is replayed.
+#![tactic(auto)]
+
+mod overlay;
+mod soundness;

@@ -1,0 +1,123 @@
+//! Whether a device is a sound registry once its daemon log is replayed. Nothing is replayed and nothing is written: each
+//! word is read as the replay makes it.
+ghost use Rattle.std.specs.Prelude.{◌≡◌, ◌≢◌, ◌+◌, ◌-◌, ◌<◌, ◌≤◌, ◌==◌, ℕ, true, not, ◌&&◌, ◌||◌, nat_lt, nat_le, List, Option, IfOk, IfSome, IsTrue};
+ghost use Rattle.std.specs.List.{list_all, list_any};
+ghost use Rattle.pm_model.specs.Words.{reads};
+ghost use Rattle.pm_model.specs.Counts.{after_fault, fault_of};
+ghost use Rattle.pud_defs.specs.Image.{Image};
+ghost use Rattle.pud_defs.specs.Layout.{device_words};
+ghost use Rattle.pud_defs.specs.Entries.{Entry as LoggedEntry, log_of, entries_of};
+ghost use Rattle.pud_defs.specs.Replay.{settled_by};
+ghost use Rattle.pud_defs.specs.Spaces.{is_closed_range, is_legal_space, is_closed_log, has_closed_logs, are_legal_spaces, are_closed_logs};
+ghost use Rattle.pud_defs.specs.Registry.{frames_of, are_zero, has_legal_number, has_legal_types, may_be_logged, is_allowed, has_legal_log, is_registry, is_sound};
+ghost use Rattle.registry.specs.Overlaying.{HasRange, IsOverlay};
+ghost use Rattle.registry.specs.Judging.{IsRoomFor, frames_by, frames_described, with_one_more, is_number, is_space, is_closed_space, has_sound_tables, has_sound_spaces};
+
+use crate::overlay::Overlay;
+use log_entry::{Entry, EntryReader, well_formed};
+use pm_model::{Host, HostFault};
+use pud_defs::layout::{
+    CLIENT_LOGS, CLIENTS, DAEMON_LOG, DEVICE_MAGIC, FRAMES_WORD, LOG_WORDS, MAGIC_WORD, MAX_FRAMES,
+    MAX_OWNER_ID, MIN_FRAMES, NEXT_NUMBER_WORD, NUMBER_LIMIT, POOL_TABLE, PUDDLE_TABLE,
+    SPACE_RECORD_WORDS, SPACE_TABLE, TYPE_RECORD_WORDS, TYPE_RECORDS, TYPE_TABLE, VERSION,
+    VERSION_WORD, device_words, frames_at, log_at, tables_end,
+};
+use pud_defs::log_words::{COMMITTING_HI, gate_hi, gate_lo};
+use pud_defs::type_map::{is_legal_map, is_legal_type_id};
+
+/// The number of frames, by the words that describe a device.
+fn frames_of_header(words: u32, magic: u64, version: u64, frames: u64) -> Option<u32>
+    ensures frames { result ≡ frames_by words magic version frames }
+    ensures within { IfSome result (IsRoomFor words) }
+{
+    if magic != DEVICE_MAGIC || version != VERSION {
+        return None;
+    }
+    if frames < u64::from(MIN_FRAMES) || frames > u64::from(MAX_FRAMES) {
+        return None;
+    }
+    let frames = frames as u32;
+    if words < device_words(frames) {
+        return None;
+    }
+    Some(frames)
+}
+
+/// The number of frames, where the words 0, 1 and 3 are sound and the device has the words that so many frames need. The
+/// daemon log can write none of these words.
+fn described_frames<H: Host>(h: &mut H) -> Result<Option<u32>, HostFault>
+    requires { device_words MIN_FRAMES ≤ (H.counts h.old).size }
+    ensures frames { H.tells → IfOk result (λ frames. frames ≡ frames_described (H.counts h.old).size (reads (H.state h.old).now.words)) }
+    ensures within { IfOk result (λ frames. IfSome frames (IsRoomFor (H.counts h.old).size)) }
+    ensures stays { H.tells → H.state h.new ≡ H.state h.old }
+    ensures cause { H.counts h.new ≡ after_fault (fault_of result) (H.counts h.old) }
+    ensures never_cut { fault_of result ≢ Option.Some HostFault.Cut }
+{
+    let words = h.words();
+    let magic = h.load(MAGIC_WORD)?;
+    let version = h.load(VERSION_WORD)?;
+    let frames = h.load(FRAMES_WORD)?;
+    Ok(frames_of_header(words, magic, version, frames))
+}
+
+/// Whether `n` words from word `at` on lie wholly from word `from` on and before word `to`.
+fn lie_within(at: u64, n: u32, from: u32, to: u32) -> bool
+    ensures { result ≡ (nat_le from at && nat_le (at + n) to) }
+{
+    let to = u64::from(to);
+    u64::from(from) <= at && at <= to && u64::from(n) <= to - at
+}
+
+/// Whether the daemon log may write `n` words from word `at` on, on a device of so many frames.
+fn may_be_logged(frames: u32, at: u64, n: u32) -> bool
+    requires { frames ≤ MAX_FRAMES }
+    ensures { result ≡ may_be_logged frames at n }
+{
+    let number = at == u64::from(NEXT_NUMBER_WORD) && n == 1;
+    number
+        || lie_within(at, n, TYPE_TABLE, tables_end(frames))
+        || lie_within(at, n, frames_at(frames), device_words(frames))
+}
+
+/// Whether an entry is out of range, or lies where the daemon log may write.
+fn is_allowed(overlay: &Overlay, frames: u32, entry: &Entry) -> bool
+    requires { frames ≤ MAX_FRAMES }
+    ensures { result ≡ (not (nat_lt overlay.now.lo entry.now.seq && nat_lt entry.now.seq overlay.now.hi) || may_be_logged frames entry.now.addr entry.now.n) }
+{
+    !overlay.counts(entry) || may_be_logged(frames, entry.addr, entry.n)
+}
+
+/// Whether each entry of the daemon log is.
+fn are_allowed<H: Host>(h: &mut H, overlay: &Overlay, frames: u32) -> Result<bool, HostFault>
+    requires few { frames ≤ MAX_FRAMES }
+    requires log { DAEMON_LOG + LOG_WORDS ≤ (H.counts h.old).size }
+    ensures allowed { H.tells → (image : Image) → reads (H.state h.old).now.words ≡ image → (es : List LoggedEntry) → entries_of image DAEMON_LOG ≡ Option.Some es
+        → HasRange overlay.now (log_of image DAEMON_LOG) → IfOk result (λ allowed. allowed ≡ list_all (is_allowed frames (log_of image DAEMON_LOG)) es) }
+    ensures stays { H.tells → H.state h.new ≡ H.state h.old }
+    ensures cause { H.counts h.new ≡ after_fault (fault_of result) (H.counts h.old) }
+    ensures never_cut { fault_of result ≢ Option.Some HostFault.Cut }
+{
+    let mut reader = EntryReader::new(DAEMON_LOG);
+    while let Some(entry) = reader.next(h)? {
+        if !is_allowed(overlay, frames, &entry) {
+            return Ok(false);
+        }
+    }
+    Ok(true)
+}
+
+/// Whether the daemon log, whose range is the overlay's, is well formed and its entries in range lie where they may.
+fn has_legal_log<H: Host>(h: &mut H, overlay: &Overlay, frames: u32) -> Result<bool, HostFault>
+    requires few { frames ≤ MAX_FRAMES }
+    requires log { DAEMON_LOG + LOG_WORDS ≤ (H.counts h.old).size }
+    ensures legal { H.tells → (image : Image) → reads (H.state h.old).now.words ≡ image → HasRange overlay.now (log_of image DAEMON_LOG) → frames ≡ frames_of image
+        → IfOk result (λ legal. legal ≡ has_legal_log image) }
+    ensures stays { H.tells → H.state h.new ≡ H.state h.old }
+    ensures cause { H.counts h.new ≡ after_fault (fault_of result) (H.counts h.old) }
+    ensures never_cut { fault_of result ≢ Option.Some HostFault.Cut }
+{
+    if !well_formed(h, DAEMON_LOG)? {
+        return Ok(false);
+    }
+    are_allowed(h, overlay, frames)
+}
