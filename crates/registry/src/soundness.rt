@@ -121,3 +121,191 @@ fn has_legal_log<H: Host>(h: &mut H, overlay: &Overlay, frames: u32) -> Result<b
     }
     are_allowed(h, overlay, frames)
 }
+
+/// Whether the words `from` to `to - 1`, which stand behind the daemon log, are 0. It reads no further than the first that
+/// is not.
+fn is_zero_range<H: Host>(h: &mut H, overlay: &Overlay, from: u32, to: u32) -> Result<bool, HostFault>
+    requires log { DAEMON_LOG + LOG_WORDS ≤ (H.counts h.old).size }
+    requires behind { DAEMON_LOG + LOG_WORDS ≤ from }
+    requires within { to ≤ (H.counts h.old).size }
+    ensures zero { H.tells → (image : Image) → reads (H.state h.old).now.words ≡ image → IsOverlay overlay.now image
+        → IfOk result (λ zero. zero ≡ are_zero (settled_by DAEMON_LOG image) from (to - from)) }
+    ensures stays { H.tells → H.state h.new ≡ H.state h.old }
+    ensures cause { H.counts h.new ≡ after_fault (fault_of result) (H.counts h.old) }
+    ensures never_cut { fault_of result ≢ Option.Some HostFault.Cut }
+{
+    for at in from..to {
+        if overlay.word(h, at)? != 0 {
+            return Ok(false);
+        }
+    }
+    Ok(true)
+}
+
+/// Whether these records are legal with one more in front: a free one, or a used one that is legal and whose id is none
+/// of theirs.
+fn is_legal_with(id: u64, map: u64, ids: &[u64], legal: bool) -> bool
+    ensures { result ≡ with_one_more id map (list_any (λ y. y == id) ids.now) legal }
+{
+    if id == 0 {
+        return legal;
+    }
+    let again = ids.contains(&id);
+    is_legal_type_id(id) && is_legal_map(map) && !again && legal
+}
+
+/// Whether each used type record is legal and no id comes twice. The table is read from its last record to its first.
+fn has_legal_types<H: Host>(h: &mut H, overlay: &Overlay) -> Result<bool, HostFault>
+    requires { POOL_TABLE ≤ (H.counts h.old).size }
+    ensures legal { H.tells → (image : Image) → reads (H.state h.old).now.words ≡ image → IsOverlay overlay.now image
+        → IfOk result (λ legal. legal ≡ has_legal_types (settled_by DAEMON_LOG image)) }
+    ensures stays { H.tells → H.state h.new ≡ H.state h.old }
+    ensures cause { H.counts h.new ≡ after_fault (fault_of result) (H.counts h.old) }
+    ensures never_cut { fault_of result ≢ Option.Some HostFault.Cut }
+{
+    let mut ids = [0u64; 64];
+    let mut legal = true;
+    for done in 0..TYPE_RECORDS {
+        let at = TYPE_TABLE + TYPE_RECORD_WORDS * (TYPE_RECORDS - 1 - done);
+        let id = overlay.word(h, at)?;
+        let map = overlay.word(h, at + 1)?;
+        legal = is_legal_with(id, map, &ids[..done as usize], legal);
+        ids[done as usize] = id;
+    }
+    Ok(legal)
+}
+
+/// Whether the next UUID number is from 1 to 2^63.
+fn has_legal_number<H: Host>(h: &mut H, overlay: &Overlay) -> Result<bool, HostFault>
+    requires { DAEMON_LOG + LOG_WORDS ≤ (H.counts h.old).size }
+    ensures legal { H.tells → (image : Image) → reads (H.state h.old).now.words ≡ image → IsOverlay overlay.now image
+        → IfOk result (λ legal. legal ≡ has_legal_number (settled_by DAEMON_LOG image)) }
+    ensures stays { H.tells → H.state h.new ≡ H.state h.old }
+    ensures cause { H.counts h.new ≡ after_fault (fault_of result) (H.counts h.old) }
+    ensures never_cut { fault_of result ≢ Option.Some HostFault.Cut }
+{
+    let number = overlay.word(h, NEXT_NUMBER_WORD)?;
+    Ok(is_number(number))
+}
+
+fn is_number(number: u64) -> bool
+    ensures { result ≡ is_number number }
+{
+    number >= 1 && number <= NUMBER_LIMIT
+}
+
+/// Whether a log-space record of these three words is free, or is used and has a legal owner.
+fn is_space(used: u64, uid: u64, gid: u64) -> bool
+    ensures { result ≡ is_space used uid gid }
+{
+    let known = uid <= u64::from(MAX_OWNER_ID) && gid <= u64::from(MAX_OWNER_ID);
+    used == 0 || (used == 1 && known)
+}
+
+/// Whether the log-space record of a client is legal.
+fn is_legal_space<H: Host>(h: &mut H, overlay: &Overlay, client: u32) -> Result<bool, HostFault>
+    requires known { client < CLIENTS }
+    requires within { PUDDLE_TABLE ≤ (H.counts h.old).size }
+    ensures legal { H.tells → (image : Image) → reads (H.state h.old).now.words ≡ image → IsOverlay overlay.now image
+        → IfOk result (λ legal. legal ≡ is_legal_space (settled_by DAEMON_LOG image) client) }
+    ensures stays { H.tells → H.state h.new ≡ H.state h.old }
+    ensures cause { H.counts h.new ≡ after_fault (fault_of result) (H.counts h.old) }
+    ensures never_cut { fault_of result ≢ Option.Some HostFault.Cut }
+{
+    let at = SPACE_TABLE + SPACE_RECORD_WORDS * client;
+    let used = overlay.word(h, at)?;
+    let uid = overlay.word(h, at + 1)?;
+    let gid = overlay.word(h, at + 2)?;
+    Ok(is_space(used, uid, gid))
+}
+
+/// Whether each log-space record is legal.
+fn are_legal_spaces<H: Host>(h: &mut H, overlay: &Overlay) -> Result<bool, HostFault>
+    requires { PUDDLE_TABLE ≤ (H.counts h.old).size }
+    ensures legal { H.tells → (image : Image) → reads (H.state h.old).now.words ≡ image → IsOverlay overlay.now image
+        → IfOk result (λ legal. legal ≡ are_legal_spaces (settled_by DAEMON_LOG image)) }
+    ensures stays { H.tells → H.state h.new ≡ H.state h.old }
+    ensures cause { H.counts h.new ≡ after_fault (fault_of result) (H.counts h.old) }
+    ensures never_cut { fault_of result ≢ Option.Some HostFault.Cut }
+{
+    for client in 0..CLIENTS {
+        if !is_legal_space(h, overlay, client)? {
+            return Ok(false);
+        }
+    }
+    Ok(true)
+}
+
+/// Whether a log is closed, by its gate and whether it is well formed.
+fn is_closed_by(gate: u64, well_formed: bool) -> bool
+    ensures { result ≡ (is_closed_range gate && well_formed) }
+{
+    let (lo, hi) = (gate_lo(gate), gate_hi(gate));
+    lo == hi && (hi == COMMITTING_HI || hi == 0) && well_formed
+}
+
+/// Whether the log whose gate is word `at` is closed and well formed.
+fn is_closed_log<H: Host>(h: &mut H, at: u32) -> Result<bool, HostFault>
+    requires { at + LOG_WORDS ≤ (H.counts h.old).size }
+    ensures closed { H.tells → (image : Image) → reads (H.state h.old).now.words ≡ image → IfOk result (λ closed. closed ≡ is_closed_log image at) }
+    ensures stays { H.tells → H.state h.new ≡ H.state h.old }
+    ensures cause { H.counts h.new ≡ after_fault (fault_of result) (H.counts h.old) }
+    ensures never_cut { fault_of result ≢ Option.Some HostFault.Cut }
+{
+    let gate = h.load(at)?;
+    let formed = well_formed(h, at)?;
+    Ok(is_closed_by(gate, formed))
+}
+
+/// Whether each log of a client is closed, on a device of so many frames. The daemon log can write none of their words.
+fn has_closed_logs<H: Host>(h: &mut H, frames: u32, client: u32) -> Result<bool, HostFault>
+    requires few { frames ≤ MAX_FRAMES }
+    requires known { client < CLIENTS }
+    requires room { device_words frames ≤ (H.counts h.old).size }
+    ensures closed { H.tells → (image : Image) → reads (H.state h.old).now.words ≡ image → IfOk result (λ closed. closed ≡ has_closed_logs image frames client) }
+    ensures stays { H.tells → H.state h.new ≡ H.state h.old }
+    ensures cause { H.counts h.new ≡ after_fault (fault_of result) (H.counts h.old) }
+    ensures never_cut { fault_of result ≢ Option.Some HostFault.Cut }
+{
+    for number in 0..CLIENT_LOGS {
+        if !is_closed_log(h, log_at(frames, client, number))? {
+            return Ok(false);
+        }
+    }
+    Ok(true)
+}
+
+/// Whether the logs of a client are closed, or not registered.
+fn is_closed_space<H: Host>(h: &mut H, overlay: &Overlay, frames: u32, client: u32) -> Result<bool, HostFault>
+    requires few { frames ≤ MAX_FRAMES }
+    requires known { client < CLIENTS }
+    requires room { device_words frames ≤ (H.counts h.old).size }
+    ensures closed { H.tells → (image : Image) → reads (H.state h.old).now.words ≡ image → IsOverlay overlay.now image → has_legal_log image ≡ true → frames ≡ frames_of image
+        → IfOk result (λ closed. closed ≡ is_closed_space (settled_by DAEMON_LOG image) frames client) }
+    ensures stays { H.tells → H.state h.new ≡ H.state h.old }
+    ensures cause { H.counts h.new ≡ after_fault (fault_of result) (H.counts h.old) }
+    ensures never_cut { fault_of result ≢ Option.Some HostFault.Cut }
+{
+    if overlay.word(h, SPACE_TABLE + SPACE_RECORD_WORDS * client)? == 0 {
+        return Ok(true);
+    }
+    has_closed_logs(h, frames, client)
+}
+
+/// Whether each log that is registered is closed.
+fn are_closed_logs<H: Host>(h: &mut H, overlay: &Overlay, frames: u32) -> Result<bool, HostFault>
+    requires few { frames ≤ MAX_FRAMES }
+    requires room { device_words frames ≤ (H.counts h.old).size }
+    ensures closed { H.tells → (image : Image) → reads (H.state h.old).now.words ≡ image → IsOverlay overlay.now image → has_legal_log image ≡ true → frames ≡ frames_of image
+        → IfOk result (λ closed. closed ≡ are_closed_logs (settled_by DAEMON_LOG image) frames) }
+    ensures stays { H.tells → H.state h.new ≡ H.state h.old }
+    ensures cause { H.counts h.new ≡ after_fault (fault_of result) (H.counts h.old) }
+    ensures never_cut { fault_of result ≢ Option.Some HostFault.Cut }
+{
+    for client in 0..CLIENTS {
+        if !is_closed_space(h, overlay, frames, client)? {
+            return Ok(false);
+        }
+    }
+    Ok(true)
+}

@@ -14,7 +14,7 @@ invariant-loop-entry g l = record {
   counts : g.H.Host.counts l.h ≡ g.H.Host.counts l.initial.h;
   stays : g.H.Host.tells → g.H.Host.state l.h ≡ g.H.Host.state l.initial.h;
   allowed : g.H.Host.tells → (image : Image) → reads (g.H.Host.state l.initial.h).now.words ≡ image → (es : List Entry) → entries_of image DAEMON_LOG ≡ Some es
-      → AllowedSoFar image l.frames (log_of image DAEMON_LOG) es l.reader;
+      → HasRange l.overlay (log_of image DAEMON_LOG) → AllowedSoFar image l.frames (log_of image DAEMON_LOG) es l.reader;
 }
 
 abbrev pub decreases-loop-entry : goal.decreases-loop-entry
