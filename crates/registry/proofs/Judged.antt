@@ -20,7 +20,7 @@ use Rattle.pud_defs.proofs.Worlds.{standing_of_world, world_of-sound}
 use Rattle.log_entry.specs.declared.Entry.{Entry as Found}
 use Rattle.log_entry.specs.Reading.{Reading, entry_next, entry_from, PassesOne}
 use Rattle.registry.specs.declared.overlay.Overlay.{Overlay}
-use Rattle.registry.specs.Overlaying.{HasRange}
+use Rattle.registry.specs.Overlaying.{HasRange, IsOverlay}
 use Rattle.registry.specs.Judging.{frames_described, has_sound_tables, has_sound_spaces}
 use Rattle.registry.proofs.Overlaid.{IsLeft, all_left, has_next, none_left}
 
@@ -92,6 +92,12 @@ is_well_formed image some =
     let es = some_of (entries_of image DAEMON_LOG) some in
     record { entries = es.0; are = es.1; legal = sym (ap (are_allowed (frames_of image) (log_of image DAEMON_LOG)) es.1) }
 
+pub is_overlay : (o : Overlay) (image : Image) → HasRange o (log_of image DAEMON_LOG) → has_legal_log image ≡ true → IsOverlay o image
+is_overlay o image range legal = elim (cases_Bool (is_some (entries_of image DAEMON_LOG))) [
+  | inl formed ↦ let es = some_of (entries_of image DAEMON_LOG) formed in record { range = range; entries = es.0; are = es.1 }
+  | inr spoilt ↦ absurd (let it : true ≡ false = sym legal ∙ not_legal image spoilt in cc)
+]
+
 -- ---- logs of clients
 
 -- the daemon log may write none of their words
@@ -109,6 +115,9 @@ described size image = has_magic image && has_version image && has_room size ima
 not_described : (b : Bool) (n : ℕ) → cond b (Some n) None ≡ None → b ≡ false
 not_described true n e = absurd (let no : Some n ≡ None = e in cc)
 not_described false n e = refl
+
+pub frames_are : (size : ℕ) (image : Image) (F : ℕ) → frames_described size image ≡ Some F → F ≡ frames_of image
+frames_are size image F some = sym (cond_some (has_magic image && has_version image && has_room size image) (frames_of image) F some).1
 
 -- they read the same with the daemon log replayed
 described_raw : (size : ℕ) (image : Image) → has_legal_log image ≡ true → described size (settled_by DAEMON_LOG image) ≡ described size image

@@ -3,3 +3,5 @@
 
 mod overlay;
 mod soundness;
+
+pub use soundness::is_sound;

@@ -309,3 +309,85 @@ fn are_closed_logs<H: Host>(h: &mut H, overlay: &Overlay, frames: u32) -> Result
     }
     Ok(true)
 }
+
+fn are_all(number: bool, types: bool, pools: bool, puddles: bool) -> bool
+    ensures { result ≡ (number && types && pools && puddles) }
+{
+    number && types && pools && puddles
+}
+
+/// Whether the next number and the types are legal, and no pool and no puddle is there.
+fn has_sound_tables<H: Host>(h: &mut H, overlay: &Overlay, frames: u32) -> Result<bool, HostFault>
+    requires few { frames ≤ MAX_FRAMES }
+    requires room { device_words frames ≤ (H.counts h.old).size }
+    ensures sound { H.tells → (image : Image) → reads (H.state h.old).now.words ≡ image → IsOverlay overlay.now image
+        → IfOk result (λ sound. sound ≡ has_sound_tables (settled_by DAEMON_LOG image) frames) }
+    ensures stays { H.tells → H.state h.new ≡ H.state h.old }
+    ensures cause { H.counts h.new ≡ after_fault (fault_of result) (H.counts h.old) }
+    ensures never_cut { fault_of result ≢ Option.Some HostFault.Cut }
+{
+    let number = has_legal_number(h, overlay)?;
+    let types = has_legal_types(h, overlay)?;
+    let pools = is_zero_range(h, overlay, POOL_TABLE, SPACE_TABLE)?;
+    let puddles = is_zero_range(h, overlay, PUDDLE_TABLE, tables_end(frames))?;
+    Ok(are_all(number, types, pools, puddles))
+}
+
+fn are_both(spaces: bool, logs: bool) -> bool
+    ensures { result ≡ (spaces && logs) }
+{
+    spaces && logs
+}
+
+/// Whether the log-space records are legal, and each log that is registered is closed.
+fn has_sound_spaces<H: Host>(h: &mut H, overlay: &Overlay, frames: u32) -> Result<bool, HostFault>
+    requires few { frames ≤ MAX_FRAMES }
+    requires room { device_words frames ≤ (H.counts h.old).size }
+    ensures sound { H.tells → (image : Image) → reads (H.state h.old).now.words ≡ image → IsOverlay overlay.now image → has_legal_log image ≡ true → frames ≡ frames_of image
+        → IfOk result (λ sound. sound ≡ has_sound_spaces (settled_by DAEMON_LOG image) frames) }
+    ensures stays { H.tells → H.state h.new ≡ H.state h.old }
+    ensures cause { H.counts h.new ≡ after_fault (fault_of result) (H.counts h.old) }
+    ensures never_cut { fault_of result ≢ Option.Some HostFault.Cut }
+{
+    let spaces = are_legal_spaces(h, overlay)?;
+    let logs = are_closed_logs(h, overlay, frames)?;
+    Ok(are_both(spaces, logs))
+}
+
+/// Whether a device of so many frames, whose daemon log is legal, is a sound registry once that log is replayed.
+fn is_registry<H: Host>(h: &mut H, overlay: &Overlay, frames: u32) -> Result<bool, HostFault>
+    requires few { frames ≤ MAX_FRAMES }
+    requires room { device_words frames ≤ (H.counts h.old).size }
+    ensures sound { H.tells → (image : Image) → reads (H.state h.old).now.words ≡ image → IsOverlay overlay.now image → has_legal_log image ≡ true
+        → (size : ℕ) → frames_described size image ≡ Option.Some frames → IfOk result (λ sound. sound ≡ is_registry size (settled_by DAEMON_LOG image)) }
+    ensures stays { H.tells → H.state h.new ≡ H.state h.old }
+    ensures cause { H.counts h.new ≡ after_fault (fault_of result) (H.counts h.old) }
+    ensures never_cut { fault_of result ≢ Option.Some HostFault.Cut }
+{
+    let tables = has_sound_tables(h, overlay, frames)?;
+    let spaces = has_sound_spaces(h, overlay, frames)?;
+    Ok(are_both(tables, spaces))
+}
+
+/// Whether the device is a sound registry once its daemon log is replayed. Nothing changes.
+pub fn is_sound<H: Host>(h: &mut H) -> Result<bool, HostFault>
+    ensures sound { H.tells → IfOk result (λ sound. sound ≡ is_sound (H.counts h.old).size (reads (H.state h.old).now.words)) }
+    ensures room { IfOk result (λ sound. IsTrue sound → device_words MIN_FRAMES ≤ (H.counts h.old).size) }
+    ensures stays { H.tells → H.state h.new ≡ H.state h.old }
+    ensures cause { H.counts h.new ≡ after_fault (fault_of result) (H.counts h.old) }
+    ensures never_cut { fault_of result ≢ Option.Some HostFault.Cut }
+{
+    if h.words() < device_words(MIN_FRAMES) {
+        return Ok(false);
+    }
+    match described_frames(h)? {
+        None => Ok(false),
+        Some(frames) => {
+            let overlay = Overlay::of(h)?;
+            if !has_legal_log(h, &overlay, frames)? {
+                return Ok(false);
+            }
+            is_registry(h, &overlay, frames)
+        }
+    }
+}
