@@ -1,21 +1,19 @@
 -- A log read entry by entry: what is left to read, and what the entries before it give to a word.
-use Rattle.std.proofs.Common.{◌≡◌, ◌⊎◌, inl, inr, ℕ, zero, suc, ◌+◌, ◌-◌, ◌<◌, ◌≤◌, Bool, true, false, not, ◌&&◌, ◌||◌, cond, leb, ltb, eqb, List, [], ◌∷◌, length, drop, Option, Some, None, option_map, refl, sym, ap, ap₂, subst, ◌∙◌, arith, add-zero}
+use Rattle.std.proofs.Common.{◌≡◌, ◌⊎◌, inl, inr, ℕ, zero, suc, ◌+◌, ◌-◌, ◌<◌, ◌≤◌, true, false, ◌&&◌, cond, leb, ltb, eqb, List, [], ◌∷◌, length, drop, Option, Some, None, option_map, refl, sym, ap, ap₂, subst, ◌∙◌, arith, add-zero}
 use Rattle.std.specs.Prelude.{slice_get, unwrap_or}
 use Rattle.std.specs.Option.{option_or}
-use Rattle.std.specs.List.{list_all}
-use Rattle.std.proofs.lemmas.Bool.{and_left, and_right, and_parts, and_from, cond-true, cond-false, cases_Bool, leb-true, le-leb, lt-leb, lt-ltb, ltb-true}
+use Rattle.std.proofs.lemmas.Bool.{and_left, and_right, and_from, cond-true, cond-false, cases_Bool, le-leb, lt-ltb}
 use Rattle.std.proofs.lemmas.Bool.Decides.{leb_tells}
 use Rattle.std.proofs.lemmas.Option.{slice_get_past}
-use Rattle.pud_defs.specs.declared.layout.TheConstants.{LOG_HEADER_WORDS, LOG_ENTRY_WORDS, ENTRY_HEADER_WORDS, DAEMON_LOG}
+use Rattle.pud_defs.specs.declared.layout.TheConstants.{LOG_HEADER_WORDS, LOG_ENTRY_WORDS, DAEMON_LOG}
 use Rattle.pud_defs.specs.declared.log_words.TheConstants.{UNDO_ORDER, REDO_ORDER}
 use Rattle.pud_defs.specs.Image.{Image}
-use Rattle.pud_defs.specs.Entries.{Entry, Log, log_of, gate_used, gate_lo, gate_hi, first_entry, entries_in, entries_of, words_from}
-use Rattle.pud_defs.specs.Replay.{device_word, is_in_range, value_at, value_in, given_by, undone, redone, new_value, replayed, is_in_log, settled_by}
-use Rattle.pud_defs.specs.Registry.{is_allowed, may_be_logged}
+use Rattle.pud_defs.specs.Entries.{Entry, Log, log_of, gate_used, first_entry, entries_in, entries_of, words_from}
+use Rattle.pud_defs.specs.Replay.{device_word, is_in_range, value_in, given_by, undone, redone, is_in_log, settled_by}
 use Rattle.pud_defs.proofs.Entries.{words_from-length, words_from-drop, first_entry-fits, entries_in-first, entries_in-none, entries_in-nothing, spells, used_within}
 use Rattle.pud_defs.proofs.Replay.{undone-first, undone-none, redone-first, redone-none, new_value-of, replayed-closed, settled_by-outside}
 use Rattle.log_entry.specs.declared.Entry.{Entry as Found}
-use Rattle.log_entry.specs.Reading.{Reading, entry_next, entry_from, PassesOne, Passes}
+use Rattle.log_entry.specs.Reading.{Reading, entry_next, entry_from, PassesOne}
 use Rattle.log_entry.proofs.Readings.{next-by}
 use Rattle.registry.specs.declared.overlay.Overlay.{Overlay}
 use Rattle.registry.specs.declared.overlay.Given.{Given}

@@ -85,7 +85,13 @@ impl Overlay {
     }
 
     /// Takes in what an entry gives to word `w`.
-    fn add<H: Host>(&self, h: &mut H, entry: &Entry, w: u32, given: Given) -> Result<Given, HostFault>
+    fn add<H: Host>(
+        &self,
+        h: &mut H,
+        entry: &Entry,
+        w: u32,
+        given: Given,
+    ) -> Result<Given, HostFault>
         requires { entry.now.at + entry.now.n ≤ (H.counts h.old).size }
         ensures more { H.tells → (image : Image) → reads (H.state h.old).now.words ≡ image → (log : Log) → HasRange self.now log
             → IfOk result (λ after. GivesMore log (entry_from image entry.now) w given after) }

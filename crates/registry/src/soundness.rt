@@ -124,7 +124,12 @@ fn has_legal_log<H: Host>(h: &mut H, overlay: &Overlay, frames: u32) -> Result<b
 
 /// Whether the words `from` to `to - 1`, which stand behind the daemon log, are 0. It reads no further than the first that
 /// is not.
-fn is_zero_range<H: Host>(h: &mut H, overlay: &Overlay, from: u32, to: u32) -> Result<bool, HostFault>
+fn is_zero_range<H: Host>(
+    h: &mut H,
+    overlay: &Overlay,
+    from: u32,
+    to: u32,
+) -> Result<bool, HostFault>
     requires log { DAEMON_LOG + LOG_WORDS ≤ (H.counts h.old).size }
     requires behind { DAEMON_LOG + LOG_WORDS ≤ from }
     requires within { to ≤ (H.counts h.old).size }
@@ -276,7 +281,12 @@ fn has_closed_logs<H: Host>(h: &mut H, frames: u32, client: u32) -> Result<bool,
 }
 
 /// Whether the logs of a client are closed, or not registered.
-fn is_closed_space<H: Host>(h: &mut H, overlay: &Overlay, frames: u32, client: u32) -> Result<bool, HostFault>
+fn is_closed_space<H: Host>(
+    h: &mut H,
+    overlay: &Overlay,
+    frames: u32,
+    client: u32,
+) -> Result<bool, HostFault>
     requires few { frames ≤ MAX_FRAMES }
     requires known { client < CLIENTS }
     requires room { device_words frames ≤ (H.counts h.old).size }

@@ -1,9 +1,8 @@
-use Rattle.std.proofs.Common.{◌≡◌, inr, ℕ, Bool, ◌+◌, ◌*◌, ◌≤◌, ◌<◌, ◌||◌, eqb, ne_eqb, sym, ap, subst, ◌∙◌, arith}
+use Rattle.std.proofs.Common.{◌≡◌, inr, Bool, ◌||◌, ne_eqb, sym, ap, ◌∙◌, arith}
 use Rattle.std.proofs.lemmas.Result.{IfOk-weaker}
 use Rattle.pm_model.specs.Words.{reads}
 use Rattle.pm_model.specs.Moments.{State}
 use Rattle.pud_defs.specs.declared.layout.TheConstants.{DAEMON_LOG}
-use Rattle.pud_defs.specs.Image.{Image}
 use Rattle.pud_defs.specs.Replay.{settled_by}
 use Rattle.pud_defs.specs.Spaces.{space_record_at, has_closed_logs}
 use Rattle.pud_defs.proofs.Replay.{outside_log}

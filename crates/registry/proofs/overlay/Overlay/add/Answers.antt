@@ -1,4 +1,4 @@
-use Rattle.std.proofs.Common.{◌≡◌, inl, inr, ℕ, ◌+◌, ◌-◌, ◌<◌, ◌≤◌, ◌&&◌, true, leb, ltb, sym, ap, ◌∙◌, arith}
+use Rattle.std.proofs.Common.{inl, inr, ◌+◌, ◌-◌, leb, ltb, sym, ap, ◌∙◌}
 use Rattle.std.proofs.lemmas.Bool.{and_parts, leb-true, ltb-true}
 use Rattle.pud_defs.specs.Image.{Image}
 use Rattle.registry.proofs.Overlaid.{gives_nothing, gives_more}
