@@ -2,7 +2,9 @@
 use Rattle.std.proofs.Common.{◌≡◌, ◌⊎◌, inl, inr, ℕ, ◌+◌, ◌-◌, ◌<◌, ◌≤◌, Bool, true, false, not, ◌&&◌, ◌||◌, cond, leb, eqb, List, [], ◌∷◌, length, Option, Some, None, refl, sym, ap, ap₂, ◌∙◌, arith, eqb-true}
 use Rattle.std.specs.List.{list_all}
 use Rattle.std.specs.Option.{option_or}
-use Rattle.std.proofs.lemmas.Bool.{and_parts, cond-true, cond-false, cases_Bool, leb-true, lt-leb, or_cases}
+use Rattle.std.proofs.lemmas.Bool.{and_parts, cond-true, cond-false, cases_Bool, leb-true, le-leb, lt-leb, or_cases}
+use Rattle.std.proofs.lemmas.Bool.Decides.{leb_tells}
+use Rattle.std.proofs.lemmas.Option.{slice_get_past}
 use Rattle.pud_defs.specs.declared.layout.TheConstants.{NEXT_NUMBER_WORD, DAEMON_LOG, TYPE_TABLE, LOG_WORDS}
 use Rattle.pud_defs.specs.declared.log_words.TheConstants.{UNDO_ORDER, REDO_ORDER}
 use Rattle.pud_defs.specs.Image.{Image}
@@ -12,36 +14,61 @@ use Rattle.pud_defs.specs.Replay.{device_word, is_in_range, value_at, given_by, 
 use Rattle.pud_defs.specs.Registry.{frames_of, may_be_logged, is_allowed, are_allowed, has_legal_log}
 use Rattle.pud_defs.proofs.Replay.{undone-first, redone-first, undone-none, redone-none, new_value-of, overwritten-stays, settled_by-outside, outside_log}
 
-first_logged : (F at n : ℕ) → may_be_logged F at n ≡ true → NEXT_NUMBER_WORD ≤ at
-first_logged F at n may = elim (or_cases ((eqb at NEXT_NUMBER_WORD && eqb n 1) || (leb TYPE_TABLE at && leb (at + n) (tables_end F))) (leb (frames_at F) at && leb (at + n) (device_words F)) may) [
-  | inl tables ↦ elim (or_cases (eqb at NEXT_NUMBER_WORD && eqb n 1) (leb TYPE_TABLE at && leb (at + n) (tables_end F)) tables) [
-    | inl number ↦ let here = eqb-true _ _ (and_parts (eqb at NEXT_NUMBER_WORD) (eqb n 1) number).0 in omega arith
-    | inr types ↦ let low = leb-true _ _ (and_parts (leb TYPE_TABLE at) (leb (at + n) (tables_end F)) types).0 in omega arith
+-- wherever the daemon log may write words, this one is none of them
+pub record IsUnlogged (F w : ℕ) : Type 0 where
+  pub apart : (at n : ℕ) → may_be_logged F at n ≡ true → (w < at) ⊎ (at + n ≤ w)
+
+apart_from : (F w at n : ℕ) → (w ≡ NEXT_NUMBER_WORD → ⊥) → (w < TYPE_TABLE) ⊎ (tables_end F ≤ w) → w < frames_at F → may_be_logged F at n ≡ true → (w < at) ⊎ (at + n ≤ w)
+apart_from F w at n number tables frames may = elim (or_cases ((eqb at NEXT_NUMBER_WORD && eqb n 1) || (leb TYPE_TABLE at && leb (at + n) (tables_end F))) (leb (frames_at F) at && leb (at + n) (device_words F)) may) [
+  | inl first ↦ elim (or_cases (eqb at NEXT_NUMBER_WORD && eqb n 1) (leb TYPE_TABLE at && leb (at + n) (tables_end F)) first) [
+    | inl one ↦
+        let parts = and_parts (eqb at NEXT_NUMBER_WORD) (eqb n 1) one in
+        let here : at ≡ NEXT_NUMBER_WORD = eqb-true at NEXT_NUMBER_WORD parts.0 in
+        let count : n ≡ 1 = eqb-true n 1 parts.1 in
+        elim (leb_tells (at + n) w) [
+          | inl behind ↦ inr behind.1
+          | inr before ↦ inl (let less = before.1 in omega arith)
+        ]
+    | inr table ↦
+        let parts = and_parts (leb TYPE_TABLE at) (leb (at + n) (tables_end F)) table in
+        let low : TYPE_TABLE ≤ at = leb-true TYPE_TABLE at parts.0 in
+        let high : at + n ≤ tables_end F = leb-true (at + n) (tables_end F) parts.1 in
+        elim tables [
+          | inl before ↦ inl (omega arith)
+          | inr behind ↦ inr (omega arith)
+        ]
   ]
-  | inr frames ↦ let low = leb-true _ _ (and_parts (leb (frames_at F) at) (leb (at + n) (device_words F)) frames).0 in omega arith
+  | inr frame ↦ let low : frames_at F ≤ at = leb-true (frames_at F) at (and_parts (leb (frames_at F) at) (leb (at + n) (device_words F)) frame).0 in inl (omega arith)
 ]
 
-not_given : (F order w : ℕ) (log : Log) (e : Entry) → is_allowed F log e ≡ true → w < NEXT_NUMBER_WORD → given_by device_word log order e w ≡ None
-not_given F order w log e allowed low = elim (cases_Bool (is_in_range log e && eqb e.order order)) [
+-- so it is with a word before the frames that is not the next number and in none of the tables from that of the types on
+pub unlogged : (F w : ℕ) → (w ≡ NEXT_NUMBER_WORD → ⊥) → (w < TYPE_TABLE) ⊎ (tables_end F ≤ w) → w < frames_at F → IsUnlogged F w
+unlogged F w number tables frames = record { apart = λ at n may. apart_from F w at n number tables frames may }
+
+value_apart : (at w : ℕ) (vals : List ℕ) → (w < at) ⊎ (at + length vals ≤ w) → value_at at vals w ≡ None
+value_apart at w vals (inl before) = cond-false _ _ _ (lt-leb at w before)
+value_apart at w vals (inr behind) = cond-true _ _ _ (le-leb at w (omega arith)) ∙ slice_get_past vals (w - at) (omega arith)
+
+not_given : (F order w : ℕ) (log : Log) (e : Entry) → is_allowed F log e ≡ true → IsUnlogged F w → given_by device_word log order e w ≡ None
+not_given F order w log e allowed none = elim (cases_Bool (is_in_range log e && eqb e.order order)) [
   | inr other ↦ cond-false _ _ _ other
   | inl counts ↦
       let within = (and_parts (is_in_range log e) (eqb e.order order) counts).0 in
       let may : may_be_logged F e.address (length e.vals) ≡ true = sym (ap (λ (b : Bool). not b || may_be_logged F e.address (length e.vals)) within) ∙ allowed in
-      let first = first_logged F e.address (length e.vals) may in
-      cond-true _ _ _ counts ∙ cond-false _ _ _ (lt-leb e.address w (omega arith))
+      cond-true _ _ _ counts ∙ value_apart e.address w e.vals (none.apart e.address (length e.vals) may)
 ]
 
-not_undone : (F w : ℕ) (log : Log) (es : List Entry) → list_all (is_allowed F log) es ≡ true → w < NEXT_NUMBER_WORD → undone device_word log es w ≡ None
-not_undone F w log [] allowed low = undone-none device_word log w
-not_undone F w log (e ∷ es) allowed low =
+not_undone : (F w : ℕ) (log : Log) (es : List Entry) → list_all (is_allowed F log) es ≡ true → IsUnlogged F w → undone device_word log es w ≡ None
+not_undone F w log [] allowed none = undone-none device_word log w
+not_undone F w log (e ∷ es) allowed none =
     let parts = and_parts (is_allowed F log e) (list_all (is_allowed F log) es) allowed in
-    undone-first device_word log e es w ∙ ap₂ option_or (not_given F UNDO_ORDER w log e parts.0 low) (not_undone F w log es parts.1 low)
+    undone-first device_word log e es w ∙ ap₂ option_or (not_given F UNDO_ORDER w log e parts.0 none) (not_undone F w log es parts.1 none)
 
-not_redone : (F w : ℕ) (log : Log) (es : List Entry) → list_all (is_allowed F log) es ≡ true → w < NEXT_NUMBER_WORD → redone device_word log es w ≡ None
-not_redone F w log [] allowed low = redone-none device_word log w
-not_redone F w log (e ∷ es) allowed low =
+not_redone : (F w : ℕ) (log : Log) (es : List Entry) → list_all (is_allowed F log) es ≡ true → IsUnlogged F w → redone device_word log es w ≡ None
+not_redone F w log [] allowed none = redone-none device_word log w
+not_redone F w log (e ∷ es) allowed none =
     let parts = and_parts (is_allowed F log e) (list_all (is_allowed F log) es) allowed in
-    redone-first device_word log e es w ∙ ap₂ option_or (not_redone F w log es parts.1 low) (not_given F REDO_ORDER w log e parts.0 low)
+    redone-first device_word log e es w ∙ ap₂ option_or (not_redone F w log es parts.1 none) (not_given F REDO_ORDER w log e parts.0 none)
 
 -- the entries of a legal daemon log
 pub record LegalEntries (image : Image) : Type 0 where
@@ -57,15 +84,27 @@ pub legal_entries : (image : Image) → has_legal_log image ≡ true → LegalEn
 unfolding has_legal_log
 legal_entries image legal = allowed_entries image (log_of image DAEMON_LOG).entries refl legal
 
--- a legal daemon log gives nothing to the words that tell what the device is
-pub new_value-unlogged : (image : Image) (w : ℕ) → has_legal_log image ≡ true → w < NEXT_NUMBER_WORD → new_value device_word (log_of image DAEMON_LOG) w ≡ None
-new_value-unlogged image w legal low =
+-- a legal daemon log gives nothing to a word outside it that it may not write
+pub new_value-apart : (image : Image) (w : ℕ) → has_legal_log image ≡ true → IsUnlogged (frames_of image) w → new_value device_word (log_of image DAEMON_LOG) w ≡ None
+new_value-apart image w legal none =
     let l = legal_entries image legal in
     let log = log_of image DAEMON_LOG in
-    new_value-of device_word log l.entries w l.are ∙ ap₂ option_or (not_redone (frames_of image) w log l.entries l.allowed low) (not_undone (frames_of image) w log l.entries l.allowed low)
+    new_value-of device_word log l.entries w l.are ∙ ap₂ option_or (not_redone (frames_of image) w log l.entries l.allowed none) (not_undone (frames_of image) w log l.entries l.allowed none)
 
--- so they read the same with it replayed
+-- so it reads the same with that log replayed
+pub settled_by-apart : (image : Image) (w : ℕ) → has_legal_log image ≡ true → is_in_log DAEMON_LOG w ≡ false → IsUnlogged (frames_of image) w → settled_by DAEMON_LOG image w ≡ image w
+settled_by-apart image w legal outside none =
+    settled_by-outside DAEMON_LOG image w outside ∙ overwritten-stays (new_value device_word (log_of image DAEMON_LOG)) image w (new_value-apart image w legal none)
+
+-- the words that tell what the device is
+pub new_value-unlogged : (image : Image) (w : ℕ) → has_legal_log image ≡ true → w < NEXT_NUMBER_WORD → new_value device_word (log_of image DAEMON_LOG) w ≡ None
+new_value-unlogged image w legal low = new_value-apart image w legal (unlogged (frames_of image) w (λ e. absurd (omega arith)) (inl (omega arith)) (omega arith))
+
 pub settled_by-unlogged : (image : Image) (w : ℕ) → has_legal_log image ≡ true → w < NEXT_NUMBER_WORD → settled_by DAEMON_LOG image w ≡ image w
 settled_by-unlogged image w legal low =
-    let outside : is_in_log DAEMON_LOG w ≡ false = outside_log DAEMON_LOG w (inl (omega arith)) in
-    settled_by-outside DAEMON_LOG image w outside ∙ overwritten-stays (new_value device_word (log_of image DAEMON_LOG)) image w (new_value-unlogged image w legal low)
+    settled_by-apart image w legal (outside_log DAEMON_LOG w (inl (omega arith))) (unlogged (frames_of image) w (λ e. absurd (omega arith)) (inl (omega arith)) (omega arith))
+
+-- and those of the clients' logs
+pub settled_by-client_logs : (image : Image) (w : ℕ) → has_legal_log image ≡ true → tables_end (frames_of image) ≤ w → w < frames_at (frames_of image) → settled_by DAEMON_LOG image w ≡ image w
+settled_by-client_logs image w legal low high =
+    settled_by-apart image w legal (outside_log DAEMON_LOG w (inr (omega arith))) (unlogged (frames_of image) w (λ e. absurd (omega arith)) (inr low) high)

@@ -1,5 +1,5 @@
 -- The log-space table: images that agree on what is read of it and of the clients' logs.
-use Rattle.std.proofs.Common.{◌≡◌, ℕ, zero, suc, ◌+◌, ◌*◌, ◌^◌, ◌<◌, ◌≤◌, Bool, true, false, not, ◌&&◌, ◌||◌, cond, eqb, leb, ltb, Option, Some, None, refl, sym, ap, ap₂, ◌∙◌, ⊎_elim, inl, inr, arith, eq-eqb, eqb-true}
+use Rattle.std.proofs.Common.{◌≡◌, ℕ, zero, suc, ◌+◌, ◌*◌, ◌^◌, ◌<◌, ◌≤◌, Bool, true, false, not, ◌&&◌, ◌||◌, cond, eqb, leb, ltb, Option, Some, None, refl, sym, ap, ap₂, ◌∙◌, ⊎_elim, inl, inr, arith, add-one, eq-eqb, eqb-true}
 use Rattle.std.specs.Prelude.{nat_le, is_some}
 use Rattle.std.proofs.lemmas.Bool.{and_parts, and_from, cond-true, cond-false, cases_Bool, cases_eq, or_left, leb-true}
 use Rattle.pud_defs.specs.declared.layout.TheConstants.{SPACE_TABLE, SPACE_RECORD_WORDS, CLIENTS, CLIENT_LOGS, MAX_OWNER_ID, LOG_WORDS, LOG_HEADER_WORDS, LOG_ENTRY_WORDS, PUDDLE_TABLE}
@@ -25,6 +25,20 @@ all_below-each zero f all k below = absurd (omega arith)
 all_below-each (suc n) f all k below =
     let parts = and_parts (all_below n f) (f n) all in
     ⊎_elim (λ here. ap f here ∙ parts.1) (λ other. all_below-each n f parts.0 k (omega arith)) (cases_eq k n)
+
+-- ---- steps of a loop over the numbers below n
+
+pub all_below-more : (n : ℕ) (f : ℕ → Bool) → all_below n f ≡ true → f n ≡ true → all_below (n + 1) f ≡ true
+unfolding all_below
+all_below-more n f all here = ap (λ k. all_below k f) (add-one n) ∙ and_from (all_below n f) (f n) all here
+
+pub all_below-fails : (n k : ℕ) (f : ℕ → Bool) → k < n → f k ≡ false → all_below n f ≡ false
+all_below-fails n k f below fails = elim (cases_Bool (all_below n f)) [
+  | inl all ↦ absurd (let it : true ≡ false = sym (all_below-each n f all k below) ∙ fails in cc)
+  | inr some ↦ some
+]
+
+-- ---- images that agree
 
 -- images that agree on the words of a log have the same entries there
 pub entries_of-within : (i j : Image) (at : ℕ) → ((k : ℕ) → at ≤ k → k < at + LOG_WORDS → i k ≡ j k) → entries_of i at ≡ entries_of j at

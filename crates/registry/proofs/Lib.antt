@@ -1,2 +1,5 @@
+pub mod Overlaid
+pub mod Judged
+pub mod Records
 pub mod Applied
 pub mod Cleared

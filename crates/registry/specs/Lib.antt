@@ -1,1 +1,3 @@
+pub mod Overlaying
+pub mod Judging
 pub mod Registry

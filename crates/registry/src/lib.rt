@@ -10,6 +10,11 @@ ghost use Rattle.pud_defs.specs.declared.layout.TheConstants.{DAEMON_LOG, LOG_WO
 ghost use Rattle.pud_defs.specs.World.{StoredWorld, world_of};
 ghost use Rattle.registry.specs.Registry.{AppliesLog, IsSettled, Clears};
 
+mod overlay;
+mod soundness;
+
+pub use soundness::is_sound;
+
 use batch::Batch;
 use log_replay::settle_log;
 use pm_model::{Host, HostFault};

@@ -1,0 +1,51 @@
+-- The parts of a sound registry, in the order in which they are read.
+use Rattle.std.specs.Prelude.{ℕ, ◌-◌, ◌≤◌, ◌==◌, nat_le, Bool, not, ◌&&◌, ◌||◌, cond, List, Option, Some, None}
+use Rattle.pud_defs.specs.declared.layout.TheConstants.{DEVICE_MAGIC, VERSION, MAGIC_WORD, VERSION_WORD, FRAMES_WORD, MIN_FRAMES, MAX_FRAMES, TYPE_RECORDS, PUDDLE_TABLE, NUMBER_LIMIT, MAX_OWNER_ID}
+use Rattle.pud_defs.specs.Image.{Image}
+use Rattle.pud_defs.specs.TypeMap.{is_legal_map, is_legal_type_id}
+use Rattle.pud_defs.specs.Types.{type_records}
+use Rattle.pud_defs.specs.Layout.{tables_end, device_words, is_legal_frame_count}
+use Rattle.pud_defs.specs.Spaces.{space_record_at, has_closed_logs, are_legal_spaces, are_closed_logs}
+use Rattle.pud_defs.specs.Registry.{are_zero, has_legal_number, has_legal_types, has_no_pools}
+
+-- the number of frames, by the size of the device and the words 0, 1 and 3, where these are sound
+abbrev pub frames_by : (size magic version frames : ℕ) → Option ℕ
+frames_by size magic version frames =
+    cond (magic == DEVICE_MAGIC && version == VERSION && (is_legal_frame_count frames && nat_le (device_words frames) size)) (Some frames) None
+
+-- the same of an image
+abbrev pub frames_described : ℕ → Image → Option ℕ
+frames_described size image = frames_by size (image MAGIC_WORD) (image VERSION_WORD) (image FRAMES_WORD)
+
+-- a device of so many words has room for so many frames, and their number is legal
+pub record IsRoomFor (size frames : ℕ) : Type 0 where
+  pub some : MIN_FRAMES ≤ frames
+  pub no_more : frames ≤ MAX_FRAMES
+  pub fits : device_words frames ≤ size
+
+-- the last n records of the type table
+abbrev pub last_records : Image → ℕ → List (ℕ × ℕ)
+last_records image n = type_records image (TYPE_RECORDS - n) n
+
+-- whether records are legal with one more in front, by whether its id is one of theirs and whether they are legal
+abbrev pub with_one_more : (id map : ℕ) (again legal : Bool) → Bool
+with_one_more id map again legal = cond (id == 0) legal (is_legal_type_id id && is_legal_map map && not again && legal)
+
+abbrev pub is_number : ℕ → Bool
+is_number v = nat_le 1 v && nat_le v NUMBER_LIMIT
+
+-- a log-space record of these three words is legal
+abbrev pub is_space : (used uid gid : ℕ) → Bool
+is_space used uid gid = used == 0 || (used == 1 && nat_le uid MAX_OWNER_ID && nat_le gid MAX_OWNER_ID)
+
+-- the client's logs are not registered, or each is closed
+abbrev pub is_closed_space : Image → ℕ → ℕ → Bool
+is_closed_space image F client = image (space_record_at client) == 0 || has_closed_logs image F client
+
+-- the next number and the tables before the clients' are sound, and no puddle is there, on a device of so many frames
+abbrev pub has_sound_tables : Image → ℕ → Bool
+has_sound_tables image F = has_legal_number image && has_legal_types image && has_no_pools image && are_zero image PUDDLE_TABLE (tables_end F - PUDDLE_TABLE)
+
+-- the clients' table is sound, and each log that is registered is closed
+abbrev pub has_sound_spaces : Image → ℕ → Bool
+has_sound_spaces image F = are_legal_spaces image && are_closed_logs image F

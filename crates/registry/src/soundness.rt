@@ -1,0 +1,403 @@
+//! Whether a device is a sound registry once its daemon log is replayed. Nothing is replayed and nothing is written: each
+//! word is read as the replay makes it.
+ghost use Rattle.std.specs.Prelude.{◌≡◌, ◌≢◌, ◌+◌, ◌-◌, ◌<◌, ◌≤◌, ◌==◌, ℕ, true, not, ◌&&◌, ◌||◌, nat_lt, nat_le, List, Option, IfOk, IfSome, IsTrue};
+ghost use Rattle.std.specs.List.{list_all, list_any};
+ghost use Rattle.pm_model.specs.Words.{reads};
+ghost use Rattle.pm_model.specs.Counts.{after_fault, fault_of};
+ghost use Rattle.pud_defs.specs.Image.{Image};
+ghost use Rattle.pud_defs.specs.Layout.{device_words};
+ghost use Rattle.pud_defs.specs.Entries.{Entry as LoggedEntry, log_of, entries_of};
+ghost use Rattle.pud_defs.specs.Replay.{settled_by};
+ghost use Rattle.pud_defs.specs.Spaces.{is_closed_range, is_legal_space, is_closed_log, has_closed_logs, are_legal_spaces, are_closed_logs};
+ghost use Rattle.pud_defs.specs.Registry.{frames_of, are_zero, has_legal_number, has_legal_types, may_be_logged, is_allowed, has_legal_log, is_registry, is_sound};
+ghost use Rattle.registry.specs.Overlaying.{HasRange, IsOverlay};
+ghost use Rattle.registry.specs.Judging.{IsRoomFor, frames_by, frames_described, with_one_more, is_number, is_space, is_closed_space, has_sound_tables, has_sound_spaces};
+
+use crate::overlay::Overlay;
+use log_entry::{Entry, EntryReader, well_formed};
+use pm_model::{Host, HostFault};
+use pud_defs::layout::{
+    CLIENT_LOGS, CLIENTS, DAEMON_LOG, DEVICE_MAGIC, FRAMES_WORD, LOG_WORDS, MAGIC_WORD, MAX_FRAMES,
+    MAX_OWNER_ID, MIN_FRAMES, NEXT_NUMBER_WORD, NUMBER_LIMIT, POOL_TABLE, PUDDLE_TABLE,
+    SPACE_RECORD_WORDS, SPACE_TABLE, TYPE_RECORD_WORDS, TYPE_RECORDS, TYPE_TABLE, VERSION,
+    VERSION_WORD, device_words, frames_at, log_at, tables_end,
+};
+use pud_defs::log_words::{COMMITTING_HI, gate_hi, gate_lo};
+use pud_defs::type_map::{is_legal_map, is_legal_type_id};
+
+/// The number of frames, by the words that describe a device.
+fn frames_of_header(words: u32, magic: u64, version: u64, frames: u64) -> Option<u32>
+    ensures frames { result ≡ frames_by words magic version frames }
+    ensures within { IfSome result (IsRoomFor words) }
+{
+    if magic != DEVICE_MAGIC || version != VERSION {
+        return None;
+    }
+    if frames < u64::from(MIN_FRAMES) || frames > u64::from(MAX_FRAMES) {
+        return None;
+    }
+    let frames = frames as u32;
+    if words < device_words(frames) {
+        return None;
+    }
+    Some(frames)
+}
+
+/// The number of frames, where the words 0, 1 and 3 are sound and the device has the words that so many frames need. The
+/// daemon log can write none of these words.
+fn described_frames<H: Host>(h: &mut H) -> Result<Option<u32>, HostFault>
+    requires { device_words MIN_FRAMES ≤ (H.counts h.old).size }
+    ensures frames { H.tells → IfOk result (λ frames. frames ≡ frames_described (H.counts h.old).size (reads (H.state h.old).now.words)) }
+    ensures within { IfOk result (λ frames. IfSome frames (IsRoomFor (H.counts h.old).size)) }
+    ensures stays { H.tells → H.state h.new ≡ H.state h.old }
+    ensures cause { H.counts h.new ≡ after_fault (fault_of result) (H.counts h.old) }
+    ensures never_cut { fault_of result ≢ Option.Some HostFault.Cut }
+{
+    let words = h.words();
+    let magic = h.load(MAGIC_WORD)?;
+    let version = h.load(VERSION_WORD)?;
+    let frames = h.load(FRAMES_WORD)?;
+    Ok(frames_of_header(words, magic, version, frames))
+}
+
+/// Whether `n` words from word `at` on lie wholly from word `from` on and before word `to`.
+fn lie_within(at: u64, n: u32, from: u32, to: u32) -> bool
+    ensures { result ≡ (nat_le from at && nat_le (at + n) to) }
+{
+    let to = u64::from(to);
+    u64::from(from) <= at && at <= to && u64::from(n) <= to - at
+}
+
+/// Whether the daemon log may write `n` words from word `at` on, on a device of so many frames.
+fn may_be_logged(frames: u32, at: u64, n: u32) -> bool
+    requires { frames ≤ MAX_FRAMES }
+    ensures { result ≡ may_be_logged frames at n }
+{
+    let number = at == u64::from(NEXT_NUMBER_WORD) && n == 1;
+    number
+        || lie_within(at, n, TYPE_TABLE, tables_end(frames))
+        || lie_within(at, n, frames_at(frames), device_words(frames))
+}
+
+/// Whether an entry is out of range, or lies where the daemon log may write.
+fn is_allowed(overlay: &Overlay, frames: u32, entry: &Entry) -> bool
+    requires { frames ≤ MAX_FRAMES }
+    ensures { result ≡ (not (nat_lt overlay.now.lo entry.now.seq && nat_lt entry.now.seq overlay.now.hi) || may_be_logged frames entry.now.addr entry.now.n) }
+{
+    !overlay.counts(entry) || may_be_logged(frames, entry.addr, entry.n)
+}
+
+/// Whether each entry of the daemon log is.
+fn are_allowed<H: Host>(h: &mut H, overlay: &Overlay, frames: u32) -> Result<bool, HostFault>
+    requires few { frames ≤ MAX_FRAMES }
+    requires log { DAEMON_LOG + LOG_WORDS ≤ (H.counts h.old).size }
+    ensures allowed { H.tells → (image : Image) → reads (H.state h.old).now.words ≡ image → (es : List LoggedEntry) → entries_of image DAEMON_LOG ≡ Option.Some es
+        → HasRange overlay.now (log_of image DAEMON_LOG) → IfOk result (λ allowed. allowed ≡ list_all (is_allowed frames (log_of image DAEMON_LOG)) es) }
+    ensures stays { H.tells → H.state h.new ≡ H.state h.old }
+    ensures cause { H.counts h.new ≡ after_fault (fault_of result) (H.counts h.old) }
+    ensures never_cut { fault_of result ≢ Option.Some HostFault.Cut }
+{
+    let mut reader = EntryReader::new(DAEMON_LOG);
+    while let Some(entry) = reader.next(h)? {
+        if !is_allowed(overlay, frames, &entry) {
+            return Ok(false);
+        }
+    }
+    Ok(true)
+}
+
+/// Whether the daemon log, whose range is the overlay's, is well formed and its entries in range lie where they may.
+fn has_legal_log<H: Host>(h: &mut H, overlay: &Overlay, frames: u32) -> Result<bool, HostFault>
+    requires few { frames ≤ MAX_FRAMES }
+    requires log { DAEMON_LOG + LOG_WORDS ≤ (H.counts h.old).size }
+    ensures legal { H.tells → (image : Image) → reads (H.state h.old).now.words ≡ image → HasRange overlay.now (log_of image DAEMON_LOG) → frames ≡ frames_of image
+        → IfOk result (λ legal. legal ≡ has_legal_log image) }
+    ensures stays { H.tells → H.state h.new ≡ H.state h.old }
+    ensures cause { H.counts h.new ≡ after_fault (fault_of result) (H.counts h.old) }
+    ensures never_cut { fault_of result ≢ Option.Some HostFault.Cut }
+{
+    if !well_formed(h, DAEMON_LOG)? {
+        return Ok(false);
+    }
+    are_allowed(h, overlay, frames)
+}
+
+/// Whether the words `from` to `to - 1`, which stand behind the daemon log, are 0. It reads no further than the first that
+/// is not.
+fn is_zero_range<H: Host>(
+    h: &mut H,
+    overlay: &Overlay,
+    from: u32,
+    to: u32,
+) -> Result<bool, HostFault>
+    requires log { DAEMON_LOG + LOG_WORDS ≤ (H.counts h.old).size }
+    requires behind { DAEMON_LOG + LOG_WORDS ≤ from }
+    requires within { to ≤ (H.counts h.old).size }
+    ensures zero { H.tells → (image : Image) → reads (H.state h.old).now.words ≡ image → IsOverlay overlay.now image
+        → IfOk result (λ zero. zero ≡ are_zero (settled_by DAEMON_LOG image) from (to - from)) }
+    ensures stays { H.tells → H.state h.new ≡ H.state h.old }
+    ensures cause { H.counts h.new ≡ after_fault (fault_of result) (H.counts h.old) }
+    ensures never_cut { fault_of result ≢ Option.Some HostFault.Cut }
+{
+    for at in from..to {
+        if overlay.word(h, at)? != 0 {
+            return Ok(false);
+        }
+    }
+    Ok(true)
+}
+
+/// Whether these records are legal with one more in front: a free one, or a used one that is legal and whose id is none
+/// of theirs.
+fn is_legal_with(id: u64, map: u64, ids: &[u64], legal: bool) -> bool
+    ensures { result ≡ with_one_more id map (list_any (λ y. y == id) ids.now) legal }
+{
+    if id == 0 {
+        return legal;
+    }
+    let again = ids.contains(&id);
+    is_legal_type_id(id) && is_legal_map(map) && !again && legal
+}
+
+/// Whether each used type record is legal and no id comes twice. The table is read from its last record to its first.
+fn has_legal_types<H: Host>(h: &mut H, overlay: &Overlay) -> Result<bool, HostFault>
+    requires { POOL_TABLE ≤ (H.counts h.old).size }
+    ensures legal { H.tells → (image : Image) → reads (H.state h.old).now.words ≡ image → IsOverlay overlay.now image
+        → IfOk result (λ legal. legal ≡ has_legal_types (settled_by DAEMON_LOG image)) }
+    ensures stays { H.tells → H.state h.new ≡ H.state h.old }
+    ensures cause { H.counts h.new ≡ after_fault (fault_of result) (H.counts h.old) }
+    ensures never_cut { fault_of result ≢ Option.Some HostFault.Cut }
+{
+    let mut ids = [0u64; 64];
+    let mut legal = true;
+    for done in 0..TYPE_RECORDS {
+        let at = TYPE_TABLE + TYPE_RECORD_WORDS * (TYPE_RECORDS - 1 - done);
+        let id = overlay.word(h, at)?;
+        let map = overlay.word(h, at + 1)?;
+        legal = is_legal_with(id, map, &ids[..done as usize], legal);
+        ids[done as usize] = id;
+    }
+    Ok(legal)
+}
+
+/// Whether the next UUID number is from 1 to 2^63.
+fn has_legal_number<H: Host>(h: &mut H, overlay: &Overlay) -> Result<bool, HostFault>
+    requires { DAEMON_LOG + LOG_WORDS ≤ (H.counts h.old).size }
+    ensures legal { H.tells → (image : Image) → reads (H.state h.old).now.words ≡ image → IsOverlay overlay.now image
+        → IfOk result (λ legal. legal ≡ has_legal_number (settled_by DAEMON_LOG image)) }
+    ensures stays { H.tells → H.state h.new ≡ H.state h.old }
+    ensures cause { H.counts h.new ≡ after_fault (fault_of result) (H.counts h.old) }
+    ensures never_cut { fault_of result ≢ Option.Some HostFault.Cut }
+{
+    let number = overlay.word(h, NEXT_NUMBER_WORD)?;
+    Ok(is_number(number))
+}
+
+fn is_number(number: u64) -> bool
+    ensures { result ≡ is_number number }
+{
+    number >= 1 && number <= NUMBER_LIMIT
+}
+
+/// Whether a log-space record of these three words is free, or is used and has a legal owner.
+fn is_space(used: u64, uid: u64, gid: u64) -> bool
+    ensures { result ≡ is_space used uid gid }
+{
+    let known = uid <= u64::from(MAX_OWNER_ID) && gid <= u64::from(MAX_OWNER_ID);
+    used == 0 || (used == 1 && known)
+}
+
+/// Whether the log-space record of a client is legal.
+fn is_legal_space<H: Host>(h: &mut H, overlay: &Overlay, client: u32) -> Result<bool, HostFault>
+    requires known { client < CLIENTS }
+    requires within { PUDDLE_TABLE ≤ (H.counts h.old).size }
+    ensures legal { H.tells → (image : Image) → reads (H.state h.old).now.words ≡ image → IsOverlay overlay.now image
+        → IfOk result (λ legal. legal ≡ is_legal_space (settled_by DAEMON_LOG image) client) }
+    ensures stays { H.tells → H.state h.new ≡ H.state h.old }
+    ensures cause { H.counts h.new ≡ after_fault (fault_of result) (H.counts h.old) }
+    ensures never_cut { fault_of result ≢ Option.Some HostFault.Cut }
+{
+    let at = SPACE_TABLE + SPACE_RECORD_WORDS * client;
+    let used = overlay.word(h, at)?;
+    let uid = overlay.word(h, at + 1)?;
+    let gid = overlay.word(h, at + 2)?;
+    Ok(is_space(used, uid, gid))
+}
+
+/// Whether each log-space record is legal.
+fn are_legal_spaces<H: Host>(h: &mut H, overlay: &Overlay) -> Result<bool, HostFault>
+    requires { PUDDLE_TABLE ≤ (H.counts h.old).size }
+    ensures legal { H.tells → (image : Image) → reads (H.state h.old).now.words ≡ image → IsOverlay overlay.now image
+        → IfOk result (λ legal. legal ≡ are_legal_spaces (settled_by DAEMON_LOG image)) }
+    ensures stays { H.tells → H.state h.new ≡ H.state h.old }
+    ensures cause { H.counts h.new ≡ after_fault (fault_of result) (H.counts h.old) }
+    ensures never_cut { fault_of result ≢ Option.Some HostFault.Cut }
+{
+    for client in 0..CLIENTS {
+        if !is_legal_space(h, overlay, client)? {
+            return Ok(false);
+        }
+    }
+    Ok(true)
+}
+
+/// Whether a log is closed, by its gate and whether it is well formed.
+fn is_closed_by(gate: u64, well_formed: bool) -> bool
+    ensures { result ≡ (is_closed_range gate && well_formed) }
+{
+    let (lo, hi) = (gate_lo(gate), gate_hi(gate));
+    lo == hi && (hi == COMMITTING_HI || hi == 0) && well_formed
+}
+
+/// Whether the log whose gate is word `at` is closed and well formed.
+fn is_closed_log<H: Host>(h: &mut H, at: u32) -> Result<bool, HostFault>
+    requires { at + LOG_WORDS ≤ (H.counts h.old).size }
+    ensures closed { H.tells → (image : Image) → reads (H.state h.old).now.words ≡ image → IfOk result (λ closed. closed ≡ is_closed_log image at) }
+    ensures stays { H.tells → H.state h.new ≡ H.state h.old }
+    ensures cause { H.counts h.new ≡ after_fault (fault_of result) (H.counts h.old) }
+    ensures never_cut { fault_of result ≢ Option.Some HostFault.Cut }
+{
+    let gate = h.load(at)?;
+    let formed = well_formed(h, at)?;
+    Ok(is_closed_by(gate, formed))
+}
+
+/// Whether each log of a client is closed, on a device of so many frames. The daemon log can write none of their words.
+fn has_closed_logs<H: Host>(h: &mut H, frames: u32, client: u32) -> Result<bool, HostFault>
+    requires few { frames ≤ MAX_FRAMES }
+    requires known { client < CLIENTS }
+    requires room { device_words frames ≤ (H.counts h.old).size }
+    ensures closed { H.tells → (image : Image) → reads (H.state h.old).now.words ≡ image → IfOk result (λ closed. closed ≡ has_closed_logs image frames client) }
+    ensures stays { H.tells → H.state h.new ≡ H.state h.old }
+    ensures cause { H.counts h.new ≡ after_fault (fault_of result) (H.counts h.old) }
+    ensures never_cut { fault_of result ≢ Option.Some HostFault.Cut }
+{
+    for number in 0..CLIENT_LOGS {
+        if !is_closed_log(h, log_at(frames, client, number))? {
+            return Ok(false);
+        }
+    }
+    Ok(true)
+}
+
+/// Whether the logs of a client are closed, or not registered.
+fn is_closed_space<H: Host>(
+    h: &mut H,
+    overlay: &Overlay,
+    frames: u32,
+    client: u32,
+) -> Result<bool, HostFault>
+    requires few { frames ≤ MAX_FRAMES }
+    requires known { client < CLIENTS }
+    requires room { device_words frames ≤ (H.counts h.old).size }
+    ensures closed { H.tells → (image : Image) → reads (H.state h.old).now.words ≡ image → IsOverlay overlay.now image → has_legal_log image ≡ true → frames ≡ frames_of image
+        → IfOk result (λ closed. closed ≡ is_closed_space (settled_by DAEMON_LOG image) frames client) }
+    ensures stays { H.tells → H.state h.new ≡ H.state h.old }
+    ensures cause { H.counts h.new ≡ after_fault (fault_of result) (H.counts h.old) }
+    ensures never_cut { fault_of result ≢ Option.Some HostFault.Cut }
+{
+    if overlay.word(h, SPACE_TABLE + SPACE_RECORD_WORDS * client)? == 0 {
+        return Ok(true);
+    }
+    has_closed_logs(h, frames, client)
+}
+
+/// Whether each log that is registered is closed.
+fn are_closed_logs<H: Host>(h: &mut H, overlay: &Overlay, frames: u32) -> Result<bool, HostFault>
+    requires few { frames ≤ MAX_FRAMES }
+    requires room { device_words frames ≤ (H.counts h.old).size }
+    ensures closed { H.tells → (image : Image) → reads (H.state h.old).now.words ≡ image → IsOverlay overlay.now image → has_legal_log image ≡ true → frames ≡ frames_of image
+        → IfOk result (λ closed. closed ≡ are_closed_logs (settled_by DAEMON_LOG image) frames) }
+    ensures stays { H.tells → H.state h.new ≡ H.state h.old }
+    ensures cause { H.counts h.new ≡ after_fault (fault_of result) (H.counts h.old) }
+    ensures never_cut { fault_of result ≢ Option.Some HostFault.Cut }
+{
+    for client in 0..CLIENTS {
+        if !is_closed_space(h, overlay, frames, client)? {
+            return Ok(false);
+        }
+    }
+    Ok(true)
+}
+
+fn are_all(number: bool, types: bool, pools: bool, puddles: bool) -> bool
+    ensures { result ≡ (number && types && pools && puddles) }
+{
+    number && types && pools && puddles
+}
+
+/// Whether the next number and the types are legal, and no pool and no puddle is there.
+fn has_sound_tables<H: Host>(h: &mut H, overlay: &Overlay, frames: u32) -> Result<bool, HostFault>
+    requires few { frames ≤ MAX_FRAMES }
+    requires room { device_words frames ≤ (H.counts h.old).size }
+    ensures sound { H.tells → (image : Image) → reads (H.state h.old).now.words ≡ image → IsOverlay overlay.now image
+        → IfOk result (λ sound. sound ≡ has_sound_tables (settled_by DAEMON_LOG image) frames) }
+    ensures stays { H.tells → H.state h.new ≡ H.state h.old }
+    ensures cause { H.counts h.new ≡ after_fault (fault_of result) (H.counts h.old) }
+    ensures never_cut { fault_of result ≢ Option.Some HostFault.Cut }
+{
+    let number = has_legal_number(h, overlay)?;
+    let types = has_legal_types(h, overlay)?;
+    let pools = is_zero_range(h, overlay, POOL_TABLE, SPACE_TABLE)?;
+    let puddles = is_zero_range(h, overlay, PUDDLE_TABLE, tables_end(frames))?;
+    Ok(are_all(number, types, pools, puddles))
+}
+
+fn are_both(spaces: bool, logs: bool) -> bool
+    ensures { result ≡ (spaces && logs) }
+{
+    spaces && logs
+}
+
+/// Whether the log-space records are legal, and each log that is registered is closed.
+fn has_sound_spaces<H: Host>(h: &mut H, overlay: &Overlay, frames: u32) -> Result<bool, HostFault>
+    requires few { frames ≤ MAX_FRAMES }
+    requires room { device_words frames ≤ (H.counts h.old).size }
+    ensures sound { H.tells → (image : Image) → reads (H.state h.old).now.words ≡ image → IsOverlay overlay.now image → has_legal_log image ≡ true → frames ≡ frames_of image
+        → IfOk result (λ sound. sound ≡ has_sound_spaces (settled_by DAEMON_LOG image) frames) }
+    ensures stays { H.tells → H.state h.new ≡ H.state h.old }
+    ensures cause { H.counts h.new ≡ after_fault (fault_of result) (H.counts h.old) }
+    ensures never_cut { fault_of result ≢ Option.Some HostFault.Cut }
+{
+    let spaces = are_legal_spaces(h, overlay)?;
+    let logs = are_closed_logs(h, overlay, frames)?;
+    Ok(are_both(spaces, logs))
+}
+
+/// Whether a device of so many frames, whose daemon log is legal, is a sound registry once that log is replayed.
+fn is_registry<H: Host>(h: &mut H, overlay: &Overlay, frames: u32) -> Result<bool, HostFault>
+    requires few { frames ≤ MAX_FRAMES }
+    requires room { device_words frames ≤ (H.counts h.old).size }
+    ensures sound { H.tells → (image : Image) → reads (H.state h.old).now.words ≡ image → IsOverlay overlay.now image → has_legal_log image ≡ true
+        → (size : ℕ) → frames_described size image ≡ Option.Some frames → IfOk result (λ sound. sound ≡ is_registry size (settled_by DAEMON_LOG image)) }
+    ensures stays { H.tells → H.state h.new ≡ H.state h.old }
+    ensures cause { H.counts h.new ≡ after_fault (fault_of result) (H.counts h.old) }
+    ensures never_cut { fault_of result ≢ Option.Some HostFault.Cut }
+{
+    let tables = has_sound_tables(h, overlay, frames)?;
+    let spaces = has_sound_spaces(h, overlay, frames)?;
+    Ok(are_both(tables, spaces))
+}
+
+/// Whether the device is a sound registry once its daemon log is replayed. Nothing changes.
+pub fn is_sound<H: Host>(h: &mut H) -> Result<bool, HostFault>
+    ensures sound { H.tells → IfOk result (λ sound. sound ≡ is_sound (H.counts h.old).size (reads (H.state h.old).now.words)) }
+    ensures room { IfOk result (λ sound. IsTrue sound → device_words MIN_FRAMES ≤ (H.counts h.old).size) }
+    ensures stays { H.tells → H.state h.new ≡ H.state h.old }
+    ensures cause { H.counts h.new ≡ after_fault (fault_of result) (H.counts h.old) }
+    ensures never_cut { fault_of result ≢ Option.Some HostFault.Cut }
+{
+    if h.words() < device_words(MIN_FRAMES) {
+        return Ok(false);
+    }
+    match described_frames(h)? {
+        None => Ok(false),
+        Some(frames) => {
+            let overlay = Overlay::of(h)?;
+            if !has_legal_log(h, &overlay, frames)? {
+                return Ok(false);
+            }
+            is_registry(h, &overlay, frames)
+        }
+    }
+}
