@@ -1,5 +1,5 @@
 -- The daemon log of a rested device applied: each image left stands for the same world.
-use Rattle.std.proofs.Common.{◌≡◌, ◌⊎◌, inl, inr, ℕ, ◌+◌, ◌<◌, ◌≤◌, Bool, true, false, not, ◌&&◌, ◌||◌, leb, eqb, List, length, get_or, Option, Some, None, IsTrue, refl, sym, ap, ap₂, subst, ◌∙◌, arith, eqb-true}
+use Rattle.std.proofs.Common.{◌≡◌, ◌⊎◌, inl, inr, ℕ, ◌+◌, ◌%◌, ◌^◌, ◌<◌, ◌≤◌, Bool, true, false, not, ◌&&◌, ◌||◌, leb, eqb, List, length, get_or, Option, Some, None, IsTrue, refl, sym, ap, ap₂, subst, ◌∙◌, arith, eqb-true}
 use Rattle.std.specs.Prelude.{All, []}
 use Rattle.std.specs.List.{list_all}
 use Rattle.std.proofs.lemmas.Bool.{and_parts, or_cases, cond-true, leb-true, cases_eq}
@@ -10,10 +10,10 @@ use Rattle.pm_model.specs.declared.host.HostFault.TheVariants.{Cut}
 use Rattle.pm_model.specs.Words.{Has, values, Words, reads, Picks, HasOnly, IsRested}
 use Rattle.pm_model.specs.Moments.{State}
 use Rattle.pm_model.specs.Changes.{Changes, Leaves, Silently}
-use Rattle.pm_model.proofs.Words.{HasOnly-own}
-use Rattle.pm_model.proofs.Changes.{Changes-said, HasOnly-kept}
-use Rattle.pm_model.proofs.Leaves.{Leaves-weaker, Leaves-now}
-use Rattle.pud_defs.specs.declared.layout.TheConstants.{DAEMON_LOG, LOG_WORDS, TYPE_TABLE, NEXT_NUMBER_WORD, FRAMES_WORD}
+use Rattle.pm_model.proofs.Words.{HasOnly-own, Picks-reads}
+use Rattle.pm_model.proofs.Changes.{Changes-said, Changes-still, Changes-then, HasOnly-kept}
+use Rattle.pm_model.proofs.Leaves.{Leaves-weaker, Leaves-still, Leaves-now}
+use Rattle.pud_defs.specs.declared.layout.TheConstants.{DAEMON_LOG, LOG_WORDS, TYPE_TABLE, NEXT_NUMBER_WORD, FRAMES_WORD, MACHINE_WORD, MAX_FRAMES}
 use Rattle.pud_defs.specs.declared.log_words.TheConstants.{CLOSED_GATE}
 use Rattle.pud_defs.specs.Image.{Image}
 use Rattle.pud_defs.specs.Layout.{tables_end, frames_at, device_words}
@@ -21,7 +21,7 @@ use Rattle.pud_defs.specs.Entries.{Entry, Log, log_of, is_closed_gate}
 use Rattle.pud_defs.specs.Replay.{device_word, is_in_range, new_value, is_in_log, settled_by}
 use Rattle.pud_defs.specs.Registry.{frames_of, may_be_logged, is_allowed, are_allowed, has_legal_log}
 use Rattle.pud_defs.specs.World.{StoredWorld, registry_world, world_of}
-use Rattle.pud_defs.proofs.Replay.{outside_log}
+use Rattle.pud_defs.proofs.Replay.{outside_log, settled_by-closed}
 use Rattle.pud_defs.proofs.Logged.{legal_entries, new_value-unlogged, settled_by-unlogged}
 use Rattle.pud_defs.proofs.Worlds.{StandsFor, standing_of_world, legal_log_of_world, legal_log_closed, world_of_legal}
 use Rattle.log_replay.specs.Replaying.{NamesApart, IsReplayable, IsNamed, ByLog, SettlesSame, SettlesLog}
@@ -158,3 +158,51 @@ module _ (size : ℕ) (s : StoredWorld) (a : State) (rested : IsRested a.now.wor
         };
         rested = λ none. rested_then b (subst (λ (f : Option HostFault). SettlesLog DAEMON_LOG f a b) none settles);
       }
+
+-- ---- and then the device was only read
+
+-- the daemon log was applied, and then nothing changed, also where a read failed
+pub AppliesLog-kept : (size : ℕ) (s : StoredWorld) (fault : Option HostFault) (a b c : State) → AppliesLog size s None a b → (fault ≡ Some Cut → ⊥) → c ≡ b → AppliesLog size s fault a c
+AppliesLog-kept size s fault a b c applied not_cut same =
+    let may = ByLog DAEMON_LOG (new_value device_word (log_of (reads a.now.words) DAEMON_LOG)) in
+    record {
+      changes = Changes-then may fault a b c applied.changes (Changes-still may fault b c not_cut same);
+      moments = subst (λ (x : State). Leaves (Silently (λ image. world_of size image ≡ Some s)) a x) (sym same) applied.moments;
+      settled = λ none. subst (λ (x : State). IsSettled size s x.now.words) (sym same) (applied.settled refl);
+      rested = λ none. subst (λ (x : State). IsRested x.now.words) (sym same) (applied.rested refl);
+    }
+
+-- nothing was done, since a read failed
+pub AppliesLog-failed : (size : ℕ) (s : StoredWorld) (fault : HostFault) (a b : State) → IsRested a.now.words → world_of size (reads a.now.words) ≡ Some s → (Some fault ≡ Some Cut → ⊥) → b ≡ a
+    → AppliesLog size s (Some fault) a b
+AppliesLog-failed size s fault a b rested world not_cut same =
+    let may = ByLog DAEMON_LOG (new_value device_word (log_of (reads a.now.words) DAEMON_LOG)) in
+    record {
+      changes = Changes-still may (Some fault) a b not_cut same;
+      moments = Leaves-still (Silently (λ image. world_of size image ≡ Some s)) a b
+          (λ image picked. (refl, ap (world_of size) (rested_image a.now.words image rested picked) ∙ world)) same;
+      settled = λ none. absurd (let it : None ≡ Some fault = sym none in cc);
+      rested = λ none. absurd (let it : None ≡ Some fault = sym none in cc);
+    }
+
+-- what is read of it then is what the world tells
+pub reads_so : (size : ℕ) (s : StoredWorld) (b : State) (w : ℕ) → IsSettled size s b.now.words → w < DAEMON_LOG → settled_by DAEMON_LOG (reads b.now.words) w ≡ reads b.now.words w
+reads_so size s b w settled low = settled_by-closed DAEMON_LOG (reads b.now.words) w (settled.closed (reads b.now.words DAEMON_LOG) (inl refl)) (outside_log DAEMON_LOG w (inl low))
+
+pub frames_read : (size : ℕ) (s : StoredWorld) (b : State) → IsSettled size s b.now.words → reads b.now.words FRAMES_WORD % 2 ^ 32 ≡ s.frames
+frames_read size s b settled =
+    let h = standing_of_world size (reads b.now.words) s (settled.stands (reads b.now.words) (Picks-reads b.now.words)) in
+    let same : reads b.now.words FRAMES_WORD ≡ s.frames = sym (reads_so size s b FRAMES_WORD settled (omega arith)) ∙ h.frames in
+    let few = h.no_more_frames in
+    omega arith
+
+pub machine_read : (size : ℕ) (s : StoredWorld) (b : State) → IsSettled size s b.now.words → reads b.now.words MACHINE_WORD ≡ s.machine
+machine_read size s b settled =
+    sym (reads_so size s b MACHINE_WORD settled (omega arith)) ∙ (standing_of_world size (reads b.now.words) s (settled.stands (reads b.now.words) (Picks-reads b.now.words))).machine
+
+-- behind a call that changed nothing
+pub AppliesLog-behind : (size : ℕ) (s : StoredWorld) (fault : Option HostFault) (a b c : State) → b ≡ a
+    → (IsRested b.now.words → world_of size (reads b.now.words) ≡ Some s → AppliesLog size s fault b c) → IsRested a.now.words → world_of size (reads a.now.words) ≡ Some s → AppliesLog size s fault a c
+AppliesLog-behind size s fault a b c same applies rested world =
+    subst (λ (x : State). AppliesLog size s fault x c) same
+    (applies (subst (λ (x : State). IsRested x.now.words) (sym same) rested) (ap (λ (x : State). world_of size (reads x.now.words)) same ∙ world))

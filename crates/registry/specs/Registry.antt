@@ -1,5 +1,5 @@
 -- A registry that is up to date, and what brings it up to date or changes it.
-use Rattle.std.specs.Prelude.{◌≡◌, ℕ, zero, suc, ◌<◌, true, List, [], ◌∷◌, ◌++◌, Option, Some, None}
+use Rattle.std.specs.Prelude.{◌≡◌, ℕ, zero, suc, ◌<◌, true, List, [], ◌∷◌, ◌++◌, Option, Some, None, Result, Ok, Err}
 use Rattle.pm_model.specs.declared.host.HostFault.{HostFault}
 use Rattle.pm_model.specs.declared.host.HostFault.TheVariants.{Cut}
 use Rattle.pm_model.specs.Words.{Has, values, Words, reads, Picks, HasOnly, IsRested}
@@ -13,7 +13,15 @@ use Rattle.pud_defs.specs.Replay.{device_word, new_value}
 use Rattle.pud_defs.specs.Spaces.{space_record_at}
 use Rattle.pud_defs.specs.World.{StoredWorld, world_of}
 use Rattle.log_replay.specs.Replaying.{ByLog}
+use Rattle.registry.specs.declared.LoadFault.{LoadFault}
+use Rattle.registry.specs.declared.LoadFault.TheVariants as faults
 use Rattle.batch.specs.Batches.{batch_entry, ByBatch}
+
+-- the host's fault that a load answered
+abbrev pub load_fault : {T : Type 0} → Result T LoadFault → Option HostFault
+load_fault (Ok x) = None
+load_fault (Err faults.NotSound) = None
+load_fault (Err (faults.Host fault)) = Some fault
 
 -- Each image that may be left stands for this world, and the daemon log is closed in it and counts no word.
 pub record IsSettled (size : ℕ) (s : StoredWorld) (words : Words) : Type 0 where

@@ -1,14 +1,15 @@
 //! The registry of a device: judged, brought up to date by its daemon log, and changed by batches.
 #![tactic(auto)]
 
-ghost use Rattle.std.specs.Prelude.{◌≡◌, ◌≢◌, ◌+◌, ◌≤◌, ℕ, Option};
+ghost use Rattle.std.specs.Prelude.{◌≡◌, ◌≢◌, ◌↔◌, ◌+◌, ◌%◌, ◌^◌, ◌≤◌, ℕ, Option, Result, IsOk, IfOk};
 ghost use Rattle.pm_model.specs.Words.{IsRested, reads};
 ghost use Rattle.pm_model.specs.Counts.{after_fault, fault_of};
 ghost use Rattle.pm_model.specs.Changes.{Changes};
 ghost use Rattle.log_replay.specs.Replaying.{Anything};
-ghost use Rattle.pud_defs.specs.declared.layout.TheConstants.{DAEMON_LOG, LOG_WORDS, PUDDLE_TABLE};
+ghost use Rattle.pud_defs.specs.declared.layout.TheConstants.{DAEMON_LOG, LOG_WORDS, PUDDLE_TABLE, MIN_FRAMES, FRAMES_WORD, MACHINE_WORD};
+ghost use Rattle.pud_defs.specs.Layout.{device_words};
 ghost use Rattle.pud_defs.specs.World.{StoredWorld, world_of};
-ghost use Rattle.registry.specs.Registry.{AppliesLog, IsSettled, Clears};
+ghost use Rattle.registry.specs.Registry.{load_fault, AppliesLog, IsSettled, Clears};
 
 mod overlay;
 mod soundness;
@@ -18,7 +19,76 @@ pub use soundness::is_sound;
 use batch::Batch;
 use log_replay::settle_log;
 use pm_model::{Host, HostFault};
-use pud_defs::layout::{CLIENTS, DAEMON_LOG, SPACE_RECORD_WORDS, SPACE_TABLE};
+use pud_defs::layout::{CLIENTS, DAEMON_LOG, FRAMES_WORD, MACHINE_WORD, SPACE_RECORD_WORDS, SPACE_TABLE};
+
+/// What a device is: how many frames it has, 4 to 1,024, and its machine id.
+#[derive(Clone, Copy, Debug, PartialEq, Eq)]
+pub struct Geo {
+    /// The number of frames.
+    pub frames: u32,
+    /// The machine id.
+    pub id: u64,
+}
+
+/// Why a registry was not loaded.
+#[derive(Clone, Copy, Debug, PartialEq, Eq, thiserror::Error)]
+pub enum LoadFault {
+    /// The device is not a sound registry. Nothing changed.
+    #[error("the device is not a sound registry")]
+    NotSound,
+    /// The host's own fault.
+    #[error("the host failed")]
+    Host(HostFault),
+}
+
+impl From<HostFault> for LoadFault {
+    ghost use Rattle.registry.specs.declared.LoadFault.TheVariants.{Host};
+
+    ghost from_gives = { λ fault e. e ≡ Host fault };
+
+    fn from(fault: HostFault) -> Self {
+        LoadFault::Host(fault)
+    }
+}
+
+/// Reads what the device is.
+fn read_geo<H: Host>(h: &mut H) -> Result<Geo, HostFault>
+    requires { DAEMON_LOG + LOG_WORDS ≤ (H.counts h.old).size }
+    ensures geo { H.tells → IfOk result (λ geo. (geo.frames ≡ reads (H.state h.old).now.words FRAMES_WORD % 2 ^ 32) × (geo.id ≡ reads (H.state h.old).now.words MACHINE_WORD)) }
+    ensures stays { H.tells → H.state h.new ≡ H.state h.old }
+    ensures cause { H.counts h.new ≡ after_fault (fault_of result) (H.counts h.old) }
+    ensures never_cut { fault_of result ≢ Option.Some HostFault.Cut }
+{
+    let frames = h.load(FRAMES_WORD)?;
+    let id = h.load(MACHINE_WORD)?;
+    Ok(Geo {
+        frames: (frames & 0xffff_ffff) as u32,
+        id,
+    })
+}
+
+/// Judges the device, and brings it up to date: its daemon log is applied and closed, durably at `Ok`.
+///
+/// `NotSound` comes exactly where the device is not a sound registry once that log is replayed, where the host does not
+/// fail first; then nothing changed. On a device that is rested each image left meanwhile stands for what the device did.
+pub fn load_sound<H: Host>(h: &mut H) -> Result<Geo, LoadFault>
+    ensures not_sound { H.tells → load_fault result ≡ Option.None
+        → (result ≡ Result.Err LoadFault.NotSound) ↔ (world_of (H.counts h.old).size (reads (H.state h.old).now.words) ≡ Option.None) }
+    ensures unchanged { H.tells → result ≡ Result.Err LoadFault.NotSound → H.state h.new ≡ H.state h.old }
+    ensures room { IsOk result → device_words MIN_FRAMES ≤ (H.counts h.old).size }
+    ensures applies { H.tells → (size : ℕ) → size ≡ (H.counts h.old).size → (s : StoredWorld) → IsRested (H.state h.old).now.words
+        → world_of size (reads (H.state h.old).now.words) ≡ Option.Some s → AppliesLog size s (load_fault result) (H.state h.old) (H.state h.new) }
+    ensures geo { H.tells → (size : ℕ) → size ≡ (H.counts h.old).size → (s : StoredWorld) → IsRested (H.state h.old).now.words
+        → world_of size (reads (H.state h.old).now.words) ≡ Option.Some s → IfOk result (λ geo. (geo.frames ≡ s.frames) × (geo.id ≡ s.machine)) }
+    ensures any { H.tells → Changes Anything (load_fault result) (H.state h.old) (H.state h.new) }
+    ensures cause { H.counts h.new ≡ after_fault (load_fault result) (H.counts h.old) }
+{
+    if !is_sound(h)? {
+        return Err(LoadFault::NotSound);
+    }
+    apply_log(h)?;
+    Ok(read_geo(h)?)
+}
 
 /// Applies what the daemon log names, and closes it.
 fn apply_log<H: Host>(h: &mut H) -> Result<(), HostFault>
