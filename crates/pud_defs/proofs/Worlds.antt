@@ -4,7 +4,7 @@ use Rattle.std.specs.FinMap.Entries.{is_sorted}
 use Rattle.std.specs.Bool.{one_answer}
 use Rattle.std.proofs.lemmas.Bool.{and_parts, and_from, cond-true, cond-false, cases_Bool}
 use Rattle.std.proofs.lemmas.Option.{cond_some}
-use Rattle.pud_defs.specs.declared.layout.TheConstants.{DEVICE_MAGIC, VERSION, MIN_FRAMES, MAX_FRAMES, NUMBER_LIMIT, MAGIC_WORD, VERSION_WORD, MACHINE_WORD, FRAMES_WORD, NEXT_NUMBER_WORD, DAEMON_LOG, POOL_TABLE, SPACE_TABLE, PUDDLE_TABLE, TYPE_RECORDS}
+use Rattle.pud_defs.specs.declared.layout.TheConstants.{DEVICE_MAGIC, VERSION, MIN_FRAMES, MAX_FRAMES, NUMBER_LIMIT, MAGIC_WORD, VERSION_WORD, MACHINE_WORD, FRAMES_WORD, NEXT_NUMBER_WORD, DAEMON_LOG, TYPE_TABLE, POOL_TABLE, SPACE_TABLE, PUDDLE_TABLE, TYPE_RECORDS}
 use Rattle.pud_defs.specs.Layout.{tables_end, frames_at, device_words}
 use Rattle.pud_defs.specs.Image.{Image, IsSameBelow}
 use Rattle.pud_defs.specs.Types.{type_table, types_of, by_id, map_of, first_free, are_legal_types}
@@ -13,7 +13,7 @@ use Rattle.pud_defs.specs.World.{StoredWorld, stored_by, registry_world, world_o
 use Rattle.pud_defs.specs.Entries.{is_closed_gate, log_of}
 use Rattle.pud_defs.specs.Replay.{settled_by, beside_log}
 use Rattle.pud_defs.specs.Spaces.{are_legal_spaces, are_closed_logs}
-use Rattle.pud_defs.proofs.Replay.{entries_of-closed, settled_by-beside}
+use Rattle.pud_defs.proofs.Replay.{entries_of-closed, settled_by-beside, beside_log-outside, outside_log}
 use Rattle.pud_defs.proofs.Spaces.{are_legal_spaces-same, are_closed_logs-same}
 use Rattle.pud_defs.proofs.Logged.{settled_by-unlogged}
 use Rattle.pud_defs.proofs.TypeLists.{is_sorted-by_id, map_of-by_id, length-by_id}
@@ -169,6 +169,31 @@ world_of-closed size image closed = cond-true _ _ _ (legal_log_closed image clos
 
 pub standing_closed : (size : ℕ) (image : Image) (s : StoredWorld) → is_closed_gate (image DAEMON_LOG) ≡ true → world_of size image ≡ Some s → StandsFor size (beside_log DAEMON_LOG image) s
 standing_closed size image s closed h = standing_of_registry size (beside_log DAEMON_LOG image) s (sym (world_of-closed size image closed) ∙ h)
+
+-- an image that is the same beside the daemon log stands for the same world
+pub standing_beside : (size : ℕ) (image : Image) (s : StoredWorld) → StandsFor size (beside_log DAEMON_LOG image) s → StandsFor size image s
+standing_beside size image s h =
+    let low : (k : ℕ) → k < DAEMON_LOG → image k ≡ beside_log DAEMON_LOG image k = λ k below. sym (beside_log-outside DAEMON_LOG image k (outside_log DAEMON_LOG k (inl below))) in
+    let high : (k : ℕ) → TYPE_TABLE ≤ k → image k ≡ beside_log DAEMON_LOG image k = λ k above. sym (beside_log-outside DAEMON_LOG image k (outside_log DAEMON_LOG k (inr (omega arith)))) in
+    let table : type_table image ≡ type_table (beside_log DAEMON_LOG image) = type_records_same image (beside_log DAEMON_LOG image) 0 TYPE_RECORDS (λ k from below. high k (omega arith)) in
+    record {
+      magic = low MAGIC_WORD (omega arith) ∙ h.magic;
+      version = low VERSION_WORD (omega arith) ∙ h.version;
+      machine = low MACHINE_WORD (omega arith) ∙ h.machine;
+      frames = low FRAMES_WORD (omega arith) ∙ h.frames;
+      next_number = low NEXT_NUMBER_WORD (omega arith) ∙ h.next_number;
+      enough_frames = h.enough_frames;
+      no_more_frames = h.no_more_frames;
+      room = h.room;
+      number_low = h.number_low;
+      number_high = h.number_high;
+      types = ap by_id table ∙ h.types;
+      legal = ap are_legal_types table ∙ h.legal;
+      no_pools = λ k from below. high k (omega arith) ∙ h.no_pools k from below;
+      no_puddles = λ k from below. high k (omega arith) ∙ h.no_puddles k from below;
+      spaces = are_legal_spaces-same image (beside_log DAEMON_LOG image) (λ k from below. high k (omega arith)) ∙ h.spaces;
+      logs = are_closed_logs-same image (beside_log DAEMON_LOG image) s.frames (λ k from below. high k (omega arith)) (λ k from below. high k (omega arith)) ∙ h.logs;
+    }
 
 -- ---- images that agree on all that is read
 

@@ -1,14 +1,15 @@
 -- What the definition of a type does to the worlds that images stand for.
-use Rattle.std.proofs.Common.{◌≡◌, inl, inr, ℕ, true, ◌&&◌, leb, cond, List, Option, Some, None, is_some, is_none, refl, sym, ap, subst, ◌∙◌, ⊎_elim, arith}
-use Rattle.std.proofs.lemmas.Bool.{cases_eq}
+use Rattle.std.proofs.Common.{◌≡◌, inl, inr, ℕ, ◌+◌, ◌<◌, true, false, ◌&&◌, leb, eqb, cond, List, Option, Some, None, is_some, is_none, refl, sym, ap, subst, ◌∙◌, ⊎_elim, arith}
+use Rattle.std.proofs.lemmas.Bool.{cases_eq, cond-false, ne_eqb}
 use Rattle.pm_model.specs.declared.host.HostFault.{HostFault}
 use Rattle.pm_model.specs.declared.host.HostFault.TheVariants.{Cut}
 use Rattle.pm_model.specs.Words.{Picks, IsRested, reads}
 use Rattle.pm_model.specs.Moments.{State}
 use Rattle.pm_model.proofs.Words.{Picks-reads}
-use Rattle.pm_model.proofs.Changes.{Changes-said}
+use Rattle.pm_model.specs.Changes.{written}
+use Rattle.pm_model.proofs.Changes.{Changes-said, Changes-now}
 use Rattle.pm_model.proofs.Leaves.{Leaves-still, Leaves-weaker}
-use Rattle.pud_defs.specs.declared.layout.TheConstants.{TYPE_RECORDS}
+use Rattle.pud_defs.specs.declared.layout.TheConstants.{TYPE_RECORDS, DAEMON_LOG}
 use Rattle.pud_defs.specs.declared.machine.Command.TheVariants.{Define}
 use Rattle.pud_defs.specs.declared.machine.Refusal.{Refusal}
 use Rattle.pud_defs.specs.declared.machine.Refusal.TheVariants.{Clash, Full}
@@ -18,10 +19,10 @@ use Rattle.pud_defs.specs.Types.{type_record_at, type_table, first_free, map_of,
 use Rattle.pud_defs.specs.World.{World, world_of, closed}
 use Rattle.pud_defs.specs.Step.{is_other, refusal_of, after, unless_refused, world_by}
 use Rattle.pud_defs.proofs.TypeTable.{IsLowestFree, first_free_some}
-use Rattle.pud_defs.proofs.Worlds.{StandsFor, standing_of_world, types_sorted, map_of_world, length_of_world, full_of_world, room_of_world}
+use Rattle.pud_defs.proofs.Worlds.{StandsFor, standing_beside, standing_closed, types_sorted, map_of_world, length_of_world, full_of_world, room_of_world}
 use Rattle.pud_defs.proofs.Definitions.{world_of-map_written, world_of-defined}
 use Rattle.pud_defs.proofs.Steps.{refusal_of-define, define-same, define-clash, define-full, define-new, after-same}
-use Rattle.type_maps.specs.Define.{table_refusal, place_for, defined, Defines}
+use Rattle.type_maps.specs.Define.{table_refusal, place_for, record_write, defined, Defines}
 use Rattle.puddled.specs.Daemon.{KeepsRest, IsReady, Applies}
 
 abbrev table_refusal_by : Option ℕ → ℕ → ℕ → Option Refusal
@@ -79,7 +80,9 @@ shelf_after w id map = refl
 
 -- the state that a definition begins in, as the daemon knows it
 standing : (size : ℕ) (w : World) (s : State) → IsReady size w s → StandsFor size (reads s.now.words) (closed w)
-standing size w s ready = standing_of_world size (reads s.now.words) (closed w) (ready.stands (reads s.now.words) (Picks-reads s.now.words))
+standing size w s ready =
+    standing_beside size (reads s.now.words) (closed w)
+    (standing_closed size (reads s.now.words) (closed w) (ready.log (reads s.now.words DAEMON_LOG) (inl refl)) (ready.stands (reads s.now.words) (Picks-reads s.now.words)))
 
 idle_applies : (size : ℕ) (w next : World) (fault : Option HostFault) (old new : State) → IsReady size w old → next ≡ w → new ≡ old
     → (fault ≡ Some Cut → IsRested new.now.words) → Applies size w next fault old new
@@ -101,6 +104,14 @@ free_in size w s id map r ready is_new image picked =
     let one = ready.types.each (type_record_at r) (omega arith) (omega arith) in
     one.each (image (type_record_at r)) (picked.each (type_record_at r)) ∙ is_new.lowest.free
 
+-- a definition writes no word of the daemon log
+not_the_gate : (r id map v : ℕ) → r < TYPE_RECORDS → written (record_write r id map) DAEMON_LOG v → ⊥
+not_the_gate r id map v known may =
+    let one : eqb DAEMON_LOG (type_record_at r) ≡ false = ne_eqb DAEMON_LOG (type_record_at r) (λ e. absurd (omega arith)) in
+    let two : eqb DAEMON_LOG (type_record_at r + 1) ≡ false = ne_eqb DAEMON_LOG (type_record_at r + 1) (λ e. absurd (omega arith)) in
+    let it : None ≡ Some v = sym (cond-false _ _ _ one ∙ cond-false _ _ _ two) ∙ may in
+    absurd (cc)
+
 new_applies : (size : ℕ) (w : World) (id map r : ℕ) (fault : Option HostFault) (old new : State) → IsReady size w old
     → is_legal_type_id id ≡ true → is_legal_map map ≡ true → place_for (reads old.now.words) id ≡ Some r → Defines r id map fault old new
     → Applies size w (world_by w (Some (Define id map))) fault old new
@@ -109,14 +120,14 @@ new_applies size w id map r fault old new ready legal_id legal_map place d =
     let high = is_new.lowest.high in
     let free = free_in size w old id map r ready is_new in
     let gives : (image : Image) → Picks old.now.words image → world_of size (defined r id map image) ≡ Some (closed (after w (Define id map))) = λ image picked.
-    world_of-defined size image (closed w) r id map (ready.stands image picked) (omega arith) (free image picked) legal_id legal_map is_new.missing ∙ ap Some (sym (closed_after w id map)) in
+    world_of-defined size image (closed w) r id map (ready.log (image DAEMON_LOG) (picked.each DAEMON_LOG)) (ready.stands image picked) (omega arith) (free image picked) legal_id legal_map is_new.missing ∙ ap Some (sym (closed_after w id map)) in
     subst (λ (v : World). Applies size w v fault old new) (sym is_new.world) (record {
       moments = Leaves-weaker _ _ old new (λ bytes image m. (
         m.0,
         elim m.1.is [
           | inl same ↦ inl (ap (world_of size) same ∙ ready.stands m.1.before m.1.picked)
           | inr more ↦ elim more [
-            | inl half ↦ inl (ap (world_of size) half ∙ world_of-map_written size m.1.before (closed w) r map (ready.stands m.1.before m.1.picked) (omega arith) (free m.1.before m.1.picked))
+            | inl half ↦ inl (ap (world_of size) half ∙ world_of-map_written size m.1.before (closed w) r map (ready.log (m.1.before DAEMON_LOG) (m.1.picked.each DAEMON_LOG)) (ready.stands m.1.before m.1.picked) (omega arith) (free m.1.before m.1.picked))
             | inr whole ↦ inr (ap (world_of size) whole ∙ gives m.1.before m.1.picked)
           ]
         ],
@@ -124,6 +135,10 @@ new_applies size w id map r fault old new ready legal_id legal_map place d =
       quiet = Changes-said _ fault old new d.changes;
       ready = λ none. record {
         stands = λ image picked. let h = d.done none image picked in ap (world_of size) h.is ∙ gives h.before h.picked;
+        log = λ v had. elim (Changes-now (written (record_write r id map)) fault old new d.changes DAEMON_LOG v had) [
+          | inl was ↦ ready.log v was
+          | inr may ↦ absurd (not_the_gate r id map v (omega arith) may)
+        ];
         types = d.durable none ready.types;
         shelf = d.changes.shelf ∙ ready.shelf ∙ shelf_after w id map;
       };

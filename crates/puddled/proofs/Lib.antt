@@ -1,6 +1,5 @@
-pub mod Records
-pub mod Sound
 pub mod Defining
 pub mod Turns
 pub mod Counted
+pub mod Restarts
 pub mod Lines

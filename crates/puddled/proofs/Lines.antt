@@ -4,7 +4,7 @@ use Rattle.std.proofs.lemmas.List.{append-nil, drop_all}
 use Rattle.pm_model.specs.declared.host.HostFault.{HostFault}
 use Rattle.pm_model.specs.declared.host.HostFault.TheVariants as hosts
 use Rattle.pm_model.specs.Counts.{Counts}
-use Rattle.pm_model.specs.Words.{Words, Picks, reads}
+use Rattle.pm_model.specs.Words.{Has, values, Words, Picks, reads}
 use Rattle.pm_model.specs.Moments.{State}
 use Rattle.pm_model.specs.Calls.{Says}
 use Rattle.pm_model.specs.Changes.{Leaves, Silently}
@@ -14,6 +14,8 @@ use Rattle.pm_model.proofs.Said.{words-all_said, said-all_said, script-all_said,
 use Rattle.pud_defs.specs.declared.machine.Reply.{Reply}
 use Rattle.pud_defs.specs.declared.machine.Reply.TheVariants.{Cut}
 use Rattle.pud_defs.specs.declared.machine.Reply.TheVariants as replies
+use Rattle.pud_defs.specs.declared.layout.TheConstants.{DAEMON_LOG}
+use Rattle.pud_defs.specs.Entries.{is_closed_gate}
 use Rattle.pud_defs.specs.Image.{Image}
 use Rattle.pud_defs.specs.World.{World, world_of, closed, restart}
 use Rattle.pud_defs.specs.Step.{step_reply, step_world}
@@ -26,10 +28,12 @@ use Rattle.pud_defs.proofs.Steps.{shelf_of_step}
 use Rattle.type_maps.specs.Define.{HasDurableTypes}
 use Rattle.puddled.specs.declared.daemon.RunFault.{RunFault}
 use Rattle.puddled.specs.declared.daemon.RunFault.TheVariants.{NotSound}
-use Rattle.puddled.specs.Faults.{run_fault, IsCounted}
-use Rattle.puddled.specs.Daemon.{KeepsRest, IsReady, SaysPart, Applies, Settles, Starts, spoken, begins_with_ok, Answers}
+use Rattle.puddled.specs.declared.daemon.StartFault.{StartFault}
+use Rattle.puddled.specs.declared.daemon.StartFault.TheVariants as starts
+use Rattle.puddled.specs.Faults.{start_fault, of_host, of_start, run_fault, IsCounted}
+use Rattle.puddled.specs.Daemon.{KeepsRest, IsReady, IsPart, SaysPart, Applies, Recovers, Settles, Starts, spoken, begins_with_ok, Answers}
 use Rattle.puddled.proofs.Turns.{turn_of, is_turn_of, cut_turn, is_cut_turn}
-use Rattle.puddled.proofs.Counted.{counted_nothing, counted_step}
+use Rattle.puddled.proofs.Counted.{counted_nothing, counted_step, host_is_sound}
 
 some_is_not_none : (fault : HostFault) → Some fault ≡ None → ⊥
 some_is_not_none fault e = cc
@@ -58,34 +62,40 @@ script_said text fault old new s = ap (λ (x : State). x.script) s.is ∙ script
 pub shelf_said : (text : List ℕ) (fault : Option HostFault) (old new : State) → Says text fault old new → new.shelf ≡ old.shelf
 shelf_said text fault old new s = ap (λ (x : State). x.shelf) s.is ∙ shelf-all_said (take s.count text) old
 
--- the start text was said, or a part of it
-pub Starts-says : (fault : Option HostFault) (old mid new : State) → mid ≡ old → Says start_text fault mid new → Starts fault old new
-Starts-says fault old mid new same says =
-    let s = subst (λ (m : State). Says start_text fault m new) same says in
-    record {
-      says = SaysPart-says start_text fault old new s;
-      moments = Leaves-says start_text fault _ old new (λ front image prefix picked. (record { rest = prefix.rest; is = prefix.is }, picked)) s;
-      words = words_said start_text fault old new s;
-      script = script_said start_text fault old new s;
-      shelf = shelf_said start_text fault old new s;
-    }
-
-pub Starts-nothing : (fault : HostFault) (old new : State) → new ≡ old → Starts (Some fault) old new
-Starts-nothing fault old new same =
-    record {
-      says = SaysPart-nothing start_text fault old new (ap (λ (x : State). x.now.said) same);
-      moments = Leaves-still _ old new (λ image picked. (record { rest = start_text; is = refl }, picked)) same;
-      words = ap (λ (x : State). x.now.words) same;
-      script = ap (λ (x : State). x.script) same;
-      shelf = ap (λ (x : State). x.shelf) same;
-    }
-
 IsReady-said : (size : ℕ) (w : World) (old new : State) → new.now.words ≡ old.now.words → new.shelf ≡ old.shelf → IsReady size w old → IsReady size w new
 IsReady-said size w old new words shelf ready =
     record {
       stands = λ image picked. ready.stands image (subst (λ (x : Words). Picks x image) words picked);
+      log = subst (λ (x : Words). (v : ℕ) → Has (values (x DAEMON_LOG)) v → is_closed_gate v ≡ true) (sym words) ready.log;
       types = subst (λ (x : Words). HasDurableTypes x) (sym words) ready.types;
       shelf = shelf ∙ ready.shelf;
+    }
+
+-- a start was said behind a recovery
+pub Starts-says : (size : ℕ) (w : World) (fault : Option HostFault) (old mid new : State) → Recovers size w None old mid → Says start_text fault mid new → Starts size w fault old new
+Starts-says size w fault old mid new r says =
+    let ready = r.ready refl in
+    let part = SaysPart-says start_text fault mid new says in
+    let P : List ℕ → Image → Type 0 = λ bytes image. IsPart bytes start_text × (world_of size image ≡ Some (closed w)) in
+    record {
+      says = record { bytes = part.bytes; rest = part.rest; part = part.part; said = part.said ∙ ap (λ (l : List ℕ). l ++ part.bytes) r.quiet; whole = part.whole };
+      moments = Leaves-then (Silently (λ image. world_of size image ≡ Some (closed w))) P P [] old mid new (r.quiet ∙ sym (append-nil old.now.said))
+          (λ front image m. (record { rest = start_text; is = ap (λ (l : List ℕ). l ++ start_text) (sym m.0) }, m.1)) (λ more image m. m) r.moments
+          (Leaves-says start_text fault P mid new (λ front image prefix picked. (record { rest = prefix.rest; is = prefix.is }, ready.stands image picked)) says);
+      ready = λ none. IsReady-said size w mid new (words_said start_text fault mid new says) (shelf_said start_text fault mid new says) ready;
+      script = script_said start_text fault mid new says ∙ r.script;
+      shelf = shelf_said start_text fault mid new says ∙ r.shelf;
+    }
+
+pub Starts-nothing : (size : ℕ) (w : World) (fault : HostFault) (old new : State) → Recovers size w (Some fault) old new → Starts size w (Some fault) old new
+Starts-nothing size w fault old new r =
+    record {
+      says = SaysPart-nothing start_text fault old new r.quiet;
+      moments = Leaves-weaker (Silently (λ image. world_of size image ≡ Some (closed w))) (λ bytes image. IsPart bytes start_text × (world_of size image ≡ Some (closed w))) old new
+          (λ bytes image m. (record { rest = start_text; is = ap (λ (l : List ℕ). l ++ start_text) (sym m.0) }, m.1)) r.moments;
+      ready = λ none. absurd (some_is_not_none fault none);
+      script = r.script;
+      shelf = r.shelf;
     }
 
 -- the images between the world before a turn and the one that it gives
@@ -129,50 +139,94 @@ Settles-fault size w line fault before after old mid new lost a same sound count
       shelf = a.shelf;
     })
 
--- After a power loss each image left is the one that the device reads.
-module _ (size : ℕ) (w : World) (line : List ℕ) (old mid : State) (a : Applies size w (step_world w line) (Some hosts.Cut) old mid) where
+-- After a power loss the device reads as one of the two worlds, and the daemon recovers that one.
+record Found (size : ℕ) (w : World) (line : List ℕ) (mid : State) : Type 0 where
+  next : World
+  which : (next ≡ restart w) ⊎ (next ≡ restart (step_world w line))
+  stands : world_of size (reads mid.now.words) ≡ Some (closed next)
+  shelf : mid.shelf ≡ next.shelf
+
+module _ (size : ℕ) (w : World) (line : List ℕ) (old mid : State) (a : Applies size w (step_world w line) (Some hosts.Cut) old mid) (was : old.shelf ≡ w.shelf) where
   read_image : Between size w (step_world w line) (reads mid.now.words)
   read_image = (Leaves-now (Silently (Between size w (step_world w line))) [] old mid (a.quiet ∙ sym (append-nil old.now.said)) a.moments (reads mid.now.words) (Picks-reads mid.now.words)).1
 
-  ready_restarted : (next : World) → world_of size (reads mid.now.words) ≡ Some (closed next) → next.shelf ≡ w.shelf → old.shelf ≡ w.shelf → IsReady size (restart next) mid
-  ready_restarted next stands shelf was =
-      record {
-        stands = λ image picked. ap (world_of size) (reads_only mid.now.words image (a.lost refl) picked) ∙ stands;
-        types = record { each = λ k _ _. (a.lost refl).each k };
-        shelf = a.shelf ∙ was ∙ sym shelf;
-      }
+  found : Found size w line mid
+  found = elim read_image [
+    | inl before ↦ record { next = restart w; which = inl refl; stands = before; shelf = a.shelf ∙ was }
+    | inr later ↦ record { next = restart (step_world w line); which = inr refl; stands = later; shelf = a.shelf ∙ was ∙ sym (shelf_of_step w line) }
+  ]
 
   -- the restart finds a sound device
   pub restart_sound : world_of size (reads mid.now.words) ≢ None
-  restart_sound none = elim read_image [
-    | inl before ↦ let no : Some (closed w) ≡ None = sym before ∙ none in cc
-    | inr later ↦ let no : Some (closed (step_world w line)) ≡ None = sym later ∙ none in cc
+  restart_sound none = let it : Some (closed found.next) ≡ None = sym found.stands ∙ none in cc
+
+  pub found_world : World
+  found_world = found.next
+
+  pub found_stands : world_of size (reads mid.now.words) ≡ Some (closed found_world)
+  unfolding found_world
+  found_stands = found.stands
+
+  pub found_shelf : mid.shelf ≡ found_world.shelf
+  unfolding found_world
+  found_shelf = found.shelf
+
+  between : (image : Image) → world_of size image ≡ Some (closed found_world) → Between size w (step_world w line) image
+  unfolding found_world
+  between image stands = elim found.which [
+    | inl before ↦ inl (stands ∙ ap (λ (v : World). Some (closed v)) before)
+    | inr later ↦ inr (stands ∙ ap (λ (v : World). Some (closed v)) later)
   ]
 
-  cut_off : (before after : Counts) (next : World) → (next ≡ restart w) ⊎ (next ≡ restart (step_world w line)) → IsReady size next mid → IsCounted None 1 before after
-      → Settles size w line (Ok Cut) before after old mid
-  cut_off before after next goes_on ready counts =
-      record {
-        turn = cut_turn w line next;
-        of_line = refl;
-        is_turn = is_cut_turn w line next goes_on;
-        replied = refl;
-        moments = a.moments;
-        quiet = a.quiet;
-        ready = λ _. ready;
-        counted = counts;
-        sound = λ no. cc;
-        script = a.script;
-        shelf = a.shelf;
-      }
+  pub which_world : (found_world ≡ restart w) ⊎ (found_world ≡ restart (step_world w line))
+  unfolding found_world
+  which_world = found.which
+
+  both_moments : (fault : Option HostFault) (new : State) → Recovers size found_world fault mid new → Leaves (Silently (Between size w (step_world w line))) old new
+  both_moments fault new r =
+      let P = Silently (Between size w (step_world w line)) in
+      Leaves-then P (Silently (λ image. world_of size image ≡ Some (closed found_world))) P [] old mid new (a.quiet ∙ sym (append-nil old.now.said))
+      (λ front image m. m) (λ more image m. (m.0, between image m.1)) a.moments r.moments
 
   -- the daemon started again
-  pub Settles-cut : (before after : Counts) (new : State) → new ≡ mid → old.shelf ≡ w.shelf → IsCounted None 1 before after → Settles size w line (Ok Cut) before after old new
-  Settles-cut before after new same was counts =
-      subst (λ (n : State). Settles size w line (Ok Cut) before after old n) (sym same) (elim read_image [
-        | inl stands ↦ cut_off before after (restart w) (inl refl) (ready_restarted w stands refl was) counts
-        | inr stands ↦ cut_off before after (restart (step_world w line)) (inr refl) (ready_restarted (step_world w line) stands (shelf_of_step w line) was) counts
-      ])
+  pub Settles-cut : (before after : Counts) (new : State) → Recovers size found_world None mid new → IsCounted None 1 before after → Settles size w line (Ok Cut) before after old new
+  Settles-cut before after new r counts =
+      record {
+        turn = cut_turn w line found_world;
+        of_line = refl;
+        is_turn = is_cut_turn w line found_world which_world;
+        replied = refl;
+        moments = both_moments None new r;
+        quiet = r.quiet ∙ a.quiet;
+        ready = λ _. r.ready refl;
+        counted = counts;
+        sound = λ no. cc;
+        script = r.script ∙ a.script;
+        shelf = r.shelf ∙ a.shelf;
+      }
+
+  -- the host failed in the restart, or power was lost in it
+  Settles-failed_again : (fault : HostFault) (before after : Counts) (new : State) → Recovers size found_world (Some fault) mid new → IsCounted (Some (of_host fault)) 0 before after
+      → Settles size w line (Err (of_host fault)) before after old new
+  Settles-failed_again fault before after new r counts =
+      record {
+        turn = turn_of w line;
+        of_line = refl;
+        is_turn = is_turn_of w line;
+        replied = tt;
+        moments = both_moments (Some fault) new r;
+        quiet = r.quiet ∙ a.quiet;
+        ready = λ no. absurd (cc);
+        counted = counted_step w line (Some (of_host fault)) before after counts;
+        sound = host_is_sound fault;
+        script = r.script ∙ a.script;
+        shelf = r.shelf ∙ a.shelf;
+      }
+
+  pub Settles-restart : (fault : StartFault) (before after : Counts) (new : State) → (fault ≡ starts.NotSound → ⊥) → Recovers size found_world (start_fault {T = Unit {0}} (Err fault)) mid new
+      → IsCounted (Some (of_start fault)) 0 before after → Settles size w line (Err (of_start fault)) before after old new
+  Settles-restart starts.NotSound before after new sound r counts = absurd (sound refl)
+  Settles-restart (starts.Host fault) before after new sound r counts = Settles-failed_again fault before after new r counts
 
 -- only the reply `ok` begins with `ok`
 pub begins_by_eq : (reply : Reply) (ok : Bool) → ((ok ≡ true) ↔ (reply ≡ replies.Ok)) → ok ≡ begins_with_ok reply

@@ -2,13 +2,15 @@
 use Rattle.std.specs.Prelude.{◌≡◌, ◌≢◌, ◌⊎◌, ℕ, Bool, true, false, cond, List, [], ◌∷◌, ◌++◌, Option, Some, None, Result, IfOk}
 use Rattle.pm_model.specs.declared.host.HostFault.{HostFault}
 use Rattle.pm_model.specs.declared.host.HostFault.TheVariants as hosts
-use Rattle.pm_model.specs.Words.{Picks, IsRested}
+use Rattle.pm_model.specs.Words.{Has, values, Picks, IsRested}
 use Rattle.pm_model.specs.Counts.{Counts}
 use Rattle.pm_model.specs.Moments.{State}
 use Rattle.pm_model.specs.Changes.{Leaves, Silently}
 use Rattle.pud_defs.specs.declared.machine.Reply.{Reply}
 use Rattle.pud_defs.specs.declared.machine.Reply.TheVariants as replies
+use Rattle.pud_defs.specs.declared.layout.TheConstants.{DAEMON_LOG}
 use Rattle.pud_defs.specs.Image.{Image}
+use Rattle.pud_defs.specs.Entries.{is_closed_gate}
 use Rattle.pud_defs.specs.World.{World, world_of, closed}
 use Rattle.pud_defs.specs.Run.{Turn, IsTurn, cuts_of}
 use Rattle.pud_defs.specs.Texts.{start_text, reply_text}
@@ -23,10 +25,11 @@ pub record KeepsRest (old new : State) : Type 0 where
   pub script : new.script ≡ old.script
   pub shelf : new.shelf ≡ old.shelf
 
--- What the daemon needs of a device between two lines: each image that may be left stands for the world with nothing under way, the type
--- table is durable, and the shelf is the world's.
+-- What the daemon needs of a device between two lines: each image that may be left stands for the world with nothing under way, the daemon
+-- log is closed in it and counts no word, the type table is durable, and the shelf is the world's.
 pub record IsReady (size : ℕ) (w : World) (s : State) : Type 0 where
   pub stands : (image : Image) → Picks s.now.words image → world_of size image ≡ Some (closed w)
+  pub log : (v : ℕ) → Has (values (s.now.words DAEMON_LOG)) v → is_closed_gate v ≡ true
   pub types : HasDurableTypes s.now.words
   pub shelf : s.shelf ≡ w.shelf
 
@@ -68,11 +71,21 @@ pub record Settles (size : ℕ) (w : World) (line : List ℕ) (result : Result R
   pub script : new.script ≡ old.script
   pub shelf : new.shelf ≡ old.shelf
 
--- A sound device was started: the start text was said, and nothing else changed.
-pub record Starts (fault : Option HostFault) (old new : State) : Type 0 where
+-- The daemon recovered what a rested device stands for, without a word: at each moment each image stands for the world, and without a fault
+-- the daemon is ready in it.
+pub record Recovers (size : ℕ) (w : World) (fault : Option HostFault) (old new : State) : Type 0 where
+  pub moments : Leaves (Silently (λ image. world_of size image ≡ Some (closed w))) old new
+  pub quiet : new.now.said ≡ old.now.said
+  pub ready : fault ≡ None → IsReady size w new
+  pub script : new.script ≡ old.script
+  pub shelf : new.shelf ≡ old.shelf
+
+-- A rested device that stands for a world was started on: at each moment each image stands for it, and the start text was said, or with a
+-- fault a part of it; without a fault the daemon is ready.
+pub record Starts (size : ℕ) (w : World) (fault : Option HostFault) (old new : State) : Type 0 where
   pub says : SaysPart start_text fault old new
-  pub moments : Leaves (λ bytes image. IsPart bytes start_text × Picks old.now.words image) old new
-  pub words : new.now.words ≡ old.now.words
+  pub moments : Leaves (λ bytes image. IsPart bytes start_text × (world_of size image ≡ Some (closed w))) old new
+  pub ready : fault ≡ None → IsReady size w new
   pub script : new.script ≡ old.script
   pub shelf : new.shelf ≡ old.shelf
 

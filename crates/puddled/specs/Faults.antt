@@ -6,6 +6,8 @@ use Rattle.pm_model.specs.Counts.{Counts, risen, after_fault}
 use Rattle.pud_defs.specs.Run.{Turn, cuts_of}
 use Rattle.puddled.specs.declared.daemon.StartFault.{StartFault}
 use Rattle.puddled.specs.declared.daemon.StartFault.TheVariants as starts
+use Rattle.registry.specs.declared.LoadFault.{LoadFault}
+use Rattle.registry.specs.declared.LoadFault.TheVariants as loads
 use Rattle.puddled.specs.declared.daemon.RunFault.{RunFault}
 use Rattle.puddled.specs.declared.daemon.RunFault.TheVariants as faults
 
@@ -14,6 +16,11 @@ abbrev pub start_fault : {T : Type 0} → Result T StartFault → Option HostFau
 start_fault (Ok x) = None
 start_fault (Err starts.NotSound) = None
 start_fault (Err (starts.Host fault)) = Some fault
+
+-- what a load's fault is at a start
+abbrev pub of_load : LoadFault → StartFault
+of_load loads.NotSound = starts.NotSound
+of_load (loads.Host fault) = starts.Host fault
 
 -- what a host's fault, or a start's, is behind a power loss
 abbrev pub of_host : HostFault → RunFault

@@ -1,3 +1,2 @@
-pub mod Soundness
 pub mod Faults
 pub mod Daemon

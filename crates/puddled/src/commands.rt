@@ -1,5 +1,6 @@
 //! Commands carried out on the device, before anything is said of them.
 ghost use Rattle.std.specs.Prelude.{◌≡◌, ◌≢◌, ◌≤◌, ℕ, true, IfOk, Option, Result};
+ghost use Rattle.pm_model.specs.Words.{IsRested};
 ghost use Rattle.pm_model.specs.Counts.{after_fault, fault_of};
 ghost use Rattle.pud_defs.specs.Layout.{device_words};
 ghost use Rattle.pud_defs.specs.TypeMap.{is_legal_type_id, is_legal_map};
@@ -25,6 +26,7 @@ fn define_type<H: Host>(h: &mut H, id: u32, map: u64) -> Result<Reply, HostFault
         → Applies size w (world_by w (Option.Some (Define id map))) (fault_of result) (H.state h.old) (H.state h.new) }
     ensures no_cut_reply { result ≢ Result.Ok Reply.Cut }
     ensures rest { H.tells → KeepsRest (H.state h.old) (H.state h.new) }
+    ensures rests { H.tells → fault_of result ≡ Option.Some HostFault.Cut → IsRested (H.state h.new).now.words }
     ensures cause { H.counts h.new ≡ after_fault (fault_of result) (H.counts h.old) }
 {
     match define(h, id, map) {
@@ -45,6 +47,7 @@ fn carry_out<H: Host>(h: &mut H, command: Command) -> Result<Reply, HostFault>
         → Applies size w (world_by w (Option.Some command)) (fault_of result) (H.state h.old) (H.state h.new) }
     ensures no_cut_reply { result ≢ Result.Ok Reply.Cut }
     ensures rest { H.tells → KeepsRest (H.state h.old) (H.state h.new) }
+    ensures rests { H.tells → fault_of result ≡ Option.Some HostFault.Cut → IsRested (H.state h.new).now.words }
     ensures cause { H.counts h.new ≡ after_fault (fault_of result) (H.counts h.old) }
 {
     match command {
@@ -61,6 +64,7 @@ pub fn apply<H: Host>(h: &mut H, line: &[u8]) -> Result<Reply, HostFault>
         → Applies size w (step_world w line.now) (fault_of result) (H.state h.old) (H.state h.new) }
     ensures no_cut_reply { result ≢ Result.Ok Reply.Cut }
     ensures rest { H.tells → KeepsRest (H.state h.old) (H.state h.new) }
+    ensures rests { H.tells → fault_of result ≡ Option.Some HostFault.Cut → IsRested (H.state h.new).now.words }
     ensures cause { H.counts h.new ≡ after_fault (fault_of result) (H.counts h.old) }
 {
     match parse_line(line) {

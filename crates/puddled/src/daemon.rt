@@ -1,19 +1,19 @@
 //! The daemon's own calls: start, one line, stop.
 ghost use Rattle.std.specs.Prelude.{◌≡◌, ◌≢◌, ◌≤◌, ◌↔◌, ℕ, IsOk, Option, Result};
-ghost use Rattle.pm_model.specs.Words.{reads};
+ghost use Rattle.pm_model.specs.Words.{IsRested, reads};
 ghost use Rattle.pm_model.specs.Counts.{after_fault, fault_of};
 ghost use Rattle.pud_defs.specs.Layout.{device_words};
 ghost use Rattle.pm_model.specs.Calls.{Says};
-ghost use Rattle.pud_defs.specs.World.{World, world_of};
+ghost use Rattle.pud_defs.specs.World.{World, world_of, closed};
 ghost use Rattle.pud_defs.specs.Texts.{reply_text};
 ghost use Rattle.puddled.specs.Faults.{start_fault, run_fault, IsCounted};
-ghost use Rattle.puddled.specs.Daemon.{KeepsRest, IsReady, Settles};
+ghost use Rattle.puddled.specs.Daemon.{KeepsRest, IsReady, Recovers, Settles};
 
 use crate::commands::apply;
-use crate::soundness::is_sound;
 use pm_model::{Host, HostFault};
 use pud_defs::layout::MIN_FRAMES;
 use pud_defs::machine::Reply;
+use registry::{LoadFault, clear_spaces, load_sound};
 use script::print_reply;
 use std::alloc::Global;
 
@@ -35,6 +35,19 @@ impl From<HostFault> for StartFault {
 
     fn from(fault: HostFault) -> Self {
         StartFault::Host(fault)
+    }
+}
+
+impl From<LoadFault> for StartFault {
+    ghost use Rattle.puddled.specs.Faults.{of_load};
+
+    ghost from_gives = { λ fault e. e ≡ of_load fault };
+
+    fn from(fault: LoadFault) -> Self {
+        match fault {
+            LoadFault::NotSound => StartFault::NotSound,
+            LoadFault::Host(fault) => StartFault::Host(fault),
+        }
     }
 }
 
@@ -84,20 +97,21 @@ pub struct Daemon {
     started: (),
 }
 
-/// Judges the device as a start does. Nothing is said and nothing changes.
+/// Judges the device, applies what its daemon log names, and empties the log-space table, all without a word.
 fn recover<H: Host>(h: &mut H) -> Result<(), StartFault>
     ensures not_sound { H.tells → start_fault result ≡ Option.None
         → (result ≡ Result.Err StartFault.NotSound) ↔ (world_of (H.counts h.old).size (reads (H.state h.old).now.words) ≡ Option.None) }
-    ensures stays { H.tells → H.state h.new ≡ H.state h.old }
+    ensures unchanged { H.tells → result ≡ Result.Err StartFault.NotSound → H.state h.new ≡ H.state h.old }
+    ensures recovers { H.tells → (size : ℕ) → size ≡ (H.counts h.old).size → (w : World) → IsRested (H.state h.old).now.words
+        → world_of size (reads (H.state h.old).now.words) ≡ Option.Some (closed w) → (H.state h.old).shelf ≡ w.shelf
+        → Recovers size w (start_fault result) (H.state h.old) (H.state h.new) }
     ensures room { IsOk result → device_words MIN_FRAMES ≤ (H.counts h.old).size }
+    ensures rest { H.tells → KeepsRest (H.state h.old) (H.state h.new) }
     ensures cause { H.counts h.new ≡ after_fault (start_fault result) (H.counts h.old) }
-    ensures never_cut { start_fault result ≢ Option.Some HostFault.Cut }
 {
-    if is_sound(h)? {
-        Ok(())
-    } else {
-        Err(StartFault::NotSound)
-    }
+    load_sound(h)?;
+    clear_spaces(h)?;
+    Ok(())
 }
 
 /// Carries out one line without a word. Where power is lost in it the daemon starts again, and the reply is `Cut`.
@@ -139,17 +153,21 @@ fn say_reply<H: Host>(h: &mut H, reply: Reply) -> Result<(), HostFault>
 impl Daemon {
     ghost use Rattle.puddled.specs.Daemon.{Starts, Answers};
 
-    /// Starts on the device, and says the start text. Nothing on the device changes.
+    /// Starts on the device: applies what its daemon log names, empties the log-space table, and says the start text.
     ///
-    /// `NotSound` comes exactly where the device is not a sound registry, where the host does not fail first.
+    /// `NotSound` comes exactly where the device is not a sound registry, where the host does not fail first; then no word
+    /// was changed and nothing was said. On a device that is rested each image left at any moment stands for what the
+    /// device did.
     pub fn start<H: Host>(h: &mut H) -> Result<Daemon, StartFault>
         ensures not_sound { H.tells → start_fault result ≡ Option.None
             → (result ≡ Result.Err StartFault.NotSound) ↔ (world_of (H.counts h.old).size (reads (H.state h.old).now.words) ≡ Option.None) }
         ensures unchanged { H.tells → result ≡ Result.Err StartFault.NotSound → H.state h.new ≡ H.state h.old }
-        ensures starts { H.tells → result ≢ Result.Err StartFault.NotSound → Starts (start_fault result) (H.state h.old) (H.state h.new) }
+        ensures starts { H.tells → (size : ℕ) → size ≡ (H.counts h.old).size → (w : World) → IsRested (H.state h.old).now.words
+            → world_of size (reads (H.state h.old).now.words) ≡ Option.Some (closed w) → (H.state h.old).shelf ≡ w.shelf
+            → Starts size w (start_fault result) (H.state h.old) (H.state h.new) }
         ensures room { IsOk result → device_words MIN_FRAMES ≤ (H.counts h.old).size }
+        ensures rest { H.tells → KeepsRest (H.state h.old) (H.state h.new) }
         ensures cause { H.counts h.new ≡ after_fault (start_fault result) (H.counts h.old) }
-        ensures never_cut { start_fault result ≢ Option.Some HostFault.Cut }
     {
         recover(h)?;
         h.say(b"ready\n")?;

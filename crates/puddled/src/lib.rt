@@ -3,7 +3,6 @@
 
 mod commands;
 mod daemon;
-mod soundness;
 
 pub use daemon::{Daemon, RunFault, StartFault};
 
