@@ -5,3 +5,6 @@ mod overlay;
 mod soundness;
 
 pub use soundness::is_sound;
+
+#[cfg(test)]
+mod tests;
