@@ -117,3 +117,6 @@ pub fn clear_spaces<H: Host>(h: &mut H) -> Result<(), HostFault>
     }
     batch.commit(h)
 }
+
+#[cfg(test)]
+mod tests;

@@ -1,8 +1,7 @@
 //! The words of a device as its daemon log's replay makes them. Nothing is replayed: with each word that is asked for,
 //! the entries of the log are read.
-ghost use Rattle.std.specs.Prelude.{◌≡◌, ◌≢◌, ◌+◌, ◌<◌, ◌≤◌, ◌==◌, ℕ, false, cond, List, Option, IfOk, ◌&&◌, nat_lt, nat_le};
+ghost use Rattle.std.specs.Prelude.{◌≡◌, ◌≢◌, ◌+◌, ◌<◌, ◌≤◌, ◌==◌, false, cond, List, Option, IfOk, ◌&&◌, nat_lt, nat_le};
 ghost use Rattle.std.specs.Option.{option_or};
-ghost use Rattle.std.specs.List.{list_all};
 ghost use Rattle.pm_model.specs.Words.{reads};
 ghost use Rattle.pm_model.specs.Counts.{after_fault, fault_of};
 ghost use Rattle.pud_defs.specs.declared.layout.TheConstants.{DAEMON_LOG, LOG_WORDS};
@@ -20,7 +19,7 @@ use pud_defs::log_words::{REDO_ORDER, UNDO_ORDER, gate_hi, gate_lo};
 
 /// What entries give to a word: the oldest undo entry that names it decides, and the newest redo entry.
 #[derive(Clone, Copy)]
-pub struct Given {
+struct Given {
     undo: Option<u64>,
     redo: Option<u64>,
 }
