@@ -28,6 +28,7 @@ use Rattle.pud_defs.proofs.Steps.{shelf_of_step}
 use Rattle.type_maps.specs.Define.{HasDurableTypes}
 use Rattle.puddled.specs.declared.daemon.RunFault.{RunFault}
 use Rattle.puddled.specs.declared.daemon.RunFault.TheVariants.{NotSound}
+use Rattle.puddled.specs.declared.daemon.Daemon.{Daemon}
 use Rattle.puddled.specs.declared.daemon.StartFault.{StartFault}
 use Rattle.puddled.specs.declared.daemon.StartFault.TheVariants as starts
 use Rattle.puddled.specs.Faults.{start_fault, of_host, of_start, run_fault, IsCounted}
@@ -97,6 +98,12 @@ Starts-nothing size w fault old new r =
       script = r.script;
       shelf = r.shelf;
     }
+
+-- the recovery failed, and nothing was said
+pub Starts-refused : (size : ℕ) (w : World) (fault : StartFault) (old new : State) → (fault ≡ starts.NotSound → ⊥) → Recovers size w (start_fault {T = Unit {0}} (Err fault)) old new
+    → Starts size w (start_fault {T = Daemon} (Err fault)) old new
+Starts-refused size w starts.NotSound old new sound r = absurd (sound refl)
+Starts-refused size w (starts.Host fault) old new sound r = Starts-nothing size w fault old new r
 
 -- the images between the world before a turn and the one that it gives
 abbrev Between : (size : ℕ) → World → World → Image → Type 0

@@ -1,5 +1,5 @@
 -- A device recovered: its daemon log applied, its log-space table emptied, and a world found.
-use Rattle.std.proofs.Common.{◌≡◌, ◌≢◌, ◌⊎◌, inl, inr, ℕ, ◌+◌, ◌<◌, ◌≤◌, [], ◌++◌, Option, Some, None, Err, refl, sym, ap, subst, ◌∙◌, arith}
+use Rattle.std.proofs.Common.{◌≡◌, ◌≢◌, ◌⊎◌, inl, inr, ℕ, ◌+◌, ◌<◌, ◌≤◌, [], ◌++◌, ◌↔◌, Option, Some, None, Result, Err, refl, sym, ap, subst, ◌∙◌, arith}
 use Rattle.std.proofs.lemmas.List.{append-nil}
 use Rattle.pm_model.specs.declared.host.HostFault.{HostFault}
 use Rattle.pm_model.specs.declared.host.HostFault.TheVariants.{Cut}
@@ -18,6 +18,7 @@ use Rattle.pud_defs.specs.World.{World, StoredWorld, world_of, closed}
 use Rattle.type_maps.specs.Define.{HasDurableTypes}
 use Rattle.log_replay.specs.Replaying.{Anything, ByLog, IsNamed}
 use Rattle.batch.specs.Batches.{batch_write, ByBatch}
+use Rattle.registry.specs.declared.Geo.{Geo}
 use Rattle.registry.specs.declared.LoadFault.{LoadFault}
 use Rattle.registry.specs.declared.LoadFault.TheVariants as loads
 use Rattle.registry.specs.Registry.{load_fault, AppliesLog, clearing, Clears}
@@ -85,3 +86,17 @@ sound_then size a b (Some s) is sound recovers = λ none.
 pub sound_recovered : (size : ℕ) (a b : State) → (world_of size (reads a.now.words) ≡ None → ⊥)
     → ((w : World) → world_of size (reads a.now.words) ≡ Some (closed w) → a.shelf ≡ w.shelf → Recovers size w None a b) → world_of size (reads b.now.words) ≢ None
 sound_recovered size a b sound recovers = sound_then size a b (world_of size (reads a.now.words)) refl sound recovers
+
+-- a load that failed on a device that stands for a world
+pub Recovers-load : (size : ℕ) (w : World) (fault : LoadFault) (a b : State) → (fault ≡ loads.NotSound → ⊥) → AppliesLog size (closed w) (load_fault {T = Geo} (Err fault)) a b
+    → Recovers size w (start_fault {T = Unit {0}} (Err (of_load fault))) a b
+Recovers-load size w loads.NotSound a b sound p = absurd (sound refl)
+Recovers-load size w (loads.Host fault) a b sound p = Recovers-applies size w fault a b p
+
+-- it is not refused
+pub sound_load : (size : ℕ) (w : World) (fault : LoadFault) (a : State) → world_of size (reads a.now.words) ≡ Some (closed w)
+    → (load_fault {T = Geo} (Err fault) ≡ None → (◌≡◌ {A = Result Geo LoadFault} (Err fault) (Err loads.NotSound)) ↔ (world_of size (reads a.now.words) ≡ None)) → fault ≡ loads.NotSound → ⊥
+sound_load size w fault a world exact is =
+    let none = (exact (ap (λ (f : LoadFault). load_fault {T = Geo} (Err f)) is)).0 (ap Err is) in
+    let it : Some (closed w) ≡ None = sym world ∙ none in
+    cc

@@ -6,8 +6,9 @@ use Rattle.pud_defs.specs.World.{world_of}
 use Rattle.puddled.specs.declared.daemon.StartFault.{StartFault}
 use Rattle.puddled.specs.declared.daemon.RunFault.TheVariants.{Failed}
 use Rattle.puddled.specs.Faults.{start_fault}
-use Rattle.puddled.proofs.Counted.{counted_cut, counted_restart, counted_failed, start_is_sound}
-use Rattle.puddled.proofs.Lines.{Settles-done, Settles-fault, Settles-cut, restart_sound}
+use Rattle.puddled.proofs.Counted.{counted_cut, counted_restart, counted_failed}
+use Rattle.puddled.proofs.Restarts.{sound_recovered}
+use Rattle.puddled.proofs.Lines.{Settles-done, Settles-fault, Settles-cut, Settles-restart, restart_sound, found_world, found_stands, found_shelf}
 use Rattle.puddled.proofs.daemon.settle.Goals as goal
 
 pub returns-in_err-recover-in-Err-Cut-clause-settles : goal.returns-in_err-recover-in-Err-Cut-clause-settles
@@ -17,10 +18,13 @@ returns-in_err-recover-in-Err-Cut-clause-settles g c = λ t size e w ready.
     let lost = rw c.in-Err-Cut.field-0-is at c.in-Err-Cut.ensures.cause in
     let fault = c.in_err-recover-in-Err-Cut.field-0.0 in
     let same = e ∙ sym (ap (λ (x : Counts). x.size) lost) in
-    rw (p.1, p.2) (Settles-fault size w c.args.line.now _ _ _ _ _ _ _ applies (c.in_err-recover-in-Err-Cut.ensures.stays t)
-    (start_is_sound fault (λ unsound.
+    let next = found_world size w c.args.line.now _ _ applies ready.shelf in
+    let recovers = c.in_err-recover-in-Err-Cut.ensures.recovers t size same next (applies.lost refl) (found_stands size w c.args.line.now _ _ applies ready.shelf) (found_shelf size w c.args.line.now _ _ applies ready.shelf) in
+    rw (p.1, p.2) (Settles-restart size w c.args.line.now _ _ applies ready.shelf fault _ _ _
+    (λ unsound.
     let none = (c.in_err-recover-in-Err-Cut.ensures.not_sound t (ap (λ (f : StartFault). start_fault {T = Unit {0}} (Err f)) unsound)).0 (ap Err unsound) in
-    restart_sound size w c.args.line.now _ _ applies (ap (λ (n : ℕ). world_of n (reads (g.H.Host.state c.apply.new.h).now.words)) same ∙ none)))
+    restart_sound size w c.args.line.now _ _ applies ready.shelf (ap (λ (n : ℕ). world_of n (reads (g.H.Host.state c.apply.new.h).now.words)) same ∙ none))
+    recovers
     (counted_restart c.in_err-recover-in-Err-Cut.field-0.0 _ _ _ lost c.in_err-recover-in-Err-Cut.ensures.cause))
 
 pub returns-in_err-recover-in-Err-Cut-clause-cause : goal.returns-in_err-recover-in-Err-Cut-clause-cause
@@ -43,4 +47,16 @@ pub returns-in_ok-recover-in-Err-Cut-clause-settles : goal.returns-in_ok-recover
 returns-in_ok-recover-in-Err-Cut-clause-settles g c = λ t size e w ready.
     let applies = rw c.in-Err-Cut.field-0-is at (c.in-Err-Cut.ensures.applies t size e w ready) in
     let lost = rw c.in-Err-Cut.field-0-is at c.in-Err-Cut.ensures.cause in
-    Settles-cut size w c.args.line.now _ _ applies _ _ _ (c.in_ok-recover-in-Err-Cut.ensures.stays t) ready.shelf (counted_cut _ _ _ lost c.in_ok-recover-in-Err-Cut.ensures.cause)
+    let same = e ∙ sym (ap (λ (x : Counts). x.size) lost) in
+    let next = found_world size w c.args.line.now _ _ applies ready.shelf in
+    let recovers = c.in_ok-recover-in-Err-Cut.ensures.recovers t size same next (applies.lost refl) (found_stands size w c.args.line.now _ _ applies ready.shelf) (found_shelf size w c.args.line.now _ _ applies ready.shelf) in
+    Settles-cut size w c.args.line.now _ _ applies ready.shelf _ _ _ recovers (counted_cut _ _ _ lost c.in_ok-recover-in-Err-Cut.ensures.cause)
+
+pub returns-in_ok-recover-in-Err-Cut-clause-restarted : goal.returns-in_ok-recover-in-Err-Cut-clause-restarted
+returns-in_ok-recover-in-Err-Cut-clause-restarted g c = λ t _.
+    let lost = rw c.in-Err-Cut.field-0-is at c.in-Err-Cut.ensures.cause in
+    let rested = (rw c.in-Err-Cut.field-0-is at c.in-Err-Cut.ensures.rests) t refl in
+    let same = sym (ap (λ (x : Counts). x.size) lost) in
+    sound_recovered (g.H.Host.counts c.args.h.now).size _ _
+    (λ none. absurd (let it = (c.in_ok-recover-in-Err-Cut.ensures.not_sound t refl).1 (ap (λ (n : ℕ). world_of n (reads (g.H.Host.state c.apply.new.h).now.words)) (sym same) ∙ none) in cc it))
+    (λ w world shelf. c.in_ok-recover-in-Err-Cut.ensures.recovers t (g.H.Host.counts c.args.h.now).size same w rested world shelf)
