@@ -4,7 +4,7 @@ use Rattle.std.proofs.lemmas.List.{append-nil}
 use Rattle.std.proofs.Math.Numerals.{one-add}
 use Rattle.pm_model.specs.declared.host.HostFault.{HostFault}
 use Rattle.pm_model.specs.declared.host.HostFault.TheVariants as hosts
-use Rattle.pm_model.specs.Counts.{Counts, after_fault}
+use Rattle.pm_model.specs.Counts.{Counts, risen, after_fault}
 use Rattle.pm_model.specs.Words.{Words, Image, Picks, IsRested, reads}
 use Rattle.pm_model.specs.Moments.{State}
 use Rattle.pm_model.specs.Changes.{Leaves}
@@ -20,13 +20,13 @@ use Rattle.type_maps.specs.Define.{HasDurableTypes}
 use Rattle.puddled.specs.declared.daemon.RunFault.{RunFault}
 use Rattle.puddled.specs.declared.daemon.RunFault.TheVariants as faults
 use Rattle.puddled.specs.Faults.{RoseBy, CountsTurns, IsCounted}
-use Rattle.puddled.proofs.Counted.{counted_failed, IsCounted-then, CountsTurns-cuts, RoseBy-fewer, rose_of_counted, rose_with_losses}
+use Rattle.puddled.proofs.Counted.{counted_failed, IsCounted-then, CountsTurns-cuts, RoseBy-fewer, rose_of_counted, rose_with_losses, cuts_after_fault}
 use Rattle.puddled.specs.Daemon.{IsReady, Starts}
 use Rattle.puddle_cli.specs.declared.status.TheConstants.{DONE, DEVICE_FAULT, POWER_LOST, TOO_LONG}
 use Rattle.puddle_cli.specs.Status.{status_fault, run_fault_at, IsStatusOfMode}
 use Rattle.puddle_cli.specs.Serving.{Answered}
 use Rattle.puddle_cli.specs.Headline.{Headline}
-use Rattle.puddle_cli.proofs.Statuses.{failed_status}
+use Rattle.puddle_cli.proofs.Statuses.{not_whole_of}
 
 -- the counts of all lines, and of what ended the run
 all_counted : (fault : Option RunFault) (answered : List Turn) (n : ℕ) (before mid after : Counts) → CountsTurns answered before mid → IsCounted fault n mid after
@@ -43,41 +43,31 @@ rose_in_start n k before after c =
 
 -- a rested device whose words stand for the world is one to start on
 module _ (size : ℕ) (w : World) (start : State) (rested : IsRested start.now.words) (stands : world_of size (reads start.now.words) ≡ Some (closed w)) where
-  each_stands : (image : Image) → Picks start.now.words image → world_of size image ≡ Some (closed w)
-  each_stands image picked = ap (world_of size) (reads_only start.now.words image rested picked) ∙ stands
-
-  pub ready_after_start : (fault : Option HostFault) (now : State) → start.shelf ≡ w.shelf → Starts fault start now → IsReady size w now
-  ready_after_start fault now shelf s =
-      record {
-        stands = λ image picked. each_stands image (subst (λ (x : Words). Picks x image) s.words picked);
-        types = subst (λ (x : Words). HasDurableTypes x) (sym s.words) (record { each = λ k _ _. rested.each k });
-        shelf = s.shelf ∙ shelf;
-      }
-
   stands_at_start : (turns : List Turn) (count : ℕ) (image : Image) → count ≤ 1 → world_of size image ≡ Some (closed w) → StandsBehindStart size w turns count image
   stands_at_start turns zero image few e = e
   stands_at_start [] (suc zero) image few e = e
   stands_at_start (t ∷ turns) (suc zero) image few e = inl e
   stands_at_start turns (suc (suc n)) image few e = absurd (omega arith)
 
-  start_moments : (turns : List Turn) (fault : Option HostFault) (now : State) → Starts fault start now → Leaves (λ bytes image. StandsBehindStart size w turns (newlines bytes) image) start now
+  start_moments : (turns : List Turn) (fault : Option HostFault) (now : State) → Starts size w fault start now → Leaves (λ bytes image. StandsBehindStart size w turns (newlines bytes) image) start now
   start_moments turns fault now s =
       Leaves-weaker _ _ start now
       (λ bytes image m.
       let part = newlines_part bytes m.0.rest in
       let one = ap newlines (sym m.0.is) ∙ newlines-start_text in
-      stands_at_start turns (newlines bytes) image (omega arith) (each_stands image m.1)) s.moments
+      stands_at_start turns (newlines bytes) image (omega arith) m.1) s.moments
 
-  -- the host failed within the start
-  pub Headline-in_start : (before after : Counts) (now : State) → after ≡ after_fault (Some hosts.Failed) before → start.shelf ≡ w.shelf → Starts (Some hosts.Failed) start now
-      → Headline size w DEVICE_FAULT before after start now
-  Headline-in_start before after now last shelf s =
-      let not_whole : run_fault_at DEVICE_FAULT ≡ None → ⊥ = λ none. let no : Some faults.Failed ≡ None = none in cc in
+  -- the host failed within the start, or power was lost in it
+  pub Headline-in_start : (fault : HostFault) (status : ℕ) (before after : Counts) (now : State) → IsStatusOfMode status → status_fault status ≡ Some fault
+      → after ≡ after_fault (Some fault) before → start.shelf ≡ w.shelf → Starts size w (Some fault) start now → Headline size w status before after start now
+  Headline-in_start fault status before after now of_mode is last shelf s =
+      let not_whole = not_whole_of status fault of_mode is in
+      let as_told : after ≡ after_fault (status_fault status) before = last ∙ ap (λ (f : Option HostFault). after_fault f before) (sym is) in
       record {
         taken = [];
         ended = false;
         script = sym s.script;
-        to_end = λ e. absurd (let no : false ≡ true = e in cc);
+        to_end = λ e. absurd (let it : false ≡ true = e in cc);
         answered = [];
         pending = [];
         few = omega arith;
@@ -85,26 +75,22 @@ module _ (size : ℕ) (w : World) (start : State) (rested : IsRested start.now.w
         lines = sym (lines_taken-nothing false);
         bytes = s.says.bytes;
         said = s.says.said;
-        how_far = inl (record { nothing_taken = refl; no_turns = refl; rest = s.says.rest; part = s.says.part });
+        mid = before;
+        how_far = inl (record { nothing_taken = refl; no_turns = refl; rest = s.says.rest; part = s.says.part; failed = as_told });
         whole = λ none. absurd (not_whole none);
         all_lines = λ done. absurd (not_whole (ap run_fault_at done));
         not_ended = λ _. refl;
         ends = λ none. absurd (not_whole none);
         shelf = s.shelf ∙ shelf;
         shelf_of_run = λ none. absurd (not_whole none);
-        moments = Leaves-each (λ said image. StandsBehindStart size w [] (newlines said) image) start now (start_moments [] (Some hosts.Failed) now s);
-        mid = before;
+        moments = Leaves-each (λ said image. StandsBehindStart size w [] (newlines said) image) start now (start_moments [] (Some fault) now s);
         turns_counted = refl;
-        counted = counted_failed before after last;
-        cuts = rose_of_counted (Some faults.Failed) 0 before after (counted_failed before after last);
-        cuts_in_start = λ e. absurd (let no : DEVICE_FAULT ≡ POWER_LOST = e in cc);
+        cuts = subst (λ (x : Counts). before.cuts ≤ x.cuts) (sym last) (cuts_after_fault (Some fault) before);
+        cuts_in_start = λ lost.
+            let cut : Some fault ≡ Some hosts.Cut = sym is ∙ ap status_fault lost in
+            subst (λ (x : Counts). risen before.cuts ≤ x.cuts) (sym (last ∙ ap (λ (f : Option HostFault). after_fault f before) cut)) (omega arith);
+        cuts_in_line = λ lost some. absurd (some refl);
       }
-
-  pub Headline-failed : (fault : HostFault) (status : ℕ) (before after : Counts) (now : State) → (Some fault ≡ Some hosts.Cut → ⊥) → IsStatusOfMode status → status_fault status ≡ Some fault
-      → after ≡ after_fault (Some fault) before → start.shelf ≡ w.shelf → Starts (Some fault) start now → Headline size w status before after start now
-  Headline-failed hosts.Failed status before after now never_cut of_mode is last shelf s =
-      subst (λ (x : ℕ). Headline size w x before after start now) (sym (failed_status status of_mode is)) (Headline-in_start before after now last shelf s)
-  Headline-failed hosts.Cut status before after now never_cut of_mode is last shelf s = absurd (never_cut refl)
 
   said_behind : (mid now : State) (replies more : List ℕ) → mid.now.said ≡ start.now.said ++ start_text → now.now.said ≡ mid.now.said ++ replies ++ more
       → now.now.said ≡ start.now.said ++ (start_text ++ replies ++ more)
@@ -118,10 +104,14 @@ module _ (size : ℕ) (w : World) (start : State) (rested : IsRested start.now.w
   nothing_more (b ∷ more) rest e = absurd (let no : [] ≡ b ∷ (more ++ rest) = e in cc)
 
   -- the start was said whole, and the script was answered so far
-  pub Headline-behind_start : (status : ℕ) (ended : Bool) (fault : Option RunFault) (before after : Counts) (mid now : State) → start.shelf ≡ w.shelf → Starts None start mid → now.shelf ≡ mid.shelf
+  pub Headline-behind_start : (status : ℕ) (ended : Bool) (fault : Option RunFault) (before after : Counts) (mid now : State) → start.shelf ≡ w.shelf → Starts size w None start mid → now.shelf ≡ mid.shelf
       → run_fault_at status ≡ fault → (status ≡ DONE → ended ≡ true) → (status ≡ TOO_LONG → ended ≡ false)
       → Answered size w ended fault before after mid now → Headline size w status before after start now
   Headline-behind_start status ended fault before after mid now shelf s kept is done too_long a =
+      let all = all_counted fault a.answered (cuts_of a.pending) before a.mid after a.turns_counted a.counted in
+      let twice : status ≡ POWER_LOST → RoseBy (2 + cuts_of a.answered) before.cuts after.cuts = λ lost.
+          let cut : fault ≡ Some faults.CutInStart = sym is ∙ ap run_fault_at lost in
+          rose_in_start (cuts_of a.pending) (cuts_of a.answered) before after (subst (λ (f : Option RunFault). IsCounted f (cuts_of a.pending + cuts_of a.answered) before after) cut all) in
       let first : mid.now.said ≡ start.now.said ++ start_text =
       s.says.said ∙ ap (λ (l : List ℕ). start.now.said ++ l) (sym (s.says.part ∙ ap (λ (l : List ℕ). s.says.bytes ++ l) (s.says.whole refl) ∙ append-nil s.says.bytes)) in
       record {
@@ -136,7 +126,8 @@ module _ (size : ℕ) (w : World) (start : State) (rested : IsRested start.now.w
         lines = a.lines;
         bytes = start_text ++ replies_text a.answered ++ a.more;
         said = said_behind mid now (replies_text a.answered) a.more first a.said;
-        how_far = inr (record { more = a.more; rest = a.rest; said = refl; part = a.part });
+        mid = a.mid;
+        how_far = inr (record { more = a.more; rest = a.rest; said = refl; part = a.part; counted = subst (λ (f : Option RunFault). IsCounted f (cuts_of a.pending) a.mid after) (sym is) a.counted });
         whole = λ none.
             let nothing = a.whole (sym is ∙ none) in
             let no_more = nothing_more a.more a.rest (ap replies_text (sym nothing) ∙ a.part) in
@@ -151,12 +142,8 @@ module _ (size : ℕ) (w : World) (start : State) (rested : IsRested start.now.w
             (λ more image p. subst (λ (n : ℕ). StandsBehindStart size w (a.answered ++ a.pending) n image)
             (sym (newlines-append start_text more ∙ ap (λ (n : ℕ). n + newlines more) newlines-start_text ∙ one-add (newlines more))) p)
             (start_moments (a.answered ++ a.pending) None mid s) a.moments);
-        mid = a.mid;
         turns_counted = a.turns_counted;
-        counted = subst (λ (f : Option RunFault). IsCounted f (cuts_of a.pending) a.mid after) (sym is) a.counted;
-        cuts = rose_at_least fault (cuts_of a.pending) (cuts_of a.answered) before after (all_counted fault a.answered (cuts_of a.pending) before a.mid after a.turns_counted a.counted);
-        cuts_in_start = λ lost.
-            let cut : fault ≡ Some faults.CutInStart = sym is ∙ ap run_fault_at lost in
-            rose_in_start (cuts_of a.pending) (cuts_of a.answered) before after
-            (subst (λ (f : Option RunFault). IsCounted f (cuts_of a.pending + cuts_of a.answered) before after) cut (all_counted fault a.answered (cuts_of a.pending) before a.mid after a.turns_counted a.counted));
+        cuts = rose_at_least fault (cuts_of a.pending) (cuts_of a.answered) before after all;
+        cuts_in_start = λ lost. RoseBy-fewer 1 (1 + cuts_of a.answered) before.cuts after.cuts (let two : 2 + cuts_of a.answered ≡ 1 + (1 + cuts_of a.answered) = omega arith in subst (λ (n : ℕ). RoseBy n before.cuts after.cuts) two (twice lost));
+        cuts_in_line = λ lost some. twice lost;
       }

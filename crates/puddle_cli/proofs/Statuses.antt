@@ -1,5 +1,6 @@
 -- Why each status comes, by the counts.
 use Rattle.std.proofs.Common.{◌≡◌, inl, inr, ℕ, Option, Some, None, refl, sym, ap, subst, ◌∙◌, arith}
+use Rattle.pm_model.specs.declared.host.HostFault.{HostFault}
 use Rattle.pm_model.specs.declared.host.HostFault.TheVariants as hosts
 use Rattle.pm_model.specs.Counts.{Counts, Rose, risen, after_fault}
 use Rattle.pud_defs.specs.Image.{Image}
@@ -102,3 +103,11 @@ failed_status status (inr (inl refused)) is = absurd (let no : None ≡ Some hos
 failed_status status (inr (inr (inl failed))) is = failed
 failed_status status (inr (inr (inr (inl cut)))) is = absurd (let no : Some hosts.Cut ≡ Some hosts.Failed = ap status_fault (sym cut) ∙ is in cc)
 failed_status status (inr (inr (inr (inr long)))) is = absurd (let no : None ≡ Some hosts.Failed = ap status_fault (sym long) ∙ is in cc)
+
+-- a host's fault is told by no status at which a run is whole
+pub not_whole_of : (status : ℕ) (fault : HostFault) → IsStatusOfMode status → status_fault status ≡ Some fault → run_fault_at status ≡ None → ⊥
+not_whole_of status fault (inl done) is none = absurd (let it : None ≡ Some fault = ap status_fault (sym done) ∙ is in cc)
+not_whole_of status fault (inr (inl refused)) is none = absurd (let it : None ≡ Some fault = ap status_fault (sym refused) ∙ is in cc)
+not_whole_of status fault (inr (inr (inl failed))) is none = absurd (let it : Some faults.Failed ≡ None = ap run_fault_at (sym failed) ∙ none in cc)
+not_whole_of status fault (inr (inr (inr (inl cut)))) is none = absurd (let it : Some faults.CutInStart ≡ None = ap run_fault_at (sym cut) ∙ none in cc)
+not_whole_of status fault (inr (inr (inr (inr long)))) is none = absurd (let it : None ≡ Some fault = ap status_fault (sym long) ∙ is in cc)

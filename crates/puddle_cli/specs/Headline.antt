@@ -1,7 +1,7 @@
 -- What the program says and leaves over a script, for one and the same run of the machine.
 use Rattle.std.specs.Prelude.{◌≡◌, ◌⊎◌, ℕ, ◌+◌, ◌<◌, ◌≤◌, Bool, true, false, List, [], ◌++◌, length, map, Some, None}
 use Rattle.pm_model.specs.Words.{Picks}
-use Rattle.pm_model.specs.Counts.{Counts}
+use Rattle.pm_model.specs.Counts.{Counts, after_fault}
 use Rattle.pm_model.specs.Moments.{State, MayLeave}
 use Rattle.pud_defs.specs.declared.layout.TheConstants.{SCRIPT_LIMIT}
 use Rattle.pud_defs.specs.Image.{Image}
@@ -11,7 +11,7 @@ use Rattle.pud_defs.specs.Texts.{start_text, replies_text}
 use Rattle.pud_defs.specs.Stands.{StandsBehindStart}
 use Rattle.puddle_cli.specs.declared.status.TheConstants.{DONE, POWER_LOST, TOO_LONG}
 use Rattle.puddled.specs.Faults.{RoseBy, CountsTurns, IsCounted}
-use Rattle.puddle_cli.specs.Status.{run_fault_at}
+use Rattle.puddle_cli.specs.Status.{status_fault, run_fault_at}
 
 -- Bytes of the script were taken: all of them at status 0, and 2^20 at status 7.
 pub record TakesScript (status : ℕ) (start end : State) : Type 0 where
@@ -22,19 +22,22 @@ pub record TakesScript (status : ℕ) (start end : State) : Type 0 where
   pub too_long : status ≡ TOO_LONG → length taken ≡ SCRIPT_LIMIT
   pub shelf : end.shelf ≡ start.shelf
 
--- Within the start some bytes of the start text were said and nothing was taken. Behind it the start text, the replies to the lines answered
--- and a part of the reply to the line under way were said.
-pub record IsInStart (taken : List ℕ) (turns : List Turn) (bytes : List ℕ) : Type 0 where
+-- Within the start, in which the host failed or power was lost, some bytes of the start text were said and nothing was taken. Behind it the
+-- start text, the replies to the lines answered and a part of the reply to the line under way were said; there power was lost in each line
+-- whose reply is `cut`, and at status 6 twice more, in the line that has no reply and in the restart behind it.
+pub record IsInStart (taken : List ℕ) (turns : List Turn) (bytes : List ℕ) (status : ℕ) (before after : Counts) : Type 0 where
   pub nothing_taken : taken ≡ []
   pub no_turns : turns ≡ []
   pub rest : List ℕ
   pub part : start_text ≡ bytes ++ rest
+  pub failed : after ≡ after_fault (status_fault status) before
 
-pub record IsBehindStart (answered pending : List Turn) (bytes : List ℕ) : Type 0 where
+pub record IsBehindStart (answered pending : List Turn) (bytes : List ℕ) (status : ℕ) (mid after : Counts) : Type 0 where
   pub more : List ℕ
   pub rest : List ℕ
   pub said : bytes ≡ start_text ++ replies_text answered ++ more
   pub part : replies_text pending ≡ more ++ rest
+  pub counted : IsCounted (run_fault_at status) (cuts_of pending) mid after
 
 -- The exit and the moments of one run over a script, from a device whose images all stand for the stored world of w.
 pub record Headline (size : ℕ) (w : World) (status : ℕ) (before after : Counts) (start end : State) : Type 0 where
@@ -51,7 +54,8 @@ pub record Headline (size : ℕ) (w : World) (status : ℕ) (before after : Coun
   -- the bytes said
   pub bytes : List ℕ
   pub said : end.now.said ≡ start.now.said ++ bytes
-  pub how_far : IsInStart taken (answered ++ pending) bytes ⊎ IsBehindStart answered pending bytes
+  pub mid : Counts
+  pub how_far : IsInStart taken (answered ++ pending) bytes status before after ⊎ IsBehindStart answered pending bytes status mid after
   -- at status 0 and 7 the run is whole, and each image left stands for its closed last world
   pub whole : run_fault_at status ≡ None → (pending ≡ []) × (bytes ≡ start_text ++ replies_text answered)
   pub all_lines : status ≡ DONE → ended ≡ true
@@ -61,9 +65,8 @@ pub record Headline (size : ℕ) (w : World) (status : ℕ) (before after : Coun
   pub shelf_of_run : run_fault_at status ≡ None → end.shelf ≡ (last_world w answered).shelf
   -- at every moment: an image that may have been left since the start of the call, together with the bytes said since then
   pub moments : (said : List ℕ) (image : Image) → MayLeave start end said image → StandsBehindStart size w (answered ++ pending) (newlines said) image
-  -- power was lost in each line whose reply is `cut`, and at status 6 twice more in the line that has no reply
-  pub mid : Counts
+  -- power was lost in each line whose reply is `cut`; at status 6 once more, and twice more where a line was left without a reply
   pub turns_counted : CountsTurns answered before mid
-  pub counted : IsCounted (run_fault_at status) (cuts_of pending) mid after
   pub cuts : RoseBy (cuts_of answered) before.cuts after.cuts
-  pub cuts_in_start : status ≡ POWER_LOST → RoseBy (2 + cuts_of answered) before.cuts after.cuts
+  pub cuts_in_start : status ≡ POWER_LOST → RoseBy (1 + cuts_of answered) before.cuts after.cuts
+  pub cuts_in_line : status ≡ POWER_LOST → (pending ≡ [] → ⊥) → RoseBy (2 + cuts_of answered) before.cuts after.cuts

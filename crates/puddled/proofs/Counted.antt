@@ -174,7 +174,7 @@ RoseBy-fewer l k a b rose =
     let least = risen_by-least l (risen_by k a) in
     omega arith
 
-cuts_after_fault : (fault : Option HostFault) (c : Counts) → c.cuts ≤ (after_fault fault c).cuts
+pub cuts_after_fault : (fault : Option HostFault) (c : Counts) → c.cuts ≤ (after_fault fault c).cuts
 cuts_after_fault None c = omega arith
 cuts_after_fault (Some hosts.Failed) c = omega arith
 cuts_after_fault (Some hosts.Cut) c = risen_least c.cuts

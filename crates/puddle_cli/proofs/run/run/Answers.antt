@@ -4,15 +4,15 @@ use Rattle.pm_model.specs.Words.{reads}
 use Rattle.pud_defs.specs.World.{World}
 use Rattle.puddle_cli.specs.Status.{run_fault_at}
 use Rattle.puddle_cli.specs.Serving.{Answered, TakesBy}
-use Rattle.puddle_cli.proofs.Running.{ready_after_start, Headline-failed, Headline-behind_start}
+use Rattle.puddle_cli.proofs.Running.{Headline-in_start, Headline-behind_start}
 use Rattle.puddle_cli.proofs.Statuses.{usable_by, fault_at_status, not_whole_at}
 use Rattle.puddle_cli.proofs.run.run.Goals as goal
 
 pub returns-in-Ok-true-clause-headline : goal.returns-in-Ok-true-clause-headline
 returns-in-Ok-true-clause-headline g c = λ t w rested shelf stands.
     let size = (g.H.Host.counts c.args.h.now).size in
-    let starts = c.in-Ok.ensures.starts t (λ e. cc e) in
-    let ready = ready_after_start size w _ rested stands None _ shelf starts in
+    let starts = c.in-Ok.ensures.starts t size refl w rested stands shelf in
+    let ready = starts.ready refl in
     let same = sym (ap (λ (x : Counts). x.size) c.in-Ok.ensures.cause) in
     let by_end = c.in-Ok-true.ensures.answered t size same w ready in
     let answered = subst (λ (b : Bool). Answered size w b None (g.H.Host.counts c.start.new.h) (g.H.Host.counts c.serve.new.h) (g.H.Host.state c.start.new.h) (g.H.Host.state c.serve.new.h)) c.in-Ok-true.field-0-test by_end in
@@ -23,8 +23,8 @@ returns-in-Ok-true-clause-headline g c = λ t w rested shelf stands.
 pub returns-in-Ok-false-clause-headline : goal.returns-in-Ok-false-clause-headline
 returns-in-Ok-false-clause-headline g c = λ t w rested shelf stands.
     let size = (g.H.Host.counts c.args.h.now).size in
-    let starts = c.in-Ok.ensures.starts t (λ e. cc e) in
-    let ready = ready_after_start size w _ rested stands None _ shelf starts in
+    let starts = c.in-Ok.ensures.starts t size refl w rested stands shelf in
+    let ready = starts.ready refl in
     let same = sym (ap (λ (x : Counts). x.size) c.in-Ok.ensures.cause) in
     let by_end = c.in-Ok-false.ensures.answered t size same w ready in
     let answered = subst (λ (b : Bool). Answered size w b None (g.H.Host.counts c.start.new.h) (g.H.Host.counts c.serve.new.h) (g.H.Host.state c.start.new.h) (g.H.Host.state c.serve.new.h)) c.in-Ok-false.field-0-test by_end in
@@ -35,16 +35,15 @@ returns-in-Ok-false-clause-headline g c = λ t w rested shelf stands.
 pub returns-in-Err-Host-clause-headline : goal.returns-in-Err-Host-clause-headline
 returns-in-Err-Host-clause-headline g c = λ t w rested shelf stands.
     let starts = rw c.in-Err-Host.field-0-is at c.in-Err-Host.ensures.starts in
-    let never_cut = rw c.in-Err-Host.field-0-is at c.in-Err-Host.ensures.never_cut in
     let last = rw c.in-Err-Host.field-0-is at c.in-Err-Host.ensures.cause in
     let is = rw c.in-Err-Host.field-0-is at c.status_of.ensures.fault in
-    Headline-failed (g.H.Host.counts c.args.h.now).size w _ rested stands c.in-Err-Host.fault _ _ _ _ never_cut c.status_of.ensures.status is last shelf (starts t (λ e. cc e))
+    Headline-in_start (g.H.Host.counts c.args.h.now).size w _ rested stands c.in-Err-Host.fault _ _ _ _ c.status_of.ensures.status is last shelf (starts t (g.H.Host.counts c.args.h.now).size refl w rested stands shelf)
 
 pub returns-in-Err-clause-headline : goal.returns-in-Err-clause-headline
 returns-in-Err-clause-headline g c = λ t w rested shelf stands.
     let size = (g.H.Host.counts c.args.h.now).size in
-    let starts = c.in-Ok.ensures.starts t (λ e. cc e) in
-    let ready = ready_after_start size w _ rested stands None _ shelf starts in
+    let starts = c.in-Ok.ensures.starts t size refl w rested stands shelf in
+    let ready = starts.ready refl in
     let same = sym (ap (λ (x : Counts). x.size) c.in-Ok.ensures.cause) in
     let fault = c.in-Err.fault in
     let answered = c.in-Err.ensures.answered t size same w ready in
@@ -60,7 +59,7 @@ returns-in-Err-clause-not_usable g c = λ t rested none.
       λ is. usable_by size (reads (g.H.Host.state c.args.h.now).now.words) _ refl c.in-Err.fault
           (λ s stands unsound.
           let w : World = record { stored = s; shelf = (g.H.Host.state c.args.h.now).shelf } in
-          let ready = ready_after_start size w (g.H.Host.state c.args.h.now) rested stands None _ refl (c.in-Ok.ensures.starts t (λ e. cc e)) in
+          let ready = (c.in-Ok.ensures.starts t size refl w rested stands refl).ready refl in
           (c.in-Err.ensures.answered t size same w ready).1.sound unsound) (sym c.status_of_run.ensures.status ∙ is),
       λ unsound. absurd (let no = (c.in-Ok.ensures.not_sound t refl).1 unsound in cc no),
     )
@@ -72,6 +71,6 @@ returns-in-Err-clause-unchanged g c = λ t rested is.
     let unsound = usable_by size (reads (g.H.Host.state c.args.h.now).now.words) _ refl c.in-Err.fault
     (λ s stands unsound.
     let w : World = record { stored = s; shelf = (g.H.Host.state c.args.h.now).shelf } in
-    let ready = ready_after_start size w (g.H.Host.state c.args.h.now) rested stands None _ refl (c.in-Ok.ensures.starts t (λ e. cc e)) in
+    let ready = (c.in-Ok.ensures.starts t size refl w rested stands refl).ready refl in
     (c.in-Err.ensures.answered t size same w ready).1.sound unsound) (sym c.status_of_run.ensures.status ∙ is) in
     absurd (let no = (c.in-Ok.ensures.not_sound t refl).1 unsound in cc no)
