@@ -1,28 +1,26 @@
 -- The parts in which a batch is written: its entries, the range, their places, the closed gate.
-use Rattle.std.proofs.Common.{◌≡◌, ◌⊎◌, inl, inr, ℕ, ◌+◌, ◌-◌, ◌<◌, ◌≤◌, ◌^◌, Bool, true, false, cond, eqb, List, [], ◌∷◌, ◌++◌, length, get_or, Option, Some, None, IsTrue, refl, sym, ap, ap₂, subst, ◌∙◌, arith}
-use Rattle.std.specs.Prelude.{All, unwrap_or}
-use Rattle.std.proofs.lemmas.Bool.{cases_eq, cases_Bool, eq-eqb, ne_eqb}
+use Rattle.std.proofs.Common.{◌≡◌, ◌⊎◌, inl, inr, ℕ, ◌+◌, ◌-◌, ◌<◌, ◌≤◌, ◌^◌, true, false, List, [], length, get_or, Option, Some, None, refl, sym, ap, ◌∙◌, arith}
+use Rattle.std.proofs.lemmas.Bool.{eq-eqb}
 use Rattle.std.proofs.lemmas.List.{append-nil}
 use Rattle.pm_model.specs.declared.host.HostFault.{HostFault}
-use Rattle.pm_model.specs.declared.host.HostFault.TheVariants.{Cut}
-use Rattle.pm_model.specs.Words.{Has, values, Words, reads, Picks, HasOnly}
+use Rattle.pm_model.specs.Words.{Has, values, reads, Picks, HasOnly}
 use Rattle.pm_model.specs.Moments.{State}
-use Rattle.pm_model.specs.Changes.{Changes, Leaves, Silently, IsFrom, Persists, only, placed, written}
+use Rattle.pm_model.specs.Changes.{Changes, Leaves, Silently, Persists, only, placed, written}
 use Rattle.pm_model.proofs.Words.{only_at, HasOnly-own, HasOnly-newest}
 use Rattle.pm_model.proofs.Changes.{Changes-now, Changes-said, Changes-wider, Changes-then, HasOnly-kept}
 use Rattle.pm_model.proofs.Leaves.{Leaves-changes, Leaves-now, Leaves-then, Leaves-weaker, origin}
 use Rattle.pm_persist.proofs.Ranges.{placed_within, placed_at}
 use Rattle.pud_defs.specs.declared.layout.TheConstants.{LOG_WORDS, LOG_HEADER_WORDS, LOG_ENTRY_WORDS}
-use Rattle.pud_defs.specs.declared.log_words.TheConstants.{COMMITTING_LO, COMMITTING_HI, CLOSED_GATE}
+use Rattle.pud_defs.specs.declared.log_words.TheConstants.{COMMITTING_LO, COMMITTING_HI}
 use Rattle.pud_defs.specs.Image.{Image}
 use Rattle.pud_defs.specs.Entries.{Entry, Log, log_of, gate_lo, gate_hi, gate_used, gate_word, is_closed_gate, entries_in, entries_of, words_from}
-use Rattle.pud_defs.specs.Replay.{device_word, is_in_range, new_value, overwritten, replayed, is_in_log, settled_by}
+use Rattle.pud_defs.specs.Replay.{device_word, new_value, overwritten, is_in_log, settled_by}
 use Rattle.pud_defs.proofs.Entries.{words_from-holds, entries_of-is, gate_lo-of, gate_hi-of, gate_used-of, is_legal_gate-of}
-use Rattle.pud_defs.proofs.Replay.{settled_by-inside, settled_by-outside, settled_by-same, settled_by-closed, within_log, not_inside}
-use Rattle.log_replay.specs.Replaying.{NamesApart, IsReplayable, IsNamed, ByLog, SettlesSame, SettlesLog}
-use Rattle.log_replay.proofs.Closing.{IsOneWord, one_word, gate_apart}
-use Rattle.batch.specs.Batches.{batch_write, committed, AreBatched, IsFree, ByBatch, IsBatched, IsBatchedWholly, IsUntouched, IsPrepared, Prepares, Commits}
-use Rattle.batch.proofs.Writes.{new_value-committed, batch_write-apart, settled_by-closed_same, settled_by-committed}
+use Rattle.pud_defs.proofs.Replay.{not_inside}
+use Rattle.log_replay.specs.Replaying.{ByLog, SettlesSame, SettlesLog}
+use Rattle.log_replay.proofs.Closing.{one_word, gate_apart}
+use Rattle.batch.specs.Batches.{batch_write, committed, AreBatched, IsFree, ByBatch, IsBatched, IsBatchedWholly, IsUntouched, Prepares, Commits}
+use Rattle.batch.proofs.Writes.{new_value-committed, settled_by-closed_same, settled_by-committed}
 
 -- ---- the entries are made durable behind a closed gate
 

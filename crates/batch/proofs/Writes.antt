@@ -1,17 +1,17 @@
 -- What the entries of a batch write, and what a log that counts them gives.
-use Rattle.std.proofs.Common.{◌≡◌, ◌⊎◌, inl, inr, ℕ, ◌+◌, ◌-◌, ◌<◌, ◌≤◌, Bool, true, false, ◌&&◌, not, cond, leb, ltb, eqb, List, [], ◌∷◌, ◌++◌, length, get_or, Option, Some, None, IsTrue, refl, sym, ap, ap₂, subst, ◌∙◌, arith}
-use Rattle.std.specs.Prelude.{All, unwrap_or, slice_get}
+use Rattle.std.proofs.Common.{◌≡◌, inl, inr, ℕ, ◌+◌, ◌-◌, ◌<◌, ◌≤◌, Bool, true, false, ◌&&◌, ltb, eqb, List, [], ◌∷◌, ◌++◌, Option, Some, None, refl, sym, ap, ap₂, ◌∙◌, arith}
+use Rattle.std.specs.Prelude.{All, unwrap_or}
 use Rattle.std.specs.Option.{option_or}
-use Rattle.std.proofs.lemmas.Bool.{le-leb, lt-leb, lt-ltb, leb-true, and_from, and_parts, and_left, cond-true, cond-false, cases_Bool, eq-eqb, eqb-true, ltb-true}
-use Rattle.std.proofs.lemmas.Bool.Decides.{leb_tells, nat_tests}
-use Rattle.std.proofs.lemmas.Option.{slice_get_past, slice_get_within}
+use Rattle.std.proofs.lemmas.Bool.{lt-leb, and_from, cond-true, cond-false, cases_Bool, eq-eqb}
+use Rattle.std.proofs.lemmas.Bool.Decides.{leb_tells}
+use Rattle.std.proofs.lemmas.Option.{slice_get_past}
 use Rattle.std.proofs.lemmas.List.Elements.{All-head, All-tail}
-use Rattle.pud_defs.specs.declared.layout.TheConstants.{LOG_WORDS, LOG_HEADER_WORDS, LOG_ENTRY_WORDS}
-use Rattle.pud_defs.specs.declared.log_words.TheConstants.{UNDO_ORDER, REDO_ORDER, REDO_SEQ, COMMITTING_LO, COMMITTING_HI}
+use Rattle.pud_defs.specs.declared.layout.TheConstants.{LOG_WORDS}
+use Rattle.pud_defs.specs.declared.log_words.TheConstants.{UNDO_ORDER, REDO_ORDER, COMMITTING_LO, COMMITTING_HI}
 use Rattle.pud_defs.specs.Image.{Image}
-use Rattle.pud_defs.specs.Entries.{Entry, Log, log_of, gate_lo, gate_hi, gate_used, is_legal_gate, is_closed_gate}
+use Rattle.pud_defs.specs.Entries.{Entry, Log, log_of, is_closed_gate}
 use Rattle.pud_defs.specs.Replay.{device_word, value_at, is_in_range, given_by, undone, redone, new_value, overwritten, replayed, is_in_log, settled_by}
-use Rattle.pud_defs.proofs.Replay.{undone-first, redone-first, undone-none, redone-none, new_value-of, replayed-closed, settled_by-inside, settled_by-outside, settled_by-same, settled_by-closed, within_log, not_inside, outside_log}
+use Rattle.pud_defs.proofs.Replay.{undone-first, redone-first, undone-none, redone-none, new_value-of, settled_by-inside, settled_by-outside, settled_by-closed, within_log}
 use Rattle.log_replay.specs.Replaying.{NamesApart}
 use Rattle.batch.specs.Batches.{batch_write, committed, IsBatchEntry, AreBatched}
 

@@ -1,22 +1,21 @@
 -- A log replayed and then closed: what is left at each moment, and at the end.
-use Rattle.std.proofs.Common.{◌≡◌, ◌⊎◌, inl, inr, ℕ, ◌+◌, ◌<◌, ◌≤◌, true, false, [], Option, Some, None, refl, sym, ap, subst, ◌∙◌, arith}
+use Rattle.std.proofs.Common.{◌≡◌, ◌⊎◌, inl, inr, ℕ, true, false, [], Option, Some, None, refl, sym, ap, ◌∙◌, arith}
 use Rattle.std.specs.Prelude.{List, unwrap_or}
 use Rattle.std.proofs.lemmas.Bool.{cases_eq, cases_Bool, eq-eqb}
 use Rattle.std.proofs.lemmas.List.{append-nil}
 use Rattle.pm_model.specs.declared.host.HostFault.{HostFault}
-use Rattle.pm_model.specs.Words.{reads, Picks, HasOnly}
+use Rattle.pm_model.specs.Words.{reads, Picks}
 use Rattle.pm_model.specs.Moments.{State}
 use Rattle.pm_model.specs.Changes.{Changes, Leaves, Silently, IsFrom, Persists, only, written}
 use Rattle.pm_model.proofs.Words.{only_at}
 use Rattle.pm_model.proofs.Changes.{Changes-said, Changes-wider, Changes-then, HasOnly-kept}
 use Rattle.pm_model.proofs.Leaves.{Leaves-changes, Leaves-now, Leaves-then, Leaves-weaker}
-use Rattle.pud_defs.specs.declared.layout.TheConstants.{LOG_WORDS}
 use Rattle.pud_defs.specs.declared.log_words.TheConstants.{CLOSED_GATE}
 use Rattle.pud_defs.specs.Image.{Image}
 use Rattle.pud_defs.specs.Entries.{Entry, Log, log_of, is_closed_gate}
 use Rattle.pud_defs.specs.Replay.{device_word, new_value, replayed, is_in_log, settled_by}
 use Rattle.pud_defs.proofs.Replay.{settled_by-inside, settled_by-outside, settled_by-same, settled_by-closed, not_inside}
-use Rattle.log_replay.specs.Replaying.{IsReplayable, IsNamed, Named, ReplaysSame, Replays, ByLog, SettlesSame, SettlesLog}
+use Rattle.log_replay.specs.Replaying.{IsReplayable, Named, ReplaysSame, Replays, ByLog, SettlesSame, SettlesLog}
 use Rattle.log_replay.proofs.Whole.{log_of_picked, new_value-apart}
 
 -- ---- one word written
@@ -44,7 +43,6 @@ gate_apart at k outside here = not_inside at k outside (omega arith) (omega arit
 -- ---- replayed
 
 module _ (size at : ℕ) (es : List Entry) (b : State) (replayable : IsReplayable device_word size at es b.now.words) where
-
   settles : (image : Image) → ReplaysSame device_word at b.now.words image → SettlesSame b.now.words at (log_of (reads b.now.words) at) image
   settles image r =
       let log = log_of_picked device_word size at es b.now.words r.before replayable r.picked in

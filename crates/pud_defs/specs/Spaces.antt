@@ -1,5 +1,5 @@
 -- The log-space table of an image: which clients' logs are registered, and whose they are.
-use Rattle.std.specs.Prelude.{ℕ, zero, suc, ◌+◌, ◌*◌, Bool, true, not, ◌&&◌, ◌||◌, nat_le, ◌==◌, cond, Option, Some, None, is_some}
+use Rattle.std.specs.Prelude.{ℕ, zero, suc, ◌+◌, ◌*◌, Bool, true, ◌&&◌, ◌||◌, nat_le, ◌==◌, cond, Option, Some, None, is_some}
 use Rattle.pud_defs.specs.declared.layout.TheConstants.{SPACE_TABLE, SPACE_RECORD_WORDS, CLIENTS, CLIENT_LOGS, MAX_OWNER_ID}
 use Rattle.pud_defs.specs.declared.log_words.TheConstants.{COMMITTING_HI}
 use Rattle.pud_defs.specs.Image.{Image}

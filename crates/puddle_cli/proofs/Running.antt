@@ -5,10 +5,9 @@ use Rattle.std.proofs.Math.Numerals.{one-add}
 use Rattle.pm_model.specs.declared.host.HostFault.{HostFault}
 use Rattle.pm_model.specs.declared.host.HostFault.TheVariants as hosts
 use Rattle.pm_model.specs.Counts.{Counts, risen, after_fault}
-use Rattle.pm_model.specs.Words.{Words, Image, Picks, IsRested, reads}
+use Rattle.pm_model.specs.Words.{Image, IsRested, reads}
 use Rattle.pm_model.specs.Moments.{State}
 use Rattle.pm_model.specs.Changes.{Leaves}
-use Rattle.pm_model.proofs.Words.{reads_only}
 use Rattle.pm_model.proofs.Leaves.{Leaves-then, Leaves-weaker, Leaves-each}
 use Rattle.pud_defs.specs.World.{World, world_of, closed}
 use Rattle.pud_defs.specs.Run.{Turn, cuts_of, newlines}
@@ -16,13 +15,12 @@ use Rattle.pud_defs.specs.Texts.{start_text, replies_text}
 use Rattle.pud_defs.specs.Stands.{StandsWith, StandsBehindStart}
 use Rattle.pud_defs.proofs.Lines.{newlines-append, newlines_part, lines_taken-nothing}
 use Rattle.pud_defs.proofs.Said.{newlines-start_text}
-use Rattle.type_maps.specs.Define.{HasDurableTypes}
 use Rattle.puddled.specs.declared.daemon.RunFault.{RunFault}
 use Rattle.puddled.specs.declared.daemon.RunFault.TheVariants as faults
 use Rattle.puddled.specs.Faults.{RoseBy, CountsTurns, IsCounted}
-use Rattle.puddled.proofs.Counted.{counted_failed, IsCounted-then, CountsTurns-cuts, RoseBy-fewer, rose_of_counted, rose_with_losses, cuts_after_fault}
-use Rattle.puddled.specs.Daemon.{IsReady, Starts}
-use Rattle.puddle_cli.specs.declared.status.TheConstants.{DONE, DEVICE_FAULT, POWER_LOST, TOO_LONG}
+use Rattle.puddled.proofs.Counted.{IsCounted-then, CountsTurns-cuts, RoseBy-fewer, rose_of_counted, rose_with_losses, cuts_after_fault}
+use Rattle.puddled.specs.Daemon.{Starts}
+use Rattle.puddle_cli.specs.declared.status.TheConstants.{DONE, POWER_LOST, TOO_LONG}
 use Rattle.puddle_cli.specs.Status.{status_fault, run_fault_at, IsStatusOfMode}
 use Rattle.puddle_cli.specs.Serving.{Answered}
 use Rattle.puddle_cli.specs.Headline.{Headline}
@@ -110,8 +108,8 @@ module _ (size : ℕ) (w : World) (start : State) (rested : IsRested start.now.w
   Headline-behind_start status ended fault before after mid now shelf s kept is done too_long a =
       let all = all_counted fault a.answered (cuts_of a.pending) before a.mid after a.turns_counted a.counted in
       let twice : status ≡ POWER_LOST → RoseBy (2 + cuts_of a.answered) before.cuts after.cuts = λ lost.
-          let cut : fault ≡ Some faults.CutInStart = sym is ∙ ap run_fault_at lost in
-          rose_in_start (cuts_of a.pending) (cuts_of a.answered) before after (subst (λ (f : Option RunFault). IsCounted f (cuts_of a.pending + cuts_of a.answered) before after) cut all) in
+      let cut : fault ≡ Some faults.CutInStart = sym is ∙ ap run_fault_at lost in
+      rose_in_start (cuts_of a.pending) (cuts_of a.answered) before after (subst (λ (f : Option RunFault). IsCounted f (cuts_of a.pending + cuts_of a.answered) before after) cut all) in
       let first : mid.now.said ≡ start.now.said ++ start_text =
       s.says.said ∙ ap (λ (l : List ℕ). start.now.said ++ l) (sym (s.says.part ∙ ap (λ (l : List ℕ). s.says.bytes ++ l) (s.says.whole refl) ∙ append-nil s.says.bytes)) in
       record {

@@ -8,8 +8,8 @@ use Rattle.pm_model.specs.Words.{Has, values, Words, Picks, reads}
 use Rattle.pm_model.specs.Moments.{State}
 use Rattle.pm_model.specs.Calls.{Says}
 use Rattle.pm_model.specs.Changes.{Leaves, Silently}
-use Rattle.pm_model.proofs.Words.{Picks-reads, reads_only}
-use Rattle.pm_model.proofs.Leaves.{Leaves-then, Leaves-weaker, Leaves-says, Leaves-still, Leaves-now, IsPrefix}
+use Rattle.pm_model.proofs.Words.{Picks-reads}
+use Rattle.pm_model.proofs.Leaves.{Leaves-then, Leaves-weaker, Leaves-says, Leaves-now, IsPrefix}
 use Rattle.pm_model.proofs.Said.{words-all_said, said-all_said, script-all_said, shelf-all_said}
 use Rattle.pud_defs.specs.declared.machine.Reply.{Reply}
 use Rattle.pud_defs.specs.declared.machine.Reply.TheVariants.{Cut}

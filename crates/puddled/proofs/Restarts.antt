@@ -1,30 +1,28 @@
 -- A device recovered: its daemon log applied, its log-space table emptied, and a world found.
-use Rattle.std.proofs.Common.{◌≡◌, ◌≢◌, ◌⊎◌, inl, inr, ℕ, ◌+◌, ◌<◌, ◌≤◌, [], ◌++◌, ◌↔◌, Option, Some, None, Result, Err, refl, sym, ap, subst, ◌∙◌, arith}
+use Rattle.std.proofs.Common.{◌≡◌, ◌≢◌, inl, inr, ℕ, ◌<◌, ◌≤◌, [], ◌↔◌, Option, Some, None, Result, Err, refl, sym, ap, ◌∙◌, arith}
 use Rattle.std.proofs.lemmas.List.{append-nil}
 use Rattle.pm_model.specs.declared.host.HostFault.{HostFault}
-use Rattle.pm_model.specs.declared.host.HostFault.TheVariants.{Cut}
-use Rattle.pm_model.specs.Words.{Picks, IsRested, reads, HasOnly}
+use Rattle.pm_model.specs.Words.{reads}
 use Rattle.pm_model.specs.Moments.{State}
-use Rattle.pm_model.specs.Changes.{Changes, Leaves, Silently}
+use Rattle.pm_model.specs.Changes.{Changes, Silently}
 use Rattle.pm_model.proofs.Words.{Picks-reads}
 use Rattle.pm_model.proofs.Changes.{Changes-said, HasOnly-kept}
 use Rattle.pm_model.proofs.Words.{HasOnly-own}
 use Rattle.pm_model.proofs.Leaves.{Leaves-then}
-use Rattle.pud_defs.specs.declared.layout.TheConstants.{DAEMON_LOG, LOG_WORDS, TYPE_TABLE, POOL_TABLE, SPACE_TABLE, CLIENTS}
+use Rattle.pud_defs.specs.declared.layout.TheConstants.{DAEMON_LOG, TYPE_TABLE, POOL_TABLE, CLIENTS}
 use Rattle.pud_defs.specs.Image.{Image}
 use Rattle.pud_defs.specs.Entries.{log_of}
 use Rattle.pud_defs.specs.Replay.{device_word, new_value}
 use Rattle.pud_defs.specs.World.{World, StoredWorld, world_of, closed}
-use Rattle.type_maps.specs.Define.{HasDurableTypes}
-use Rattle.log_replay.specs.Replaying.{Anything, ByLog, IsNamed}
-use Rattle.batch.specs.Batches.{batch_write, ByBatch}
+use Rattle.log_replay.specs.Replaying.{Anything, ByLog}
+use Rattle.batch.specs.Batches.{ByBatch}
 use Rattle.registry.specs.declared.Geo.{Geo}
 use Rattle.registry.specs.declared.LoadFault.{LoadFault}
 use Rattle.registry.specs.declared.LoadFault.TheVariants as loads
 use Rattle.registry.specs.Registry.{load_fault, AppliesLog, clearing, Clears}
 use Rattle.registry.proofs.Cleared.{clearing-outside}
 use Rattle.puddled.specs.Faults.{start_fault, of_load}
-use Rattle.puddled.specs.Daemon.{KeepsRest, IsReady, Recovers}
+use Rattle.puddled.specs.Daemon.{KeepsRest, Recovers}
 
 -- a load's fault is the host's or none, at a start too
 pub fault_of_load : (fault : LoadFault) → start_fault {T = Unit {0}} (Err (of_load fault)) ≡ load_fault {T = Unit {0}} (Err fault)

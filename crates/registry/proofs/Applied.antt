@@ -1,30 +1,30 @@
 -- The daemon log of a rested device applied: each image left stands for the same world.
-use Rattle.std.proofs.Common.{◌≡◌, ◌⊎◌, inl, inr, ℕ, ◌+◌, ◌%◌, ◌^◌, ◌<◌, ◌≤◌, Bool, true, false, not, ◌&&◌, ◌||◌, leb, eqb, List, length, get_or, Option, Some, None, IsTrue, refl, sym, ap, ap₂, subst, ◌∙◌, arith, eqb-true}
-use Rattle.std.specs.Prelude.{All, []}
+use Rattle.std.proofs.Common.{◌≡◌, ◌⊎◌, inl, inr, ℕ, ◌+◌, ◌%◌, ◌^◌, ◌<◌, ◌≤◌, Bool, true, not, ◌&&◌, ◌||◌, leb, eqb, List, length, get_or, Option, Some, None, refl, sym, ap, ap₂, subst, ◌∙◌, arith, eqb-true}
+use Rattle.std.specs.Prelude.{[]}
 use Rattle.std.specs.List.{list_all}
-use Rattle.std.proofs.lemmas.Bool.{and_parts, or_cases, cond-true, leb-true, cases_eq}
+use Rattle.std.proofs.lemmas.Bool.{and_parts, or_cases, leb-true, cases_eq}
 use Rattle.std.proofs.lemmas.List.{append-nil}
 use Rattle.std.proofs.lemmas.List.Sums.{AllPass-from_list_all}
 use Rattle.pm_model.specs.declared.host.HostFault.{HostFault}
 use Rattle.pm_model.specs.declared.host.HostFault.TheVariants.{Cut}
-use Rattle.pm_model.specs.Words.{Has, values, Words, reads, Picks, HasOnly, IsRested}
+use Rattle.pm_model.specs.Words.{Words, reads, Picks, HasOnly, IsRested}
 use Rattle.pm_model.specs.Moments.{State}
-use Rattle.pm_model.specs.Changes.{Changes, Leaves, Silently}
+use Rattle.pm_model.specs.Changes.{Leaves, Silently}
 use Rattle.pm_model.proofs.Words.{HasOnly-own, Picks-reads}
 use Rattle.pm_model.proofs.Changes.{Changes-said, Changes-still, Changes-then, HasOnly-kept}
 use Rattle.pm_model.proofs.Leaves.{Leaves-weaker, Leaves-still, Leaves-now}
-use Rattle.pud_defs.specs.declared.layout.TheConstants.{DAEMON_LOG, LOG_WORDS, TYPE_TABLE, NEXT_NUMBER_WORD, FRAMES_WORD, MACHINE_WORD, MAX_FRAMES}
+use Rattle.pud_defs.specs.declared.layout.TheConstants.{DAEMON_LOG, LOG_WORDS, TYPE_TABLE, NEXT_NUMBER_WORD, FRAMES_WORD, MACHINE_WORD}
 use Rattle.pud_defs.specs.declared.log_words.TheConstants.{CLOSED_GATE}
 use Rattle.pud_defs.specs.Image.{Image}
 use Rattle.pud_defs.specs.Layout.{tables_end, frames_at, device_words}
 use Rattle.pud_defs.specs.Entries.{Entry, Log, log_of, is_closed_gate}
-use Rattle.pud_defs.specs.Replay.{device_word, is_in_range, new_value, is_in_log, settled_by}
+use Rattle.pud_defs.specs.Replay.{device_word, new_value, settled_by}
 use Rattle.pud_defs.specs.Registry.{frames_of, may_be_logged, is_allowed, are_allowed, has_legal_log}
 use Rattle.pud_defs.specs.World.{StoredWorld, registry_world, world_of}
 use Rattle.pud_defs.proofs.Replay.{outside_log, settled_by-closed}
 use Rattle.pud_defs.proofs.Logged.{legal_entries, new_value-unlogged, settled_by-unlogged}
-use Rattle.pud_defs.proofs.Worlds.{StandsFor, standing_of_world, legal_log_of_world, legal_log_closed, world_of_legal}
-use Rattle.log_replay.specs.Replaying.{NamesApart, IsReplayable, IsNamed, ByLog, SettlesSame, SettlesLog}
+use Rattle.pud_defs.proofs.Worlds.{standing_of_world, legal_log_of_world, legal_log_closed, world_of_legal}
+use Rattle.log_replay.specs.Replaying.{NamesApart, IsReplayable, ByLog, SettlesSame, SettlesLog}
 use Rattle.registry.specs.Registry.{IsSettled, AppliesLog}
 
 -- ---- a sound rested device: its daemon log may be replayed
@@ -33,25 +33,25 @@ use Rattle.registry.specs.Registry.{IsSettled, AppliesLog}
 names_apart : (F size at n : ℕ) (e : Entry) → n ≡ length e.vals → at ≡ e.address → device_words F ≤ size → may_be_logged F at n ≡ true → NamesApart device_word size DAEMON_LOG e
 names_apart F size at n e count place room may =
     let lies : (at + n ≤ size) × ((at + n ≤ DAEMON_LOG) ⊎ (DAEMON_LOG + LOG_WORDS ≤ at)) =
-        elim (or_cases ((eqb at NEXT_NUMBER_WORD && eqb n 1) || (leb TYPE_TABLE at && leb (at + n) (tables_end F))) (leb (frames_at F) at && leb (at + n) (device_words F)) may) [
-          | inl tables ↦ elim (or_cases (eqb at NEXT_NUMBER_WORD && eqb n 1) (leb TYPE_TABLE at && leb (at + n) (tables_end F)) tables) [
-            | inl number ↦
-                let parts = and_parts (eqb at NEXT_NUMBER_WORD) (eqb n 1) number in
-                let here = eqb-true _ _ parts.0 in
-                let one = eqb-true _ _ parts.1 in
-                (omega arith, inl (omega arith))
-            | inr types ↦
-                let parts = and_parts (leb TYPE_TABLE at) (leb (at + n) (tables_end F)) types in
-                let low = leb-true _ _ parts.0 in
-                let high = leb-true _ _ parts.1 in
-                (omega arith, inr (omega arith))
-          ]
-          | inr frames ↦
-              let parts = and_parts (leb (frames_at F) at) (leb (at + n) (device_words F)) frames in
-              let low = leb-true _ _ parts.0 in
-              let high = leb-true _ _ parts.1 in
-              (omega arith, inr (omega arith))
-        ] in
+    elim (or_cases ((eqb at NEXT_NUMBER_WORD && eqb n 1) || (leb TYPE_TABLE at && leb (at + n) (tables_end F))) (leb (frames_at F) at && leb (at + n) (device_words F)) may) [
+      | inl tables ↦ elim (or_cases (eqb at NEXT_NUMBER_WORD && eqb n 1) (leb TYPE_TABLE at && leb (at + n) (tables_end F)) tables) [
+        | inl number ↦
+            let parts = and_parts (eqb at NEXT_NUMBER_WORD) (eqb n 1) number in
+            let here = eqb-true _ _ parts.0 in
+            let one = eqb-true _ _ parts.1 in
+            (omega arith, inl (omega arith))
+        | inr types ↦
+            let parts = and_parts (leb TYPE_TABLE at) (leb (at + n) (tables_end F)) types in
+            let low = leb-true _ _ parts.0 in
+            let high = leb-true _ _ parts.1 in
+            (omega arith, inr (omega arith))
+      ]
+      | inr frames ↦
+          let parts = and_parts (leb (frames_at F) at) (leb (at + n) (device_words F)) frames in
+          let low = leb-true _ _ parts.0 in
+          let high = leb-true _ _ parts.1 in
+          (omega arith, inr (omega arith))
+    ] in
     record {
       first = at;
       placed = ap Some (sym place);
@@ -69,7 +69,6 @@ rested_image : (words : Words) (image : Image) → IsRested words → Picks word
 rested_image words image rested picked = λ p k. (rested.each k).each (image k) (picked.each k) p
 
 module _ (size : ℕ) (s : StoredWorld) (a : State) (rested : IsRested a.now.words) (world : world_of size (reads a.now.words) ≡ Some s) where
-
   legal : has_legal_log (reads a.now.words) ≡ true
   legal = legal_log_of_world size (reads a.now.words) s world
 
@@ -112,7 +111,7 @@ module _ (size : ℕ) (s : StoredWorld) (a : State) (rested : IsRested a.now.wor
       let log = log_of (reads a.now.words) DAEMON_LOG in
       let before : p.before ≡ reads a.now.words = rested_image a.now.words p.before rested p.picked in
       let frames : image FRAMES_WORD ≡ reads a.now.words FRAMES_WORD =
-          p.outside FRAMES_WORD (outside_log DAEMON_LOG FRAMES_WORD (inl (omega arith))) (new_value-unlogged (reads a.now.words) FRAMES_WORD legal (omega arith)) ∙ ap (λ (i : Image). i FRAMES_WORD) before in
+      p.outside FRAMES_WORD (outside_log DAEMON_LOG FRAMES_WORD (inl (omega arith))) (new_value-unlogged (reads a.now.words) FRAMES_WORD legal (omega arith)) ∙ ap (λ (i : Image). i FRAMES_WORD) before in
       let legal_now : has_legal_log image ≡ true = elim p.gate [
         | inl same ↦ still_legal image (reads a.now.words) frames same legal
         | inr closed ↦ legal_log_closed image closed

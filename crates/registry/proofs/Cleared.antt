@@ -1,9 +1,9 @@
 -- The log-space table emptied by one batch: each image left stands for the same world.
-use Rattle.std.proofs.Common.{◌≡◌, ◌⊎◌, inl, inr, ℕ, zero, suc, ◌+◌, ◌-◌, ◌*◌, ◌<◌, ◌≤◌, Bool, true, false, not, ◌&&◌, ◌||◌, cond, leb, eqb, List, [], ◌∷◌, ◌++◌, length, Option, Some, None, refl, sym, ap, ap₂, subst, ◌∙◌, arith, eq-eqb, eqb-true}
-use Rattle.std.specs.Prelude.{All, unwrap_or, slice_get}
+use Rattle.std.proofs.Common.{◌≡◌, ◌⊎◌, inl, inr, ℕ, zero, suc, ◌+◌, ◌-◌, ◌*◌, ◌<◌, ◌≤◌, true, not, ◌&&◌, ◌||◌, leb, eqb, [], ◌∷◌, ◌++◌, length, Option, Some, None, refl, sym, ap, ap₂, subst, ◌∙◌, arith}
+use Rattle.std.specs.Prelude.{All, slice_get}
 use Rattle.std.specs.Option.{option_or}
 use Rattle.std.specs.List.{list_all}
-use Rattle.std.proofs.lemmas.Bool.{and_parts, and_from, or_left, or_right, cond-true, cond-false, cases_eq, cases_Bool, le-leb, lt-leb}
+use Rattle.std.proofs.lemmas.Bool.{and_from, or_left, or_right, cond-true, cond-false, cases_eq, le-leb}
 use Rattle.std.proofs.lemmas.Bool.Decides.{leb_tells}
 use Rattle.std.proofs.lemmas.Option.{slice_get_past}
 use Rattle.std.proofs.lemmas.List.{append-nil}
@@ -11,25 +11,25 @@ use Rattle.std.proofs.lemmas.List.Sums.{sum_by-append}
 use Rattle.std.proofs.lemmas.List.Elements.{All-append}
 use Rattle.std.proofs.lemmas.List.Folds.{list_all-append}
 use Rattle.pm_model.specs.declared.host.HostFault.{HostFault}
-use Rattle.pm_model.specs.Words.{Has, values, Words, reads, Picks, HasOnly}
+use Rattle.pm_model.specs.Words.{Words}
 use Rattle.pm_model.specs.Moments.{State}
-use Rattle.pm_model.specs.Changes.{Changes, Leaves, Silently}
+use Rattle.pm_model.specs.Changes.{Silently}
 use Rattle.pm_model.proofs.Changes.{Changes-said}
 use Rattle.pm_model.proofs.Leaves.{Leaves-weaker, Leaves-now}
-use Rattle.pud_defs.specs.declared.layout.TheConstants.{DAEMON_LOG, LOG_WORDS, NEXT_NUMBER_WORD, TYPE_TABLE, SPACE_TABLE, PUDDLE_TABLE, FRAMES_WORD, CLIENTS}
+use Rattle.pud_defs.specs.declared.layout.TheConstants.{DAEMON_LOG, NEXT_NUMBER_WORD, TYPE_TABLE, SPACE_TABLE, PUDDLE_TABLE, CLIENTS}
 use Rattle.pud_defs.specs.declared.log_words.TheConstants.{CLOSED_GATE}
 use Rattle.pud_defs.specs.Image.{Image}
 use Rattle.pud_defs.specs.Layout.{tables_end, frames_at, device_words}
 use Rattle.pud_defs.specs.Entries.{Entry, Log, log_of, is_closed_gate}
-use Rattle.pud_defs.specs.Replay.{device_word, is_in_range, value_at, overwritten, is_in_log, settled_by}
+use Rattle.pud_defs.specs.Replay.{device_word, is_in_range, value_at, overwritten, settled_by}
 use Rattle.pud_defs.specs.Registry.{frames_of, may_be_logged, is_allowed, are_allowed, has_legal_log}
 use Rattle.pud_defs.specs.Spaces.{space_record_at}
-use Rattle.pud_defs.specs.World.{StoredWorld, registry_world, world_of}
-use Rattle.pud_defs.proofs.Replay.{outside_log, overwritten-stays, overwritten-there}
+use Rattle.pud_defs.specs.World.{StoredWorld, world_of}
+use Rattle.pud_defs.proofs.Replay.{overwritten-stays, overwritten-there}
 use Rattle.pud_defs.proofs.Spaces.{are_legal_spaces-none, are_closed_logs-none}
-use Rattle.pud_defs.proofs.Worlds.{StandsFor, standing_of_world, standing_spaces, registry_world_standing, legal_log_of_world, legal_log_closed, world_of_legal}
+use Rattle.pud_defs.proofs.Worlds.{StandsFor, standing_of_world, standing_spaces, registry_world_standing, legal_log_closed, world_of_legal}
 use Rattle.log_replay.specs.Replaying.{NamesApart}
-use Rattle.batch.specs.Batches.{batch_entry, words_of, batch_write, IsBatchEntry, AreBatched, committed, IsFree, ByBatch, IsBatched, Commits}
+use Rattle.batch.specs.Batches.{batch_entry, words_of, batch_write, committed, IsFree, ByBatch, IsBatched, Commits}
 use Rattle.batch.proofs.Writes.{batch_write-append, batch_write-single}
 use Rattle.registry.specs.Registry.{IsSettled, clearing, Clears}
 
@@ -101,8 +101,8 @@ clearing-allowed F (suc n) log few =
     let high : leb (at + 1) (tables_end F) ≡ true = le-leb (at + 1) (tables_end F) (omega arith) in
     let tables : (leb TYPE_TABLE at && leb (at + 1) (tables_end F)) ≡ true = and_from (leb TYPE_TABLE at) (leb (at + 1) (tables_end F)) low high in
     let may : may_be_logged F at 1 ≡ true =
-        or_left ((eqb at NEXT_NUMBER_WORD && eqb 1 1) || (leb TYPE_TABLE at && leb (at + 1) (tables_end F))) (leb (frames_at F) at && leb (at + 1) (device_words F))
-        (or_right (eqb at NEXT_NUMBER_WORD && eqb 1 1) (leb TYPE_TABLE at && leb (at + 1) (tables_end F)) tables) in
+    or_left ((eqb at NEXT_NUMBER_WORD && eqb 1 1) || (leb TYPE_TABLE at && leb (at + 1) (tables_end F))) (leb (frames_at F) at && leb (at + 1) (device_words F))
+    (or_right (eqb at NEXT_NUMBER_WORD && eqb 1 1) (leb TYPE_TABLE at && leb (at + 1) (tables_end F)) tables) in
     list_all-append (is_allowed F log) (clearing n) (e ∷ [])
     ∙ and_from (list_all (is_allowed F log) (clearing n)) (list_all (is_allowed F log) (e ∷ [])) (clearing-allowed F n log (omega arith))
     (and_from (is_allowed F log e) true (or_right (not (is_in_range log e)) (may_be_logged F at 1) may) refl)
@@ -110,7 +110,6 @@ clearing-allowed F (suc n) log few =
 -- ---- the world stays
 
 module _ (size : ℕ) (s : StoredWorld) where
-
   -- with the records emptied an image stands for the same world
   standing_cleared : (image : Image) → StandsFor size image s → StandsFor size (overwritten (batch_write (clearing CLIENTS)) image) s
   standing_cleared image h =

@@ -14,12 +14,13 @@ ghost use Rattle.registry.specs.Registry.{load_fault, AppliesLog, IsSettled, Cle
 mod overlay;
 mod soundness;
 
-pub use soundness::is_sound;
-
 use batch::Batch;
 use log_replay::settle_log;
 use pm_model::{Host, HostFault};
-use pud_defs::layout::{CLIENTS, DAEMON_LOG, FRAMES_WORD, MACHINE_WORD, SPACE_RECORD_WORDS, SPACE_TABLE};
+use pud_defs::layout::{
+    CLIENTS, DAEMON_LOG, FRAMES_WORD, MACHINE_WORD, SPACE_RECORD_WORDS, SPACE_TABLE,
+};
+pub use soundness::is_sound;
 
 /// What a device is: how many frames it has, 4 to 1,024, and its machine id.
 #[derive(Clone, Copy, Debug, PartialEq, Eq)]

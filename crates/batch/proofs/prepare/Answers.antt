@@ -1,7 +1,6 @@
 use Rattle.std.proofs.Common.{None}
 use Rattle.std.proofs.lemmas.Result.{err_from_is_err_and}
 use Rattle.pm_model.specs.Counts.{fault_of}
-use Rattle.pm_model.specs.Changes.{only, Persists}
 use Rattle.batch.proofs.Phases.{Prepares-entries, Prepares-range}
 use Rattle.log_replay.proofs.Applying.{any_then, any_wider}
 use Rattle.batch.proofs.prepare.Goals as goal

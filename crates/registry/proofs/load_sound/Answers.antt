@@ -1,11 +1,9 @@
-use Rattle.std.proofs.Common.{◌≡◌, ℕ, ◌%◌, ◌^◌, None, Some, refl, sym, ap, ◌∙◌}
+use Rattle.std.proofs.Common.{◌≡◌, ℕ, None, Some, refl, sym, ap, ◌∙◌}
 use Rattle.std.proofs.lemmas.Result.{err_from_is_err_and}
 use Rattle.pm_model.specs.Words.{reads}
 use Rattle.pm_model.specs.Counts.{Counts}
 use Rattle.pud_defs.specs.World.{world_of}
 use Rattle.pud_defs.proofs.Worlds.{world_of-sound, world_of-unsound}
-use Rattle.pm_model.specs.Moments.{State}
-use Rattle.registry.specs.Registry.{AppliesLog}
 use Rattle.registry.proofs.Applied.{AppliesLog-kept, AppliesLog-failed, AppliesLog-behind, frames_read, machine_read}
 use Rattle.registry.proofs.load_sound.Goals as goal
 

@@ -1,7 +1,7 @@
-use Rattle.std.proofs.Common.{◌≡◌, ℕ, suc, ◌+◌, ◌-◌, ◌<◌, ◌≤◌, List, [], ◌∷◌, ◌++◌, length, take, refl, sym, ap, ap₂, ◌∙◌, arith}
+use Rattle.std.proofs.Common.{◌≡◌, ℕ, suc, ◌+◌, ◌-◌, ◌≤◌, List, [], ◌∷◌, ◌++◌, length, take, refl, ap, ◌∙◌, arith}
 use Rattle.std.proofs.lemmas.Slice.{take-put_mid}
 use borrow.Rule.Slice.PartMut.{put_mid}
-use Rattle.pud_defs.specs.Entries.{Entry, IsLegalEntry, spelled}
+use Rattle.pud_defs.specs.Entries.{Entry, spelled}
 use Rattle.batch.specs.Batches.{batch_entry, IsBuffer}
 use Rattle.batch.proofs.Buffers.{HasMore, has_more}
 use Rattle.batch.proofs.Batch.add.Goals as goal
