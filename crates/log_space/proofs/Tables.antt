@@ -27,7 +27,6 @@ other_record slot c n i j other within beside =
     leb_either a b = grind arith
 
 module _ (slot : ℕ) (i j : Image) (beside : IsBeside slot i j) where
-
   used : (c : ℕ) → (c ≡ slot → ⊥) → j (space_record_at c) ≡ i (space_record_at c)
   used c other = let e : space_record_at c + 0 ≡ space_record_at c = omega arith in sym (ap j e) ∙ other_record slot c 0 i j other (omega arith) beside ∙ ap i e
 

@@ -89,7 +89,6 @@ fn is_closed<H: Host>(h: &mut H, at: u32) -> Result<bool, HostFault>
     ensures cause { H.counts h.new ≡ after_fault (fault_of result) (H.counts h.old) }
     ensures never_cut { fault_of result ≢ Option.Some HostFault.Cut }
 {
-    let _words = h.words();
     if !is_closed_range(h.load(at)?) {
         return Ok(false);
     }
@@ -151,3 +150,6 @@ pub fn free_log<H: Host>(h: &mut H, slot: u32) -> Result<Option<u32>, HostFault>
         Some(frames) => first_closed(h, frames, slot),
     }
 }
+
+#[cfg(test)]
+mod tests;

@@ -16,7 +16,7 @@ returns-then-branch-clause-first g c = λ t.
     let test = λ (k : ℕ). is_closed_log (reads (g.H.Host.state c.args.h.now).now.words) (log_at c.args.frames c.args.slot k) in
     let within = c.loop-number-test.true in
     let passes : test number ≡ true =
-        sym (c.in_ok-is_closed.ensures.answer t ∙ ap₂ (λ (s : State) (at : ℕ). is_closed_log (reads s.now.words) at) (before.stays t) c.log_at.ensures) ∙ c.if-branch.true in
+    sym (c.in_ok-is_closed.ensures.answer t ∙ ap₂ (λ (s : State) (at : ℕ). is_closed_log (reads s.now.words) at) (before.stays t) c.log_at.ensures) ∙ c.if-branch.true in
     sym (ap (option_map (log_number c.args.slot)) (before.passed t ∙ first_from-passes number (CLIENT_LOGS - number) test (omega arith) passes))
 
 pub loop-number-preserved : goal.loop-number-preserved
@@ -30,7 +30,7 @@ loop-number-preserved g c =
           let test = λ (k : ℕ). is_closed_log (reads (g.H.Host.state c.args.h.now).now.words) (log_at c.args.frames c.args.slot k) in
           let within = c.loop-number-test.true in
           let fails : test number ≡ false =
-              sym (c.in_ok-is_closed.ensures.answer t ∙ ap₂ (λ (s : State) (at : ℕ). is_closed_log (reads s.now.words) at) (before.stays t) c.log_at.ensures) ∙ c.if-branch.false in
+          sym (c.in_ok-is_closed.ensures.answer t ∙ ap₂ (λ (s : State) (at : ℕ). is_closed_log (reads s.now.words) at) (before.stays t) c.log_at.ensures) ∙ c.if-branch.false in
           before.passed t ∙ first_from-fails number (CLIENT_LOGS - number) (CLIENT_LOGS - (number + 1)) test (omega arith) fails;
     }
 
