@@ -1,14 +1,12 @@
 -- A device that stands for a world has its number of frames, and the words that these need.
-use Rattle.std.proofs.Common.{◌≡◌, ℕ, ◌≤◌, Bool, true, ◌&&◌, leb, Option, Some, None, cond, refl, sym, ap₂, ◌∙◌, arith}
+use Rattle.std.proofs.Common.{◌≡◌, ℕ, true, ◌&&◌, leb, Some, sym, ◌∙◌, arith}
 use Rattle.std.proofs.lemmas.Bool.{and_from, le-leb}
-use Rattle.pud_defs.specs.declared.layout.TheConstants.{DAEMON_LOG, FRAMES_WORD, MIN_FRAMES, MAX_FRAMES}
+use Rattle.pud_defs.specs.declared.layout.TheConstants.{FRAMES_WORD, MIN_FRAMES, MAX_FRAMES}
 use Rattle.pud_defs.specs.Image.{Image}
 use Rattle.pud_defs.specs.Layout.{device_words, is_legal_frame_count}
-use Rattle.pud_defs.specs.Registry.{frames_of, has_room}
-use Rattle.pud_defs.specs.Replay.{settled_by}
 use Rattle.pud_defs.specs.World.{StoredWorld, world_of}
 use Rattle.pud_defs.proofs.Logged.{settled_by-unlogged}
-use Rattle.pud_defs.proofs.Worlds.{StandsFor, standing_of_world, legal_log_of_world}
+use Rattle.pud_defs.proofs.Worlds.{standing_of_world, legal_log_of_world}
 
 pub frames_of_world : (size : ℕ) (image : Image) (s : StoredWorld) → world_of size image ≡ Some s → image FRAMES_WORD ≡ s.frames
 frames_of_world size image s world =

@@ -1,9 +1,8 @@
 -- The log-space table with one client's record changed.
-use Rattle.std.proofs.Common.{◌≡◌, ◌⊎◌, inl, inr, ℕ, ◌+◌, ◌*◌, ◌<◌, ◌≤◌, Bool, true, false, ◌&&◌, ◌||◌, cond, eqb, leb, Option, Some, None, refl, sym, ap, ap₂, ◌∙◌, arith, eq-eqb, ne_eqb}
+use Rattle.std.proofs.Common.{◌≡◌, ◌⊎◌, inl, inr, ℕ, ◌+◌, ◌<◌, ◌≤◌, Bool, true, ◌&&◌, ◌||◌, eqb, leb, Option, sym, ap, ap₂, ◌∙◌, arith, eq-eqb, ne_eqb}
 use Rattle.std.proofs.lemmas.Bool.{cond-true, cond-false, cases_eq}
-use Rattle.pud_defs.specs.declared.layout.TheConstants.{SPACE_TABLE, PUDDLE_TABLE, CLIENTS, SPACE_RECORD_WORDS, MAX_OWNER_ID}
+use Rattle.pud_defs.specs.declared.layout.TheConstants.{CLIENTS, SPACE_RECORD_WORDS, MAX_OWNER_ID}
 use Rattle.pud_defs.specs.Image.{Image}
-use Rattle.pud_defs.specs.Layout.{tables_end, frames_at}
 use Rattle.pud_defs.specs.Spaces.{Owner, space_record_at, owner_by, owner_of, is_legal_space, has_closed_logs, are_legal_spaces, are_closed_logs}
 use Rattle.pud_defs.specs.World.{StoredWorld}
 use Rattle.pud_defs.proofs.Spaces.{all_below-each, all_below-from, has_closed_logs-same}

@@ -1,26 +1,26 @@
 -- A client's record written by one batch: each image left stands for the same world, and its table has the record as it was or changed.
-use Rattle.std.proofs.Common.{◌≡◌, ◌⊎◌, inl, inr, ℕ, zero, suc, ◌+◌, ◌-◌, ◌*◌, ◌<◌, ◌≤◌, Bool, true, false, not, ◌&&◌, ◌||◌, cond, leb, eqb, List, [], ◌∷◌, ◌++◌, length, Option, Some, None, refl, sym, ap, ap₂, subst, ◌∙◌, arith, eq-eqb, ne_eqb}
-use Rattle.std.specs.Prelude.{All, unwrap_or, slice_get}
+use Rattle.std.proofs.Common.{◌≡◌, ◌⊎◌, inl, inr, ℕ, zero, suc, ◌+◌, ◌-◌, ◌<◌, ◌≤◌, true, false, not, ◌&&◌, ◌||◌, leb, eqb, List, [], ◌∷◌, length, Option, Some, None, refl, sym, ap, subst, ◌∙◌, arith, eq-eqb}
+use Rattle.std.specs.Prelude.{All, slice_get}
 use Rattle.std.specs.List.{list_all}
-use Rattle.std.proofs.lemmas.Bool.{and_from, or_left, or_right, cond-true, cond-false, cases_eq, cases_Bool, le-leb}
+use Rattle.std.proofs.lemmas.Bool.{and_from, or_left, or_right, cond-true, cond-false, cases_Bool, le-leb}
 use Rattle.std.proofs.lemmas.Bool.Decides.{nat_tests}
 use Rattle.std.proofs.lemmas.Option.{slice_get_past}
 use Rattle.std.proofs.lemmas.List.{append-nil}
 use Rattle.pm_model.specs.declared.host.HostFault.{HostFault}
-use Rattle.pm_model.specs.Words.{Has, values, Words, Picks, HasOnly}
+use Rattle.pm_model.specs.Words.{Words, Picks}
 use Rattle.pm_model.specs.Moments.{State}
-use Rattle.pm_model.specs.Changes.{Changes, Leaves, Silently}
+use Rattle.pm_model.specs.Changes.{Silently}
 use Rattle.pm_model.proofs.Changes.{Changes-said}
 use Rattle.pm_model.proofs.Leaves.{Leaves-weaker, Leaves-now}
-use Rattle.pud_defs.specs.declared.layout.TheConstants.{DAEMON_LOG, LOG_WORDS, NEXT_NUMBER_WORD, TYPE_TABLE, SPACE_TABLE, PUDDLE_TABLE, CLIENTS, SPACE_RECORD_WORDS, MAX_OWNER_ID}
+use Rattle.pud_defs.specs.declared.layout.TheConstants.{DAEMON_LOG, NEXT_NUMBER_WORD, TYPE_TABLE, PUDDLE_TABLE, CLIENTS, SPACE_RECORD_WORDS, MAX_OWNER_ID}
 use Rattle.pud_defs.specs.declared.log_words.TheConstants.{CLOSED_GATE}
 use Rattle.pud_defs.specs.Image.{Image}
 use Rattle.pud_defs.specs.Layout.{tables_end, frames_at, device_words}
-use Rattle.pud_defs.specs.Entries.{Entry, Log, log_of, is_closed_gate}
-use Rattle.pud_defs.specs.Replay.{device_word, is_in_range, value_at, overwritten, is_in_log, settled_by}
+use Rattle.pud_defs.specs.Entries.{Log, log_of, is_closed_gate}
+use Rattle.pud_defs.specs.Replay.{device_word, is_in_range, overwritten, is_in_log, settled_by}
 use Rattle.pud_defs.specs.Registry.{frames_of, may_be_logged, is_allowed, are_allowed, has_legal_log}
 use Rattle.pud_defs.specs.Spaces.{Owner, space_record_at, owner_by, owner_of, is_legal_space, has_closed_logs}
-use Rattle.pud_defs.specs.World.{StoredWorld, registry_world, world_of}
+use Rattle.pud_defs.specs.World.{StoredWorld}
 use Rattle.pud_defs.proofs.Replay.{settled_by-closed, outside_log, within_log, overwritten-stays, overwritten-there}
 use Rattle.pud_defs.proofs.Spaces.{has_closed_logs-same}
 use Rattle.pud_defs.proofs.Worlds.{StandsFor, standing_of_world, world_of_standing, legal_log_closed}

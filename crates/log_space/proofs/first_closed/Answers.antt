@@ -1,11 +1,11 @@
-use Rattle.std.proofs.Common.{◌≡◌, ℕ, ◌+◌, ◌-◌, Bool, true, false, Option, Some, None, option_map, refl, sym, ap, ap₂, ◌∙◌, arith}
+use Rattle.std.proofs.Common.{◌≡◌, ℕ, ◌+◌, ◌-◌, true, false, option_map, sym, ap, ap₂, ◌∙◌, arith}
 use Rattle.pm_model.specs.Words.{reads}
 use Rattle.pm_model.specs.Moments.{State}
 use Rattle.pm_model.specs.Counts.{after_fault, fault_of}
 use Rattle.pud_defs.specs.declared.layout.TheConstants.{CLIENT_LOGS}
 use Rattle.pud_defs.specs.Layout.{log_at}
 use Rattle.pud_defs.specs.Spaces.{is_closed_log}
-use Rattle.log_space.specs.FreeLogs.{first_from, log_number}
+use Rattle.log_space.specs.FreeLogs.{log_number}
 use Rattle.log_space.proofs.FirstFrom.{first_from-passes, first_from-fails, first_from-none}
 use Rattle.log_space.proofs.first_closed.Goals as goal
 

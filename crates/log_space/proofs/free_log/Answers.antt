@@ -1,9 +1,8 @@
-use Rattle.std.proofs.Common.{◌≡◌, ℕ, ◌-◌, Bool, true, ◌&&◌, leb, Option, Some, None, sym, subst, ◌∙◌}
+use Rattle.std.proofs.Common.{◌≡◌, ℕ, Some, None, sym, subst, ◌∙◌}
 use Rattle.std.specs.Prelude.{IfOk}
 use Rattle.std.proofs.lemmas.Bool.{cond-true}
 use Rattle.pm_model.specs.Words.{reads}
 use Rattle.pm_model.specs.Moments.{State}
-use Rattle.pud_defs.specs.Layout.{device_words, is_legal_frame_count}
 use Rattle.log_space.specs.FreeLogs.{first_closed}
 use Rattle.log_space.proofs.Rooms.{frames_of_world, room_of_world}
 use Rattle.log_space.proofs.free_log.Goals as goal

@@ -1,4 +1,4 @@
-use Rattle.std.proofs.Common.{◌≤◌, [], ◌∷◌, arith}
+use Rattle.std.proofs.Common.{[], ◌∷◌, arith}
 use Rattle.pm_model.specs.Counts.{fault_of}
 use Rattle.log_space.proofs.Writing.{free_to_write, Unregisters-commits}
 use Rattle.log_space.proofs.unregister.Goals as goal
