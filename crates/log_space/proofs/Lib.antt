@@ -1,0 +1,4 @@
+pub mod Tables
+pub mod Writing
+pub mod FirstFrom
+pub mod Rooms

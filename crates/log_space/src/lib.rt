@@ -1,0 +1,155 @@
+//! The log-space table of a device: whose the logs of each client are, and which of a client's logs is free.
+//!
+//! A client's record is changed by one batch, so that each image left meanwhile has it wholly as it was or wholly as it
+//! is to be.
+#![tactic(auto)]
+
+ghost use Rattle.std.specs.Prelude.{◌≡◌, ◌≢◌, ◌+◌, ◌<◌, ◌≤◌, ◌&&◌, nat_le, cond, false, ℕ, Option, IfOk, IfSome, length};
+ghost use Rattle.pm_model.specs.Words.{reads};
+ghost use Rattle.pm_model.specs.Counts.{after_fault, fault_of};
+ghost use Rattle.pud_defs.specs.declared.layout.TheConstants.{DAEMON_LOG, LOG_WORDS, PUDDLE_TABLE, SPACE_RECORD_WORDS, CLIENTS, MIN_FRAMES, MAX_FRAMES, MAX_OWNER_ID};
+ghost use Rattle.pud_defs.specs.Layout.{device_words, is_legal_frame_count};
+ghost use Rattle.pud_defs.specs.Spaces.{is_closed_range, is_closed_log};
+ghost use Rattle.pud_defs.specs.Registry.{has_room};
+ghost use Rattle.pud_defs.specs.World.{StoredWorld, world_of};
+ghost use Rattle.batch.specs.Batches.{IsFree, Commits};
+ghost use Rattle.registry.specs.Registry.{IsSettled};
+ghost use Rattle.log_space.specs.Records.{record_batch, HasClosedLogs, Registers, Unregisters};
+ghost use Rattle.log_space.specs.FreeLogs.{first_closed, IsLogOf};
+
+use batch::Batch;
+use log_entry::well_formed;
+use pm_model::{Host, HostFault};
+use pud_defs::layout::{
+    CLIENT_LOGS, FRAMES_WORD, MAX_FRAMES, MIN_FRAMES, SPACE_RECORD_WORDS, SPACE_TABLE,
+    device_words, log_at,
+};
+use pud_defs::log_words::{COMMITTING_HI, gate_hi, gate_lo};
+
+/// Gives the first words of the record of client `slot` these values, all or none.
+fn write_record<H: Host>(h: &mut H, slot: u32, vals: &[u64]) -> Result<(), HostFault>
+    requires table { PUDDLE_TABLE ≤ (H.counts h.old).size }
+    requires known { slot < CLIENTS }
+    requires some { 1 ≤ length vals.now }
+    requires no_more { length vals.now ≤ SPACE_RECORD_WORDS }
+    ensures commits { H.tells → (size : ℕ) → size ≡ (H.counts h.old).size → IsFree size DAEMON_LOG (record_batch slot vals.now) (H.state h.old).now.words
+        → Commits DAEMON_LOG (record_batch slot vals.now) (fault_of result) (H.state h.old) (H.state h.new) }
+    ensures cause { H.counts h.new ≡ after_fault (fault_of result) (H.counts h.old) }
+{
+    let mut batch = Batch::new();
+    let _fits = batch.add(SPACE_TABLE + SPACE_RECORD_WORDS * slot, vals);
+    batch.commit(h)
+}
+
+/// Registers the logs of client `slot` for the owner `uid`, `gid`, by one batch.
+///
+/// The device has the log-space table. Where each image stands for a world, the daemon log is closed in it with nothing
+/// that counts, and the client's logs are closed in it, each image left meanwhile stands for that world, with the record
+/// as it was or registered. The only errors are the host's own.
+pub fn register<H: Host>(h: &mut H, slot: u32, uid: u32, gid: u32) -> Result<(), HostFault>
+    requires table { PUDDLE_TABLE ≤ (H.counts h.old).size }
+    requires known { slot < CLIENTS }
+    requires uid_fits { uid ≤ MAX_OWNER_ID }
+    requires gid_fits { gid ≤ MAX_OWNER_ID }
+    ensures registers { H.tells → (size : ℕ) → size ≡ (H.counts h.old).size → (s : StoredWorld) → IsSettled size s (H.state h.old).now.words
+        → HasClosedLogs s.frames slot (H.state h.old).now.words → Registers size s slot uid gid (fault_of result) (H.state h.old) (H.state h.new) }
+    ensures cause { H.counts h.new ≡ after_fault (fault_of result) (H.counts h.old) }
+{
+    write_record(h, slot, &[1, u64::from(uid), u64::from(gid)])
+}
+
+/// Frees the record of client `slot`, by one batch: its logs are registered no more.
+///
+/// The device has the log-space table. Where each image stands for a world and the daemon log is closed in it with nothing
+/// that counts, each image left meanwhile stands for that world, with the record as it was or free. The only errors are
+/// the host's own.
+pub fn unregister<H: Host>(h: &mut H, slot: u32) -> Result<(), HostFault>
+    requires table { PUDDLE_TABLE ≤ (H.counts h.old).size }
+    requires known { slot < CLIENTS }
+    ensures unregisters { H.tells → (size : ℕ) → size ≡ (H.counts h.old).size → (s : StoredWorld) → IsSettled size s (H.state h.old).now.words
+        → Unregisters size s slot (fault_of result) (H.state h.old) (H.state h.new) }
+    ensures cause { H.counts h.new ≡ after_fault (fault_of result) (H.counts h.old) }
+{
+    write_record(h, slot, &[0])
+}
+
+/// Whether a gate has the range of a closed log: (4,4), or (0,0) as after formatting.
+fn is_closed_range(gate: u64) -> bool
+    ensures { result ≡ is_closed_range gate }
+{
+    let hi = gate_hi(gate);
+    gate_lo(gate) == hi && (hi == COMMITTING_HI || hi == 0)
+}
+
+/// Whether the log whose gate is word `at` is closed.
+fn is_closed<H: Host>(h: &mut H, at: u32) -> Result<bool, HostFault>
+    requires { at + LOG_WORDS ≤ (H.counts h.old).size }
+    ensures answer { H.tells → IfOk result (λ closed. closed ≡ is_closed_log (reads (H.state h.old).now.words) at) }
+    ensures stays { H.tells → H.state h.new ≡ H.state h.old }
+    ensures cause { H.counts h.new ≡ after_fault (fault_of result) (H.counts h.old) }
+    ensures never_cut { fault_of result ≢ Option.Some HostFault.Cut }
+{
+    if !is_closed_range(h.load(at)?) {
+        return Ok(false);
+    }
+    well_formed(h, at)
+}
+
+/// The number of frames, where it is legal and a device of so many words has the words that so many frames need.
+fn frames_with_room(words: u32, frames: u64) -> Option<u32>
+    ensures { result ≡ cond (is_legal_frame_count frames && nat_le (device_words frames) words) (Option.Some frames) Option.None }
+{
+    if frames < u64::from(MIN_FRAMES) || frames > u64::from(MAX_FRAMES) {
+        return None;
+    }
+    let frames = frames as u32;
+    if words < device_words(frames) {
+        return None;
+    }
+    Some(frames)
+}
+
+/// The lowest of the client's logs that is closed, on a device of so many frames.
+fn first_closed<H: Host>(h: &mut H, frames: u32, slot: u32) -> Result<Option<u32>, HostFault>
+    requires few { frames ≤ MAX_FRAMES }
+    requires room { device_words frames ≤ (H.counts h.old).size }
+    requires known { slot < CLIENTS }
+    ensures first { H.tells → IfOk result (λ found. found ≡ first_closed (reads (H.state h.old).now.words) frames slot) }
+    ensures within { IfOk result (λ found. IfSome found (IsLogOf slot)) }
+    ensures stays { H.tells → H.state h.new ≡ H.state h.old }
+    ensures cause { H.counts h.new ≡ after_fault (fault_of result) (H.counts h.old) }
+    ensures never_cut { fault_of result ≢ Option.Some HostFault.Cut }
+{
+    for number in 0..CLIENT_LOGS {
+        if is_closed(h, log_at(frames, slot, number))? {
+            return Ok(Some(CLIENT_LOGS * slot + number));
+        }
+    }
+    Ok(None)
+}
+
+/// The lowest of the logs of client `slot` that is closed, as `4 * slot + k` for its log `k`, or None where none is.
+///
+/// None comes too where the device has no legal number of frames, or not the words that so many need. Nothing changes, and
+/// the only errors are the host's own.
+pub fn free_log<H: Host>(h: &mut H, slot: u32) -> Result<Option<u32>, HostFault>
+    requires known { slot < CLIENTS }
+    requires smallest { device_words MIN_FRAMES ≤ (H.counts h.old).size }
+    ensures lowest { H.tells → (size : ℕ) → size ≡ (H.counts h.old).size → (s : StoredWorld) → world_of size (reads (H.state h.old).now.words) ≡ Option.Some s
+        → IfOk result (λ found. found ≡ first_closed (reads (H.state h.old).now.words) s.frames slot) }
+    ensures no_room { H.tells → has_room (H.counts h.old).size (reads (H.state h.old).now.words) ≡ false → IfOk result (λ found. found ≡ Option.None) }
+    ensures within { IfOk result (λ found. IfSome found (IsLogOf slot)) }
+    ensures stays { H.tells → H.state h.new ≡ H.state h.old }
+    ensures cause { H.counts h.new ≡ after_fault (fault_of result) (H.counts h.old) }
+    ensures never_cut { fault_of result ≢ Option.Some HostFault.Cut }
+{
+    let words = h.words();
+    let frames = h.load(FRAMES_WORD)?;
+    match frames_with_room(words, frames) {
+        None => Ok(None),
+        Some(frames) => first_closed(h, frames, slot),
+    }
+}
+
+#[cfg(test)]
+mod tests;
