@@ -154,4 +154,12 @@ mod tests {
             assert_eq!(rt; device_words(frames), words, "words of {frames}");
         }
     }
+
+    #[test]
+    fn first_and_last_log_of_a_client(rt: HostRuntime) {
+        assert_eq!(rt; log_at(4, 0, 0), 1_568);
+        assert_eq!(rt; log_at(4, 1, 0), 5_664);
+        assert_eq!(rt; log_at(4, 7, 3), 33_312);
+        assert_eq!(rt; log_at(4, 7, 3) + LOG_WORDS, frames_at(4));
+    }
 }

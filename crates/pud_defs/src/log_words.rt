@@ -140,6 +140,25 @@ mod tests {
     }
 
     #[test]
+    fn bytes_of_gates_and_entries(rt: HostRuntime) {
+        for (word, bytes) in [
+            (gate_word(0, 2, 6), [0, 2, 6, 0, 0, 0, 0, 0]),
+            (gate_word(0, 2, 3), [0, 2, 3, 0, 0, 0, 0, 0]),
+            (
+                entry_word(1, UNDO_SEQ, UNDO_ORDER),
+                [1, 0, 1, 0, 0, 0, 0, 0],
+            ),
+            (
+                entry_word(1, REDO_SEQ, REDO_ORDER),
+                [1, 0, 3, 0, 1, 0, 0, 0],
+            ),
+            (17_592_186_044_944, [0x10, 2, 0, 0, 0, 0x10, 0, 0]),
+        ] {
+            assert_eq!(rt; word.to_le_bytes(), bytes, "bytes of {word}");
+        }
+    }
+
+    #[test]
     fn second_words_of_entries(rt: HostRuntime) {
         for (n, seq, order, word) in [
             (1, UNDO_SEQ, UNDO_ORDER, 65_537),
