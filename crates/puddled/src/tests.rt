@@ -215,13 +215,25 @@ fn start_again(
     pick: u64,
 ) -> Result<(), StartFault> {
     arm(rt, host, step, pick);
-    assert_eq!(rt; started(host), Err(StartFault::Host(HostFault::Cut)), "step {step}");
+    assert_eq!(rt;
+        started(host),
+        Err(StartFault::Host(HostFault::Cut)),
+        "step {step}"
+    );
     let mut daemon = Daemon::start(host)?;
     for (w, v) in [(SPACE_TABLE, 0), (DAEMON_LOG, CLOSED_GATE)] {
         assert_eq!(rt; newest(rt, host, w)?, v, "word {w} behind step {step}");
     }
-    assert_eq!(rt; exec(rt, alloc, &mut daemon, host, b"type 1 2 0", false), Ok(false), "step {step}");
-    assert_eq!(rt; exec(rt, alloc, &mut daemon, host, b"type 1 2 1", false), Ok(true), "step {step}");
+    assert_eq!(rt;
+        exec(rt, alloc, &mut daemon, host, b"type 1 2 0", false),
+        Ok(false),
+        "step {step}"
+    );
+    assert_eq!(rt;
+        exec(rt, alloc, &mut daemon, host, b"type 1 2 1", false),
+        Ok(true),
+        "step {step}"
+    );
     assert_eq!(rt; host.said(), b"ready\n".as_slice());
     daemon.stop();
     Ok(())
