@@ -113,7 +113,7 @@ Leaves-script : (P : List ℕ → Image → Type 0) (bytes : List ℕ) (start no
 Leaves-script P bytes start now l = record { added = l.added; history = l.history; start = l.start; later = l.later }
 
 IsReady-script : (size : ℕ) (w : World) (bytes : List ℕ) (s : State) → IsReady size w s → IsReady size w (with_script bytes s)
-IsReady-script size w bytes s r = record { stands = r.stands; log = r.log; types = r.types; shelf = r.shelf }
+IsReady-script size w bytes s r = record { stands = r.stands; log = r.log; types = r.types; spaces = r.spaces; shelf = r.shelf }
 
 -- ready where the bytes taken left the daemon, after a byte more was read
 pub ready_read : (size : ℕ) (w : World) (before : Counts) (start : State) (counts : Counts) (now after : State) (piece : List ℕ) (byte : Option ℕ)

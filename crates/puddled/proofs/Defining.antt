@@ -1,5 +1,5 @@
 -- What the definition of a type does to the worlds that images stand for.
-use Rattle.std.proofs.Common.{◌≡◌, inl, inr, ℕ, ◌+◌, ◌<◌, true, false, ◌&&◌, leb, eqb, cond, List, Option, Some, None, is_some, is_none, refl, sym, ap, subst, ◌∙◌, ⊎_elim, arith}
+use Rattle.std.proofs.Common.{◌≡◌, ◌⊎◌, inl, inr, ℕ, ◌+◌, ◌<◌, ◌≤◌, true, false, ◌&&◌, leb, eqb, cond, List, Option, Some, None, is_some, is_none, refl, sym, ap, subst, ◌∙◌, ⊎_elim, arith}
 use Rattle.std.proofs.lemmas.Bool.{cases_eq, cond-false, ne_eqb}
 use Rattle.pm_model.specs.declared.host.HostFault.{HostFault}
 use Rattle.pm_model.specs.declared.host.HostFault.TheVariants.{Cut}
@@ -7,15 +7,16 @@ use Rattle.pm_model.specs.Words.{Picks, IsRested, reads}
 use Rattle.pm_model.specs.Moments.{State}
 use Rattle.pm_model.proofs.Words.{Picks-reads}
 use Rattle.pm_model.specs.Changes.{written}
-use Rattle.pm_model.proofs.Changes.{Changes-said, Changes-now}
+use Rattle.pm_model.proofs.Changes.{Changes-said, Changes-now, HasOnly-kept}
 use Rattle.pm_model.proofs.Leaves.{Leaves-still, Leaves-weaker}
-use Rattle.pud_defs.specs.declared.layout.TheConstants.{TYPE_RECORDS, DAEMON_LOG}
+use Rattle.pud_defs.specs.declared.layout.TheConstants.{TYPE_RECORDS, TYPE_TABLE, POOL_TABLE, DAEMON_LOG}
 use Rattle.pud_defs.specs.declared.machine.Command.TheVariants.{Define}
 use Rattle.pud_defs.specs.declared.machine.Refusal.{Refusal}
 use Rattle.pud_defs.specs.declared.machine.Refusal.TheVariants.{Clash, Full}
 use Rattle.pud_defs.specs.Image.{Image}
 use Rattle.pud_defs.specs.TypeMap.{is_legal_map, is_legal_type_id}
 use Rattle.pud_defs.specs.Types.{type_record_at, type_table, first_free, map_of, with_type}
+use Rattle.pud_defs.specs.Spaces.{space_record_at}
 use Rattle.pud_defs.specs.World.{World, world_of, closed}
 use Rattle.pud_defs.specs.Step.{is_other, refusal_of, after, unless_refused, world_by}
 use Rattle.pud_defs.proofs.TypeTable.{IsLowestFree, first_free_some}
@@ -104,11 +105,13 @@ free_in size w s id map r ready is_new image picked =
     let one = ready.types.each (type_record_at r) (omega arith) (omega arith) in
     one.each (image (type_record_at r)) (picked.each (type_record_at r)) ∙ is_new.lowest.free
 
--- a definition writes no word of the daemon log
-not_the_gate : (r id map v : ℕ) → r < TYPE_RECORDS → written (record_write r id map) DAEMON_LOG v → ⊥
-not_the_gate r id map v known may =
-    let one : eqb DAEMON_LOG (type_record_at r) ≡ false = ne_eqb DAEMON_LOG (type_record_at r) (λ e. absurd (omega arith)) in
-    let two : eqb DAEMON_LOG (type_record_at r + 1) ≡ false = ne_eqb DAEMON_LOG (type_record_at r + 1) (λ e. absurd (omega arith)) in
+-- a definition writes no word outside the type table
+not_outside : (r id map k v : ℕ) → r < TYPE_RECORDS → (k < TYPE_TABLE) ⊎ (POOL_TABLE ≤ k) → written (record_write r id map) k v → ⊥
+not_outside r id map k v known outside may =
+    let apart : (at : ℕ) → TYPE_TABLE ≤ at → at < POOL_TABLE → eqb k at ≡ false = λ at low high.
+    ne_eqb k at (λ e. ⊎_elim (λ below. absurd (omega arith)) (λ above. absurd (omega arith)) outside) in
+    let one = apart (type_record_at r) (omega arith) (omega arith) in
+    let two = apart (type_record_at r + 1) (omega arith) (omega arith) in
     let it : None ≡ Some v = sym (cond-false _ _ _ one ∙ cond-false _ _ _ two) ∙ may in
     absurd (cc)
 
@@ -137,9 +140,11 @@ new_applies size w id map r fault old new ready legal_id legal_map place d =
         stands = λ image picked. let h = d.done none image picked in ap (world_of size) h.is ∙ gives h.before h.picked;
         log = λ v had. elim (Changes-now (written (record_write r id map)) fault old new d.changes DAEMON_LOG v had) [
           | inl was ↦ ready.log v was
-          | inr may ↦ absurd (not_the_gate r id map v (omega arith) may)
+          | inr may ↦ absurd (not_outside r id map DAEMON_LOG v (omega arith) (inl (omega arith)) may)
         ];
         types = d.durable none ready.types;
+        spaces = λ client low. HasOnly-kept (written (record_write r id map)) fault old new (space_record_at client) 0 d.changes
+            (λ v may. not_outside r id map (space_record_at client) v (omega arith) (inr (omega arith)) may) (ready.spaces client low);
         shelf = d.changes.shelf ∙ ready.shelf ∙ shelf_after w id map;
       };
       lost = d.changes.rests;

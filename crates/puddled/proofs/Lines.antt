@@ -1,10 +1,10 @@
 -- One line, from what was done without a word to what was said of it.
-use Rattle.std.proofs.Common.{◌≡◌, ◌≢◌, ◌⊎◌, ◌↔◌, inl, inr, ℕ, zero, suc, ◌≤◌, Bool, true, false, List, [], ◌∷◌, ◌++◌, take, drop, Option, Some, None, Result, Ok, Err, IfOk, refl, sym, ap, subst, ◌∙◌, arith, take-append-drop}
+use Rattle.std.proofs.Common.{◌≡◌, ◌≢◌, ◌⊎◌, ◌↔◌, inl, inr, ℕ, zero, suc, ◌<◌, ◌≤◌, Bool, true, false, List, [], ◌∷◌, ◌++◌, take, drop, Option, Some, None, Result, Ok, Err, IfOk, refl, sym, ap, subst, ◌∙◌, arith, take-append-drop}
 use Rattle.std.proofs.lemmas.List.{append-nil, drop_all}
 use Rattle.pm_model.specs.declared.host.HostFault.{HostFault}
 use Rattle.pm_model.specs.declared.host.HostFault.TheVariants as hosts
 use Rattle.pm_model.specs.Counts.{Counts}
-use Rattle.pm_model.specs.Words.{Has, values, Words, Picks, reads}
+use Rattle.pm_model.specs.Words.{Has, HasOnly, values, Words, Picks, reads}
 use Rattle.pm_model.specs.Moments.{State}
 use Rattle.pm_model.specs.Calls.{Says}
 use Rattle.pm_model.specs.Changes.{Leaves, Silently}
@@ -14,8 +14,9 @@ use Rattle.pm_model.proofs.Said.{words-all_said, said-all_said, script-all_said,
 use Rattle.pud_defs.specs.declared.machine.Reply.{Reply}
 use Rattle.pud_defs.specs.declared.machine.Reply.TheVariants.{Cut}
 use Rattle.pud_defs.specs.declared.machine.Reply.TheVariants as replies
-use Rattle.pud_defs.specs.declared.layout.TheConstants.{DAEMON_LOG}
+use Rattle.pud_defs.specs.declared.layout.TheConstants.{DAEMON_LOG, CLIENTS}
 use Rattle.pud_defs.specs.Entries.{is_closed_gate}
+use Rattle.pud_defs.specs.Spaces.{space_record_at}
 use Rattle.pud_defs.specs.Image.{Image}
 use Rattle.pud_defs.specs.World.{World, world_of, closed, restart}
 use Rattle.pud_defs.specs.Step.{step_reply, step_world}
@@ -67,6 +68,7 @@ IsReady-said : (size : ℕ) (w : World) (old new : State) → new.now.words ≡ 
 IsReady-said size w old new words shelf ready =
     record {
       stands = λ image picked. ready.stands image (subst (λ (x : Words). Picks x image) words picked);
+      spaces = subst (λ (x : Words). (client : ℕ) → client < CLIENTS → HasOnly (x (space_record_at client)) 0) (sym words) ready.spaces;
       log = subst (λ (x : Words). (v : ℕ) → Has (values (x DAEMON_LOG)) v → is_closed_gate v ≡ true) (sym words) ready.log;
       types = subst (λ (x : Words). HasDurableTypes x) (sym words) ready.types;
       shelf = shelf ∙ ready.shelf;

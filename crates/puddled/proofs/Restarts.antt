@@ -66,6 +66,7 @@ Recovers-clears size w fault a b c shelf p q =
           each = λ k low high. HasOnly-own (c.now.words k) (reads b.now.words k)
               (HasOnly-kept (ByBatch DAEMON_LOG (clearing CLIENTS)) fault b c k (reads b.now.words k) q.changes (λ v may. types_apart k v low high may) ((p.rested refl).each k));
         };
+        spaces = q.cleared none;
         shelf = q.changes.shelf ∙ p.changes.shelf ∙ shelf;
       };
       script = q.changes.script ∙ p.changes.script;

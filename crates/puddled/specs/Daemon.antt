@@ -1,16 +1,17 @@
 -- What the daemon's start and one line do, at every moment.
-use Rattle.std.specs.Prelude.{◌≡◌, ◌≢◌, ◌⊎◌, ℕ, Bool, true, false, cond, List, [], ◌∷◌, ◌++◌, Option, Some, None, Result, IfOk}
+use Rattle.std.specs.Prelude.{◌≡◌, ◌≢◌, ◌<◌, ◌⊎◌, ℕ, Bool, true, false, cond, List, [], ◌∷◌, ◌++◌, Option, Some, None, Result, IfOk}
 use Rattle.pm_model.specs.declared.host.HostFault.{HostFault}
 use Rattle.pm_model.specs.declared.host.HostFault.TheVariants as hosts
-use Rattle.pm_model.specs.Words.{Has, values, Picks, IsRested}
+use Rattle.pm_model.specs.Words.{Has, HasOnly, values, Picks, IsRested}
 use Rattle.pm_model.specs.Counts.{Counts}
 use Rattle.pm_model.specs.Moments.{State}
 use Rattle.pm_model.specs.Changes.{Leaves, Silently}
 use Rattle.pud_defs.specs.declared.machine.Reply.{Reply}
 use Rattle.pud_defs.specs.declared.machine.Reply.TheVariants as replies
-use Rattle.pud_defs.specs.declared.layout.TheConstants.{DAEMON_LOG}
+use Rattle.pud_defs.specs.declared.layout.TheConstants.{DAEMON_LOG, CLIENTS}
 use Rattle.pud_defs.specs.Image.{Image}
 use Rattle.pud_defs.specs.Entries.{is_closed_gate}
+use Rattle.pud_defs.specs.Spaces.{space_record_at}
 use Rattle.pud_defs.specs.World.{World, world_of, closed}
 use Rattle.pud_defs.specs.Run.{Turn, IsTurn, cuts_of}
 use Rattle.pud_defs.specs.Texts.{start_text, reply_text}
@@ -26,11 +27,12 @@ pub record KeepsRest (old new : State) : Type 0 where
   pub shelf : new.shelf ≡ old.shelf
 
 -- What the daemon needs of a device between two lines: each image that may be left stands for the world with nothing under way, the daemon
--- log is closed in it and counts no word, the type table is durable, and the shelf is the world's.
+-- log is closed in it and counts no word, the type table is durable, no client's logs are registered, and the shelf is the world's.
 pub record IsReady (size : ℕ) (w : World) (s : State) : Type 0 where
   pub stands : (image : Image) → Picks s.now.words image → world_of size image ≡ Some (closed w)
   pub log : (v : ℕ) → Has (values (s.now.words DAEMON_LOG)) v → is_closed_gate v ≡ true
   pub types : HasDurableTypes s.now.words
+  pub spaces : (client : ℕ) → client < CLIENTS → HasOnly (s.now.words (space_record_at client)) 0
   pub shelf : s.shelf ≡ w.shelf
 
 -- these bytes are the front of a text
