@@ -12,7 +12,7 @@ use std::test::Fail;
 /// The words of a device of four frames.
 const WORDS: u32 = 42_528;
 
-/// More device steps than formatting takes.
+/// More device steps than formatting and the starts behind it take.
 const STEPS: u32 = 40_000;
 
 /// The map word of a type of two fields of which field 1 is a pointer.
@@ -21,6 +21,14 @@ const MAP: u64 = 8_589_934_594;
 /// The device steps that formatting four frames takes: 34,336 words and 4,292 lines of zeroes with a fence, four words and
 /// a line with a fence, and one word.
 const FORMAT_STEPS: u32 = 38_638;
+
+/// The device steps that a start takes where the daemon log counts nothing: a fence and the log's gate with a line and a
+/// fence; 24 entry words and three lines with a fence, and the gate; eight words, each with a line, with a fence, and the
+/// gate.
+const START_STEPS: u32 = 55;
+
+/// The device steps that a first definition takes: two words, each with a line and a fence.
+const LINE_STEPS: u32 = 6;
 
 fn call(alloc: Global, host: &mut MemHost, words: &[&str]) -> Result<u8, AllocError> {
     let mut all = Vec::new(alloc);
@@ -56,6 +64,13 @@ fn blank(alloc: Global, script: &[u8], plan: Plan) -> Result<MemHost, AllocError
 fn cut_at(alloc: Global, step: u32, pick: u64) -> Result<Plan, AllocError> {
     let mut plan = Plan::none(alloc);
     plan.cuts.push((step, pick))?;
+    Ok(plan)
+}
+
+/// Power is lost at two steps.
+fn cut_twice(alloc: Global, step: u32, later: u32, pick: u64) -> Result<Plan, AllocError> {
+    let mut plan = cut_at(alloc, step, pick)?;
+    plan.cuts.push((later, pick))?;
     Ok(plan)
 }
 
@@ -115,7 +130,7 @@ fn a_hostile_device_is_not_sound_and_stays(rt: HostRuntime) -> Result<(), Fail> 
         (1, 2),
         (3, 5),
         (4, 0),
-        (64, 1),
+        (64, 1 << 32),
         (1_088, u64::MAX),
         (1_216, 1),
         (1_567, 1),
@@ -125,6 +140,28 @@ fn a_hostile_device_is_not_sound_and_stays(rt: HostRuntime) -> Result<(), Fail> 
         assert_eq!(rt; call(alloc, &mut host, &["puddle", "run"])?, NOT_USABLE);
         assert_eq!(rt; host.said(), b"".as_slice());
         assert_eq!(rt; word(alloc, &host, at as usize)?, value);
+    }
+    Ok(())
+}
+
+#[test]
+fn a_start_closes_the_daemon_log_and_empties_the_log_space_table(
+    rt: HostRuntime,
+) -> Result<(), Fail> {
+    let alloc = rt.alloc();
+    for gate in [0, 1, 1_028] {
+        let mut host = blank(alloc, b"", Plan::none(alloc))?;
+        poke(&mut host, 64, gate);
+        for at in [1_472, 1_480, 1_528] {
+            poke(&mut host, at, 1);
+        }
+        assert_eq!(rt; call(alloc, &mut host, &["puddle", "run"])?, DONE);
+        assert_eq!(rt; host.said(), b"ready\n".as_slice());
+        host.cut(0);
+        assert_eq!(rt; word(alloc, &host, 64)?, 1_028);
+        for at in [1_472, 1_480, 1_528] {
+            assert_eq!(rt; word(alloc, &host, at)?, 0);
+        }
     }
     Ok(())
 }
@@ -292,34 +329,71 @@ fn a_device_that_is_too_small_is_not_formatted(rt: HostRuntime) -> Result<(), Fa
     Ok(())
 }
 
-/// Runs a first definition with this plan: it ends with `ok`, with `cut`, or with the fault's status. Behind `ok` the type
-/// has to be there whatever power loss follows; a second run has to answer as the device's words say. The answer is whether
-/// the definition was acknowledged.
+/// Where a first definition came to its end.
+#[derive(Clone, Copy, Debug, PartialEq, Eq)]
+enum End {
+    /// Before the start text was said whole.
+    InStart,
+    /// Behind the start text, and before a reply was said whole.
+    InLine,
+    /// With the reply `cut`.
+    Cut,
+    /// With the reply `ok`, and a fault behind it.
+    BehindReply,
+    /// With the reply `ok`, and the plan's fault still to come.
+    Whole,
+}
+
+/// Where a run over a first definition ended, by its status and what it said. A status other than 0 is the fault's.
+fn end_of(rt: &impl Abort, status: u8, said: &[u8], fault: u8) -> End {
+    if status == DONE {
+        if said == b"ready\ncut\n".as_slice() {
+            return End::Cut;
+        }
+        assert_eq!(rt; said, b"ready\nok\n".as_slice());
+        return End::Whole;
+    }
+    assert_eq!(rt; status, fault);
+    if said == b"ready\nok\n".as_slice() {
+        End::BehindReply
+    } else if said.starts_with(b"ready\n") {
+        assert!(rt; b"ready\nok\n".starts_with(said) || b"ready\ncut\n".starts_with(said));
+        End::InLine
+    } else {
+        assert!(rt; b"ready\n".starts_with(said));
+        End::InStart
+    }
+}
+
+/// Runs a first definition with this plan, and then loses power. Behind `ok` the type has to be there, and behind a start
+/// that did not end it may not be; a second run has to answer as the device's words say.
 fn define_under(
     rt: &impl Abort,
     alloc: Global,
     plan: Plan,
     fault: u8,
     pick: u64,
-) -> Result<bool, Fail> {
+) -> Result<End, Fail> {
     let mut host = blank(alloc, b"type 1 2 1\n", plan)?;
     let status = call(alloc, &mut host, &["puddle", "run"])?;
-    let acknowledged = host.said() == b"ready\nok\n".as_slice();
-    if status == DONE {
-        assert!(rt; acknowledged || host.said() == b"ready\ncut\n".as_slice());
-    } else {
-        assert_eq!(rt; status, fault);
-        assert!(rt; b"ready\nok\n".starts_with(host.said()));
-    }
+    let end = end_of(rt, status, host.said(), fault);
     host.cut(pick);
     let defined = word(alloc, &host, 1_088)? == 1;
-    assert!(rt; defined || !acknowledged);
-    if status == DONE && fault == DEVICE_FAULT {
-        // The failing call of the plan is still to come.
-        return Ok(true);
+    match end {
+        End::InStart => assert!(rt; !defined),
+        End::InLine | End::Cut => {}
+        End::BehindReply | End::Whole => {
+            assert!(rt; defined);
+            assert_eq!(rt; word(alloc, &host, 1_089)?, MAP);
+        }
     }
     let before = host.said().len();
     host.refill(alloc, b"type 1 2 0\n")?;
+    if end == End::Whole {
+        // The next call or step of the host has the plan's fault.
+        assert_eq!(rt; call(alloc, &mut host, &["puddle", "run"])?, fault);
+        assert_eq!(rt; host.said().len(), before);
+    }
     assert_eq!(rt; call(alloc, &mut host, &["puddle", "run"])?, DONE);
     let said = host.said().to_vec(alloc)?;
     let reply = said.get(before..).unwrap_or(&[]);
@@ -329,17 +403,39 @@ fn define_under(
         b"ready\nok\n".as_slice()
     };
     assert_eq!(rt; reply, wanted);
-    Ok(status == DONE && acknowledged)
+    Ok(end)
 }
 
 #[test]
 fn a_definition_cut_at_each_step_is_there_or_not(rt: HostRuntime) -> Result<(), Fail> {
     let alloc = rt.alloc();
     for pick in [0, 1] {
-        for step in 1..7 {
-            assert!(rt; !define_under(&rt, alloc, cut_at(alloc, step, pick)?, POWER_LOST, pick)?);
+        for step in 1..START_STEPS + LINE_STEPS + 2 {
+            let wanted = if step <= START_STEPS {
+                End::InStart
+            } else if step <= START_STEPS + LINE_STEPS {
+                End::Cut
+            } else {
+                End::Whole
+            };
+            let end = define_under(&rt, alloc, cut_at(alloc, step, pick)?, POWER_LOST, pick)?;
+            assert_eq!(rt; end, wanted, "step {step}");
         }
-        assert!(rt; define_under(&rt, alloc, cut_at(alloc, 7, pick)?, POWER_LOST, pick)?);
+    }
+    Ok(())
+}
+
+#[test]
+fn a_definition_whose_restart_is_cut_is_there_or_not(rt: HostRuntime) -> Result<(), Fail> {
+    let alloc = rt.alloc();
+    for pick in [0, 1] {
+        for step in START_STEPS + 1..START_STEPS + LINE_STEPS + 1 {
+            for later in [step + 1, step + 5, step + START_STEPS] {
+                let plan = cut_twice(alloc, step, later, pick)?;
+                let end = define_under(&rt, alloc, plan, POWER_LOST, pick)?;
+                assert_eq!(rt; end, End::InLine, "steps {step} and {later}");
+            }
+        }
     }
     Ok(())
 }
@@ -348,9 +444,9 @@ fn a_definition_cut_at_each_step_is_there_or_not(rt: HostRuntime) -> Result<(), 
 fn a_line_that_is_cut_off_is_answered_cut_and_the_run_goes_on(rt: HostRuntime) -> Result<(), Fail> {
     let alloc = rt.alloc();
     for (step, pick, said) in [
-        (1, 0, "ready\ncut\nok\n"),
-        (6, 0, "ready\ncut\nok\n"),
-        (6, 1, "ready\ncut\nno clash\n"),
+        (START_STEPS + 1, 0, "ready\ncut\nok\n"),
+        (START_STEPS + LINE_STEPS, 0, "ready\ncut\nok\n"),
+        (START_STEPS + LINE_STEPS, 1, "ready\ncut\nno clash\n"),
     ] {
         let mut host = blank(
             alloc,
@@ -366,14 +462,16 @@ fn a_line_that_is_cut_off_is_answered_cut_and_the_run_goes_on(rt: HostRuntime) -
 #[test]
 fn a_definition_with_a_failing_call_is_there_or_not(rt: HostRuntime) -> Result<(), Fail> {
     let alloc = rt.alloc();
-    let mut acknowledged = false;
-    for call in 1..700 {
-        if define_under(&rt, alloc, failing_at(alloc, call)?, DEVICE_FAULT, 0)? {
-            acknowledged = true;
+    let mut whole = false;
+    for call in 1..2_000 {
+        let end = define_under(&rt, alloc, failing_at(alloc, call)?, DEVICE_FAULT, 0)?;
+        assert!(rt; end != End::Cut, "call {call}");
+        if end == End::Whole {
+            whole = true;
             break;
         }
     }
-    assert!(rt; acknowledged);
+    assert!(rt; whole);
     Ok(())
 }
 
@@ -394,9 +492,10 @@ fn format_under(
     host.cut(pick);
     let whole = word(alloc, &host, 0)? == DEVICE_MAGIC;
     assert!(rt; whole || status != DONE);
-    if status == DONE && fault == DEVICE_FAULT {
-        // The failing call of the plan is still to come.
-        return Ok(true);
+    if status == DONE {
+        // The plan's fault is still to come, in the start.
+        assert_eq!(rt; call(alloc, &mut host, &["puddle", "run"])?, fault);
+        assert_eq!(rt; host.said(), b"formatted\n".as_slice());
     }
     let wanted = if whole { DONE } else { NOT_USABLE };
     assert_eq!(rt; call(alloc, &mut host, &["puddle", "run"])?, wanted);
