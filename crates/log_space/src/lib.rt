@@ -7,17 +7,22 @@
 ghost use Rattle.std.specs.Prelude.{◌≡◌, ◌≢◌, ◌+◌, ◌<◌, ◌≤◌, ◌&&◌, nat_le, cond, false, ℕ, Option, IfOk, IfSome, length};
 ghost use Rattle.pm_model.specs.Words.{reads};
 ghost use Rattle.pm_model.specs.Counts.{after_fault, fault_of};
+ghost use Rattle.pm_model.specs.Changes.{Changes};
 ghost use Rattle.pud_defs.specs.declared.layout.TheConstants.{DAEMON_LOG, LOG_WORDS, PUDDLE_TABLE, SPACE_RECORD_WORDS, CLIENTS, MIN_FRAMES, MAX_FRAMES, MAX_OWNER_ID};
 ghost use Rattle.pud_defs.specs.Layout.{device_words, is_legal_frame_count};
 ghost use Rattle.pud_defs.specs.Spaces.{is_closed_range, is_closed_log};
 ghost use Rattle.pud_defs.specs.Registry.{has_room};
 ghost use Rattle.pud_defs.specs.World.{StoredWorld, world_of};
+ghost use Rattle.log_replay.specs.Replaying.{Anything};
 ghost use Rattle.batch.specs.Batches.{IsFree, Commits};
 ghost use Rattle.registry.specs.Registry.{IsSettled};
 ghost use Rattle.log_space.specs.Records.{record_batch, HasClosedLogs, Registers, Unregisters};
 ghost use Rattle.log_space.specs.FreeLogs.{first_closed, IsLogOf};
 
+mod closing;
+
 use batch::Batch;
+pub use closing::close_logs;
 use log_entry::well_formed;
 use pm_model::{Host, HostFault};
 use pud_defs::layout::{
@@ -34,6 +39,7 @@ fn write_record<H: Host>(h: &mut H, slot: u32, vals: &[u64]) -> Result<(), HostF
     requires no_more { length vals.now ≤ SPACE_RECORD_WORDS }
     ensures commits { H.tells → (size : ℕ) → size ≡ (H.counts h.old).size → IsFree size DAEMON_LOG (record_batch slot vals.now) (H.state h.old).now.words
         → Commits DAEMON_LOG (record_batch slot vals.now) (fault_of result) (H.state h.old) (H.state h.new) }
+    ensures any { H.tells → Changes Anything (fault_of result) (H.state h.old) (H.state h.new) }
     ensures cause { H.counts h.new ≡ after_fault (fault_of result) (H.counts h.old) }
 {
     let mut batch = Batch::new();
@@ -53,6 +59,7 @@ pub fn register<H: Host>(h: &mut H, slot: u32, uid: u32, gid: u32) -> Result<(),
     requires gid_fits { gid ≤ MAX_OWNER_ID }
     ensures registers { H.tells → (size : ℕ) → size ≡ (H.counts h.old).size → (s : StoredWorld) → IsSettled size s (H.state h.old).now.words
         → HasClosedLogs s.frames slot (H.state h.old).now.words → Registers size s slot uid gid (fault_of result) (H.state h.old) (H.state h.new) }
+    ensures any { H.tells → Changes Anything (fault_of result) (H.state h.old) (H.state h.new) }
     ensures cause { H.counts h.new ≡ after_fault (fault_of result) (H.counts h.old) }
 {
     write_record(h, slot, &[1, u64::from(uid), u64::from(gid)])
@@ -68,6 +75,7 @@ pub fn unregister<H: Host>(h: &mut H, slot: u32) -> Result<(), HostFault>
     requires known { slot < CLIENTS }
     ensures unregisters { H.tells → (size : ℕ) → size ≡ (H.counts h.old).size → (s : StoredWorld) → IsSettled size s (H.state h.old).now.words
         → Unregisters size s slot (fault_of result) (H.state h.old) (H.state h.new) }
+    ensures any { H.tells → Changes Anything (fault_of result) (H.state h.old) (H.state h.new) }
     ensures cause { H.counts h.new ≡ after_fault (fault_of result) (H.counts h.old) }
 {
     write_record(h, slot, &[0])

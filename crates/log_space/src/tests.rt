@@ -1,4 +1,4 @@
-use crate::{free_log, register, unregister};
+use crate::{close_logs, free_log, register, unregister};
 use log_replay::settle_log;
 use pm_mem::{MemHost, Plan};
 use pm_model::{Host, HostFault};
@@ -36,6 +36,11 @@ fn unregistered<H: Host>(rt: &impl Abort, host: &mut H, slot: u32) -> Result<(),
 fn found<H: Host>(rt: &impl Abort, host: &mut H, slot: u32) -> Result<Option<u32>, HostFault> {
     assert!(rt; device_words(MIN_FRAMES) <= host.words() && slot < CLIENTS);
     free_log(host, slot)
+}
+
+fn closed<H: Host>(rt: &impl Abort, host: &mut H, slot: u32) -> Result<(), HostFault> {
+    assert!(rt; device_words(MIN_FRAMES) <= host.words() && slot < CLIENTS);
+    close_logs(host, slot)
 }
 
 // Brings the device up to date where the daemon log's range is that of a committing one.
@@ -102,6 +107,55 @@ fn the_lowest_closed_log_is_free(rt: HostRuntime) -> Result<(), Fail> {
         poke(&rt, &mut host, w, gate);
         assert_eq!(rt; found(&rt, &mut host, 1), Ok(want), "word {w} of {gate}");
     }
+    Ok(())
+}
+
+// Its four stores and flushes, and the fence: behind it each gate is 1,028 whatever a power loss leaves, and the logs of
+// clients 0 and 2 are as they were.
+#[test]
+fn the_logs_of_a_client_are_closed_durably(rt: HostRuntime) -> Result<(), Fail> {
+    let alloc = rt.alloc();
+    for (steps, pick, want) in [(9, 0, true), (9, 1, true), (10, 0, false)] {
+        let mut plan = Plan::none(alloc);
+        plan.cuts.push((steps, pick))?;
+        let mut host = MemHost::new(alloc, 42_528, b"", 16, 0, plan)?;
+        poke(&rt, &mut host, FRAMES_WORD, 4);
+        for (w, gate) in [
+            (4_640, 512),
+            (5_664, 512),
+            (6_688, 66_564),
+            (8_736, 66_651_140),
+            (9_760, 512),
+        ] {
+            poke(&rt, &mut host, w, gate);
+        }
+        let lost = closed(&rt, &mut host, 1) == Err(HostFault::Cut);
+        assert_eq!(rt; lost, want);
+        if !lost {
+            host.cut(pick);
+            for (w, gate) in [
+                (5_664, 1_028),
+                (6_688, 1_028),
+                (7_712, 1_028),
+                (8_736, 1_028),
+            ] {
+                assert_eq!(rt; load(&rt, &mut host, w), Ok(gate), "word {w}");
+            }
+        }
+        assert_eq!(rt; load(&rt, &mut host, 4_640), Ok(512));
+        assert_eq!(rt; load(&rt, &mut host, 9_760), Ok(512));
+    }
+    Ok(())
+}
+
+// A device that has no legal number of frames is left as it is.
+#[test]
+fn no_logs_are_closed_where_none_are(rt: HostRuntime) -> Result<(), Fail> {
+    let alloc = rt.alloc();
+    let mut host = MemHost::new(alloc, 42_528, b"", 16, 0, Plan::none(alloc))?;
+    poke(&rt, &mut host, 5_664, 512);
+    assert_eq!(rt; closed(&rt, &mut host, 1), Ok(()));
+    assert_eq!(rt; load(&rt, &mut host, 5_664), Ok(512));
     Ok(())
 }
 

@@ -5,11 +5,11 @@ use Rattle.std.proofs.lemmas.Option.{none-some, same_Some}
 use Rattle.std.proofs.lemmas.List.{take_all}
 use Rattle.std.proofs.lemmas.List.Sums.{sum_by-cons}
 use Rattle.std.proofs.lemmas.Nat.{div-mul-add, mod-mul-add}
-use Rattle.pud_defs.specs.declared.layout.TheConstants.{LINE_LIMIT, MAX_TYPE_ID, MAX_FIELDS}
+use Rattle.pud_defs.specs.declared.layout.TheConstants.{LINE_LIMIT, CLIENTS, MAX_OWNER_ID, MAX_TYPE_ID, MAX_FIELDS, MAX_ARMED_STEP}
 use Rattle.pud_defs.specs.declared.machine.Command.{Command}
-use Rattle.pud_defs.specs.declared.machine.Command.TheVariants.{Define}
+use Rattle.pud_defs.specs.declared.machine.Command.TheVariants.{Client, Leave, Define, Cut, Arm}
 use Rattle.pud_defs.specs.TypeMap.{map_fields, map_word, is_legal_map, is_legal_type_id}
-use Rattle.pud_defs.specs.Grammar.{command_by, command_of, split_at, in_range, number_of, fields_from, pointers_of, definition_of, IsLegalCommand}
+use Rattle.pud_defs.specs.Grammar.{command_by, command_of, split_at, in_range, number_of, fields_from, pointers_of, client_by, leave_by, define_by, cut_by, arm_by, of_one, of_two, of_three, command_with, IsLegalCommand}
 
 -- a longer line is no command
 pub command_of-long : (line : List ℕ) → LINE_LIMIT < length line → command_of line ≡ None
@@ -100,9 +100,9 @@ map_word-legal n fs low high below =
 legal_define : (id map : ℕ) (c : Command) → is_legal_type_id id ≡ true → is_legal_map map ≡ true → Define id map ≡ c → IsLegalCommand c
 legal_define id map c i m e = subst IsLegalCommand e (i, m)
 
-legal_arguments : (t n list : List ℕ) (c : Command) → definition_of (t ∷ n ∷ list ∷ []) ≡ Some c → IsLegalCommand c
-unfolding definition_of
-legal_arguments t n list c e =
+legal_by_define : (t n list : List ℕ) (c : Command) → define_by t n list ≡ Some c → IsLegalCommand c
+unfolding define_by
+legal_by_define t n list c e =
     let by_id = in_range_parts 1 (MAX_TYPE_ID + 1) (λ id. in_range 1 (MAX_FIELDS + 1) (λ fields. option_map (λ pointers. Define id (map_word fields pointers)) (pointers_of fields list)) (number_of n)) (number_of t) c e in
     let by_fields = in_range_parts 1 (MAX_FIELDS + 1) (λ fields. option_map (λ pointers. Define by_id.number (map_word fields pointers)) (pointers_of fields list)) (number_of n) c by_id.gives in
     let by_list = option_map_parts (λ pointers. Define by_id.number (map_word by_fields.number pointers)) (pointers_of by_fields.number list) c by_fields.gives in
@@ -113,17 +113,85 @@ legal_arguments t n list c e =
     (map_word-legal by_fields.number by_list.value by_fields.low fields_high (pointers_below by_fields.number list by_list.value by_list.is))
     by_list.gives
 
-legal_definition : (arguments : List (List ℕ)) (c : Command) → definition_of arguments ≡ Some c → IsLegalCommand c
-unfolding definition_of
-legal_definition [] c e = absurd (none-some c e)
-legal_definition (t ∷ []) c e = absurd (none-some c e)
-legal_definition (t ∷ n ∷ []) c e = absurd (none-some c e)
-legal_definition (t ∷ n ∷ list ∷ []) c e = legal_arguments t n list c e
-legal_definition (t ∷ n ∷ list ∷ more ∷ rest) c e = absurd (none-some c e)
+legal_by_client : (client uid gid : List ℕ) (c : Command) → client_by client uid gid ≡ Some c → IsLegalCommand c
+unfolding client_by
+legal_by_client client uid gid c e =
+    let by_client = in_range_parts 0 CLIENTS (λ k. in_range 0 (MAX_OWNER_ID + 1) (λ u. in_range 0 (MAX_OWNER_ID + 1) (λ g. Some (Client k u g)) (number_of gid)) (number_of uid)) (number_of client) c e in
+    let k = by_client.number in
+    let by_uid = in_range_parts 0 (MAX_OWNER_ID + 1) (λ u. in_range 0 (MAX_OWNER_ID + 1) (λ g. Some (Client k u g)) (number_of gid)) (number_of uid) c by_client.gives in
+    let u = by_uid.number in
+    let by_gid = in_range_parts 0 (MAX_OWNER_ID + 1) (λ g. Some (Client k u g)) (number_of gid) c by_uid.gives in
+    let g = by_gid.number in
+    let client_low : k < CLIENTS = by_client.high in
+    let uid_low : u ≤ MAX_OWNER_ID = let high = by_uid.high in omega arith in
+    let gid_low : g ≤ MAX_OWNER_ID = let high = by_gid.high in omega arith in
+    subst IsLegalCommand (same_Some (Client k u g) c by_gid.gives) (client_low, uid_low, gid_low)
+
+legal_by_leave : (client : List ℕ) (c : Command) → leave_by client ≡ Some c → IsLegalCommand c
+unfolding leave_by
+legal_by_leave client c e =
+    let by_client = in_range_parts 0 CLIENTS (λ k. Some (Leave k)) (number_of client) c e in
+    subst IsLegalCommand (same_Some (Leave by_client.number) c by_client.gives) by_client.high
+
+legal_by_cut : (n : List ℕ) (c : Command) → cut_by n ≡ Some c → IsLegalCommand c
+unfolding cut_by
+legal_by_cut n c e =
+    let by_pick = in_range_parts 0 (2 ^ 64) (λ pick. Some (Cut pick)) (number_of n) c e in
+    subst IsLegalCommand (same_Some (Cut by_pick.number) c by_pick.gives) by_pick.high
+
+legal_by_arm : (k n : List ℕ) (c : Command) → arm_by k n ≡ Some c → IsLegalCommand c
+unfolding arm_by
+legal_by_arm k n c e =
+    let by_step = in_range_parts 1 (MAX_ARMED_STEP + 1) (λ step. in_range 0 (2 ^ 64) (λ pick. Some (Arm step pick)) (number_of n)) (number_of k) c e in
+    let by_pick = in_range_parts 0 (2 ^ 64) (λ pick. Some (Arm by_step.number pick)) (number_of n) c by_step.gives in
+    let within : by_step.number ≤ MAX_ARMED_STEP = let high = by_step.high in omega arith in
+    subst IsLegalCommand (same_Some (Arm by_step.number by_pick.number) c by_pick.gives) (by_step.low, within, by_pick.high)
+
+-- what so many arguments give is legal where all that they may give is
+
+legal_one : (f : List ℕ → Option Command) (arguments : List (List ℕ)) (c : Command) → ((a : List ℕ) → f a ≡ Some c → IsLegalCommand c)
+    → of_one f arguments ≡ Some c → IsLegalCommand c
+unfolding of_one
+legal_one f [] c legal e = absurd (none-some c e)
+legal_one f (a ∷ []) c legal e = legal a e
+legal_one f (a ∷ more ∷ rest) c legal e = absurd (none-some c e)
+
+legal_two : (f : List ℕ → List ℕ → Option Command) (arguments : List (List ℕ)) (c : Command) → ((a b : List ℕ) → f a b ≡ Some c → IsLegalCommand c)
+    → of_two f arguments ≡ Some c → IsLegalCommand c
+unfolding of_two
+legal_two f [] c legal e = absurd (none-some c e)
+legal_two f (a ∷ []) c legal e = absurd (none-some c e)
+legal_two f (a ∷ b ∷ []) c legal e = legal a b e
+legal_two f (a ∷ b ∷ more ∷ rest) c legal e = absurd (none-some c e)
+
+legal_three : (f : List ℕ → List ℕ → List ℕ → Option Command) (arguments : List (List ℕ)) (c : Command) → ((x y z : List ℕ) → f x y z ≡ Some c → IsLegalCommand c)
+    → of_three f arguments ≡ Some c → IsLegalCommand c
+unfolding of_three
+legal_three f [] c legal e = absurd (none-some c e)
+legal_three f (x ∷ []) c legal e = absurd (none-some c e)
+legal_three f (x ∷ y ∷ []) c legal e = absurd (none-some c e)
+legal_three f (x ∷ y ∷ z ∷ []) c legal e = legal x y z e
+legal_three f (x ∷ y ∷ z ∷ more ∷ rest) c legal e = absurd (none-some c e)
+
+-- of two choices one is taken
+legal_choice : (b : Bool) (o p : Option Command) (c : Command) → (o ≡ Some c → IsLegalCommand c) → (p ≡ Some c → IsLegalCommand c)
+    → cond b o p ≡ Some c → IsLegalCommand c
+legal_choice true o p c first other e = first e
+legal_choice false o p c first other e = other e
+
+legal_with : (word : List ℕ) (arguments : List (List ℕ)) (c : Command) → command_with word arguments ≡ Some c → IsLegalCommand c
+unfolding command_with
+legal_with word arguments c e =
+    legal_choice (bytes_eq word (codes "client")) (of_three client_by arguments) _ c (legal_three client_by arguments c (λ x y z. legal_by_client x y z c))
+    (legal_choice (bytes_eq word (codes "leave")) (of_one leave_by arguments) _ c (legal_one leave_by arguments c (λ a. legal_by_leave a c))
+    (legal_choice (bytes_eq word (codes "type")) (of_three define_by arguments) _ c (legal_three define_by arguments c (λ x y z. legal_by_define x y z c))
+    (legal_choice (bytes_eq word (codes "cut")) (of_one cut_by arguments) _ c (legal_one cut_by arguments c (λ a. legal_by_cut a c))
+    (legal_choice (bytes_eq word (codes "arm")) (of_two arm_by arguments) None c (legal_two arm_by arguments c (λ a b. legal_by_arm a b c)) (λ none. absurd (none-some c none))))))
+    e
 
 legal_by : (pieces : List (List ℕ)) (c : Command) → command_by pieces ≡ Some c → IsLegalCommand c
 legal_by [] c e = absurd (none-some c e)
-legal_by (word ∷ arguments) c e = legal_definition arguments c (guarded (bytes_eq word (codes "type")) (definition_of arguments) c e).1
+legal_by (word ∷ arguments) c e = legal_with word arguments c e
 
 -- the command of a line is legal
 pub command_of-legal : (line : List ℕ) (c : Command) → command_of line ≡ Some c → IsLegalCommand c

@@ -1,6 +1,6 @@
 -- Lines that are commands, and lines that are not.
 use Rattle.std.proofs.Common.{◌≡◌, true, [], ◌∷◌, ◌++◌, replicate, codes, Some, None, refl}
-use Rattle.pud_defs.specs.declared.machine.Command.TheVariants.{Define}
+use Rattle.pud_defs.specs.declared.machine.Command.TheVariants.{Client, Leave, Define, Cut, Arm}
 use Rattle.pud_defs.specs.TypeMap.{map_word, is_legal_map}
 use Rattle.pud_defs.specs.Grammar.{number_of, command_of}
 use Rattle.pud_defs.proofs.Opened.{opened}
@@ -31,6 +31,22 @@ defines_with_no_pointer = refl
 defines_with_every_pointer : command_of (codes "type 9 30 0,1,2,3,4,5,6,7,8,9,10,11,12,13,14,15,16,17,18,19,20,21,22,23,24,25,26,27,28,29") ≡ Some (Define 9 129922760703)
 unfolding opened
 defines_with_every_pointer = refl
+
+comes : command_of (codes "client 7 65535 0") ≡ Some (Client 7 65535 0)
+unfolding opened
+comes = refl
+
+goes : command_of (codes "leave 0") ≡ Some (Leave 0)
+unfolding opened
+goes = refl
+
+loses_power : command_of (codes "cut 18446744073709551615") ≡ Some (Cut 18446744073709551615)
+unfolding opened
+loses_power = refl
+
+arms : command_of (codes "arm 1000000 0") ≡ Some (Arm 1000000 0)
+unfolding opened
+arms = refl
 
 zero_is_a_number : number_of (codes "0") ≡ Some 0
 unfolding opened
@@ -129,3 +145,39 @@ comma_at_the_end = refl
 too_long : command_of (codes "type 1 2 1" ++ replicate 119 48) ≡ None
 unfolding opened
 too_long = refl
+
+ninth_client : command_of (codes "client 8 1 1") ≡ None
+unfolding opened
+ninth_client = refl
+
+owner_too_large : command_of (codes "client 0 65536 1") ≡ None
+unfolding opened
+owner_too_large = refl
+
+group_too_large : command_of (codes "client 0 1 65536") ≡ None
+unfolding opened
+group_too_large = refl
+
+group_missing : command_of (codes "client 0 1") ≡ None
+unfolding opened
+group_missing = refl
+
+nobody_leaves : command_of (codes "leave") ≡ None
+unfolding opened
+nobody_leaves = refl
+
+two_leave : command_of (codes "leave 0 1") ≡ None
+unfolding opened
+two_leave = refl
+
+pick_too_large : command_of (codes "cut 18446744073709551616") ≡ None
+unfolding opened
+pick_too_large = refl
+
+step_zero : command_of (codes "arm 0 0") ≡ None
+unfolding opened
+step_zero = refl
+
+step_too_far : command_of (codes "arm 1000001 0") ≡ None
+unfolding opened
+step_too_far = refl

@@ -1,17 +1,17 @@
 -- Steps of the machine, lines of a script, and what is said.
-use Rattle.std.proofs.Common.{◌≡◌, ℕ, true, false, List, [], ◌∷◌, ◌++◌, map, codes, None, refl}
+use Rattle.std.proofs.Common.{◌≡◌, ℕ, true, false, List, [], ◌∷◌, ◌++◌, map, codes, Some, None, refl}
 use Rattle.std.specs.List.{range_with_len}
 use Rattle.pud_defs.specs.declared.machine.Reply.TheVariants as replies
 use Rattle.pud_defs.specs.declared.machine.Refusal.TheVariants as refusals
-use Rattle.pud_defs.specs.World.{World, restart, blank_world}
+use Rattle.pud_defs.specs.World.{World, no_clients, restart, blank_world}
 use Rattle.pud_defs.specs.Step.{step_reply, step_world}
 use Rattle.pud_defs.specs.Run.{newlines, lines_taken}
 use Rattle.pud_defs.specs.Texts.{start_text, formatted_text, reply_text}
 use Rattle.pud_defs.proofs.Opened.{opened}
 
--- a world of four frames with these types and no files
+-- a world of four frames with these types, no clients and no files
 abbrev pub of_types : List (ℕ × ℕ) → World
-of_types types = record { stored = record (blank_world 4 7) { types = types }; shelf = λ _. None }
+of_types types = record { stored = record (blank_world 4 7) { types = types }; clients = no_clients; shelf = λ _. None }
 
 -- the first run: two definitions
 first_world : step_world (of_types []) (codes "type 1 2 1") ≡ of_types ((1, 8589934594) ∷ [])
@@ -84,6 +84,53 @@ clash_where_full : step_reply (of_types (first_types 64)) (codes "type 64 1 0") 
 unfolding opened
 clash_where_full = refl
 
+-- a client comes once, and one that is not there does not leave
+comes : step_reply (of_types []) (codes "client 0 5 5") ≡ replies.Ok
+unfolding opened
+comes = refl
+
+taken : step_reply (step_world (of_types []) (codes "client 0 5 5")) (codes "client 0 1 1") ≡ replies.No refusals.Taken
+unfolding opened
+taken = refl
+
+taken_changes_nothing : (step_world (step_world (of_types []) (codes "client 0 5 5")) (codes "client 0 1 1")).clients 0 ≡ Some (record { uid = 5; gid = 5 })
+unfolding opened
+taken_changes_nothing = refl
+
+absent : step_reply (step_world (of_types []) (codes "client 0 5 5")) (codes "leave 3") ≡ replies.No refusals.Client
+unfolding opened
+absent = refl
+
+leaves : step_reply (step_world (of_types []) (codes "client 0 5 5")) (codes "leave 0") ≡ replies.Ok
+unfolding opened
+leaves = refl
+
+left : (step_world (step_world (of_types []) (codes "client 0 5 5")) (codes "leave 0")).clients 0 ≡ None
+unfolding opened
+left = refl
+
+-- a power loss by command: the types stay, and each client is gone
+loses_power : step_reply (of_types (first_types 3)) (codes "cut 0") ≡ replies.Ok
+unfolding opened
+loses_power = refl
+
+types_stay : step_world (step_world (of_types []) (codes "type 1 2 1")) (codes "cut 0") ≡ of_types ((1, 8589934594) ∷ [])
+unfolding opened
+types_stay = refl
+
+clients_are_gone : step_world (step_world (of_types []) (codes "client 0 5 5")) (codes "cut 0") ≡ of_types []
+unfolding opened
+clients_are_gone = refl
+
+comes_again : step_reply (step_world (step_world (of_types []) (codes "client 0 5 5")) (codes "cut 0")) (codes "client 0 9 9") ≡ replies.Ok
+unfolding opened
+comes_again = refl
+
+-- arming leaves the world
+arms : step_world (of_types (first_types 3)) (codes "arm 1 0") ≡ of_types (first_types 3)
+unfolding opened
+arms = refl
+
 -- a restart leaves the types
 restarted : restart (of_types (first_types 3)) ≡ of_types (first_types 3)
 restarted = refl
@@ -124,6 +171,14 @@ said_ok = refl
 said_bad : reply_text (replies.No refusals.Bad) ≡ codes "no bad" ++ 10 ∷ []
 unfolding opened
 said_bad = refl
+
+said_client : reply_text (replies.No refusals.Client) ≡ codes "no client" ++ 10 ∷ []
+unfolding opened
+said_client = refl
+
+said_taken : reply_text (replies.No refusals.Taken) ≡ codes "no taken" ++ 10 ∷ []
+unfolding opened
+said_taken = refl
 
 said_clash : reply_text (replies.No refusals.Clash) ≡ codes "no clash" ++ 10 ∷ []
 unfolding opened

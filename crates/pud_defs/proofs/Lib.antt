@@ -8,6 +8,7 @@ pub mod Zeroes
 pub mod Spaces
 pub mod Logged
 pub mod Worlds
+pub mod ClosedLogs
 pub mod Definitions
 pub mod Blank
 pub mod Lines

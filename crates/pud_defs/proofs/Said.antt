@@ -12,6 +12,8 @@ pub newlines-reply_text : (r : Reply) → newlines (reply_text r) ≡ 1
 unfolding reply_text
 newlines-reply_text replies.Ok = refl
 newlines-reply_text (replies.No refusals.Bad) = refl
+newlines-reply_text (replies.No refusals.Client) = refl
+newlines-reply_text (replies.No refusals.Taken) = refl
 newlines-reply_text (replies.No refusals.Clash) = refl
 newlines-reply_text (replies.No refusals.Full) = refl
 newlines-reply_text replies.Cut = refl

@@ -1,14 +1,15 @@
 -- Which refusal a definition meets, and what a step leaves.
-use Rattle.std.proofs.Common.{◌≡◌, ℕ, ◌<◌, ◌≤◌, Bool, true, false, not, cond, T, ◌&&◌, leb, is_none, List, length, Option, Some, None, nat_cmp, refl, sym, ap, ap₂, ◌∙◌, ne_eqb, eq-eqb, le-leb}
+use Rattle.std.proofs.Common.{◌≡◌, ℕ, ◌<◌, ◌≤◌, Bool, true, false, not, cond, T, ◌&&◌, leb, is_some, is_none, List, length, Option, Some, None, nat_cmp, refl, sym, ap, ap₂, ◌∙◌, ne_eqb, eq-eqb, le-leb}
 use Rattle.std.specs.FinMap.Entries.{is_sorted}
 use Rattle.std.proofs.lemmas.Bool.{lt-leb}
 use Rattle.pud_defs.specs.declared.layout.TheConstants.{TYPE_RECORDS}
 use Rattle.pud_defs.specs.declared.machine.Command.{Command}
-use Rattle.pud_defs.specs.declared.machine.Command.TheVariants.{Define}
+use Rattle.pud_defs.specs.declared.machine.Command.TheVariants.{Client, Leave, Define, Cut, Arm}
 use Rattle.pud_defs.specs.declared.machine.Reply.TheVariants as replies
 use Rattle.pud_defs.specs.declared.machine.Refusal.{Refusal}
 use Rattle.pud_defs.specs.declared.machine.Refusal.TheVariants as refusals
 use Rattle.pud_defs.specs.Types.{map_of}
+use Rattle.pud_defs.specs.Spaces.{Owner}
 use Rattle.pud_defs.specs.World.{World}
 use Rattle.pud_defs.specs.Grammar.{command_of}
 use Rattle.pud_defs.specs.Step.{is_other, is_clash, is_full, holds, refusal_of, after, refusal_by, reply_to, world_by, step_world, unless_refused, Step}
@@ -46,6 +47,30 @@ pub after-same : (w : World) (id map : ℕ) → T (is_sorted nat_cmp w.stored.ty
 unfolding after
 after-same w id map sorted e = ap (λ types. record w { stored = record w.stored { types = types } }) (with_type-same id map w.stored.types sorted e)
 
+-- ---- clients
+
+refusal_of-client : (w : World) (client uid gid : ℕ) (found : Option Owner) → w.clients client ≡ found → refusal_of w (Client client uid gid) ≡ cond (is_some found) (Some refusals.Taken) None
+unfolding refusal_of holds
+refusal_of-client w client uid gid found e = ap (λ o. cond (is_some o) (Some refusals.Taken) None) e
+
+refusal_of-leave : (w : World) (client : ℕ) (found : Option Owner) → w.clients client ≡ found → refusal_of w (Leave client) ≡ cond (not (is_some found)) (Some refusals.Client) None
+unfolding refusal_of holds
+refusal_of-leave w client found e = ap (λ o. cond (not (is_some o)) (Some refusals.Client) None) e
+
+-- the client is present
+pub client-taken : (w : World) (client uid gid : ℕ) (owner : Owner) → w.clients client ≡ Some owner → refusal_of w (Client client uid gid) ≡ Some refusals.Taken
+client-taken w client uid gid owner e = refusal_of-client w client uid gid (Some owner) e
+
+pub leave-present : (w : World) (client : ℕ) (owner : Owner) → w.clients client ≡ Some owner → refusal_of w (Leave client) ≡ None
+leave-present w client owner e = refusal_of-leave w client (Some owner) e
+
+-- it is not
+pub client-new : (w : World) (client uid gid : ℕ) → w.clients client ≡ None → refusal_of w (Client client uid gid) ≡ None
+client-new w client uid gid e = refusal_of-client w client uid gid None e
+
+pub leave-absent : (w : World) (client : ℕ) → w.clients client ≡ None → refusal_of w (Leave client) ≡ Some refusals.Client
+leave-absent w client e = refusal_of-leave w client None e
+
 -- ---- lines
 
 -- a line that is no command
@@ -69,11 +94,19 @@ step-done w line c e h = record {
 -- types stay by ascending ids
 pub is_sorted-after : (w : World) (c : Command) → T (is_sorted nat_cmp w.stored.types) → T (is_sorted nat_cmp (after w c).stored.types)
 unfolding after
+is_sorted-after w (Client client uid gid) h = h
+is_sorted-after w (Leave client) h = h
+is_sorted-after w (Cut pick) h = h
+is_sorted-after w (Arm step pick) h = h
 is_sorted-after w (Define id map) h = is_sorted-with_type id map w.stored.types h
 
 shelf_after : (w : World) (c : Command) → (after w c).shelf ≡ w.shelf
 unfolding after
+shelf_after w (Client client uid gid) = refl
+shelf_after w (Leave client) = refl
 shelf_after w (Define id map) = refl
+shelf_after w (Cut pick) = refl
+shelf_after w (Arm step pick) = refl
 
 shelf_unless : (r : Option Refusal) (before later : World) → later.shelf ≡ before.shelf → (unless_refused r before later).shelf ≡ before.shelf
 shelf_unless None before later same = same

@@ -196,9 +196,9 @@ standing_beside size image s h =
 
 -- ---- images that agree on all that is read
 
--- an image that is the same below the frames stands for the same world
-pub standing_same : (size : ℕ) (i j : Image) (s : StoredWorld) → StandsFor size i s → IsSameBelow (frames_at s.frames) i j → StandsFor size j s
-standing_same size i j s h same =
+-- an image that is the same up to the clients' logs, and whose registered logs are closed, stands for the same world
+pub standing_logs : (size : ℕ) (i j : Image) (s : StoredWorld) → StandsFor size i s → IsSameBelow (tables_end s.frames) i j → are_closed_logs j s.frames ≡ true → StandsFor size j s
+standing_logs size i j s h same logs =
     let table : type_table i ≡ type_table j = type_records_same i j 0 TYPE_RECORDS (λ k low high. same.at k (omega arith)) in
     record {
       magic = sym (same.at MAGIC_WORD (omega arith)) ∙ h.magic;
@@ -216,8 +216,14 @@ standing_same size i j s h same =
       no_pools = λ k from below. sym (same.at k (omega arith)) ∙ h.no_pools k from below;
       no_puddles = λ k from below. sym (same.at k (omega arith)) ∙ h.no_puddles k from below;
       spaces = sym (are_legal_spaces-same i j (λ k low high. same.at k (omega arith))) ∙ h.spaces;
-      logs = sym (are_closed_logs-same i j s.frames (λ k low high. same.at k (omega arith)) (λ k low high. same.at k high)) ∙ h.logs;
+      logs = logs;
     }
+
+-- an image that is the same below the frames stands for the same world
+pub standing_same : (size : ℕ) (i j : Image) (s : StoredWorld) → StandsFor size i s → IsSameBelow (frames_at s.frames) i j → StandsFor size j s
+standing_same size i j s h same =
+    standing_logs size i j s h (record { at = λ k below. same.at k (omega arith) })
+    (sym (are_closed_logs-same i j s.frames (λ k low high. same.at k (omega arith)) (λ k low high. same.at k high)) ∙ h.logs)
 
 -- an image that differs in the log-space table alone, and whose registered logs are closed, stands for the same world
 pub standing_spaces : (size : ℕ) (i j : Image) (s : StoredWorld) → StandsFor size i s → ((k : ℕ) → k < SPACE_TABLE → j k ≡ i k) → ((k : ℕ) → PUDDLE_TABLE ≤ k → k < frames_at s.frames → j k ≡ i k)

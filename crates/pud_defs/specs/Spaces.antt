@@ -1,5 +1,5 @@
 -- The log-space table of an image: which clients' logs are registered, and whose they are.
-use Rattle.std.specs.Prelude.{ℕ, zero, suc, ◌+◌, ◌*◌, Bool, true, ◌&&◌, ◌||◌, nat_le, ◌==◌, cond, Option, Some, None, is_some}
+use Rattle.std.specs.Prelude.{◌≡◌, ◌<◌, ℕ, zero, suc, ◌+◌, ◌*◌, Bool, true, ◌&&◌, ◌||◌, nat_le, ◌==◌, cond, Option, Some, None, is_some}
 use Rattle.pud_defs.specs.declared.layout.TheConstants.{SPACE_TABLE, SPACE_RECORD_WORDS, CLIENTS, CLIENT_LOGS, MAX_OWNER_ID}
 use Rattle.pud_defs.specs.declared.log_words.TheConstants.{COMMITTING_HI}
 use Rattle.pud_defs.specs.Image.{Image}
@@ -45,6 +45,12 @@ is_closed_log image at = is_closed_range (image at) && is_some (entries_of image
 -- each log of the client is closed, on a device of so many frames
 abbrev pub has_closed_logs : Image → ℕ → ℕ → Bool
 has_closed_logs image F client = all_below CLIENT_LOGS (λ number. is_closed_log image (log_at F client number))
+
+-- the word is the gate of one of the client's logs
+pub record IsGateOf (F client k : ℕ) : Type 0 where
+  pub number : ℕ
+  pub below : number < CLIENT_LOGS
+  pub is : k ≡ log_at F client number
 
 -- each record of the table is legal
 abbrev pub are_legal_spaces : Image → Bool

@@ -1,19 +1,41 @@
 -- What a line does to the world, and what is answered.
-use Rattle.std.specs.Prelude.{◌≡◌, ℕ, Bool, false, not, ◌&&◌, nat_le, ◌==◌, List, [], ◌∷◌, length, find, Option, Some, None, is_none}
+use Rattle.std.specs.Prelude.{◌≡◌, ℕ, Bool, false, cond, not, ◌&&◌, nat_le, ◌==◌, List, [], ◌∷◌, length, find, Option, Some, None, is_none, is_some}
 use Rattle.pud_defs.specs.declared.layout.TheConstants.{TYPE_RECORDS}
 use Rattle.pud_defs.specs.declared.machine.Command.{Command}
-use Rattle.pud_defs.specs.declared.machine.Command.TheVariants.{Define}
+use Rattle.pud_defs.specs.declared.machine.Command.TheVariants.{Client, Leave, Define, Cut, Arm}
 use Rattle.pud_defs.specs.declared.machine.Reply.{Reply}
 use Rattle.pud_defs.specs.declared.machine.Reply.TheVariants as replies
 use Rattle.pud_defs.specs.declared.machine.Refusal.{Refusal}
 use Rattle.pud_defs.specs.declared.machine.Refusal.TheVariants as refusals
 use Rattle.pud_defs.specs.Types.{map_of, with_type}
-use Rattle.pud_defs.specs.World.{World}
+use Rattle.pud_defs.specs.Spaces.{Owner}
+use Rattle.pud_defs.specs.World.{World, restart}
 use Rattle.pud_defs.specs.Grammar.{command_of}
 
 -- the refusals that a command may meet, in the order in which they are tested
 abbrev pub causes : Command → List Refusal
+causes (Client client uid gid) = refusals.Taken ∷ []
+causes (Leave client) = refusals.Client ∷ []
 causes (Define id map) = refusals.Clash ∷ refusals.Full ∷ []
+causes (Cut pick) = []
+causes (Arm step pick) = []
+
+-- the client that a command names
+abbrev pub client_of : Command → Option ℕ
+client_of (Client client uid gid) = Some client
+client_of (Leave client) = Some client
+client_of (Define id map) = None
+client_of (Cut pick) = None
+client_of (Arm step pick) = None
+
+-- whether the client, where one is named, is present
+abbrev pub is_present : (ℕ → Option Owner) → Option ℕ → Bool
+is_present clients None = false
+is_present clients (Some client) = is_some (clients client)
+
+-- the clients with this one acting as this owner, or gone
+abbrev pub with_client : ℕ → Option Owner → (ℕ → Option Owner) → ℕ → Option Owner
+with_client client owner clients other = cond (other == client) owner (clients other)
 
 abbrev pub is_other : ℕ → Option ℕ → Bool
 is_other map None = false
@@ -27,11 +49,23 @@ is_clash types id map = is_other map (map_of id types)
 abbrev pub is_full : List (ℕ × ℕ) → ℕ → Bool
 is_full types id = is_none (map_of id types) && nat_le TYPE_RECORDS (length types)
 
+-- the type that a command defines is defined with another map
+abbrev pub clashes : List (ℕ × ℕ) → Command → Bool
+clashes types (Define id map) = is_clash types id map
+clashes types _ = false
+
+-- there is no room for what a command adds
+abbrev pub overfills : List (ℕ × ℕ) → Command → Bool
+overfills types (Define id map) = is_full types id
+overfills types _ = false
+
 -- whether the cause holds for the command. `bad` never does: it is said of lines that are no command
 unfoldable pub holds : World → Command → Refusal → Bool
-holds w (Define id map) refusals.Bad = false
-holds w (Define id map) refusals.Clash = is_clash w.stored.types id map
-holds w (Define id map) refusals.Full = is_full w.stored.types id
+holds w c refusals.Bad = false
+holds w c refusals.Client = not (is_present w.clients (client_of c))
+holds w c refusals.Taken = is_present w.clients (client_of c)
+holds w c refusals.Clash = clashes w.stored.types c
+holds w c refusals.Full = overfills w.stored.types c
 
 -- the first cause of the command that holds
 unfoldable pub refusal_of : World → Command → Option Refusal
@@ -39,7 +73,11 @@ refusal_of w c = find (holds w c) (causes c)
 
 -- the world after a command that is not refused
 unfoldable pub after : World → Command → World
+after w (Client client uid gid) = record w { clients = with_client client (Some (record { uid = uid; gid = gid })) w.clients }
+after w (Leave client) = record w { clients = with_client client None w.clients }
 after w (Define id map) = record w { stored = record w.stored { types = with_type id map w.stored.types } }
+after w (Cut pick) = restart w
+after w (Arm step pick) = w
 
 -- the answer
 abbrev pub reply_to : Option Refusal → Reply

@@ -20,6 +20,8 @@ formatted_text = line_of (codes "formatted")
 
 abbrev pub refusal_word : Refusal → List ℕ
 refusal_word refusals.Bad = codes "bad"
+refusal_word refusals.Client = codes "client"
+refusal_word refusals.Taken = codes "taken"
 refusal_word refusals.Clash = codes "clash"
 refusal_word refusals.Full = codes "full"
 

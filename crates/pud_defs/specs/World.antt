@@ -1,10 +1,11 @@
--- The world that lines move: what a device stands for, and the shelf of files beside it.
+-- The world that lines move: what a device stands for, the clients that are present, and the shelf of files beside it.
 use Rattle.std.specs.Prelude.{◌≡◌, ◌<◌, ℕ, cond, List, [], Option, Some, None}
 use Rattle.pud_defs.specs.declared.layout.TheConstants.{DEVICE_MAGIC, VERSION, MAGIC_WORD, VERSION_WORD, MACHINE_WORD, FRAMES_WORD, NEXT_NUMBER_WORD, DAEMON_LOG}
 use Rattle.pud_defs.specs.Layout.{frames_at}
 use Rattle.pud_defs.specs.Image.{Image}
 use Rattle.pud_defs.specs.Replay.{settled_by}
 use Rattle.pud_defs.specs.Types.{types_of}
+use Rattle.pud_defs.specs.Spaces.{Owner}
 use Rattle.pud_defs.specs.Registry.{frames_of, has_legal_log, is_registry}
 
 -- What a device stands for: its number of frames, its machine id, the next UUID number, and the map of each
@@ -27,18 +28,24 @@ registry_world size image = cond (is_registry size image) (Some (stored_by image
 unfoldable pub world_of : ℕ → Image → Option StoredWorld
 world_of size image = cond (has_legal_log image) (registry_world size (settled_by DAEMON_LOG image)) None
 
--- the stored world, and the shelf: which files there are, by the bytes of their names, and what they hold
+-- the stored world; the clients that are present, by their numbers, and as whom each acts; and the shelf: which files
+-- there are, by the bytes of their names, and what they hold
 pub record World : Type 0 where
   pub stored : StoredWorld
+  pub clients : ℕ → Option Owner
   pub shelf : List ℕ → Option (List ℕ)
+
+-- no client is present
+abbrev pub no_clients : ℕ → Option Owner
+no_clients client = None
 
 -- what a device stands for once nothing is under way
 abbrev pub closed : World → StoredWorld
 closed w = w.stored
 
--- the world after a power loss and the start that follows
+-- the world after a power loss and the start that follows: no client is present
 abbrev pub restart : World → World
-restart w = record { stored = closed w; shelf = w.shelf }
+restart w = record { stored = closed w; clients = no_clients; shelf = w.shelf }
 
 -- the world of a device that was just formatted
 abbrev pub blank_world : ℕ → ℕ → StoredWorld

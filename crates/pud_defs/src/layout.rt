@@ -93,6 +93,9 @@ pub const MAX_OWNER_ID: u32 = 65535;
 /// The most fields that a type has.
 pub const MAX_FIELDS: u32 = 30;
 
+/// The last device step, counted from the arming, at which power may be armed to be lost.
+pub const MAX_ARMED_STEP: u32 = 1_000_000;
+
 /// The most bytes that a line has, without its newline.
 pub const LINE_LIMIT: usize = 128;
 

@@ -3,8 +3,16 @@
 /// What a line asks for.
 #[derive(Clone, Copy, Debug, PartialEq, Eq)]
 pub enum Command {
+    /// `client C uid gid`: the client, from 0 to 7, comes and acts as this owner and this group, from 0 to 65,535.
+    Client { client: u8, uid: u32, gid: u32 },
+    /// `leave C`: the client, from 0 to 7, goes.
+    Leave { client: u8 },
     /// `type T n list`: the type `t` has the fields and pointers that the map word `map` gives.
     Define { t: u32, map: u64 },
+    /// `cut N`: power is lost at once, and what is left of words that are not durable is chosen by `pick`.
+    Cut { pick: u64 },
+    /// `arm K N`: power is lost in the device step that is number `step` from now on, from 1 to 1,000,000, with this pick.
+    Arm { step: u32, pick: u64 },
 }
 
 /// The answer to a line.
@@ -24,6 +32,10 @@ pub enum Reply {
 pub enum Refusal {
     /// The line is no command.
     Bad,
+    /// The client is not present.
+    Client,
+    /// The client is present.
+    Taken,
     /// The type is defined with another map.
     Clash,
     /// So many others are there that no further one fits.

@@ -1,7 +1,9 @@
 -- A script is answered line by line.
 use Rattle.std.proofs.Common.{◌≡◌, ℕ, zero, suc, ◌+◌, ◌<◌, ◌≤◌, Bool, true, false, List, [], ◌∷◌, ◌++◌, length, map, take, Option, Some, None, Result, inl, inr, refl, sym, ap, subst, ◌∙◌, arith, append_assoc, length-append}
 use Rattle.std.proofs.lemmas.List.{append-nil, map-append}
-use Rattle.pm_model.specs.Counts.{Counts}
+use Rattle.pm_model.specs.declared.host.HostFault.{HostFault}
+use Rattle.pm_model.specs.declared.host.HostFault.TheVariants as hosts
+use Rattle.pm_model.specs.Counts.{Counts, after_fault}
 use Rattle.pm_model.specs.Words.{Image}
 use Rattle.pm_model.specs.Moments.{State, with_script}
 use Rattle.pm_model.specs.Calls.{TakesByte}
@@ -12,7 +14,7 @@ use Rattle.pud_defs.specs.declared.machine.Command.{Command}
 use Rattle.pud_defs.specs.World.{World}
 use Rattle.pud_defs.specs.Grammar.{command_of}
 use Rattle.pud_defs.specs.Step.{reply_to, refusal_by, world_by}
-use Rattle.pud_defs.specs.Run.{Turn, IsTurn, IsRun, last_world, newlines, open_rest, lines_taken, lines_among}
+use Rattle.pud_defs.specs.Run.{Turn, IsTurn, cuts_of, IsRun, last_world, newlines, open_rest, lines_taken, lines_among}
 use Rattle.pud_defs.specs.Texts.{reply_text, replies_text}
 use Rattle.pud_defs.specs.Stands.{StandsWith}
 use Rattle.pud_defs.proofs.Commands.{command_of-front}
@@ -22,10 +24,10 @@ use Rattle.pud_defs.proofs.Said.{replies_text-append}
 use Rattle.pud_defs.proofs.Stands.{StandsAfter-more, StandsWith-later}
 use Rattle.puddled.specs.declared.daemon.RunFault.{RunFault}
 use Rattle.puddled.specs.declared.daemon.RunFault.TheVariants.{NotSound}
-use Rattle.puddled.specs.Faults.{run_fault, CountsTurns, IsCounted}
-use Rattle.puddled.proofs.Counted.{none_is_sound, counted_nothing, CountsTurns-one, CountsTurns-append}
+use Rattle.puddled.specs.Faults.{of_host, run_fault, CountsLine, CountsTurns}
+use Rattle.puddled.proofs.Counted.{none_is_sound, CountsTurns-one, CountsTurns-append}
 use Rattle.puddled.specs.Daemon.{KeepsRest, IsReady, SaysPart, Answers}
-use Rattle.puddle_cli.specs.Serving.{Takes, TakesAtMost, TakesAll, AnswersLine, Serves, Answered}
+use Rattle.puddle_cli.specs.Serving.{Takes, TakesAtMost, TakesAll, CountsPending, AnswersLine, Serves, Answered}
 
 nothing_from_take : (line : List ℕ) → take 129 line ≡ [] → line ≡ []
 nothing_from_take [] e = refl
@@ -75,6 +77,8 @@ pub AnswersLine-turn : (size : ℕ) (w : World) (piece line : List ℕ) (result 
 unfolding relined
 AnswersLine-turn size w piece line result before after old new some kept a =
     let t = relined a.turn line in
+    let counts : CountsLine (command_of line) (run_fault result) (cuts_of (t ∷ [])) before after =
+    subst (λ (c : Option Command). CountsLine c (run_fault result) (cuts_of (t ∷ [])) before after) (ap command_of kept ∙ command_of-front line) a.counted in
     let longer : length line ≡ 0 → ⊥ = λ none. some (kept ∙ ap (λ (l : List ℕ). take 129 l) (nothing_long line none)) in
     record {
       turns = t ∷ [];
@@ -84,8 +88,8 @@ AnswersLine-turn size w piece line result before after old new some kept a =
       moments = a.moments;
       says = subst (λ (text : List ℕ). SaysPart text (run_fault result) old new) (sym (append-nil (reply_text a.turn.reply))) a.says;
       ready = a.ready;
-      counted = a.counted;
-      turns_counted = λ none. CountsTurns-one t before after (run_fault result) none a.counted;
+      counted = counts;
+      turns_counted = λ none. CountsTurns-one t before after (run_fault result) none counts;
       sound = a.sound;
       script = a.script;
     }
@@ -102,11 +106,16 @@ AnswersLine-nothing size w line before after old new ready none uncounted same =
       moments = Leaves-still (StandsWith size w []) old old (λ image picked. ready.stands image picked) refl;
       says = record { bytes = []; rest = []; part = refl; said = sym (append-nil old.now.said); whole = λ _. refl };
       ready = λ _. ready;
-      counted = counted_nothing before after uncounted;
+      counted = (λ lost. cc, uncounted);
       turns_counted = λ _. uncounted;
       sound = none_is_sound;
       script = refl;
     })
+
+-- the host failed as it was read
+pub counts_nothing_more : (fault : HostFault) (before after : Counts) → after ≡ after_fault (Some fault) before → (Some fault ≡ Some hosts.Cut → ⊥) → CountsPending [] (Some (of_host fault)) before after
+counts_nothing_more hosts.Failed before after last never_cut = (λ lost. cc, last)
+counts_nothing_more hosts.Cut before after last never_cut = absurd (never_cut refl)
 
 -- reading adds no moment
 Leaves-script : (P : List ℕ → Image → Type 0) (bytes : List ℕ) (start now : State) → Leaves P start now → Leaves P start (with_script bytes now)
@@ -202,7 +211,7 @@ module _ (size : ℕ) (w : World) (before : Counts) (start : State) (counts : Co
         ready = λ _. subst (λ (v : World). IsReady size v new) (sym (last_world-append w s.turns a.turns)) (a.ready refl);
         mid = after;
         turns_counted = CountsTurns-append s.turns a.turns before read_counts after so_far_counted (a.turns_counted refl);
-        counted = counted_nothing after after refl;
+        counted = (λ lost. cc, refl);
         sound = none_is_sound;
       }
 
@@ -248,7 +257,7 @@ module _ (size : ℕ) (w : World) (before : Counts) (start : State) (counts : Co
       a (λ none. let no : Some fault ≡ None = none in cc)
 
   -- nothing more was taken or said
-  pub Answered-so_far : (fault : Option RunFault) (after : Counts) → read ≡ now → IsCounted fault 0 read_counts after → (fault ≡ Some NotSound → ⊥) → Answered size w false fault before after start read
+  pub Answered-so_far : (fault : Option RunFault) (after : Counts) → read ≡ now → CountsPending [] fault read_counts after → (fault ≡ Some NotSound → ⊥) → Answered size w false fault before after start read
   Answered-so_far fault after same last is_sound =
       subst (λ (n : State). Answered size w false fault before after start n) (sym same) (record {
         taken = s.taken;

@@ -9,7 +9,9 @@ use Rattle.pm_model.specs.Words.{Image, IsRested, reads}
 use Rattle.pm_model.specs.Moments.{State}
 use Rattle.pm_model.specs.Changes.{Leaves}
 use Rattle.pm_model.proofs.Leaves.{Leaves-then, Leaves-weaker, Leaves-each}
-use Rattle.pud_defs.specs.World.{World, world_of, closed}
+use Rattle.pud_defs.specs.Grammar.{command_of}
+use Rattle.pud_defs.specs.Spaces.{Owner}
+use Rattle.pud_defs.specs.World.{World, no_clients, world_of, closed, restart}
 use Rattle.pud_defs.specs.Run.{Turn, cuts_of, newlines}
 use Rattle.pud_defs.specs.Texts.{start_text, replies_text}
 use Rattle.pud_defs.specs.Stands.{StandsWith, StandsBehindStart}
@@ -17,27 +19,48 @@ use Rattle.pud_defs.proofs.Lines.{newlines-append, newlines_part, lines_taken-no
 use Rattle.pud_defs.proofs.Said.{newlines-start_text}
 use Rattle.puddled.specs.declared.daemon.RunFault.{RunFault}
 use Rattle.puddled.specs.declared.daemon.RunFault.TheVariants as faults
-use Rattle.puddled.specs.Faults.{RoseBy, CountsTurns, IsCounted}
-use Rattle.puddled.proofs.Counted.{IsCounted-then, CountsTurns-cuts, RoseBy-fewer, rose_of_counted, rose_with_losses, cuts_after_fault}
+use Rattle.puddled.specs.Faults.{RoseBy, last_fault, is_loss, CountsTurns}
+use Rattle.puddled.proofs.Counted.{risen_by-least, RoseBy-then, CountsTurns-cuts, rose_in_line, lost_in_line, lost_in_restart, cuts_after_fault}
 use Rattle.puddled.specs.Daemon.{Starts}
 use Rattle.puddle_cli.specs.declared.status.TheConstants.{DONE, POWER_LOST, TOO_LONG}
 use Rattle.puddle_cli.specs.Status.{status_fault, run_fault_at, IsStatusOfMode}
-use Rattle.puddle_cli.specs.Serving.{Answered}
+use Rattle.puddle_cli.specs.Serving.{CountsPending, Answered}
 use Rattle.puddle_cli.specs.Headline.{Headline}
 use Rattle.puddle_cli.proofs.Statuses.{not_whole_of}
 
--- the counts of all lines, and of what ended the run
-all_counted : (fault : Option RunFault) (answered : List Turn) (n : ℕ) (before mid after : Counts) → CountsTurns answered before mid → IsCounted fault n mid after
-    → IsCounted fault (n + cuts_of answered) before after
-all_counted fault answered n before mid after turns last = IsCounted-then fault (cuts_of answered) n before mid after (CountsTurns-cuts answered before mid turns) last
+-- ---- the counts of all lines, and of what ended the run
 
-rose_at_least : (fault : Option RunFault) (n k : ℕ) (before after : Counts) → IsCounted fault (n + k) before after → RoseBy k before.cuts after.cuts
-rose_at_least fault n k before after c = RoseBy-fewer n k before.cuts after.cuts (rose_of_counted fault (n + k) before after c)
+rose_pending : (pending : List Turn) (fault : Option RunFault) (a b : Counts) → CountsPending pending fault a b → a.cuts ≤ b.cuts
+rose_pending [] fault a b c =
+    let later = cuts_after_fault (last_fault fault) a in
+    let e : b.cuts ≡ (after_fault (last_fault fault) a).cuts = ap (λ (x : Counts). x.cuts) c.1 in
+    omega arith
+rose_pending (t ∷ turns) fault a b c =
+    let rose = rose_in_line (command_of t.line) fault (cuts_of (t ∷ [])) a b c in
+    let least = risen_by-least (cuts_of (t ∷ [])) a.cuts in
+    omega arith
 
-rose_in_start : (n k : ℕ) (before after : Counts) → IsCounted (Some faults.CutInStart) (n + k) before after → RoseBy (2 + k) before.cuts after.cuts
-rose_in_start n k before after c =
-    let more : 2 + (n + k) ≡ n + (2 + k) = omega arith in
-    RoseBy-fewer n (2 + k) before.cuts after.cuts (subst (λ (x : ℕ). RoseBy x before.cuts after.cuts) more (rose_with_losses (Some faults.CutInStart) (n + k) before after c))
+lost_pending : (pending : List Turn) (a b : Counts) → CountsPending pending (Some faults.CutInStart) a b → RoseBy 1 a.cuts b.cuts
+lost_pending [] a b c = absurd (c.0 refl)
+lost_pending (t ∷ turns) a b c = lost_in_restart (command_of t.line) (cuts_of (t ∷ [])) a b c
+
+module _ (answered pending : List Turn) (fault : Option RunFault) (before mid after : Counts) (turns : CountsTurns answered before mid) (last : CountsPending pending fault mid after) where
+  rose_in_all : RoseBy (cuts_of answered) before.cuts after.cuts
+  rose_in_all =
+      let first = CountsTurns-cuts answered before mid turns in
+      let later = rose_pending pending fault mid after last in
+      omega arith
+
+  rose_at_end : fault ≡ Some faults.CutInStart → RoseBy (1 + cuts_of answered) before.cuts after.cuts
+  rose_at_end lost =
+      RoseBy-then (cuts_of answered) 1 before.cuts mid.cuts after.cuts (CountsTurns-cuts answered before mid turns)
+      (lost_pending pending mid after (subst (λ (f : Option RunFault). CountsPending pending f mid after) lost last))
+
+  rose_twice_at_end : fault ≡ Some faults.CutInStart → (t : Turn) → pending ≡ t ∷ [] → is_loss (command_of t.line) ≡ false → RoseBy (2 + cuts_of answered) before.cuts after.cuts
+  rose_twice_at_end lost t is other =
+      RoseBy-then (cuts_of answered) 2 before.cuts mid.cuts after.cuts (CountsTurns-cuts answered before mid turns)
+      (lost_in_line (command_of t.line) (cuts_of (t ∷ [])) mid after other
+      (subst (λ (p : List Turn). CountsPending p (Some faults.CutInStart) mid after) is (subst (λ (f : Option RunFault). CountsPending pending f mid after) lost last)))
 
 -- a rested device whose words stand for the world is one to start on
 module _ (size : ℕ) (w : World) (start : State) (rested : IsRested start.now.words) (stands : world_of size (reads start.now.words) ≡ Some (closed w)) where
@@ -87,7 +110,7 @@ module _ (size : ℕ) (w : World) (start : State) (rested : IsRested start.now.w
         cuts_in_start = λ lost.
             let cut : Some fault ≡ Some hosts.Cut = sym is ∙ ap status_fault lost in
             subst (λ (x : Counts). risen before.cuts ≤ x.cuts) (sym (last ∙ ap (λ (f : Option HostFault). after_fault f before) cut)) (omega arith);
-        cuts_in_line = λ lost some. absurd (some refl);
+        cuts_in_line = λ lost t no. absurd (let it : [] ≡ t ∷ [] = no in cc);
       }
 
   said_behind : (mid now : State) (replies more : List ℕ) → mid.now.said ≡ start.now.said ++ start_text → now.now.said ≡ mid.now.said ++ replies ++ more
@@ -106,10 +129,7 @@ module _ (size : ℕ) (w : World) (start : State) (rested : IsRested start.now.w
       → run_fault_at status ≡ fault → (status ≡ DONE → ended ≡ true) → (status ≡ TOO_LONG → ended ≡ false)
       → Answered size w ended fault before after mid now → Headline size w status before after start now
   Headline-behind_start status ended fault before after mid now shelf s kept is done too_long a =
-      let all = all_counted fault a.answered (cuts_of a.pending) before a.mid after a.turns_counted a.counted in
-      let twice : status ≡ POWER_LOST → RoseBy (2 + cuts_of a.answered) before.cuts after.cuts = λ lost.
-      let cut : fault ≡ Some faults.CutInStart = sym is ∙ ap run_fault_at lost in
-      rose_in_start (cuts_of a.pending) (cuts_of a.answered) before after (subst (λ (f : Option RunFault). IsCounted f (cuts_of a.pending + cuts_of a.answered) before after) cut all) in
+      let cut : status ≡ POWER_LOST → fault ≡ Some faults.CutInStart = λ lost. sym is ∙ ap run_fault_at lost in
       let first : mid.now.said ≡ start.now.said ++ start_text =
       s.says.said ∙ ap (λ (l : List ℕ). start.now.said ++ l) (sym (s.says.part ∙ ap (λ (l : List ℕ). s.says.bytes ++ l) (s.says.whole refl) ∙ append-nil s.says.bytes)) in
       record {
@@ -125,7 +145,7 @@ module _ (size : ℕ) (w : World) (start : State) (rested : IsRested start.now.w
         bytes = start_text ++ replies_text a.answered ++ a.more;
         said = said_behind mid now (replies_text a.answered) a.more first a.said;
         mid = a.mid;
-        how_far = inr (record { more = a.more; rest = a.rest; said = refl; part = a.part; counted = subst (λ (f : Option RunFault). IsCounted f (cuts_of a.pending) a.mid after) (sym is) a.counted });
+        how_far = inr (record { more = a.more; rest = a.rest; said = refl; part = a.part; counted = subst (λ (f : Option RunFault). CountsPending a.pending f a.mid after) (sym is) a.counted });
         whole = λ none.
             let nothing = a.whole (sym is ∙ none) in
             let no_more = nothing_more a.more a.rest (ap replies_text (sym nothing) ∙ a.part) in
@@ -141,7 +161,11 @@ module _ (size : ℕ) (w : World) (start : State) (rested : IsRested start.now.w
             (sym (newlines-append start_text more ∙ ap (λ (n : ℕ). n + newlines more) newlines-start_text ∙ one-add (newlines more))) p)
             (start_moments (a.answered ++ a.pending) None mid s) a.moments);
         turns_counted = a.turns_counted;
-        cuts = rose_at_least fault (cuts_of a.pending) (cuts_of a.answered) before after all;
-        cuts_in_start = λ lost. RoseBy-fewer 1 (1 + cuts_of a.answered) before.cuts after.cuts (let two : 2 + cuts_of a.answered ≡ 1 + (1 + cuts_of a.answered) = omega arith in subst (λ (n : ℕ). RoseBy n before.cuts after.cuts) two (twice lost));
-        cuts_in_line = λ lost some. twice lost;
+        cuts = rose_in_all a.answered a.pending fault before a.mid after a.turns_counted a.counted;
+        cuts_in_start = λ lost. rose_at_end a.answered a.pending fault before a.mid after a.turns_counted a.counted (cut lost);
+        cuts_in_line = λ lost. rose_twice_at_end a.answered a.pending fault before a.mid after a.turns_counted a.counted (cut lost);
       }
+
+-- a world without clients is as a start leaves it
+pub is_started : (w : World) → w.clients ≡ no_clients → restart w ≡ w
+is_started w none = ap (λ (c : ℕ → Option Owner). record w { clients = c }) (sym none)

@@ -7,41 +7,38 @@ use Rattle.pud_defs.specs.Image.{Image}
 use Rattle.pud_defs.specs.World.{StoredWorld, world_of}
 use Rattle.puddled.specs.declared.daemon.RunFault.{RunFault}
 use Rattle.puddled.specs.declared.daemon.RunFault.TheVariants as faults
-use Rattle.puddled.specs.Faults.{CountsCuts, IsCounted}
-use Rattle.puddled.proofs.Counted.{RoseBy-fewer, rose_with_losses, risen_least}
+use Rattle.puddled.specs.Faults.{Grows, Ends}
+use Rattle.puddled.proofs.Counted.{Grows-still, risen_least}
 use Rattle.puddle_cli.specs.declared.status.TheConstants.{DONE, NOT_USABLE, DEVICE_FAULT, POWER_LOST, TOO_LONG}
 use Rattle.puddle_cli.specs.Status.{status_fault, run_fault_at, status_at, IsStatusOfMode, Causes}
 
 module _ (old new : Counts) where
-  -- nothing but power losses was counted
-  pub Causes-cuts : (status : ℕ) → (status ≡ DEVICE_FAULT → ⊥) → (status ≡ POWER_LOST → Rose old.cuts new.cuts) → CountsCuts 0 old new → Causes status old new
-  Causes-cuts status no_fault lost c =
-      let same : new.faults ≡ old.faults = ap (λ (x : Counts). x.faults) c.others in
-      record {
-        faults = λ e. absurd (no_fault e);
-        no_faults = λ _. same;
-        cuts = lost;
-        kept = c.cuts;
-        others = c.others ∙ ap (λ (n : ℕ). record old { faults = n; cuts = new.cuts }) (sym same);
-      }
+  -- lines went on
+  pub Causes-grows : (status : ℕ) → (status ≡ DEVICE_FAULT → ⊥) → (status ≡ POWER_LOST → Rose old.cuts new.cuts) → Grows old new → Causes status old new
+  Causes-grows status no_fault lost g =
+      record { faults = λ e. absurd (no_fault e); no_faults = λ _. g.faults; cuts = lost; kept = g.cuts; arms = g.arms; losses = g.losses; size = g.size }
 
   -- nothing was counted
   pub Causes-nothing : (status : ℕ) → (status ≡ DEVICE_FAULT → ⊥) → (status ≡ POWER_LOST → ⊥) → new ≡ old → Causes status old new
-  Causes-nothing status no_fault no_cut same =
-      Causes-cuts status no_fault (λ e. absurd (no_cut e)) (subst (λ (x : Counts). CountsCuts 0 old x) (sym same) (record { others = refl; cuts = omega arith }))
+  Causes-nothing status no_fault no_cut same = Causes-grows status no_fault (λ e. absurd (no_cut e)) (Grows-still old new same)
 
-  Causes-failed : (mid : Counts) → CountsCuts 0 old mid → new ≡ after_fault (Some hosts.Failed) mid → Causes DEVICE_FAULT old new
-  Causes-failed mid c last =
+  Causes-failed : (mid : Counts) → Grows old mid → new ≡ after_fault (Some hosts.Failed) mid → Causes DEVICE_FAULT old new
+  Causes-failed mid g last =
+      let rose : new.faults ≡ risen old.faults = ap (λ (x : Counts). x.faults) last ∙ ap risen g.faults in
       let cuts : new.cuts ≡ mid.cuts = ap (λ (x : Counts). x.cuts) last in
-      let rose : new.faults ≡ risen old.faults = ap (λ (x : Counts). x.faults) last ∙ ap (λ (x : Counts). risen x.faults) c.others in
-      let before = c.cuts in
+      let arms : new.arms ≡ mid.arms = ap (λ (x : Counts). x.arms) last in
+      let losses : new.losses ≡ mid.losses = ap (λ (x : Counts). x.losses) last in
+      let more_cuts = g.cuts in
+      let more_arms = g.arms in
+      let more_losses = g.losses in
       record {
         faults = λ _. omega arith;
         no_faults = λ no. absurd (no refl);
         cuts = λ e. absurd (let no : DEVICE_FAULT ≡ POWER_LOST = e in cc);
         kept = omega arith;
-        others = last ∙ ap (λ (x : Counts). after_fault (Some hosts.Failed) x) c.others
-            ∙ ap (λ (n : ℕ). record old { faults = n; cuts = mid.cuts }) (sym rose) ∙ ap (λ (n : ℕ). record old { faults = new.faults; cuts = n }) (sym cuts);
+        arms = omega arith;
+        losses = omega arith;
+        size = ap (λ (x : Counts). x.size) last ∙ g.size;
       }
 
   -- a mode without lines
@@ -51,33 +48,39 @@ module _ (old new : Counts) where
   Causes-after status (inr (inl refused)) e =
       Causes-nothing status (λ f. let no : NOT_USABLE ≡ DEVICE_FAULT = sym refused ∙ f in cc) (λ f. let no : NOT_USABLE ≡ POWER_LOST = sym refused ∙ f in cc) (e ∙ ap (λ (s : ℕ). after_fault (status_fault s) old) refused)
   Causes-after status (inr (inr (inl failed))) e =
-      subst (λ (s : ℕ). Causes s old new) (sym failed) (Causes-failed old (record { others = refl; cuts = omega arith }) (e ∙ ap (λ (s : ℕ). after_fault (status_fault s) old) failed))
+      subst (λ (s : ℕ). Causes s old new) (sym failed) (Causes-failed old (Grows-still old old refl) (e ∙ ap (λ (s : ℕ). after_fault (status_fault s) old) failed))
   Causes-after status (inr (inr (inr (inl cut)))) e =
       let last : new ≡ after_fault (Some hosts.Cut) old = e ∙ ap (λ (s : ℕ). after_fault (status_fault s) old) cut in
       let rose : new.cuts ≡ risen old.cuts = ap (λ (x : Counts). x.cuts) last in
+      let arms : new.arms ≡ old.arms = ap (λ (x : Counts). x.arms) last in
+      let losses : new.losses ≡ old.losses = ap (λ (x : Counts). x.losses) last in
       let least = risen_least old.cuts in
-      Causes-cuts status (λ f. let no : POWER_LOST ≡ DEVICE_FAULT = sym cut ∙ f in cc) (λ _. omega arith)
-      (record { others = last ∙ ap (λ (n : ℕ). record old { cuts = n }) (sym rose); cuts = omega arith })
+      Causes-grows status (λ f. let no : POWER_LOST ≡ DEVICE_FAULT = sym cut ∙ f in cc) (λ _. omega arith)
+      (record { size = ap (λ (x : Counts). x.size) last; faults = ap (λ (x : Counts). x.faults) last; cuts = omega arith; arms = omega arith; losses = omega arith })
   Causes-after status (inr (inr (inr (inr long)))) e =
       Causes-nothing status (λ f. let no : TOO_LONG ≡ DEVICE_FAULT = sym long ∙ f in cc) (λ f. let no : TOO_LONG ≡ POWER_LOST = sym long ∙ f in cc) (e ∙ ap (λ (s : ℕ). after_fault (status_fault s) old) long)
 
   -- a run that could not go on
-  pub Causes-run : (fault : RunFault) → IsCounted (Some fault) 0 old new → Causes (status_at fault) old new
-  Causes-run faults.Failed c = Causes-failed c.before c.lost c.last
+  pub Causes-run : (fault : RunFault) → Ends (Some fault) old new → Causes (status_at fault) old new
+  Causes-run faults.Failed c = Causes-failed c.before c.grows c.last
   Causes-run faults.CutInStart c =
-      let lost = subst (λ (x : Counts). CountsCuts 2 old x) (sym c.last) c.lost in
-      Causes-cuts POWER_LOST (λ f. let no : POWER_LOST ≡ DEVICE_FAULT = f in cc) (λ _. RoseBy-fewer 1 1 old.cuts new.cuts lost.cuts)
-      (record { others = lost.others; cuts = RoseBy-fewer 2 0 old.cuts new.cuts lost.cuts })
+      let cuts : new.cuts ≡ c.before.cuts = ap (λ (x : Counts). x.cuts) c.last in
+      let rose = c.lost in
+      Causes-grows POWER_LOST (λ f. let no : POWER_LOST ≡ DEVICE_FAULT = f in cc) (λ _. omega arith) (subst (λ (x : Counts). Grows old x) (sym c.last) c.grows)
   Causes-run faults.NotSound c =
-      let lost = subst (λ (x : Counts). CountsCuts 1 old x) (sym c.last) c.lost in
-      Causes-cuts NOT_USABLE (λ f. let no : NOT_USABLE ≡ DEVICE_FAULT = f in cc) (λ f. absurd (let no : NOT_USABLE ≡ POWER_LOST = f in cc))
-      (record { others = lost.others; cuts = RoseBy-fewer 1 0 old.cuts new.cuts lost.cuts })
+      Causes-grows NOT_USABLE (λ f. let no : NOT_USABLE ≡ DEVICE_FAULT = f in cc) (λ f. absurd (let no : NOT_USABLE ≡ POWER_LOST = f in cc)) (subst (λ (x : Counts). Grows old x) (sym c.last) c.grows)
 
-  -- where neither count rose a run goes on
-  pub goes_on : (Rose old.faults new.faults → ⊥) → (Rose old.cuts new.cuts → ⊥) → (fault : RunFault) → IsCounted (Some fault) 0 old new → ⊥
-  goes_on no_fault no_cut faults.Failed c = no_fault ((Causes-run faults.Failed c).faults refl)
-  goes_on no_fault no_cut faults.CutInStart c = no_cut ((Causes-run faults.CutInStart c).cuts refl)
-  goes_on no_fault no_cut faults.NotSound c = no_cut (rose_with_losses (Some faults.NotSound) 0 old new c)
+  -- where neither count rose, and the device stays sound, a run goes on
+  pub goes_on : (Rose old.faults new.faults → ⊥) → (Rose old.cuts new.cuts → ⊥) → (fault : RunFault) → Ends (Some fault) old new → (Some fault ≡ Some faults.NotSound → ⊥) → ⊥
+  goes_on no_fault no_cut faults.Failed c sound = no_fault ((Causes-run faults.Failed c).faults refl)
+  goes_on no_fault no_cut faults.CutInStart c sound = no_cut ((Causes-run faults.CutInStart c).cuts refl)
+  goes_on no_fault no_cut faults.NotSound c sound = sound refl
+
+-- a run from a device that stands for a world is never told that it is not sound
+pub stays_sound : (size : ℕ) (image : Image) (world : Option StoredWorld) → world_of size image ≡ world → (world_of size image ≡ None → ⊥) → (fault : RunFault)
+    → ((s : StoredWorld) → world_of size image ≡ Some s → Some fault ≡ Some faults.NotSound → ⊥) → Some fault ≡ Some faults.NotSound → ⊥
+stays_sound size image None e some fault sound is = some e
+stays_sound size image (Some s) e some fault sound is = sound s e is
 
 -- a run that could not go on says that the device is not usable only where it is not sound
 pub usable_by : (size : ℕ) (image : Image) (world : Option StoredWorld) → world_of size image ≡ world → (fault : RunFault)

@@ -1,17 +1,19 @@
 -- What the program says and leaves over a script, for one and the same run of the machine.
-use Rattle.std.specs.Prelude.{◌≡◌, ◌⊎◌, ℕ, ◌+◌, ◌<◌, ◌≤◌, Bool, true, false, List, [], ◌++◌, length, map, Some, None}
+use Rattle.std.specs.Prelude.{◌≡◌, ◌⊎◌, ℕ, ◌+◌, ◌<◌, ◌≤◌, Bool, true, false, List, [], ◌∷◌, ◌++◌, length, map, Some, None}
 use Rattle.pm_model.specs.Words.{Picks}
 use Rattle.pm_model.specs.Counts.{Counts, after_fault}
 use Rattle.pm_model.specs.Moments.{State, MayLeave}
 use Rattle.pud_defs.specs.declared.layout.TheConstants.{SCRIPT_LIMIT}
 use Rattle.pud_defs.specs.Image.{Image}
 use Rattle.pud_defs.specs.World.{World, world_of, closed}
+use Rattle.pud_defs.specs.Grammar.{command_of}
 use Rattle.pud_defs.specs.Run.{Turn, cuts_of, IsRun, last_world, lines_taken, newlines}
 use Rattle.pud_defs.specs.Texts.{start_text, replies_text}
 use Rattle.pud_defs.specs.Stands.{StandsBehindStart}
 use Rattle.puddle_cli.specs.declared.status.TheConstants.{DONE, POWER_LOST, TOO_LONG}
-use Rattle.puddled.specs.Faults.{RoseBy, CountsTurns, IsCounted}
+use Rattle.puddled.specs.Faults.{RoseBy, is_loss, CountsTurns}
 use Rattle.puddle_cli.specs.Status.{status_fault, run_fault_at}
+use Rattle.puddle_cli.specs.Serving.{CountsPending}
 
 -- Bytes of the script were taken: all of them at status 0, and 2^20 at status 7.
 pub record TakesScript (status : ℕ) (start end : State) : Type 0 where
@@ -23,8 +25,8 @@ pub record TakesScript (status : ℕ) (start end : State) : Type 0 where
   pub shelf : end.shelf ≡ start.shelf
 
 -- Within the start, in which the host failed or power was lost, some bytes of the start text were said and nothing was taken. Behind it the
--- start text, the replies to the lines answered and a part of the reply to the line under way were said; there power was lost in each line
--- whose reply is `cut`, and at status 6 twice more, in the line that has no reply and in the restart behind it.
+-- start text, the replies to the lines answered and a part of the reply to the line under way were said, and that line is counted by its
+-- command and by how it ended.
 pub record IsInStart (taken : List ℕ) (turns : List Turn) (bytes : List ℕ) (status : ℕ) (before after : Counts) : Type 0 where
   pub nothing_taken : taken ≡ []
   pub no_turns : turns ≡ []
@@ -37,7 +39,7 @@ pub record IsBehindStart (answered pending : List Turn) (bytes : List ℕ) (stat
   pub rest : List ℕ
   pub said : bytes ≡ start_text ++ replies_text answered ++ more
   pub part : replies_text pending ≡ more ++ rest
-  pub counted : IsCounted (run_fault_at status) (cuts_of pending) mid after
+  pub counted : CountsPending pending (run_fault_at status) mid after
 
 -- The exit and the moments of one run over a script, from a device whose images all stand for the stored world of w.
 pub record Headline (size : ℕ) (w : World) (status : ℕ) (before after : Counts) (start end : State) : Type 0 where
@@ -65,8 +67,10 @@ pub record Headline (size : ℕ) (w : World) (status : ℕ) (before after : Coun
   pub shelf_of_run : run_fault_at status ≡ None → end.shelf ≡ (last_world w answered).shelf
   -- at every moment: an image that may have been left since the start of the call, together with the bytes said since then
   pub moments : (said : List ℕ) (image : Image) → MayLeave start end said image → StandsBehindStart size w (answered ++ pending) (newlines said) image
-  -- power was lost in each line whose reply is `cut`; at status 6 once more, and twice more where a line was left without a reply
+  -- each line answered is counted by its command and its reply: only there a cut is armed, or power lost at once, and no such line is answered
+  -- `cut`. Power was lost in each line whose reply is `cut`, at status 6 once more, and twice more where a line that asks for no power loss was
+  -- left without a reply
   pub turns_counted : CountsTurns answered before mid
   pub cuts : RoseBy (cuts_of answered) before.cuts after.cuts
   pub cuts_in_start : status ≡ POWER_LOST → RoseBy (1 + cuts_of answered) before.cuts after.cuts
-  pub cuts_in_line : status ≡ POWER_LOST → (pending ≡ [] → ⊥) → RoseBy (2 + cuts_of answered) before.cuts after.cuts
+  pub cuts_in_line : status ≡ POWER_LOST → (t : Turn) → pending ≡ t ∷ [] → is_loss (command_of t.line) ≡ false → RoseBy (2 + cuts_of answered) before.cuts after.cuts

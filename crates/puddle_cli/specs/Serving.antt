@@ -1,16 +1,17 @@
 -- How far a script was answered.
 use Rattle.std.specs.Prelude.{◌≡◌, ◌≢◌, ℕ, ◌+◌, ◌<◌, ◌≤◌, Bool, true, false, List, [], ◌∷◌, ◌++◌, length, map, take, Option, Some, None, Result, Ok, Err}
-use Rattle.pm_model.specs.Counts.{Counts}
+use Rattle.pm_model.specs.Counts.{Counts, after_fault}
 use Rattle.pm_model.specs.Moments.{State}
 use Rattle.pm_model.specs.Changes.{Leaves}
 use Rattle.pud_defs.specs.declared.layout.TheConstants.{SCRIPT_LIMIT}
 use Rattle.pud_defs.specs.World.{World}
+use Rattle.pud_defs.specs.Grammar.{command_of}
 use Rattle.pud_defs.specs.Run.{Turn, cuts_of, IsRun, last_world, open_rest, lines_taken, lines_among}
 use Rattle.pud_defs.specs.Texts.{replies_text}
 use Rattle.pud_defs.specs.Stands.{StandsWith}
 use Rattle.puddled.specs.declared.daemon.RunFault.{RunFault}
-use Rattle.puddled.specs.declared.daemon.RunFault.TheVariants.{NotSound}
-use Rattle.puddled.specs.Faults.{CountsTurns, IsCounted}
+use Rattle.puddled.specs.declared.daemon.RunFault.TheVariants.{CutInStart, NotSound}
+use Rattle.puddled.specs.Faults.{last_fault, CountsLine, CountsTurns}
 use Rattle.puddled.specs.Daemon.{IsReady, SaysPart}
 
 -- so many bytes of the script were taken
@@ -47,6 +48,11 @@ TakesOne (Ok true) count start now = Takes (count + 1) start now
 TakesOne (Ok false) count start now = Takes count start now
 TakesOne (Err fault) count start now = TakesAtMost (count + 1) start now
 
+-- what a host counts of the line under way, where there is one, up to its end
+abbrev pub CountsPending : List Turn → Option RunFault → Counts → Counts → Type 0
+CountsPending [] fault old new = (fault ≢ Some CutInStart) × (new ≡ after_fault (last_fault fault) old)
+CountsPending (t ∷ turns) fault old new = CountsLine (command_of t.line) fault (cuts_of (t ∷ [])) old new
+
 -- A line was answered: by no turn where it is empty, else by one turn of the machine, whose reply is said whole without a fault.
 pub record AnswersLine (size : ℕ) (w : World) (line : List ℕ) (fault : Option RunFault) (before after : Counts) (old new : State) : Type 0 where
   pub turns : List Turn
@@ -56,7 +62,7 @@ pub record AnswersLine (size : ℕ) (w : World) (line : List ℕ) (fault : Optio
   pub moments : Leaves (StandsWith size w turns) old new
   pub says : SaysPart (replies_text turns) fault old new
   pub ready : fault ≡ None → IsReady size (last_world w turns) new
-  pub counted : IsCounted fault (cuts_of turns) before after
+  pub counted : CountsPending turns fault before after
   pub turns_counted : fault ≡ None → CountsTurns turns before after
   pub sound : fault ≢ Some NotSound
   pub script : new.script ≡ old.script
@@ -76,7 +82,7 @@ pub record Serves (size : ℕ) (w : World) (before : Counts) (start : State) (co
   pub counted : CountsTurns turns before counts
 
 -- The script was answered so far: some lines whole, and at most one more whose reply is not whole. Without a fault there is none such. Up to
--- some counts power was lost in each line whose reply is `cut`, and then the line under way ended so.
+-- some counts each line is counted by its command and its reply, and then the line under way ended so.
 pub record Answered (size : ℕ) (w : World) (ended : Bool) (fault : Option RunFault) (before after : Counts) (start now : State) : Type 0 where
   pub taken : List ℕ
   pub answered : List Turn
@@ -95,7 +101,7 @@ pub record Answered (size : ℕ) (w : World) (ended : Bool) (fault : Option RunF
   pub ready : fault ≡ None → IsReady size (last_world w answered) now
   pub mid : Counts
   pub turns_counted : CountsTurns answered before mid
-  pub counted : IsCounted fault (cuts_of pending) mid after
+  pub counted : CountsPending pending fault mid after
   pub sound : fault ≢ Some NotSound
 
 -- the same by what the call answered: whether the end of the script was read, or why the run cannot go on

@@ -26,10 +26,12 @@ status_at faults.NotSound = NOT_USABLE
 abbrev pub IsStatusOfMode : ℕ → Type 0
 IsStatusOfMode status = (status ≡ DONE) ⊎ (status ≡ NOT_USABLE) ⊎ (status ≡ DEVICE_FAULT) ⊎ (status ≡ POWER_LOST) ⊎ (status ≡ TOO_LONG)
 
--- The count of faults rose at status 5 and stays at every other, the count of cuts rose at status 6 and never falls, and all else stays.
+-- The count of faults rose at status 5 and stays at every other, the count of cuts rose at status 6, no other count falls, and the size stays.
 pub record Causes (status : ℕ) (old new : Counts) : Type 0 where
   pub faults : status ≡ DEVICE_FAULT → Rose old.faults new.faults
   pub no_faults : status ≢ DEVICE_FAULT → new.faults ≡ old.faults
   pub cuts : status ≡ POWER_LOST → Rose old.cuts new.cuts
   pub kept : old.cuts ≤ new.cuts
-  pub others : new ≡ record old { faults = new.faults; cuts = new.cuts }
+  pub arms : old.arms ≤ new.arms
+  pub losses : old.losses ≤ new.losses
+  pub size : new.size ≡ old.size

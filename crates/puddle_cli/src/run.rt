@@ -4,8 +4,8 @@ ghost use Rattle.pm_model.specs.Words.{IsRested, reads};
 ghost use Rattle.pm_model.specs.Moments.{State};
 ghost use Rattle.pm_model.specs.Counts.{Counts, Rose};
 ghost use Rattle.pud_defs.specs.Layout.{device_words};
-ghost use Rattle.pud_defs.specs.World.{World, world_of, closed};
-ghost use Rattle.puddled.specs.Faults.{run_fault, IsCounted};
+ghost use Rattle.pud_defs.specs.World.{World, no_clients, world_of, closed};
+ghost use Rattle.puddled.specs.Faults.{run_fault, Ends};
 ghost use Rattle.puddled.specs.Daemon.{KeepsRest, IsReady};
 ghost use Rattle.puddle_cli.specs.Status.{status_fault, IsStatusOfMode, Causes};
 ghost use Rattle.puddle_cli.specs.Serving.{Takes, TakesOne, TakesBy, AnswersLine, Serves, Answered, AnsweredBy};
@@ -31,7 +31,7 @@ fn answer<H: Host>(
         → AnswersLine size w line (run_fault result) (H.counts h.old) (H.counts h.new) (H.state h.old) (H.state h.new) }
     ensures piece { OnOk result (piece.new ≡ []) }
     ensures rest { H.tells → KeepsRest (H.state h.old) (H.state h.new) }
-    ensures cause { IsCounted (run_fault result) 0 (H.counts h.old) (H.counts h.new) }
+    ensures cause { Ends (run_fault result) (H.counts h.old) (H.counts h.new) }
 {
     if piece.is_empty() {
         return Ok(());
@@ -58,7 +58,7 @@ fn serve_byte<H: Host>(
         → IfErr result (λ fault. Answered size w false (Option.Some fault) before (H.counts h.new) start (H.state h.new)) }
     ensures takes { H.tells → (count : ℕ) → (start : State) → Takes count start (H.state h.old)
         → TakesOne result count start (H.state h.new) }
-    ensures cause { IsCounted (run_fault result) 0 (H.counts h.old) (H.counts h.new) }
+    ensures cause { Ends (run_fault result) (H.counts h.old) (H.counts h.new) }
 {
     match h.read()? {
         None => Ok(false),
@@ -79,7 +79,7 @@ fn serve<H: Host>(alloc: Global, daemon: Daemon, h: &mut H) -> Result<bool, RunF
     ensures answered { H.tells → (size : ℕ) → size ≡ (H.counts h.old).size → (w : World) → IsReady size w (H.state h.old)
         → AnsweredBy size w result (H.counts h.old) (H.counts h.new) (H.state h.old) (H.state h.new) }
     ensures takes { H.tells → TakesBy result (H.state h.old) (H.state h.new) }
-    ensures cause { IsCounted (run_fault result) 0 (H.counts h.old) (H.counts h.new) }
+    ensures cause { Ends (run_fault result) (H.counts h.old) (H.counts h.new) }
 {
     let mut daemon = daemon;
     let mut piece = Piece::new();
@@ -100,11 +100,11 @@ pub fn run<H: Host>(alloc: Global, h: &mut H) -> u8
     ensures not_usable { H.tells → IsRested (H.state h.old).now.words → status_fault result ≡ Option.None
         → (result ≡ NOT_USABLE) ↔ (world_of (H.counts h.old).size (reads (H.state h.old).now.words) ≡ Option.None) }
     ensures unchanged { H.tells → IsRested (H.state h.old).now.words → result ≡ NOT_USABLE → H.state h.new ≡ H.state h.old }
-    ensures completes { H.tells → world_of (H.counts h.old).size (reads (H.state h.old).now.words) ≢ Option.None
+    ensures completes { H.tells → IsRested (H.state h.old).now.words → world_of (H.counts h.old).size (reads (H.state h.old).now.words) ≢ Option.None
         → (Rose (H.counts h.old).faults (H.counts h.new).faults → ⊥) → (Rose (H.counts h.old).cuts (H.counts h.new).cuts → ⊥)
         → (result ≡ DONE) ⊎ (result ≡ TOO_LONG) }
     ensures takes { H.tells → TakesScript result (H.state h.old) (H.state h.new) }
-    ensures headline { H.tells → (w : World) → IsRested (H.state h.old).now.words → (H.state h.old).shelf ≡ w.shelf
+    ensures headline { H.tells → (w : World) → w.clients ≡ no_clients → IsRested (H.state h.old).now.words → (H.state h.old).shelf ≡ w.shelf
         → world_of (H.counts h.old).size (reads (H.state h.old).now.words) ≡ Option.Some (closed w)
         → Headline (H.counts h.old).size w result (H.counts h.old) (H.counts h.new) (H.state h.old) (H.state h.new) }
     ensures cause { Causes result (H.counts h.old) (H.counts h.new) }

@@ -1,5 +1,7 @@
 //! Whole runs over a host in memory.
 
+mod clients;
+
 use crate::status::{DEVICE_FAULT, DONE, NOT_USABLE, POWER_LOST, TOO_LONG, USAGE};
 use crate::top::puddle_main;
 use pm_mem::{MemHost, Plan};

@@ -1,8 +1,8 @@
 //! The top call: all that the program does.
 ghost use Rattle.std.specs.Prelude.{◌≡◌, ◌≢◌, ◌⊎◌, ◌↔◌, ℕ, IsTrue, false, Option, None, Some, map, string_bytes};
 ghost use Rattle.pm_model.specs.Words.{IsRested, reads};
-ghost use Rattle.pm_model.specs.Counts.{Rose};
-ghost use Rattle.pud_defs.specs.World.{World, world_of, closed};
+ghost use Rattle.pm_model.specs.Counts.{Rose, after_fault};
+ghost use Rattle.pud_defs.specs.World.{World, no_clients, world_of, closed};
 ghost use Rattle.puddle_cli.specs.declared.command_line.Mode.TheVariants.{Format, Run};
 ghost use Rattle.puddle_cli.specs.CommandLine.{mode_of};
 ghost use Rattle.puddle_cli.specs.Status.{status_fault, IsStatusOfMode, Causes};
@@ -30,22 +30,24 @@ pub fn puddle_main<H: Host>(alloc: Global, words: &[String], host: &mut H) -> u8
     ensures usage_stays { H.tells → result ≡ USAGE → H.state host.new ≡ H.state host.old }
     ensures status { result ≢ USAGE → IsStatusOfMode result }
 
-    // Of the counts, `faults` rises at 5 and `cuts` at 6, and all else that a host counts stays.
+    // Of the counts, `faults` rises at 5 alone and `cuts` at 6, and none falls. But for lines of a script nothing else is counted.
     ensures cause { Causes result (H.counts host.old) (H.counts host.new) }
+    ensures cause_without_lines { (mode_of (map string_bytes words.now) ≡ Some Run → ⊥)
+        → H.counts host.new ≡ after_fault (status_fault result) (H.counts host.old) }
 
     ensures run_not_usable { H.tells → mode_of (map string_bytes words.now) ≡ Some Run → IsRested (H.state host.old).now.words
         → status_fault result ≡ None → (result ≡ NOT_USABLE) ↔ (world_of (H.counts host.old).size (reads (H.state host.old).now.words) ≡ None) }
     ensures not_usable_stays { H.tells → IsRested (H.state host.old).now.words → result ≡ NOT_USABLE → H.state host.new ≡ H.state host.old }
     ensures run_takes { H.tells → mode_of (map string_bytes words.now) ≡ Some Run → TakesScript result (H.state host.old) (H.state host.new) }
 
-    // From a rested device that stands for a world: what is said, what the device then reads, and each image left at any moment.
-    ensures headline { H.tells → mode_of (map string_bytes words.now) ≡ Some Run → (w : World) → IsRested (H.state host.old).now.words
+    // From a rested device that stands for a world without clients: what is said, what the device then reads, and each image left at any moment.
+    ensures headline { H.tells → mode_of (map string_bytes words.now) ≡ Some Run → (w : World) → w.clients ≡ no_clients → IsRested (H.state host.old).now.words
         → (H.state host.old).shelf ≡ w.shelf
         → world_of (H.counts host.old).size (reads (H.state host.old).now.words) ≡ Some (closed w)
         → Headline (H.counts host.old).size w result (H.counts host.old) (H.counts host.new) (H.state host.old) (H.state host.new) }
 
-    // Where the device is sound and neither count rose, the script was run.
-    ensures run_completes { H.tells → mode_of (map string_bytes words.now) ≡ Some Run
+    // Where the device was rested and sound and neither count rose, the script was run.
+    ensures run_completes { H.tells → mode_of (map string_bytes words.now) ≡ Some Run → IsRested (H.state host.old).now.words
         → world_of (H.counts host.old).size (reads (H.state host.old).now.words) ≢ None
         → (Rose (H.counts host.old).faults (H.counts host.new).faults → ⊥) → (Rose (H.counts host.old).cuts (H.counts host.new).cuts → ⊥)
         → (result ≡ DONE) ⊎ (result ≡ TOO_LONG) }

@@ -1,19 +1,22 @@
 -- How often power was lost, over one call after another.
-use Rattle.std.proofs.Common.{◌≡◌, ℕ, zero, suc, ◌+◌, ◌-◌, ◌^◌, ◌≤◌, ltb, ltb-true, zero-add, add-zero, Bool, true, false, cond, List, [], ◌∷◌, ◌++◌, Option, Some, None, Err, refl, sym, ap, subst, ◌∙◌, arith}
+use Rattle.std.proofs.Common.{◌≡◌, ℕ, zero, suc, ◌+◌, ◌-◌, ◌^◌, ◌≤◌, ltb, ltb-true, zero-add, Bool, true, false, cond, List, [], ◌∷◌, ◌++◌, Option, Some, None, Err, refl, sym, ap, subst, ◌∙◌, arith}
 use Rattle.std.proofs.lemmas.List.Sums.{sum_by-append}
-use Rattle.std.proofs.Math.Nat.{suc-add, add_assoc}
+use Rattle.std.proofs.Math.Nat.{suc-add}
 use Rattle.std.proofs.lemmas.Bool.{ltb-false}
 use Rattle.pm_model.specs.declared.host.HostFault.{HostFault}
 use Rattle.pm_model.specs.declared.host.HostFault.TheVariants as hosts
-use Rattle.pm_model.specs.Counts.{Counts, risen, after_fault}
+use Rattle.pm_model.specs.Counts.{Counts, risen, after_fault, after_arm, after_loss_of}
 use Rattle.pud_defs.specs.World.{World}
+use Rattle.pud_defs.specs.declared.machine.Command.{Command}
+use Rattle.pud_defs.specs.declared.machine.Command.TheVariants.{Client, Leave, Define, Cut, Arm}
+use Rattle.pud_defs.specs.Grammar.{command_of}
 use Rattle.pud_defs.specs.Run.{Turn, is_cut, cuts_of}
 use Rattle.puddled.specs.declared.daemon.StartFault.{StartFault}
 use Rattle.puddled.specs.declared.daemon.StartFault.TheVariants as starts
 use Rattle.puddled.specs.declared.daemon.RunFault.{RunFault}
 use Rattle.puddled.specs.declared.daemon.RunFault.TheVariants as faults
 use Rattle.puddled.proofs.Turns.{turn_of, no_cut_reply}
-use Rattle.puddled.specs.Faults.{start_fault, of_host, of_start, risen_by, RoseBy, CountsCuts, CountsTurns, losses_at, last_fault, IsCounted}
+use Rattle.puddled.specs.Faults.{start_fault, of_host, of_start, risen_by, RoseBy, CountsCuts, CountsTurns, losses_at, restart_losses, last_fault, IsEnded, IsCounted, is_at_once, is_loss, CountsLine, Grows, Ends}
 
 least_by : (n : ℕ) (b : Bool) → n ≤ cond b (n + 1) n
 least_by n true = omega arith
@@ -35,7 +38,7 @@ risen_by-grows : (k n m : ℕ) → n ≤ m → risen_by k n ≤ risen_by k m
 risen_by-grows zero n m le = le
 risen_by-grows (suc k) n m le = risen_grows (risen_by k n) (risen_by k m) (risen_by-grows k n m le)
 
-risen_by-least : (k n : ℕ) → n ≤ risen_by k n
+pub risen_by-least : (k n : ℕ) → n ≤ risen_by k n
 risen_by-least zero n = omega arith
 risen_by-least (suc k) n = let one = risen_least (risen_by k n) in let rest = risen_by-least k n in omega arith
 
@@ -69,8 +72,9 @@ CountsCuts-fewer k l a b c =
     record { others = c.others; cuts = omega arith }
 
 -- a line that was carried out adds no loss to what is counted
-pub counted_step : (w : World) (line : List ℕ) (fault : Option RunFault) (before after : Counts) → IsCounted fault 0 before after → IsCounted fault (cuts_of (turn_of w line ∷ [])) before after
-counted_step w line fault before after c = subst (λ (n : ℕ). IsCounted fault n before after) (sym (no_cut_reply w line)) c
+pub counted_step : (w : World) (line : List ℕ) (fault : Option RunFault) (before after : Counts) → CountsLine (command_of line) fault 0 before after
+    → CountsLine (command_of line) fault (cuts_of (turn_of w line ∷ [])) before after
+counted_step w line fault before after c = subst (λ (n : ℕ). CountsLine (command_of line) fault n before after) (sym (no_cut_reply w line)) c
 
 pub counted_nothing : (before after : Counts) → after ≡ before → IsCounted None 0 before after
 counted_nothing before after same = record { before = after; lost = CountsCuts-still before after same; last = refl }
@@ -95,11 +99,22 @@ counted_restart (starts.Host hosts.Cut) before mid after lost last =
 pub counted_failed : (before after : Counts) → after ≡ after_fault (Some hosts.Failed) before → IsCounted (Some faults.Failed) 0 before after
 counted_failed before after last = record { before = before; lost = CountsCuts-still before before refl; last = last }
 
-pub counted_say : (fault : HostFault) (n : ℕ) (before between after : Counts) → IsCounted None n before between → after ≡ after_fault (Some fault) between
-    → (Some fault ≡ Some hosts.Cut → ⊥) → IsCounted (Some (of_host fault)) n before after
-counted_say hosts.Failed n before between after c last never_cut =
-    record { before = c.before; lost = c.lost; last = last ∙ ap (λ (x : Counts). after_fault (Some hosts.Failed) x) c.last }
-counted_say hosts.Cut n before between after c last never_cut = absurd (never_cut refl)
+ended_failed : (n : ℕ) (before between after : Counts) → IsEnded n None before between → after ≡ after_fault (Some hosts.Failed) between → IsEnded n (Some faults.Failed) before after
+ended_failed n before between after c last = record { before = c.before; lost = c.lost; last = last ∙ ap (λ (x : Counts). after_fault (Some hosts.Failed) x) c.last }
+
+line_failed : (command : Option Command) (n : ℕ) (before between after : Counts) → CountsLine command None n before between → after ≡ after_fault (Some hosts.Failed) between
+    → CountsLine command (Some faults.Failed) n before after
+line_failed None n before between after c last = ended_failed (0 + n) before between after c last
+line_failed (Some (Client client uid gid)) n before between after c last = ended_failed (0 + n) before between after c last
+line_failed (Some (Leave client)) n before between after c last = ended_failed (0 + n) before between after c last
+line_failed (Some (Define id map)) n before between after c last = ended_failed (0 + n) before between after c last
+line_failed (Some (Cut pick)) n before between after c last = (c.0, ended_failed 0 (after_loss_of pick before) between after c.1 last)
+line_failed (Some (Arm step pick)) n before between after c last = (c.0, λ e. cc, last ∙ ap (λ (x : Counts). after_fault (Some hosts.Failed) x) c.2)
+
+pub counted_say : (command : Option Command) (fault : HostFault) (n : ℕ) (before between after : Counts) → CountsLine command None n before between → after ≡ after_fault (Some fault) between
+    → (Some fault ≡ Some hosts.Cut → ⊥) → CountsLine command (Some (of_host fault)) n before after
+counted_say command hosts.Failed n before between after c last never_cut = line_failed command n before between after c last
+counted_say command hosts.Cut n before between after c last never_cut = absurd (never_cut refl)
 
 -- what the device is judged is not what a host's fault is
 pub host_is_sound : (fault : HostFault) → Some (of_host fault) ≡ Some faults.NotSound → ⊥
@@ -117,16 +132,32 @@ pub none_is_sound : None ≡ Some faults.NotSound → ⊥
 none_is_sound e = cc
 
 -- what is said besides counts nothing
-pub counted_same : (fault : Option RunFault) (n : ℕ) (before between after : Counts) → IsCounted fault n before between → after ≡ between → IsCounted fault n before after
-counted_same fault n before between after c same = subst (λ (x : Counts). IsCounted fault n before x) (sym same) c
+pub counted_same : (command : Option Command) (fault : Option RunFault) (n : ℕ) (before between after : Counts) → CountsLine command fault n before between → after ≡ between → CountsLine command fault n before after
+counted_same command fault n before between after c same = subst (λ (x : Counts). CountsLine command fault n before x) (sym same) c
+
+-- a line that is none that the host does at once
+pub counted_plain : (command : Option Command) (fault : Option RunFault) (n : ℕ) (before after : Counts) → is_at_once command ≡ false → IsCounted fault n before after → CountsLine command fault n before after
+counted_plain None fault n before after plain c = c
+counted_plain (Some (Client client uid gid)) fault n before after plain c = c
+counted_plain (Some (Leave client)) fault n before after plain c = c
+counted_plain (Some (Define id map)) fault n before after plain c = c
+counted_plain (Some (Cut pick)) fault n before after plain c = absurd (let no : true ≡ false = plain in cc)
+counted_plain (Some (Arm step pick)) fault n before after plain c = absurd (let no : true ≡ false = plain in cc)
+
+-- power lost at once, and the restart behind it
+pub counted_loss : (pick : ℕ) (fault : StartFault) (before after : Counts) → after ≡ after_fault (start_fault {T = Unit {0}} (Err fault)) (after_loss_of pick before)
+    → CountsLine (Some (Cut pick)) (Some (of_start fault)) 0 before after
+counted_loss pick starts.NotSound before after last = (refl, record { before = after_loss_of pick before; lost = CountsCuts-still _ _ refl; last = last })
+counted_loss pick (starts.Host hosts.Failed) before after last = (refl, record { before = after_loss_of pick before; lost = CountsCuts-still _ _ refl; last = last })
+counted_loss pick (starts.Host hosts.Cut) before after last = (refl, record { before = after; lost = CountsCuts-one (after_loss_of pick before) after last; last = refl })
+
+pub counted_lost : (pick : ℕ) (before after : Counts) → after ≡ after_loss_of pick before → CountsLine (Some (Cut pick)) None 0 before after
+counted_lost pick before after same = (refl, counted_nothing (after_loss_of pick before) after same)
 
 -- ---- over turns
 
--- a line that was answered is counted as its turn
-pub CountsTurns-one : (t : Turn) (before after : Counts) (fault : Option RunFault) → fault ≡ None → IsCounted fault (cuts_of (t ∷ [])) before after → CountsTurns (t ∷ []) before after
-CountsTurns-one t before after fault none c =
-    let d = subst (λ (f : Option RunFault). IsCounted f (cuts_of (t ∷ [])) before after) none c in
-    (d.before, CountsCuts-fewer (cuts_of (t ∷ [])) 0 before d.before d.lost, d.last)
+pub CountsTurns-one : (t : Turn) (before after : Counts) (fault : Option RunFault) → fault ≡ None → CountsLine (command_of t.line) fault (cuts_of (t ∷ [])) before after → CountsTurns (t ∷ []) before after
+CountsTurns-one t before after fault none c = (after, subst (λ (f : Option RunFault). CountsLine (command_of t.line) f (cuts_of (t ∷ [])) before after) none c, refl)
 
 pub CountsTurns-append : (turns more : List Turn) (a b c : Counts) → CountsTurns turns a b → CountsTurns more b c → CountsTurns (turns ++ more) a c
 CountsTurns-append [] more a b c first later = subst (λ (x : Counts). CountsTurns more x c) first later
@@ -134,38 +165,6 @@ CountsTurns-append (t ∷ turns) more a b c first later = (first.0, first.1, Cou
 
 cuts_of-cons : (t : Turn) (turns : List Turn) → cuts_of (t ∷ turns) ≡ cuts_of turns + cuts_of (t ∷ [])
 cuts_of-cons t turns = omega (arith, sum_by-append (λ (x : Turn). cond (is_cut x.reply) 1 0) (t ∷ []) turns)
-
--- power was lost as often at least as a reply is `cut`
-pub CountsTurns-cuts : (turns : List Turn) (a b : Counts) → CountsTurns turns a b → CountsCuts (cuts_of turns) a b
-CountsTurns-cuts [] a b c = CountsCuts-still a b c
-CountsTurns-cuts (t ∷ turns) a b c =
-    subst (λ (n : ℕ). CountsCuts n a b) (sym (cuts_of-cons t turns)) (CountsCuts-then (cuts_of (t ∷ [])) (cuts_of turns) a c.0 b c.1 (CountsTurns-cuts turns c.0 b c.2))
-
--- and then the run ended so
-pub IsCounted-then : (fault : Option RunFault) (k n : ℕ) (a b c : Counts) → CountsCuts k a b → IsCounted fault n b c → IsCounted fault (n + k) a c
-IsCounted-then fault k n a b c first later =
-    record { before = later.before; lost = subst (λ (x : ℕ). CountsCuts x a later.before) (add_assoc (losses_at fault) n k) (CountsCuts-then k (losses_at fault + n) a b later.before first later.lost); last = later.last }
-
-size_after_fault : (fault : Option HostFault) (c : Counts) → (after_fault fault c).size ≡ c.size
-size_after_fault None c = refl
-size_after_fault (Some hosts.Failed) c = refl
-size_after_fault (Some hosts.Cut) c = refl
-
--- no line changes the device's size
-pub size_of_counted : (fault : Option RunFault) (n : ℕ) (before after : Counts) → IsCounted fault n before after → after.size ≡ before.size
-size_of_counted fault n before after c =
-    ap (λ (x : Counts). x.size) c.last ∙ size_after_fault (last_fault fault) c.before ∙ ap (λ (x : Counts). x.size) c.lost.others
-
--- without a fault nothing but power losses is counted
-pub counted_cuts : (n : ℕ) (before after : Counts) → IsCounted None n before after → CountsCuts n before after
-counted_cuts n before after c = subst (λ (x : Counts). CountsCuts n before x) (sym c.last) (CountsCuts-fewer n 0 before c.before c.lost)
-
--- one call after another that went well
-pub cuts_then_none : (a b c : Counts) → CountsCuts 0 a b → IsCounted None 0 b c → CountsCuts 0 a c
-cuts_then_none a b c first later = CountsCuts-then 0 0 a b c first (counted_cuts 0 b c later)
-
-pub counted_on : (fault : Option RunFault) (n : ℕ) (a b c : Counts) → CountsCuts 0 a b → IsCounted fault n b c → IsCounted fault n a c
-counted_on fault n a b c first later = subst (λ (x : ℕ). IsCounted fault x a c) (add-zero n) (IsCounted-then fault 0 n a b c first later)
 
 -- a rise by more is one by fewer
 pub RoseBy-fewer : (l k a b : ℕ) → RoseBy (l + k) a b → RoseBy k a b
@@ -179,13 +178,144 @@ cuts_after_fault None c = omega arith
 cuts_after_fault (Some hosts.Failed) c = omega arith
 cuts_after_fault (Some hosts.Cut) c = risen_least c.cuts
 
+pub size_after_fault : (fault : Option HostFault) (c : Counts) → (after_fault fault c).size ≡ c.size
+size_after_fault None c = refl
+size_after_fault (Some hosts.Failed) c = refl
+size_after_fault (Some hosts.Cut) c = refl
+
+-- ---- lines that are not known
+
+pub Grows-still : (a b : Counts) → b ≡ a → Grows a b
+Grows-still a b same = subst (λ (x : Counts). Grows a x) (sym same) (record { size = refl; faults = refl; cuts = omega arith; arms = omega arith; losses = omega arith })
+
+pub Grows-then : (a b c : Counts) → Grows a b → Grows b c → Grows a c
+Grows-then a b c p q =
+    let p_cuts = p.cuts in
+    let q_cuts = q.cuts in
+    let p_arms = p.arms in
+    let q_arms = q.arms in
+    let p_losses = p.losses in
+    let q_losses = q.losses in
+    record { size = q.size ∙ p.size; faults = q.faults ∙ p.faults; cuts = omega arith; arms = omega arith; losses = omega arith }
+
+Grows-cuts : (n : ℕ) (a b : Counts) → CountsCuts n a b → Grows a b
+Grows-cuts n a b c =
+    let least = risen_by-least n a.cuts in
+    let rose = c.cuts in
+    let arms : b.arms ≡ a.arms = ap (λ (x : Counts). x.arms) c.others in
+    let losses : b.losses ≡ a.losses = ap (λ (x : Counts). x.losses) c.others in
+    record { size = ap (λ (x : Counts). x.size) c.others; faults = ap (λ (x : Counts). x.faults) c.others; cuts = omega arith; arms = omega arith; losses = omega arith }
+
+Grows-arm : (step pick : ℕ) (a : Counts) → Grows a (after_arm step pick a)
+Grows-arm step pick a = record { size = refl; faults = refl; cuts = omega arith; arms = risen_least a.arms; losses = omega arith }
+
+Grows-loss : (pick : ℕ) (a : Counts) → Grows a (after_loss_of pick a)
+Grows-loss pick a = record { size = refl; faults = refl; cuts = omega arith; arms = omega arith; losses = risen_least a.losses }
+
+-- ---- what a line's counts say
+
+rose_in_restart : (fault : Option RunFault) (n a b : ℕ) → RoseBy (losses_at fault + n) a b → RoseBy (restart_losses fault) a b
+rose_in_restart None n a b rose = let least = risen_by-least n a in let r : RoseBy n a b = RoseBy-fewer 0 n a b rose in omega arith
+rose_in_restart (Some faults.Failed) n a b rose = let least = risen_by-least n a in let r : RoseBy n a b = RoseBy-fewer 0 n a b rose in omega arith
+rose_in_restart (Some faults.NotSound) n a b rose = let least = risen_by-least (1 + n) a in omega arith
+rose_in_restart (Some faults.CutInStart) n a b rose = RoseBy-fewer (n + 1) 1 a b (subst (λ (x : ℕ). RoseBy x a b) (let e : 2 + n ≡ (n + 1) + 1 = omega arith in e) rose)
+
+ends_plain : (fault : Option RunFault) (n : ℕ) (a b : Counts) → IsCounted fault n a b → Ends fault a b
+ends_plain fault n a b c = record { before = c.before; grows = Grows-cuts (losses_at fault + n) a c.before c.lost; lost = rose_in_restart fault n a.cuts c.before.cuts c.lost.cuts; last = c.last }
+
+no_restart : (fault : Option RunFault) (a : ℕ) → (fault ≡ Some faults.CutInStart → ⊥) → RoseBy (restart_losses fault) a a
+no_restart None a never = omega arith
+no_restart (Some faults.Failed) a never = omega arith
+no_restart (Some faults.NotSound) a never = omega arith
+no_restart (Some faults.CutInStart) a never = absurd (never refl)
+
+-- whatever the line is
+pub counted_ends : (command : Option Command) (fault : Option RunFault) (n : ℕ) (a b : Counts) → CountsLine command fault n a b → Ends fault a b
+counted_ends None fault n a b c = ends_plain fault n a b c
+counted_ends (Some (Client client uid gid)) fault n a b c = ends_plain fault n a b c
+counted_ends (Some (Leave client)) fault n a b c = ends_plain fault n a b c
+counted_ends (Some (Define id map)) fault n a b c = ends_plain fault n a b c
+counted_ends (Some (Cut pick)) fault n a b c =
+    record {
+      before = c.1.before;
+      grows = Grows-then a (after_loss_of pick a) c.1.before (Grows-loss pick a) (Grows-cuts (restart_losses fault) (after_loss_of pick a) c.1.before c.1.lost);
+      lost = c.1.lost.cuts;
+      last = c.1.last;
+    }
+counted_ends (Some (Arm step pick)) fault n a b c = record { before = after_arm step pick a; grows = Grows-arm step pick a; lost = no_restart fault a.cuts c.1; last = c.2 }
+
+pub Ends-none : (a b : Counts) → Ends None a b → Grows a b
+Ends-none a b e = subst (λ (x : Counts). Grows a x) (sym e.last) e.grows
+
+pub Ends-nothing : (a b : Counts) → b ≡ a → Ends None a b
+Ends-nothing a b same = record { before = a; grows = Grows-still a a refl; lost = omega arith; last = same }
+
+pub Ends-host : (fault : HostFault) (a b : Counts) → b ≡ after_fault (Some fault) a → (Some fault ≡ Some hosts.Cut → ⊥) → Ends (Some (of_host fault)) a b
+Ends-host hosts.Failed a b last never_cut = record { before = a; grows = Grows-still a a refl; lost = omega arith; last = last }
+Ends-host hosts.Cut a b last never_cut = absurd (never_cut refl)
+
+-- lines went on, and then it ended so
+pub Ends-then : (fault : Option RunFault) (a b c : Counts) → Grows a b → Ends fault b c → Ends fault a c
+Ends-then fault a b c first later =
+    record {
+      before = later.before;
+      grows = Grows-then a b later.before first later.grows;
+      lost = let grew = risen_by-grows (restart_losses fault) a.cuts b.cuts first.cuts in let rose = later.lost in omega arith;
+      last = later.last;
+    }
+
+-- no line changes the device's size
+pub size_of_ends : (fault : Option RunFault) (a b : Counts) → Ends fault a b → b.size ≡ a.size
+size_of_ends fault a b c = ap (λ (x : Counts). x.size) c.last ∙ size_after_fault (last_fault fault) c.before ∙ c.grows.size
+
 -- the count of cuts rose by the losses told, and by those that the end stands for
-pub rose_with_losses : (fault : Option RunFault) (n : ℕ) (before after : Counts) → IsCounted fault n before after → RoseBy (losses_at fault + n) before.cuts after.cuts
-rose_with_losses fault n before after c =
+rose_plain : (fault : Option RunFault) (n : ℕ) (a b : Counts) → IsEnded n fault a b → RoseBy n a.cuts b.cuts
+rose_plain fault n a b c =
     let later = cuts_after_fault (last_fault fault) c.before in
     let rose = c.lost.cuts in
-    let e : after.cuts ≡ (after_fault (last_fault fault) c.before).cuts = ap (λ (x : Counts). x.cuts) c.last in
+    let e : b.cuts ≡ (after_fault (last_fault fault) c.before).cuts = ap (λ (x : Counts). x.cuts) c.last in
     omega arith
 
-pub rose_of_counted : (fault : Option RunFault) (n : ℕ) (before after : Counts) → IsCounted fault n before after → RoseBy n before.cuts after.cuts
-rose_of_counted fault n before after c = RoseBy-fewer (losses_at fault) n before.cuts after.cuts (rose_with_losses fault n before after c)
+rose_at_least : (fault : Option RunFault) (n : ℕ) (a b : Counts) → IsCounted fault n a b → RoseBy n a.cuts b.cuts
+rose_at_least fault n a b c = RoseBy-fewer (losses_at fault) n a.cuts b.cuts (rose_plain fault (losses_at fault + n) a b c)
+
+rose_by_none : (n a b : ℕ) → n ≡ 0 → a ≤ b → RoseBy n a b
+rose_by_none n a b none le = subst (λ (x : ℕ). RoseBy x a b) (sym none) le
+
+-- power was lost as often at least as the reply is `cut`
+pub rose_in_line : (command : Option Command) (fault : Option RunFault) (n : ℕ) (a b : Counts) → CountsLine command fault n a b → RoseBy n a.cuts b.cuts
+rose_in_line None fault n a b c = rose_at_least fault n a b c
+rose_in_line (Some (Client client uid gid)) fault n a b c = rose_at_least fault n a b c
+rose_in_line (Some (Leave client)) fault n a b c = rose_at_least fault n a b c
+rose_in_line (Some (Define id map)) fault n a b c = rose_at_least fault n a b c
+rose_in_line (Some (Cut pick)) fault n a b c = rose_by_none n a.cuts b.cuts c.0 (let rose = rose_plain fault (restart_losses fault) (after_loss_of pick a) b c.1 in let least = risen_by-least (restart_losses fault) a.cuts in omega arith)
+rose_in_line (Some (Arm step pick)) fault n a b c =
+    rose_by_none n a.cuts b.cuts c.0 (let later = cuts_after_fault (last_fault fault) (after_arm step pick a) in let e : b.cuts ≡ (after_fault (last_fault fault) (after_arm step pick a)).cuts = ap (λ (x : Counts). x.cuts) c.2 in omega arith)
+
+two_at_least : (n : ℕ) (a b : Counts) → IsCounted (Some faults.CutInStart) n a b → RoseBy 2 a.cuts b.cuts
+two_at_least n a b c =
+    RoseBy-fewer n 2 a.cuts b.cuts (subst (λ (x : ℕ). RoseBy x a.cuts b.cuts) (let e : 2 + n ≡ n + 2 = omega arith in e) (rose_plain (Some faults.CutInStart) (2 + n) a b c))
+
+-- in the restart it was lost once more, but for a line in which it was lost at once
+pub lost_in_line : (command : Option Command) (n : ℕ) (a b : Counts) → is_loss command ≡ false → CountsLine command (Some faults.CutInStart) n a b → RoseBy 2 a.cuts b.cuts
+lost_in_line None n a b other c = two_at_least n a b c
+lost_in_line (Some (Client client uid gid)) n a b other c = two_at_least n a b c
+lost_in_line (Some (Leave client)) n a b other c = two_at_least n a b c
+lost_in_line (Some (Define id map)) n a b other c = two_at_least n a b c
+lost_in_line (Some (Cut pick)) n a b other c = absurd (let no : true ≡ false = other in cc)
+lost_in_line (Some (Arm step pick)) n a b other c = absurd (c.1 refl)
+
+pub lost_in_restart : (command : Option Command) (n : ℕ) (a b : Counts) → CountsLine command (Some faults.CutInStart) n a b → RoseBy 1 a.cuts b.cuts
+lost_in_restart None n a b c = RoseBy-fewer 1 1 a.cuts b.cuts (two_at_least n a b c)
+lost_in_restart (Some (Client client uid gid)) n a b c = RoseBy-fewer 1 1 a.cuts b.cuts (two_at_least n a b c)
+lost_in_restart (Some (Leave client)) n a b c = RoseBy-fewer 1 1 a.cuts b.cuts (two_at_least n a b c)
+lost_in_restart (Some (Define id map)) n a b c = RoseBy-fewer 1 1 a.cuts b.cuts (two_at_least n a b c)
+lost_in_restart (Some (Cut pick)) n a b c = rose_plain (Some faults.CutInStart) 1 (after_loss_of pick a) b c.1
+lost_in_restart (Some (Arm step pick)) n a b c = absurd (c.1 refl)
+
+-- power was lost as often at least as a reply is `cut`
+pub CountsTurns-cuts : (turns : List Turn) (a b : Counts) → CountsTurns turns a b → RoseBy (cuts_of turns) a.cuts b.cuts
+CountsTurns-cuts [] a b c = let e : b.cuts ≡ a.cuts = ap (λ (x : Counts). x.cuts) c in omega arith
+CountsTurns-cuts (t ∷ turns) a b c =
+    subst (λ (n : ℕ). RoseBy n a.cuts b.cuts) (sym (cuts_of-cons t turns))
+    (RoseBy-then (cuts_of (t ∷ [])) (cuts_of turns) a.cuts c.0.cuts b.cuts (rose_in_line (command_of t.line) None (cuts_of (t ∷ [])) a c.0 c.1) (CountsTurns-cuts turns c.0 b c.2))

@@ -7,7 +7,7 @@ use Rattle.pm_model.specs.Words.{Picks, IsRested, reads}
 use Rattle.pm_model.specs.Moments.{State}
 use Rattle.pm_model.proofs.Words.{Picks-reads}
 use Rattle.pm_model.specs.Changes.{written}
-use Rattle.pm_model.proofs.Changes.{Changes-said, Changes-now, HasOnly-kept}
+use Rattle.pm_model.proofs.Changes.{Changes-said, Changes-now}
 use Rattle.pm_model.proofs.Leaves.{Leaves-still, Leaves-weaker}
 use Rattle.pud_defs.specs.declared.layout.TheConstants.{TYPE_RECORDS, TYPE_TABLE, POOL_TABLE, DAEMON_LOG}
 use Rattle.pud_defs.specs.declared.machine.Command.TheVariants.{Define}
@@ -16,7 +16,7 @@ use Rattle.pud_defs.specs.declared.machine.Refusal.TheVariants.{Clash, Full}
 use Rattle.pud_defs.specs.Image.{Image}
 use Rattle.pud_defs.specs.TypeMap.{is_legal_map, is_legal_type_id}
 use Rattle.pud_defs.specs.Types.{type_record_at, type_table, first_free, map_of, with_type}
-use Rattle.pud_defs.specs.Spaces.{space_record_at}
+use Rattle.pud_defs.specs.Spaces.{Owner}
 use Rattle.pud_defs.specs.World.{World, world_of, closed}
 use Rattle.pud_defs.specs.Step.{is_other, refusal_of, after, unless_refused, world_by}
 use Rattle.pud_defs.proofs.TypeTable.{IsLowestFree, first_free_some}
@@ -24,7 +24,8 @@ use Rattle.pud_defs.proofs.Worlds.{StandsFor, standing_beside, standing_closed, 
 use Rattle.pud_defs.proofs.Definitions.{world_of-map_written, world_of-defined}
 use Rattle.pud_defs.proofs.Steps.{refusal_of-define, define-same, define-clash, define-full, define-new, after-same}
 use Rattle.type_maps.specs.Define.{table_refusal, place_for, record_write, defined, Defines}
-use Rattle.puddled.specs.Daemon.{KeepsRest, IsReady, Applies}
+use Rattle.puddled.specs.Daemon.{HasSpace, KeepsRest, IsReady, Applies}
+use Rattle.puddled.proofs.Coming.{HasSpace-kept}
 
 abbrev table_refusal_by : Option ℕ → ℕ → ℕ → Option Refusal
 table_refusal_by found count map = cond (is_other map found) (Some Clash) (cond (is_none found && leb TYPE_RECORDS count) (Some Full) None)
@@ -78,6 +79,10 @@ closed_after w id map = refl
 shelf_after : (w : World) (id map : ℕ) → w.shelf ≡ (after w (Define id map)).shelf
 unfolding after
 shelf_after w id map = refl
+
+clients_after : (w : World) (id map client : ℕ) → w.clients client ≡ (after w (Define id map)).clients client
+unfolding after
+clients_after w id map client = refl
 
 -- the state that a definition begins in, as the daemon knows it
 standing : (size : ℕ) (w : World) (s : State) → IsReady size w s → StandsFor size (reads s.now.words) (closed w)
@@ -143,8 +148,9 @@ new_applies size w id map r fault old new ready legal_id legal_map place d =
           | inr may ↦ absurd (not_outside r id map DAEMON_LOG v (omega arith) (inl (omega arith)) may)
         ];
         types = d.durable none ready.types;
-        spaces = λ client low. HasOnly-kept (written (record_write r id map)) fault old new (space_record_at client) 0 d.changes
-            (λ v may. not_outside r id map (space_record_at client) v (omega arith) (inr (omega arith)) may) (ready.spaces client low);
+        spaces = λ client low. subst (λ (o : Option Owner). HasSpace new.now.words client o) (clients_after w id map client)
+            (HasSpace-kept (written (record_write r id map)) fault old new client (w.clients client) d.changes
+            (λ k v from to may. not_outside r id map k v (omega arith) (inr (omega arith)) may) (ready.spaces client low));
         shelf = d.changes.shelf ∙ ready.shelf ∙ shelf_after w id map;
       };
       lost = d.changes.rests;

@@ -4,7 +4,7 @@ use Rattle.std.proofs.lemmas.List.{append-nil, drop_all}
 use Rattle.pm_model.specs.declared.host.HostFault.{HostFault}
 use Rattle.pm_model.specs.declared.host.HostFault.TheVariants as hosts
 use Rattle.pm_model.specs.Counts.{Counts}
-use Rattle.pm_model.specs.Words.{Has, HasOnly, values, Words, Picks, reads}
+use Rattle.pm_model.specs.Words.{Has, values, Words, Picks, reads}
 use Rattle.pm_model.specs.Moments.{State}
 use Rattle.pm_model.specs.Calls.{Says}
 use Rattle.pm_model.specs.Changes.{Leaves, Silently}
@@ -16,9 +16,9 @@ use Rattle.pud_defs.specs.declared.machine.Reply.TheVariants.{Cut}
 use Rattle.pud_defs.specs.declared.machine.Reply.TheVariants as replies
 use Rattle.pud_defs.specs.declared.layout.TheConstants.{DAEMON_LOG, CLIENTS}
 use Rattle.pud_defs.specs.Entries.{is_closed_gate}
-use Rattle.pud_defs.specs.Spaces.{space_record_at}
 use Rattle.pud_defs.specs.Image.{Image}
 use Rattle.pud_defs.specs.World.{World, world_of, closed, restart}
+use Rattle.pud_defs.specs.Grammar.{command_of}
 use Rattle.pud_defs.specs.Step.{step_reply, step_world}
 use Rattle.pud_defs.specs.Run.{Turn, IsTurn, cuts_of, newlines}
 use Rattle.pud_defs.specs.Texts.{start_text, reply_text}
@@ -32,10 +32,10 @@ use Rattle.puddled.specs.declared.daemon.RunFault.TheVariants.{NotSound}
 use Rattle.puddled.specs.declared.daemon.Daemon.{Daemon}
 use Rattle.puddled.specs.declared.daemon.StartFault.{StartFault}
 use Rattle.puddled.specs.declared.daemon.StartFault.TheVariants as starts
-use Rattle.puddled.specs.Faults.{start_fault, of_host, of_start, run_fault, IsCounted}
-use Rattle.puddled.specs.Daemon.{KeepsRest, IsReady, IsPart, SaysPart, Applies, Recovers, Settles, Starts, spoken, begins_with_ok, Answers}
+use Rattle.puddled.specs.Faults.{start_fault, of_host, of_start, run_fault, CountsLine}
+use Rattle.puddled.specs.Daemon.{HasSpace, KeepsRest, IsReady, IsPart, SaysPart, Applies, Recovers, Settles, Starts, spoken, begins_with_ok, Answers}
 use Rattle.puddled.proofs.Turns.{turn_of, is_turn_of, cut_turn, is_cut_turn}
-use Rattle.puddled.proofs.Counted.{counted_nothing, counted_step, host_is_sound}
+use Rattle.puddled.proofs.Counted.{counted_step, host_is_sound}
 
 some_is_not_none : (fault : HostFault) → Some fault ≡ None → ⊥
 some_is_not_none fault e = cc
@@ -68,7 +68,7 @@ IsReady-said : (size : ℕ) (w : World) (old new : State) → new.now.words ≡ 
 IsReady-said size w old new words shelf ready =
     record {
       stands = λ image picked. ready.stands image (subst (λ (x : Words). Picks x image) words picked);
-      spaces = subst (λ (x : Words). (client : ℕ) → client < CLIENTS → HasOnly (x (space_record_at client)) 0) (sym words) ready.spaces;
+      spaces = subst (λ (x : Words). (client : ℕ) → client < CLIENTS → HasSpace x client (w.clients client)) (sym words) ready.spaces;
       log = subst (λ (x : Words). (v : ℕ) → Has (values (x DAEMON_LOG)) v → is_closed_gate v ≡ true) (sym words) ready.log;
       types = subst (λ (x : Words). HasDurableTypes x) (sym words) ready.types;
       shelf = shelf ∙ ready.shelf;
@@ -85,7 +85,7 @@ Starts-says size w fault old mid new r says =
       moments = Leaves-then (Silently (λ image. world_of size image ≡ Some (closed w))) P P [] old mid new (r.quiet ∙ sym (append-nil old.now.said))
           (λ front image m. (record { rest = start_text; is = ap (λ (l : List ℕ). l ++ start_text) (sym m.0) }, m.1)) (λ more image m. m) r.moments
           (Leaves-says start_text fault P mid new (λ front image prefix picked. (record { rest = prefix.rest; is = prefix.is }, ready.stands image picked)) says);
-      ready = λ none. IsReady-said size w mid new (words_said start_text fault mid new says) (shelf_said start_text fault mid new says) ready;
+      ready = λ none. IsReady-said size (restart w) mid new (words_said start_text fault mid new says) (shelf_said start_text fault mid new says) ready;
       script = script_said start_text fault mid new says ∙ r.script;
       shelf = shelf_said start_text fault mid new says ∙ r.shelf;
     }
@@ -113,7 +113,7 @@ Between size w under image = (world_of size image ≡ Some (closed w)) ⊎ (worl
 
 -- The line was done: the reply is the machine's.
 pub Settles-done : (size : ℕ) (w : World) (line : List ℕ) (reply : Reply) (before after : Counts) (old new : State) → Applies size w (step_world w line) None old new
-    → reply ≡ step_reply w line → after ≡ before → Settles size w line (Ok reply) before after old new
+    → reply ≡ step_reply w line → CountsLine (command_of line) None 0 before after → Settles size w line (Ok reply) before after old new
 Settles-done size w line reply before after old new a same counts =
     record {
       turn = turn_of w line;
@@ -123,7 +123,7 @@ Settles-done size w line reply before after old new a same counts =
       moments = a.moments;
       quiet = a.quiet;
       ready = λ _. a.ready refl;
-      counted = counted_step w line None before after (counted_nothing before after counts);
+      counted = counted_step w line None before after counts;
       sound = λ no. cc;
       script = a.script;
       shelf = a.shelf;
@@ -131,7 +131,7 @@ Settles-done size w line reply before after old new a same counts =
 
 -- The host failed: nothing was said of the line.
 pub Settles-fault : (size : ℕ) (w : World) (line : List ℕ) (fault : RunFault) (before after : Counts) (old mid new : State) (lost : Option HostFault)
-    → Applies size w (step_world w line) lost old mid → new ≡ mid → (Some fault ≡ Some NotSound → ⊥) → IsCounted (Some fault) 0 before after
+    → Applies size w (step_world w line) lost old mid → new ≡ mid → (Some fault ≡ Some NotSound → ⊥) → CountsLine (command_of line) (Some fault) 0 before after
     → Settles size w line (Err fault) before after old new
 Settles-fault size w line fault before after old mid new lost a same sound counts =
     subst (λ (n : State). Settles size w line (Err fault) before after old n) (sym same) (record {
@@ -154,6 +154,7 @@ record Found (size : ℕ) (w : World) (line : List ℕ) (mid : State) : Type 0 w
   which : (next ≡ restart w) ⊎ (next ≡ restart (step_world w line))
   stands : world_of size (reads mid.now.words) ≡ Some (closed next)
   shelf : mid.shelf ≡ next.shelf
+  again : restart next ≡ next
 
 module _ (size : ℕ) (w : World) (line : List ℕ) (old mid : State) (a : Applies size w (step_world w line) (Some hosts.Cut) old mid) (was : old.shelf ≡ w.shelf) where
   read_image : Between size w (step_world w line) (reads mid.now.words)
@@ -161,8 +162,8 @@ module _ (size : ℕ) (w : World) (line : List ℕ) (old mid : State) (a : Appli
 
   found : Found size w line mid
   found = elim read_image [
-    | inl before ↦ record { next = restart w; which = inl refl; stands = before; shelf = a.shelf ∙ was }
-    | inr later ↦ record { next = restart (step_world w line); which = inr refl; stands = later; shelf = a.shelf ∙ was ∙ sym (shelf_of_step w line) }
+    | inl before ↦ record { next = restart w; which = inl refl; stands = before; shelf = a.shelf ∙ was; again = refl }
+    | inr later ↦ record { next = restart (step_world w line); which = inr refl; stands = later; shelf = a.shelf ∙ was ∙ sym (shelf_of_step w line); again = refl }
   ]
 
   -- the restart finds a sound device
@@ -179,6 +180,11 @@ module _ (size : ℕ) (w : World) (line : List ℕ) (old mid : State) (a : Appli
   pub found_shelf : mid.shelf ≡ found_world.shelf
   unfolding found_world
   found_shelf = found.shelf
+
+  -- it was restarted already
+  found_again : restart found_world ≡ found_world
+  unfolding found_world
+  found_again = found.again
 
   between : (image : Image) → world_of size image ≡ Some (closed found_world) → Between size w (step_world w line) image
   unfolding found_world
@@ -198,7 +204,7 @@ module _ (size : ℕ) (w : World) (line : List ℕ) (old mid : State) (a : Appli
       (λ front image m. m) (λ more image m. (m.0, between image m.1)) a.moments r.moments
 
   -- the daemon started again
-  pub Settles-cut : (before after : Counts) (new : State) → Recovers size found_world None mid new → IsCounted None 1 before after → Settles size w line (Ok Cut) before after old new
+  pub Settles-cut : (before after : Counts) (new : State) → Recovers size found_world None mid new → CountsLine (command_of line) None 1 before after → Settles size w line (Ok Cut) before after old new
   Settles-cut before after new r counts =
       record {
         turn = cut_turn w line found_world;
@@ -207,7 +213,7 @@ module _ (size : ℕ) (w : World) (line : List ℕ) (old mid : State) (a : Appli
         replied = refl;
         moments = both_moments None new r;
         quiet = r.quiet ∙ a.quiet;
-        ready = λ _. r.ready refl;
+        ready = λ _. subst (λ (v : World). IsReady size v new) found_again (r.ready refl);
         counted = counts;
         sound = λ no. cc;
         script = r.script ∙ a.script;
@@ -215,7 +221,7 @@ module _ (size : ℕ) (w : World) (line : List ℕ) (old mid : State) (a : Appli
       }
 
   -- the host failed in the restart, or power was lost in it
-  Settles-failed_again : (fault : HostFault) (before after : Counts) (new : State) → Recovers size found_world (Some fault) mid new → IsCounted (Some (of_host fault)) 0 before after
+  Settles-failed_again : (fault : HostFault) (before after : Counts) (new : State) → Recovers size found_world (Some fault) mid new → CountsLine (command_of line) (Some (of_host fault)) 0 before after
       → Settles size w line (Err (of_host fault)) before after old new
   Settles-failed_again fault before after new r counts =
       record {
@@ -233,7 +239,7 @@ module _ (size : ℕ) (w : World) (line : List ℕ) (old mid : State) (a : Appli
       }
 
   pub Settles-restart : (fault : StartFault) (before after : Counts) (new : State) → (fault ≡ starts.NotSound → ⊥) → Recovers size found_world (start_fault {T = Unit {0}} (Err fault)) mid new
-      → IsCounted (Some (of_start fault)) 0 before after → Settles size w line (Err (of_start fault)) before after old new
+      → CountsLine (command_of line) (Some (of_start fault)) 0 before after → Settles size w line (Err (of_start fault)) before after old new
   Settles-restart starts.NotSound before after new sound r counts = absurd (sound refl)
   Settles-restart (starts.Host fault) before after new sound r counts = Settles-failed_again fault before after new r counts
 
@@ -322,7 +328,7 @@ module _ (size : ℕ) (w : World) (line : List ℕ) (reply : Reply) (before betw
   text_is fault says = subst (λ (r : Reply). Says (reply_text r) fault mid new) (sym s.replied) says
 
   pub Answers-said : (result : Result Bool RunFault) (fault : Option HostFault) → Says (reply_text reply) fault mid new → (run_fault result ≡ None → fault ≡ None)
-      → IfOk result (λ ok. ok ≡ begins_with_ok reply) → (run_fault result ≡ Some NotSound → ⊥) → IsCounted (run_fault result) (cuts_of (s.turn ∷ [])) before after
+      → IfOk result (λ ok. ok ≡ begins_with_ok reply) → (run_fault result ≡ Some NotSound → ⊥) → CountsLine (command_of line) (run_fault result) (cuts_of (s.turn ∷ [])) before after
       → Answers size w line true result before after old new
   Answers-said result fault spoken_text none is sound counts =
       let says = text_is fault spoken_text in

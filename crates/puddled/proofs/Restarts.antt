@@ -1,6 +1,7 @@
 -- A device recovered: its daemon log applied, its log-space table emptied, and a world found.
-use Rattle.std.proofs.Common.{◌≡◌, ◌≢◌, inl, inr, ℕ, ◌<◌, ◌≤◌, [], ◌↔◌, Option, Some, None, Result, Err, refl, sym, ap, ◌∙◌, arith}
+use Rattle.std.proofs.Common.{◌≡◌, ◌≢◌, inl, inr, ℕ, ◌<◌, ◌≤◌, [], ◌↔◌, true, false, Option, Some, None, Result, Ok, Err, refl, sym, ap, ◌∙◌, arith}
 use Rattle.std.proofs.lemmas.List.{append-nil}
+use Rattle.std.specs.Prelude.{IsOk}
 use Rattle.pm_model.specs.declared.host.HostFault.{HostFault}
 use Rattle.pm_model.specs.Words.{reads}
 use Rattle.pm_model.specs.Moments.{State}
@@ -13,7 +14,7 @@ use Rattle.pud_defs.specs.declared.layout.TheConstants.{DAEMON_LOG, TYPE_TABLE, 
 use Rattle.pud_defs.specs.Image.{Image}
 use Rattle.pud_defs.specs.Entries.{log_of}
 use Rattle.pud_defs.specs.Replay.{device_word, new_value}
-use Rattle.pud_defs.specs.World.{World, StoredWorld, world_of, closed}
+use Rattle.pud_defs.specs.World.{World, StoredWorld, no_clients, world_of, closed}
 use Rattle.log_replay.specs.Replaying.{Anything, ByLog}
 use Rattle.batch.specs.Batches.{ByBatch}
 use Rattle.registry.specs.declared.Geo.{Geo}
@@ -21,6 +22,8 @@ use Rattle.registry.specs.declared.LoadFault.{LoadFault}
 use Rattle.registry.specs.declared.LoadFault.TheVariants as loads
 use Rattle.registry.specs.Registry.{load_fault, AppliesLog, clearing, Clears}
 use Rattle.registry.proofs.Cleared.{clearing-outside}
+use Rattle.puddled.specs.declared.daemon.StartFault.{StartFault}
+use Rattle.puddled.specs.declared.daemon.StartFault.TheVariants as starts
 use Rattle.puddled.specs.Faults.{start_fault, of_load}
 use Rattle.puddled.specs.Daemon.{KeepsRest, Recovers}
 
@@ -77,7 +80,7 @@ sound_then : (size : ℕ) (a b : State) (o : Option StoredWorld) → world_of si
     → ((w : World) → world_of size (reads a.now.words) ≡ Some (closed w) → a.shelf ≡ w.shelf → Recovers size w None a b) → world_of size (reads b.now.words) ≢ None
 sound_then size a b None is sound recovers = absurd (sound refl)
 sound_then size a b (Some s) is sound recovers = λ none.
-    let r = recovers (record { stored = s; shelf = a.shelf }) is refl in
+    let r = recovers (record { stored = s; clients = no_clients; shelf = a.shelf }) is refl in
     let it : Some s ≡ None = sym ((r.ready refl).stands (reads b.now.words) (Picks-reads b.now.words)) ∙ none in
     cc
 
@@ -99,3 +102,12 @@ sound_load size w fault a world exact is =
     let none = (exact (ap (λ (f : LoadFault). load_fault {T = Geo} (Err f)) is)).0 (ap Err is) in
     let it : Some (closed w) ≡ None = sym world ∙ none in
     cc
+
+-- a start that went well met no fault, and was not refused
+pub no_start_fault : (result : Result (Unit {0}) StartFault) → IsOk result → start_fault result ≡ None
+no_start_fault (Ok x) ok = refl
+no_start_fault (Err fault) ok = absurd (let no : false ≡ true = ok in cc)
+
+pub not_refused : (result : Result (Unit {0}) StartFault) → IsOk result → result ≡ Err starts.NotSound → ⊥
+not_refused (Ok x) ok is = cc
+not_refused (Err fault) ok is = absurd (let no : false ≡ true = ok in cc)

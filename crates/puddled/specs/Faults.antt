@@ -1,8 +1,11 @@
 -- Why a start or a line ended, and how often power was lost, by what a host counts.
-use Rattle.std.specs.Prelude.{◌≡◌, ℕ, zero, suc, ◌+◌, ◌≤◌, List, [], ◌∷◌, Option, Some, None, Result, Ok, Err}
+use Rattle.std.specs.Prelude.{◌≡◌, ◌≢◌, ℕ, zero, suc, ◌+◌, ◌≤◌, Bool, true, false, List, [], ◌∷◌, Option, Some, None, Result, Ok, Err}
 use Rattle.pm_model.specs.declared.host.HostFault.{HostFault}
 use Rattle.pm_model.specs.declared.host.HostFault.TheVariants as hosts
-use Rattle.pm_model.specs.Counts.{Counts, risen, after_fault}
+use Rattle.pm_model.specs.Counts.{Counts, risen, after_fault, after_arm, after_loss_of}
+use Rattle.pud_defs.specs.declared.machine.Command.{Command}
+use Rattle.pud_defs.specs.declared.machine.Command.TheVariants.{Cut, Arm}
+use Rattle.pud_defs.specs.Grammar.{command_of}
 use Rattle.pud_defs.specs.Run.{Turn, cuts_of}
 use Rattle.puddled.specs.declared.daemon.StartFault.{StartFault}
 use Rattle.puddled.specs.declared.daemon.StartFault.TheVariants as starts
@@ -45,11 +48,6 @@ pub record CountsCuts (n : ℕ) (old new : Counts) : Type 0 where
   pub others : new ≡ record old { cuts = new.cuts }
   pub cuts : RoseBy n old.cuts new.cuts
 
--- over each of the turns in which the reply is `cut` power was lost
-abbrev pub CountsTurns : List Turn → Counts → Counts → Type 0
-CountsTurns [] old new = new ≡ old
-CountsTurns (t ∷ turns) old new = (mid : Counts) × CountsCuts (cuts_of (t ∷ [])) old mid × CountsTurns turns mid new
-
 -- the fault that a call answered
 abbrev pub run_fault : {T : Type 0} → Result T RunFault → Option RunFault
 run_fault (Ok x) = None
@@ -69,8 +67,58 @@ last_fault (Some faults.Failed) = Some hosts.Failed
 last_fault (Some faults.CutInStart) = None
 last_fault (Some faults.NotSound) = None
 
--- power was lost n times at least besides, and then it ended so
-pub record IsCounted (fault : Option RunFault) (n : ℕ) (old new : Counts) : Type 0 where
+-- how often in the restart alone
+abbrev pub restart_losses : Option RunFault → ℕ
+restart_losses None = 0
+restart_losses (Some faults.Failed) = 0
+restart_losses (Some faults.CutInStart) = 1
+restart_losses (Some faults.NotSound) = 0
+
+-- power was lost n times at least, and then it ended so
+pub record IsEnded (n : ℕ) (fault : Option RunFault) (old new : Counts) : Type 0 where
   pub before : Counts
-  pub lost : CountsCuts (losses_at fault + n) old before
+  pub lost : CountsCuts n old before
+  pub last : new ≡ after_fault (last_fault fault) before
+
+-- power was lost n times at least besides what its end stands for, and then it ended so
+abbrev pub IsCounted : Option RunFault → ℕ → Counts → Counts → Type 0
+IsCounted fault n old new = IsEnded (losses_at fault + n) fault old new
+
+-- the command is one that the host does at once: to lose power, or to arm a cut
+abbrev pub is_at_once : Option Command → Bool
+is_at_once (Some (Cut pick)) = true
+is_at_once (Some (Arm step pick)) = true
+is_at_once command = false
+
+-- the command is to lose power at once
+abbrev pub is_loss : Option Command → Bool
+is_loss (Some (Cut pick)) = true
+is_loss command = false
+
+-- What a host counts in a line of the command that has n replies `cut`, where it ends so. To arm a cut is counted with its step and pick, and
+-- no power is lost. To lose power at once is counted with its pick, and no cut but in the restart. In all other lines nothing but cuts and
+-- the fault at its end is counted.
+abbrev pub CountsLine : Option Command → Option RunFault → ℕ → Counts → Counts → Type 0
+CountsLine (Some (Arm step pick)) fault n old new = (n ≡ 0) × (fault ≢ Some faults.CutInStart) × (new ≡ after_fault (last_fault fault) (after_arm step pick old))
+CountsLine (Some (Cut pick)) fault n old new = (n ≡ 0) × IsEnded (restart_losses fault) fault (after_loss_of pick old) new
+CountsLine command fault n old new = IsCounted fault n old new
+
+-- each of the turns was counted as its line, with its reply
+abbrev pub CountsTurns : List Turn → Counts → Counts → Type 0
+CountsTurns [] old new = new ≡ old
+CountsTurns (t ∷ turns) old new = (mid : Counts) × CountsLine (command_of t.line) None (cuts_of (t ∷ [])) old mid × CountsTurns turns mid new
+
+-- Over lines that went on, size and count of faults stay, and no other count falls.
+pub record Grows (old new : Counts) : Type 0 where
+  pub size : new.size ≡ old.size
+  pub faults : new.faults ≡ old.faults
+  pub cuts : old.cuts ≤ new.cuts
+  pub arms : old.arms ≤ new.arms
+  pub losses : old.losses ≤ new.losses
+
+-- lines went on, power was lost in the restart at `CutInStart`, and then it ended so
+pub record Ends (fault : Option RunFault) (old new : Counts) : Type 0 where
+  pub before : Counts
+  pub grows : Grows old before
+  pub lost : RoseBy (restart_losses fault) old.cuts before.cuts
   pub last : new ≡ after_fault (last_fault fault) before

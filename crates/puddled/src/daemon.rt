@@ -1,20 +1,24 @@
 //! The daemon's own calls: start, one line, stop.
-ghost use Rattle.std.specs.Prelude.{◌≡◌, ◌≢◌, ◌≤◌, ◌↔◌, ℕ, IsOk, Option, Result};
+ghost use Rattle.std.specs.Prelude.{◌≡◌, ◌≢◌, ◌≤◌, ◌↔◌, ℕ, List, IsOk, IfOk, false, Option, Result};
 ghost use Rattle.pm_model.specs.Words.{IsRested, reads};
-ghost use Rattle.pm_model.specs.Counts.{after_fault, fault_of};
+ghost use Rattle.pm_model.specs.Counts.{Counts, after_fault, after_loss_of, fault_of};
+ghost use Rattle.pm_model.specs.Moments.{State};
 ghost use Rattle.pud_defs.specs.Layout.{device_words};
 ghost use Rattle.pm_model.specs.Calls.{Says};
 ghost use Rattle.pud_defs.specs.World.{World, world_of, closed};
 ghost use Rattle.pud_defs.specs.Texts.{reply_text};
-ghost use Rattle.puddled.specs.Faults.{start_fault, run_fault, IsCounted};
-ghost use Rattle.puddled.specs.Daemon.{KeepsRest, IsReady, Recovers, Settles};
+ghost use Rattle.puddled.specs.Faults.{start_fault, run_fault, IsCounted, is_at_once, CountsLine};
+ghost use Rattle.pud_defs.specs.Grammar.{command_of};
+ghost use Rattle.pud_defs.specs.Step.{step_reply, step_world};
+ghost use Rattle.puddled.specs.Daemon.{KeepsRest, IsReady, Applies, Recovers, Settles};
 
-use crate::commands::apply;
+use crate::clients::{come, leave};
+use crate::types::define_type;
 use pm_model::{Host, HostFault};
 use pud_defs::layout::MIN_FRAMES;
-use pud_defs::machine::Reply;
+use pud_defs::machine::{Command, Refusal, Reply};
 use registry::{LoadFault, clear_spaces, load_sound};
-use script::print_reply;
+use script::{parse_line, print_reply};
 use std::alloc::Global;
 
 /// Why the daemon did not start.
@@ -114,27 +118,85 @@ fn recover<H: Host>(h: &mut H) -> Result<(), StartFault>
     Ok(())
 }
 
-/// Carries out one line without a word. Where power is lost in it the daemon starts again, and the reply is `Cut`.
-fn settle<H: Host>(h: &mut H, line: &[u8]) -> Result<Reply, RunFault>
-    requires { device_words MIN_FRAMES ≤ (H.counts h.old).size }
-    ensures settles { H.tells → (size : ℕ) → size ≡ (H.counts h.old).size → (w : World) → IsReady size w (H.state h.old)
-        → Settles size w line.now result (H.counts h.old) (H.counts h.new) (H.state h.old) (H.state h.new) }
-    // Whatever the device holds: at `Cut` it then reads as a sound one, and without a fault the reply is `Cut` wherever the
-    // count of power losses moved.
-    ensures restarted { H.tells → result ≡ Result.Ok Reply.Cut
+/// Loses power at once, and starts again without a word.
+fn lose_power<H: Host>(h: &mut H, pick: u64) -> Result<(), StartFault>
+    ensures recovers { H.tells → (size : ℕ) → size ≡ (H.counts h.old).size → (w : World) → IsReady size w (H.state h.old)
+        → Recovers size w (start_fault result) (H.state h.old) (H.state h.new) }
+    ensures sound { H.tells → (size : ℕ) → size ≡ (H.counts h.old).size → (w : World) → IsReady size w (H.state h.old)
+        → start_fault result ≡ Option.None → result ≢ Result.Err StartFault.NotSound }
+    ensures restarted { H.tells → IsOk result → world_of (H.counts h.old).size (reads (H.state h.new).now.words) ≢ Option.None }
+    ensures not_sound { H.tells → result ≡ Result.Err StartFault.NotSound
+        → world_of (H.counts h.old).size (reads (H.state h.new).now.words) ≡ Option.None }
+    ensures rest { H.tells → KeepsRest (H.state h.old) (H.state h.new) }
+    ensures cause { H.counts h.new ≡ after_fault (start_fault result) (after_loss_of pick (H.counts h.old)) }
+{
+    h.cut(pick);
+    recover(h)
+}
+
+/// Goes on behind a command: where power was lost in it, the daemon starts again, and the reply is `Cut`.
+fn go_on<H: Host>(h: &mut H, done: Result<Reply, HostFault>) -> Result<Reply, RunFault>
+    // The command began in the state `before`, with these counts.
+    ensures settles { H.tells → (size : ℕ) → size ≡ (H.counts h.old).size → (w : World) → (line : List ℕ) → (counted : Counts) → (before : State) → before.shelf ≡ w.shelf
+        → Applies size w (step_world w line) (fault_of done) before (H.state h.old) → IfOk done (λ reply. reply ≡ step_reply w line)
+        → H.counts h.old ≡ after_fault (fault_of done) counted → is_at_once (command_of line) ≡ false
+        → Settles size w line result counted (H.counts h.new) before (H.state h.new) }
+    // Whatever the device holds: where power was lost, it then reads as a sound one.
+    ensures restarted { H.tells → (fault_of done ≡ Option.Some HostFault.Cut → IsRested (H.state h.old).now.words) → (counted : Counts)
+        → H.counts h.old ≡ after_fault (fault_of done) counted → IsOk result → (H.counts h.new).cuts ≢ counted.cuts
         → world_of (H.counts h.old).size (reads (H.state h.new).now.words) ≢ Option.None }
-    ensures told { IsOk result → (H.counts h.new).cuts ≢ (H.counts h.old).cuts → result ≡ Result.Ok Reply.Cut }
+    ensures passed { (reply : Reply) → done ≡ Result.Ok reply → (result ≡ Result.Ok reply) × (H.counts h.new ≡ H.counts h.old) }
     ensures not_sound { H.tells → result ≡ Result.Err RunFault.NotSound
         → world_of (H.counts h.old).size (reads (H.state h.new).now.words) ≡ Option.None }
     ensures rest { H.tells → KeepsRest (H.state h.old) (H.state h.new) }
-    ensures cause { IsCounted (run_fault result) 0 (H.counts h.old) (H.counts h.new) }
+    ensures cause { (counted : Counts) → H.counts h.old ≡ after_fault (fault_of done) counted → IsCounted (run_fault result) 0 counted (H.counts h.new) }
 {
-    match apply(h, line) {
+    match done {
         Ok(reply) => Ok(reply),
         Err(HostFault::Failed) => Err(RunFault::Failed),
         Err(HostFault::Cut) => {
             recover(h)?;
             Ok(Reply::Cut)
+        }
+    }
+}
+
+/// Carries out one line without a word. Where power is lost in it the daemon starts again, and the reply is `Cut`.
+fn settle<H: Host>(h: &mut H, line: &[u8]) -> Result<Reply, RunFault>
+    requires { device_words MIN_FRAMES ≤ (H.counts h.old).size }
+    ensures settles { H.tells → (size : ℕ) → size ≡ (H.counts h.old).size → (w : World) → IsReady size w (H.state h.old)
+        → Settles size w line.now result (H.counts h.old) (H.counts h.new) (H.state h.old) (H.state h.new) }
+    // Whatever the device holds: where power was lost, as counted or at once, it reads as a sound one behind the restart.
+    ensures restarted { H.tells → IsOk result → (H.counts h.new).cuts ≢ (H.counts h.old).cuts
+        → world_of (H.counts h.old).size (reads (H.state h.new).now.words) ≢ Option.None }
+    ensures restarted_at_once { H.tells → IsOk result → (H.counts h.new).losses ≢ (H.counts h.old).losses
+        → world_of (H.counts h.old).size (reads (H.state h.new).now.words) ≢ Option.None }
+    ensures not_sound { H.tells → result ≡ Result.Err RunFault.NotSound
+        → world_of (H.counts h.old).size (reads (H.state h.new).now.words) ≡ Option.None }
+    ensures rest { H.tells → KeepsRest (H.state h.old) (H.state h.new) }
+    ensures cause { CountsLine (command_of line.now) (run_fault result) 0 (H.counts h.old) (H.counts h.new) }
+{
+    match parse_line(line) {
+        Err(_) => Ok(Reply::No(Refusal::Bad)),
+        Ok(Command::Client { client, uid, gid }) => {
+            let done = come(h, u32::from(client), uid, gid);
+            go_on(h, done)
+        }
+        Ok(Command::Leave { client }) => {
+            let done = leave(h, u32::from(client));
+            go_on(h, done)
+        }
+        Ok(Command::Define { t, map }) => {
+            let done = define_type(h, t, map);
+            go_on(h, done)
+        }
+        Ok(Command::Cut { pick }) => {
+            lose_power(h, pick)?;
+            Ok(Reply::Ok)
+        }
+        Ok(Command::Arm { step, pick }) => {
+            h.arm(step, pick);
+            Ok(Reply::Ok)
         }
     }
 }
@@ -178,9 +240,10 @@ impl Daemon {
     /// reply begins with `ok`.
     ///
     /// Where power is lost in the line the daemon starts again within the call, and the reply is `cut`: the line was
-    /// done wholly or not at all. The device is the one that this daemon started on. `Failed` comes where a call of the
-    /// host failed, `CutInStart` where power was lost in that restart too, `NotSound` where the restart read a registry
-    /// that is not sound; then no further line is to be given.
+    /// done wholly or not at all, and no client is present. At a line `cut N` power is lost at once, the daemon starts again,
+    /// and the reply is `ok`. The device is the one that this daemon started on. `Failed` comes where a call of the host
+    /// failed, `CutInStart` where power was lost in that restart too, `NotSound` where the restart read a registry that is
+    /// not sound; then no further line is to be given.
     pub fn exec<H: Host>(
         &mut self,
         _alloc: Global,
@@ -191,14 +254,16 @@ impl Daemon {
         requires { device_words MIN_FRAMES ≤ (H.counts h.old).size }
         ensures answers { H.tells → (size : ℕ) → size ≡ (H.counts h.old).size → (w : World) → IsReady size w (H.state h.old)
             → Answers size w line.now aloud result (H.counts h.old) (H.counts h.new) (H.state h.old) (H.state h.new) }
-        // Whatever the device holds: where the count of power losses moved without a fault it then reads as a sound one, and
-        // at `NotSound` it does not.
+        // Whatever the device holds: where power was lost, as counted or at once, and without a fault, it then reads as a sound
+        // one, and at `NotSound` it does not.
         ensures restarted { H.tells → IsOk result → (H.counts h.new).cuts ≢ (H.counts h.old).cuts
+            → world_of (H.counts h.old).size (reads (H.state h.new).now.words) ≢ Option.None }
+        ensures restarted_at_once { H.tells → IsOk result → (H.counts h.new).losses ≢ (H.counts h.old).losses
             → world_of (H.counts h.old).size (reads (H.state h.new).now.words) ≢ Option.None }
         ensures not_sound { H.tells → result ≡ Result.Err RunFault.NotSound
             → world_of (H.counts h.old).size (reads (H.state h.new).now.words) ≡ Option.None }
         ensures rest { H.tells → KeepsRest (H.state h.old) (H.state h.new) }
-        ensures cause { IsCounted (run_fault result) 0 (H.counts h.old) (H.counts h.new) }
+        ensures cause { CountsLine (command_of line.now) (run_fault result) 0 (H.counts h.old) (H.counts h.new) }
     {
         let reply = settle(h, line)?;
         if aloud {

@@ -1,8 +1,9 @@
 //! The daemon: it starts on a sound device, and carries out one line of a script at a time.
 #![tactic(auto)]
 
-mod commands;
+mod clients;
 mod daemon;
+mod types;
 
 pub use daemon::{Daemon, RunFault, StartFault};
 

@@ -33,3 +33,6 @@ in_range-bounds least end None f e = cc
 in_range-bounds least end (Some m) f e =
     let known = within_range (nat_le least m && nat_lt m end) m f e in
     bounds_of least end m f known.0 known.1
+
+-- what a number within a range gives, and one beyond it
+pub ruleset ranges = (in_range-some, in_range-none)

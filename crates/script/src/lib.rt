@@ -1,6 +1,7 @@
 //! The lines of a script, read, and the replies to them, written.
 #![tactic(auto)]
 
+mod arguments;
 mod fields;
 mod lines;
 mod numbers;

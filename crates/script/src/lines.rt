@@ -1,28 +1,63 @@
 //! Lines that are commands.
 //!
-//! A line is a command word and its arguments with exactly one space between, at most 128 bytes without its newline.
-//! The one command is `type T n list`: the type id T from 1 to 65,535, the number of fields n from 1 to 30, and the
-//! list of those fields that are pointers.
+//! A line is a command word and its arguments with exactly one space between, at most 128 bytes without its newline:
+//!
+//! - `client C uid gid`: the client C from 0 to 7, its owner and its group, each from 0 to 65,535;
+//! - `leave C`;
+//! - `type T n list`: the type id T from 1 to 65,535, the number of fields n from 1 to 30, and the list of those fields
+//!   that are pointers;
+//! - `cut N`: the pick N, any number below 2^64;
+//! - `arm K N`: the step K from 1 to 1,000,000, and the pick N.
 
-ghost use Rattle.std.specs.Prelude.{◌≡◌, ◌∷◌, []};
+ghost use Rattle.std.specs.Prelude.{◌≡◌, Some, IfOk};
 ghost use Rattle.std.specs.Result.{result_ok};
-ghost use Rattle.pud_defs.specs.Grammar.{split_at, definition_of, command_by, command_of};
+ghost use Rattle.pud_defs.specs.Grammar.{split_at, number_of, in_range, client_by, leave_by, define_by, cut_by, arm_by, of_one, of_two, of_three, command_with, command_by, command_of, IsLegalCommand};
 ghost use Rattle.script.specs.Pieces.{pieces_of};
 
+use crate::arguments::{one, three, two};
 use crate::fields::read_map;
-use crate::numbers::read_within;
+use crate::numbers::{read_number, read_within};
 use crate::pieces::cut;
-use pud_defs::layout::{LINE_LIMIT, MAX_FIELDS, MAX_TYPE_ID};
+use pud_defs::layout::{
+    CLIENTS, LINE_LIMIT, MAX_ARMED_STEP, MAX_FIELDS, MAX_OWNER_ID, MAX_TYPE_ID,
+};
 use pud_defs::machine::Command;
 
 /// The line is not in the grammar.
 #[derive(Clone, Copy, Debug, PartialEq, Eq)]
 pub struct Bad;
 
+/// The number of a client.
+fn read_client_number(digits: &[u8]) -> Option<u8>
+    ensures { result ≡ in_range 0 CLIENTS Some (number_of digits.now) }
+{
+    u8::try_from(read_within(digits, 0, CLIENTS)?).ok()
+}
+
+/// The coming of a client by its three arguments.
+#[tactic(auto, unfolding(pud_defs::specs::Grammar::client_by), using(crate::proofs::Ranges::ranges))]
+fn read_client(client: &[u8], uid: &[u8], gid: &[u8]) -> Option<Command>
+    ensures { result ≡ client_by client.now uid.now gid.now }
+{
+    let client = read_client_number(client)?;
+    let uid = read_within(uid, 0, MAX_OWNER_ID + 1)?;
+    let gid = read_within(gid, 0, MAX_OWNER_ID + 1)?;
+    Some(Command::Client { client, uid, gid })
+}
+
+/// The leaving of a client.
+#[tactic(auto, unfolding(pud_defs::specs::Grammar::leave_by), using(crate::proofs::Ranges::ranges))]
+fn read_leave(client: &[u8]) -> Option<Command>
+    ensures { result ≡ leave_by client.now }
+{
+    let client = read_client_number(client)?;
+    Some(Command::Leave { client })
+}
+
 /// The definition of a type by its three arguments.
-#[tactic(auto, using(crate::proofs::Definitions::defined))]
-fn read_three(id: &[u8], fields: &[u8], list: &[u8]) -> Option<Command>
-    ensures { result ≡ definition_of (id.now ∷ fields.now ∷ list.now ∷ []) }
+#[tactic(auto, unfolding(pud_defs::specs::Grammar::define_by), using(crate::proofs::Ranges::ranges, crate::proofs::Definitions::defined))]
+fn read_definition(id: &[u8], fields: &[u8], list: &[u8]) -> Option<Command>
+    ensures { result ≡ define_by id.now fields.now list.now }
 {
     let t = read_within(id, 1, MAX_TYPE_ID + 1)?;
     let fields = read_within(fields, 1, MAX_FIELDS + 1)?;
@@ -30,17 +65,45 @@ fn read_three(id: &[u8], fields: &[u8], list: &[u8]) -> Option<Command>
     Some(Command::Define { t, map })
 }
 
-/// The definition of a type by what stands behind the command word.
-#[tactic(auto, using(crate::proofs::Definitions::three))]
-fn read_definition(arguments: Option<&[u8]>) -> Option<Command>
-    ensures { result ≡ definition_of (pieces_of 32 arguments.entry) }
+/// A power loss at once.
+#[tactic(auto, unfolding(pud_defs::specs::Grammar::cut_by), using(crate::proofs::Ranges::ranges))]
+fn read_cut(pick: &[u8]) -> Option<Command>
+    ensures { result ≡ cut_by pick.now }
 {
-    let (id, behind) = cut(arguments?, b' ');
-    let (fields, behind) = cut(behind?, b' ');
-    let (list, behind) = cut(behind?, b' ');
-    match behind {
-        None => read_three(id, fields, list),
-        Some(_) => None,
+    let pick = read_number(pick)?;
+    Some(Command::Cut { pick })
+}
+
+/// A power loss that is armed.
+#[tactic(auto, unfolding(pud_defs::specs::Grammar::arm_by), using(crate::proofs::Ranges::ranges))]
+fn read_arm(step: &[u8], pick: &[u8]) -> Option<Command>
+    ensures { result ≡ arm_by step.now pick.now }
+{
+    let step = read_within(step, 1, MAX_ARMED_STEP + 1)?;
+    let pick = read_number(pick)?;
+    Some(Command::Arm { step, pick })
+}
+
+/// The command by its word and by what stands behind it.
+#[tactic(auto, unfolding(pud_defs::specs::Grammar::command_with))]
+fn read_with(word: &[u8], arguments: Option<&[u8]>) -> Option<Command>
+    ensures { result ≡ command_with word.now (pieces_of 32 arguments.entry) }
+{
+    if word == b"client".as_slice() {
+        let (client, uid, gid) = three(arguments)?;
+        read_client(client, uid, gid)
+    } else if word == b"leave".as_slice() {
+        read_leave(one(arguments)?)
+    } else if word == b"type".as_slice() {
+        let (id, fields, list) = three(arguments)?;
+        read_definition(id, fields, list)
+    } else if word == b"cut".as_slice() {
+        read_cut(one(arguments)?)
+    } else if word == b"arm".as_slice() {
+        let (step, pick) = two(arguments)?;
+        read_arm(step, pick)
+    } else {
+        None
     }
 }
 
@@ -49,11 +112,7 @@ fn read_command(line: &[u8]) -> Option<Command>
     ensures { result ≡ command_by (split_at 32 line.now) }
 {
     let (word, arguments) = cut(line, b' ');
-    if word == b"type".as_slice() {
-        read_definition(arguments)
-    } else {
-        None
-    }
+    read_with(word, arguments)
 }
 
 /// The command that a line, without its newline, is. `Bad` exactly where it is none. A line may have any length and
@@ -61,6 +120,7 @@ fn read_command(line: &[u8]) -> Option<Command>
 #[tactic(auto, unfolding(pud_defs::specs::Grammar::command_of))]
 pub fn parse_line(line: &[u8]) -> Result<Command, Bad>
     ensures command { result_ok result ≡ command_of line.now }
+    ensures legal { IfOk result IsLegalCommand }
 {
     if line.len() > LINE_LIMIT {
         return Err(Bad);
@@ -88,6 +148,42 @@ mod tests {
             ),
         ] {
             let want = Command::Define { t, map };
+            assert_eq!(rt; parse_line(line.as_bytes()), Ok(want), "{line}");
+        }
+    }
+
+    #[test]
+    fn lines_of_clients_and_of_power(rt: HostRuntime) {
+        for (line, want) in [
+            (
+                "client 0 0 0",
+                Command::Client {
+                    client: 0,
+                    uid: 0,
+                    gid: 0,
+                },
+            ),
+            (
+                "client 7 65535 5",
+                Command::Client {
+                    client: 7,
+                    uid: 65_535,
+                    gid: 5,
+                },
+            ),
+            ("leave 0", Command::Leave { client: 0 }),
+            ("leave 7", Command::Leave { client: 7 }),
+            ("cut 0", Command::Cut { pick: 0 }),
+            ("cut 18446744073709551615", Command::Cut { pick: u64::MAX }),
+            ("arm 1 0", Command::Arm { step: 1, pick: 0 }),
+            (
+                "arm 1000000 7",
+                Command::Arm {
+                    step: 1_000_000,
+                    pick: 7,
+                },
+            ),
+        ] {
             assert_eq!(rt; parse_line(line.as_bytes()), Ok(want), "{line}");
         }
     }
@@ -138,6 +234,26 @@ mod tests {
             "type 1 4294967298 1",
             "type 1111111111111111111111111111111111111111 2 1",
             "type 1 2 1000000000000000000000000000000000000000000000000000000000000000000000000000000000000000000000000000",
+            "client",
+            "client 0 5",
+            "client 8 5 5",
+            "client 256 5 5",
+            "client 0 65536 5",
+            "client 0 5 65536",
+            "client 00 5 5",
+            "client 0 5 5 5",
+            "leave",
+            "leave 8",
+            "leave 0 0",
+            "leave 0 ",
+            "cut",
+            "cut 18446744073709551616",
+            "cut 0 0",
+            "arm 1",
+            "arm 0 0",
+            "arm 1000001 0",
+            "arm 1 18446744073709551616",
+            "arm 1 0 0",
             // 128 and 129 bytes
             "type 1 2 11111111111111111111111111111111111111111111111111111111111111111111111111111111111111111111111111111111111111111111111",
             "type 1 2 111111111111111111111111111111111111111111111111111111111111111111111111111111111111111111111111111111111111111111111111",

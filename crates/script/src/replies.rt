@@ -14,6 +14,8 @@ fn text_of(reply: Reply) -> &'static [u8]
     match reply {
         Reply::Ok => b"ok\n",
         Reply::No(Refusal::Bad) => b"no bad\n",
+        Reply::No(Refusal::Client) => b"no client\n",
+        Reply::No(Refusal::Taken) => b"no taken\n",
         Reply::No(Refusal::Clash) => b"no clash\n",
         Reply::No(Refusal::Full) => b"no full\n",
         Reply::Cut => b"cut\n",
@@ -40,6 +42,8 @@ mod tests {
         for (reply, text) in [
             (Reply::Ok, "ok\n"),
             (Reply::No(Refusal::Bad), "no bad\n"),
+            (Reply::No(Refusal::Client), "no client\n"),
+            (Reply::No(Refusal::Taken), "no taken\n"),
             (Reply::No(Refusal::Clash), "no clash\n"),
             (Reply::No(Refusal::Full), "no full\n"),
             (Reply::Cut, "cut\n"),

@@ -1,5 +1,6 @@
 use Rattle.std.proofs.Common.{◌≡◌, [], true, false, refl, sym, ◌∙◌}
 use Rattle.std.proofs.lemmas.Result.{err_from_is_err_and}
+use Rattle.puddled.proofs.Counted.{counted_ends}
 use Rattle.puddle_cli.proofs.Answering.{AnswersLine-turn, AnswersLine-nothing}
 use Rattle.puddle_cli.proofs.run.answer.Goals as goal
 
@@ -20,3 +21,8 @@ returns-clause-answers g c = λ t size e w ready line kept.
     let some : c.args.piece.now ≡ [] → ⊥ = λ none. let no : true ≡ false = sym (c.is_empty.ensures.1 none) ∙ c.if-is_empty.false in cc in
     let answers = rw c.bytes.ensures at (c.in_ok-exec.ensures.answers t size e w ready) in
     AnswersLine-turn size w c.args.piece.now line _ _ _ _ _ some kept answers
+
+pub returns-in_err-exec-clause-cause : goal.returns-in_err-exec-clause-cause
+returns-in_err-exec-clause-cause g c =
+    let p = err_from_is_err_and c.from_residual.result c.from_residual.ensures.1 in
+    rw (p.1, p.2) (counted_ends _ _ 0 _ _ c.in_err-exec.ensures.cause)

@@ -1,16 +1,15 @@
-use Rattle.std.proofs.Common.{Bool, true, Result, None, refl, sym, ap, subst, ◌∙◌}
+use Rattle.std.proofs.Common.{Bool, true, Result, None, refl, sym, subst, ◌∙◌}
 use Rattle.std.proofs.lemmas.Result.{err_from_is_err_and}
-use Rattle.pm_model.specs.Counts.{Counts}
 use Rattle.pud_defs.specs.Run.{last_world, open_rest}
 use Rattle.puddled.specs.declared.daemon.RunFault.{RunFault}
-use Rattle.puddled.proofs.Counted.{counted_nothing, none_is_sound, size_of_counted, CountsCuts-still}
+use Rattle.puddled.proofs.Counted.{none_is_sound, size_of_ends, Grows-still}
 use Rattle.puddle_cli.specs.Serving.{AnsweredBy}
 use Rattle.puddle_cli.proofs.Answering.{Takes-start, Serves-start, Answered-last, Answered-end, Answered-so_far}
 use Rattle.puddle_cli.proofs.run.serve.Goals as goal
 
 pub loop-taken-init : goal.loop-taken-init
 loop-taken-init g c = record {
-  counts = CountsCuts-still _ _ refl;
+  counts = Grows-still _ _ refl;
   takes = λ t. Takes-start _ _ refl;
   serves = λ t size e w ready. rw c.new-piece.ensures (Serves-start size w _ _ _ refl ready);
 }
@@ -18,19 +17,19 @@ loop-taken-init g c = record {
 pub returns-in_err-answer-clause-answered : goal.returns-in_err-answer-clause-answered
 returns-in_err-answer-clause-answered g c = λ t size e w ready.
     let p = err_from_is_err_and c.from_residual-in_err-answer.result c.from_residual-in_err-answer.ensures.1 in
-    let same = e ∙ sym (ap (λ (x : Counts). x.size) c.loop-taken.invariant.counts.others) in
+    let same = e ∙ sym c.loop-taken.invariant.counts.size in
     let s = c.in_ok-serve_byte.ensures.serves t size same w _ _ (c.loop-taken.invariant.serves t size e w ready) in
-    let line = c.in_err-answer.ensures.answers t size (same ∙ sym (size_of_counted _ _ _ _ c.in_ok-serve_byte.ensures.cause)) (last_world w s.turns) s.ready (open_rest s.taken) s.under_way in
+    let line = c.in_err-answer.ensures.answers t size (same ∙ sym (size_of_ends _ _ _ c.in_ok-serve_byte.ensures.cause)) (last_world w s.turns) s.ready (open_rest s.taken) s.under_way in
     subst (λ (r : Result Bool RunFault). AnsweredBy size w r (g.H.Host.counts c.args.h.now) (g.H.Host.counts c.answer.new.h) (g.H.Host.state c.args.h.now) (g.H.Host.state c.answer.new.h)) (sym p.1)
     (rw p.2 (true, Answered-last size w _ _ _ _ _ _ _ refl s _ _ _ refl (c.in_ok-serve_byte.ensures.ended t c.if-not-branch.true) line))
 
 pub returns-then-not-branch-clause-answered : goal.returns-then-not-branch-clause-answered
 returns-then-not-branch-clause-answered g c = λ t size e w ready.
-    let same = e ∙ sym (ap (λ (x : Counts). x.size) c.loop-taken.invariant.counts.others) in
+    let same = e ∙ sym c.loop-taken.invariant.counts.size in
     let s = c.in_ok-serve_byte.ensures.serves t size same w _ _ (c.loop-taken.invariant.serves t size e w ready) in
-    let line = c.in_ok-answer.ensures.answers t size (same ∙ sym (size_of_counted _ _ _ _ c.in_ok-serve_byte.ensures.cause)) (last_world w s.turns) s.ready (open_rest s.taken) s.under_way in
+    let line = c.in_ok-answer.ensures.answers t size (same ∙ sym (size_of_ends _ _ _ c.in_ok-serve_byte.ensures.cause)) (last_world w s.turns) s.ready (open_rest s.taken) s.under_way in
     Answered-end size w _ _ _ _ _ _ _ refl s _ _ refl (c.in_ok-serve_byte.ensures.ended t c.if-not-branch.true) line
 
 pub returns-clause-answered : goal.returns-clause-answered
 returns-clause-answered g c = λ t size e w ready.
-    Answered-so_far size w _ _ _ _ _ _ _ refl (c.loop-taken.invariant.serves t size e w ready) None _ refl (counted_nothing _ _ refl) none_is_sound
+    Answered-so_far size w _ _ _ _ _ _ _ refl (c.loop-taken.invariant.serves t size e w ready) None _ refl (λ lost. cc, refl) none_is_sound

@@ -1,13 +1,13 @@
 use Rattle.std.proofs.Common.{◌≡◌, ℕ}
 use Rattle.pud_defs.specs.World.{World}
-use Rattle.puddled.specs.Faults.{CountsCuts}
+use Rattle.puddled.specs.Faults.{Grows}
 use Rattle.puddled.specs.Daemon.{IsReady}
 use Rattle.puddle_cli.specs.Serving.{Takes, Serves}
 use Rattle.puddle_cli.proofs.run.serve.Given as goal
 
 abbrev pub invariant-loop-taken : goal.invariant-loop-taken
 invariant-loop-taken g l = record {
-  counts : CountsCuts 0 (g.H.Host.counts l.initial.h) (g.H.Host.counts l.h);
+  counts : Grows (g.H.Host.counts l.initial.h) (g.H.Host.counts l.h);
   takes : g.H.Host.tells → Takes l._taken (g.H.Host.state l.initial.h) (g.H.Host.state l.h);
   serves : g.H.Host.tells → (size : ℕ) → size ≡ (g.H.Host.counts l.initial.h).size → (w : World) → IsReady size w (g.H.Host.state l.initial.h)
       → Serves size w (g.H.Host.counts l.initial.h) (g.H.Host.state l.initial.h) (g.H.Host.counts l.h) (g.H.Host.state l.h) l.piece;

@@ -5,9 +5,9 @@ use Rattle.pm_model.specs.Counts.{Counts}
 use Rattle.pud_defs.specs.Run.{last_world, open_rest}
 use Rattle.puddled.specs.declared.daemon.RunFault.{RunFault}
 use Rattle.puddled.specs.Faults.{of_host}
-use Rattle.puddled.proofs.Counted.{counted_nothing, counted_say, host_is_sound}
+use Rattle.puddled.proofs.Counted.{Ends-host, host_is_sound}
 use Rattle.puddle_cli.specs.Serving.{Serves, TakesOne}
-use Rattle.puddle_cli.proofs.Answering.{ready_read, Answered-newline, Answered-so_far, Serves-line, Serves-byte, Takes-more, TakesAtMost-takes}
+use Rattle.puddle_cli.proofs.Answering.{counts_nothing_more, ready_read, Answered-newline, Answered-so_far, Serves-line, Serves-byte, Takes-more, TakesAtMost-takes}
 use Rattle.puddle_cli.proofs.run.serve_byte.Goals as goal
 
 pub returns-in_err-read-clause-answered : goal.returns-in_err-read-clause-answered
@@ -16,7 +16,7 @@ returns-in_err-read-clause-answered g c =
     rw (p.1, p.2) (λ t size e w before start s.
     let fault = c.in_err-read.field-0.0 in
     Answered-so_far size w before start _ _ _ _ _ refl s (Some (of_host fault)) _ (c.in_err-read.ensures.failed t)
-    (counted_say fault 0 _ _ _ (counted_nothing _ _ refl) c.in_err-read.ensures.cause c.in_err-read.ensures.never_cut) (host_is_sound fault))
+    (counts_nothing_more fault _ _ c.in_err-read.ensures.cause c.in_err-read.ensures.never_cut) (host_is_sound fault))
 
 pub returns-in_err-answer-in-Some-eq10-clause-answered : goal.returns-in_err-answer-in-Some-eq10-clause-answered
 returns-in_err-answer-in-Some-eq10-clause-answered g c =
@@ -61,4 +61,4 @@ returns-in-Some-clause-takes g c = λ t count start so_far.
 pub returns-in_err-read-clause-cause : goal.returns-in_err-read-clause-cause
 returns-in_err-read-clause-cause g c =
     let p = err_from_is_err_and c.from_residual.result c.from_residual.ensures.1 in
-    rw (p.1, p.2) (counted_say c.in_err-read.field-0.0 0 _ _ _ (counted_nothing _ _ refl) c.in_err-read.ensures.cause c.in_err-read.ensures.never_cut)
+    rw (p.1, p.2) (Ends-host c.in_err-read.field-0.0 _ _ c.in_err-read.ensures.cause c.in_err-read.ensures.never_cut)

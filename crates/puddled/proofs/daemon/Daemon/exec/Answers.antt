@@ -19,14 +19,22 @@ returns-in_err-say_reply-clause-answers g c =
     let s = c.in_ok-reply.ensures.settles t size e w ready in
     let fault = c.in_err-say_reply.field-0.0 in
     Answers-said size w c.args.line.now _ _ _ _ _ _ _ s (Err (of_host fault)) (Some fault) (c.in_err-say_reply.ensures.says t) (λ no. absurd (not_none (of_host fault) no)) tt (host_is_sound fault)
-    (counted_say fault _ _ _ _ s.counted c.in_err-say_reply.ensures.cause c.in_err-say_reply.ensures.never_cut))
+    (counted_say _ fault _ _ _ _ s.counted c.in_err-say_reply.ensures.cause c.in_err-say_reply.ensures.never_cut))
 
 pub returns-clause-restarted : goal.returns-clause-restarted
 returns-clause-restarted g c = λ t. elim c.if-aloud.branch [
   | then-aloud+in_ok-say_reply b ↦
       rw b.h-is (λ _ moved. sound_said _ _ _ _ _ (b.in_ok-say_reply.ensures.says t)
-      (c.in_ok-reply.ensures.restarted t (c.in_ok-reply.ensures.told refl (λ same. moved (ap (λ (x : Counts). x.cuts) b.in_ok-say_reply.ensures.cause ∙ same)))))
-  | else-aloud b ↦ rw b.h-is (λ _ moved. c.in_ok-reply.ensures.restarted t (c.in_ok-reply.ensures.told refl moved))
+      (c.in_ok-reply.ensures.restarted t refl (λ same. moved (ap (λ (x : Counts). x.cuts) b.in_ok-say_reply.ensures.cause ∙ same))))
+  | else-aloud b ↦ rw b.h-is (λ _ moved. c.in_ok-reply.ensures.restarted t refl moved)
+]
+
+pub returns-clause-restarted_at_once : goal.returns-clause-restarted_at_once
+returns-clause-restarted_at_once g c = λ t. elim c.if-aloud.branch [
+  | then-aloud+in_ok-say_reply b ↦
+      rw b.h-is (λ _ moved. sound_said _ _ _ _ _ (b.in_ok-say_reply.ensures.says t)
+      (c.in_ok-reply.ensures.restarted_at_once t refl (λ same. moved (ap (λ (x : Counts). x.losses) b.in_ok-say_reply.ensures.cause ∙ same))))
+  | else-aloud b ↦ rw b.h-is (λ _ moved. c.in_ok-reply.ensures.restarted_at_once t refl moved)
 ]
 
 pub returns-clause-answers : goal.returns-clause-answers
@@ -35,14 +43,14 @@ returns-clause-answers g c = λ t size e w ready.
     elim c.if-aloud.branch [
       | then-aloud+in_ok-say_reply b ↦
           rw (b.if-aloud.true, b.h-is) (Answers-said size w c.args.line.now _ _ _ _ _ _ _ s (Ok c.eq.result) None (b.in_ok-say_reply.ensures.says t) (λ _. refl)
-          (begins_by_eq _ _ (search rules)) (none_is_sound) (counted_same _ _ _ _ _ s.counted b.in_ok-say_reply.ensures.cause))
+          (begins_by_eq _ _ (search rules)) (none_is_sound) (counted_same _ _ _ _ _ _ s.counted b.in_ok-say_reply.ensures.cause))
       | else-aloud b ↦ rw (b.if-aloud.false, b.h-is) (Answers-unsaid size w c.args.line.now _ c.eq.result _ _ _ _ s (begins_by_eq _ _ (search rules)))
     ]
 
 pub returns-in_err-say_reply-clause-cause : goal.returns-in_err-say_reply-clause-cause
 returns-in_err-say_reply-clause-cause g c =
     let p = err_from_is_err_and c.from_residual-in_err-say_reply.result c.from_residual-in_err-say_reply.ensures.1 in
-    rw (p.1, p.2) (counted_say c.in_err-say_reply.field-0.0 _ _ _ _ c.in_ok-reply.ensures.cause c.in_err-say_reply.ensures.cause c.in_err-say_reply.ensures.never_cut)
+    rw (p.1, p.2) (counted_say _ c.in_err-say_reply.field-0.0 _ _ _ _ c.in_ok-reply.ensures.cause c.in_err-say_reply.ensures.cause c.in_err-say_reply.ensures.never_cut)
 
 pub returns-in_err-say_reply-clause-rest : goal.returns-in_err-say_reply-clause-rest
 returns-in_err-say_reply-clause-rest g c = λ t. KeepsRest-says _ _ _ _ _ (c.in_ok-reply.ensures.rest t) (c.in_err-say_reply.ensures.says t)

@@ -3,7 +3,7 @@ use Rattle.pm_model.specs.Words.{reads}
 use Rattle.pud_defs.specs.declared.machine.Refusal.{Refusal}
 use Rattle.pud_defs.specs.Step.{reply_to}
 use Rattle.puddled.proofs.Defining.{Applies-define, KeepsRest-define, refusal_when_ready}
-use Rattle.puddled.proofs.commands.define_type.Goals as goal
+use Rattle.puddled.proofs.types.define_type.Goals as goal
 
 pub returns-in-Ok-clause-reply : goal.returns-in-Ok-clause-reply
 returns-in-Ok-clause-reply g c = λ t size e w ready. ap (λ (o : Option Refusal). reply_to o) (c.in-Ok.ensures.refusal t refl ∙ refusal_when_ready size w c.args.id c.args.map _ ready)

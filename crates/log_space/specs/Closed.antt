@@ -1,0 +1,35 @@
+-- A client's four logs closed.
+use Rattle.std.specs.Prelude.{◌≡◌, ℕ, ◌<◌, [], Option, Some, None}
+use Rattle.pm_model.specs.declared.host.HostFault.{HostFault}
+use Rattle.pm_model.specs.Words.{HasOnly}
+use Rattle.pm_model.specs.Moments.{State}
+use Rattle.pm_model.specs.Changes.{Footprint, Changes, Leaves, Silently}
+use Rattle.pud_defs.specs.declared.layout.TheConstants.{CLIENT_LOGS}
+use Rattle.pud_defs.specs.declared.log_words.TheConstants.{CLOSED_GATE}
+use Rattle.pud_defs.specs.Layout.{log_at}
+use Rattle.pud_defs.specs.Spaces.{IsGateOf}
+use Rattle.pud_defs.specs.World.{StoredWorld, world_of}
+use Rattle.registry.specs.Registry.{IsSettled}
+use Rattle.log_space.specs.Records.{HasClosedLogs}
+
+-- to each gate of the client's logs the one of a closed log may come
+abbrev pub ByClosing : ℕ → ℕ → Footprint
+ByClosing F slot k v = IsGateOf F slot k × (v ≡ CLOSED_GATE)
+
+-- The gates of the client's logs may be written, and no other word; without a fault those of the first n are, and marked.
+pub record WritesGates (F slot n : ℕ) (fault : Option HostFault) (old new : State) : Type 0 where
+  pub changes : Changes (ByClosing F slot) fault old new
+  pub newest : fault ≡ None → (m : ℕ) → m < n → (new.now.words (log_at F slot m)).newest ≡ CLOSED_GATE
+  pub marked : fault ≡ None → (m : ℕ) → m < n → (new.now.words (log_at F slot m)).kept ≡ []
+
+-- The gates of the client's logs are written, and no other word; without a fault each has that value and no other.
+pub record ClosesGates (F slot : ℕ) (fault : Option HostFault) (old new : State) : Type 0 where
+  pub changes : Changes (ByClosing F slot) fault old new
+  pub durable : fault ≡ None → (m : ℕ) → m < CLIENT_LOGS → HasOnly (new.now.words (log_at F slot m)) CLOSED_GATE
+
+-- The client's logs are closed: at each moment each image stands for the world; without a fault they are closed in each, and the daemon log is.
+pub record Closes (size : ℕ) (s : StoredWorld) (slot : ℕ) (fault : Option HostFault) (old new : State) : Type 0 where
+  pub changes : Changes (ByClosing s.frames slot) fault old new
+  pub moments : Leaves (Silently (λ image. world_of size image ≡ Some s)) old new
+  pub settled : fault ≡ None → IsSettled size s new.now.words
+  pub closed : fault ≡ None → HasClosedLogs s.frames slot new.now.words

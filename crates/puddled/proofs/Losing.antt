@@ -1,0 +1,86 @@
+-- Power lost at once, and what is left then.
+use Rattle.std.proofs.Common.{◌≡◌, inl, inr, ⊎_elim, ℕ, [], Option, Some, None, refl, sym, ap, subst, ◌∙◌}
+use Rattle.std.proofs.lemmas.List.{append-nil}
+use Rattle.pm_model.specs.declared.host.HostFault.{HostFault}
+use Rattle.pm_model.specs.declared.host.HostFault.TheVariants.{Failed, Cut}
+use Rattle.pm_model.specs.Words.{Has, values, Picks, IsRested, reads}
+use Rattle.pm_model.specs.Moments.{State}
+use Rattle.pm_model.specs.Calls.{LosesPower, LosesAtOnce}
+use Rattle.pm_model.specs.Changes.{Footprint, Changes, Leaves, Silently}
+use Rattle.pm_model.proofs.Words.{Picks-reads}
+use Rattle.pm_model.proofs.Changes.{Changes-fence, Changes-said, Changes-now}
+use Rattle.pm_model.proofs.Leaves.{Leaves-changes, Leaves-still, Leaves-then}
+use Rattle.pud_defs.specs.Image.{Image}
+use Rattle.pud_defs.specs.World.{World, world_of, closed}
+use Rattle.puddled.specs.Daemon.{KeepsRest, IsReady, Recovers}
+
+-- no value comes to any word
+abbrev Nothing : Footprint
+Nothing k v = ⊥
+
+-- What a power loss leaves: each word has one of its values, nothing was said, and the rest stays.
+pub record IsLost (a b : State) : Type 1 where
+  pub rested : IsRested b.now.words
+  pub within : (k v : ℕ) → Has (values (b.now.words k)) v → Has (values (a.now.words k)) v
+  pub moments : (P : Image → Type 0) → ((image : Image) → Picks a.now.words image → P image) → Leaves (Silently P) a b
+  pub quiet : b.now.said ≡ a.now.said
+  pub script : b.script ≡ a.script
+  pub shelf : b.shelf ≡ a.shelf
+
+changes_of : (a b : State) → LosesPower a b → Changes Nothing (Some Cut) a b
+changes_of a b lost = Changes-fence Nothing (Some Cut) a b (record {
+  done = λ none. absurd (let it : Some Cut ≡ None = none in cc);
+  failed = λ failed. absurd (let it : Some Cut ≡ Some Failed = failed in cc);
+  cut = λ _. lost;
+})
+
+pub lost_at_once : (a b : State) → LosesAtOnce a b → IsLost a b
+lost_at_once a b (inl lost) =
+    let c = changes_of a b lost in
+    record {
+      rested = c.rests refl;
+      within = λ k v had. ⊎_elim (λ was. was) (λ new. absurd new) (Changes-now Nothing (Some Cut) a b c k v had);
+      moments = λ P each. Leaves-changes P Nothing (Some Cut) a b
+          (λ before image picked from. each image (record {
+            each = λ k. subst (λ (v : ℕ). Has (values (a.now.words k)) v) (sym (⊎_elim (λ same. same) (λ new. absurd new) (from.each k))) (picked.each k);
+          })) c;
+      quiet = Changes-said Nothing (Some Cut) a b c;
+      script = c.script;
+      shelf = c.shelf;
+    }
+lost_at_once a b (inr still) = record {
+  rested = subst (λ (s : State). IsRested s.now.words) (sym still.1) still.0;
+  within = λ k v had. subst (λ (s : State). Has (values (s.now.words k)) v) still.1 had;
+  moments = λ P each. Leaves-still (Silently P) a b (λ image picked. (refl, each image picked)) still.1;
+  quiet = ap (λ (s : State). s.now.said) still.1;
+  script = ap (λ (s : State). s.script) still.1;
+  shelf = ap (λ (s : State). s.shelf) still.1;
+}
+
+-- what a ready daemon's device then reads as
+pub world_lost : (size : ℕ) (w : World) (a b : State) → IsReady size w a → LosesAtOnce a b → world_of size (reads b.now.words) ≡ Some (closed w)
+world_lost size w a b ready loses =
+    let lost = lost_at_once a b loses in
+    ready.stands (reads b.now.words) (record { each = λ k. lost.within k (reads b.now.words k) ((Picks-reads b.now.words).each k) })
+
+pub shelf_lost : (size : ℕ) (w : World) (a b : State) → IsReady size w a → LosesAtOnce a b → b.shelf ≡ w.shelf
+shelf_lost size w a b ready loses = (lost_at_once a b loses).shelf ∙ ready.shelf
+
+-- the daemon recovers from there
+pub Recovers-lost : (size : ℕ) (w : World) (fault : Option HostFault) (a b c : State) → IsReady size w a → LosesAtOnce a b → Recovers size w fault b c → Recovers size w fault a c
+Recovers-lost size w fault a b c ready loses r =
+    let lost = lost_at_once a b loses in
+    let P = Silently (λ (image : Image). world_of size image ≡ Some (closed w)) in
+    record {
+      moments = Leaves-then P P P [] a b c (lost.quiet ∙ sym (append-nil a.now.said)) (λ front image m. m) (λ more image m. m)
+          (lost.moments (λ (image : Image). world_of size image ≡ Some (closed w)) ready.stands) r.moments;
+      quiet = r.quiet ∙ lost.quiet;
+      ready = r.ready;
+      script = r.script ∙ lost.script;
+      shelf = r.shelf ∙ lost.shelf;
+    }
+
+pub KeepsRest-lost : (a b c : State) → LosesAtOnce a b → KeepsRest b c → KeepsRest a c
+KeepsRest-lost a b c loses k =
+    let lost = lost_at_once a b loses in
+    record { script = k.script ∙ lost.script; shelf = k.shelf ∙ lost.shelf }
