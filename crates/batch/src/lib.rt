@@ -95,7 +95,8 @@ impl Batch {
         requires some { 1 ≤ length vals.now }
         requires no_more { length vals.now ≤ MAX_ENTRY_VALUES }
         ensures too_big { (IsErr result) ↔ (LOG_ENTRY_WORDS < words_of self.old + (length vals.now + ENTRY_HEADER_WORDS)) }
-        ensures added { IfOk result (λ _. self.new ≡ self.old ++ batch_entry w vals.now ∷ []) }
+        ensures added { words_of self.old + (length vals.now + ENTRY_HEADER_WORDS) ≤ LOG_ENTRY_WORDS
+            → self.new ≡ self.old ++ batch_entry w vals.now ∷ [] }
         ensures failed { OnErr result (self.new ≡ self.old) }
     {
         let more = vals.len() as u32 + ENTRY_HEADER_WORDS;

@@ -1,11 +1,11 @@
 -- Gates written one after the other, and what their closing leaves.
-use Rattle.std.proofs.Common.{◌≡◌, ◌⊎◌, inl, inr, ⊎_elim, ℕ, ◌+◌, ◌-◌, ◌<◌, ◌≤◌, true, [], ◌∷◌, Option, Some, None, refl, sym, ap, subst, ◌∙◌, arith}
+use Rattle.std.proofs.Common.{◌≡◌, inl, inr, ⊎_elim, ℕ, ◌+◌, ◌<◌, [], ◌∷◌, Option, Some, None, refl, sym, ap, subst, ◌∙◌, arith}
 use Rattle.std.proofs.lemmas.List.{append-nil}
 use Rattle.std.proofs.lemmas.Option.{same_Some}
 use Rattle.std.proofs.lemmas.Bool.{cases_eq}
 use Rattle.pm_model.specs.declared.host.HostFault.{HostFault}
 use Rattle.pm_model.specs.declared.host.HostFault.TheVariants.{Cut}
-use Rattle.pm_model.specs.Words.{Picks, HasOnly, after_fence}
+use Rattle.pm_model.specs.Words.{HasOnly, after_fence}
 use Rattle.pm_model.specs.Moments.{State}
 use Rattle.pm_model.specs.Calls.{Steps}
 use Rattle.pm_model.specs.Changes.{Changes, Writes, placed, written, IsFrom, IsKept, Silently}

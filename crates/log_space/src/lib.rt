@@ -8,9 +8,8 @@ ghost use Rattle.std.specs.Prelude.{◌≡◌, ◌≢◌, ◌+◌, ◌<◌, ◌�
 ghost use Rattle.pm_model.specs.Words.{reads};
 ghost use Rattle.pm_model.specs.Counts.{after_fault, fault_of};
 ghost use Rattle.pm_model.specs.Changes.{Changes};
-ghost use Rattle.pud_defs.specs.declared.layout.TheConstants.{DAEMON_LOG, LOG_WORDS, PUDDLE_TABLE, SPACE_RECORD_WORDS, CLIENTS, MIN_FRAMES, MAX_FRAMES, MAX_OWNER_ID};
+ghost use Rattle.pud_defs.specs.declared.layout.TheConstants.{DAEMON_LOG, PUDDLE_TABLE, SPACE_RECORD_WORDS, CLIENTS, MIN_FRAMES, MAX_FRAMES, MAX_OWNER_ID};
 ghost use Rattle.pud_defs.specs.Layout.{device_words, is_legal_frame_count};
-ghost use Rattle.pud_defs.specs.Spaces.{is_closed_range, is_closed_log};
 ghost use Rattle.pud_defs.specs.Registry.{has_room};
 ghost use Rattle.pud_defs.specs.World.{StoredWorld, world_of};
 ghost use Rattle.log_replay.specs.Replaying.{Anything};
@@ -23,13 +22,12 @@ mod closing;
 
 use batch::Batch;
 pub use closing::close_logs;
-use log_entry::well_formed;
 use pm_model::{Host, HostFault};
 use pud_defs::layout::{
     CLIENT_LOGS, FRAMES_WORD, MAX_FRAMES, MIN_FRAMES, SPACE_RECORD_WORDS, SPACE_TABLE,
     device_words, log_at,
 };
-use pud_defs::log_words::{COMMITTING_HI, gate_hi, gate_lo};
+use registry::is_closed_log;
 
 /// Gives the first words of the record of client `slot` these values, all or none.
 fn write_record<H: Host>(h: &mut H, slot: u32, vals: &[u64]) -> Result<(), HostFault>
@@ -81,28 +79,6 @@ pub fn unregister<H: Host>(h: &mut H, slot: u32) -> Result<(), HostFault>
     write_record(h, slot, &[0])
 }
 
-/// Whether a gate has the range of a closed log: (4,4), or (0,0) as after formatting.
-fn is_closed_range(gate: u64) -> bool
-    ensures { result ≡ is_closed_range gate }
-{
-    let hi = gate_hi(gate);
-    gate_lo(gate) == hi && (hi == COMMITTING_HI || hi == 0)
-}
-
-/// Whether the log whose gate is word `at` is closed.
-fn is_closed<H: Host>(h: &mut H, at: u32) -> Result<bool, HostFault>
-    requires { at + LOG_WORDS ≤ (H.counts h.old).size }
-    ensures answer { H.tells → IfOk result (λ closed. closed ≡ is_closed_log (reads (H.state h.old).now.words) at) }
-    ensures stays { H.tells → H.state h.new ≡ H.state h.old }
-    ensures cause { H.counts h.new ≡ after_fault (fault_of result) (H.counts h.old) }
-    ensures never_cut { fault_of result ≢ Option.Some HostFault.Cut }
-{
-    if !is_closed_range(h.load(at)?) {
-        return Ok(false);
-    }
-    well_formed(h, at)
-}
-
 /// The number of frames, where it is legal and a device of so many words has the words that so many frames need.
 fn frames_with_room(words: u32, frames: u64) -> Option<u32>
     ensures { result ≡ cond (is_legal_frame_count frames && nat_le (device_words frames) words) (Option.Some frames) Option.None }
@@ -129,7 +105,7 @@ fn first_closed<H: Host>(h: &mut H, frames: u32, slot: u32) -> Result<Option<u32
     ensures never_cut { fault_of result ≢ Option.Some HostFault.Cut }
 {
     for number in 0..CLIENT_LOGS {
-        if is_closed(h, log_at(frames, slot, number))? {
+        if is_closed_log(h, log_at(frames, slot, number))? {
             return Ok(Some(CLIENT_LOGS * slot + number));
         }
     }

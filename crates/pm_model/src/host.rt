@@ -8,20 +8,24 @@ ghost use Rattle.pm_model.specs.Calls.{Armed, Steps, CountsDown, LosesAtOnce, Ta
 use std::alloc::Global;
 
 /// Why a call of a host was not done.
-#[derive(Clone, Copy, Debug, PartialEq, Eq)]
+#[derive(Clone, Copy, Debug, PartialEq, Eq, thiserror::Error)]
 pub enum HostFault {
     /// The device, a stream or a file failed; the host's count of faults rose.
+    #[error("the device, a stream or a file failed")]
     Failed,
     /// Power was lost at this device step, which was not carried out; the host's count of cuts rose.
+    #[error("power was lost")]
     Cut,
 }
 
 /// Why a call on a file was not done.
-#[derive(Clone, Copy, Debug, PartialEq, Eq)]
+#[derive(Clone, Copy, Debug, PartialEq, Eq, thiserror::Error)]
 pub enum FileFault {
     /// Memory was refused; nothing changed.
+    #[error("memory was refused")]
     Memory,
     /// The host's own fault.
+    #[error("the host failed")]
     Host(HostFault),
 }
 

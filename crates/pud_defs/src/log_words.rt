@@ -6,6 +6,7 @@
 
 ghost use Rattle.std.specs.Prelude.{◌≡◌, ◌<◌, ◌^◌};
 ghost use Rattle.pud_defs.specs.Entries.{gate_lo, gate_hi, gate_used, gate_word, entry_n, entry_seq, entry_order, entry_word, is_legal_gate, is_legal_entry_word};
+ghost use Rattle.pud_defs.specs.Spaces.{is_closed_range};
 
 use crate::layout::{LOG_ENTRY_WORDS, MAX_ENTRY_VALUES};
 
@@ -77,6 +78,14 @@ pub fn is_legal_gate(v: u64) -> bool
     v >> 32 == 0 && gate_used(v) <= LOG_ENTRY_WORDS
 }
 
+/// Whether the gate has the range of a closed log: (4,4), or (0,0) as after formatting.
+pub fn is_closed_range(v: u64) -> bool
+    ensures { result ≡ is_closed_range v }
+{
+    let hi = gate_hi(v);
+    gate_lo(v) == hi && (hi == COMMITTING_HI || hi == 0)
+}
+
 /// How many values follow the second word of an entry, 0 to 65,535.
 pub fn entry_n(v: u64) -> u32
     ensures { result ≡ entry_n v }
@@ -134,6 +143,15 @@ mod tests {
                 (lo, hi, used)
             );
             assert_eq!(rt; is_legal_gate(word), true, "gate {word}");
+        }
+        for (word, closed) in [
+            (0, true),
+            (CLOSED_GATE, true),
+            (RUNNING_GATE, false),
+            (514, false),
+            (771, false),
+        ] {
+            assert_eq!(rt; is_closed_range(word), closed, "gate {word}");
         }
         assert_eq!(rt; is_legal_gate(1_017 << 16), false);
         assert_eq!(rt; is_legal_gate(1 << 32), false);

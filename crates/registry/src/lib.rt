@@ -20,7 +20,7 @@ use pm_model::{Host, HostFault};
 use pud_defs::layout::{
     CLIENTS, DAEMON_LOG, FRAMES_WORD, MACHINE_WORD, SPACE_RECORD_WORDS, SPACE_TABLE,
 };
-pub use soundness::is_sound;
+pub use soundness::{is_closed_log, is_sound};
 
 /// What a device is: how many frames it has, 4 to 1,024, and its machine id.
 #[derive(Clone, Copy, Debug, PartialEq, Eq)]

@@ -24,7 +24,8 @@ use pud_defs::layout::{
 use pud_defs::machine::Command;
 
 /// The line is not in the grammar.
-#[derive(Clone, Copy, Debug, PartialEq, Eq)]
+#[derive(Clone, Copy, Debug, PartialEq, Eq, thiserror::Error)]
+#[error("the line is no command")]
 pub struct Bad;
 
 /// The number of a client.

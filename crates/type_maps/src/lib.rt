@@ -12,13 +12,16 @@ use pm_persist::persist_word;
 use pud_defs::layout::{POOL_TABLE, TYPE_RECORD_WORDS, TYPE_RECORDS, TYPE_TABLE};
 
 /// Why a type was not defined. Nothing changed but after a fault of the host.
-#[derive(Clone, Copy, Debug, PartialEq, Eq)]
+#[derive(Clone, Copy, Debug, PartialEq, Eq, thiserror::Error)]
 pub enum TypeFault {
     /// The id is defined with another map.
+    #[error("the type is defined with another map")]
     Clash,
     /// The id is not defined, and each record is used.
+    #[error("the type table is full")]
     Full,
     /// The host's own fault.
+    #[error("the host failed")]
     Host(HostFault),
 }
 

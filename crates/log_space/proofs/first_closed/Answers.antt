@@ -1,4 +1,4 @@
-use Rattle.std.proofs.Common.{◌≡◌, ℕ, ◌+◌, ◌-◌, true, false, option_map, sym, ap, ap₂, ◌∙◌, arith}
+use Rattle.std.proofs.Common.{◌≡◌, ℕ, ◌+◌, ◌-◌, true, false, option_map, sym, ap, ◌∙◌, arith}
 use Rattle.pm_model.specs.Words.{reads}
 use Rattle.pm_model.specs.Moments.{State}
 use Rattle.pm_model.specs.Counts.{after_fault, fault_of}
@@ -13,10 +13,11 @@ pub returns-then-branch-clause-first : goal.returns-then-branch-clause-first
 returns-then-branch-clause-first g c = λ t.
     let number = c.loop-number.number in
     let before = c.loop-number.invariant in
-    let test = λ (k : ℕ). is_closed_log (reads (g.H.Host.state c.args.h.now).now.words) (log_at c.args.frames c.args.slot k) in
+    let image = reads (g.H.Host.state c.args.h.now).now.words in
+    let test = λ (k : ℕ). is_closed_log image (log_at c.args.frames c.args.slot k) in
     let within = c.loop-number-test.true in
     let passes : test number ≡ true =
-    sym (c.in_ok-is_closed.ensures.answer t ∙ ap₂ (λ (s : State) (at : ℕ). is_closed_log (reads s.now.words) at) (before.stays t) c.log_at.ensures) ∙ c.if-branch.true in
+    sym (c.in_ok-is_closed_log.ensures.closed t image (ap (λ (s : State). reads s.now.words) (before.stays t)) ∙ ap (is_closed_log image) c.log_at.ensures) ∙ c.if-branch.true in
     sym (ap (option_map (log_number c.args.slot)) (before.passed t ∙ first_from-passes number (CLIENT_LOGS - number) test (omega arith) passes))
 
 pub loop-number-preserved : goal.loop-number-preserved
@@ -24,13 +25,14 @@ loop-number-preserved g c =
     let number = c.loop-number.number in
     let before = c.loop-number.invariant in
     record {
-      counts = c.is_closed.ensures.cause ∙ ap (λ r. after_fault (fault_of r) (g.H.Host.counts c.loop-number.h)) c.in_ok-is_closed.was ∙ before.counts;
-      stays = λ t. c.is_closed.ensures.stays t ∙ before.stays t;
+      counts = c.is_closed_log.ensures.cause ∙ ap (λ r. after_fault (fault_of r) (g.H.Host.counts c.loop-number.h)) c.in_ok-is_closed_log.was ∙ before.counts;
+      stays = λ t. c.is_closed_log.ensures.stays t ∙ before.stays t;
       passed = λ t.
-          let test = λ (k : ℕ). is_closed_log (reads (g.H.Host.state c.args.h.now).now.words) (log_at c.args.frames c.args.slot k) in
+          let image = reads (g.H.Host.state c.args.h.now).now.words in
+          let test = λ (k : ℕ). is_closed_log image (log_at c.args.frames c.args.slot k) in
           let within = c.loop-number-test.true in
           let fails : test number ≡ false =
-          sym (c.in_ok-is_closed.ensures.answer t ∙ ap₂ (λ (s : State) (at : ℕ). is_closed_log (reads s.now.words) at) (before.stays t) c.log_at.ensures) ∙ c.if-branch.false in
+          sym (c.in_ok-is_closed_log.ensures.closed t image (ap (λ (s : State). reads s.now.words) (before.stays t)) ∙ ap (is_closed_log image) c.log_at.ensures) ∙ c.if-branch.false in
           before.passed t ∙ first_from-fails number (CLIENT_LOGS - number) (CLIENT_LOGS - (number + 1)) test (omega arith) fails;
     }
 
