@@ -12,7 +12,7 @@ use Rattle.pud_defs.specs.Layout.{tables_end, frames_at, device_words}
 use Rattle.pud_defs.specs.Entries.{Entry, Log, log_of}
 use Rattle.pud_defs.specs.Replay.{device_word, is_in_range, value_at, given_by, undone, redone, new_value, is_in_log, settled_by}
 use Rattle.pud_defs.specs.Registry.{frames_of, may_be_logged, is_allowed, are_allowed, has_legal_log}
-use Rattle.pud_defs.proofs.Replay.{undone-first, redone-first, undone-none, redone-none, new_value-of, overwritten-stays, settled_by-outside, outside_log}
+use Rattle.pud_defs.proofs.Replay.{undone-first, redone-first, undone-none, redone-none, new_value-of, overwritten-stays, value_at-apart, settled_by-outside, outside_log}
 
 -- wherever the daemon log may write words, this one is none of them
 pub record IsUnlogged (F w : ℕ) : Type 0 where
@@ -45,17 +45,13 @@ apart_from F w at n number tables frames may = elim (or_cases ((eqb at NEXT_NUMB
 pub unlogged : (F w : ℕ) → (w ≡ NEXT_NUMBER_WORD → ⊥) → (w < TYPE_TABLE) ⊎ (tables_end F ≤ w) → w < frames_at F → IsUnlogged F w
 unlogged F w number tables frames = record { apart = λ at n may. apart_from F w at n number tables frames may }
 
-value_apart : (at w : ℕ) (vals : List ℕ) → (w < at) ⊎ (at + length vals ≤ w) → value_at at vals w ≡ None
-value_apart at w vals (inl before) = cond-false _ _ _ (lt-leb at w before)
-value_apart at w vals (inr behind) = cond-true _ _ _ (le-leb at w (omega arith)) ∙ slice_get_past vals (w - at) (omega arith)
-
 not_given : (F order w : ℕ) (log : Log) (e : Entry) → is_allowed F log e ≡ true → IsUnlogged F w → given_by device_word log order e w ≡ None
 not_given F order w log e allowed none = elim (cases_Bool (is_in_range log e && eqb e.order order)) [
   | inr other ↦ cond-false _ _ _ other
   | inl counts ↦
       let within = (and_parts (is_in_range log e) (eqb e.order order) counts).0 in
       let may : may_be_logged F e.address (length e.vals) ≡ true = sym (ap (λ (b : Bool). not b || may_be_logged F e.address (length e.vals)) within) ∙ allowed in
-      cond-true _ _ _ counts ∙ value_apart e.address w e.vals (none.apart e.address (length e.vals) may)
+      cond-true _ _ _ counts ∙ value_at-apart e.address w e.vals (none.apart e.address (length e.vals) may)
 ]
 
 not_undone : (F w : ℕ) (log : Log) (es : List Entry) → list_all (is_allowed F log) es ≡ true → IsUnlogged F w → undone device_word log es w ≡ None
