@@ -1,6 +1,6 @@
 -- What replay makes of an image: which words stay, in which order, and once more.
 use Rattle.std.proofs.Common.{◌≡◌, ◌⊎◌, inl, inr, ℕ, ◌+◌, ◌-◌, ◌<◌, ◌≤◌, true, false, ◌&&◌, ltb, leb, eqb, List, [], ◌∷◌, ◌++◌, length, Option, Some, None, refl, sym, ap, ap₂, ◌∙◌, arith, ne_eqb}
-use Rattle.std.specs.Prelude.{unwrap_or}
+use Rattle.std.specs.Prelude.{slice_get, unwrap_or}
 use Rattle.std.specs.Option.{option_or}
 use Rattle.std.proofs.lemmas.Bool.{leb-true, eqb-true, ltb-true, le-leb, lt-leb, lt-ltb, and_from, and_parts, and_left, and_right, cond-true, cond-false, cases_Bool}
 use Rattle.std.proofs.lemmas.Bool.Decides.{leb_tells, nat_tests}
@@ -52,12 +52,18 @@ overwritten-either_order f g image apart = λ p w. either_first (f w) (g w) (ima
 pub overwritten-nothing : (write : ℕ → Option ℕ) (image : Image) → ((w : ℕ) → write w ≡ None) → overwritten write image ≡ image
 overwritten-nothing write image none = λ p w. overwritten-stays write image w (none w) p
 
--- ---- what entries give
+-- ---- what values placed from a word on give
 
--- values that are placed apart from a word give it none
-pub value_at-apart : (at w : ℕ) (vals : List ℕ) → (w < at) ⊎ (at + length vals ≤ w) → value_at at vals w ≡ None
-value_at-apart at w vals (inl before) = cond-false _ _ _ (lt-leb at w before)
-value_at-apart at w vals (inr behind) = cond-true _ _ _ (le-leb at w (omega arith)) ∙ slice_get_past vals (w - at) (omega arith)
+-- the word of this number has the value of this number
+pub value_at-there : (at n k : ℕ) (vals : List ℕ) → k ≡ at + n → value_at at vals k ≡ slice_get vals n
+value_at-there at n k vals here = cond-true _ _ _ (le-leb at k (omega arith)) ∙ ap (slice_get vals) (let e : k - at ≡ n = omega arith in e)
+
+-- a word in front of them or behind them gets none
+pub value_at-apart : (at k : ℕ) (vals : List ℕ) → (k < at) ⊎ (at + length vals ≤ k) → value_at at vals k ≡ None
+value_at-apart at k vals (inl before) = cond-false _ _ _ (lt-leb at k before)
+value_at-apart at k vals (inr behind) = cond-true _ _ _ (le-leb at k (omega arith)) ∙ slice_get_past vals (k - at) (omega arith)
+
+-- ---- what entries give
 
 pub undone-first : (place : Place) (log : Log) (e : Entry) (es : List Entry) (w : ℕ) → undone place log (e ∷ es) w ≡ option_or (given_by place log UNDO_ORDER e w) (undone place log es w)
 unfolding undone
