@@ -1,14 +1,15 @@
 -- What replay makes of an image: which words stay, in which order, and once more.
-use Rattle.std.proofs.Common.{◌≡◌, ◌⊎◌, inl, inr, ℕ, ◌+◌, ◌<◌, ◌≤◌, true, false, ◌&&◌, ltb, leb, eqb, List, [], ◌∷◌, ◌++◌, Option, Some, None, refl, sym, ap, ap₂, ◌∙◌, arith}
-use Rattle.std.specs.Prelude.{unwrap_or}
+use Rattle.std.proofs.Common.{◌≡◌, ◌⊎◌, inl, inr, ℕ, ◌+◌, ◌-◌, ◌<◌, ◌≤◌, true, false, ◌&&◌, ltb, leb, eqb, List, [], ◌∷◌, ◌++◌, length, Option, Some, None, refl, sym, ap, ap₂, ◌∙◌, arith, ne_eqb}
+use Rattle.std.specs.Prelude.{slice_get, unwrap_or}
 use Rattle.std.specs.Option.{option_or}
-use Rattle.std.proofs.lemmas.Bool.{leb-true, eqb-true, ltb-true, le-leb, lt-leb, lt-ltb, and_from, and_parts, and_left, cond-true, cond-false, cases_Bool}
+use Rattle.std.proofs.lemmas.Bool.{leb-true, eqb-true, ltb-true, le-leb, lt-leb, lt-ltb, and_from, and_parts, and_left, and_right, cond-true, cond-false, cases_Bool}
 use Rattle.std.proofs.lemmas.Bool.Decides.{leb_tells, nat_tests}
+use Rattle.std.proofs.lemmas.Option.{slice_get_past}
 use Rattle.pud_defs.specs.declared.log_words.TheConstants.{UNDO_ORDER, REDO_ORDER}
 use Rattle.pud_defs.specs.Image.{Image}
 use Rattle.pud_defs.specs.declared.layout.TheConstants.{LOG_WORDS, LOG_HEADER_WORDS}
 use Rattle.pud_defs.specs.Entries.{Entry, Log, log_of, gate_lo, gate_hi, gate_used, is_legal_gate, is_closed_gate, entries_of, words_from}
-use Rattle.pud_defs.specs.Replay.{Place, device_word, is_in_range, given_by, undone, redone, given, entries_or_none, new_value, over, overwritten, replayed, is_in_log, settled_by, beside_log}
+use Rattle.pud_defs.specs.Replay.{Place, device_word, is_in_range, value_at, given_by, undone, redone, given, entries_or_none, new_value, over, overwritten, replayed, is_in_log, settled_by, beside_log}
 use Rattle.pud_defs.proofs.Entries.{words_from-none, entries_of-is, entries_in-nothing}
 
 -- ---- words written over an image
@@ -51,6 +52,17 @@ overwritten-either_order f g image apart = λ p w. either_first (f w) (g w) (ima
 pub overwritten-nothing : (write : ℕ → Option ℕ) (image : Image) → ((w : ℕ) → write w ≡ None) → overwritten write image ≡ image
 overwritten-nothing write image none = λ p w. overwritten-stays write image w (none w) p
 
+-- ---- what values placed from a word on give
+
+-- the word of this number has the value of this number
+pub value_at-there : (at n k : ℕ) (vals : List ℕ) → k ≡ at + n → value_at at vals k ≡ slice_get vals n
+value_at-there at n k vals here = cond-true _ _ _ (le-leb at k (omega arith)) ∙ ap (slice_get vals) (let e : k - at ≡ n = omega arith in e)
+
+-- a word in front of them or behind them gets none
+pub value_at-apart : (at k : ℕ) (vals : List ℕ) → (k < at) ⊎ (at + length vals ≤ k) → value_at at vals k ≡ None
+value_at-apart at k vals (inl before) = cond-false _ _ _ (lt-leb at k before)
+value_at-apart at k vals (inr behind) = cond-true _ _ _ (le-leb at k (omega arith)) ∙ slice_get_past vals (k - at) (omega arith)
+
 -- ---- what entries give
 
 pub undone-first : (place : Place) (log : Log) (e : Entry) (es : List Entry) (w : ℕ) → undone place log (e ∷ es) w ≡ option_or (given_by place log UNDO_ORDER e w) (undone place log es w)
@@ -69,11 +81,12 @@ pub redone-none : (place : Place) (log : Log) (w : ℕ) → redone place log [] 
 unfolding redone
 redone-none place log w = refl
 
-or_assoc : (a b c : Option ℕ) → option_or a (option_or b c) ≡ option_or (option_or a b) c
+-- the first value of three is the first of two and one
+pub or_assoc : (a b c : Option ℕ) → option_or a (option_or b c) ≡ option_or (option_or a b) c
 or_assoc None b c = refl
 or_assoc (Some x) b c = refl
 
-or_none : (a : Option ℕ) → a ≡ option_or a None
+pub or_none : (a : Option ℕ) → a ≡ option_or a None
 or_none None = refl
 or_none (Some x) = refl
 
@@ -99,8 +112,16 @@ nothing_between lo hi seq closed = elim (leb_tells hi seq) [
 closed_range : (log : Log) (e : Entry) → log.hi ≤ log.lo + 1 → is_in_range log e ≡ false
 closed_range log e closed = nothing_between log.lo log.hi e.seq closed
 
+-- an entry that does not count gives nothing
+pub given_by-out : (place : Place) (log : Log) (order : ℕ) (e : Entry) (w : ℕ) → is_in_range log e ≡ false → given_by place log order e w ≡ None
+given_by-out place log order e w out = cond-false _ _ _ (and_left (is_in_range log e) (eqb e.order order) out)
+
+-- nor does one of another order
+pub given_by-other : (place : Place) (log : Log) (order : ℕ) (e : Entry) (w : ℕ) → (e.order ≡ order → ⊥) → given_by place log order e w ≡ None
+given_by-other place log order e w other = cond-false _ _ _ (and_right (is_in_range log e) (eqb e.order order) (ne_eqb e.order order other))
+
 pub given_by-closed : (place : Place) (log : Log) (order : ℕ) (e : Entry) (w : ℕ) → log.hi ≤ log.lo + 1 → given_by place log order e w ≡ None
-given_by-closed place log order e w closed = cond-false _ _ _ (and_left (is_in_range log e) (eqb e.order order) (closed_range log e closed))
+given_by-closed place log order e w closed = given_by-out place log order e w (closed_range log e closed)
 
 undone-closed : (place : Place) (log : Log) (es : List Entry) (w : ℕ) → log.hi ≤ log.lo + 1 → undone place log es w ≡ None
 unfolding undone

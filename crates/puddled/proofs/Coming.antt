@@ -24,7 +24,7 @@ use Rattle.pud_defs.proofs.Replay.{outside_log}
 use Rattle.pud_defs.proofs.Spaces.{has_closed_logs-same}
 use Rattle.pud_defs.proofs.Steps.{client-taken, client-new, leave-absent, leave-present}
 use Rattle.batch.specs.Batches.{ByBatch}
-use Rattle.registry.specs.Registry.{IsSettled}
+use Rattle.batch.specs.Worlds.{IsSettled}
 use Rattle.log_space.specs.Records.{record_batch, HasClosedLogs, MayHaveOwner, ChangesOwner}
 use Rattle.log_space.specs.Closed.{ByClosing, Closes}
 use Rattle.log_space.proofs.Writing.{writes_elsewhere}

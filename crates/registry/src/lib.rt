@@ -9,7 +9,8 @@ ghost use Rattle.log_replay.specs.Replaying.{Anything};
 ghost use Rattle.pud_defs.specs.declared.layout.TheConstants.{DAEMON_LOG, LOG_WORDS, PUDDLE_TABLE, MIN_FRAMES, FRAMES_WORD, MACHINE_WORD};
 ghost use Rattle.pud_defs.specs.Layout.{device_words};
 ghost use Rattle.pud_defs.specs.World.{StoredWorld, world_of};
-ghost use Rattle.registry.specs.Registry.{load_fault, AppliesLog, IsSettled, Clears};
+ghost use Rattle.batch.specs.Worlds.{IsSettled};
+ghost use Rattle.registry.specs.Registry.{load_fault, AppliesLog, Clears};
 
 mod overlay;
 mod soundness;
