@@ -1,3 +1,4 @@
 pub mod Writes
 pub mod Buffers
 pub mod Phases
+pub mod Tables

@@ -177,6 +177,7 @@ module _ (size : ℕ) (s : StoredWorld) (slot : ℕ) (now : Option Owner) (vals 
         };
         done = λ none image picked.
             has_owner image (at_end image picked) (table_written b image (subst (λ (f : Option HostFault). Commits DAEMON_LOG (record_batch slot vals) f a b) none c) picked);
+        durable = c.durable;
       }
 
 -- ---- a registration

@@ -158,6 +158,7 @@ module _ (size : ℕ) (s : StoredWorld) where
           closed = λ v has. ap is_closed_gate ((c.closed none).each v has) ∙ closed_gate;
         };
         cleared = λ none client known. c.durable none (space_record_at client) 0 (clearing-there CLIENTS client known);
+        durable = c.durable;
       }
 
 pub clearing-none : clearing 0 ≡ []

@@ -13,7 +13,7 @@ use Rattle.pud_defs.specs.World.{StoredWorld, world_of}
 use Rattle.log_replay.specs.Replaying.{ByLog}
 use Rattle.registry.specs.declared.LoadFault.{LoadFault}
 use Rattle.registry.specs.declared.LoadFault.TheVariants as faults
-use Rattle.batch.specs.Batches.{batch_entry, ByBatch}
+use Rattle.batch.specs.Batches.{batch_entry, batch_write, ByBatch}
 
 -- the host's fault that a load answered
 abbrev pub load_fault : {T : Type 0} → Result T LoadFault → Option HostFault
@@ -45,3 +45,4 @@ pub record Clears (size : ℕ) (s : StoredWorld) (fault : Option HostFault) (old
   pub moments : Leaves (Silently (λ image. world_of size image ≡ Some s)) old new
   pub settled : fault ≡ None → IsSettled size s new.now.words
   pub cleared : fault ≡ None → (client : ℕ) → client < CLIENTS → HasOnly (new.now.words (space_record_at client)) 0
+  pub durable : fault ≡ None → (k v : ℕ) → batch_write (clearing CLIENTS) k ≡ Some v → HasOnly (new.now.words k) v

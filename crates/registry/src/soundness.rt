@@ -1,6 +1,6 @@
 //! Whether a device is a sound registry once its daemon log is replayed. Nothing is replayed and nothing is written: each
 //! word is read as the replay makes it.
-ghost use Rattle.std.specs.Prelude.{◌≡◌, ◌≢◌, ◌+◌, ◌-◌, ◌<◌, ◌≤◌, ◌==◌, ℕ, true, not, ◌&&◌, ◌||◌, nat_lt, nat_le, List, Option, IfOk, IfSome, IsTrue};
+ghost use Rattle.std.specs.Prelude.{◌≡◌, ◌≢◌, ◌+◌, ◌-◌, ◌<◌, ◌≤◌, ◌==◌, ℕ, true, not, ◌&&◌, ◌||◌, nat_lt, nat_le, List, Option, IfOk, IfSome, is_some};
 ghost use Rattle.std.specs.List.{list_all, list_any};
 ghost use Rattle.pm_model.specs.Words.{reads};
 ghost use Rattle.pm_model.specs.Counts.{after_fault, fault_of};
@@ -375,25 +375,28 @@ fn is_registry<H: Host>(h: &mut H, overlay: &Overlay, frames: u32) -> Result<boo
     Ok(are_both(tables, spaces))
 }
 
-/// Whether the device is a sound registry once its daemon log is replayed. Nothing changes.
-pub fn is_sound<H: Host>(h: &mut H) -> Result<bool, HostFault>
-    ensures sound { H.tells → IfOk result (λ sound. sound ≡ is_sound (H.counts h.old).size (reads (H.state h.old).now.words)) }
-    ensures room { IfOk result (λ sound. IsTrue sound → device_words MIN_FRAMES ≤ (H.counts h.old).size) }
+/// The number of frames of a device that is a sound registry once its daemon log is replayed, or None exactly where it is none.
+/// Nothing changes, and the only errors are the host's own.
+pub fn sound_frames<H: Host>(h: &mut H) -> Result<Option<u32>, HostFault>
+    ensures sound { H.tells → IfOk result (λ found. is_some found ≡ is_sound (H.counts h.old).size (reads (H.state h.old).now.words)) }
+    ensures frames { H.tells → IfOk result (λ found. IfSome found (λ frames. frames ≡ frames_of (reads (H.state h.old).now.words))) }
+    ensures room { IfOk result (λ found. IfSome found (IsRoomFor (H.counts h.old).size)) }
     ensures stays { H.tells → H.state h.new ≡ H.state h.old }
     ensures cause { H.counts h.new ≡ after_fault (fault_of result) (H.counts h.old) }
     ensures never_cut { fault_of result ≢ Option.Some HostFault.Cut }
 {
     if h.words() < device_words(MIN_FRAMES) {
-        return Ok(false);
+        return Ok(None);
     }
-    match described_frames(h)? {
-        None => Ok(false),
-        Some(frames) => {
-            let overlay = Overlay::of(h)?;
-            if !has_legal_log(h, &overlay, frames)? {
-                return Ok(false);
-            }
-            is_registry(h, &overlay, frames)
-        }
+    let Some(frames) = described_frames(h)? else {
+        return Ok(None);
+    };
+    let overlay = Overlay::of(h)?;
+    if !has_legal_log(h, &overlay, frames)? {
+        return Ok(None);
     }
+    if !is_registry(h, &overlay, frames)? {
+        return Ok(None);
+    }
+    Ok(Some(frames))
 }

@@ -1,4 +1,4 @@
-use crate::is_sound;
+use crate::sound_frames;
 use pm_mem::{MemHost, Plan};
 use pm_model::{Host, HostFault};
 use pud_defs::layout::{DEVICE_MAGIC, VERSION};
@@ -24,9 +24,9 @@ fn device(rt: &impl Abort, alloc: Global, words: &[(u32, u64)]) -> Result<MemHos
 // Whether such a device is sound.
 fn judged(rt: &impl Abort, alloc: Global, words: &[(u32, u64)]) -> Result<bool, Fail> {
     let mut host = device(rt, alloc, words)?;
-    let sound = is_sound(&mut host);
-    assert!(rt; sound.is_ok());
-    Ok(sound == Ok(true))
+    let found = sound_frames(&mut host);
+    assert!(rt; found.is_ok());
+    Ok(found == Ok(Some(4)))
 }
 
 #[test]
@@ -136,6 +136,6 @@ fn a_failed_load_is_told(rt: HostRuntime) -> Result<(), Fail> {
         cuts: Vec::new(alloc),
     };
     let mut host = MemHost::new(alloc, 42_528, b"", 0, 0, plan)?;
-    assert_eq!(rt; is_sound(&mut host), Err(HostFault::Failed));
+    assert_eq!(rt; sound_frames(&mut host), Err(HostFault::Failed));
     Ok(())
 }
