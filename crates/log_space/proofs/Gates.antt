@@ -19,7 +19,7 @@ use Rattle.pud_defs.specs.Image.{Image}
 use Rattle.pud_defs.specs.Layout.{log_at}
 use Rattle.pud_defs.specs.World.{StoredWorld, world_of}
 use Rattle.pud_defs.proofs.ClosedLogs.{IsClosedAnew, world_of-anew, has_closed_logs-gates}
-use Rattle.registry.specs.Registry.{IsSettled}
+use Rattle.batch.specs.Worlds.{IsSettled}
 use Rattle.log_space.specs.Closed.{ByClosing, WritesGates, ClosesGates, Closes}
 
 -- no gate is written yet

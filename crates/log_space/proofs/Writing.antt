@@ -27,7 +27,7 @@ use Rattle.pud_defs.proofs.Worlds.{StandsFor, standing_of_world, world_of_standi
 use Rattle.log_replay.specs.Replaying.{NamesApart}
 use Rattle.batch.specs.Batches.{batch_entry, batch_write, committed, IsFree, ByBatch, IsBatched, Commits}
 use Rattle.batch.proofs.Writes.{batch_write-single}
-use Rattle.registry.specs.Registry.{IsSettled}
+use Rattle.batch.specs.Worlds.{IsSettled}
 use Rattle.log_space.specs.Records.{record_batch, registration, unregistration, owner, owners, with_owner, HasClosedLogs, MayHaveOwner, HasOwner, ChangesOwner, Registers, Unregisters}
 use Rattle.log_space.proofs.Tables.{IsBeside, owner_of-changed, standing_changed, has_closed_logs-changed}
 

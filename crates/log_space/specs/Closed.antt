@@ -9,7 +9,7 @@ use Rattle.pud_defs.specs.declared.log_words.TheConstants.{CLOSED_GATE}
 use Rattle.pud_defs.specs.Layout.{log_at}
 use Rattle.pud_defs.specs.Spaces.{IsGateOf}
 use Rattle.pud_defs.specs.World.{StoredWorld, world_of}
-use Rattle.registry.specs.Registry.{IsSettled}
+use Rattle.batch.specs.Worlds.{IsSettled}
 use Rattle.log_space.specs.Records.{HasClosedLogs}
 
 -- to each gate of the client's logs the one of a closed log may come

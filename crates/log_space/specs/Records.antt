@@ -11,7 +11,7 @@ use Rattle.pud_defs.specs.Replay.{is_in_log, settled_by}
 use Rattle.pud_defs.specs.Spaces.{Owner, space_record_at, owner_of, has_closed_logs}
 use Rattle.pud_defs.specs.World.{StoredWorld, world_of}
 use Rattle.batch.specs.Batches.{batch_entry, batch_write, ByBatch}
-use Rattle.registry.specs.Registry.{IsSettled}
+use Rattle.batch.specs.Worlds.{IsSettled}
 
 -- the batch that gives the first words of a client's record these values
 abbrev pub record_batch : ℕ → List ℕ → List Entry

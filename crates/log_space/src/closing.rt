@@ -7,7 +7,7 @@ ghost use Rattle.pud_defs.specs.declared.layout.TheConstants.{CLIENTS, CLIENT_LO
 ghost use Rattle.pud_defs.specs.Layout.{device_words};
 ghost use Rattle.pud_defs.specs.World.{StoredWorld};
 ghost use Rattle.log_replay.specs.Replaying.{Anything};
-ghost use Rattle.registry.specs.Registry.{IsSettled};
+ghost use Rattle.batch.specs.Worlds.{IsSettled};
 ghost use Rattle.log_space.specs.Closed.{WritesGates, ClosesGates, Closes};
 
 use crate::frames_with_room;

@@ -14,7 +14,7 @@ ghost use Rattle.pud_defs.specs.Registry.{has_room};
 ghost use Rattle.pud_defs.specs.World.{StoredWorld, world_of};
 ghost use Rattle.log_replay.specs.Replaying.{Anything};
 ghost use Rattle.batch.specs.Batches.{IsFree, Commits};
-ghost use Rattle.registry.specs.Registry.{IsSettled};
+ghost use Rattle.batch.specs.Worlds.{IsSettled};
 ghost use Rattle.log_space.specs.Records.{record_batch, HasClosedLogs, Registers, Unregisters};
 ghost use Rattle.log_space.specs.FreeLogs.{first_closed, IsLogOf};
 

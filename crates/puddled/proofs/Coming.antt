@@ -27,7 +27,6 @@ use Rattle.pud_defs.proofs.Steps.{client-taken, client-new, leave-absent, leave-
 use Rattle.batch.specs.Batches.{batch_write, ByBatch}
 use Rattle.batch.specs.Tables.{HasDurableTables}
 use Rattle.batch.proofs.Tables.{reads_kept, HasDurableTables-kept, HasDurableTables-committed}
-use Rattle.registry.specs.Registry.{IsSettled}
 use Rattle.log_space.specs.Records.{owner, owners, record_batch, registration, unregistration, HasClosedLogs, MayHaveOwner, ChangesOwner, Registers, Unregisters}
 use Rattle.log_space.specs.Closed.{ByClosing, Closes}
 use Rattle.log_space.proofs.Writing.{writes_elsewhere}

@@ -16,7 +16,7 @@ use Rattle.pud_defs.specs.Run.{Turn, IsTurn, cuts_of}
 use Rattle.pud_defs.specs.Texts.{start_text, reply_text}
 use Rattle.pud_defs.specs.Stands.{StandsWith}
 use Rattle.batch.specs.Tables.{HasDurableTables}
-use Rattle.registry.specs.Registry.{IsSettled}
+use Rattle.batch.specs.Worlds.{IsSettled}
 use Rattle.puddled.specs.Memory.{Memory}
 use Rattle.puddled.specs.declared.daemon.StartFault.{StartFault}
 use Rattle.puddled.specs.declared.daemon.RunFault.{RunFault}

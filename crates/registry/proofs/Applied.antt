@@ -25,7 +25,8 @@ use Rattle.pud_defs.proofs.Replay.{outside_log, settled_by-closed}
 use Rattle.pud_defs.proofs.Logged.{legal_entries, new_value-unlogged, settled_by-unlogged}
 use Rattle.pud_defs.proofs.Worlds.{standing_of_world, legal_log_of_world, legal_log_closed, world_of_legal}
 use Rattle.log_replay.specs.Replaying.{NamesApart, IsReplayable, ByLog, SettlesSame, SettlesLog}
-use Rattle.registry.specs.Registry.{IsSettled, AppliesLog}
+use Rattle.batch.specs.Worlds.{IsSettled}
+use Rattle.registry.specs.Registry.{AppliesLog}
 
 -- ---- a sound rested device: its daemon log may be replayed
 

@@ -31,7 +31,8 @@ use Rattle.pud_defs.proofs.Worlds.{StandsFor, standing_of_world, standing_spaces
 use Rattle.log_replay.specs.Replaying.{NamesApart}
 use Rattle.batch.specs.Batches.{batch_entry, words_of, batch_write, committed, IsFree, ByBatch, IsBatched, Commits}
 use Rattle.batch.proofs.Writes.{batch_write-append, batch_write-single}
-use Rattle.registry.specs.Registry.{IsSettled, clearing, Clears}
+use Rattle.batch.specs.Worlds.{IsSettled}
+use Rattle.registry.specs.Registry.{clearing, Clears}
 
 -- ---- the batch
 

@@ -1,12 +1,11 @@
--- A registry that is up to date, and what brings it up to date or changes it.
-use Rattle.std.specs.Prelude.{◌≡◌, ℕ, zero, suc, ◌<◌, true, List, [], ◌∷◌, ◌++◌, Option, Some, None, Result, Ok, Err}
+-- What brings a registry up to date or changes it.
+use Rattle.std.specs.Prelude.{◌≡◌, ℕ, zero, suc, ◌<◌, List, [], ◌∷◌, ◌++◌, Option, Some, None, Result, Ok, Err}
 use Rattle.pm_model.specs.declared.host.HostFault.{HostFault}
-use Rattle.pm_model.specs.Words.{Has, values, Words, reads, Picks, HasOnly, IsRested}
+use Rattle.pm_model.specs.Words.{reads, HasOnly, IsRested}
 use Rattle.pm_model.specs.Moments.{State}
 use Rattle.pm_model.specs.Changes.{Changes, Leaves, Silently}
 use Rattle.pud_defs.specs.declared.layout.TheConstants.{DAEMON_LOG, CLIENTS}
-use Rattle.pud_defs.specs.Image.{Image}
-use Rattle.pud_defs.specs.Entries.{Entry, log_of, is_closed_gate}
+use Rattle.pud_defs.specs.Entries.{Entry, log_of}
 use Rattle.pud_defs.specs.Replay.{device_word, new_value}
 use Rattle.pud_defs.specs.Spaces.{space_record_at}
 use Rattle.pud_defs.specs.World.{StoredWorld, world_of}
@@ -14,17 +13,13 @@ use Rattle.log_replay.specs.Replaying.{ByLog}
 use Rattle.registry.specs.declared.LoadFault.{LoadFault}
 use Rattle.registry.specs.declared.LoadFault.TheVariants as faults
 use Rattle.batch.specs.Batches.{batch_entry, batch_write, ByBatch}
+use Rattle.batch.specs.Worlds.{IsSettled}
 
 -- the host's fault that a load answered
 abbrev pub load_fault : {T : Type 0} → Result T LoadFault → Option HostFault
 load_fault (Ok x) = None
 load_fault (Err faults.NotSound) = None
 load_fault (Err (faults.Host fault)) = Some fault
-
--- Each image that may be left stands for this world, and the daemon log is closed in it and counts no word.
-pub record IsSettled (size : ℕ) (s : StoredWorld) (words : Words) : Type 0 where
-  pub stands : (image : Image) → Picks words image → world_of size image ≡ Some s
-  pub closed : (v : ℕ) → Has (values (words DAEMON_LOG)) v → is_closed_gate v ≡ true
 
 -- The daemon log was applied and closed on a rested device: at each moment each image stands for the world; without a fault the device is
 -- rested again, and the log closed.

@@ -8,8 +8,9 @@ ghost use Rattle.pm_model.specs.Changes.{Changes};
 ghost use Rattle.log_replay.specs.Replaying.{Anything};
 ghost use Rattle.pud_defs.specs.declared.layout.TheConstants.{DAEMON_LOG, LOG_WORDS, PUDDLE_TABLE};
 ghost use Rattle.pud_defs.specs.World.{StoredWorld, world_of};
+ghost use Rattle.batch.specs.Worlds.{IsSettled};
 ghost use Rattle.registry.specs.Judging.{IsRoomFor};
-ghost use Rattle.registry.specs.Registry.{load_fault, AppliesLog, IsSettled, Clears};
+ghost use Rattle.registry.specs.Registry.{load_fault, AppliesLog, Clears};
 
 mod overlay;
 mod soundness;
