@@ -162,6 +162,10 @@ module _ (size : ℕ) (w : World) (memory : Memory) (slot : ℕ) (known : slot <
     ClosesFirst-idle a b ready same =
         Leaves-still _ a b (λ image picked. (refl, inl ((space_used size w memory a slot known ready present).each (image (space_record_at slot)) (picked.each (space_record_at slot))))) same
 
+    -- nothing was done before
+    pub ClosesFirst-behind : (a b c : State) → IsReady size w memory a → b ≡ a → (IsReady size w memory b → ClosesFirst w.stored.frames slot b c) → ClosesFirst w.stored.frames slot a c
+    ClosesFirst-behind a b c ready same closes = subst (λ (s : State). ClosesFirst w.stored.frames slot s c) same (closes (subst (λ (s : State). IsReady size w memory s) (sym same) ready))
+
     -- the logs were to be closed
     pub ClosesFirst-closing : (fault : Option HostFault) (a b : State) → IsReady size w memory a → Closes size (closed w) slot fault a b → ClosesFirst w.stored.frames slot a b
     ClosesFirst-closing fault a b ready p =
