@@ -19,29 +19,29 @@ use Rattle.puddled.proofs.Restarts.{sound_recovered}
 use Rattle.puddled.proofs.Lines.{Settles-done, Settles-fault, Settles-cut, Settles-restart, restart_sound, found_world, found_stands, found_shelf}
 use Rattle.puddled.proofs.daemon.go_on.Goals as goal
 
-pub returns-in_err-recover-in-Err-Cut-clause-settles : goal.returns-in_err-recover-in-Err-Cut-clause-settles
-returns-in_err-recover-in-Err-Cut-clause-settles g c = λ t size e w line counted before shelf done replied counts plain.
+pub returns-in_err-daemon-in-Err-Cut-clause-settles : goal.returns-in_err-daemon-in-Err-Cut-clause-settles
+returns-in_err-daemon-in-Err-Cut-clause-settles g c = λ t size e w line counted before shelf done replied counts plain.
     let p = err_from_is_err_and c.from_residual.result c.from_residual.ensures.1 in
     let is : c.args.done ≡ Err hosts.Cut = c.in-Err-Cut.is ∙ ap Err (rw c.in-Err-Cut.is at c.in-Err-Cut.field-0-is) in
     let mid = g.H.Host.state c.args.h.now in
     let applies = subst (λ (r : Result Reply HostFault). Applies size w (step_world w line) c.args.daemon.now (fault_of r) before mid) is done in
     let lost = counts ∙ ap (λ (r : Result Reply HostFault). after_fault (fault_of r) counted) is in
-    let fault = c.in_err-recover-in-Err-Cut.field-0.0 in
+    let fault = c.in_err-daemon-in-Err-Cut.field-0.0 in
     let next = found_world size w _ line before mid applies shelf in
-    let recovers = c.in_err-recover-in-Err-Cut.ensures.recovers t size e next (applies.lost refl) (found_stands size w _ line before mid applies shelf) (found_shelf size w _ line before mid applies shelf) in
+    let recovers = c.in_err-daemon-in-Err-Cut.ensures.recovers t size e next (applies.lost refl) (found_stands size w _ line before mid applies shelf) (found_shelf size w _ line before mid applies shelf) in
     rw (p.1, p.2) (Settles-restart size w _ line before mid applies shelf _ fault _ _ _
     (λ unsound.
-    let none = (c.in_err-recover-in-Err-Cut.ensures.not_sound t (ap (λ (f : StartFault). start_fault {T = Memory} (Err f)) unsound)).0 (ap Err unsound) in
+    let none = (c.in_err-daemon-in-Err-Cut.ensures.not_sound t (ap (λ (f : StartFault). start_fault {T = Memory} (Err f)) unsound)).0 (ap Err unsound) in
     restart_sound size w _ line before mid applies shelf (ap (λ (n : ℕ). world_of n (reads mid.now.words)) e ∙ none))
     recovers
-    (counted_plain (command_of line) _ 0 _ _ plain (counted_restart fault _ _ _ lost c.in_err-recover-in-Err-Cut.ensures.cause)))
+    (counted_plain (command_of line) _ 0 _ _ plain (counted_restart fault _ _ _ lost c.in_err-daemon-in-Err-Cut.ensures.cause)))
 
-pub returns-in_err-recover-in-Err-Cut-clause-cause : goal.returns-in_err-recover-in-Err-Cut-clause-cause
-returns-in_err-recover-in-Err-Cut-clause-cause g c = λ counted counts.
+pub returns-in_err-daemon-in-Err-Cut-clause-cause : goal.returns-in_err-daemon-in-Err-Cut-clause-cause
+returns-in_err-daemon-in-Err-Cut-clause-cause g c = λ counted counts.
     let p = err_from_is_err_and c.from_residual.result c.from_residual.ensures.1 in
     let is : c.args.done ≡ Err hosts.Cut = c.in-Err-Cut.is ∙ ap Err (rw c.in-Err-Cut.is at c.in-Err-Cut.field-0-is) in
     let lost = counts ∙ ap (λ (r : Result Reply HostFault). after_fault (fault_of r) counted) is in
-    rw (p.1, p.2) (counted_restart c.in_err-recover-in-Err-Cut.field-0.0 _ _ _ lost c.in_err-recover-in-Err-Cut.ensures.cause)
+    rw (p.1, p.2) (counted_restart c.in_err-daemon-in-Err-Cut.field-0.0 _ _ _ lost c.in_err-daemon-in-Err-Cut.ensures.cause)
 
 pub returns-in-Ok-clause-settles : goal.returns-in-Ok-clause-settles
 returns-in-Ok-clause-settles g c = λ t size e w line counted before shelf done replied counts plain.
@@ -60,20 +60,20 @@ returns-in-Err-Failed-clause-settles g c = λ t size e w line counted before she
     let last = counts ∙ ap (λ (r : Result Reply HostFault). after_fault (fault_of r) counted) is in
     Settles-fault size w _ _ line Failed counted _ before mid mid (Some hosts.Failed) applies refl (λ no. cc) (counted_plain (command_of line) _ 0 _ _ plain (counted_failed _ _ last))
 
-pub returns-in_ok-recover-in-Err-Cut-clause-settles : goal.returns-in_ok-recover-in-Err-Cut-clause-settles
-returns-in_ok-recover-in-Err-Cut-clause-settles g c = λ t size e w line counted before shelf done replied counts plain.
+pub returns-in_ok-daemon-in-Err-Cut-clause-settles : goal.returns-in_ok-daemon-in-Err-Cut-clause-settles
+returns-in_ok-daemon-in-Err-Cut-clause-settles g c = λ t size e w line counted before shelf done replied counts plain.
     let mid = g.H.Host.state c.args.h.now in
     let is : c.args.done ≡ Err hosts.Cut = c.in-Err-Cut.is ∙ ap Err (rw c.in-Err-Cut.is at c.in-Err-Cut.field-0-is) in
     let applies = subst (λ (r : Result Reply HostFault). Applies size w (step_world w line) c.args.daemon.now (fault_of r) before mid) is done in
     let lost = counts ∙ ap (λ (r : Result Reply HostFault). after_fault (fault_of r) counted) is in
     let next = found_world size w _ line before mid applies shelf in
-    let recovers = c.in_ok-recover-in-Err-Cut.ensures.recovers t size e next (applies.lost refl) (found_stands size w _ line before mid applies shelf) (found_shelf size w _ line before mid applies shelf) in
-    Settles-cut size w _ line before mid applies shelf _ counted _ _ recovers (counted_plain (command_of line) None 1 _ _ plain (counted_cut _ _ _ lost c.in_ok-recover-in-Err-Cut.ensures.cause))
+    let recovers = c.in_ok-daemon-in-Err-Cut.ensures.recovers t size e next (applies.lost refl) (found_stands size w _ line before mid applies shelf) (found_shelf size w _ line before mid applies shelf) in
+    Settles-cut size w _ line before mid applies shelf _ counted _ _ recovers (counted_plain (command_of line) None 1 _ _ plain (counted_cut _ _ _ lost c.in_ok-daemon-in-Err-Cut.ensures.cause))
 
-pub returns-in_ok-recover-in-Err-Cut-clause-restarted : goal.returns-in_ok-recover-in-Err-Cut-clause-restarted
-returns-in_ok-recover-in-Err-Cut-clause-restarted g c = λ t rested counted counts _ moved.
+pub returns-in_ok-daemon-in-Err-Cut-clause-restarted : goal.returns-in_ok-daemon-in-Err-Cut-clause-restarted
+returns-in_ok-daemon-in-Err-Cut-clause-restarted g c = λ t rested counted counts _ moved.
     let mid = g.H.Host.state c.args.h.now in
     let is : c.args.done ≡ Err hosts.Cut = c.in-Err-Cut.is ∙ ap Err (rw c.in-Err-Cut.is at c.in-Err-Cut.field-0-is) in
     sound_recovered (g.H.Host.counts c.args.h.now).size (Ok _) mid _ refl
-    (λ none. absurd (let it = (c.in_ok-recover-in-Err-Cut.ensures.not_sound t refl).1 none in cc it))
-    (λ w world shelf. c.in_ok-recover-in-Err-Cut.ensures.recovers t (g.H.Host.counts c.args.h.now).size refl w (rested (ap (λ (r : Result Reply HostFault). fault_of r) is)) world shelf)
+    (λ none. absurd (let it = (c.in_ok-daemon-in-Err-Cut.ensures.not_sound t refl).1 none in cc it))
+    (λ w world shelf. c.in_ok-daemon-in-Err-Cut.ensures.recovers t (g.H.Host.counts c.args.h.now).size refl w (rested (ap (λ (r : Result Reply HostFault). fault_of r) is)) world shelf)

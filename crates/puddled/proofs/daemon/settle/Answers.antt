@@ -35,8 +35,8 @@ returns-in-Ok-Leave-clause-settles g c = λ t size e w ready.
     let mid = g.H.Host.state c.leave-done.new.h in
     let after = e ∙ sym (ap (λ (x : Counts). x.size) c.leave-done.ensures.cause ∙ size_after_fault (fault_of c.leave-done.result) (g.H.Host.counts c.args.h.now)) in
     c.go_on-in-Ok-Leave.ensures.settles t size after w line (g.H.Host.counts c.args.h.now) old ready.shelf
-    (subst (λ (x : Option Command). Applies size w (world_by w x) c.args.daemon.now (fault_of c.leave-done.result) old mid) (sym is) (c.leave-done.ensures.applies t size e w _ (sym (ap (λ (m : Memory). m.frames) c.daemon.view_is)) ready))
-    (subst (λ (x : Option Command). IfOk c.leave-done.result (λ reply. reply ≡ reply_to (refusal_by w x))) (sym is) (c.leave-done.ensures.reply t size e w _ (sym (ap (λ (m : Memory). m.frames) c.daemon.view_is)) ready))
+    (subst (λ (x : Option Command). Applies size w (world_by w x) c.args.daemon.now (fault_of c.leave-done.result) old mid) (sym is) (c.leave-done.ensures.applies t size e w _ (sym (ap (λ (m : Memory). m.frames) c.daemon-in-Ok-Leave.view_is)) ready))
+    (subst (λ (x : Option Command). IfOk c.leave-done.result (λ reply. reply ≡ reply_to (refusal_by w x))) (sym is) (c.leave-done.ensures.reply t size e w _ (sym (ap (λ (m : Memory). m.frames) c.daemon-in-Ok-Leave.view_is)) ready))
     c.leave-done.ensures.cause
     (ap is_at_once is)
 
@@ -61,27 +61,27 @@ pub returns-in-Ok-Arm-clause-settles : goal.returns-in-Ok-Arm-clause-settles
 returns-in-Ok-Arm-clause-settles g c = λ t size e w ready.
     Settles-armed size w _ c.args.line.now _ _ _ _ c.in-Ok-Arm.step c.in-Ok-Arm.pick (sym (rw c.in-Ok-Arm.field-0-is at c.in-Ok-Arm.ensures.command)) ready c.arm.ensures.counted (c.arm.ensures.state t)
 
-pub returns-in_ok-lose_power-in-Ok-Cut-clause-settles : goal.returns-in_ok-lose_power-in-Ok-Cut-clause-settles
-returns-in_ok-lose_power-in-Ok-Cut-clause-settles g c = λ t size e w ready.
-    Settles-lost size w _ c.args.line.now _ _ _ _ c.in-Ok-Cut.pick (sym (rw c.in-Ok-Cut.field-0-is at c.in-Ok-Cut.ensures.command))
-    (c.in_ok-lose_power-in-Ok-Cut.ensures.recovers t size e w _ ready) c.in_ok-lose_power-in-Ok-Cut.ensures.cause
+pub returns-in_ok-daemon-inside-in-Ok-Cut-clause-settles : goal.returns-in_ok-daemon-inside-in-Ok-Cut-clause-settles
+returns-in_ok-daemon-inside-in-Ok-Cut-clause-settles g c = λ t size e w ready.
+    rw c.daemon-in-Ok-Cut-2.view_is (Settles-lost size w _ c.args.line.now _ _ _ _ c.in-Ok-Cut.pick (sym (rw c.in-Ok-Cut.field-0-is at c.in-Ok-Cut.ensures.command))
+    (c.in_ok-daemon-inside-in-Ok-Cut.ensures.recovers t size e w _ ready) c.in_ok-daemon-inside-in-Ok-Cut.ensures.cause)
 
-pub returns-in_err-lose_power-in-Ok-Cut-clause-settles : goal.returns-in_err-lose_power-in-Ok-Cut-clause-settles
-returns-in_err-lose_power-in-Ok-Cut-clause-settles g c =
+pub returns-in_err-daemon-inside-in-Ok-Cut-clause-settles : goal.returns-in_err-daemon-inside-in-Ok-Cut-clause-settles
+returns-in_err-daemon-inside-in-Ok-Cut-clause-settles g c =
     let p = err_from_is_err_and c.from_residual.result c.from_residual.ensures.1 in
     rw (p.1, p.2) (λ t size e w ready.
-    let fault = c.in_err-lose_power-in-Ok-Cut.field-0.0 in
+    let fault = c.in_err-daemon-inside-in-Ok-Cut.field-0.0 in
     Settles-unstarted size w _ c.args.line.now _ _ _ _ c.in-Ok-Cut.pick (sym (rw c.in-Ok-Cut.field-0-is at c.in-Ok-Cut.ensures.command)) fault
-    (λ unsound. c.in_err-lose_power-in-Ok-Cut.ensures.sound t size e w _ ready (ap (λ (f : StartFault). start_fault {T = Memory} (Err f)) unsound) (ap Err unsound))
-    (c.in_err-lose_power-in-Ok-Cut.ensures.recovers t size e w _ ready) c.in_err-lose_power-in-Ok-Cut.ensures.cause)
+    (λ unsound. c.in_err-daemon-inside-in-Ok-Cut.ensures.sound t size e w _ ready (ap (λ (f : StartFault). start_fault {T = Memory} (Err f)) unsound) (ap Err unsound))
+    (c.in_err-daemon-inside-in-Ok-Cut.ensures.recovers t size e w _ ready) c.in_err-daemon-inside-in-Ok-Cut.ensures.cause)
 
-pub returns-in_err-lose_power-in-Ok-Cut-clause-not_sound : goal.returns-in_err-lose_power-in-Ok-Cut-clause-not_sound
-returns-in_err-lose_power-in-Ok-Cut-clause-not_sound g c =
+pub returns-in_err-daemon-inside-in-Ok-Cut-clause-not_sound : goal.returns-in_err-daemon-inside-in-Ok-Cut-clause-not_sound
+returns-in_err-daemon-inside-in-Ok-Cut-clause-not_sound g c =
     let p = err_from_is_err_and c.from_residual.result c.from_residual.ensures.1 in
-    rw (p.1, p.2) (λ t unsound. c.in_err-lose_power-in-Ok-Cut.ensures.not_sound t (ap Err (unsound_start c.in_err-lose_power-in-Ok-Cut.field-0.0 (let inner = unsound in cc))))
+    rw (p.1, p.2) (λ t unsound. c.in_err-daemon-inside-in-Ok-Cut.ensures.not_sound t (ap Err (unsound_start c.in_err-daemon-inside-in-Ok-Cut.field-0.0 (let inner = unsound in cc))))
 
-pub returns-in_err-lose_power-in-Ok-Cut-clause-cause : goal.returns-in_err-lose_power-in-Ok-Cut-clause-cause
-returns-in_err-lose_power-in-Ok-Cut-clause-cause g c =
+pub returns-in_err-daemon-inside-in-Ok-Cut-clause-cause : goal.returns-in_err-daemon-inside-in-Ok-Cut-clause-cause
+returns-in_err-daemon-inside-in-Ok-Cut-clause-cause g c =
     let p = err_from_is_err_and c.from_residual.result c.from_residual.ensures.1 in
     let is : command_of c.args.line.now ≡ Some (Cut c.in-Ok-Cut.pick) = sym (rw c.in-Ok-Cut.field-0-is at c.in-Ok-Cut.ensures.command) in
-    rw (p.1, p.2, is) (counted_loss c.in-Ok-Cut.pick c.in_err-lose_power-in-Ok-Cut.field-0.0 (g.H.Host.counts c.args.h.now) (g.H.Host.counts c.lose_power.new.h) c.in_err-lose_power-in-Ok-Cut.ensures.cause)
+    rw (p.1, p.2, is) (counted_loss c.in-Ok-Cut.pick c.in_err-daemon-inside-in-Ok-Cut.field-0.0 (g.H.Host.counts c.args.h.now) (g.H.Host.counts c.lose_power.new.h) c.in_err-daemon-inside-in-Ok-Cut.ensures.cause)
