@@ -64,6 +64,7 @@ pub record ChangesOwner (size : ℕ) (s : StoredWorld) (slot : ℕ) (now : Optio
   pub moments : Leaves (Silently (MayHaveOwner size s slot now es old.now.words)) old new
   pub settled : fault ≡ None → IsSettled size s new.now.words
   pub done : fault ≡ None → (image : Image) → Picks new.now.words image → HasOwner slot now es old.now.words image
+  pub durable : fault ≡ None → (k v : ℕ) → batch_write es k ≡ Some v → HasOnly (new.now.words k) v
 
 -- The client's logs are registered for the owner; without a fault the three words of the record have the one value each.
 pub record Registers (size : ℕ) (s : StoredWorld) (slot uid gid : ℕ) (fault : Option HostFault) (old new : State) : Type 0 where
