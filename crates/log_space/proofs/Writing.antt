@@ -12,7 +12,7 @@ use Rattle.pud_defs.specs.Image.{Image}
 use Rattle.pud_defs.specs.Entries.{is_closed_gate}
 use Rattle.pud_defs.specs.Replay.{overwritten, settled_by}
 use Rattle.pud_defs.specs.Registry.{is_allowed}
-use Rattle.pud_defs.specs.Spaces.{Owner, space_record_at, owner_by, owner_of, is_legal_space, has_closed_logs}
+use Rattle.pud_defs.specs.Spaces.{Owner, space_record_at, owner_by, owner_of, is_space, is_legal_space, has_closed_logs}
 use Rattle.pud_defs.specs.World.{StoredWorld}
 use Rattle.pud_defs.proofs.Replay.{settled_by-closed, outside_log, overwritten-stays, overwritten-there, value_at-there, value_at-apart}
 use Rattle.pud_defs.proofs.Logged.{may_be_logged-table, is_allowed-there}
@@ -122,7 +122,7 @@ module _ (slot uid gid : ℕ) (image : Image) where
   is_legal_space-registered : uid ≤ MAX_OWNER_ID → gid ≤ MAX_OWNER_ID → is_legal_space (overwritten (batch_write (registration slot uid gid)) image) slot ≡ true
   is_legal_space-registered uid_fits gid_fits =
       let is : is_legal_space (overwritten (batch_write (registration slot uid gid)) image) slot ≡ (true && leb uid MAX_OWNER_ID && leb gid MAX_OWNER_ID) =
-      λ p. eqb (first_word p) 0 || (eqb (first_word p) 1 && leb (second_word p) MAX_OWNER_ID && leb (third_word p) MAX_OWNER_ID) in
+      λ p. is_space (first_word p) (second_word p) (third_word p) in
       is ∙ and_from (leb uid MAX_OWNER_ID) (leb gid MAX_OWNER_ID) (le-leb uid MAX_OWNER_ID uid_fits) (le-leb gid MAX_OWNER_ID gid_fits)
 
 pub GivesOwner-registration : (size : ℕ) (s : StoredWorld) (slot uid gid : ℕ) (words : Words) → IsSettled size s words → slot < CLIENTS → uid ≤ MAX_OWNER_ID → gid ≤ MAX_OWNER_ID

@@ -8,10 +8,10 @@ ghost use Rattle.pud_defs.specs.Image.{Image};
 ghost use Rattle.pud_defs.specs.Layout.{device_words};
 ghost use Rattle.pud_defs.specs.Entries.{Entry as LoggedEntry, log_of, entries_of};
 ghost use Rattle.pud_defs.specs.Replay.{settled_by};
-ghost use Rattle.pud_defs.specs.Spaces.{is_legal_space, has_closed_logs, are_legal_spaces, are_closed_logs};
-ghost use Rattle.pud_defs.specs.Registry.{frames_of, are_zero, has_legal_number, has_legal_types, may_be_logged, is_allowed, has_legal_log, is_registry, is_sound};
+ghost use Rattle.pud_defs.specs.Spaces.{is_space, is_legal_space, has_closed_logs, are_legal_spaces, are_closed_logs};
+ghost use Rattle.pud_defs.specs.Registry.{frames_of, are_zero, is_number, has_legal_number, has_legal_types, may_be_logged, is_allowed, has_legal_log, is_registry, is_sound};
 ghost use Rattle.registry.specs.Overlaying.{HasRange, IsOverlay};
-ghost use Rattle.registry.specs.Judging.{IsRoomFor, frames_by, frames_described, with_one_more, is_number, is_space, is_closed_space, has_sound_tables, has_sound_spaces};
+ghost use Rattle.registry.specs.Judging.{IsRoomFor, frames_by, frames_described, with_one_more, is_closed_space, has_sound_tables, has_sound_spaces};
 
 use crate::overlay::Overlay;
 use log_entry::{Entry, EntryReader, is_closed_log, well_formed};
