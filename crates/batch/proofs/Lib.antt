@@ -1,4 +1,5 @@
 pub mod Writes
 pub mod Buffers
 pub mod Phases
+pub mod Worlds
 pub mod Tables

@@ -1,23 +1,22 @@
 -- What the entries of a batch write, and what a log that counts them gives.
-use Rattle.std.proofs.Common.{◌≡◌, inl, inr, ℕ, ◌+◌, ◌-◌, ◌<◌, ◌≤◌, Bool, true, false, ◌&&◌, ltb, eqb, List, [], ◌∷◌, ◌++◌, Option, Some, None, refl, sym, ap, ap₂, ◌∙◌, arith}
+use Rattle.std.proofs.Common.{◌≡◌, ◌⊎◌, inl, inr, ℕ, ◌+◌, ◌<◌, ◌≤◌, Bool, true, false, ◌&&◌, ltb, eqb, List, [], ◌∷◌, ◌++◌, length, Option, Some, None, refl, sym, ap, ap₂, ◌∙◌, arith}
 use Rattle.std.specs.Prelude.{All, unwrap_or}
 use Rattle.std.specs.Option.{option_or}
-use Rattle.std.proofs.lemmas.Bool.{lt-leb, and_from, cond-true, cond-false, cases_Bool, eq-eqb}
-use Rattle.std.proofs.lemmas.Bool.Decides.{leb_tells}
-use Rattle.std.proofs.lemmas.Option.{slice_get_past}
+use Rattle.std.proofs.lemmas.Bool.{and_from, cond-true, cond-false, cases_Bool, eq-eqb}
 use Rattle.std.proofs.lemmas.List.Elements.{All-head, All-tail}
 use Rattle.pud_defs.specs.declared.layout.TheConstants.{LOG_WORDS}
 use Rattle.pud_defs.specs.declared.log_words.TheConstants.{UNDO_ORDER, REDO_ORDER, COMMITTING_LO, COMMITTING_HI}
 use Rattle.pud_defs.specs.Image.{Image}
 use Rattle.pud_defs.specs.Entries.{Entry, Log, log_of, is_closed_gate}
 use Rattle.pud_defs.specs.Replay.{device_word, value_at, is_in_range, given_by, undone, redone, new_value, overwritten, replayed, is_in_log, settled_by}
-use Rattle.pud_defs.proofs.Replay.{undone-first, redone-first, undone-none, redone-none, new_value-of, settled_by-inside, settled_by-outside, settled_by-closed, within_log}
+use Rattle.pud_defs.proofs.Replay.{value_at-apart, undone-first, redone-first, undone-none, redone-none, new_value-of, settled_by-inside, settled_by-outside, settled_by-closed, within_log}
 use Rattle.log_replay.specs.Replaying.{NamesApart}
 use Rattle.batch.specs.Batches.{batch_write, committed, IsBatchEntry, AreBatched}
 
 -- ---- what a committed log gives is what its entries write
 
-counts : (es : List Entry) (e : Entry) → IsBatchEntry e → is_in_range (committed es) e ≡ true
+-- the entries of a batch are in the range that counts them
+pub counts : (es : List Entry) (e : Entry) → IsBatchEntry e → is_in_range (committed es) e ≡ true
 counts es e b = ap (λ (n : ℕ). ltb COMMITTING_LO n && ltb n COMMITTING_HI) b.seq
 
 redo_given : (es : List Entry) (e : Entry) (k : ℕ) → IsBatchEntry e → given_by device_word (committed es) REDO_ORDER e k ≡ value_at e.address e.vals k
@@ -71,13 +70,10 @@ batch_write-single e k = refl
 value_apart : (e : Entry) (size at k : ℕ) → NamesApart device_word size at e → at ≤ k → k < at + LOG_WORDS → value_at e.address e.vals k ≡ None
 value_apart e size at k names low high =
     let here : e.address ≡ names.first = let p = names.placed in cc in
-    elim names.apart [
-      | inl before ↦ elim (leb_tells e.address k) [
-        | inl above ↦ cond-true _ _ _ above.0 ∙ slice_get_past e.vals (k - e.address) (omega arith)
-        | inr below ↦ cond-false _ _ _ below.0
-      ]
-      | inr behind ↦ cond-false _ _ _ (lt-leb e.address k (omega arith))
-    ]
+    value_at-apart e.address k e.vals (elim names.apart as (λ _. (k < e.address) ⊎ (e.address + length e.vals ≤ k)) [
+      | inl before ↦ inr (omega arith)
+      | inr behind ↦ inl (omega arith)
+    ])
 
 pub batch_write-apart : (es : List Entry) (size at k : ℕ) → All (NamesApart device_word size at) es → at ≤ k → k < at + LOG_WORDS → batch_write es k ≡ None
 unfolding batch_write

@@ -11,7 +11,9 @@ ghost use Rattle.pm_model.specs.Changes.{Changes};
 ghost use Rattle.log_replay.specs.Replaying.{Anything};
 ghost use Rattle.pud_defs.specs.declared.layout.TheConstants.{DAEMON_LOG, LOG_WORDS, LOG_ENTRY_WORDS, ENTRY_HEADER_WORDS, MAX_ENTRY_VALUES};
 ghost use Rattle.pud_defs.specs.Entries.{Entry, entries_in};
+ghost use Rattle.pud_defs.specs.World.{StoredWorld};
 ghost use Rattle.batch.specs.Batches.{batch_entry, words_of, AreBatched, IsFree, Prepares, Commits};
+ghost use Rattle.batch.specs.Worlds.{IsSettled, MovesBy, Moves};
 
 use log_entry::encode;
 use log_replay::settle_log;
@@ -116,11 +118,15 @@ impl Batch {
     /// The device has the daemon log. Where that log is closed in each image, with nothing that counts, and the words of
     /// the batch lie in the device apart from it, each image left meanwhile stands, with the daemon log replayed, for the
     /// device before the batch or behind it; at `Ok` the words have their new values and no other, and the daemon log is
-    /// closed. The only errors are the host's own.
+    /// closed. Where each image stands for a world, the words lie where the daemon log may write, and each image with them
+    /// written stands for the next world, each image left meanwhile stands for the one or the other, and at `Ok` for the
+    /// next. The only errors are the host's own.
     pub fn commit<H: Host>(self, h: &mut H) -> Result<(), HostFault>
         requires { DAEMON_LOG + LOG_WORDS ≤ (H.counts h.old).size }
         ensures commits { H.tells → (size : ℕ) → size ≡ (H.counts h.old).size → IsFree size DAEMON_LOG self (H.state h.old).now.words
             → Commits DAEMON_LOG self (fault_of result) (H.state h.old) (H.state h.new) }
+        ensures moves { H.tells → (size : ℕ) → size ≡ (H.counts h.old).size → (s next : StoredWorld) → IsSettled size s (H.state h.old).now.words
+            → MovesBy size s next self (H.state h.old).now.words → Moves size s next self (fault_of result) (H.state h.old) (H.state h.new) }
         ensures any { H.tells → Changes Anything (fault_of result) (H.state h.old) (H.state h.new) }
         ensures cause { H.counts h.new ≡ after_fault (fault_of result) (H.counts h.old) }
     {

@@ -12,6 +12,9 @@ ghost use Rattle.pud_defs.specs.declared.layout.TheConstants.{LOG_WORDS, LOG_ENT
 ghost use Rattle.pud_defs.specs.Entries.{entry_n, is_legal_entry_word, spelled, entries_of};
 ghost use Rattle.log_entry.specs.Reading.{Reading, entry_next, entry_from, Passes};
 
+mod closed;
+
+pub use closed::is_closed_log;
 use pm_model::{Host, HostFault};
 use pud_defs::layout::{
     ENTRY_HEADER_WORDS, LOG_ENTRY_WORDS, LOG_HEADER_WORDS, LOG_WORDS, MAX_ENTRY_VALUES,

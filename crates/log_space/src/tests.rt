@@ -3,7 +3,7 @@ use log_replay::settle_log;
 use pm_mem::{MemHost, Plan};
 use pm_model::{Host, HostFault};
 use pud_defs::layout::{
-    CLIENTS, DAEMON_LOG, FRAMES_WORD, LOG_WORDS, MAX_OWNER_ID, MIN_FRAMES, PUDDLE_TABLE,
+    CLIENTS, DAEMON_LOG, LOG_WORDS, MAX_OWNER_ID, MIN_FRAMES, PUDDLE_TABLE,
     device_words,
 };
 use pud_defs::log_words::{COMMITTING_HI, COMMITTING_LO, gate_hi, gate_lo};
@@ -35,12 +35,12 @@ fn unregistered<H: Host>(rt: &impl Abort, host: &mut H, slot: u32) -> Result<(),
 
 fn found<H: Host>(rt: &impl Abort, host: &mut H, slot: u32) -> Result<Option<u32>, HostFault> {
     assert!(rt; device_words(MIN_FRAMES) <= host.words() && slot < CLIENTS);
-    free_log(host, slot)
+    free_log(host, MIN_FRAMES, slot)
 }
 
 fn closed<H: Host>(rt: &impl Abort, host: &mut H, slot: u32) -> Result<(), HostFault> {
     assert!(rt; device_words(MIN_FRAMES) <= host.words() && slot < CLIENTS);
-    close_logs(host, slot)
+    close_logs(host, MIN_FRAMES, slot)
 }
 
 // Brings the device up to date where the daemon log's range is that of a committing one.
@@ -87,9 +87,8 @@ fn a_record_is_registered_and_freed(rt: HostRuntime) -> Result<(), Fail> {
 fn the_lowest_closed_log_is_free(rt: HostRuntime) -> Result<(), Fail> {
     let alloc = rt.alloc();
     let mut host = MemHost::new(alloc, 42_528, b"", 16, 0, Plan::none(alloc))?;
-    assert_eq!(rt; found(&rt, &mut host, 1), Ok(None));
     for (w, gate, want) in [
-        (FRAMES_WORD, 4, Some(4)),
+        (5_664, 0, Some(4)),
         (5_664, 512, Some(5)),
         (6_688, 1_028, Some(5)),
         // A closed range whose words are no entries.
@@ -99,10 +98,6 @@ fn the_lowest_closed_log_is_free(rt: HostRuntime) -> Result<(), Fail> {
         (8_736, 1_024, None),
         (8_736, 66_651_140, None),
         (8_736, 0, Some(7)),
-        // One frame too few or too many, and more than the device has words for.
-        (FRAMES_WORD, 3, None),
-        (FRAMES_WORD, 1_025, None),
-        (FRAMES_WORD, 5, None),
     ] {
         poke(&rt, &mut host, w, gate);
         assert_eq!(rt; found(&rt, &mut host, 1), Ok(want), "word {w} of {gate}");
@@ -119,7 +114,6 @@ fn the_logs_of_a_client_are_closed_durably(rt: HostRuntime) -> Result<(), Fail> 
         let mut plan = Plan::none(alloc);
         plan.cuts.push((steps, pick))?;
         let mut host = MemHost::new(alloc, 42_528, b"", 16, 0, plan)?;
-        poke(&rt, &mut host, FRAMES_WORD, 4);
         for (w, gate) in [
             (4_640, 512),
             (5_664, 512),
@@ -145,17 +139,6 @@ fn the_logs_of_a_client_are_closed_durably(rt: HostRuntime) -> Result<(), Fail> 
         assert_eq!(rt; load(&rt, &mut host, 4_640), Ok(512));
         assert_eq!(rt; load(&rt, &mut host, 9_760), Ok(512));
     }
-    Ok(())
-}
-
-// A device that has no legal number of frames is left as it is.
-#[test]
-fn no_logs_are_closed_where_none_are(rt: HostRuntime) -> Result<(), Fail> {
-    let alloc = rt.alloc();
-    let mut host = MemHost::new(alloc, 42_528, b"", 16, 0, Plan::none(alloc))?;
-    poke(&rt, &mut host, 5_664, 512);
-    assert_eq!(rt; closed(&rt, &mut host, 1), Ok(()));
-    assert_eq!(rt; load(&rt, &mut host, 5_664), Ok(512));
     Ok(())
 }
 

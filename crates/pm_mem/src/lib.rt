@@ -12,6 +12,3 @@ mod turns;
 
 pub use mem_host::MemHost;
 pub use plan::Plan;
-
-#[cfg(test)]
-mod tests;

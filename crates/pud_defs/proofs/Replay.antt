@@ -1,14 +1,15 @@
 -- What replay makes of an image: which words stay, in which order, and once more.
 use Rattle.std.proofs.Common.{◌≡◌, ◌⊎◌, inl, inr, ℕ, ◌+◌, ◌<◌, ◌≤◌, true, false, ◌&&◌, ltb, leb, eqb, List, [], ◌∷◌, ◌++◌, Option, Some, None, refl, sym, ap, ap₂, ◌∙◌, arith}
-use Rattle.std.specs.Prelude.{unwrap_or}
+use Rattle.std.specs.Prelude.{◌-◌, length, slice_get, unwrap_or}
 use Rattle.std.specs.Option.{option_or}
 use Rattle.std.proofs.lemmas.Bool.{leb-true, eqb-true, ltb-true, le-leb, lt-leb, lt-ltb, and_from, and_parts, and_left, cond-true, cond-false, cases_Bool}
 use Rattle.std.proofs.lemmas.Bool.Decides.{leb_tells, nat_tests}
+use Rattle.std.proofs.lemmas.Option.{slice_get_past}
 use Rattle.pud_defs.specs.declared.log_words.TheConstants.{UNDO_ORDER, REDO_ORDER}
 use Rattle.pud_defs.specs.Image.{Image}
 use Rattle.pud_defs.specs.declared.layout.TheConstants.{LOG_WORDS, LOG_HEADER_WORDS}
 use Rattle.pud_defs.specs.Entries.{Entry, Log, log_of, gate_lo, gate_hi, gate_used, is_legal_gate, is_closed_gate, entries_of, words_from}
-use Rattle.pud_defs.specs.Replay.{Place, device_word, is_in_range, given_by, undone, redone, given, entries_or_none, new_value, over, overwritten, replayed, is_in_log, settled_by, beside_log}
+use Rattle.pud_defs.specs.Replay.{Place, device_word, is_in_range, value_at, given_by, undone, redone, given, entries_or_none, new_value, over, overwritten, replayed, is_in_log, settled_by, beside_log}
 use Rattle.pud_defs.proofs.Entries.{words_from-none, entries_of-is, entries_in-nothing}
 
 -- ---- words written over an image
@@ -50,6 +51,17 @@ overwritten-either_order f g image apart = λ p w. either_first (f w) (g w) (ima
 -- nothing written changes nothing
 pub overwritten-nothing : (write : ℕ → Option ℕ) (image : Image) → ((w : ℕ) → write w ≡ None) → overwritten write image ≡ image
 overwritten-nothing write image none = λ p w. overwritten-stays write image w (none w) p
+
+-- ---- what values placed from a word on give
+
+-- the word of this number has the value of this number
+pub value_at-there : (at n k : ℕ) (vals : List ℕ) → k ≡ at + n → value_at at vals k ≡ slice_get vals n
+value_at-there at n k vals here = cond-true _ _ _ (le-leb at k (omega arith)) ∙ ap (slice_get vals) (let e : k - at ≡ n = omega arith in e)
+
+-- a word in front of them or behind them gets none
+pub value_at-apart : (at k : ℕ) (vals : List ℕ) → (k < at) ⊎ (at + length vals ≤ k) → value_at at vals k ≡ None
+value_at-apart at k vals (inl before) = cond-false _ _ _ (lt-leb at k before)
+value_at-apart at k vals (inr behind) = cond-true _ _ _ (le-leb at k (omega arith)) ∙ slice_get_past vals (k - at) (omega arith)
 
 -- ---- what entries give
 

@@ -1,12 +1,12 @@
 -- The log-space table: images that agree on what is read of it and of the clients' logs.
 use Rattle.std.proofs.Common.{◌≡◌, ℕ, zero, suc, ◌+◌, ◌^◌, ◌<◌, ◌≤◌, Bool, true, false, ◌&&◌, ◌||◌, eqb, leb, ltb, refl, sym, ap, ap₂, ◌∙◌, ⊎_elim, inl, inr, arith, add-one, eq-eqb}
-use Rattle.std.specs.Prelude.{is_some}
+use Rattle.std.specs.Prelude.{cond, Some, None, is_some}
 use Rattle.std.proofs.lemmas.Bool.{and_parts, and_from, cond-false, cases_Bool, cases_eq, or_left, leb-true}
-use Rattle.pud_defs.specs.declared.layout.TheConstants.{SPACE_TABLE, CLIENTS, CLIENT_LOGS, MAX_OWNER_ID, LOG_WORDS, LOG_ENTRY_WORDS, PUDDLE_TABLE}
+use Rattle.pud_defs.specs.declared.layout.TheConstants.{SPACE_TABLE, CLIENTS, CLIENT_LOGS, LOG_WORDS, LOG_ENTRY_WORDS, PUDDLE_TABLE}
 use Rattle.pud_defs.specs.Image.{Image}
 use Rattle.pud_defs.specs.Layout.{tables_end, log_at, frames_at}
 use Rattle.pud_defs.specs.Entries.{gate_used, is_legal_gate, entries_of}
-use Rattle.pud_defs.specs.Spaces.{space_record_at, all_below, is_legal_space, is_closed_range, is_closed_log, has_closed_logs, are_legal_spaces, are_closed_logs}
+use Rattle.pud_defs.specs.Spaces.{Owner, space_record_at, owner_by, all_below, is_space, is_legal_space, is_closed_range, is_closed_log, has_closed_logs, are_legal_spaces, are_closed_logs}
 use Rattle.pud_defs.proofs.Entries.{entries_of-same}
 
 pub all_below-same : (n : ℕ) (f g : ℕ → Bool) → ((k : ℕ) → k < n → f k ≡ g k) → all_below n f ≡ all_below n g
@@ -38,6 +38,12 @@ all_below-fails n k f below fails = elim (cases_Bool (all_below n f)) [
   | inr some ↦ some
 ]
 
+-- ---- one record
+
+-- its first word tells whether there is an owner
+pub used_is_some : (used uid gid : ℕ) → eqb used 1 ≡ is_some (owner_by used uid gid)
+used_is_some used uid gid = elim (eqb used 1) as (λ b. b ≡ is_some {T = Owner} (cond b (Some (record { uid = uid; gid = gid })) None)) [ true ↦ refl | false ↦ refl ]
+
 -- ---- images that agree
 
 -- images that agree on the words of a log have the same entries there
@@ -68,7 +74,7 @@ are_legal_spaces-same i j same =
     let used = same (space_record_at c) (omega arith) (omega arith) in
     let uid = same (space_record_at c + 1) (omega arith) (omega arith) in
     let gid = same (space_record_at c + 2) (omega arith) (omega arith) in
-    λ p. eqb (used p) 0 || (eqb (used p) 1 && leb (uid p) MAX_OWNER_ID && leb (gid p) MAX_OWNER_ID))
+    λ p. is_space (used p) (uid p) (gid p))
 
 pub are_closed_logs-same : (i j : Image) (F : ℕ) → ((k : ℕ) → SPACE_TABLE ≤ k → k < PUDDLE_TABLE → i k ≡ j k) → ((k : ℕ) → tables_end F ≤ k → k < frames_at F → i k ≡ j k)
     → are_closed_logs i F ≡ are_closed_logs j F

@@ -132,6 +132,11 @@ legal_log_of_world size image s h = elim (cases_Bool (has_legal_log image)) [
   | inr illegal ↦ absurd (let it : None ≡ Some s = sym (cond-false _ _ _ illegal) ∙ h in cc)
 ]
 
+-- no replay changes the number of frames
+pub frames_of_world : (size : ℕ) (image : Image) (s : StoredWorld) → world_of size image ≡ Some s → image FRAMES_WORD ≡ s.frames
+frames_of_world size image s world =
+    sym (settled_by-unlogged image FRAMES_WORD (legal_log_of_world size image s world) (omega arith)) ∙ (standing_of_world size image s world).frames
+
 -- with a legal daemon log the image stands for what it does once that is replayed
 pub world_of_legal : (size : ℕ) (image : Image) → has_legal_log image ≡ true → world_of size image ≡ registry_world size (settled_by DAEMON_LOG image)
 unfolding world_of

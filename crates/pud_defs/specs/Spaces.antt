@@ -28,11 +28,12 @@ unfoldable pub all_below : ℕ → (ℕ → Bool) → Bool
 all_below zero test = true
 all_below (suc n) test = all_below n test && test n
 
--- the record is free or used, and a used one has a legal uid and gid
+-- a record of these three words is free, or it is used and has a legal uid and gid
+abbrev pub is_space : (used uid gid : ℕ) → Bool
+is_space used uid gid = used == 0 || (used == 1 && nat_le uid MAX_OWNER_ID && nat_le gid MAX_OWNER_ID)
+
 abbrev pub is_legal_space : Image → ℕ → Bool
-is_legal_space image client =
-    image (space_record_at client) == 0
-    || (image (space_record_at client) == 1 && nat_le (image (space_record_at client + 1)) MAX_OWNER_ID && nat_le (image (space_record_at client + 2)) MAX_OWNER_ID)
+is_legal_space image client = is_space (image (space_record_at client)) (image (space_record_at client + 1)) (image (space_record_at client + 2))
 
 -- a gate's range is (4,4), or (0,0) as after formatting
 abbrev pub is_closed_range : ℕ → Bool

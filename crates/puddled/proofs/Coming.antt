@@ -1,5 +1,5 @@
 -- Clients that come and go: their logs closed, and then their record of the log-space table changed.
-use Rattle.std.proofs.Common.{◌≡◌, ◌⊎◌, inl, inr, ⊎_elim, ℕ, ◌+◌, ◌<◌, ◌≤◌, true, false, eqb, cond, List, [], ◌∷◌, Option, Some, None, refl, sym, ap, subst, ◌∙◌, arith}
+use Rattle.std.proofs.Common.{◌≡◌, ◌⊎◌, inl, inr, ⊎_elim, ℕ, ◌+◌, ◌<◌, ◌≤◌, Bool, true, false, eqb, cond, List, [], ◌∷◌, Option, Some, None, refl, sym, ap, subst, ◌∙◌, arith}
 use Rattle.std.specs.Prelude.{is_some}
 use Rattle.std.proofs.lemmas.List.{append-nil}
 use Rattle.std.proofs.lemmas.Bool.{eqb-true}
@@ -22,7 +22,7 @@ use Rattle.pud_defs.specs.declared.machine.Refusal.{Refusal}
 use Rattle.pud_defs.specs.declared.machine.Refusal.TheVariants as refusals
 use Rattle.pud_defs.specs.Step.{refusal_of, after, with_client}
 use Rattle.pud_defs.proofs.Replay.{outside_log, settled_by-closed}
-use Rattle.pud_defs.proofs.Spaces.{has_closed_logs-same}
+use Rattle.pud_defs.proofs.Spaces.{used_is_some, has_closed_logs-same}
 use Rattle.pud_defs.proofs.Steps.{client-taken, client-new, leave-absent, leave-present}
 use Rattle.batch.specs.Batches.{batch_write, ByBatch}
 use Rattle.batch.specs.Tables.{HasDurableTables}
@@ -52,12 +52,10 @@ owner_of-durable : (F : ℕ) (words : Words) (image : Image) (client : ℕ) → 
 owner_of-durable F words image client known tables picked =
     owner_of-same image (reads words) client known (λ k low high. (tables.each k (inr (omega arith)) (omega arith)).each (image k) (picked.each k))
 
-used_is_some : (used uid gid : ℕ) → eqb used 1 ≡ is_some (owner_by used uid gid)
-used_is_some used uid gid = elim (eqb used 1) as (λ b. b ≡ is_some (cond b (Some (owner uid gid)) None)) [ true ↦ refl | false ↦ refl ]
-
--- the first word of a client's record tells whether the client is present
-pub presence_read : (size : ℕ) (w : World) (memory : Memory) (s : State) (client : ℕ) → client < CLIENTS → IsReady size w memory s → eqb (reads s.now.words (space_record_at client)) 1 ≡ is_some (w.clients client)
-presence_read size w memory s client known ready = used_is_some _ _ _ ∙ ap is_some (ready.clients client known)
+-- the table that is read tells whether the client is present
+pub presence_read : (size : ℕ) (w : World) (memory : Memory) (s : State) (client : ℕ) (registered : Bool) → client < CLIENTS → IsReady size w memory s → registered ≡ is_some (owner_of (reads s.now.words) client)
+    → registered ≡ is_some (w.clients client)
+presence_read size w memory s client registered known ready told = told ∙ ap is_some (ready.clients client known)
 
 used_word : (used uid gid : ℕ) → true ≡ is_some (owner_by used uid gid) → used ≡ 1
 used_word used uid gid present = eqb-true used 1 (used_is_some used uid gid ∙ sym present)

@@ -21,7 +21,8 @@ use Rattle.batch.proofs.Tables.{HasDurableTables-rested, HasDurableTables-commit
 use Rattle.registry.specs.declared.Geo.{Geo}
 use Rattle.registry.specs.declared.LoadFault.{LoadFault}
 use Rattle.registry.specs.declared.LoadFault.TheVariants as loads
-use Rattle.registry.specs.Registry.{load_fault, AppliesLog, clearing, Clears}
+use Rattle.registry.specs.Registry.{load_fault, AppliesLog}
+use Rattle.log_space.specs.Clearing.{clearing, Clears}
 use Rattle.puddled.specs.declared.daemon.StartFault.{StartFault}
 use Rattle.puddled.specs.declared.daemon.StartFault.TheVariants as starts
 use Rattle.puddled.specs.Faults.{start_fault, of_load}

@@ -1,8 +1,8 @@
 //! Clients that come and go.
-ghost use Rattle.std.specs.Prelude.{◌≡◌, ◌≢◌, ◌<◌, ◌≤◌, ℕ, true, IfOk, is_some, Option};
+ghost use Rattle.std.specs.Prelude.{◌≡◌, ◌<◌, ◌≤◌, ℕ, true, IfOk, is_some, Option};
 ghost use Rattle.pm_model.specs.Words.{IsRested};
 ghost use Rattle.pm_model.specs.Counts.{after_fault, fault_of};
-ghost use Rattle.pud_defs.specs.declared.layout.TheConstants.{CLIENTS, MAX_OWNER_ID, MIN_FRAMES, MAX_FRAMES};
+ghost use Rattle.pud_defs.specs.declared.layout.TheConstants.{CLIENTS, MAX_OWNER_ID, MAX_FRAMES};
 ghost use Rattle.pud_defs.specs.Layout.{device_words};
 ghost use Rattle.pud_defs.specs.World.{World};
 ghost use Rattle.pud_defs.specs.Step.{refusal_of, reply_to, after, world_by};
@@ -10,30 +10,15 @@ ghost use Rattle.pud_defs.specs.declared.machine.Command.TheVariants as commands
 ghost use Rattle.puddled.specs.Memory.{Memory};
 ghost use Rattle.puddled.specs.Daemon.{KeepsRest, IsReady, Applies, ClosesFirst};
 
-use log_space::{close_logs, register, unregister};
+use log_space::{close_logs, is_registered, register, unregister};
 use pm_model::{Host, HostFault};
-use pud_defs::layout::{SPACE_RECORD_WORDS, SPACE_TABLE};
 use pud_defs::machine::{Refusal, Reply};
-
-/// Whether the client is present: its logs are registered.
-fn is_present<H: Host>(h: &mut H, client: u32) -> Result<bool, HostFault>
-    requires known { client < CLIENTS }
-    requires smallest { device_words MIN_FRAMES ≤ (H.counts h.old).size }
-    ensures present { H.tells → (size : ℕ) → (w : World) → (memory : Memory) → IsReady size w memory (H.state h.old)
-        → IfOk result (λ present. present ≡ is_some (w.clients client)) }
-    ensures stays { H.tells → H.state h.new ≡ H.state h.old }
-    ensures cause { H.counts h.new ≡ after_fault (fault_of result) (H.counts h.old) }
-    ensures never_cut { fault_of result ≢ Option.Some HostFault.Cut }
-{
-    Ok(h.load(SPACE_TABLE + SPACE_RECORD_WORDS * client)? == 1)
-}
 
 /// Closes the client's logs, and then registers them for its owner.
 fn admit<H: Host>(h: &mut H, frames: u32, client: u32, uid: u32, gid: u32) -> Result<(), HostFault>
     requires known { client < CLIENTS }
     requires uid_fits { uid ≤ MAX_OWNER_ID }
     requires gid_fits { gid ≤ MAX_OWNER_ID }
-    requires some { MIN_FRAMES ≤ frames }
     requires few { frames ≤ MAX_FRAMES }
     requires room { device_words frames ≤ (H.counts h.old).size }
     ensures applies { H.tells → (size : ℕ) → size ≡ (H.counts h.old).size → (w : World) → (memory : Memory) → memory.frames ≡ frames → IsReady size w memory (H.state h.old)
@@ -42,7 +27,7 @@ fn admit<H: Host>(h: &mut H, frames: u32, client: u32, uid: u32, gid: u32) -> Re
     ensures rests { H.tells → fault_of result ≡ Option.Some HostFault.Cut → IsRested (H.state h.new).now.words }
     ensures cause { H.counts h.new ≡ after_fault (fault_of result) (H.counts h.old) }
 {
-    close_logs(h, client)?;
+    close_logs(h, frames, client)?;
     register(h, client, uid, gid)
 }
 
@@ -58,7 +43,6 @@ pub fn come<H: Host>(
     requires known { client < CLIENTS }
     requires uid_fits { uid ≤ MAX_OWNER_ID }
     requires gid_fits { gid ≤ MAX_OWNER_ID }
-    requires some { MIN_FRAMES ≤ frames }
     requires few { frames ≤ MAX_FRAMES }
     requires room { device_words frames ≤ (H.counts h.old).size }
     ensures reply { H.tells → (size : ℕ) → size ≡ (H.counts h.old).size → (w : World) → (memory : Memory) → memory.frames ≡ frames → IsReady size w memory (H.state h.old)
@@ -69,7 +53,7 @@ pub fn come<H: Host>(
     ensures rests { H.tells → fault_of result ≡ Option.Some HostFault.Cut → IsRested (H.state h.new).now.words }
     ensures cause { H.counts h.new ≡ after_fault (fault_of result) (H.counts h.old) }
 {
-    if is_present(h, client)? {
+    if is_registered(h, client)? {
         return Ok(Reply::No(Refusal::Taken));
     }
     admit(h, frames, client, uid, gid)?;
@@ -79,7 +63,6 @@ pub fn come<H: Host>(
 /// Closes the client's logs, and then registers them no more.
 fn dismiss<H: Host>(h: &mut H, frames: u32, client: u32) -> Result<(), HostFault>
     requires known { client < CLIENTS }
-    requires some { MIN_FRAMES ≤ frames }
     requires few { frames ≤ MAX_FRAMES }
     requires room { device_words frames ≤ (H.counts h.old).size }
     ensures applies { H.tells → (size : ℕ) → size ≡ (H.counts h.old).size → (w : World) → (memory : Memory) → memory.frames ≡ frames → IsReady size w memory (H.state h.old)
@@ -91,7 +74,7 @@ fn dismiss<H: Host>(h: &mut H, frames: u32, client: u32) -> Result<(), HostFault
     ensures rests { H.tells → fault_of result ≡ Option.Some HostFault.Cut → IsRested (H.state h.new).now.words }
     ensures cause { H.counts h.new ≡ after_fault (fault_of result) (H.counts h.old) }
 {
-    close_logs(h, client)?;
+    close_logs(h, frames, client)?;
     unregister(h, client)
 }
 
@@ -99,7 +82,6 @@ fn dismiss<H: Host>(h: &mut H, frames: u32, client: u32) -> Result<(), HostFault
 /// nothing. The device has so many frames.
 pub fn leave<H: Host>(h: &mut H, frames: u32, client: u32) -> Result<Reply, HostFault>
     requires known { client < CLIENTS }
-    requires some { MIN_FRAMES ≤ frames }
     requires few { frames ≤ MAX_FRAMES }
     requires room { device_words frames ≤ (H.counts h.old).size }
     ensures reply { H.tells → (size : ℕ) → size ≡ (H.counts h.old).size → (w : World) → (memory : Memory) → memory.frames ≡ frames → IsReady size w memory (H.state h.old)
@@ -113,7 +95,7 @@ pub fn leave<H: Host>(h: &mut H, frames: u32, client: u32) -> Result<Reply, Host
     ensures rests { H.tells → fault_of result ≡ Option.Some HostFault.Cut → IsRested (H.state h.new).now.words }
     ensures cause { H.counts h.new ≡ after_fault (fault_of result) (H.counts h.old) }
 {
-    if !is_present(h, client)? {
+    if !is_registered(h, client)? {
         return Ok(Reply::No(Refusal::Client));
     }
     dismiss(h, frames, client)?;

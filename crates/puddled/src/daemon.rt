@@ -15,9 +15,10 @@ ghost use Rattle.puddled.specs.Daemon.{KeepsRest, IsReady, Applies, Recovers, Se
 
 use crate::clients::{come, leave};
 use crate::types::define_type;
+use log_space::clear_spaces;
 use pm_model::{Host, HostFault};
 use pud_defs::machine::{Command, Refusal, Reply};
-use registry::{LoadFault, clear_spaces, load_sound};
+use registry::{LoadFault, load_sound};
 use script::{parse_line, print_reply};
 use std::alloc::Global;
 use std::marker::Model;

@@ -1,4 +1,4 @@
-//! The registry of a device: judged, brought up to date by its daemon log, and changed by batches.
+//! The registry of a device: judged, and brought up to date by its daemon log.
 #![tactic(auto)]
 
 ghost use Rattle.std.specs.Prelude.{◌≡◌, ◌↔◌, ◌+◌, ◌≤◌, ℕ, Option, Result, IfOk};
@@ -6,22 +6,18 @@ ghost use Rattle.pm_model.specs.Words.{IsRested, reads};
 ghost use Rattle.pm_model.specs.Counts.{after_fault, fault_of};
 ghost use Rattle.pm_model.specs.Changes.{Changes};
 ghost use Rattle.log_replay.specs.Replaying.{Anything};
-ghost use Rattle.pud_defs.specs.declared.layout.TheConstants.{DAEMON_LOG, LOG_WORDS, PUDDLE_TABLE};
+ghost use Rattle.pud_defs.specs.declared.layout.TheConstants.{DAEMON_LOG, LOG_WORDS};
 ghost use Rattle.pud_defs.specs.World.{StoredWorld, world_of};
-ghost use Rattle.batch.specs.Worlds.{IsSettled};
 ghost use Rattle.registry.specs.Judging.{IsRoomFor};
-ghost use Rattle.registry.specs.Registry.{load_fault, AppliesLog, Clears};
+ghost use Rattle.registry.specs.Registry.{load_fault, AppliesLog};
 
 mod overlay;
 mod soundness;
 
-use batch::Batch;
 use log_replay::settle_log;
 use pm_model::{Host, HostFault};
-use pud_defs::layout::{
-    CLIENTS, DAEMON_LOG, MACHINE_WORD, SPACE_RECORD_WORDS, SPACE_TABLE,
-};
-pub use soundness::{is_closed_log, sound_frames};
+use pud_defs::layout::{DAEMON_LOG, MACHINE_WORD};
+pub use soundness::sound_frames;
 
 /// What a device is: how many frames it has, 4 to 1,024, and its machine id.
 #[derive(Clone, Copy, Debug, PartialEq, Eq)]
@@ -86,23 +82,6 @@ fn apply_log<H: Host>(h: &mut H) -> Result<(), HostFault>
     ensures cause { H.counts h.new ≡ after_fault (fault_of result) (H.counts h.old) }
 {
     settle_log(h, DAEMON_LOG)
-}
-
-/// Empties the log-space table by one batch: no client's logs are registered any more.
-///
-/// The device has that table. The only errors are the host's own.
-pub fn clear_spaces<H: Host>(h: &mut H) -> Result<(), HostFault>
-    requires { PUDDLE_TABLE ≤ (H.counts h.old).size }
-    ensures clears { H.tells → (size : ℕ) → size ≡ (H.counts h.old).size → (s : StoredWorld) → IsSettled size s (H.state h.old).now.words
-        → Clears size s (fault_of result) (H.state h.old) (H.state h.new) }
-    ensures any { H.tells → Changes Anything (fault_of result) (H.state h.old) (H.state h.new) }
-    ensures cause { H.counts h.new ≡ after_fault (fault_of result) (H.counts h.old) }
-{
-    let mut batch = Batch::new();
-    for client in 0..CLIENTS {
-        let _fits = batch.add(SPACE_TABLE + SPACE_RECORD_WORDS * client, &[0]);
-    }
-    batch.commit(h)
 }
 
 #[cfg(test)]

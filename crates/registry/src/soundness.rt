@@ -8,13 +8,13 @@ ghost use Rattle.pud_defs.specs.Image.{Image};
 ghost use Rattle.pud_defs.specs.Layout.{device_words};
 ghost use Rattle.pud_defs.specs.Entries.{Entry as LoggedEntry, log_of, entries_of};
 ghost use Rattle.pud_defs.specs.Replay.{settled_by};
-ghost use Rattle.pud_defs.specs.Spaces.{is_legal_space, is_closed_log, has_closed_logs, are_legal_spaces, are_closed_logs};
-ghost use Rattle.pud_defs.specs.Registry.{frames_of, are_zero, has_legal_number, has_legal_types, may_be_logged, is_allowed, has_legal_log, is_registry, is_sound};
+ghost use Rattle.pud_defs.specs.Spaces.{is_space, is_legal_space, has_closed_logs, are_legal_spaces, are_closed_logs};
+ghost use Rattle.pud_defs.specs.Registry.{frames_of, are_zero, is_number, has_legal_number, has_legal_types, may_be_logged, is_allowed, has_legal_log, is_registry, is_sound};
 ghost use Rattle.registry.specs.Overlaying.{HasRange, IsOverlay};
-ghost use Rattle.registry.specs.Judging.{IsRoomFor, frames_by, frames_described, with_one_more, is_number, is_space, is_closed_space, has_sound_tables, has_sound_spaces};
+ghost use Rattle.registry.specs.Judging.{IsRoomFor, frames_by, frames_described, with_one_more, is_closed_space, has_sound_tables, has_sound_spaces};
 
 use crate::overlay::Overlay;
-use log_entry::{Entry, EntryReader, well_formed};
+use log_entry::{Entry, EntryReader, is_closed_log, well_formed};
 use pm_model::{Host, HostFault};
 use pud_defs::layout::{
     CLIENT_LOGS, CLIENTS, DAEMON_LOG, DEVICE_MAGIC, FRAMES_WORD, LOG_WORDS, MAGIC_WORD, MAX_FRAMES,
@@ -22,7 +22,6 @@ use pud_defs::layout::{
     SPACE_RECORD_WORDS, SPACE_TABLE, TYPE_RECORD_WORDS, TYPE_RECORDS, TYPE_TABLE, VERSION,
     VERSION_WORD, device_words, frames_at, log_at, tables_end,
 };
-use pud_defs::log_words::is_closed_range;
 use pud_defs::type_map::{is_legal_map, is_legal_type_id};
 
 /// The number of frames, by the words that describe a device.
@@ -239,23 +238,6 @@ fn are_legal_spaces<H: Host>(h: &mut H, overlay: &Overlay) -> Result<bool, HostF
         }
     }
     Ok(true)
-}
-
-/// Whether the log whose gate is word `at` is closed: its range is, and it is well formed. Nothing changes, and the only errors
-/// are the host's own.
-///
-/// The device has all words of the log.
-pub fn is_closed_log<H: Host>(h: &mut H, at: u32) -> Result<bool, HostFault>
-    requires { at + LOG_WORDS ≤ (H.counts h.old).size }
-    ensures closed { H.tells → (image : Image) → reads (H.state h.old).now.words ≡ image → IfOk result (λ closed. closed ≡ is_closed_log image at) }
-    ensures stays { H.tells → H.state h.new ≡ H.state h.old }
-    ensures cause { H.counts h.new ≡ after_fault (fault_of result) (H.counts h.old) }
-    ensures never_cut { fault_of result ≢ Option.Some HostFault.Cut }
-{
-    if !is_closed_range(h.load(at)?) {
-        return Ok(false);
-    }
-    well_formed(h, at)
 }
 
 /// Whether each log of a client is closed, on a device of so many frames. The daemon log can write none of their words.

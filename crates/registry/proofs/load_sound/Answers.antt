@@ -4,8 +4,8 @@ use Rattle.std.proofs.lemmas.Result.{err_from_is_err_and}
 use Rattle.pm_model.specs.Words.{reads}
 use Rattle.pm_model.specs.Counts.{Counts}
 use Rattle.pud_defs.specs.World.{world_of}
-use Rattle.pud_defs.proofs.Worlds.{world_of-sound, world_of-unsound}
-use Rattle.registry.proofs.Applied.{AppliesLog-kept, AppliesLog-failed, AppliesLog-behind, frames_of_world, machine_read}
+use Rattle.pud_defs.proofs.Worlds.{world_of-sound, world_of-unsound, frames_of_world}
+use Rattle.registry.proofs.Applied.{AppliesLog-kept, AppliesLog-failed, AppliesLog-behind, machine_read}
 use Rattle.registry.proofs.load_sound.Goals as goal
 
 pub returns-in_err-frames-clause-applies : goal.returns-in_err-frames-clause-applies

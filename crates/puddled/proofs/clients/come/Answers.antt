@@ -6,35 +6,35 @@ use Rattle.pud_defs.specs.declared.machine.Refusal.{Refusal}
 use Rattle.pud_defs.specs.declared.machine.Refusal.TheVariants as refusals
 use Rattle.pud_defs.specs.Step.{reply_to}
 use Rattle.puddled.proofs.Applying.{Applies-refused, Applies-accepted}
-use Rattle.puddled.proofs.Coming.{taken, is_new}
+use Rattle.puddled.proofs.Coming.{presence_read, taken, is_new}
 use Rattle.puddled.proofs.clients.come.Goals as goal
 
 pub returns-then-branch-clause-reply : goal.returns-then-branch-clause-reply
 returns-then-branch-clause-reply g c = λ t size e w memory frames ready.
-    sym (ap (λ (o : Option Refusal). reply_to o) (taken w c.args.client c.args.uid c.args.gid (sym c.if-branch.true ∙ c.in_ok-is_present.ensures.present t size w memory ready)))
+    sym (ap (λ (o : Option Refusal). reply_to o) (taken w c.args.client c.args.uid c.args.gid (sym c.if-branch.true ∙ presence_read size w memory _ c.args.client _ c.requires.known ready (c.in_ok-is_registered.ensures.registered t))))
 
 pub returns-then-branch-clause-applies : goal.returns-then-branch-clause-applies
 returns-then-branch-clause-applies g c = λ t size e w memory frames ready.
     Applies-refused size w memory (Client c.args.client c.args.uid c.args.gid) refusals.Taken _ _ ready
-    (taken w c.args.client c.args.uid c.args.gid (sym c.if-branch.true ∙ c.in_ok-is_present.ensures.present t size w memory ready))
-    (c.in_ok-is_present.ensures.stays t)
+    (taken w c.args.client c.args.uid c.args.gid (sym c.if-branch.true ∙ presence_read size w memory _ c.args.client _ c.requires.known ready (c.in_ok-is_registered.ensures.registered t)))
+    (c.in_ok-is_registered.ensures.stays t)
 
 pub returns-clause-reply : goal.returns-clause-reply
 returns-clause-reply g c = λ t size e w memory frames ready.
-    sym (ap (λ (o : Option Refusal). reply_to o) (is_new w c.args.client c.args.uid c.args.gid (sym c.if-branch.false ∙ c.in_ok-is_present.ensures.present t size w memory ready)))
+    sym (ap (λ (o : Option Refusal). reply_to o) (is_new w c.args.client c.args.uid c.args.gid (sym c.if-branch.false ∙ presence_read size w memory _ c.args.client _ c.requires.known ready (c.in_ok-is_registered.ensures.registered t))))
 
 pub returns-in_err-admit-clause-applies : goal.returns-in_err-admit-clause-applies
 returns-in_err-admit-clause-applies g c =
     let p = err_from_is_err_and c.from_residual-in_err-admit.result c.from_residual-in_err-admit.ensures.1 in
     rw (p.1, p.2) (λ t size e w memory frames ready.
-    let after = e ∙ sym (ap (λ (n : Counts). n.size) c.in_ok-is_present.ensures.cause) in
+    let after = e ∙ sym (ap (λ (n : Counts). n.size) c.in_ok-is_registered.ensures.cause) in
     Applies-accepted size w memory (Client c.args.client c.args.uid c.args.gid) (Some c.in_err-admit.field-0.0) _ _ _
-    (is_new w c.args.client c.args.uid c.args.gid (sym c.if-branch.false ∙ c.in_ok-is_present.ensures.present t size w memory ready))
-    (c.in_ok-is_present.ensures.stays t) (c.in_err-admit.ensures.applies t size after w memory frames) ready)
+    (is_new w c.args.client c.args.uid c.args.gid (sym c.if-branch.false ∙ presence_read size w memory _ c.args.client _ c.requires.known ready (c.in_ok-is_registered.ensures.registered t)))
+    (c.in_ok-is_registered.ensures.stays t) (c.in_err-admit.ensures.applies t size after w memory frames) ready)
 
 pub returns-clause-applies : goal.returns-clause-applies
 returns-clause-applies g c = λ t size e w memory frames ready.
-    let after = e ∙ sym (ap (λ (n : Counts). n.size) c.in_ok-is_present.ensures.cause) in
+    let after = e ∙ sym (ap (λ (n : Counts). n.size) c.in_ok-is_registered.ensures.cause) in
     Applies-accepted size w memory (Client c.args.client c.args.uid c.args.gid) _ _ _ _
-    (is_new w c.args.client c.args.uid c.args.gid (sym c.if-branch.false ∙ c.in_ok-is_present.ensures.present t size w memory ready))
-    (c.in_ok-is_present.ensures.stays t) (c.in_ok-admit.ensures.applies t size after w memory frames) ready
+    (is_new w c.args.client c.args.uid c.args.gid (sym c.if-branch.false ∙ presence_read size w memory _ c.args.client _ c.requires.known ready (c.in_ok-is_registered.ensures.registered t)))
+    (c.in_ok-is_registered.ensures.stays t) (c.in_ok-admit.ensures.applies t size after w memory frames) ready

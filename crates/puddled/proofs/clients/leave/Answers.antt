@@ -6,53 +6,53 @@ use Rattle.pud_defs.specs.declared.machine.Refusal.{Refusal}
 use Rattle.pud_defs.specs.declared.machine.Refusal.TheVariants as refusals
 use Rattle.pud_defs.specs.Step.{reply_to}
 use Rattle.puddled.proofs.Applying.{Applies-refused, Applies-accepted}
-use Rattle.puddled.proofs.Coming.{is_absent, is_there, ClosesFirst-idle, ClosesFirst-behind}
+use Rattle.puddled.proofs.Coming.{presence_read, is_absent, is_there, ClosesFirst-idle, ClosesFirst-behind}
 use Rattle.puddled.proofs.clients.leave.Goals as goal
 
 pub returns-then-not-branch-clause-reply : goal.returns-then-not-branch-clause-reply
 returns-then-not-branch-clause-reply g c = λ t size e w memory frames ready.
-    sym (ap (λ (o : Option Refusal). reply_to o) (is_absent w c.args.client 0 0 (sym c.if-not-branch.true ∙ c.in_ok-is_present.ensures.present t size w memory ready)))
+    sym (ap (λ (o : Option Refusal). reply_to o) (is_absent w c.args.client 0 0 (sym c.if-not-branch.true ∙ presence_read size w memory _ c.args.client _ c.requires.known ready (c.in_ok-is_registered.ensures.registered t))))
 
 pub returns-then-not-branch-clause-applies : goal.returns-then-not-branch-clause-applies
 returns-then-not-branch-clause-applies g c = λ t size e w memory frames ready.
     Applies-refused size w memory (Leave c.args.client) refusals.Client _ _ ready
-    (is_absent w c.args.client 0 0 (sym c.if-not-branch.true ∙ c.in_ok-is_present.ensures.present t size w memory ready))
-    (c.in_ok-is_present.ensures.stays t)
+    (is_absent w c.args.client 0 0 (sym c.if-not-branch.true ∙ presence_read size w memory _ c.args.client _ c.requires.known ready (c.in_ok-is_registered.ensures.registered t)))
+    (c.in_ok-is_registered.ensures.stays t)
 
 pub returns-clause-reply : goal.returns-clause-reply
 returns-clause-reply g c = λ t size e w memory frames ready.
-    sym (ap (λ (o : Option Refusal). reply_to o) (is_there w c.args.client 0 0 (sym c.if-not-branch.false ∙ c.in_ok-is_present.ensures.present t size w memory ready)))
+    sym (ap (λ (o : Option Refusal). reply_to o) (is_there w c.args.client 0 0 (sym c.if-not-branch.false ∙ presence_read size w memory _ c.args.client _ c.requires.known ready (c.in_ok-is_registered.ensures.registered t))))
 
 pub returns-in_err-dismiss-clause-applies : goal.returns-in_err-dismiss-clause-applies
 returns-in_err-dismiss-clause-applies g c =
     let p = err_from_is_err_and c.from_residual-in_err-dismiss.result c.from_residual-in_err-dismiss.ensures.1 in
     rw (p.1, p.2) (λ t size e w memory frames ready.
-    let after = e ∙ sym (ap (λ (n : Counts). n.size) c.in_ok-is_present.ensures.cause) in
+    let after = e ∙ sym (ap (λ (n : Counts). n.size) c.in_ok-is_registered.ensures.cause) in
     Applies-accepted size w memory (Leave c.args.client) (Some c.in_err-dismiss.field-0.0) _ _ _
-    (is_there w c.args.client 0 0 (sym c.if-not-branch.false ∙ c.in_ok-is_present.ensures.present t size w memory ready))
-    (c.in_ok-is_present.ensures.stays t) (c.in_err-dismiss.ensures.applies t size after w memory frames) ready)
+    (is_there w c.args.client 0 0 (sym c.if-not-branch.false ∙ presence_read size w memory _ c.args.client _ c.requires.known ready (c.in_ok-is_registered.ensures.registered t)))
+    (c.in_ok-is_registered.ensures.stays t) (c.in_err-dismiss.ensures.applies t size after w memory frames) ready)
 
 pub returns-clause-applies : goal.returns-clause-applies
 returns-clause-applies g c = λ t size e w memory frames ready.
-    let after = e ∙ sym (ap (λ (n : Counts). n.size) c.in_ok-is_present.ensures.cause) in
+    let after = e ∙ sym (ap (λ (n : Counts). n.size) c.in_ok-is_registered.ensures.cause) in
     Applies-accepted size w memory (Leave c.args.client) _ _ _ _
-    (is_there w c.args.client 0 0 (sym c.if-not-branch.false ∙ c.in_ok-is_present.ensures.present t size w memory ready))
-    (c.in_ok-is_present.ensures.stays t) (c.in_ok-dismiss.ensures.applies t size after w memory frames) ready
+    (is_there w c.args.client 0 0 (sym c.if-not-branch.false ∙ presence_read size w memory _ c.args.client _ c.requires.known ready (c.in_ok-is_registered.ensures.registered t)))
+    (c.in_ok-is_registered.ensures.stays t) (c.in_ok-dismiss.ensures.applies t size after w memory frames) ready
 
-pub returns-in_err-is_present-clause-closes_first : goal.returns-in_err-is_present-clause-closes_first
-returns-in_err-is_present-clause-closes_first g c = λ t size e w memory frames ready present.
-    ClosesFirst-idle size w memory c.args.client c.requires.known present _ _ ready (c.in_err-is_present.ensures.stays t)
+pub returns-in_err-is_registered-clause-closes_first : goal.returns-in_err-is_registered-clause-closes_first
+returns-in_err-is_registered-clause-closes_first g c = λ t size e w memory frames ready present.
+    ClosesFirst-idle size w memory c.args.client c.requires.known present _ _ ready (c.in_err-is_registered.ensures.stays t)
 
 pub returns-then-not-branch-clause-closes_first : goal.returns-then-not-branch-clause-closes_first
 returns-then-not-branch-clause-closes_first g c = λ t size e w memory frames ready present.
-    absurd (let it : true ≡ false = present ∙ sym (sym c.if-not-branch.true ∙ c.in_ok-is_present.ensures.present t size w memory ready) in cc)
+    absurd (let it : true ≡ false = present ∙ sym (sym c.if-not-branch.true ∙ presence_read size w memory _ c.args.client _ c.requires.known ready (c.in_ok-is_registered.ensures.registered t)) in cc)
 
 pub returns-in_err-dismiss-clause-closes_first : goal.returns-in_err-dismiss-clause-closes_first
 returns-in_err-dismiss-clause-closes_first g c = λ t size e w memory frames ready present.
-    let after = e ∙ sym (ap (λ (n : Counts). n.size) c.in_ok-is_present.ensures.cause) in
-    ClosesFirst-behind size w memory c.args.client c.requires.known present _ _ _ ready (c.in_ok-is_present.ensures.stays t) (λ ready_b. c.in_err-dismiss.ensures.closes_first t size after w memory frames ready_b present)
+    let after = e ∙ sym (ap (λ (n : Counts). n.size) c.in_ok-is_registered.ensures.cause) in
+    ClosesFirst-behind size w memory c.args.client c.requires.known present _ _ _ ready (c.in_ok-is_registered.ensures.stays t) (λ ready_b. c.in_err-dismiss.ensures.closes_first t size after w memory frames ready_b present)
 
 pub returns-clause-closes_first : goal.returns-clause-closes_first
 returns-clause-closes_first g c = λ t size e w memory frames ready present.
-    let after = e ∙ sym (ap (λ (n : Counts). n.size) c.in_ok-is_present.ensures.cause) in
-    ClosesFirst-behind size w memory c.args.client c.requires.known present _ _ _ ready (c.in_ok-is_present.ensures.stays t) (λ ready_b. c.in_ok-dismiss.ensures.closes_first t size after w memory frames ready_b present)
+    let after = e ∙ sym (ap (λ (n : Counts). n.size) c.in_ok-is_registered.ensures.cause) in
+    ClosesFirst-behind size w memory c.args.client c.requires.known present _ _ _ ready (c.in_ok-is_registered.ensures.stays t) (λ ready_b. c.in_ok-dismiss.ensures.closes_first t size after w memory frames ready_b present)

@@ -4,7 +4,7 @@ use Rattle.pud_defs.specs.declared.layout.TheConstants.{CLIENT_LOGS}
 use Rattle.pud_defs.specs.Layout.{log_at}
 use Rattle.pud_defs.specs.Spaces.{is_closed_log}
 use Rattle.log_space.specs.FreeLogs.{first_from}
-use Rattle.log_space.proofs.first_closed.Given as goal
+use Rattle.log_space.proofs.free_log.Given as goal
 
 abbrev pub invariant-loop-number : goal.invariant-loop-number
 invariant-loop-number g l = record {

@@ -1,0 +1,120 @@
+//! A word, a range and a range of zeroes made durable. The ranges lie on both sides of the line that begins at word 8.
+use pm_mem::{MemHost, Plan};
+use pm_model::{Host, HostFault};
+use pm_persist::{persist_range, persist_word, write_range, zero_range};
+use std::alloc::Global;
+use std::process::Abort;
+use test_device::{arm, zero_device};
+
+/// A call on a device of three lines.
+#[derive(Clone, Copy, Debug)]
+enum Call {
+    PersistWord(u32, u64),
+    WriteRange(u32, &'static [u64]),
+    Fence,
+    PersistRange(u32, &'static [u64]),
+    ZeroRange(u32, u32),
+}
+
+/// Makes the call.
+fn made(rt: &impl Abort, host: &mut MemHost, call: Call) -> Result<(), HostFault> {
+    let words = host.words();
+    match call {
+        Call::PersistWord(w, v) => {
+            assert!(rt; w < words);
+            persist_word(host, w, v)
+        }
+        Call::WriteRange(w, vals) => {
+            assert!(rt; w <= 16 && vals.len() <= 8 && 24 <= words);
+            write_range(host, w, vals)
+        }
+        Call::Fence => host.fence(),
+        Call::PersistRange(w, vals) => {
+            assert!(rt; w <= 16 && vals.len() <= 8 && 24 <= words);
+            persist_range(host, w, vals)
+        }
+        Call::ZeroRange(w, n) => {
+            assert!(rt; w <= 16 && n <= 8 && 24 <= words);
+            zero_range(host, w, n)
+        }
+    }
+}
+
+/// Makes the calls in turn on a device of zero words, each of which has to succeed; then power is lost. The words 6 to 9
+/// have to be these, by their durable values.
+fn leave(rt: &impl Abort, alloc: Global, calls: &[Call], want: &[u64]) {
+    let mut host = zero_device(alloc, 24, b"", Plan::none(alloc)).expect(rt, "memory");
+    for call in calls {
+        assert!(rt; made(rt, &mut host, *call).is_ok(), "{call:?}");
+    }
+    host.cut(0);
+    let words = host.read_back(alloc).expect(rt, "memory");
+    assert_eq!(rt; words.get(6..10), Some(want));
+}
+
+#[test]
+fn a_persisted_word_is_durable(rt: HostRuntime) {
+    leave(&rt, rt.alloc(), &[Call::PersistWord(8, 5)], &[0, 0, 5, 0]);
+}
+
+#[test]
+fn a_written_range_is_durable_after_the_next_fence(rt: HostRuntime) {
+    let write = Call::WriteRange(6, &[1, 2, 3]);
+    leave(&rt, rt.alloc(), &[write], &[0, 0, 0, 0]);
+    leave(&rt, rt.alloc(), &[write, Call::Fence], &[1, 2, 3, 0]);
+}
+
+#[test]
+fn a_persisted_range_is_durable(rt: HostRuntime) {
+    leave(
+        &rt,
+        rt.alloc(),
+        &[Call::PersistRange(6, &[1, 2, 3])],
+        &[1, 2, 3, 0],
+    );
+}
+
+#[test]
+fn a_zeroed_range_is_durable(rt: HostRuntime) {
+    let range = Call::PersistRange(6, &[1, 2, 3, 4]);
+    leave(
+        &rt,
+        rt.alloc(),
+        &[range, Call::ZeroRange(7, 2)],
+        &[1, 0, 0, 4],
+    );
+}
+
+/// How many of the words 6 to 9 have their new value where a range over them is cut at this step, and whether it was.
+/// Each other one of them has its old value, which is 0.
+fn cut_at(rt: &impl Abort, alloc: Global, step: u32, pick: u64) -> (usize, bool) {
+    let range = Call::PersistRange(6, &[1, 2, 3, 4]);
+    let mut host = zero_device(alloc, 24, b"", Plan::none(alloc)).expect(rt, "memory");
+    arm(&mut host, step, pick);
+    let is_cut = made(rt, &mut host, range).is_err();
+    host.cut(pick);
+    let words = host.read_back(alloc).expect(rt, "memory");
+    let left = words.get(6..10).unwrap_or(&[]);
+    let new = left
+        .iter()
+        .zip(&[1, 2, 3, 4])
+        .filter(|(word, new)| word == new)
+        .count();
+    let old = left.iter().filter(|word| **word == 0).count();
+    assert!(rt; new <= 4 && old == 4 - new, "step {step}");
+    (new, is_cut)
+}
+
+// Four stores, two flushes and a fence.
+#[test]
+fn a_range_that_is_cut_off_has_old_and_new_words(rt: HostRuntime) {
+    for (pick, at_the_fence) in [(0, 0), (1, 4), (0x5555_5555_5555_5555, 2)] {
+        assert_eq!(rt; cut_at(&rt, rt.alloc(), 1, pick), (0, true), "pick {pick}");
+        assert_eq!(rt;
+            cut_at(&rt, rt.alloc(), 7, pick),
+            (at_the_fence, true),
+            "pick {pick}"
+        );
+        assert_eq!(rt; cut_at(&rt, rt.alloc(), 8, pick), (4, false), "pick {pick}");
+    }
+}

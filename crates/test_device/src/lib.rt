@@ -1,0 +1,81 @@
+//! Devices that tests begin with. Each is a host in memory whose words have one durable value each, with room for more
+//! device steps and said bytes than a test takes, so that only a test's own plan makes it fail.
+//!
+//! A test asserts what it is given here. So nothing here has a contract, and a call that rests on one asserts what that
+//! wants.
+#![tactic(auto)]
+
+use pm_mem::{MemHost, Plan};
+use pm_model::Host;
+use pud_defs::layout::{
+    DEVICE_MAGIC, FRAMES_WORD, MACHINE_WORD, MAGIC_WORD, MIN_FRAMES, NEXT_NUMBER_WORD, VERSION,
+    VERSION_WORD, device_words,
+};
+use std::alloc::Global;
+
+/// How many device steps there is room for. Formatting the smallest device takes 38,638.
+pub const STEPS: u32 = 65_536;
+
+/// How many said bytes there is room for.
+pub const ROOM: u32 = 4_096;
+
+/// The machine id of a blank device.
+pub const MACHINE: u64 = 7;
+
+/// A device of the whole lines that so many words fill, all of them zero, with that script to read. None where memory is
+/// refused.
+pub fn zero_device(alloc: Global, words: u32, script: &[u8], plan: Plan) -> Option<MemHost> {
+    let lines = words / 8;
+    MemHost::new(alloc, lines * 8, script, STEPS, ROOM, plan).ok()
+}
+
+/// The smallest device, with the machine id [`MACHINE`], as it is once it is formatted. None where memory is refused.
+pub fn blank_device(alloc: Global, script: &[u8], plan: Plan) -> Option<MemHost> {
+    let mut host = zero_device(alloc, device_words(MIN_FRAMES), script, plan)?;
+    let described = [
+        (MAGIC_WORD, DEVICE_MAGIC),
+        (VERSION_WORD, VERSION),
+        (MACHINE_WORD, MACHINE),
+        (FRAMES_WORD, u64::from(MIN_FRAMES)),
+        (NEXT_NUMBER_WORD, 1),
+    ];
+    poke(&mut host, &described).then_some(host)
+}
+
+/// Gives each of these words one durable value, in turn. The answer is whether the device has all of them.
+pub fn poke(host: &mut MemHost, rows: &[(u32, u64)]) -> bool {
+    for (word, value) in rows {
+        if *word >= host.words() {
+            return false;
+        }
+        host.poke(*word, *value);
+    }
+    true
+}
+
+/// The newest value of a word, without a call that might fail. None where the device has no such word, or memory is
+/// refused.
+pub fn newest(alloc: Global, host: &MemHost, word: u32) -> Option<u64> {
+    host.read_back(alloc).ok()?.get(word as usize).copied()
+}
+
+/// Arms a cut at the device step of number `steps` from now on, 1 in the place of 0.
+pub fn arm(host: &mut MemHost, steps: u32, pick: u64) {
+    host.arm(steps.max(1), pick);
+}
+
+/// The plan by which power is lost at these device steps, each with its pick. None where memory is refused.
+pub fn cuts(alloc: Global, cuts: &[(u32, u64)]) -> Option<Plan> {
+    Some(Plan {
+        fails: Vec::new(alloc),
+        cuts: Vec::from_slice(alloc, cuts).ok()?,
+    })
+}
+
+/// The plan by which the calls of these numbers fail. None where memory is refused.
+pub fn failures(alloc: Global, calls: &[u32]) -> Option<Plan> {
+    Some(Plan {
+        fails: Vec::from_slice(alloc, calls).ok()?,
+        cuts: Vec::new(alloc),
+    })
+}
