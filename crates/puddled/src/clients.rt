@@ -5,7 +5,8 @@ ghost use Rattle.pm_model.specs.Counts.{after_fault, fault_of};
 ghost use Rattle.pud_defs.specs.declared.layout.TheConstants.{CLIENTS, MAX_OWNER_ID, MAX_FRAMES};
 ghost use Rattle.pud_defs.specs.Layout.{device_words};
 ghost use Rattle.pud_defs.specs.World.{World};
-ghost use Rattle.pud_defs.specs.Step.{refusal_of, reply_to, after, world_by};
+ghost use Rattle.pud_defs.specs.Step.{answer_by, after, world_by};
+ghost use Rattle.pud_defs.specs.Step.Answer.{of_reply};
 ghost use Rattle.pud_defs.specs.declared.machine.Command.TheVariants as commands;
 ghost use Rattle.puddled.specs.Memory.{Memory};
 ghost use Rattle.puddled.specs.Daemon.{KeepsRest, IsReady, Applies, ClosesFirst};
@@ -46,7 +47,7 @@ pub fn come<H: Host>(
     requires few { frames ≤ MAX_FRAMES }
     requires room { device_words frames ≤ (H.counts h.old).size }
     ensures reply { H.tells → (size : ℕ) → size ≡ (H.counts h.old).size → (w : World) → (memory : Memory) → memory.frames ≡ frames → IsReady size w memory (H.state h.old)
-        → IfOk result (λ reply. reply ≡ reply_to (refusal_of w (commands.Client client uid gid))) }
+        → IfOk result (λ reply. of_reply reply ≡ answer_by w (Option.Some (commands.Client client uid gid))) }
     ensures applies { H.tells → (size : ℕ) → size ≡ (H.counts h.old).size → (w : World) → (memory : Memory) → memory.frames ≡ frames → IsReady size w memory (H.state h.old)
         → Applies size w (world_by w (Option.Some (commands.Client client uid gid))) memory (fault_of result) (H.state h.old) (H.state h.new) }
     ensures rest { H.tells → KeepsRest (H.state h.old) (H.state h.new) }
@@ -85,7 +86,7 @@ pub fn leave<H: Host>(h: &mut H, frames: u32, client: u32) -> Result<Reply, Host
     requires few { frames ≤ MAX_FRAMES }
     requires room { device_words frames ≤ (H.counts h.old).size }
     ensures reply { H.tells → (size : ℕ) → size ≡ (H.counts h.old).size → (w : World) → (memory : Memory) → memory.frames ≡ frames → IsReady size w memory (H.state h.old)
-        → IfOk result (λ reply. reply ≡ reply_to (refusal_of w (commands.Leave client))) }
+        → IfOk result (λ reply. of_reply reply ≡ answer_by w (Option.Some (commands.Leave client))) }
     ensures applies { H.tells → (size : ℕ) → size ≡ (H.counts h.old).size → (w : World) → (memory : Memory) → memory.frames ≡ frames → IsReady size w memory (H.state h.old)
         → Applies size w (world_by w (Option.Some (commands.Leave client))) memory (fault_of result) (H.state h.old) (H.state h.new) }
     // Its logs are closed in each image in which its record may be free.

@@ -1,17 +1,16 @@
-use Rattle.std.proofs.Common.{Option, Some, sym, ap, ◌∙◌}
+use Rattle.std.proofs.Common.{Some, sym, ap, ◌∙◌}
 use Rattle.std.proofs.lemmas.Result.{err_from_is_err_and}
 use Rattle.pm_model.specs.Counts.{Counts}
 use Rattle.pud_defs.specs.declared.machine.Command.TheVariants.{Client}
-use Rattle.pud_defs.specs.declared.machine.Refusal.{Refusal}
 use Rattle.pud_defs.specs.declared.machine.Refusal.TheVariants as refusals
-use Rattle.pud_defs.specs.Step.{reply_to}
+use Rattle.pud_defs.proofs.Steps.{refused_answer, answer_is_ok}
 use Rattle.puddled.proofs.Applying.{Applies-refused, Applies-accepted}
 use Rattle.puddled.proofs.Coming.{presence_read, taken, is_new}
 use Rattle.puddled.proofs.clients.come.Goals as goal
 
 pub returns-then-branch-clause-reply : goal.returns-then-branch-clause-reply
 returns-then-branch-clause-reply g c = λ t size e w memory frames ready.
-    sym (ap (λ (o : Option Refusal). reply_to o) (taken w c.args.client c.args.uid c.args.gid (sym c.if-branch.true ∙ presence_read size w memory _ c.args.client _ c.requires.known ready (c.in_ok-is_registered.ensures.registered t))))
+    sym (refused_answer w (Client c.args.client c.args.uid c.args.gid) refusals.Taken (taken w c.args.client c.args.uid c.args.gid (sym c.if-branch.true ∙ presence_read size w memory _ c.args.client _ c.requires.known ready (c.in_ok-is_registered.ensures.registered t))))
 
 pub returns-then-branch-clause-applies : goal.returns-then-branch-clause-applies
 returns-then-branch-clause-applies g c = λ t size e w memory frames ready.
@@ -21,7 +20,7 @@ returns-then-branch-clause-applies g c = λ t size e w memory frames ready.
 
 pub returns-clause-reply : goal.returns-clause-reply
 returns-clause-reply g c = λ t size e w memory frames ready.
-    sym (ap (λ (o : Option Refusal). reply_to o) (is_new w c.args.client c.args.uid c.args.gid (sym c.if-branch.false ∙ presence_read size w memory _ c.args.client _ c.requires.known ready (c.in_ok-is_registered.ensures.registered t))))
+    sym (answer_is_ok w (Client c.args.client c.args.uid c.args.gid) (is_new w c.args.client c.args.uid c.args.gid (sym c.if-branch.false ∙ presence_read size w memory _ c.args.client _ c.requires.known ready (c.in_ok-is_registered.ensures.registered t))))
 
 pub returns-in_err-admit-clause-applies : goal.returns-in_err-admit-clause-applies
 returns-in_err-admit-clause-applies g c =

@@ -2,16 +2,15 @@ use Rattle.std.proofs.Common.{◌≡◌, true, false, Option, Some, sym, ap, ◌
 use Rattle.std.proofs.lemmas.Result.{err_from_is_err_and}
 use Rattle.pm_model.specs.Counts.{Counts}
 use Rattle.pud_defs.specs.declared.machine.Command.TheVariants.{Leave}
-use Rattle.pud_defs.specs.declared.machine.Refusal.{Refusal}
 use Rattle.pud_defs.specs.declared.machine.Refusal.TheVariants as refusals
-use Rattle.pud_defs.specs.Step.{reply_to}
+use Rattle.pud_defs.proofs.Steps.{refused_answer, answer_is_ok}
 use Rattle.puddled.proofs.Applying.{Applies-refused, Applies-accepted}
 use Rattle.puddled.proofs.Coming.{presence_read, is_absent, is_there, ClosesFirst-idle, ClosesFirst-behind}
 use Rattle.puddled.proofs.clients.leave.Goals as goal
 
 pub returns-then-not-branch-clause-reply : goal.returns-then-not-branch-clause-reply
 returns-then-not-branch-clause-reply g c = λ t size e w memory frames ready.
-    sym (ap (λ (o : Option Refusal). reply_to o) (is_absent w c.args.client 0 0 (sym c.if-not-branch.true ∙ presence_read size w memory _ c.args.client _ c.requires.known ready (c.in_ok-is_registered.ensures.registered t))))
+    sym (refused_answer w (Leave c.args.client) refusals.Client (is_absent w c.args.client 0 0 (sym c.if-not-branch.true ∙ presence_read size w memory _ c.args.client _ c.requires.known ready (c.in_ok-is_registered.ensures.registered t))))
 
 pub returns-then-not-branch-clause-applies : goal.returns-then-not-branch-clause-applies
 returns-then-not-branch-clause-applies g c = λ t size e w memory frames ready.
@@ -21,7 +20,7 @@ returns-then-not-branch-clause-applies g c = λ t size e w memory frames ready.
 
 pub returns-clause-reply : goal.returns-clause-reply
 returns-clause-reply g c = λ t size e w memory frames ready.
-    sym (ap (λ (o : Option Refusal). reply_to o) (is_there w c.args.client 0 0 (sym c.if-not-branch.false ∙ presence_read size w memory _ c.args.client _ c.requires.known ready (c.in_ok-is_registered.ensures.registered t))))
+    sym (answer_is_ok w (Leave c.args.client) (is_there w c.args.client 0 0 (sym c.if-not-branch.false ∙ presence_read size w memory _ c.args.client _ c.requires.known ready (c.in_ok-is_registered.ensures.registered t))))
 
 pub returns-in_err-dismiss-clause-applies : goal.returns-in_err-dismiss-clause-applies
 returns-in_err-dismiss-clause-applies g c =
