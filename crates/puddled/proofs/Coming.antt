@@ -3,11 +3,10 @@ use Rattle.std.proofs.Common.{◌≡◌, ◌⊎◌, inl, inr, ⊎_elim, ℕ, ◌
 use Rattle.std.specs.Prelude.{is_some}
 use Rattle.std.proofs.lemmas.List.{append-nil}
 use Rattle.std.proofs.lemmas.Bool.{eqb-true}
-use Rattle.std.proofs.lemmas.Option.{cond_some}
 use Rattle.pm_model.specs.declared.host.HostFault.{HostFault}
 use Rattle.pm_model.specs.Words.{Words, Picks, HasOnly, reads}
 use Rattle.pm_model.specs.Moments.{State}
-use Rattle.pm_model.specs.Changes.{Changes, Silently}
+use Rattle.pm_model.specs.Changes.{Silently}
 use Rattle.pm_model.proofs.Words.{Picks-reads}
 use Rattle.pm_model.proofs.Changes.{Changes-said}
 use Rattle.pm_model.proofs.Leaves.{Leaves-changes, Leaves-weaker, Leaves-then, Leaves-still}
@@ -18,13 +17,12 @@ use Rattle.pud_defs.specs.Entries.{Entry, is_closed_gate}
 use Rattle.pud_defs.specs.Spaces.{Owner, space_record_at, owner_by, owner_of, has_closed_logs}
 use Rattle.pud_defs.specs.World.{World, world_of, closed}
 use Rattle.pud_defs.specs.declared.machine.Command.TheVariants.{Client, Leave}
-use Rattle.pud_defs.specs.declared.machine.Refusal.{Refusal}
 use Rattle.pud_defs.specs.declared.machine.Refusal.TheVariants as refusals
 use Rattle.pud_defs.specs.Step.{refusal_of, after, with_client}
 use Rattle.pud_defs.proofs.Replay.{outside_log, settled_by-closed}
 use Rattle.pud_defs.proofs.Spaces.{used_is_some, has_closed_logs-same}
 use Rattle.pud_defs.proofs.Steps.{client-taken, client-new, leave-absent, leave-present}
-use Rattle.batch.specs.Batches.{batch_write, ByBatch}
+use Rattle.batch.specs.Batches.{ByBatch}
 use Rattle.batch.specs.Tables.{HasDurableTables}
 use Rattle.batch.proofs.Tables.{reads_kept, HasDurableTables-kept, HasDurableTables-committed}
 use Rattle.log_space.specs.Records.{owner, owners, record_batch, registration, unregistration, HasClosedLogs, MayHaveOwner, ChangesOwner, Registers, Unregisters}
