@@ -14,6 +14,7 @@ pub mod Blank
 pub mod Lines
 pub mod Runs
 pub mod Steps
+pub mod Parts
 pub mod Commands
 pub mod Said
 pub mod Opened
