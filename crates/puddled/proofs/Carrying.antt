@@ -13,8 +13,8 @@ use Rattle.pud_defs.specs.declared.machine.Refusal.TheVariants as refusals
 use Rattle.pud_defs.specs.World.{World, restart}
 use Rattle.pud_defs.specs.Step.{refusal_of, after, answer_by, world_by}
 use Rattle.pud_defs.specs.Step.Answer.{of_reply}
-use Rattle.pud_defs.specs.Parts.{file_of}
-use Rattle.pud_defs.proofs.Parts.{KeepsFiles-still, KeepsFiles-then}
+use Rattle.pud_defs.specs.Changing.{file_of}
+use Rattle.pud_defs.proofs.Changing.{KeepsFiles-still, KeepsFiles-then}
 use Rattle.pud_defs.proofs.Steps.{answer_is_ok, done_world}
 use Rattle.puddled.specs.Faults.{Kind, kind_of, CountsCommand}
 use Rattle.puddled.specs.Faults.Kind.{ordinary, loses, arms}

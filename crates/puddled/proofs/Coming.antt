@@ -3,11 +3,10 @@ use Rattle.std.proofs.Common.{◌≡◌, ◌⊎◌, inl, inr, ⊎_elim, ℕ, ◌
 use Rattle.std.specs.Prelude.{is_some}
 use Rattle.std.proofs.lemmas.List.{append-nil}
 use Rattle.std.proofs.lemmas.Bool.{eqb-true}
-use Rattle.std.proofs.lemmas.Option.{cond_some}
 use Rattle.pm_model.specs.declared.host.HostFault.{HostFault}
 use Rattle.pm_model.specs.Words.{Words, Picks, HasOnly, reads}
 use Rattle.pm_model.specs.Moments.{State}
-use Rattle.pm_model.specs.Changes.{Changes, Silently}
+use Rattle.pm_model.specs.Changes.{Silently}
 use Rattle.pm_model.proofs.Words.{Picks-reads}
 use Rattle.pm_model.proofs.Changes.{Changes-said}
 use Rattle.pm_model.proofs.Leaves.{Leaves-changes, Leaves-weaker, Leaves-then, Leaves-still}
@@ -18,13 +17,12 @@ use Rattle.pud_defs.specs.Entries.{Entry, is_closed_gate}
 use Rattle.pud_defs.specs.Spaces.{Owner, space_record_at, owner_by, owner_of, has_closed_logs}
 use Rattle.pud_defs.specs.World.{World, world_of, closed}
 use Rattle.pud_defs.specs.declared.machine.Command.TheVariants.{Client, Leave}
-use Rattle.pud_defs.specs.declared.machine.Refusal.{Refusal}
 use Rattle.pud_defs.specs.declared.machine.Refusal.TheVariants as refusals
 use Rattle.pud_defs.specs.Step.{refusal_of, after, with_client}
 use Rattle.pud_defs.proofs.Replay.{outside_log, settled_by-closed}
-use Rattle.pud_defs.proofs.Spaces.{used_is_some, has_closed_logs-same}
+use Rattle.pud_defs.proofs.Spaces.{used_is_some, owner_of-same, has_closed_logs-same}
 use Rattle.pud_defs.proofs.Steps.{client-taken, client-new, leave-absent, leave-present}
-use Rattle.batch.specs.Batches.{batch_write, ByBatch}
+use Rattle.batch.specs.Batches.{ByBatch}
 use Rattle.batch.specs.Tables.{HasDurableTables}
 use Rattle.batch.proofs.Tables.{reads_kept, HasDurableTables-kept, HasDurableTables-committed}
 use Rattle.log_space.specs.Records.{owner, owners, record_batch, registration, unregistration, HasClosedLogs, MayHaveOwner, ChangesOwner, Registers, Unregisters}
@@ -34,14 +32,6 @@ use Rattle.puddled.specs.Memory.{Memory}
 use Rattle.puddled.specs.Daemon.{IsReady, Applies, ClosesFirst}
 
 -- ---- what is read of the log-space table
-
--- images that agree on it have the same owners
-pub owner_of-same : (i j : Image) (client : ℕ) → client < CLIENTS → ((k : ℕ) → SPACE_TABLE ≤ k → k < PUDDLE_TABLE → i k ≡ j k) → owner_of i client ≡ owner_of j client
-owner_of-same i j client known same =
-    let used = same (space_record_at client) (omega arith) (omega arith) in
-    let uid = same (space_record_at client + 1) (omega arith) (omega arith) in
-    let gid = same (space_record_at client + 2) (omega arith) (omega arith) in
-    λ p. owner_by (used p) (uid p) (gid p)
 
 -- with the daemon log closed they are those of the image itself
 owners_closed : (image : Image) (client : ℕ) → client < CLIENTS → is_closed_gate (image DAEMON_LOG) ≡ true → owners image client ≡ owner_of image client

@@ -15,8 +15,8 @@ use Rattle.pud_defs.specs.Image.{Image}
 use Rattle.pud_defs.specs.World.{World, world_of, closed, restart}
 use Rattle.pud_defs.specs.Grammar.{command_of}
 use Rattle.pud_defs.specs.Step.{step_world}
-use Rattle.pud_defs.specs.Parts.{file_in}
-use Rattle.pud_defs.proofs.Parts.{shelf_by, KeepsFiles-none}
+use Rattle.pud_defs.specs.Changing.{file_in}
+use Rattle.pud_defs.proofs.Changing.{shelf_by, KeepsFiles-none}
 use Rattle.puddled.specs.declared.daemon.StartFault.{StartFault}
 use Rattle.puddled.specs.declared.daemon.StartFault.TheVariants as starts
 use Rattle.puddled.specs.declared.daemon.RunFault.{RunFault}

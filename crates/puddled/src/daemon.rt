@@ -9,7 +9,7 @@ ghost use Rattle.pud_defs.specs.World.{World, world_of, closed, restart};
 ghost use Rattle.pud_defs.specs.Texts.{reply_text};
 ghost use Rattle.puddled.specs.Faults.{start_fault, run_fault, kind_of, CountsLine, CountsCommand, behind_loss, HasLostPower};
 ghost use Rattle.pud_defs.specs.Grammar.{command_of, IsLegalCommand};
-ghost use Rattle.pud_defs.specs.Parts.{file_of, file_in};
+ghost use Rattle.pud_defs.specs.Changing.{file_of, file_in};
 ghost use Rattle.puddled.specs.Memory.{Memory};
 ghost use Rattle.puddled.specs.Daemon.{KeepsRest, KeepsLine, IsReady, Applies, CarriesOut, Recovers, Settles};
 

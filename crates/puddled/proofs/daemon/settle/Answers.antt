@@ -6,7 +6,7 @@ use Rattle.pud_defs.specs.declared.machine.Reply.TheVariants as replies
 use Rattle.pud_defs.specs.declared.machine.Refusal.TheVariants as refusals
 use Rattle.pud_defs.specs.World.{world_of}
 use Rattle.pud_defs.specs.Grammar.{command_of}
-use Rattle.pud_defs.specs.Parts.{file_in}
+use Rattle.pud_defs.specs.Changing.{file_in}
 use Rattle.puddled.specs.Faults.{kind_of, run_fault, CountsLine}
 use Rattle.puddled.specs.Daemon.{KeepsLine, CarriesOut}
 use Rattle.puddled.proofs.Counted.{size_of_command, no_loss_still}
