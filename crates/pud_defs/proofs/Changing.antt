@@ -1,5 +1,5 @@
 -- What is no part of what a command may change stays.
-use Rattle.std.proofs.Common.{◌≡◌, ℕ, T, List, Option, Some, None, nat_cmp, refl, sym, ap, ◌∙◌}
+use Rattle.std.proofs.Common.{◌≡◌, inl, inr, ℕ, T, List, [], ◌∷◌, ◌++◌, Option, Some, None, nat_cmp, refl, sym, ap, ◌∙◌}
 use Rattle.std.specs.FinMap.Entries.{is_sorted}
 use Rattle.pud_defs.specs.declared.machine.Command.{Command}
 use Rattle.pud_defs.specs.declared.machine.Command.TheVariants.{Client, Leave, Define, Cut, Arm}
@@ -8,6 +8,7 @@ use Rattle.pud_defs.specs.World.{World}
 use Rattle.pud_defs.specs.Grammar.{command_of}
 use Rattle.pud_defs.specs.Step.{refusal_of, after, unless_refused, world_by, step_world}
 use Rattle.pud_defs.specs.Changing.{Part, part_of, with_part, file_of, file_in, KeepsFiles, IsWritable, KeepsUnwritable}
+use Rattle.pud_defs.specs.Run.{Turn, IsTurn, IsRun, last_world}
 use Rattle.pud_defs.proofs.TypeLists.{is_sorted-with_type}
 use Rattle.pud_defs.specs.Changing.Part.{types, clients, nothing}
 
@@ -54,6 +55,18 @@ no_file_in (Some c) = refl
 -- the shelf stays
 pub shelf_of_step : (w : World) (line : List ℕ) → (step_world w line).shelf ≡ w.shelf
 shelf_of_step w line = shelf_by w (command_of line) (no_file_in (command_of line))
+
+-- nor does a run change it
+shelf_of_turn : (w : World) (t : Turn) → IsTurn w t → t.next.shelf ≡ w.shelf
+shelf_of_turn w t (inl turn) = ap (λ (x : World). x.shelf) (turn.goes_on ∙ turn.step.given) ∙ shelf_of_step w t.line
+shelf_of_turn w t (inr turn) = elim turn.goes_on [
+  | inl before ↦ ap (λ (x : World). x.shelf) before
+  | inr later ↦ ap (λ (x : World). x.shelf) later ∙ ap (λ (x : World). x.shelf) turn.given ∙ shelf_of_step w t.line
+]
+
+pub shelf_of_turns : (w : World) (turns more : List Turn) → IsRun w (turns ++ more) → (last_world w turns).shelf ≡ w.shelf
+shelf_of_turns w [] more is = refl
+shelf_of_turns w (t ∷ turns) more is = shelf_of_turns t.next turns more is.1 ∙ shelf_of_turn w t is.0
 
 pub KeepsFiles-still : (file : Option (List ℕ)) (old new : List ℕ → Option (List ℕ)) → new ≡ old → KeepsFiles file old new
 KeepsFiles-still file old new same = record { others = λ name other. ap (λ (s : List ℕ → Option (List ℕ)). s name) same }

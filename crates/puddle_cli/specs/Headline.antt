@@ -7,22 +7,23 @@ use Rattle.pud_defs.specs.declared.layout.TheConstants.{SCRIPT_LIMIT}
 use Rattle.pud_defs.specs.Image.{Image}
 use Rattle.pud_defs.specs.World.{World, world_of, closed}
 use Rattle.pud_defs.specs.Grammar.{command_of}
+use Rattle.pud_defs.specs.Changing.{KeepsFiles, KeepsUnwritable}
 use Rattle.pud_defs.specs.Run.{Turn, cuts_of, IsRun, last_world, lines_taken, newlines}
 use Rattle.pud_defs.specs.Texts.{start_text, replies_text}
 use Rattle.pud_defs.specs.Stands.{StandsBehindStart}
 use Rattle.puddle_cli.specs.declared.status.TheConstants.{DONE, POWER_LOST, TOO_LONG}
 use Rattle.puddled.specs.Faults.{RoseBy, is_loss, CountsTurns}
 use Rattle.puddle_cli.specs.Status.{status_fault, run_fault_at}
-use Rattle.puddle_cli.specs.Serving.{CountsPending}
+use Rattle.puddle_cli.specs.Serving.{CountsPending, file_under_way}
 
--- Bytes of the script were taken: all of them at status 0, and 2^20 at status 7.
+-- Bytes of the script were taken: all of them at status 0, and 2^20 at status 7. Each file that no line may write is as it was.
 pub record TakesScript (status : ℕ) (start end : State) : Type 0 where
   pub taken : List ℕ
   pub script : start.script ≡ taken ++ end.script
   pub within : length taken ≤ SCRIPT_LIMIT
   pub done : status ≡ DONE → (end.script ≡ []) × (length taken < SCRIPT_LIMIT)
   pub too_long : status ≡ TOO_LONG → length taken ≡ SCRIPT_LIMIT
-  pub shelf : end.shelf ≡ start.shelf
+  pub files : KeepsUnwritable start.shelf end.shelf
 
 -- Within the start, in which the host failed or power was lost, some bytes of the start text were said and nothing was taken. Behind it the
 -- start text, the replies to the lines answered and a part of the reply to the line under way were said, and that line is counted by its
@@ -63,7 +64,8 @@ pub record Headline (size : ℕ) (w : World) (status : ℕ) (before after : Coun
   pub all_lines : status ≡ DONE → ended ≡ true
   pub not_ended : status ≡ TOO_LONG → ended ≡ false
   pub ends : run_fault_at status ≡ None → (image : Image) → Picks end.now.words image → world_of size image ≡ Some (closed (last_world w answered))
-  pub shelf : end.shelf ≡ w.shelf
+  -- each file is as the lines answered left it, but one that the line without a reply may write
+  pub files : KeepsFiles (file_under_way pending) (last_world w answered).shelf end.shelf
   pub shelf_of_run : run_fault_at status ≡ None → end.shelf ≡ (last_world w answered).shelf
   -- at every moment: an image that may have been left since the start of the call, together with the bytes said since then
   pub moments : (said : List ℕ) (image : Image) → MayLeave start end said image → StandsBehindStart size w (answered ++ pending) (newlines said) image
