@@ -256,6 +256,7 @@ fn say_reply<H: Host>(h: &mut H, reply: Reply) -> Result<(), HostFault>
 }
 
 impl Daemon {
+    ghost use Rattle.pud_defs.specs.declared.layout.TheConstants.{MAX_FRAMES};
     ghost use Rattle.puddled.specs.Daemon.{Starts, Answers};
 
     /// Starts on the device: applies what its daemon log names, empties the log-space table, and says the start text.
@@ -314,6 +315,15 @@ impl Daemon {
             say_reply(h, reply)?;
         }
         Ok(reply.is_ok())
+    }
+
+    /// How many frames the device has that this daemon started on, 4 to 1,024. [`Daemon::exec`] is given a device with room
+    /// for them.
+    pub fn frames(&self) -> u32
+        ensures frames { result ≡ self.now.frames }
+        ensures few { result ≤ MAX_FRAMES }
+    {
+        self.frames
     }
 
     /// Ends the daemon. It touches no device: the next start does what is to be done.
