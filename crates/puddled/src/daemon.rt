@@ -326,15 +326,6 @@ impl Daemon {
         Ok(reply.is_ok())
     }
 
-    /// How many frames the device has that this daemon started on, 4 to 1,024. [`Daemon::exec`] is given a device with room
-    /// for them.
-    pub fn frames(&self) -> u32
-        ensures frames { result ≡ self.now.frames }
-        ensures few { result ≤ MAX_FRAMES }
-    {
-        self.frames
-    }
-
     /// Ends the daemon. It touches no device: the next start does what is to be done.
     pub fn stop(self) {
         let Daemon { frames: _frames } = self;
