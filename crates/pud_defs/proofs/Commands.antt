@@ -1,7 +1,7 @@
 -- Which bytes of a line decide the command, and what each command keeps.
-use Rattle.std.proofs.Common.{◌≡◌, ℕ, ◌+◌, ◌*◌, ◌/◌, ◌%◌, ◌^◌, ◌<◌, ◌≤◌, Bool, true, false, cond, ◌&&◌, leb, ltb, List, [], ◌∷◌, length, take, sum_by, codes, bytes_eq, Option, Some, None, option_map, ◌⊎◌, inl, inr, refl, sym, ap, ap₂, ◌∙◌, subst, ⊎_elim, arith, length-take-le, le-leb, leb-true, ltb-true, lt-ltb, eq-eqb, pow_mono, pow_pos, pow-suc, add-one, mod-eq_of_lt}
+use Rattle.std.proofs.Common.{◌≡◌, ℕ, ◌+◌, ◌*◌, ◌/◌, ◌%◌, ◌^◌, ◌<◌, ◌≤◌, Bool, true, false, cond, ◌&&◌, leb, ltb, List, [], ◌∷◌, length, take, sum_by, codes, bytes_eq, Option, Some, None, option_map, option_and_then, ◌⊎◌, inl, inr, refl, sym, ap, ap₂, ◌∙◌, subst, ⊎_elim, arith, length-take-le, le-leb, leb-true, ltb-true, lt-ltb, eq-eqb, pow_mono, pow_pos, pow-suc, add-one, mod-eq_of_lt}
 use Rattle.std.proofs.lemmas.Bool.{cases_lt, cond-false, lt-leb, and_parts, and_from}
-use Rattle.std.proofs.lemmas.Option.{none-some, same_Some}
+use Rattle.std.proofs.lemmas.Option.{none-some, same_Some, cond_some}
 use Rattle.std.proofs.lemmas.List.{take_all}
 use Rattle.std.proofs.lemmas.List.Sums.{sum_by-cons}
 use Rattle.std.proofs.lemmas.Nat.{div-mul-add, mod-mul-add}
@@ -9,7 +9,7 @@ use Rattle.pud_defs.specs.declared.layout.TheConstants.{LINE_LIMIT, CLIENTS, MAX
 use Rattle.pud_defs.specs.declared.machine.Command.{Command}
 use Rattle.pud_defs.specs.declared.machine.Command.TheVariants.{Client, Leave, Define, Cut, Arm}
 use Rattle.pud_defs.specs.TypeMap.{map_fields, map_word, is_legal_map, is_legal_type_id}
-use Rattle.pud_defs.specs.Grammar.{command_by, command_of, split_at, in_range, number_of, fields_from, pointers_of, client_by, leave_by, define_by, cut_by, arm_by, of_one, of_two, of_three, command_with, IsLegalCommand}
+use Rattle.pud_defs.specs.Grammar.{split_at, number_of, in_range, number_within, fields_from, pointers_of, listed_map, Parser, taking, at_end, client_by, leave_by, define_by, cut_by, arm_by, lines, command_among, command_with, command_by, command_of, IsLegalCommand}
 
 -- a longer line is no command
 pub command_of-long : (line : List ℕ) → LINE_LIMIT < length line → command_of line ≡ None
@@ -24,25 +24,7 @@ command_of-front line =
     (λ short. ap command_of (take_all (LINE_LIMIT + 1) line (omega arith)))
     (cases_lt LINE_LIMIT (length line))
 
--- ---- what the grammar gives
-
-guarded : {A : Type 0} (b : Bool) (o : Option A) (x : A) → cond b o None ≡ Some x → (b ≡ true) × (o ≡ Some x)
-guarded true o x e = (refl, e)
-guarded false o x e = absurd (none-some x e)
-
-record IsInRange {A : Type 0} (least end : ℕ) (f : ℕ → Option A) (o : Option ℕ) (x : A) : Type 0 where
-  number : ℕ
-  is : o ≡ Some number
-  low : least ≤ number
-  high : number < end
-  gives : f number ≡ Some x
-
-in_range_parts : {A : Type 0} (least end : ℕ) (f : ℕ → Option A) (o : Option ℕ) (x : A) → in_range least end f o ≡ Some x → IsInRange least end f o x
-in_range_parts least end f None x e = absurd (none-some x e)
-in_range_parts least end f (Some n) x e =
-    let parts = guarded (leb least n && ltb n end) (f n) x e in
-    let bounds = and_parts (leb least n) (ltb n end) parts.0 in
-    record { number = n; is = refl; low = leb-true least n bounds.0; high = ltb-true n end bounds.1; gives = parts.1 }
+-- ---- what the kinds of arguments give
 
 record IsMapped {A B : Type 0} (g : A → B) (o : Option A) (y : B) : Type 0 where
   value : A
@@ -53,6 +35,23 @@ option_map_parts : {A B : Type 0} (g : A → B) (o : Option A) (y : B) → optio
 option_map_parts g None y e = absurd (none-some y e)
 option_map_parts g (Some x) y e = record { value = x; is = refl; gives = same_Some (g x) y e }
 
+record IsHandedOn {A B : Type 0} (f : A → Option B) (o : Option A) (y : B) : Type 0 where
+  value : A
+  is : o ≡ Some value
+  gives : f value ≡ Some y
+
+and_then_parts : {A B : Type 0} (f : A → Option B) (o : Option A) (y : B) → option_and_then f o ≡ Some y → IsHandedOn f o y
+and_then_parts f None y e = absurd (none-some y e)
+and_then_parts f (Some x) y e = record { value = x; is = refl; gives = e }
+
+-- a number within a range lies there
+pub number_within-bounds : (least end : ℕ) (bytes : List ℕ) (n : ℕ) → number_within least end bytes ≡ Some n → (least ≤ n) × (n < end)
+number_within-bounds least end bytes n e =
+    let read = and_then_parts (in_range least end) (number_of bytes) n e in
+    let parts = cond_some (leb least read.value && ltb read.value end) read.value n read.gives in
+    let bounds = and_parts (leb least read.value) (ltb read.value end) parts.0 in
+    (subst (λ m. least ≤ m) parts.1 (leb-true least read.value bounds.0), subst (λ m. m < end) parts.1 (ltb-true read.value end bounds.1))
+
 -- ascending fields from `least` to below n leave room below 2^n for the bits below `least`
 fields_sum : (n least : ℕ) (pieces : List (List ℕ)) (fs : List ℕ) → least ≤ n → fields_from n least pieces ≡ Some fs → sum_by (λ f. 2 ^ f) fs + 2 ^ least ≤ 2 ^ n
 unfolding fields_from
@@ -61,12 +60,13 @@ fields_sum n least [] fs h e =
     let room : 2 ^ least ≤ 2 ^ n = pow_mono {i = least} {j = n} h in
     omega arith
 fields_sum n least (piece ∷ pieces) fs h e =
-    let r = in_range_parts least n (λ f. option_map (λ gs. f ∷ gs) (fields_from n (f + 1) pieces)) (number_of piece) fs e in
-    let m = option_map_parts (λ gs. r.number ∷ gs) (fields_from n (r.number + 1) pieces) fs r.gives in
-    let rest : sum_by (λ f. 2 ^ f) m.value + 2 ^ (r.number + 1) ≤ 2 ^ n = fields_sum n (r.number + 1) pieces m.value (let high = r.high in omega arith) m.is in
-    let sums : sum_by (λ f. 2 ^ f) fs ≡ 2 ^ r.number + sum_by (λ f. 2 ^ f) m.value = ap (sum_by (λ f. 2 ^ f)) (sym m.gives) ∙ sum_by-cons (λ f. 2 ^ f) r.number m.value in
-    let lowest : 2 ^ least ≤ 2 ^ r.number = pow_mono {i = least} {j = r.number} r.low in
-    let twice : 2 ^ (r.number + 1) ≡ 2 ^ r.number * 2 = ap (λ k. 2 ^ k) (add-one r.number) ∙ pow-suc 2 r.number in
+    let r = and_then_parts (λ f. option_map (λ gs. f ∷ gs) (fields_from n (f + 1) pieces)) (number_within least n piece) fs e in
+    let bounds = number_within-bounds least n piece r.value r.is in
+    let m = option_map_parts (λ gs. r.value ∷ gs) (fields_from n (r.value + 1) pieces) fs r.gives in
+    let rest : sum_by (λ f. 2 ^ f) m.value + 2 ^ (r.value + 1) ≤ 2 ^ n = fields_sum n (r.value + 1) pieces m.value (let high = bounds.1 in omega arith) m.is in
+    let sums : sum_by (λ f. 2 ^ f) fs ≡ 2 ^ r.value + sum_by (λ f. 2 ^ f) m.value = ap (sum_by (λ f. 2 ^ f)) (sym m.gives) ∙ sum_by-cons (λ f. 2 ^ f) r.value m.value in
+    let lowest : 2 ^ least ≤ 2 ^ r.value = pow_mono {i = least} {j = r.value} bounds.0 in
+    let twice : 2 ^ (r.value + 1) ≡ 2 ^ r.value * 2 = ap (λ k. 2 ^ k) (add-one r.value) ∙ pow-suc 2 r.value in
     omega arith
 
 empty_or : (b : Bool) (o : Option (List ℕ)) (fs : List ℕ) → cond b (Some []) o ≡ Some fs → ([] ≡ fs) ⊎ (o ≡ Some fs)
@@ -83,95 +83,92 @@ pointers_below n bytes fs e =
     (empty_or (bytes_eq bytes (codes "-")) (fields_from n 0 (split_at 44 bytes)) fs e)
 
 -- the map word of n fields whose pointer bits stand below bit n
-pub map_word-legal : (n : ℕ) (fs : List ℕ) → 1 ≤ n → n ≤ 30 → sum_by (λ f. 2 ^ f) fs < 2 ^ n → is_legal_map (map_word n fs) ≡ true
+pub map_word-legal : (n : ℕ) (fs : List ℕ) → 1 ≤ n → n ≤ MAX_FIELDS → sum_by (λ f. 2 ^ f) fs < 2 ^ n → is_legal_map (map_word n fs) ≡ true
 map_word-legal n fs low high below =
     let s = sum_by (λ f. 2 ^ f) fs in
-    let small : 2 ^ n ≤ 2 ^ 30 = pow_mono {i = n} {j = 30} high in
+    let small : 2 ^ n ≤ 2 ^ MAX_FIELDS = pow_mono {i = n} {j = MAX_FIELDS} high in
     let upper : (n * 2 ^ 32 + s) / 2 ^ 32 ≡ n = div-mul-add n (2 ^ 32) s (omega arith) in
     let lower : (n * 2 ^ 32 + s) % 2 ^ 32 ≡ s = mod-mul-add n (2 ^ 32) s (omega arith) in
     let fields : (n * 2 ^ 32 + s) / 2 ^ 32 % 32 ≡ n = ap (λ k. k % 32) upper ∙ mod-eq_of_lt (omega arith) in
     let w = map_word n fs in
     and_from _ _ (and_from _ _ (and_from _ _
     (le-leb 1 (map_fields w) (omega arith))
-    (le-leb (map_fields w) 30 (omega arith)))
+    (le-leb (map_fields w) MAX_FIELDS (omega arith)))
     (eq-eqb (w / 2 ^ 32) (map_fields w) (upper ∙ sym fields)))
     (ap₂ ltb lower (ap (λ k. 2 ^ k) fields) ∙ lt-ltb s (2 ^ n) below)
 
-legal_define : (id map : ℕ) (c : Command) → is_legal_type_id id ≡ true → is_legal_map map ≡ true → Define id map ≡ c → IsLegalCommand c
-legal_define id map c i m e = subst IsLegalCommand e (i, m)
+-- the map word that a list gives is legal
+listed_map-legal : (n : ℕ) (bytes : List ℕ) (map : ℕ) → 1 ≤ n → n < MAX_FIELDS + 1 → listed_map n bytes ≡ Some map → is_legal_map map ≡ true
+listed_map-legal n bytes map low high e =
+    let m = option_map_parts (map_word n) (pointers_of n bytes) map e in
+    subst (λ w. is_legal_map w ≡ true) m.gives (map_word-legal n m.value low (omega arith) (pointers_below n bytes m.value m.is))
 
-legal_by_define : (t n list : List ℕ) (c : Command) → define_by t n list ≡ Some c → IsLegalCommand c
-unfolding define_by
-legal_by_define t n list c e =
-    let by_id = in_range_parts 1 (MAX_TYPE_ID + 1) (λ id. in_range 1 (MAX_FIELDS + 1) (λ fields. option_map (λ pointers. Define id (map_word fields pointers)) (pointers_of fields list)) (number_of n)) (number_of t) c e in
-    let by_fields = in_range_parts 1 (MAX_FIELDS + 1) (λ fields. option_map (λ pointers. Define by_id.number (map_word fields pointers)) (pointers_of fields list)) (number_of n) c by_id.gives in
-    let by_list = option_map_parts (λ pointers. Define by_id.number (map_word by_fields.number pointers)) (pointers_of by_fields.number list) c by_fields.gives in
-    let id_high : by_id.number ≤ MAX_TYPE_ID = let high = by_id.high in omega arith in
-    let fields_high : by_fields.number ≤ 30 = let high = by_fields.high in omega arith in
-    legal_define by_id.number (map_word by_fields.number by_list.value) c
-    (and_from _ _ (le-leb 1 by_id.number by_id.low) (le-leb by_id.number MAX_TYPE_ID id_high))
-    (map_word-legal by_fields.number by_list.value by_fields.low fields_high (pointers_below by_fields.number list by_list.value by_list.is))
-    by_list.gives
+type_id-legal : (n : ℕ) → 1 ≤ n → n < MAX_TYPE_ID + 1 → is_legal_type_id n ≡ true
+type_id-legal n low high = and_from _ _ (le-leb 1 n low) (le-leb n MAX_TYPE_ID (omega arith))
 
-legal_by_client : (client uid gid : List ℕ) (c : Command) → client_by client uid gid ≡ Some c → IsLegalCommand c
+-- ---- what the parsers give
+
+-- all that the parser gives is legal
+record IsLegalParser (parser : Parser) : Type 0 where
+  legal : (arguments : List (List ℕ)) (c : Command) → parser arguments ≡ Some c → IsLegalCommand c
+
+-- an argument of a kind whose values have a property
+taken : {A : Type 0} (kind : List ℕ → Option A) (Has : A → Type 0) (next : A → Parser) → ((bytes : List ℕ) (value : A) → kind bytes ≡ Some value → Has value)
+    → ((value : A) → Has value → IsLegalParser (next value)) → IsLegalParser (taking kind next)
+unfolding taking
+taken kind Has next has after = record { legal = λ arguments c e. legal_taken arguments c e }
+  where
+    legal_taken : (arguments : List (List ℕ)) (c : Command) → taking kind next arguments ≡ Some c → IsLegalCommand c
+    legal_taken [] c e = absurd (none-some c e)
+    legal_taken (argument ∷ arguments) c e =
+        let read = and_then_parts (λ value. next value arguments) (kind argument) c e in
+        (after read.value (has argument read.value read.is)).legal arguments c read.gives
+
+-- a number within a range
+number_taken : (least end : ℕ) (next : ℕ → Parser) → ((n : ℕ) → least ≤ n → n < end → IsLegalParser (next n)) → IsLegalParser (taking (number_within least end) next)
+number_taken least end next after = taken (number_within least end) (λ n. (least ≤ n) × (n < end)) next (number_within-bounds least end) (λ n bounds. after n bounds.0 bounds.1)
+
+-- a list of the pointers of n fields
+map_taken : (n : ℕ) (next : ℕ → Parser) → 1 ≤ n → n < MAX_FIELDS + 1 → ((map : ℕ) → is_legal_map map ≡ true → IsLegalParser (next map)) → IsLegalParser (taking (listed_map n) next)
+map_taken n next low high after = taken (listed_map n) (λ map. is_legal_map map ≡ true) next (λ bytes map e. listed_map-legal n bytes map low high e) after
+
+ended : (command : Command) → IsLegalCommand command → IsLegalParser (at_end command)
+unfolding at_end
+ended command legal = record { legal = λ arguments c e. legal_ended arguments c e }
+  where
+    legal_ended : (arguments : List (List ℕ)) (c : Command) → at_end command arguments ≡ Some c → IsLegalCommand c
+    legal_ended [] c e = subst IsLegalCommand (same_Some command c e) legal
+    legal_ended (argument ∷ arguments) c e = absurd (none-some c e)
+
+client_by-legal : IsLegalParser client_by
 unfolding client_by
-legal_by_client client uid gid c e =
-    let by_client = in_range_parts 0 CLIENTS (λ k. in_range 0 (MAX_OWNER_ID + 1) (λ u. in_range 0 (MAX_OWNER_ID + 1) (λ g. Some (Client k u g)) (number_of gid)) (number_of uid)) (number_of client) c e in
-    let k = by_client.number in
-    let by_uid = in_range_parts 0 (MAX_OWNER_ID + 1) (λ u. in_range 0 (MAX_OWNER_ID + 1) (λ g. Some (Client k u g)) (number_of gid)) (number_of uid) c by_client.gives in
-    let u = by_uid.number in
-    let by_gid = in_range_parts 0 (MAX_OWNER_ID + 1) (λ g. Some (Client k u g)) (number_of gid) c by_uid.gives in
-    let g = by_gid.number in
-    let client_low : k < CLIENTS = by_client.high in
-    let uid_low : u ≤ MAX_OWNER_ID = let high = by_uid.high in omega arith in
-    let gid_low : g ≤ MAX_OWNER_ID = let high = by_gid.high in omega arith in
-    subst IsLegalCommand (same_Some (Client k u g) c by_gid.gives) (client_low, uid_low, gid_low)
+client_by-legal = number_taken 0 CLIENTS _ (λ client _ known. number_taken 0 (MAX_OWNER_ID + 1) _ (λ uid _ u. number_taken 0 (MAX_OWNER_ID + 1) _ (λ gid _ g. ended (Client client uid gid) (known, omega arith, omega arith))))
 
-legal_by_leave : (client : List ℕ) (c : Command) → leave_by client ≡ Some c → IsLegalCommand c
+leave_by-legal : IsLegalParser leave_by
 unfolding leave_by
-legal_by_leave client c e =
-    let by_client = in_range_parts 0 CLIENTS (λ k. Some (Leave k)) (number_of client) c e in
-    subst IsLegalCommand (same_Some (Leave by_client.number) c by_client.gives) by_client.high
+leave_by-legal = number_taken 0 CLIENTS _ (λ client _ known. ended (Leave client) known)
 
-legal_by_cut : (n : List ℕ) (c : Command) → cut_by n ≡ Some c → IsLegalCommand c
+define_by-legal : IsLegalParser define_by
+unfolding define_by
+define_by-legal = number_taken 1 (MAX_TYPE_ID + 1) _ (λ id low high. number_taken 1 (MAX_FIELDS + 1) _ (λ n some few. map_taken n _ some few (λ map legal. ended (Define id map) (type_id-legal id low high, legal))))
+
+cut_by-legal : IsLegalParser cut_by
 unfolding cut_by
-legal_by_cut n c e =
-    let by_pick = in_range_parts 0 (2 ^ 64) (λ pick. Some (Cut pick)) (number_of n) c e in
-    subst IsLegalCommand (same_Some (Cut by_pick.number) c by_pick.gives) by_pick.high
+cut_by-legal = number_taken 0 (2 ^ 64) _ (λ pick _ word. ended (Cut pick) word)
 
-legal_by_arm : (k n : List ℕ) (c : Command) → arm_by k n ≡ Some c → IsLegalCommand c
+arm_by-legal : IsLegalParser arm_by
 unfolding arm_by
-legal_by_arm k n c e =
-    let by_step = in_range_parts 1 (MAX_ARMED_STEP + 1) (λ step. in_range 0 (2 ^ 64) (λ pick. Some (Arm step pick)) (number_of n)) (number_of k) c e in
-    let by_pick = in_range_parts 0 (2 ^ 64) (λ pick. Some (Arm by_step.number pick)) (number_of n) c by_step.gives in
-    let within : by_step.number ≤ MAX_ARMED_STEP = let high = by_step.high in omega arith in
-    subst IsLegalCommand (same_Some (Arm by_step.number by_pick.number) c by_pick.gives) (by_step.low, within, by_pick.high)
+arm_by-legal = number_taken 1 (MAX_ARMED_STEP + 1) _ (λ step low high. number_taken 0 (2 ^ 64) _ (λ pick _ word. ended (Arm step pick) (low, omega arith, word)))
 
--- what so many arguments give is legal where all that they may give is
+-- ---- lines
 
-legal_one : (f : List ℕ → Option Command) (arguments : List (List ℕ)) (c : Command) → ((a : List ℕ) → f a ≡ Some c → IsLegalCommand c)
-    → of_one f arguments ≡ Some c → IsLegalCommand c
-unfolding of_one
-legal_one f [] c legal e = absurd (none-some c e)
-legal_one f (a ∷ []) c legal e = legal a e
-legal_one f (a ∷ more ∷ rest) c legal e = absurd (none-some c e)
+-- all that the lines give is legal
+abbrev AreLegalLines : List (List ℕ × Parser) → Type 0
+AreLegalLines [] = Unit {0}
+AreLegalLines (line ∷ others) = IsLegalParser line.1 × AreLegalLines others
 
-legal_two : (f : List ℕ → List ℕ → Option Command) (arguments : List (List ℕ)) (c : Command) → ((a b : List ℕ) → f a b ≡ Some c → IsLegalCommand c)
-    → of_two f arguments ≡ Some c → IsLegalCommand c
-unfolding of_two
-legal_two f [] c legal e = absurd (none-some c e)
-legal_two f (a ∷ []) c legal e = absurd (none-some c e)
-legal_two f (a ∷ b ∷ []) c legal e = legal a b e
-legal_two f (a ∷ b ∷ more ∷ rest) c legal e = absurd (none-some c e)
-
-legal_three : (f : List ℕ → List ℕ → List ℕ → Option Command) (arguments : List (List ℕ)) (c : Command) → ((x y z : List ℕ) → f x y z ≡ Some c → IsLegalCommand c)
-    → of_three f arguments ≡ Some c → IsLegalCommand c
-unfolding of_three
-legal_three f [] c legal e = absurd (none-some c e)
-legal_three f (x ∷ []) c legal e = absurd (none-some c e)
-legal_three f (x ∷ y ∷ []) c legal e = absurd (none-some c e)
-legal_three f (x ∷ y ∷ z ∷ []) c legal e = legal x y z e
-legal_three f (x ∷ y ∷ z ∷ more ∷ rest) c legal e = absurd (none-some c e)
+are_legal_lines : AreLegalLines lines
+are_legal_lines = (client_by-legal, (leave_by-legal, (define_by-legal, (cut_by-legal, (arm_by-legal, tt)))))
 
 -- of two choices one is taken
 legal_choice : (b : Bool) (o p : Option Command) (c : Command) → (o ≡ Some c → IsLegalCommand c) → (p ≡ Some c → IsLegalCommand c)
@@ -179,21 +176,17 @@ legal_choice : (b : Bool) (o p : Option Command) (c : Command) → (o ≡ Some c
 legal_choice true o p c first other e = first e
 legal_choice false o p c first other e = other e
 
-legal_with : (word : List ℕ) (arguments : List (List ℕ)) (c : Command) → command_with word arguments ≡ Some c → IsLegalCommand c
-unfolding command_with
-legal_with word arguments c e =
-    legal_choice (bytes_eq word (codes "client")) (of_three client_by arguments) _ c (legal_three client_by arguments c (λ x y z. legal_by_client x y z c))
-    (legal_choice (bytes_eq word (codes "leave")) (of_one leave_by arguments) _ c (legal_one leave_by arguments c (λ a. legal_by_leave a c))
-    (legal_choice (bytes_eq word (codes "type")) (of_three define_by arguments) _ c (legal_three define_by arguments c (λ x y z. legal_by_define x y z c))
-    (legal_choice (bytes_eq word (codes "cut")) (of_one cut_by arguments) _ c (legal_one cut_by arguments c (λ a. legal_by_cut a c))
-    (legal_choice (bytes_eq word (codes "arm")) (of_two arm_by arguments) None c (legal_two arm_by arguments c (λ a b. legal_by_arm a b c)) (λ none. absurd (none-some c none))))))
-    e
+legal_among : (table : List (List ℕ × Parser)) (word : List ℕ) (arguments : List (List ℕ)) (c : Command) → AreLegalLines table → command_among table word arguments ≡ Some c → IsLegalCommand c
+legal_among [] word arguments c legal e = absurd (none-some c e)
+legal_among (line ∷ others) word arguments c legal e =
+    legal_choice (bytes_eq word line.0) (line.1 arguments) (command_among others word arguments) c (legal.0.legal arguments c) (legal_among others word arguments c legal.1) e
 
 legal_by : (pieces : List (List ℕ)) (c : Command) → command_by pieces ≡ Some c → IsLegalCommand c
+unfolding command_with
 legal_by [] c e = absurd (none-some c e)
-legal_by (word ∷ arguments) c e = legal_with word arguments c e
+legal_by (word ∷ arguments) c e = legal_among lines word arguments c are_legal_lines e
 
 -- the command of a line is legal
 pub command_of-legal : (line : List ℕ) (c : Command) → command_of line ≡ Some c → IsLegalCommand c
 unfolding command_of
-command_of-legal line c e = legal_by (split_at 32 line) c (guarded (leb (length line) LINE_LIMIT) (command_by (split_at 32 line)) c e).1
+command_of-legal line c e = legal_choice (leb (length line) LINE_LIMIT) (command_by (split_at 32 line)) None c (legal_by (split_at 32 line) c) (λ none. absurd (none-some c none)) e

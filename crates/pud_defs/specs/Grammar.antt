@@ -1,5 +1,5 @@
 -- Which lines are commands. A line stands here without its newline.
-use Rattle.std.specs.Prelude.{IsTrue, ℕ, ◌<◌, ◌≤◌, ◌+◌, ◌-◌, ◌*◌, ◌^◌, Bool, true, false, cond, not, ◌&&◌, nat_le, nat_lt, ◌==◌, List, [], ◌∷◌, length, fold, codes, bytes_eq, Option, Some, None, option_map}
+use Rattle.std.specs.Prelude.{IsTrue, ℕ, ◌<◌, ◌≤◌, ◌+◌, ◌-◌, ◌*◌, ◌^◌, Bool, true, false, cond, not, ◌&&◌, nat_le, nat_lt, ◌==◌, List, [], ◌∷◌, length, fold, codes, bytes_eq, Option, Some, None, option_map, option_and_then}
 use Rattle.std.specs.List.{list_all, slice_split}
 use Rattle.pud_defs.specs.declared.layout.TheConstants.{LINE_LIMIT, CLIENTS, MAX_OWNER_ID, MAX_TYPE_ID, MAX_FIELDS, MAX_ARMED_STEP}
 use Rattle.pud_defs.specs.declared.machine.Command.{Command}
@@ -27,61 +27,99 @@ value_behind above bytes = fold (λ v b. v * 10 + (b - 48)) above bytes
 unfoldable pub number_of : List ℕ → Option ℕ
 number_of bytes = cond (begins_as_number bytes && list_all is_digit bytes) (Some (value_behind 0 bytes)) None
 
--- what f makes of the number, where it lies from `least` to below `end`
-abbrev pub in_range : {A : Type 0} → ℕ → ℕ → (ℕ → Option A) → Option ℕ → Option A
-in_range least end f None = None
-in_range least end f (Some n) = cond (nat_le least n && nat_lt n end) (f n) None
+-- the number, where it lies from `least` to below `end`
+abbrev pub in_range : ℕ → ℕ → ℕ → Option ℕ
+in_range least end n = cond (nat_le least n && nat_lt n end) (Some n) None
+
+-- the number that the bytes are, where it lies from `least` to below `end`
+abbrev pub number_within : ℕ → ℕ → List ℕ → Option ℕ
+number_within least end bytes = option_and_then (in_range least end) (number_of bytes)
 
 -- field numbers from `least` to below n, strictly ascending
 unfoldable pub fields_from : ℕ → ℕ → List (List ℕ) → Option (List ℕ)
 fields_from n least [] = Some []
-fields_from n least (piece ∷ pieces) = in_range least n (λ f. option_map (λ fs. f ∷ fs) (fields_from n (f + 1) pieces)) (number_of piece)
+fields_from n least (piece ∷ pieces) = option_and_then (λ f. option_map (λ fs. f ∷ fs) (fields_from n (f + 1) pieces)) (number_within least n piece)
 
 -- the pointer fields of a type of n fields: `-` for none, or field numbers joined by commas
 unfoldable pub pointers_of : ℕ → List ℕ → Option (List ℕ)
 pointers_of n bytes = cond (bytes_eq bytes (codes "-")) (Some []) (fields_from n 0 (split_at 44 bytes))
 
--- what f makes of the arguments, where there are so many
-unfoldable pub of_one : (List ℕ → Option Command) → List (List ℕ) → Option Command
-of_one f (a ∷ []) = f a
-of_one f _ = None
+-- The kinds of arguments: each says which value the bytes of one argument are.
 
-unfoldable pub of_two : (List ℕ → List ℕ → Option Command) → List (List ℕ) → Option Command
-of_two f (a ∷ b ∷ []) = f a b
-of_two f _ = None
+abbrev pub client_number : List ℕ → Option ℕ
+client_number bytes = number_within 0 CLIENTS bytes
 
-unfoldable pub of_three : (List ℕ → List ℕ → List ℕ → Option Command) → List (List ℕ) → Option Command
-of_three f (a ∷ b ∷ c ∷ []) = f a b c
-of_three f _ = None
+-- a uid, or a gid
+abbrev pub owner_id : List ℕ → Option ℕ
+owner_id bytes = number_within 0 (MAX_OWNER_ID + 1) bytes
+
+abbrev pub type_id : List ℕ → Option ℕ
+type_id bytes = number_within 1 (MAX_TYPE_ID + 1) bytes
+
+abbrev pub field_count : List ℕ → Option ℕ
+field_count bytes = number_within 1 (MAX_FIELDS + 1) bytes
+
+-- the map word of a type of n fields, by the list of its pointers
+abbrev pub listed_map : ℕ → List ℕ → Option ℕ
+listed_map n bytes = option_map (map_word n) (pointers_of n bytes)
+
+abbrev pub armed_step : List ℕ → Option ℕ
+armed_step bytes = number_within 1 (MAX_ARMED_STEP + 1) bytes
+
+abbrev pub loss_pick : List ℕ → Option ℕ
+loss_pick bytes = number_within 0 (2 ^ 64) bytes
+
+-- the command that the arguments of a line are
+abbrev pub Parser : Type 0
+Parser = List (List ℕ) → Option Command
+
+-- the front argument is of this kind, and the others are what the parser of its value takes
+unfoldable pub taking : {A : Type 0} → (List ℕ → Option A) → (A → Parser) → Parser
+taking kind next [] = None
+taking kind next (argument ∷ arguments) = option_and_then (λ value. next value arguments) (kind argument)
+
+-- no argument is left
+unfoldable pub at_end : Command → Parser
+at_end command [] = Some command
+at_end command (argument ∷ arguments) = None
 
 -- `client C uid gid`, by its arguments
-unfoldable pub client_by : List ℕ → List ℕ → List ℕ → Option Command
-client_by c uid gid = in_range 0 CLIENTS (λ client. in_range 0 (MAX_OWNER_ID + 1) (λ owner. in_range 0 (MAX_OWNER_ID + 1) (λ group. Some (Client client owner group)) (number_of gid)) (number_of uid)) (number_of c)
+unfoldable pub client_by : Parser
+client_by arguments = taking client_number (λ client. taking owner_id (λ uid. taking owner_id (λ gid. at_end (Client client uid gid)))) arguments
 
 -- `leave C`
-unfoldable pub leave_by : List ℕ → Option Command
-leave_by c = in_range 0 CLIENTS (λ client. Some (Leave client)) (number_of c)
+unfoldable pub leave_by : Parser
+leave_by arguments = taking client_number (λ client. at_end (Leave client)) arguments
 
 -- `type T n list`
-unfoldable pub define_by : List ℕ → List ℕ → List ℕ → Option Command
-define_by t n list = in_range 1 (MAX_TYPE_ID + 1) (λ id. in_range 1 (MAX_FIELDS + 1) (λ fields. option_map (λ pointers. Define id (map_word fields pointers)) (pointers_of fields list)) (number_of n)) (number_of t)
+unfoldable pub define_by : Parser
+define_by arguments = taking type_id (λ id. taking field_count (λ n. taking (listed_map n) (λ map. at_end (Define id map)))) arguments
 
 -- `cut N`
-unfoldable pub cut_by : List ℕ → Option Command
-cut_by n = in_range 0 (2 ^ 64) (λ pick. Some (Cut pick)) (number_of n)
+unfoldable pub cut_by : Parser
+cut_by arguments = taking loss_pick (λ pick. at_end (Cut pick)) arguments
 
 -- `arm K N`
-unfoldable pub arm_by : List ℕ → List ℕ → Option Command
-arm_by k n = in_range 1 (MAX_ARMED_STEP + 1) (λ step. in_range 0 (2 ^ 64) (λ pick. Some (Arm step pick)) (number_of n)) (number_of k)
+unfoldable pub arm_by : Parser
+arm_by arguments = taking armed_step (λ step. taking loss_pick (λ pick. at_end (Arm step pick))) arguments
 
--- the command of a command word and its arguments
-unfoldable pub command_with : List ℕ → List (List ℕ) → Option Command
-command_with word arguments =
-    cond (bytes_eq word (codes "client")) (of_three client_by arguments)
-    (cond (bytes_eq word (codes "leave")) (of_one leave_by arguments)
-    (cond (bytes_eq word (codes "type")) (of_three define_by arguments)
-    (cond (bytes_eq word (codes "cut")) (of_one cut_by arguments)
-    (cond (bytes_eq word (codes "arm")) (of_two arm_by arguments) None))))
+-- the lines: each command word with the parser of its arguments
+abbrev pub lines : List (List ℕ × Parser)
+lines =
+    (codes "client", client_by)
+    ∷ (codes "leave", leave_by)
+    ∷ (codes "type", define_by)
+    ∷ (codes "cut", cut_by)
+    ∷ (codes "arm", arm_by)
+    ∷ []
+
+-- the command of a command word and its arguments, by these lines
+abbrev pub command_among : List (List ℕ × Parser) → List ℕ → Parser
+command_among [] word arguments = None
+command_among (line ∷ others) word arguments = cond (bytes_eq word line.0) (line.1 arguments) (command_among others word arguments)
+
+unfoldable pub command_with : List ℕ → Parser
+command_with word arguments = command_among lines word arguments
 
 -- the command of the pieces of a line
 abbrev pub command_by : List (List ℕ) → Option Command

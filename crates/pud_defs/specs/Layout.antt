@@ -1,6 +1,6 @@
 -- Where the parts of a device of F frames lie.
 use Rattle.std.specs.Prelude.{ℕ, ◌+◌, ◌*◌, Bool, ◌&&◌, nat_le}
-use Rattle.pud_defs.specs.declared.layout.TheConstants.{MIN_FRAMES, MAX_FRAMES, LOG_WORDS, CLIENT_LOGS, PUDDLE_TABLE, PUDDLE_RECORD_WORDS}
+use Rattle.pud_defs.specs.declared.layout.TheConstants.{MIN_FRAMES, MAX_FRAMES, LOG_WORDS, CLIENTS, CLIENT_LOGS, PUDDLE_TABLE, PUDDLE_RECORD_WORDS, FRAME_WORDS}
 
 -- the first word behind the puddle table, which has a record for each frame
 abbrev pub tables_end : ℕ → ℕ
@@ -10,13 +10,17 @@ tables_end F = PUDDLE_TABLE + PUDDLE_RECORD_WORDS * F
 abbrev pub log_at : ℕ → ℕ → ℕ → ℕ
 log_at F client number = tables_end F + LOG_WORDS * (CLIENT_LOGS * client + number)
 
--- the first word of the first frame, behind 32 logs of 1,024 words
+-- the words before the first frame, but for those of the puddle table: the tables before it, and the logs of all clients behind it
+abbrev pub fixed_words : ℕ
+fixed_words = PUDDLE_TABLE + LOG_WORDS * (CLIENT_LOGS * CLIENTS)
+
+-- the first word of the first frame
 abbrev pub frames_at : ℕ → ℕ
-frames_at F = 34304 + 8 * F
+frames_at F = fixed_words + PUDDLE_RECORD_WORDS * F
 
 -- how many words the device needs
 abbrev pub device_words : ℕ → ℕ
-device_words F = 34304 + 2056 * F
+device_words F = fixed_words + (PUDDLE_RECORD_WORDS + FRAME_WORDS) * F
 
 abbrev pub is_legal_frame_count : ℕ → Bool
 is_legal_frame_count F = nat_le MIN_FRAMES F && nat_le F MAX_FRAMES

@@ -34,13 +34,16 @@ pub const LOG_WORDS: u32 = 1024;
 pub const LOG_HEADER_WORDS: u32 = 8;
 
 /// How many entry words a log has.
-pub const LOG_ENTRY_WORDS: u32 = 1016;
+pub const LOG_ENTRY_WORDS: u32 = LOG_WORDS - LOG_HEADER_WORDS;
 
 /// How many words an entry has before its values: the address, and the word that says how many values there are.
 pub const ENTRY_HEADER_WORDS: u32 = 2;
 
 /// The most values that an entry has.
 pub const MAX_ENTRY_VALUES: u32 = 32;
+
+/// The most words that an entry has, its header and its values.
+pub const MAX_ENTRY_WORDS: u32 = ENTRY_HEADER_WORDS + MAX_ENTRY_VALUES;
 
 /// The first word of the type table.
 pub const TYPE_TABLE: u32 = 1088;

@@ -35,10 +35,10 @@ pub const COMMITTING_LO: u32 = 2;
 pub const COMMITTING_HI: u32 = 4;
 
 /// The gate of a running log without an entry: the range (0,2) and nothing used.
-pub const RUNNING_GATE: u64 = 512;
+pub const RUNNING_GATE: u64 = RUNNING_LO as u64 + ((RUNNING_HI as u64) << 8);
 
 /// The gate of a closed log: the range (4,4), in which nothing lies, and nothing used.
-pub const CLOSED_GATE: u64 = 1028;
+pub const CLOSED_GATE: u64 = COMMITTING_HI as u64 + ((COMMITTING_HI as u64) << 8);
 
 /// The lower end of the gate's range, 0 to 255: the entries above it and below the upper end are in range.
 pub fn gate_lo(v: u64) -> u32

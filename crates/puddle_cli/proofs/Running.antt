@@ -1,5 +1,5 @@
 -- One run over a script, from the start to the exit.
-use Rattle.std.proofs.Common.{◌≡◌, inl, inr, ℕ, zero, suc, ◌+◌, ◌≤◌, Bool, true, false, List, [], ◌∷◌, ◌++◌, Option, Some, None, refl, sym, ap, subst, ◌∙◌, arith, append_assoc}
+use Rattle.std.proofs.Common.{◌≡◌, inl, inr, ℕ, zero, suc, ◌+◌, ◌≤◌, Bool, true, false, List, [], ◌∷◌, ◌++◌, Option, Some, Result, Ok, Err, refl, sym, ap, subst, ◌∙◌, arith, append_assoc}
 use Rattle.std.proofs.lemmas.List.{append-nil}
 use Rattle.std.proofs.Math.Numerals.{one-add}
 use Rattle.pm_model.specs.declared.host.HostFault.{HostFault}
@@ -21,6 +21,9 @@ use Rattle.puddled.specs.declared.daemon.RunFault.{RunFault}
 use Rattle.puddled.specs.declared.daemon.RunFault.TheVariants as faults
 use Rattle.puddled.specs.Faults.{RoseBy, last_fault, is_loss, CountsTurns}
 use Rattle.puddled.proofs.Counted.{risen_by-least, RoseBy-then, CountsTurns-cuts, rose_in_line, lost_in_line, lost_in_restart, cuts_after_fault}
+use Rattle.puddled.specs.declared.daemon.StartFault.{StartFault}
+use Rattle.puddled.specs.declared.daemon.StartFault.TheVariants as starts
+use Rattle.puddled.specs.Memory.{Memory}
 use Rattle.puddled.specs.Daemon.{Starts}
 use Rattle.puddle_cli.specs.declared.status.TheConstants.{DONE, POWER_LOST, TOO_LONG}
 use Rattle.puddle_cli.specs.Status.{status_fault, run_fault_at, IsStatusOfMode}
@@ -70,8 +73,8 @@ module _ (size : ℕ) (w : World) (start : State) (rested : IsRested start.now.w
   stands_at_start (t ∷ turns) (suc zero) image few e = inl e
   stands_at_start turns (suc (suc n)) image few e = absurd (omega arith)
 
-  start_moments : (turns : List Turn) (fault : Option HostFault) (now : State) → Starts size w fault start now → Leaves (λ bytes image. StandsBehindStart size w turns (newlines bytes) image) start now
-  start_moments turns fault now s =
+  start_moments : (turns : List Turn) (result : Result Memory StartFault) (now : State) → Starts size w result start now → Leaves (λ bytes image. StandsBehindStart size w turns (newlines bytes) image) start now
+  start_moments turns result now s =
       Leaves-weaker _ _ start now
       (λ bytes image m.
       let part = newlines_part bytes m.0.rest in
@@ -80,7 +83,7 @@ module _ (size : ℕ) (w : World) (start : State) (rested : IsRested start.now.w
 
   -- the host failed within the start, or power was lost in it
   pub Headline-in_start : (fault : HostFault) (status : ℕ) (before after : Counts) (now : State) → IsStatusOfMode status → status_fault status ≡ Some fault
-      → after ≡ after_fault (Some fault) before → start.shelf ≡ w.shelf → Starts size w (Some fault) start now → Headline size w status before after start now
+      → after ≡ after_fault (Some fault) before → start.shelf ≡ w.shelf → Starts size w (Err (starts.Host fault)) start now → Headline size w status before after start now
   Headline-in_start fault status before after now of_mode is last shelf s =
       let not_whole = not_whole_of status fault of_mode is in
       let as_told : after ≡ after_fault (status_fault status) before = last ∙ ap (λ (f : Option HostFault). after_fault f before) (sym is) in
@@ -104,7 +107,7 @@ module _ (size : ℕ) (w : World) (start : State) (rested : IsRested start.now.w
         ends = λ none. absurd (not_whole none);
         shelf = s.shelf ∙ shelf;
         shelf_of_run = λ none. absurd (not_whole none);
-        moments = Leaves-each (λ said image. StandsBehindStart size w [] (newlines said) image) start now (start_moments [] (Some fault) now s);
+        moments = Leaves-each (λ said image. StandsBehindStart size w [] (newlines said) image) start now (start_moments [] (Err (starts.Host fault)) now s);
         turns_counted = refl;
         cuts = subst (λ (x : Counts). before.cuts ≤ x.cuts) (sym last) (cuts_after_fault (Some fault) before);
         cuts_in_start = λ lost.
@@ -125,10 +128,10 @@ module _ (size : ℕ) (w : World) (start : State) (rested : IsRested start.now.w
   nothing_more (b ∷ more) rest e = absurd (let no : [] ≡ b ∷ (more ++ rest) = e in cc)
 
   -- the start was said whole, and the script was answered so far
-  pub Headline-behind_start : (status : ℕ) (ended : Bool) (fault : Option RunFault) (before after : Counts) (mid now : State) → start.shelf ≡ w.shelf → Starts size w None start mid → now.shelf ≡ mid.shelf
+  pub Headline-behind_start : (status : ℕ) (ended : Bool) (fault : Option RunFault) (before after : Counts) (memory : Memory) (mid now : State) → start.shelf ≡ w.shelf → Starts size w (Ok memory) start mid → now.shelf ≡ mid.shelf
       → run_fault_at status ≡ fault → (status ≡ DONE → ended ≡ true) → (status ≡ TOO_LONG → ended ≡ false)
       → Answered size w ended fault before after mid now → Headline size w status before after start now
-  Headline-behind_start status ended fault before after mid now shelf s kept is done too_long a =
+  Headline-behind_start status ended fault before after memory mid now shelf s kept is done too_long a =
       let cut : status ≡ POWER_LOST → fault ≡ Some faults.CutInStart = λ lost. sym is ∙ ap run_fault_at lost in
       let first : mid.now.said ≡ start.now.said ++ start_text =
       s.says.said ∙ ap (λ (l : List ℕ). start.now.said ++ l) (sym (s.says.part ∙ ap (λ (l : List ℕ). s.says.bytes ++ l) (s.says.whole refl) ∙ append-nil s.says.bytes)) in
@@ -152,14 +155,14 @@ module _ (size : ℕ) (w : World) (start : State) (rested : IsRested start.now.w
             (nothing, ap (λ (l : List ℕ). start_text ++ replies_text a.answered ++ l) no_more ∙ append-nil (start_text ++ replies_text a.answered));
         all_lines = done;
         not_ended = too_long;
-        ends = λ none. (a.ready (sym is ∙ none)).stands;
+        ends = λ none. (a.ready (sym is ∙ none)).settled.stands;
         shelf = kept ∙ s.shelf ∙ shelf;
         shelf_of_run = λ none. (a.ready (sym is ∙ none)).shelf;
         moments = Leaves-each (λ said image. StandsBehindStart size w (a.answered ++ a.pending) (newlines said) image) start now (Leaves-then _ (StandsWith size w (a.answered ++ a.pending)) _ start_text start mid now first
             (λ front image p. p)
             (λ more image p. subst (λ (n : ℕ). StandsBehindStart size w (a.answered ++ a.pending) n image)
             (sym (newlines-append start_text more ∙ ap (λ (n : ℕ). n + newlines more) newlines-start_text ∙ one-add (newlines more))) p)
-            (start_moments (a.answered ++ a.pending) None mid s) a.moments);
+            (start_moments (a.answered ++ a.pending) (Ok memory) mid s) a.moments);
         turns_counted = a.turns_counted;
         cuts = rose_in_all a.answered a.pending fault before a.mid after a.turns_counted a.counted;
         cuts_in_start = λ lost. rose_at_end a.answered a.pending fault before a.mid after a.turns_counted a.counted (cut lost);

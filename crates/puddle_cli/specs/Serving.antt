@@ -12,6 +12,7 @@ use Rattle.pud_defs.specs.Stands.{StandsWith}
 use Rattle.puddled.specs.declared.daemon.RunFault.{RunFault}
 use Rattle.puddled.specs.declared.daemon.RunFault.TheVariants.{CutInStart, NotSound}
 use Rattle.puddled.specs.Faults.{last_fault, CountsLine, CountsTurns}
+use Rattle.puddled.specs.Memory.{Memory}
 use Rattle.puddled.specs.Daemon.{IsReady, SaysPart}
 
 -- so many bytes of the script were taken
@@ -54,14 +55,14 @@ CountsPending [] fault old new = (fault ≢ Some CutInStart) × (new ≡ after_f
 CountsPending (t ∷ turns) fault old new = CountsLine (command_of t.line) fault (cuts_of (t ∷ [])) old new
 
 -- A line was answered: by no turn where it is empty, else by one turn of the machine, whose reply is said whole without a fault.
-pub record AnswersLine (size : ℕ) (w : World) (line : List ℕ) (fault : Option RunFault) (before after : Counts) (old new : State) : Type 0 where
+pub record AnswersLine (size : ℕ) (w : World) (line : List ℕ) (fault : Option RunFault) (memory : Memory) (before after : Counts) (old new : State) : Type 0 where
   pub turns : List Turn
   pub few : length turns ≤ 1
   pub lines : map (λ t. t.line) turns ≡ lines_among (line ∷ [])
   pub is_run : IsRun w turns
   pub moments : Leaves (StandsWith size w turns) old new
   pub says : SaysPart (replies_text turns) fault old new
-  pub ready : fault ≡ None → IsReady size (last_world w turns) new
+  pub ready : fault ≡ None → IsReady size (last_world w turns) memory new
   pub counted : CountsPending turns fault before after
   pub turns_counted : fault ≡ None → CountsTurns turns before after
   pub sound : fault ≢ Some NotSound
@@ -69,7 +70,7 @@ pub record AnswersLine (size : ℕ) (w : World) (line : List ℕ) (fault : Optio
 
 -- The lines that the bytes taken close were answered, each by a turn of the machine, and the bytes behind them are the piece under way, of
 -- which the first 129 are kept.
-pub record Serves (size : ℕ) (w : World) (before : Counts) (start : State) (counts : Counts) (now : State) (piece : List ℕ) : Type 0 where
+pub record Serves (size : ℕ) (w : World) (before : Counts) (start : State) (counts : Counts) (memory : Memory) (now : State) (piece : List ℕ) : Type 0 where
   pub taken : List ℕ
   pub turns : List Turn
   pub is_run : IsRun w turns
@@ -78,7 +79,7 @@ pub record Serves (size : ℕ) (w : World) (before : Counts) (start : State) (co
   pub script : start.script ≡ taken ++ now.script
   pub said : now.now.said ≡ start.now.said ++ replies_text turns
   pub moments : Leaves (StandsWith size w turns) start now
-  pub ready : IsReady size (last_world w turns) now
+  pub ready : IsReady size (last_world w turns) memory now
   pub counted : CountsTurns turns before counts
 
 -- The script was answered so far: some lines whole, and at most one more whose reply is not whole. Without a fault there is none such. Up to
@@ -98,7 +99,8 @@ pub record Answered (size : ℕ) (w : World) (ended : Bool) (fault : Option RunF
   pub part : replies_text pending ≡ more ++ rest
   pub whole : fault ≡ None → pending ≡ []
   pub moments : Leaves (StandsWith size w (answered ++ pending)) start now
-  pub ready : fault ≡ None → IsReady size (last_world w answered) now
+  pub memory : Memory
+  pub ready : fault ≡ None → IsReady size (last_world w answered) memory now
   pub mid : Counts
   pub turns_counted : CountsTurns answered before mid
   pub counted : CountsPending pending fault mid after

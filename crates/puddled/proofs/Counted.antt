@@ -16,6 +16,7 @@ use Rattle.puddled.specs.declared.daemon.StartFault.TheVariants as starts
 use Rattle.puddled.specs.declared.daemon.RunFault.{RunFault}
 use Rattle.puddled.specs.declared.daemon.RunFault.TheVariants as faults
 use Rattle.puddled.proofs.Turns.{turn_of, no_cut_reply}
+use Rattle.puddled.specs.Memory.{Memory}
 use Rattle.puddled.specs.Faults.{start_fault, of_host, of_start, risen_by, RoseBy, CountsCuts, CountsTurns, losses_at, restart_losses, last_fault, IsEnded, IsCounted, is_at_once, is_loss, CountsLine, Grows, Ends}
 
 least_by : (n : ℕ) (b : Bool) → n ≤ cond b (n + 1) n
@@ -87,7 +88,7 @@ CountsCuts-one before after lost = subst (λ (x : Counts). CountsCuts 1 before x
 pub counted_cut : (before mid after : Counts) → mid ≡ after_fault (Some hosts.Cut) before → after ≡ mid → IsCounted None 1 before after
 counted_cut before mid after lost same = record { before = after; lost = subst (λ (x : Counts). CountsCuts 1 before x) (sym same) (CountsCuts-one before mid lost); last = refl }
 
-pub counted_restart : (fault : StartFault) (before mid after : Counts) → mid ≡ after_fault (Some hosts.Cut) before → after ≡ after_fault (start_fault {T = Unit {0}} (Err fault)) mid
+pub counted_restart : (fault : StartFault) (before mid after : Counts) → mid ≡ after_fault (Some hosts.Cut) before → after ≡ after_fault (start_fault {T = Memory} (Err fault)) mid
     → IsCounted (Some (of_start fault)) 0 before after
 counted_restart starts.NotSound before mid after lost last = record { before = mid; lost = CountsCuts-one before mid lost; last = last }
 counted_restart (starts.Host hosts.Failed) before mid after lost last =
@@ -145,7 +146,7 @@ counted_plain (Some (Cut pick)) fault n before after plain c = absurd (let no : 
 counted_plain (Some (Arm step pick)) fault n before after plain c = absurd (let no : true ≡ false = plain in cc)
 
 -- power lost at once, and the restart behind it
-pub counted_loss : (pick : ℕ) (fault : StartFault) (before after : Counts) → after ≡ after_fault (start_fault {T = Unit {0}} (Err fault)) (after_loss_of pick before)
+pub counted_loss : (pick : ℕ) (fault : StartFault) (before after : Counts) → after ≡ after_fault (start_fault {T = Memory} (Err fault)) (after_loss_of pick before)
     → CountsLine (Some (Cut pick)) (Some (of_start fault)) 0 before after
 counted_loss pick starts.NotSound before after last = (refl, record { before = after_loss_of pick before; lost = CountsCuts-still _ _ refl; last = last })
 counted_loss pick (starts.Host hosts.Failed) before after last = (refl, record { before = after_loss_of pick before; lost = CountsCuts-still _ _ refl; last = last })
@@ -164,7 +165,7 @@ CountsTurns-append [] more a b c first later = subst (λ (x : Counts). CountsTur
 CountsTurns-append (t ∷ turns) more a b c first later = (first.0, first.1, CountsTurns-append turns more first.0 b c first.2 later)
 
 cuts_of-cons : (t : Turn) (turns : List Turn) → cuts_of (t ∷ turns) ≡ cuts_of turns + cuts_of (t ∷ [])
-cuts_of-cons t turns = omega (arith, sum_by-append (λ (x : Turn). cond (is_cut x.reply) 1 0) (t ∷ []) turns)
+cuts_of-cons t turns = omega (arith, sum_by-append (λ (x : Turn). cond (is_cut x.answer) 1 0) (t ∷ []) turns)
 
 -- a rise by more is one by fewer
 pub RoseBy-fewer : (l k a b : ℕ) → RoseBy (l + k) a b → RoseBy k a b

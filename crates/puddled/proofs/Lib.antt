@@ -1,3 +1,4 @@
+pub mod Applying
 pub mod Defining
 pub mod Coming
 pub mod Turns

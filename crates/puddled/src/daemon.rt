@@ -9,17 +9,20 @@ ghost use Rattle.pud_defs.specs.World.{World, world_of, closed};
 ghost use Rattle.pud_defs.specs.Texts.{reply_text};
 ghost use Rattle.puddled.specs.Faults.{start_fault, run_fault, IsCounted, is_at_once, CountsLine};
 ghost use Rattle.pud_defs.specs.Grammar.{command_of};
-ghost use Rattle.pud_defs.specs.Step.{step_reply, step_world};
+ghost use Rattle.pud_defs.specs.Step.{step_answer, step_world};
+ghost use Rattle.pud_defs.specs.Step.Answer.{of_reply};
+ghost use Rattle.puddled.specs.Memory.{Memory};
 ghost use Rattle.puddled.specs.Daemon.{KeepsRest, IsReady, Applies, Recovers, Settles};
 
 use crate::clients::{come, leave};
 use crate::types::define_type;
+use log_space::clear_spaces;
 use pm_model::{Host, HostFault};
-use pud_defs::layout::MIN_FRAMES;
 use pud_defs::machine::{Command, Refusal, Reply};
-use registry::{LoadFault, clear_spaces, load_sound};
+use registry::{LoadFault, load_sound};
 use script::{parse_line, print_reply};
 use std::alloc::Global;
+use std::marker::Model;
 
 /// Why the daemon did not start.
 #[derive(Clone, Copy, Debug, PartialEq, Eq, thiserror::Error)]
@@ -95,38 +98,52 @@ impl From<StartFault> for RunFault {
     }
 }
 
-/// A daemon that has started on a device.
+/// A daemon that has started on a device, and what it holds in memory between two lines.
 #[derive(Drop)]
 pub struct Daemon {
-    started: (),
+    /// How many frames the device has, 4 to 1,024.
+    frames: u32,
+}
+
+impl Model for Daemon {
+    ghost use Rattle.std.specs.Prelude.{◌≤◌};
+    ghost use Rattle.pud_defs.specs.declared.layout.TheConstants.{MIN_FRAMES, MAX_FRAMES};
+    ghost use Rattle.puddled.specs.Memory.{Memory};
+
+    ghost Value = { Memory };
+
+    ghost view = { λ d. record { frames = d.frames } };
+
+    ghost invariant = { λ d. (MIN_FRAMES ≤ d.frames) × (d.frames ≤ MAX_FRAMES) };
 }
 
 /// Judges the device, applies what its daemon log names, and empties the log-space table, all without a word.
-fn recover<H: Host>(h: &mut H) -> Result<(), StartFault>
+fn recover<H: Host>(h: &mut H) -> Result<Daemon, StartFault>
     ensures not_sound { H.tells → start_fault result ≡ Option.None
         → (result ≡ Result.Err StartFault.NotSound) ↔ (world_of (H.counts h.old).size (reads (H.state h.old).now.words) ≡ Option.None) }
     ensures unchanged { H.tells → result ≡ Result.Err StartFault.NotSound → H.state h.new ≡ H.state h.old }
     ensures recovers { H.tells → (size : ℕ) → size ≡ (H.counts h.old).size → (w : World) → IsRested (H.state h.old).now.words
         → world_of size (reads (H.state h.old).now.words) ≡ Option.Some (closed w) → (H.state h.old).shelf ≡ w.shelf
-        → Recovers size w (start_fault result) (H.state h.old) (H.state h.new) }
-    ensures room { IsOk result → device_words MIN_FRAMES ≤ (H.counts h.old).size }
+        → Recovers size w result (H.state h.old) (H.state h.new) }
+    ensures room { IfOk result (λ daemon. device_words daemon.frames ≤ (H.counts h.old).size) }
     ensures rest { H.tells → KeepsRest (H.state h.old) (H.state h.new) }
     ensures cause { H.counts h.new ≡ after_fault (start_fault result) (H.counts h.old) }
 {
-    load_sound(h)?;
+    let geo = load_sound(h)?;
     clear_spaces(h)?;
-    Ok(())
+    Ok(Daemon { frames: geo.frames })
 }
 
 /// Loses power at once, and starts again without a word.
-fn lose_power<H: Host>(h: &mut H, pick: u64) -> Result<(), StartFault>
-    ensures recovers { H.tells → (size : ℕ) → size ≡ (H.counts h.old).size → (w : World) → IsReady size w (H.state h.old)
-        → Recovers size w (start_fault result) (H.state h.old) (H.state h.new) }
-    ensures sound { H.tells → (size : ℕ) → size ≡ (H.counts h.old).size → (w : World) → IsReady size w (H.state h.old)
+fn lose_power<H: Host>(h: &mut H, pick: u64) -> Result<Daemon, StartFault>
+    ensures recovers { H.tells → (size : ℕ) → size ≡ (H.counts h.old).size → (w : World) → (memory : Memory) → IsReady size w memory (H.state h.old)
+        → Recovers size w result (H.state h.old) (H.state h.new) }
+    ensures sound { H.tells → (size : ℕ) → size ≡ (H.counts h.old).size → (w : World) → (memory : Memory) → IsReady size w memory (H.state h.old)
         → start_fault result ≡ Option.None → result ≢ Result.Err StartFault.NotSound }
     ensures restarted { H.tells → IsOk result → world_of (H.counts h.old).size (reads (H.state h.new).now.words) ≢ Option.None }
     ensures not_sound { H.tells → result ≡ Result.Err StartFault.NotSound
         → world_of (H.counts h.old).size (reads (H.state h.new).now.words) ≡ Option.None }
+    ensures room { IfOk result (λ daemon. device_words daemon.frames ≤ (H.counts h.old).size) }
     ensures rest { H.tells → KeepsRest (H.state h.old) (H.state h.new) }
     ensures cause { H.counts h.new ≡ after_fault (start_fault result) (after_loss_of pick (H.counts h.old)) }
 {
@@ -135,12 +152,17 @@ fn lose_power<H: Host>(h: &mut H, pick: u64) -> Result<(), StartFault>
 }
 
 /// Goes on behind a command: where power was lost in it, the daemon starts again, and the reply is `Cut`.
-fn go_on<H: Host>(h: &mut H, done: Result<Reply, HostFault>) -> Result<Reply, RunFault>
+fn go_on<H: Host>(
+    daemon: &mut Daemon,
+    h: &mut H,
+    done: Result<Reply, HostFault>,
+) -> Result<Reply, RunFault>
+    requires { device_words daemon.old.frames ≤ (H.counts h.old).size }
     // The command began in the state `before`, with these counts.
     ensures settles { H.tells → (size : ℕ) → size ≡ (H.counts h.old).size → (w : World) → (line : List ℕ) → (counted : Counts) → (before : State) → before.shelf ≡ w.shelf
-        → Applies size w (step_world w line) (fault_of done) before (H.state h.old) → IfOk done (λ reply. reply ≡ step_reply w line)
+        → Applies size w (step_world w line) daemon.old (fault_of done) before (H.state h.old) → IfOk done (λ reply. of_reply reply ≡ step_answer w line)
         → H.counts h.old ≡ after_fault (fault_of done) counted → is_at_once (command_of line) ≡ false
-        → Settles size w line result counted (H.counts h.new) before (H.state h.new) }
+        → Settles size w line result daemon.new counted (H.counts h.new) before (H.state h.new) }
     // Whatever the device holds: where power was lost, it then reads as a sound one.
     ensures restarted { H.tells → (fault_of done ≡ Option.Some HostFault.Cut → IsRested (H.state h.old).now.words) → (counted : Counts)
         → H.counts h.old ≡ after_fault (fault_of done) counted → IsOk result → (H.counts h.new).cuts ≢ counted.cuts
@@ -149,23 +171,24 @@ fn go_on<H: Host>(h: &mut H, done: Result<Reply, HostFault>) -> Result<Reply, Ru
     ensures not_sound { H.tells → result ≡ Result.Err RunFault.NotSound
         → world_of (H.counts h.old).size (reads (H.state h.new).now.words) ≡ Option.None }
     ensures rest { H.tells → KeepsRest (H.state h.old) (H.state h.new) }
+    ensures room { device_words daemon.new.frames ≤ (H.counts h.old).size }
     ensures cause { (counted : Counts) → H.counts h.old ≡ after_fault (fault_of done) counted → IsCounted (run_fault result) 0 counted (H.counts h.new) }
 {
     match done {
         Ok(reply) => Ok(reply),
         Err(HostFault::Failed) => Err(RunFault::Failed),
         Err(HostFault::Cut) => {
-            recover(h)?;
+            *daemon = recover(h)?;
             Ok(Reply::Cut)
         }
     }
 }
 
 /// Carries out one line without a word. Where power is lost in it the daemon starts again, and the reply is `Cut`.
-fn settle<H: Host>(h: &mut H, line: &[u8]) -> Result<Reply, RunFault>
-    requires { device_words MIN_FRAMES ≤ (H.counts h.old).size }
-    ensures settles { H.tells → (size : ℕ) → size ≡ (H.counts h.old).size → (w : World) → IsReady size w (H.state h.old)
-        → Settles size w line.now result (H.counts h.old) (H.counts h.new) (H.state h.old) (H.state h.new) }
+fn settle<H: Host>(daemon: &mut Daemon, h: &mut H, line: &[u8]) -> Result<Reply, RunFault>
+    requires { device_words daemon.old.frames ≤ (H.counts h.old).size }
+    ensures settles { H.tells → (size : ℕ) → size ≡ (H.counts h.old).size → (w : World) → IsReady size w daemon.old (H.state h.old)
+        → Settles size w line.now result daemon.new (H.counts h.old) (H.counts h.new) (H.state h.old) (H.state h.new) }
     // Whatever the device holds: where power was lost, as counted or at once, it reads as a sound one behind the restart.
     ensures restarted { H.tells → IsOk result → (H.counts h.new).cuts ≢ (H.counts h.old).cuts
         → world_of (H.counts h.old).size (reads (H.state h.new).now.words) ≢ Option.None }
@@ -173,25 +196,26 @@ fn settle<H: Host>(h: &mut H, line: &[u8]) -> Result<Reply, RunFault>
         → world_of (H.counts h.old).size (reads (H.state h.new).now.words) ≢ Option.None }
     ensures not_sound { H.tells → result ≡ Result.Err RunFault.NotSound
         → world_of (H.counts h.old).size (reads (H.state h.new).now.words) ≡ Option.None }
+    ensures room { device_words daemon.new.frames ≤ (H.counts h.old).size }
     ensures rest { H.tells → KeepsRest (H.state h.old) (H.state h.new) }
     ensures cause { CountsLine (command_of line.now) (run_fault result) 0 (H.counts h.old) (H.counts h.new) }
 {
     match parse_line(line) {
         Err(_) => Ok(Reply::No(Refusal::Bad)),
         Ok(Command::Client { client, uid, gid }) => {
-            let done = come(h, u32::from(client), uid, gid);
-            go_on(h, done)
+            let done = come(h, daemon.frames, u32::from(client), uid, gid);
+            go_on(daemon, h, done)
         }
         Ok(Command::Leave { client }) => {
-            let done = leave(h, u32::from(client));
-            go_on(h, done)
+            let done = leave(h, daemon.frames, u32::from(client));
+            go_on(daemon, h, done)
         }
         Ok(Command::Define { t, map }) => {
             let done = define_type(h, t, map);
-            go_on(h, done)
+            go_on(daemon, h, done)
         }
         Ok(Command::Cut { pick }) => {
-            lose_power(h, pick)?;
+            *daemon = lose_power(h, pick)?;
             Ok(Reply::Ok)
         }
         Ok(Command::Arm { step, pick }) => {
@@ -226,14 +250,14 @@ impl Daemon {
         ensures unchanged { H.tells → result ≡ Result.Err StartFault.NotSound → H.state h.new ≡ H.state h.old }
         ensures starts { H.tells → (size : ℕ) → size ≡ (H.counts h.old).size → (w : World) → IsRested (H.state h.old).now.words
             → world_of size (reads (H.state h.old).now.words) ≡ Option.Some (closed w) → (H.state h.old).shelf ≡ w.shelf
-            → Starts size w (start_fault result) (H.state h.old) (H.state h.new) }
-        ensures room { IsOk result → device_words MIN_FRAMES ≤ (H.counts h.old).size }
+            → Starts size w result (H.state h.old) (H.state h.new) }
+        ensures room { IfOk result (λ daemon. device_words daemon.frames ≤ (H.counts h.old).size) }
         ensures rest { H.tells → KeepsRest (H.state h.old) (H.state h.new) }
         ensures cause { H.counts h.new ≡ after_fault (start_fault result) (H.counts h.old) }
     {
-        recover(h)?;
+        let daemon = recover(h)?;
         h.say(b"ready\n")?;
-        Ok(Daemon { started: () })
+        Ok(daemon)
     }
 
     /// Carries out one line, given without its newline, and says the reply where `aloud`. The answer is whether the
@@ -251,9 +275,9 @@ impl Daemon {
         line: &[u8],
         aloud: bool,
     ) -> Result<bool, RunFault>
-        requires { device_words MIN_FRAMES ≤ (H.counts h.old).size }
-        ensures answers { H.tells → (size : ℕ) → size ≡ (H.counts h.old).size → (w : World) → IsReady size w (H.state h.old)
-            → Answers size w line.now aloud result (H.counts h.old) (H.counts h.new) (H.state h.old) (H.state h.new) }
+        requires { device_words self.old.frames ≤ (H.counts h.old).size }
+        ensures answers { H.tells → (size : ℕ) → size ≡ (H.counts h.old).size → (w : World) → IsReady size w self.old (H.state h.old)
+            → Answers size w line.now aloud result self.new (H.counts h.old) (H.counts h.new) (H.state h.old) (H.state h.new) }
         // Whatever the device holds: where power was lost, as counted or at once, and without a fault, it then reads as a sound
         // one, and at `NotSound` it does not.
         ensures restarted { H.tells → IsOk result → (H.counts h.new).cuts ≢ (H.counts h.old).cuts
@@ -262,18 +286,20 @@ impl Daemon {
             → world_of (H.counts h.old).size (reads (H.state h.new).now.words) ≢ Option.None }
         ensures not_sound { H.tells → result ≡ Result.Err RunFault.NotSound
             → world_of (H.counts h.old).size (reads (H.state h.new).now.words) ≡ Option.None }
+        // The device that it knows has the words that its frames need.
+        ensures room { device_words self.new.frames ≤ (H.counts h.old).size }
         ensures rest { H.tells → KeepsRest (H.state h.old) (H.state h.new) }
         ensures cause { CountsLine (command_of line.now) (run_fault result) 0 (H.counts h.old) (H.counts h.new) }
     {
-        let reply = settle(h, line)?;
+        let reply = settle(self, h, line)?;
         if aloud {
             say_reply(h, reply)?;
         }
-        Ok(reply == Reply::Ok)
+        Ok(reply.is_ok())
     }
 
     /// Ends the daemon. It touches no device: the next start does what is to be done.
     pub fn stop(self) {
-        let Daemon { started: () } = self;
+        let Daemon { frames: _frames } = self;
     }
 }

@@ -1,5 +1,5 @@
 -- The daemon log of a rested device applied: each image left stands for the same world.
-use Rattle.std.proofs.Common.{◌≡◌, inl, inr, ℕ, ◌%◌, ◌^◌, ◌<◌, ◌≤◌, true, List, get_or, Option, Some, None, refl, sym, ap, subst, ◌∙◌, arith}
+use Rattle.std.proofs.Common.{◌≡◌, inl, inr, ℕ, ◌<◌, ◌≤◌, true, List, get_or, Option, Some, None, refl, sym, ap, subst, ◌∙◌, arith}
 use Rattle.std.specs.Prelude.{[]}
 use Rattle.std.specs.List.{list_all}
 use Rattle.std.proofs.lemmas.Bool.{cases_eq}
@@ -145,13 +145,6 @@ AppliesLog-failed size s fault a b rested world not_cut same =
 -- what is read of it then is what the world tells
 pub reads_so : (size : ℕ) (s : StoredWorld) (b : State) (w : ℕ) → IsSettled size s b.now.words → w < DAEMON_LOG → settled_by DAEMON_LOG (reads b.now.words) w ≡ reads b.now.words w
 reads_so size s b w settled low = settled_by-closed DAEMON_LOG (reads b.now.words) w (settled.closed (reads b.now.words DAEMON_LOG) (inl refl)) (outside_log DAEMON_LOG w (inl low))
-
-pub frames_read : (size : ℕ) (s : StoredWorld) (b : State) → IsSettled size s b.now.words → reads b.now.words FRAMES_WORD % 2 ^ 32 ≡ s.frames
-frames_read size s b settled =
-    let h = standing_of_world size (reads b.now.words) s (settled.stands (reads b.now.words) (Picks-reads b.now.words)) in
-    let same : reads b.now.words FRAMES_WORD ≡ s.frames = sym (reads_so size s b FRAMES_WORD settled (omega arith)) ∙ h.frames in
-    let few = h.no_more_frames in
-    omega arith
 
 pub machine_read : (size : ℕ) (s : StoredWorld) (b : State) → IsSettled size s b.now.words → reads b.now.words MACHINE_WORD ≡ s.machine
 machine_read size s b settled =

@@ -1,16 +1,18 @@
 //! Whether a device is a sound registry once its daemon log is replayed. Nothing is replayed and nothing is written: each
 //! word is read as the replay makes it.
-ghost use Rattle.std.specs.Prelude.{◌≡◌, ◌≢◌, ◌+◌, ◌-◌, ◌<◌, ◌≤◌, ◌==◌, ℕ, true, not, ◌&&◌, ◌||◌, nat_lt, nat_le, List, Option, IfOk, IfSome, IsTrue};
+ghost use Rattle.std.specs.Prelude.{◌≡◌, ◌≢◌, ◌+◌, ◌-◌, ◌<◌, ◌≤◌, ◌==◌, ℕ, true, not, ◌&&◌, ◌||◌, nat_lt, nat_le, List, Option, IfOk, IfSome, is_some};
 ghost use Rattle.std.specs.List.{list_all, list_any};
 ghost use Rattle.pm_model.specs.Words.{reads};
 ghost use Rattle.pm_model.specs.Counts.{after_fault, fault_of};
 ghost use Rattle.pud_defs.specs.Image.{Image};
 ghost use Rattle.pud_defs.specs.Layout.{device_words};
-ghost use Rattle.pud_defs.specs.Entries.{Entry as LoggedEntry, log_of, entries_of};
+ghost use Rattle.pud_defs.specs.Entries.{Entry as LoggedEntry, Log, log_of, entries_of};
 ghost use Rattle.pud_defs.specs.Replay.{settled_by};
 ghost use Rattle.pud_defs.specs.Spaces.{is_space, is_legal_space, has_closed_logs, are_legal_spaces, are_closed_logs};
 ghost use Rattle.pud_defs.specs.Registry.{frames_of, are_zero, is_number, has_legal_number, has_legal_types, may_be_logged, is_allowed, has_legal_log, is_registry, is_sound};
-ghost use Rattle.registry.specs.Overlaying.{HasRange, IsOverlay};
+ghost use Rattle.log_entry.specs.Reading.{entry_from};
+ghost use Rattle.log_entry.specs.Ranges.{HasRange};
+ghost use Rattle.registry.specs.Overlaying.{IsOverlay};
 ghost use Rattle.registry.specs.Judging.{IsRoomFor, frames_by, frames_described, with_one_more, is_closed_space, has_sound_tables, has_sound_spaces};
 
 use crate::overlay::Overlay;
@@ -81,9 +83,9 @@ fn may_be_logged(frames: u32, at: u64, n: u32) -> bool
 /// Whether an entry is out of range, or lies where the daemon log may write.
 fn is_allowed(overlay: &Overlay, frames: u32, entry: &Entry) -> bool
     requires { frames ≤ MAX_FRAMES }
-    ensures { result ≡ (not (nat_lt overlay.now.lo entry.now.seq && nat_lt entry.now.seq overlay.now.hi) || may_be_logged frames entry.now.addr entry.now.n) }
+    ensures { (image : Image) (log : Log) → HasRange overlay.now.range log → result ≡ is_allowed frames log (entry_from image entry.now) }
 {
-    !overlay.counts(entry) || may_be_logged(frames, entry.addr, entry.n)
+    !overlay.range.counts(entry) || may_be_logged(frames, entry.addr, entry.n)
 }
 
 /// Whether each entry of the daemon log is.
@@ -91,7 +93,7 @@ fn are_allowed<H: Host>(h: &mut H, overlay: &Overlay, frames: u32) -> Result<boo
     requires few { frames ≤ MAX_FRAMES }
     requires log { DAEMON_LOG + LOG_WORDS ≤ (H.counts h.old).size }
     ensures allowed { H.tells → (image : Image) → reads (H.state h.old).now.words ≡ image → (es : List LoggedEntry) → entries_of image DAEMON_LOG ≡ Option.Some es
-        → HasRange overlay.now (log_of image DAEMON_LOG) → IfOk result (λ allowed. allowed ≡ list_all (is_allowed frames (log_of image DAEMON_LOG)) es) }
+        → HasRange overlay.now.range (log_of image DAEMON_LOG) → IfOk result (λ allowed. allowed ≡ list_all (is_allowed frames (log_of image DAEMON_LOG)) es) }
     ensures stays { H.tells → H.state h.new ≡ H.state h.old }
     ensures cause { H.counts h.new ≡ after_fault (fault_of result) (H.counts h.old) }
     ensures never_cut { fault_of result ≢ Option.Some HostFault.Cut }
@@ -109,7 +111,7 @@ fn are_allowed<H: Host>(h: &mut H, overlay: &Overlay, frames: u32) -> Result<boo
 fn has_legal_log<H: Host>(h: &mut H, overlay: &Overlay, frames: u32) -> Result<bool, HostFault>
     requires few { frames ≤ MAX_FRAMES }
     requires log { DAEMON_LOG + LOG_WORDS ≤ (H.counts h.old).size }
-    ensures legal { H.tells → (image : Image) → reads (H.state h.old).now.words ≡ image → HasRange overlay.now (log_of image DAEMON_LOG) → frames ≡ frames_of image
+    ensures legal { H.tells → (image : Image) → reads (H.state h.old).now.words ≡ image → HasRange overlay.now.range (log_of image DAEMON_LOG) → frames ≡ frames_of image
         → IfOk result (λ legal. legal ≡ has_legal_log image) }
     ensures stays { H.tells → H.state h.new ≡ H.state h.old }
     ensures cause { H.counts h.new ≡ after_fault (fault_of result) (H.counts h.old) }
@@ -357,25 +359,28 @@ fn is_registry<H: Host>(h: &mut H, overlay: &Overlay, frames: u32) -> Result<boo
     Ok(are_both(tables, spaces))
 }
 
-/// Whether the device is a sound registry once its daemon log is replayed. Nothing changes.
-pub fn is_sound<H: Host>(h: &mut H) -> Result<bool, HostFault>
-    ensures sound { H.tells → IfOk result (λ sound. sound ≡ is_sound (H.counts h.old).size (reads (H.state h.old).now.words)) }
-    ensures room { IfOk result (λ sound. IsTrue sound → device_words MIN_FRAMES ≤ (H.counts h.old).size) }
+/// The number of frames of a device that is a sound registry once its daemon log is replayed, or None exactly where it is none.
+/// Nothing changes, and the only errors are the host's own.
+pub fn sound_frames<H: Host>(h: &mut H) -> Result<Option<u32>, HostFault>
+    ensures sound { H.tells → IfOk result (λ found. is_some found ≡ is_sound (H.counts h.old).size (reads (H.state h.old).now.words)) }
+    ensures frames { H.tells → IfOk result (λ found. IfSome found (λ frames. frames ≡ frames_of (reads (H.state h.old).now.words))) }
+    ensures room { IfOk result (λ found. IfSome found (IsRoomFor (H.counts h.old).size)) }
     ensures stays { H.tells → H.state h.new ≡ H.state h.old }
     ensures cause { H.counts h.new ≡ after_fault (fault_of result) (H.counts h.old) }
     ensures never_cut { fault_of result ≢ Option.Some HostFault.Cut }
 {
     if h.words() < device_words(MIN_FRAMES) {
-        return Ok(false);
+        return Ok(None);
     }
-    match described_frames(h)? {
-        None => Ok(false),
-        Some(frames) => {
-            let overlay = Overlay::of(h)?;
-            if !has_legal_log(h, &overlay, frames)? {
-                return Ok(false);
-            }
-            is_registry(h, &overlay, frames)
-        }
+    let Some(frames) = described_frames(h)? else {
+        return Ok(None);
+    };
+    let overlay = Overlay::of(h)?;
+    if !has_legal_log(h, &overlay, frames)? {
+        return Ok(None);
     }
+    if !is_registry(h, &overlay, frames)? {
+        return Ok(None);
+    }
+    Ok(Some(frames))
 }

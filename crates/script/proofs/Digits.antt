@@ -1,5 +1,5 @@
 -- How the value of decimal digits goes on by a digit.
-use Rattle.std.proofs.Common.{◌≡◌, ℕ, ◌+◌, ◌-◌, ◌*◌, ◌^◌, ◌<◌, ◌≤◌, Bool, true, false, cond, ◌&&◌, nat_le, nat_lt, List, [], ◌∷◌, length, drop, get_or, Option, Some, None, refl, sym, ap, ◌∙◌, add-one, arith, drop-cons}
+use Rattle.std.proofs.Common.{◌≡◌, ℕ, ◌+◌, ◌-◌, ◌*◌, ◌^◌, ◌<◌, ◌≤◌, Bool, true, false, cond, ◌&&◌, nat_le, nat_lt, List, [], ◌∷◌, length, drop, get_or, Option, Some, None, option_and_then, refl, sym, ap, ◌∙◌, add-one, arith, drop-cons}
 use Rattle.std.proofs.lemmas.List.{drop_all}
 use Rattle.std.specs.List.{list_all}
 use Rattle.std.proofs.lemmas.Bool.Decides.{nat_tests}
@@ -7,7 +7,7 @@ use Rattle.pud_defs.specs.Grammar.{begins_as_number, is_digit, value_behind, num
 
 -- the number, where a word holds it
 abbrev pub word_of : Option ℕ → Option ℕ
-word_of number = in_range 0 (2 ^ 64) Some number
+word_of number = option_and_then (in_range 0 (2 ^ 64)) number
 
 -- the number of the digits so far, whose value is `above`, and of one more
 abbrev pub next_value : ℕ → ℕ → Option ℕ

@@ -1,10 +1,9 @@
 -- How a map word goes on by a pointer field.
-use Rattle.std.proofs.Common.{◌≡◌, ℕ, ◌+◌, ◌*◌, ◌^◌, ◌<◌, ◌≤◌, true, false, cond, List, [], ◌∷◌, bytes_eq, codes, option_map, sum_by, Option, Some, None, refl, sym, ap, ◌∙◌, arith, pow_mono}
+use Rattle.std.proofs.Common.{◌≡◌, ℕ, ◌+◌, ◌*◌, ◌^◌, ◌<◌, ◌≤◌, true, false, cond, List, [], ◌∷◌, bytes_eq, codes, option_map, option_and_then, sum_by, Option, Some, None, refl, sym, ap, ◌∙◌, arith, pow_mono}
 use Rattle.std.proofs.lemmas.Nat.{pow-add}
 use Rattle.std.proofs.lemmas.List.Sums.{sum_by-cons}
-use Rattle.pud_defs.specs.Grammar.{split_at, number_of, in_range, fields_from, pointers_of}
+use Rattle.pud_defs.specs.Grammar.{split_at, number_within, fields_from, pointers_of, listed_map}
 use Rattle.pud_defs.specs.TypeMap.{map_word}
-use Rattle.script.proofs.Ranges.{in_range-some, in_range-none}
 
 -- the map word so far, with the pointers that the pieces that are left name, from `least` up
 unfoldable pub map_behind : ℕ → ℕ → ℕ → List (List ℕ) → Option ℕ
@@ -15,21 +14,20 @@ with_field map f None = refl
 with_field map f (Some fs) = ap (λ n. Some n) (omega (arith, sum_by-cons (λ g. 2 ^ g) f fs))
 
 -- the field of the first piece is taken up
-pub field_taken : (n least map f : ℕ) (piece : List ℕ) (pieces : List (List ℕ)) → in_range least n (λ x. Some x) (number_of piece) ≡ Some f
+pub field_taken : (n least map f : ℕ) (piece : List ℕ) (pieces : List (List ℕ)) → number_within least n piece ≡ Some f
     → map_behind n (f + 1) (map + 2 ^ f) pieces ≡ map_behind n least map (piece ∷ pieces)
 unfolding map_behind fields_from
 field_taken n least map f piece pieces e =
     let next : ℕ → Option (List ℕ) = λ g. option_map (λ fs. g ∷ fs) (fields_from n (g + 1) pieces) in
-    let taken = in_range-some least n next (number_of piece) f e in
-    sym (ap (λ fs. option_map (λ gs. map + sum_by (λ g. 2 ^ g) gs) fs) taken ∙ with_field map f (fields_from n (f + 1) pieces))
+    sym (ap (λ o. option_map (λ gs. map + sum_by (λ g. 2 ^ g) gs) (option_and_then next o)) e ∙ with_field map f (fields_from n (f + 1) pieces))
 
 -- the first piece is no field that may stand there
-pub field_refused : (n least map : ℕ) (piece : List ℕ) (pieces : List (List ℕ)) → in_range least n (λ x. Some x) (number_of piece) ≡ None
+pub field_refused : (n least map : ℕ) (piece : List ℕ) (pieces : List (List ℕ)) → number_within least n piece ≡ None
     → map_behind n least map (piece ∷ pieces) ≡ None
 unfolding map_behind fields_from
 field_refused n least map piece pieces e =
     let next : ℕ → Option (List ℕ) = λ g. option_map (λ fs. g ∷ fs) (fields_from n (g + 1) pieces) in
-    ap (λ fs. option_map (λ gs. map + sum_by (λ g. 2 ^ g) gs) fs) (in_range-none least n next (number_of piece) e)
+    ap (λ o. option_map (λ gs. map + sum_by (λ g. 2 ^ g) gs) (option_and_then next o)) e
 
 -- no piece is left
 pub no_field_left : (n least map : ℕ) → Some map ≡ map_behind n least map []
@@ -37,14 +35,14 @@ unfolding map_behind fields_from
 no_field_left n least map = ap (λ n. Some n) (omega arith)
 
 -- the list `-` names no pointer
-pub no_pointers : (n : ℕ) (list : List ℕ) → bytes_eq list (codes "-") ≡ true → Some (n * 2 ^ 32) ≡ option_map (map_word n) (pointers_of n list)
+pub no_pointers : (n : ℕ) (list : List ℕ) → bytes_eq list (codes "-") ≡ true → Some (n * 2 ^ 32) ≡ listed_map n list
 unfolding pointers_of
 no_pointers n list e =
     let none : n * 2 ^ 32 ≡ map_word n [] = omega arith in
     ap (λ m. Some m) none ∙ sym (ap (λ b. option_map (map_word n) (cond b (Some []) (fields_from n 0 (split_at 44 list)))) e)
 
 -- any other list names them in its pieces
-pub pointers_listed : (n : ℕ) (list : List ℕ) → bytes_eq list (codes "-") ≡ false → map_behind n 0 (n * 2 ^ 32) (split_at 44 list) ≡ option_map (map_word n) (pointers_of n list)
+pub pointers_listed : (n : ℕ) (list : List ℕ) → bytes_eq list (codes "-") ≡ false → map_behind n 0 (n * 2 ^ 32) (split_at 44 list) ≡ listed_map n list
 unfolding map_behind pointers_of
 pointers_listed n list e =
     sym (ap (λ b. option_map (map_word n) (cond b (Some []) (fields_from n 0 (split_at 44 list)))) e)

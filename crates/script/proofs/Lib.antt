@@ -1,7 +1,5 @@
 pub mod Cuts
 pub mod Digits
-pub mod Ranges
-pub mod Counted
+pub mod Taken
 pub mod FieldLists
-pub mod Definitions
 pub mod Legal

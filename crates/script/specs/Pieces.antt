@@ -1,5 +1,5 @@
 -- The pieces of a line that are still to be read.
-use Rattle.std.specs.Prelude.{ℕ, List, [], Option, Some, None}
+use Rattle.std.specs.Prelude.{ℕ, List, [], ◌∷◌, Option, Some, None}
 use denote.Ref.{Bor}
 use Rattle.pud_defs.specs.Grammar.{split_at}
 
@@ -7,3 +7,8 @@ use Rattle.pud_defs.specs.Grammar.{split_at}
 abbrev pub pieces_of : ℕ → Option (Bor (List ℕ)) → List (List ℕ)
 pieces_of separator None = []
 pieces_of separator (Some bytes) = split_at separator bytes.now
+
+-- the front piece and those behind it, where a piece is left
+abbrev pub with_front : Option (Bor (List ℕ)) → List (List ℕ) → List (List ℕ)
+with_front None behind = []
+with_front (Some front) behind = front.now ∷ behind

@@ -1,39 +1,110 @@
-//! The arguments of a line, where it has as many as its command takes.
+//! The arguments of a line, taken from the front one by one, each by its kind.
 
-ghost use Rattle.std.specs.Prelude.{◌≡◌, ℕ, List, Option};
-ghost use Rattle.pud_defs.specs.declared.machine.Command.{Command};
-ghost use Rattle.pud_defs.specs.Grammar.{of_one, of_two, of_three};
-ghost use Rattle.script.specs.Pieces.{pieces_of};
-ghost use Rattle.script.specs.Counted.{with_one, with_two, with_three};
+ghost use Rattle.std.specs.Prelude.{◌≡◌, ◌≤◌, ℕ, List, IfSome};
+ghost use Rattle.pud_defs.specs.Grammar.{client_number, owner_id, type_id, field_count, listed_map, armed_step, loss_pick, at_end};
+ghost use Rattle.script.specs.Pieces.{pieces_of, with_front};
+ghost use Rattle.script.specs.Taken.{IsTaken};
 
+use crate::fields::read_map;
+use crate::numbers::{read_number, read_within};
 use crate::pieces::cut;
+use pud_defs::layout::{CLIENTS, MAX_ARMED_STEP, MAX_FIELDS, MAX_OWNER_ID, MAX_TYPE_ID};
+use pud_defs::machine::Command;
+use std::marker::Model;
 
-/// The argument, where there is exactly one behind the command word.
-#[tactic(auto, using(crate::proofs::Counted::one_argument))]
-pub(crate) fn one(arguments: Option<&[u8]>) -> Option<&[u8]>
-    ensures { (f : List ℕ → Option Command) → with_one f result ≡ of_one f (pieces_of 32 arguments.entry) }
-{
-    let (first, behind) = cut(arguments?, b' ');
-    behind.is_none().then_some(first)
+/// The arguments that are left. Contracts see them as the list of their bytes. Where a call answers None the line is no
+/// command, and nothing more is taken.
+#[derive(Drop)]
+pub(crate) struct Arguments<'a> {
+    left: Option<&'a [u8]>,
 }
 
-/// The arguments, where there are exactly two.
-#[tactic(auto, using(crate::proofs::Counted::two_arguments))]
-pub(crate) fn two(arguments: Option<&[u8]>) -> Option<(&[u8], &[u8])>
-    ensures { (f : List ℕ → List ℕ → Option Command) → with_two f result ≡ of_two f (pieces_of 32 arguments.entry) }
-{
-    let (first, behind) = cut(arguments?, b' ');
-    let (second, behind) = cut(behind?, b' ');
-    behind.is_none().then_some((first, second))
+impl<'a> Model for Arguments<'a> {
+    ghost Value = { List (List ℕ) };
+
+    ghost view = { λ a. pieces_of 32 a.left };
 }
 
-/// The arguments, where there are exactly three.
-#[tactic(auto, using(crate::proofs::Counted::three_arguments))]
-pub(crate) fn three(arguments: Option<&[u8]>) -> Option<(&[u8], &[u8], &[u8])>
-    ensures { (f : List ℕ → List ℕ → List ℕ → Option Command) → with_three f result ≡ of_three f (pieces_of 32 arguments.entry) }
-{
-    let (first, behind) = cut(arguments?, b' ');
-    let (second, behind) = cut(behind?, b' ');
-    let (third, behind) = cut(behind?, b' ');
-    behind.is_none().then_some((first, second, third))
+impl<'a> Arguments<'a> {
+    /// The arguments in what stands behind the first space of a line: none where there is no space.
+    pub(crate) fn behind_word(left: Option<&'a [u8]>) -> Self
+        ensures { result ≡ pieces_of 32 left.entry }
+    {
+        Arguments { left }
+    }
+
+    /// The front argument. None where no argument is left.
+    fn front(&mut self) -> Option<&'a [u8]>
+        ensures { self.old ≡ with_front result self.new }
+    {
+        let (front, behind) = cut(self.left?, b' ');
+        self.left = behind;
+        Some(front)
+    }
+
+    /// The front argument as the number of a client.
+    #[tactic(auto, using(crate::proofs::Taken::taken))]
+    pub(crate) fn client(&mut self) -> Option<u8>
+        ensures { IsTaken client_number self.old result self.new }
+    {
+        u8::try_from(read_within(self.front()?, 0, CLIENTS)?).ok()
+    }
+
+    /// The front argument as a uid or a gid.
+    #[tactic(auto, using(crate::proofs::Taken::taken))]
+    pub(crate) fn owner(&mut self) -> Option<u32>
+        ensures { IsTaken owner_id self.old result self.new }
+    {
+        read_within(self.front()?, 0, MAX_OWNER_ID + 1)
+    }
+
+    /// The front argument as a type id.
+    #[tactic(auto, using(crate::proofs::Taken::taken))]
+    pub(crate) fn type_id(&mut self) -> Option<u32>
+        ensures { IsTaken type_id self.old result self.new }
+    {
+        read_within(self.front()?, 1, MAX_TYPE_ID + 1)
+    }
+
+    /// The front argument as the number of fields of a type.
+    #[tactic(auto, using(crate::proofs::Taken::taken))]
+    pub(crate) fn fields(&mut self) -> Option<u32>
+        ensures taken { IsTaken field_count self.old result self.new }
+        ensures few { IfSome result (λ n. n ≤ MAX_FIELDS) }
+    {
+        read_within(self.front()?, 1, MAX_FIELDS + 1)
+    }
+
+    /// The front argument as the list of the pointers of a type of so many fields: its map word.
+    #[tactic(auto, using(crate::proofs::Taken::taken))]
+    pub(crate) fn map(&mut self, fields: u32) -> Option<u64>
+        requires { fields ≤ MAX_FIELDS }
+        ensures { IsTaken (listed_map fields) self.old result self.new }
+    {
+        read_map(self.front()?, fields)
+    }
+
+    /// The front argument as the device step at which power is armed to be lost.
+    #[tactic(auto, using(crate::proofs::Taken::taken))]
+    pub(crate) fn step(&mut self) -> Option<u32>
+        ensures { IsTaken armed_step self.old result self.new }
+    {
+        read_within(self.front()?, 1, MAX_ARMED_STEP + 1)
+    }
+
+    /// The front argument as the pick of a power loss.
+    #[tactic(auto, using(crate::proofs::Taken::taken))]
+    pub(crate) fn pick(&mut self) -> Option<u64>
+        ensures { IsTaken loss_pick self.old result self.new }
+    {
+        read_number(self.front()?)
+    }
+
+    /// The command, where no argument is left.
+    #[tactic(auto, using(crate::proofs::Taken::taken))]
+    pub(crate) fn end(self, command: Command) -> Option<Command>
+        ensures { result ≡ at_end command self.entry }
+    {
+        self.left.is_none().then_some(command)
+    }
 }

@@ -1,8 +1,7 @@
 //! The pointer fields of a type, read into its map word.
 
-ghost use Rattle.std.specs.Prelude.{◌≡◌, ◌≤◌, option_map};
-ghost use Rattle.pud_defs.specs.Grammar.{pointers_of};
-ghost use Rattle.pud_defs.specs.TypeMap.{map_word};
+ghost use Rattle.std.specs.Prelude.{◌≡◌, ◌≤◌};
+ghost use Rattle.pud_defs.specs.Grammar.{listed_map};
 
 use crate::numbers::read_within;
 use crate::pieces::cut;
@@ -13,7 +12,7 @@ use pud_defs::layout::MAX_FIELDS;
 #[tactic(auto, using(crate::proofs::FieldLists::fields_read))]
 pub(crate) fn read_map(list: &[u8], fields: u32) -> Option<u64>
     requires { fields ≤ MAX_FIELDS }
-    ensures { result ≡ option_map (map_word fields) (pointers_of fields list.now) }
+    ensures { result ≡ listed_map fields list.now }
 {
     let mut map = u64::from(fields) << 32;
     if list == b"-".as_slice() {

@@ -9,18 +9,13 @@
 //! - `cut N`: the pick N, any number below 2^64;
 //! - `arm K N`: the step K from 1 to 1,000,000, and the pick N.
 
-ghost use Rattle.std.specs.Prelude.{◌≡◌, Some, IfOk};
+ghost use Rattle.std.specs.Prelude.{◌≡◌, IfOk};
 ghost use Rattle.std.specs.Result.{result_ok};
-ghost use Rattle.pud_defs.specs.Grammar.{split_at, number_of, in_range, client_by, leave_by, define_by, cut_by, arm_by, of_one, of_two, of_three, command_with, command_by, command_of, IsLegalCommand};
-ghost use Rattle.script.specs.Pieces.{pieces_of};
+ghost use Rattle.pud_defs.specs.Grammar.{split_at, client_by, leave_by, define_by, cut_by, arm_by, command_with, command_by, command_of, IsLegalCommand};
 
-use crate::arguments::{one, three, two};
-use crate::fields::read_map;
-use crate::numbers::{read_number, read_within};
+use crate::arguments::Arguments;
 use crate::pieces::cut;
-use pud_defs::layout::{
-    CLIENTS, LINE_LIMIT, MAX_ARMED_STEP, MAX_FIELDS, MAX_OWNER_ID, MAX_TYPE_ID,
-};
+use pud_defs::layout::LINE_LIMIT;
 use pud_defs::machine::Command;
 
 /// The line is not in the grammar.
@@ -28,81 +23,71 @@ use pud_defs::machine::Command;
 #[error("the line is no command")]
 pub struct Bad;
 
-/// The number of a client.
-fn read_client_number(digits: &[u8]) -> Option<u8>
-    ensures { result ≡ in_range 0 CLIENTS Some (number_of digits.now) }
+/// The coming of a client by its arguments.
+#[tactic(auto, unfolding(pud_defs::specs::Grammar::client_by))]
+fn read_client(mut arguments: Arguments) -> Option<Command>
+    ensures { result ≡ client_by arguments.entry }
 {
-    u8::try_from(read_within(digits, 0, CLIENTS)?).ok()
-}
-
-/// The coming of a client by its three arguments.
-#[tactic(auto, unfolding(pud_defs::specs::Grammar::client_by), using(crate::proofs::Ranges::ranges))]
-fn read_client(client: &[u8], uid: &[u8], gid: &[u8]) -> Option<Command>
-    ensures { result ≡ client_by client.now uid.now gid.now }
-{
-    let client = read_client_number(client)?;
-    let uid = read_within(uid, 0, MAX_OWNER_ID + 1)?;
-    let gid = read_within(gid, 0, MAX_OWNER_ID + 1)?;
-    Some(Command::Client { client, uid, gid })
+    let client = arguments.client()?;
+    let uid = arguments.owner()?;
+    let gid = arguments.owner()?;
+    arguments.end(Command::Client { client, uid, gid })
 }
 
 /// The leaving of a client.
-#[tactic(auto, unfolding(pud_defs::specs::Grammar::leave_by), using(crate::proofs::Ranges::ranges))]
-fn read_leave(client: &[u8]) -> Option<Command>
-    ensures { result ≡ leave_by client.now }
+#[tactic(auto, unfolding(pud_defs::specs::Grammar::leave_by))]
+fn read_leave(mut arguments: Arguments) -> Option<Command>
+    ensures { result ≡ leave_by arguments.entry }
 {
-    let client = read_client_number(client)?;
-    Some(Command::Leave { client })
+    let client = arguments.client()?;
+    arguments.end(Command::Leave { client })
 }
 
-/// The definition of a type by its three arguments.
-#[tactic(auto, unfolding(pud_defs::specs::Grammar::define_by), using(crate::proofs::Ranges::ranges, crate::proofs::Definitions::defined))]
-fn read_definition(id: &[u8], fields: &[u8], list: &[u8]) -> Option<Command>
-    ensures { result ≡ define_by id.now fields.now list.now }
+/// The definition of a type.
+#[tactic(auto, unfolding(pud_defs::specs::Grammar::define_by))]
+fn read_definition(mut arguments: Arguments) -> Option<Command>
+    ensures { result ≡ define_by arguments.entry }
 {
-    let t = read_within(id, 1, MAX_TYPE_ID + 1)?;
-    let fields = read_within(fields, 1, MAX_FIELDS + 1)?;
-    let map = read_map(list, fields)?;
-    Some(Command::Define { t, map })
+    let t = arguments.type_id()?;
+    let fields = arguments.fields()?;
+    let map = arguments.map(fields)?;
+    arguments.end(Command::Define { t, map })
 }
 
 /// A power loss at once.
-#[tactic(auto, unfolding(pud_defs::specs::Grammar::cut_by), using(crate::proofs::Ranges::ranges))]
-fn read_cut(pick: &[u8]) -> Option<Command>
-    ensures { result ≡ cut_by pick.now }
+#[tactic(auto, unfolding(pud_defs::specs::Grammar::cut_by))]
+fn read_cut(mut arguments: Arguments) -> Option<Command>
+    ensures { result ≡ cut_by arguments.entry }
 {
-    let pick = read_number(pick)?;
-    Some(Command::Cut { pick })
+    let pick = arguments.pick()?;
+    arguments.end(Command::Cut { pick })
 }
 
 /// A power loss that is armed.
-#[tactic(auto, unfolding(pud_defs::specs::Grammar::arm_by), using(crate::proofs::Ranges::ranges))]
-fn read_arm(step: &[u8], pick: &[u8]) -> Option<Command>
-    ensures { result ≡ arm_by step.now pick.now }
+#[tactic(auto, unfolding(pud_defs::specs::Grammar::arm_by))]
+fn read_arm(mut arguments: Arguments) -> Option<Command>
+    ensures { result ≡ arm_by arguments.entry }
 {
-    let step = read_within(step, 1, MAX_ARMED_STEP + 1)?;
-    let pick = read_number(pick)?;
-    Some(Command::Arm { step, pick })
+    let step = arguments.step()?;
+    let pick = arguments.pick()?;
+    arguments.end(Command::Arm { step, pick })
 }
 
-/// The command by its word and by what stands behind it.
+/// The command by its word and its arguments.
 #[tactic(auto, unfolding(pud_defs::specs::Grammar::command_with))]
-fn read_with(word: &[u8], arguments: Option<&[u8]>) -> Option<Command>
-    ensures { result ≡ command_with word.now (pieces_of 32 arguments.entry) }
+fn read_with(word: &[u8], arguments: Arguments) -> Option<Command>
+    ensures { result ≡ command_with word.now arguments.entry }
 {
     if word == b"client".as_slice() {
-        let (client, uid, gid) = three(arguments)?;
-        read_client(client, uid, gid)
+        read_client(arguments)
     } else if word == b"leave".as_slice() {
-        read_leave(one(arguments)?)
+        read_leave(arguments)
     } else if word == b"type".as_slice() {
-        let (id, fields, list) = three(arguments)?;
-        read_definition(id, fields, list)
+        read_definition(arguments)
     } else if word == b"cut".as_slice() {
-        read_cut(one(arguments)?)
+        read_cut(arguments)
     } else if word == b"arm".as_slice() {
-        let (step, pick) = two(arguments)?;
-        read_arm(step, pick)
+        read_arm(arguments)
     } else {
         None
     }
@@ -112,8 +97,8 @@ fn read_with(word: &[u8], arguments: Option<&[u8]>) -> Option<Command>
 fn read_command(line: &[u8]) -> Option<Command>
     ensures { result ≡ command_by (split_at 32 line.now) }
 {
-    let (word, arguments) = cut(line, b' ');
-    read_with(word, arguments)
+    let (word, behind) = cut(line, b' ');
+    read_with(word, Arguments::behind_word(behind))
 }
 
 /// The command that a line, without its newline, is. `Bad` exactly where it is none. A line may have any length and

@@ -6,7 +6,7 @@ use Rattle.puddle_cli.proofs.run.answer.Goals as goal
 
 pub returns-then-is_empty-clause-answers : goal.returns-then-is_empty-clause-answers
 returns-then-is_empty-clause-answers g c = λ t size e w ready line kept.
-    AnswersLine-nothing size w line _ _ _ _ ready (sym kept ∙ c.is_empty.ensures.0 c.if-is_empty.true) refl refl
+    AnswersLine-nothing size w _ line _ _ _ _ ready (sym kept ∙ c.is_empty.ensures.0 c.if-is_empty.true) refl refl
 
 pub returns-in_err-exec-clause-answers : goal.returns-in_err-exec-clause-answers
 returns-in_err-exec-clause-answers g c =
@@ -14,13 +14,13 @@ returns-in_err-exec-clause-answers g c =
     rw (p.1, p.2) (λ t size e w ready line kept.
     let some : c.args.piece.now ≡ [] → ⊥ = λ none. let no : true ≡ false = sym (c.is_empty.ensures.1 none) ∙ c.if-is_empty.false in cc in
     let answers = rw c.bytes.ensures at (c.in_err-exec.ensures.answers t size e w ready) in
-    AnswersLine-turn size w c.args.piece.now line _ _ _ _ _ some kept answers)
+    AnswersLine-turn size w _ c.args.piece.now line _ _ _ _ _ some kept answers)
 
 pub returns-clause-answers : goal.returns-clause-answers
 returns-clause-answers g c = λ t size e w ready line kept.
     let some : c.args.piece.now ≡ [] → ⊥ = λ none. let no : true ≡ false = sym (c.is_empty.ensures.1 none) ∙ c.if-is_empty.false in cc in
     let answers = rw c.bytes.ensures at (c.in_ok-exec.ensures.answers t size e w ready) in
-    AnswersLine-turn size w c.args.piece.now line _ _ _ _ _ some kept answers
+    AnswersLine-turn size w _ c.args.piece.now line _ _ _ _ _ some kept answers
 
 pub returns-in_err-exec-clause-cause : goal.returns-in_err-exec-clause-cause
 returns-in_err-exec-clause-cause g c =

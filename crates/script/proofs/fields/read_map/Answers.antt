@@ -1,10 +1,10 @@
 -- The map word starts with the number of fields, and each field of the list adds its bit.
 use Rattle.std.proofs.Common.{◌≡◌, ◌<◌, ◌*◌, ◌^◌, ◌%◌, ◌∷◌, Some, false, codes, bytes_eq, sym, ap, ◌∙◌, arith}
 use Rattle.std.proofs.lemmas.Nat.{one_shl}
-use Rattle.pud_defs.specs.Grammar.{number_of, in_range}
+use Rattle.pud_defs.specs.Grammar.{number_within}
+use Rattle.pud_defs.proofs.Commands.{number_within-bounds}
 use Rattle.script.specs.Pieces.{pieces_of}
 use Rattle.script.proofs.FieldLists.{map_behind, field_taken, pointers_listed, bit_fits}
-use Rattle.script.proofs.Ranges.{in_range-bounds}
 use Rattle.script.proofs.fields.read_map.Goals as goal
 
 pub loop-rest-init : goal.loop-rest-init
@@ -19,8 +19,8 @@ loop-rest-init c =
 
 pub loop-rest-preserved : goal.loop-rest-preserved
 loop-rest-preserved c =
-    let within : in_range c.loop-rest.least c.args.fields (λ x. Some x) (number_of c.cut.result.0.now) ≡ Some c.in_ok-field.field = sym c.read_within.ensures ∙ c.in_ok-field.was in
-    let bounds = in_range-bounds c.loop-rest.least c.args.fields (number_of c.cut.result.0.now) c.in_ok-field.field within in
+    let within : number_within c.loop-rest.least c.args.fields c.cut.result.0.now ≡ Some c.in_ok-field.field = sym c.read_within.ensures ∙ c.in_ok-field.was in
+    let bounds = number_within-bounds c.loop-rest.least c.args.fields c.cut.result.0.now c.in_ok-field.field within in
     let small : c.in_ok-field.field < 64 = omega (arith, bounds.0, bounds.1) in
     let bit = one_shl c.in_ok-field.field 64 small in
     let here : pieces_of 44 c.loop-rest.rest ≡ c.cut.result.0.now ∷ pieces_of 44 c.cut.result.1 = ap (pieces_of 44) c.in-Some.is ∙ c.cut.ensures.pieces in

@@ -1,6 +1,5 @@
-use Rattle.std.proofs.Common.{◌≡◌, ◌≤◌, option_map, ℕ, ◌+◌, ◌*◌, ◌^◌, ◌<◌, length, List, Option, Some, None, Bor}
-use Rattle.pud_defs.specs.Grammar.{pointers_of}
-use Rattle.pud_defs.specs.TypeMap.{map_word}
+use Rattle.std.proofs.Common.{◌≡◌, ◌≤◌, ℕ, ◌+◌, ◌*◌, ◌^◌, ◌<◌, length, List, Option, Some, None, Bor}
+use Rattle.pud_defs.specs.Grammar.{listed_map}
 use Rattle.script.specs.Pieces.{pieces_of}
 use Rattle.script.proofs.FieldLists.{map_behind}
 use Rattle.script.proofs.fields.read_map.Given as goal
@@ -12,7 +11,7 @@ left_of (Some bytes) = length bytes.now + 1
 
 abbrev pub invariant-loop-rest : goal.invariant-loop-rest
 invariant-loop-rest l = record {
-  same : map_behind l.fields l.least l.map (pieces_of 44 l.rest) ≡ option_map (map_word l.fields) (pointers_of l.fields l.fn.list);
+  same : map_behind l.fields l.least l.map (pieces_of 44 l.rest) ≡ listed_map l.fields l.fn.list;
   ascending : l.least ≤ l.fields;
   fits : l.map < l.fields * 2 ^ 32 + 2 ^ l.least;
 }

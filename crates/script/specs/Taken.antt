@@ -1,0 +1,8 @@
+-- An argument that is taken from the front.
+use Rattle.std.specs.Prelude.{◌≡◌, ℕ, List, Option, option_and_then}
+use Rattle.pud_defs.specs.Grammar.{Parser, taking}
+
+-- The front one of the arguments is of this kind and has this value, and the others are left; or there is no value, where it is not.
+-- So whatever takes such an argument first goes on with the value and what is left.
+abbrev pub IsTaken : (List ℕ → Option ℕ) → List (List ℕ) → Option ℕ → List (List ℕ) → Type 0
+IsTaken kind arguments value left = (next : ℕ → Parser) → taking kind next arguments ≡ option_and_then (λ v. next v left) value
