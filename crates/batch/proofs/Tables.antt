@@ -47,7 +47,7 @@ HasDurableTables-persisted F write a b p had =
 
 -- a batch brings no value to a word of the tables that it does not name
 unnamed : (es : List Entry) (k v : ℕ) → batch_write es k ≡ None → (k < DAEMON_LOG) ⊎ (TYPE_TABLE ≤ k) → ByBatch DAEMON_LOG es k v → ⊥
-unnamed es k v none outside (inl log) = let from = log.0 in let to = log.1 in ⊎_elim (λ low. absurd (omega arith)) (λ high. absurd (omega arith)) outside
+unnamed es k v none outside (inl log) = let from = log.low in let to = log.high in ⊎_elim (λ low. absurd (omega arith)) (λ high. absurd (omega arith)) outside
 unnamed es k v none outside (inr named) = absurd (let it : None ≡ Some named.value = sym none ∙ named.is in cc)
 
 -- the words of this batch were made durable
