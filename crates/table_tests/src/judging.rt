@@ -1,8 +1,8 @@
 //! A device is judged by its words, as its daemon log's replay makes them.
 use pm_mem::{MemHost, Plan};
 use pm_model::HostFault;
-use pud_defs::layout::DEVICE_MAGIC;
-use registry::is_sound;
+use pud_defs::layout::{DEVICE_MAGIC, MIN_FRAMES};
+use registry::sound_frames;
 use std::alloc::Global;
 use std::process::Abort;
 use test_device::{blank_device, failures, poke};
@@ -24,8 +24,9 @@ fn judge(rt: &impl Abort, alloc: Global, always: &[Row], rows: &[(&[Row], bool)]
     for (words, want) in rows {
         let mut host = blank(rt, alloc, Plan::none(alloc));
         assert!(rt; poke(&mut host, always) && poke(&mut host, words));
-        let sound = is_sound(&mut host).expect(rt, "no call fails");
-        assert!(rt; sound == *want, "{words:?}");
+        let frames = sound_frames(&mut host).expect(rt, "no call fails");
+        let found = frames.unwrap_or(0);
+        assert!(rt; found == if *want { MIN_FRAMES } else { 0 }, "{words:?}");
     }
 }
 
@@ -112,6 +113,6 @@ fn a_registered_log_is_closed(rt: HostRuntime) {
 fn a_failed_load_is_told(rt: HostRuntime) {
     let plan = failures(rt.alloc(), &[1]).expect(&rt, "memory");
     let mut host = blank(&rt, rt.alloc(), plan);
-    let failed = matches!(is_sound(&mut host), Err(HostFault::Failed));
+    let failed = matches!(sound_frames(&mut host), Err(HostFault::Failed));
     assert!(rt; failed);
 }
