@@ -20,7 +20,8 @@ use Rattle.pud_defs.specs.World.{StoredWorld, world_of}
 use Rattle.pud_defs.proofs.Replay.{overwritten-stays, overwritten-there, value_at-there, value_at-apart}
 use Rattle.pud_defs.proofs.Logged.{may_be_logged-table, is_allowed-there}
 use Rattle.pud_defs.proofs.Spaces.{are_legal_spaces-none, are_closed_logs-none}
-use Rattle.pud_defs.proofs.Worlds.{StandsFor, standing_of_world, standing_spaces, registry_world_standing}
+use Rattle.pud_defs.proofs.Parts.{StandsFor, standing_spaces}
+use Rattle.pud_defs.proofs.Worlds.{standing_of_world, registry_world_standing}
 use Rattle.batch.specs.Batches.{batch_entry, words_of, batch_write, committed}
 use Rattle.batch.specs.Worlds.{IsSettled, with_batch, MovesBy, IsBetween, Moves}
 use Rattle.batch.proofs.Writes.{batch_write-append, batch_write-single}

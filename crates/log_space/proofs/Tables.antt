@@ -6,7 +6,8 @@ use Rattle.pud_defs.specs.Image.{Image}
 use Rattle.pud_defs.specs.Spaces.{Owner, space_record_at, owner_by, owner_of, is_space, is_legal_space, has_closed_logs, are_legal_spaces, are_closed_logs, with_owner}
 use Rattle.pud_defs.specs.World.{StoredWorld}
 use Rattle.pud_defs.proofs.Spaces.{all_below-each, all_below-from, has_closed_logs-same}
-use Rattle.pud_defs.proofs.Worlds.{StandsFor, standing_spaces}
+use Rattle.pud_defs.proofs.Parts.{StandsFor, standing_spaces}
+use Rattle.pud_defs.proofs.Parts.Part.{Spaces}
 
 -- the second image is the first one but in the client's record
 pub record IsBeside (slot : ℕ) (i j : Image) : Type 0 where
@@ -77,5 +78,5 @@ module _ (slot : ℕ) (i j : Image) (beside : IsBeside slot i j) where
       standing_spaces size i j s h
       (λ k low. beside.same k (inl (omega arith)))
       (λ k high below. beside.same k (inr (omega arith)))
-      (are_legal_spaces-changed legal h.spaces)
-      (are_closed_logs-changed s.frames known closed h.logs)
+      (are_legal_spaces-changed legal (h.holds Spaces).spaces)
+      (are_closed_logs-changed s.frames known closed (h.holds Spaces).logs)

@@ -7,6 +7,7 @@ pub mod Replay
 pub mod Zeroes
 pub mod Spaces
 pub mod Logged
+pub mod Parts
 pub mod Worlds
 pub mod ClosedLogs
 pub mod Definitions

@@ -7,7 +7,7 @@ use Rattle.pud_defs.specs.Image.{Image}
 use Rattle.pud_defs.specs.Layout.{tables_end, log_at, frames_at}
 use Rattle.pud_defs.specs.Entries.{gate_used, is_legal_gate, entries_of}
 use Rattle.pud_defs.specs.Replay.{IsInLog}
-use Rattle.pud_defs.specs.Spaces.{Owner, owner, space_record_at, owner_by, all_below, is_space, is_legal_space, is_closed_range, is_closed_log, has_closed_logs, are_legal_spaces, are_closed_logs}
+use Rattle.pud_defs.specs.Spaces.{Owner, owner, space_record_at, owner_by, all_below, is_space, is_legal_space, is_closed_range, is_closed_log, has_closed_logs, are_legal_spaces, are_closed_logs, owner_of}
 use Rattle.pud_defs.proofs.Entries.{entries_of-same}
 
 pub all_below-same : (n : ℕ) (f g : ℕ → Bool) → ((k : ℕ) → k < n → f k ≡ g k) → all_below n f ≡ all_below n g
@@ -82,6 +82,14 @@ pub are_closed_logs-same : (i j : Image) (F : ℕ) → ((k : ℕ) → SPACE_TABL
 are_closed_logs-same i j F table logs =
     all_below-same CLIENTS (λ c. eqb (i (space_record_at c)) 0 || has_closed_logs i F c) (λ c. eqb (j (space_record_at c)) 0 || has_closed_logs j F c)
     (λ c below. ap₂ (λ (v : ℕ) (x : Bool). eqb v 0 || x) (table (space_record_at c) (omega arith) (omega arith)) (has_closed_logs-same i j F c below logs))
+
+-- images that agree on the table have the same owners
+pub owner_of-same : (i j : Image) (client : ℕ) → client < CLIENTS → ((k : ℕ) → SPACE_TABLE ≤ k → k < PUDDLE_TABLE → i k ≡ j k) → owner_of i client ≡ owner_of j client
+owner_of-same i j client known same =
+    let used = same (space_record_at client) (omega arith) (omega arith) in
+    let uid = same (space_record_at client + 1) (omega arith) (omega arith) in
+    let gid = same (space_record_at client + 2) (omega arith) (omega arith) in
+    λ p. owner_by (used p) (uid p) (gid p)
 
 -- a table in which no record is used is legal, and no log is registered
 pub are_legal_spaces-none : (image : Image) → ((c : ℕ) → c < CLIENTS → image (space_record_at c) ≡ 0) → are_legal_spaces image ≡ true

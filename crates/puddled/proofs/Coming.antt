@@ -20,7 +20,7 @@ use Rattle.pud_defs.specs.declared.machine.Command.TheVariants.{Client, Leave}
 use Rattle.pud_defs.specs.declared.machine.Refusal.TheVariants as refusals
 use Rattle.pud_defs.specs.Step.{refusal_of, after}
 use Rattle.pud_defs.proofs.Replay.{outside_log, settled_by-closed}
-use Rattle.pud_defs.proofs.Spaces.{used_is_some, has_closed_logs-same}
+use Rattle.pud_defs.proofs.Spaces.{used_is_some, owner_of-same, has_closed_logs-same}
 use Rattle.pud_defs.proofs.Steps.{client-taken, client-new, leave-absent, leave-present}
 use Rattle.batch.specs.Batches.{ByBatch}
 use Rattle.batch.specs.Tables.{HasDurableTables}
@@ -32,14 +32,6 @@ use Rattle.puddled.specs.Memory.{Memory}
 use Rattle.puddled.specs.Daemon.{IsReady, Applies, ClosesFirst}
 
 -- ---- what is read of the log-space table
-
--- images that agree on it have the same owners
-pub owner_of-same : (i j : Image) (client : ℕ) → client < CLIENTS → ((k : ℕ) → SPACE_TABLE ≤ k → k < PUDDLE_TABLE → i k ≡ j k) → owner_of i client ≡ owner_of j client
-owner_of-same i j client known same =
-    let used = same (space_record_at client) (omega arith) (omega arith) in
-    let uid = same (space_record_at client + 1) (omega arith) (omega arith) in
-    let gid = same (space_record_at client + 2) (omega arith) (omega arith) in
-    λ p. owner_by (used p) (uid p) (gid p)
 
 -- with the daemon log closed they are those of the image itself
 owners_closed : (image : Image) (client : ℕ) → client < CLIENTS → is_closed_gate (image DAEMON_LOG) ≡ true → owners image client ≡ owner_of image client

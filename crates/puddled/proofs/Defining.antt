@@ -20,7 +20,9 @@ use Rattle.pud_defs.specs.Entries.{is_closed_gate}
 use Rattle.pud_defs.specs.World.{World, world_of, closed}
 use Rattle.pud_defs.specs.Step.{is_other, refusal_of, after, unless_refused, world_by}
 use Rattle.pud_defs.proofs.TypeTable.{IsLowestFree, first_free_some}
-use Rattle.pud_defs.proofs.Worlds.{StandsFor, standing_beside, standing_closed, types_sorted, map_of_world, length_of_world, full_of_world, room_of_world}
+use Rattle.pud_defs.proofs.Spaces.{owner_of-same}
+use Rattle.pud_defs.proofs.Parts.{StandsFor}
+use Rattle.pud_defs.proofs.Worlds.{standing_beside, standing_closed, types_sorted, map_of_world, length_of_world, full_of_world, room_of_world}
 use Rattle.pud_defs.proofs.Definitions.{world_of-map_written, world_of-defined}
 use Rattle.pud_defs.proofs.Steps.{refusal_of-define, define-same, define-clash, define-full, define-new, after-same}
 use Rattle.type_maps.specs.Define.{table_refusal, place_for, record_write, half_defined, defined, Defines}
@@ -28,7 +30,6 @@ use Rattle.batch.proofs.Tables.{reads_kept, HasDurableTables-persisted}
 use Rattle.puddled.specs.Memory.{Memory}
 use Rattle.puddled.specs.Daemon.{KeepsRest, IsReady, Applies}
 use Rattle.puddled.proofs.Applying.{Applies-still}
-use Rattle.puddled.proofs.Coming.{owner_of-same}
 
 abbrev table_refusal_by : Option ℕ → ℕ → ℕ → Option Refusal
 table_refusal_by found count map = cond (is_other map found) (Some Clash) (cond (is_none found && leb TYPE_RECORDS count) (Some Full) None)

@@ -23,6 +23,7 @@ use Rattle.pud_defs.specs.Registry.{frames_of, is_allowed, are_allowed, has_lega
 use Rattle.pud_defs.specs.World.{StoredWorld, registry_world, world_of}
 use Rattle.pud_defs.proofs.Replay.{outside_log, settled_by-closed}
 use Rattle.pud_defs.proofs.Logged.{legal_entries, allowed_in_range, has_legal_log-of, new_value-unlogged}
+use Rattle.pud_defs.proofs.Parts.Part.{Header}
 use Rattle.pud_defs.proofs.Worlds.{standing_of_world, legal_log_of_world, legal_log_closed, frames_of_world, world_of_legal}
 use Rattle.log_replay.specs.Replaying.{IsReplayable, ByLog, SettlesSame, SettlesLog}
 use Rattle.batch.specs.Worlds.{IsSettled}
@@ -38,7 +39,7 @@ module _ (size : ℕ) (s : StoredWorld) (a : State) (rested : IsRested a.now.wor
   frames_fit : device_words (frames_of (reads a.now.words)) ≤ size
   frames_fit =
       let frames : frames_of (reads a.now.words) ≡ s.frames = frames_of_world size (reads a.now.words) s world in
-      let room = (standing_of_world size (reads a.now.words) s world).room in
+      let room = ((standing_of_world size (reads a.now.words) s world).holds Header).room in
       omega arith
 
   pub entries : List Entry
@@ -148,7 +149,7 @@ reads_so size s b w settled low = settled_by-closed DAEMON_LOG (reads b.now.word
 
 pub machine_read : (size : ℕ) (s : StoredWorld) (b : State) → IsSettled size s b.now.words → reads b.now.words MACHINE_WORD ≡ s.machine
 machine_read size s b settled =
-    sym (reads_so size s b MACHINE_WORD settled (omega arith)) ∙ (standing_of_world size (reads b.now.words) s (settled.stands (reads b.now.words) (Picks-reads b.now.words))).machine
+    sym (reads_so size s b MACHINE_WORD settled (omega arith)) ∙ ((standing_of_world size (reads b.now.words) s (settled.stands (reads b.now.words) (Picks-reads b.now.words))).holds Header).machine
 
 -- behind a call that changed nothing
 pub AppliesLog-behind : (size : ℕ) (s : StoredWorld) (fault : Option HostFault) (a b c : State) → b ≡ a

@@ -16,6 +16,7 @@ use Rattle.pud_defs.specs.Registry as registry
 use Rattle.pud_defs.proofs.Entries.{words_from-length}
 use Rattle.pud_defs.proofs.Logged.{settled_by-unlogged, settled_by-client_logs}
 use Rattle.pud_defs.proofs.Spaces.{has_closed_logs-same}
+use Rattle.pud_defs.proofs.Parts.Part.{Header}
 use Rattle.pud_defs.proofs.Worlds.{standing_of_world, world_of-sound}
 use Rattle.log_entry.specs.Ranges.{HasRange}
 use Rattle.registry.specs.declared.overlay.Overlay.{Overlay}
@@ -111,8 +112,8 @@ pub unsound_small : (size : ℕ) (image : Image) → size < device_words MIN_FRA
 unsound_small size image small = elim (cases_Bool (is_sound size image)) [
   | inl sound ↦
       let h = standing_of_world size image (stored_by (settled_by DAEMON_LOG image)) (world_of-sound size image sound) in
-      let least = h.enough_frames in
-      let room = h.room in
+      let least = (h.holds Header).enough_frames in
+      let room = (h.holds Header).room in
       absurd (omega arith)
   | inr unsound ↦ unsound
 ]
