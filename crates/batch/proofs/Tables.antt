@@ -1,15 +1,17 @@
--- Durable tables stay durable, by what the calls since then wrote.
+-- Durable tables stay durable, by what the calls since then wrote; and what is then read.
 use Rattle.std.proofs.Common.{◌≡◌, ◌⊎◌, inl, inr, ⊎_elim, ℕ, ◌<◌, ◌≤◌, List, Option, Some, None, refl, sym, ◌∙◌, arith}
 use Rattle.pm_model.specs.declared.host.HostFault.{HostFault}
 use Rattle.pm_model.specs.declared.host.HostFault.TheVariants.{Cut}
 use Rattle.pm_model.specs.Words.{Words, HasOnly, IsRested, reads}
 use Rattle.pm_model.specs.Moments.{State}
 use Rattle.pm_model.specs.Changes.{Footprint, Write, Changes, written, Persists}
-use Rattle.pm_model.proofs.Words.{HasOnly-own}
+use Rattle.pm_model.proofs.Words.{HasOnly-own, HasOnly-newest}
 use Rattle.pm_model.proofs.Changes.{HasOnly-kept}
 use Rattle.pud_defs.specs.declared.layout.TheConstants.{DAEMON_LOG, TYPE_TABLE}
 use Rattle.pud_defs.specs.Layout.{tables_end}
 use Rattle.pud_defs.specs.Entries.{Entry}
+use Rattle.pud_defs.specs.Replay.{overwritten}
+use Rattle.pud_defs.proofs.Replay.{overwritten-there, overwritten-stays}
 use Rattle.batch.specs.Batches.{batch_write, ByBatch}
 use Rattle.batch.specs.Tables.{HasDurableTables}
 
@@ -69,3 +71,13 @@ HasDurableTables-committed F es fault a b c done had =
 -- a word to which no value may come reads as before
 pub reads_kept : (may : Footprint) (a b : State) (k : ℕ) → Changes may None a b → ((v : ℕ) → may k v → ⊥) → reads b.now.words k ≡ reads a.now.words k
 reads_kept may a b k c none = (c.keeps (λ cut. let no : None ≡ Some Cut = cut in cc) k none).newest
+
+read_word : (es : List Entry) (a b : State) (k : ℕ) (o : Option ℕ) → batch_write es k ≡ o → (k < DAEMON_LOG) ⊎ (TYPE_TABLE ≤ k) → Changes (ByBatch DAEMON_LOG es) None a b → IsCommitted es b
+    → reads b.now.words k ≡ overwritten (batch_write es) (reads a.now.words) k
+read_word es a b k None none outside c done = reads_kept (ByBatch DAEMON_LOG es) a b k c (λ v may. unnamed es k v none outside may) ∙ sym (overwritten-stays (batch_write es) (reads a.now.words) k none)
+read_word es a b k (Some v) is outside c done = HasOnly-newest (b.now.words k) v (done k v is) ∙ sym (overwritten-there (batch_write es) (reads a.now.words) k v is)
+
+-- behind a batch the device reads the batch's words, and the others as before
+pub reads_committed : (es : List Entry) (a b : State) (k : ℕ) → (k < DAEMON_LOG) ⊎ (TYPE_TABLE ≤ k) → Changes (ByBatch DAEMON_LOG es) None a b → IsCommitted es b
+    → reads b.now.words k ≡ overwritten (batch_write es) (reads a.now.words) k
+reads_committed es a b k outside c done = read_word es a b k (batch_write es k) refl outside c done

@@ -1,11 +1,11 @@
 -- A client's record written by one batch: each image left stands for the same world, and its table has the record as it was or changed.
-use Rattle.std.proofs.Common.{◌≡◌, ◌⊎◌, inl, inr, ℕ, ◌+◌, ◌<◌, ◌≤◌, true, ◌&&◌, ◌||◌, leb, eqb, List, [], ◌∷◌, length, Option, Some, None, refl, ap, ◌∙◌, arith, eq-eqb}
+use Rattle.std.proofs.Common.{◌≡◌, ◌⊎◌, inl, inr, ℕ, ◌+◌, ◌<◌, ◌≤◌, true, ◌&&◌, ◌||◌, leb, eqb, List, [], ◌∷◌, length, Option, Some, None, refl, ap, subst, ◌∙◌, arith, eq-eqb}
 use Rattle.std.specs.Prelude.{slice_get}
 use Rattle.std.proofs.lemmas.Bool.{and_from, or_left, or_right, le-leb}
 use Rattle.pm_model.specs.declared.host.HostFault.{HostFault}
-use Rattle.pm_model.specs.Words.{Words, Picks}
+use Rattle.pm_model.specs.Words.{Words, Picks, reads}
 use Rattle.pm_model.specs.Moments.{State}
-use Rattle.pm_model.specs.Changes.{Silently}
+use Rattle.pm_model.specs.Changes.{Changes, Silently}
 use Rattle.pm_model.proofs.Leaves.{Leaves-weaker}
 use Rattle.pud_defs.specs.declared.layout.TheConstants.{DAEMON_LOG, CLIENTS, SPACE_RECORD_WORDS, MAX_OWNER_ID}
 use Rattle.pud_defs.specs.Image.{Image}
@@ -16,12 +16,13 @@ use Rattle.pud_defs.specs.Spaces.{Owner, space_record_at, owner_by, owner_of, is
 use Rattle.pud_defs.specs.World.{StoredWorld}
 use Rattle.pud_defs.proofs.Replay.{settled_by-closed, outside_log, overwritten-stays, overwritten-there, value_at-there, value_at-apart}
 use Rattle.pud_defs.proofs.Logged.{may_be_logged-table, is_allowed-there}
-use Rattle.pud_defs.proofs.Spaces.{has_closed_logs-same}
+use Rattle.pud_defs.proofs.Spaces.{owner_of-same, has_closed_logs-same}
 use Rattle.pud_defs.proofs.Worlds.{standing_of_world, registry_world_standing}
-use Rattle.batch.specs.Batches.{batch_entry, batch_write, committed}
+use Rattle.batch.specs.Batches.{batch_entry, batch_write, committed, ByBatch}
 use Rattle.batch.specs.Worlds.{IsSettled, with_batch, MovesBy, IsBetween, Moves}
 use Rattle.batch.proofs.Writes.{batch_write-single}
 use Rattle.batch.proofs.Worlds.{stands_still}
+use Rattle.batch.proofs.Tables.{reads_committed}
 use Rattle.log_space.specs.Records.{record_batch, registration, unregistration, HasClosedLogs, MayHaveOwner, ChangesOwner, Registers, Unregisters}
 use Rattle.log_space.proofs.Tables.{IsBeside, owner_of-changed, standing_changed, has_closed_logs-changed}
 
@@ -77,6 +78,10 @@ module _ (size : ℕ) (s : StoredWorld) (slot : ℕ) (now : Option Owner) (vals 
     before = b.batched.before;
     picked = b.batched.picked;
     outside = b.batched.outside;
+    behind = λ k high.
+        let known = g.known in
+        let few = g.few in
+        b.batched.outside k (outside_log DAEMON_LOG k (inr (omega arith))) (writes_elsewhere slot k vals (inr (omega arith)));
     table = elim b.stands [
       | inl same ↦ inl (ap owner_of same.0)
       | inr all ↦ inr (ap owner_of all.0 ∙ g.gives (settled_by DAEMON_LOG b.batched.before))
@@ -95,6 +100,11 @@ ChangesOwner-moves size s slot now vals fault a b g m = record {
       let h = m.done none image picked in
       record { before = h.before; picked = h.picked; outside = h.outside; table = ap owner_of h.settled ∙ g.gives (settled_by DAEMON_LOG h.before) };
   durable = m.commits.durable;
+  read = λ none client known.
+      let changes = subst (λ (f : Option HostFault). Changes (ByBatch DAEMON_LOG (record_batch slot vals)) f a b) none m.commits.changes in
+      owner_of-same (reads b.now.words) (overwritten (batch_write (record_batch slot vals)) (reads a.now.words)) client known
+      (λ k low high. reads_committed (record_batch slot vals) a b k (inr (omega arith)) changes (m.commits.durable none))
+      ∙ ap (λ (table : ℕ → Option Owner). table client) (g.gives (reads a.now.words));
 }
 
 -- ---- a registration

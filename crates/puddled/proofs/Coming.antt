@@ -1,46 +1,34 @@
 -- Clients that come and go: their logs closed, and then their record of the log-space table changed.
-use Rattle.std.proofs.Common.{◌≡◌, ◌⊎◌, inl, inr, ⊎_elim, ℕ, ◌+◌, ◌<◌, ◌≤◌, Bool, true, false, eqb, cond, List, [], ◌∷◌, Option, Some, None, refl, sym, ap, subst, ◌∙◌, arith}
+use Rattle.std.proofs.Common.{◌≡◌, ◌⊎◌, inl, inr, ⊎_elim, ℕ, ◌<◌, Bool, true, false, eqb, cond, List, [], ◌∷◌, Option, Some, None, refl, sym, ap, subst, ◌∙◌, arith}
 use Rattle.std.specs.Prelude.{is_some}
 use Rattle.std.proofs.lemmas.List.{append-nil}
 use Rattle.std.proofs.lemmas.Bool.{eqb-true}
 use Rattle.pm_model.specs.declared.host.HostFault.{HostFault}
-use Rattle.pm_model.specs.Words.{Words, Picks, HasOnly, reads}
+use Rattle.pm_model.specs.Words.{Words, HasOnly, reads}
 use Rattle.pm_model.specs.Moments.{State}
 use Rattle.pm_model.specs.Changes.{Silently}
-use Rattle.pm_model.proofs.Words.{Picks-reads}
 use Rattle.pm_model.proofs.Changes.{Changes-said}
 use Rattle.pm_model.proofs.Leaves.{Leaves-changes, Leaves-weaker, Leaves-then, Leaves-still}
-use Rattle.pud_defs.specs.declared.layout.TheConstants.{DAEMON_LOG, CLIENTS, SPACE_TABLE, PUDDLE_TABLE}
+use Rattle.pud_defs.specs.declared.layout.TheConstants.{DAEMON_LOG, CLIENTS}
 use Rattle.pud_defs.specs.Layout.{tables_end}
 use Rattle.pud_defs.specs.Image.{Image}
-use Rattle.pud_defs.specs.Entries.{Entry, is_closed_gate}
+use Rattle.pud_defs.specs.Entries.{Entry}
 use Rattle.pud_defs.specs.Spaces.{Owner, space_record_at, owner_by, owner_of, has_closed_logs, owner, with_owner}
 use Rattle.pud_defs.specs.World.{World, world_of, closed}
 use Rattle.pud_defs.specs.declared.machine.Command.TheVariants.{Client, Leave}
 use Rattle.pud_defs.specs.declared.machine.Refusal.TheVariants as refusals
 use Rattle.pud_defs.specs.Step.{refusal_of, after}
-use Rattle.pud_defs.proofs.Replay.{outside_log, settled_by-closed}
 use Rattle.pud_defs.proofs.Spaces.{used_is_some, owner_of-same, has_closed_logs-same}
 use Rattle.pud_defs.proofs.Steps.{client-taken, client-new, leave-absent, leave-present}
 use Rattle.batch.specs.Batches.{ByBatch}
 use Rattle.batch.specs.Tables.{HasDurableTables}
 use Rattle.batch.proofs.Tables.{reads_kept, HasDurableTables-kept, HasDurableTables-committed}
-use Rattle.log_space.specs.Records.{owners, record_batch, registration, unregistration, HasClosedLogs, MayHaveOwner, ChangesOwner, Registers, Unregisters}
+use Rattle.log_space.specs.Records.{record_batch, registration, unregistration, HasClosedLogs, MayHaveOwner, ChangesOwner, Registers, Unregisters}
 use Rattle.log_space.specs.Closed.{ByClosing, Closes}
-use Rattle.log_space.proofs.Writing.{writes_elsewhere}
 use Rattle.puddled.specs.Memory.{Memory}
 use Rattle.puddled.specs.Daemon.{IsReady, Applies, ClosesFirst}
 
 -- ---- what is read of the log-space table
-
--- with the daemon log closed they are those of the image itself
-owners_closed : (image : Image) (client : ℕ) → client < CLIENTS → is_closed_gate (image DAEMON_LOG) ≡ true → owners image client ≡ owner_of image client
-owners_closed image client known gate = owner_of-same _ image client known (λ k low high. settled_by-closed DAEMON_LOG image k gate (outside_log DAEMON_LOG k (inr (omega arith))))
-
--- durable tables have them in each image
-owner_of-durable : (F : ℕ) (words : Words) (image : Image) (client : ℕ) → client < CLIENTS → HasDurableTables F words → Picks words image → owner_of image client ≡ owner_of (reads words) client
-owner_of-durable F words image client known tables picked =
-    owner_of-same image (reads words) client known (λ k low high. (tables.each k (inr (omega arith)) (omega arith)).each (image k) (picked.each k))
 
 -- the table that is read tells whether the client is present
 pub presence_read : (size : ℕ) (w : World) (memory : Memory) (s : State) (client : ℕ) (registered : Bool) → client < CLIENTS → IsReady size w memory s → registered ≡ is_some (owner_of (reads s.now.words) client)
@@ -91,23 +79,11 @@ module _ (size : ℕ) (w : World) (memory : Memory) (slot : ℕ) (known : slot <
         (λ k from to. reads_kept (ByClosing w.stored.frames slot) a b k p.changes (λ v. no_gate w.stored.frames slot k v (omega arith)))
         ∙ ready.clients client low
 
-    -- and then the one record is changed
-    clients_changed : (q : ChangesOwner size (closed w) slot now es None b c) → (client : ℕ) → client < CLIENTS → owner_of (reads c.now.words) client ≡ with_owner slot now w.clients client
-    clients_changed q client low =
-        let h = q.done refl (reads c.now.words) (Picks-reads c.now.words) in
-        let was : owners h.before client ≡ w.clients client =
-        owners_closed h.before client low ((p.settled refl).closed (h.before DAEMON_LOG) (h.picked.each DAEMON_LOG))
-        ∙ owner_of-durable w.stored.frames b.now.words h.before client low tables_closed h.picked
-        ∙ clients_closed client low in
-        sym (owners_closed (reads c.now.words) client low ((q.settled refl).closed (reads c.now.words DAEMON_LOG) (inl refl)))
-        ∙ ap (λ (table : ℕ → Option Owner). table client) h.table
-        ∙ ap (cond (eqb client slot) now) was
-
     ready_changed : (q : ChangesOwner size (closed w) slot now es None b c) → IsReady size after_this memory c
     ready_changed q = record {
       settled = q.settled refl;
       tables = HasDurableTables-committed w.stored.frames es None b c q.changes (q.durable refl) tables_closed;
-      clients = clients_changed q;
+      clients = λ client low. q.read refl client low ∙ ap (cond (eqb client slot) now) (clients_closed client low);
       frames = ready.frames;
       shelf = q.changes.shelf ∙ p.changes.shelf ∙ ready.shelf;
     }
@@ -168,7 +144,7 @@ module _ (size : ℕ) (w : World) (memory : Memory) (slot : ℕ) (known : slot <
         → has_closed_logs image w.stored.frames slot ≡ true
     closed_outside words image closed_before m =
         has_closed_logs-same image m.before w.stored.frames slot known
-        (λ k from to. m.outside k (outside_log DAEMON_LOG k (inr (omega arith))) (writes_elsewhere slot k (0 ∷ []) (inr (omega arith))))
+        (λ k from to. m.behind k (omega arith))
         ∙ closed_before.each m.before m.picked
 
     -- and then the record was to be freed

@@ -237,6 +237,7 @@ fn say_reply<H: Host>(h: &mut H, reply: Reply) -> Result<(), HostFault>
 }
 
 impl Daemon {
+    ghost use Rattle.pud_defs.specs.declared.layout.TheConstants.{MIN_FRAMES, MAX_FRAMES};
     ghost use Rattle.puddled.specs.Daemon.{Starts, Answers};
 
     /// Starts on the device: applies what its daemon log names, empties the log-space table, and says the start text.
@@ -260,14 +261,23 @@ impl Daemon {
         Ok(daemon)
     }
 
+    /// How many frames the device has, 4 to 1,024, as the start found it.
+    pub fn frames(&self) -> u32
+        ensures frames { result ≡ self.now.frames }
+        ensures some { MIN_FRAMES ≤ result }
+        ensures no_more { result ≤ MAX_FRAMES }
+    {
+        self.frames
+    }
+
     /// Carries out one line, given without its newline, and says the reply where `aloud`. The answer is whether the
     /// reply begins with `ok`.
     ///
     /// Where power is lost in the line the daemon starts again within the call, and the reply is `cut`: the line was
     /// done wholly or not at all, and no client is present. At a line `cut N` power is lost at once, the daemon starts again,
-    /// and the reply is `ok`. The device is the one that this daemon started on. `Failed` comes where a call of the host
-    /// failed, `CutInStart` where power was lost in that restart too, `NotSound` where the restart read a registry that is
-    /// not sound; then no further line is to be given.
+    /// and the reply is `ok`. The device is the one that this daemon started on: it has the words that `frames` need.
+    /// `Failed` comes where a call of the host failed, `CutInStart` where power was lost in that restart too, `NotSound`
+    /// where the restart read a registry that is not sound; then no further line is to be given.
     pub fn exec<H: Host>(
         &mut self,
         _alloc: Global,

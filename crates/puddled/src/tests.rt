@@ -102,7 +102,7 @@ fn exec(
     line: &[u8],
     aloud: bool,
 ) -> Result<bool, RunFault> {
-    assert!(rt; device_words(MIN_FRAMES) <= host.words());
+    assert!(rt; device_words(daemon.frames()) <= host.words());
     daemon.exec(alloc, host, line, aloud)
 }
 
