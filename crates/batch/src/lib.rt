@@ -133,6 +133,3 @@ impl Batch {
         commit_by(h, DAEMON_LOG, &self.words[..self.used as usize])
     }
 }
-
-#[cfg(test)]
-mod tests;

@@ -22,7 +22,7 @@ use pm_persist::{persist_word, write_range};
 use pud_defs::log_words::{CLOSED_GATE, REDO_ORDER, UNDO_ORDER};
 
 /// Which places the addresses of a log's entries are.
-#[derive(Clone, Copy, Debug, PartialEq, Eq)]
+#[derive(Clone, Copy)]
 pub enum Target {
     /// Device words, by their numbers: the daemon log's.
     Words,
@@ -177,6 +177,3 @@ pub fn settle_log<H: Host>(h: &mut H, log_at: u32) -> Result<(), HostFault>
     replay_range(h, log_at, Target::Words)?;
     persist_word(h, log_at, CLOSED_GATE)
 }
-
-#[cfg(test)]
-mod tests;
