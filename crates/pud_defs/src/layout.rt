@@ -139,33 +139,3 @@ pub const fn device_words(frames: u32) -> u32
 {
     frames_at(frames) + FRAME_WORDS * frames
 }
-
-#[cfg(test)]
-mod tests {
-    use super::*;
-
-    #[test]
-    fn magic_is_its_eight_letters(rt: HostRuntime) {
-        assert_eq!(rt; DEVICE_MAGIC.to_le_bytes(), *b"PUDDEV01");
-    }
-
-    #[test]
-    fn smallest_and_largest_device(rt: HostRuntime) {
-        for (frames, tables, first_frame, words) in [
-            (4, 1_568, 34_336, 42_528),
-            (1_024, 9_728, 42_496, 2_139_648),
-        ] {
-            assert_eq!(rt; tables_end(frames), tables, "tables of {frames}");
-            assert_eq!(rt; frames_at(frames), first_frame, "frames of {frames}");
-            assert_eq!(rt; device_words(frames), words, "words of {frames}");
-        }
-    }
-
-    #[test]
-    fn first_and_last_log_of_a_client(rt: HostRuntime) {
-        assert_eq!(rt; log_at(4, 0, 0), 1_568);
-        assert_eq!(rt; log_at(4, 1, 0), 5_664);
-        assert_eq!(rt; log_at(4, 7, 3), 33_312);
-        assert_eq!(rt; log_at(4, 7, 3) + LOG_WORDS, frames_at(4));
-    }
-}

@@ -32,25 +32,3 @@ pub fn print_reply(reply: Reply, out: &mut [u8; 32]) -> usize
     out[..text.len()].copy_from_slice(text);
     text.len()
 }
-
-#[cfg(test)]
-mod tests {
-    use super::*;
-
-    #[test]
-    fn texts_of_replies(rt: HostRuntime) {
-        for (reply, text) in [
-            (Reply::Ok, "ok\n"),
-            (Reply::No(Refusal::Bad), "no bad\n"),
-            (Reply::No(Refusal::Client), "no client\n"),
-            (Reply::No(Refusal::Taken), "no taken\n"),
-            (Reply::No(Refusal::Clash), "no clash\n"),
-            (Reply::No(Refusal::Full), "no full\n"),
-            (Reply::Cut, "cut\n"),
-        ] {
-            let mut out = [0; 32];
-            let length = print_reply(reply, &mut out);
-            assert_eq!(rt; &out[..length], text.as_bytes());
-        }
-    }
-}
