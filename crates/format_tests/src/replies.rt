@@ -17,6 +17,10 @@ fn texts_of_replies(rt: HostRuntime) {
         &rt,
         &[
             (Reply::Ok, "ok\n"),
+            (Reply::Num(0), "ok 0\n"),
+            (Reply::Num(u64::MAX), "ok 18446744073709551615\n"),
+            (Reply::Ref(0), "ok @0\n"),
+            (Reply::Ref(u64::MAX), "ok @18446744073709551615\n"),
             (Reply::No(Refusal::Bad), "no bad\n"),
             (Reply::No(Refusal::Client), "no client\n"),
             (Reply::No(Refusal::Taken), "no taken\n"),

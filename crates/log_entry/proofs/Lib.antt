@@ -1,2 +1,2 @@
 pub mod Readings
-pub mod WellFormed
+pub mod Left

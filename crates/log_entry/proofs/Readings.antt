@@ -6,7 +6,7 @@ use Rattle.pud_defs.specs.declared.layout.TheConstants.{LOG_HEADER_WORDS, LOG_EN
 use Rattle.pud_defs.specs.Image.{Image}
 use Rattle.pud_defs.specs.Entries.{gate_used, entry_n, entry_seq, entry_order, is_legal_entry_word, entry_by, first_entry, words_from}
 use Rattle.pud_defs.proofs.Entries.{words_from-length, words_from-step, words_from-take, first_entry-few}
-use Rattle.log_entry.specs.Reading.{Reading, entry_next, entry_from}
+use Rattle.log_entry.specs.Reading.{Reading, words_left, entry_next, entry_from}
 
 -- the first two of so many words
 two_words : (image : Image) (at n : ℕ) → 2 ≤ n → words_from image at n ≡ image at ∷ image (at + 1) ∷ words_from image (at + 2) (n - 2)
@@ -24,7 +24,7 @@ next-too_many image r h = cond-false _ _ _ (lt-leb (gate_used (image r.log_at)) 
 
 -- where it does not, the words that are left decide
 pub next-by : (image : Image) (r : Reading) → gate_used (image r.log_at) ≤ LOG_ENTRY_WORDS
-    → entry_next image r ≡ first_entry (words_from image (r.log_at + LOG_HEADER_WORDS + r.passed) (gate_used (image r.log_at) - r.passed))
+    → entry_next image r ≡ first_entry (words_left image r)
 next-by image r h = cond-true _ _ _ (le-leb (gate_used (image r.log_at)) LOG_ENTRY_WORDS h)
 
 -- not even two words are left

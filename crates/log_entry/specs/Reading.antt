@@ -1,8 +1,8 @@
--- How far a log was read, and which entry comes next.
-use Rattle.std.specs.Prelude.{◌≡◌, ℕ, ◌+◌, ◌-◌, ◌≤◌, nat_le, cond, Option, Some, None}
+-- How far a log was read, which entry comes next, and what is left.
+use Rattle.std.specs.Prelude.{◌≡◌, ℕ, ◌+◌, ◌-◌, ◌≤◌, ◌&&◌, nat_le, cond, List, [], ◌∷◌, Option, Some, None, option_map}
 use Rattle.pud_defs.specs.declared.layout.TheConstants.{LOG_HEADER_WORDS, LOG_ENTRY_WORDS, ENTRY_HEADER_WORDS, MAX_ENTRY_VALUES}
 use Rattle.pud_defs.specs.Image.{Image}
-use Rattle.pud_defs.specs.Entries.{Entry, gate_used, words_from, first_entry}
+use Rattle.pud_defs.specs.Entries.{Entry, gate_used, is_legal_gate, words_from, first_entry, entries_in}
 use Rattle.log_entry.specs.declared.Entry.{Entry as Found}
 
 -- the word of the log's gate, and how many entry words were read
@@ -10,10 +10,17 @@ pub record Reading : Type 0 where
   pub log_at : ℕ
   pub passed : ℕ
 
+-- the entry words that the gate counts and that were not read
+abbrev pub words_left : Image → Reading → List ℕ
+words_left image r = words_from image (r.log_at + LOG_HEADER_WORDS + r.passed) (gate_used (image r.log_at) - r.passed)
+
 -- the entry that comes next: none where the gate counts more words than a log has
 abbrev pub entry_next : Image → Reading → Option Entry
-entry_next image r =
-    cond (nat_le (gate_used (image r.log_at)) LOG_ENTRY_WORDS) (first_entry (words_from image (r.log_at + LOG_HEADER_WORDS + r.passed) (gate_used (image r.log_at) - r.passed))) None
+entry_next image r = cond (nat_le (gate_used (image r.log_at)) LOG_ENTRY_WORDS) (first_entry (words_left image r)) None
+
+-- the entries that are left to read, where the gate is legal and the words left spell entries wholly
+unfoldable pub entries_left : Image → Reading → Option (List Entry)
+entries_left image r = cond (is_legal_gate (image r.log_at)) (entries_in 0 (words_left image r)) None
 
 -- an entry that was found on an image, with its values
 abbrev pub entry_from : Image → Found → Entry
@@ -32,3 +39,9 @@ pub record PassesOne (e : Found) (old new : Reading) : Type 0 where
 abbrev pub Passes : Option Found → Reading → Reading → Type 0
 Passes None old new = new ≡ old
 Passes (Some e) old new = PassesOne e old new
+
+-- What was left before a reader found this and stands where it stands now: the entry found, and what is left now. Where it found none, no entry
+-- was left, if all the words that count were read; else they spell none wholly.
+abbrev pub left_before : Image → Option Found → Reading → Option (List Entry)
+left_before image None now = cond (is_legal_gate (image now.log_at) && nat_le (gate_used (image now.log_at)) now.passed) (Some []) None
+left_before image (Some e) now = option_map (λ es. entry_from image e ∷ es) (entries_left image now)

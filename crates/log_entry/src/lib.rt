@@ -9,15 +9,19 @@ ghost use Rattle.std.specs.Prelude.{◌≡◌, ◌≢◌, ◌+◌, ◌<◌, ◌�
 ghost use Rattle.pm_model.specs.Words.{reads};
 ghost use Rattle.pm_model.specs.Counts.{after_fault, fault_of};
 ghost use Rattle.pud_defs.specs.declared.layout.TheConstants.{LOG_WORDS, LOG_ENTRY_WORDS, ENTRY_HEADER_WORDS, MAX_ENTRY_VALUES};
-ghost use Rattle.pud_defs.specs.Entries.{entry_n, is_legal_entry_word, spelled, entries_of};
-ghost use Rattle.log_entry.specs.Reading.{Reading, entry_next, entry_from, Passes};
+ghost use Rattle.pud_defs.specs.Image.{Image};
+ghost use Rattle.pud_defs.specs.Entries.{entry_n, is_legal_entry_word, spelled, Log, log_of, entries_of};
+ghost use Rattle.pud_defs.specs.Replay.{is_in_range};
+ghost use Rattle.log_entry.specs.Reading.{Reading, entry_next, entries_left, entry_from, Passes, left_before};
+ghost use Rattle.log_entry.specs.Ranges.{HasRange};
 
 use pm_model::{Host, HostFault};
 use pud_defs::layout::{
     ENTRY_HEADER_WORDS, LOG_ENTRY_WORDS, LOG_HEADER_WORDS, LOG_WORDS, MAX_ENTRY_VALUES,
 };
 use pud_defs::log_words::{
-    entry_n, entry_order, entry_seq, entry_word, gate_used, is_legal_entry_word, is_legal_gate,
+    entry_n, entry_order, entry_seq, entry_word, gate_hi, gate_lo, gate_used, is_legal_entry_word,
+    is_legal_gate,
 };
 use std::marker::Model;
 
@@ -83,13 +87,16 @@ impl EntryReader {
     }
 
     /// The next entry. None comes exactly where the gate counts more words than a log has, or all that it counts are
-    /// read, or they spell no entry from here on.
+    /// read, or they spell no entry from here on. Of a well formed log the entries that were left are the one that was
+    /// found and those left now; or none is found, and none was left.
     ///
     /// The log lies in the device. The only errors are the host's own; after one the reader is where it was.
     pub fn next<H: Host>(&mut self, h: &mut H) -> Result<Option<Entry>, HostFault>
         requires { self.old.log_at + LOG_WORDS ≤ (H.counts h.old).size }
         ensures next { H.tells → IfOk result (λ found. option_map (entry_from (reads (H.state h.old).now.words)) found
             ≡ entry_next (reads (H.state h.old).now.words) self.old) }
+        ensures left { H.tells → (image : Image) → reads (H.state h.old).now.words ≡ image
+            → IfOk result (λ found. entries_left image self.old ≡ left_before image found self.new) }
         ensures passes { IfOk result (λ found. Passes found self.old self.new) }
         ensures failed { OnErr result (self.new ≡ self.old) }
         ensures stays { H.tells → H.state h.new ≡ H.state h.old }
@@ -139,7 +146,49 @@ pub fn well_formed<H: Host>(h: &mut H, log_at: u32) -> Result<bool, HostFault>
     while let Some(entry) = reader.next(h)? {
         passed += ENTRY_HEADER_WORDS + entry.n;
     }
-    Ok(passed == gate_used(gate))
+    Ok(gate_used(gate) <= passed)
+}
+
+/// The range of a log, by which its entries count.
+#[derive(Clone, Copy)]
+pub struct LogRange {
+    /// Entries count from the sequence number behind this one on.
+    pub lo: u32,
+    /// Entries count up to the sequence number before this one.
+    pub hi: u32,
+}
+
+impl LogRange {
+    /// The range of the log whose gate is word `log_at`.
+    ///
+    /// The gate lies in the device. The only errors are the host's own.
+    pub fn of<H: Host>(h: &mut H, log_at: u32) -> Result<LogRange, HostFault>
+        requires { log_at < (H.counts h.old).size }
+        ensures range { H.tells → (image : Image) → reads (H.state h.old).now.words ≡ image → IfOk result (λ range. HasRange range (log_of image log_at)) }
+        ensures stays { H.tells → H.state h.new ≡ H.state h.old }
+        ensures cause { H.counts h.new ≡ after_fault (fault_of result) (H.counts h.old) }
+        ensures never_cut { fault_of result ≢ Option.Some HostFault.Cut }
+    {
+        let gate = h.load(log_at)?;
+        Ok(LogRange {
+            lo: gate_lo(gate),
+            hi: gate_hi(gate),
+        })
+    }
+
+    /// Whether an entry counts: its sequence number lies between the two of the range.
+    pub fn counts(&self, entry: &Entry) -> bool
+        ensures { (image : Image) (log : Log) → HasRange self.now log → result ≡ is_in_range log (entry_from image entry.now) }
+    {
+        self.lo < entry.seq && entry.seq < self.hi
+    }
+
+    /// Whether no entry can count.
+    pub fn is_closed(&self) -> bool
+        ensures { result ≡ nat_le self.now.hi (self.now.lo + 1) }
+    {
+        self.hi.saturating_sub(self.lo) <= 1
+    }
 }
 
 #[cfg(test)]

@@ -1,10 +1,11 @@
 -- Words overwritten entry by entry.
-use Rattle.std.proofs.Common.{◌≡◌, ◌⊎◌, inl, inr, ℕ, ◌+◌, ◌<◌, ◌≤◌, true, ltb, eqb, length, Option, Some, None, IsTrue, refl, sym, ap, subst, ◌∙◌}
+use Rattle.std.proofs.Common.{◌≡◌, ◌⊎◌, inl, inr, ℕ, ◌+◌, ◌≤◌, true, eqb, length, Option, Some, None, IsTrue, refl, sym, ap, subst, ◌∙◌}
 use Rattle.std.specs.Option.{option_or}
-use Rattle.std.proofs.lemmas.Bool.{and_from, cond-true, lt-ltb, eq-eqb}
+use Rattle.std.proofs.lemmas.Bool.{and_from, cond-true, eq-eqb}
 use Rattle.pm_model.specs.declared.host.HostFault.{HostFault}
 use Rattle.pm_model.specs.declared.host.HostFault.TheVariants.{Cut}
 use Rattle.pm_model.specs.Moments.{State}
+use Rattle.pm_model.specs.Counts.{Counts}
 use Rattle.pm_model.specs.Changes.{Footprint, Write, Writes, Changes, placed, written}
 use Rattle.pm_model.proofs.Changes.{Changes-still, Changes-wider, Changes-then}
 use Rattle.pud_defs.specs.Entries.{Entry, Log}
@@ -35,9 +36,6 @@ pub given_by-counts : (place : Place) (log : Log) (order : ℕ) (e : Entry) (fir
 given_by-counts place log order e first w counts same there =
     cond-true _ _ _ (and_from (is_in_range log e) (eqb e.order order) counts (eq-eqb e.order order same))
     ∙ ap (λ (o : Option ℕ). value_from o e.vals w) there
-
-pub in_range : (log : Log) (e : Entry) → log.lo < e.seq → e.seq < log.hi → is_in_range log e ≡ true
-in_range log e low high = and_from (ltb log.lo e.seq) (ltb e.seq log.hi) (lt-ltb _ _ low) (lt-ltb _ _ high)
 
 -- where an entry that counts goes, by a search that finds the place of each that lies in the device
 pub record GoesTo (place : Place) (e : Entry) (found : Option ℕ) : Type 0 where
@@ -117,6 +115,22 @@ Applies-failed_still write fault s t not_cut same = Applies-failed write write f
 -- behind a call that changed nothing
 pub Applies-behind : (write : Write) (fault : Option HostFault) (s t u : State) → t ≡ s → Applies write fault t u → Applies write fault s u
 Applies-behind write fault s t u same a = subst (λ (x : State). Applies write fault x u) same a
+
+-- ---- behind a call that changed nothing, words and then others
+
+-- both were written
+pub Applies-joined : (f g both : Write) (fault : Option HostFault) (s t mid end : State) → t ≡ s → ((w : ℕ) → both w ≡ over f g w) → Applies f None t mid → Applies g fault mid end → Applies both fault s end
+Applies-joined f g both fault s t mid end same gives first later =
+    Applies-same (over f g) both fault s end gives (Applies-then f g fault s mid end (Applies-behind f None s t mid same first) later)
+
+-- a fault came while the first were
+pub Applies-cut_short : (f g both : Write) (fault : HostFault) (s t end : State) → t ≡ s → ((w : ℕ) → both w ≡ over f g w) → Applies f (Some fault) t end → Applies both (Some fault) s end
+Applies-cut_short f g both fault s t end same gives first =
+    Applies-same (over f g) both (Some fault) s end gives (Applies-failed_first f g fault s end (Applies-behind f (Some fault) s t end same first))
+
+-- the size of the device stays
+pub size_then : (size : ℕ) (old new : Counts) → size ≡ old.size → new ≡ old → size ≡ new.size
+size_then size old new same stays = same ∙ sym (ap (λ (n : Counts). n.size) stays)
 
 -- ---- whatever the words hold
 

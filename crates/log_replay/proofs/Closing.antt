@@ -140,7 +140,7 @@ module _ (size at : ℕ) (es : List Entry) (b : State) (replayable : IsReplayabl
         durable = λ none k v is.
             HasOnly-kept (written (only at CLOSED_GATE)) fault c d k v close.changes
             (λ x new. let here = only_at at CLOSED_GATE k x new in
-            absurd (let it : None ≡ Some v = sym (new_value-apart device_word size at es b.now.words replayable k (omega arith) (omega arith)) ∙ is in cc))
+            absurd (let it : None ≡ Some v = sym (new_value-apart device_word size at es b.now.words replayable k (record { low = omega arith; high = omega arith })) ∙ is in cc))
             (r.durable refl k v is);
         closed = λ none. close.durable none at CLOSED_GATE (rw (eq-eqb at at refl) refl);
       }

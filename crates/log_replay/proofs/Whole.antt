@@ -13,10 +13,11 @@ use Rattle.pm_model.proofs.Leaves.{Leaves-changes}
 use Rattle.pud_defs.specs.declared.layout.TheConstants.{LOG_WORDS, LOG_HEADER_WORDS, LOG_ENTRY_WORDS}
 use Rattle.pud_defs.specs.Image.{Image}
 use Rattle.pud_defs.specs.Entries.{Entry, Log, log_of, gate_used, entries_in, words_from}
-use Rattle.pud_defs.specs.Replay.{Place, undone, redone, new_value, over, replayed}
+use Rattle.pud_defs.specs.Replay.{Place, undone, redone, new_value, over, replayed, IsInLog}
 use Rattle.pud_defs.proofs.Entries.{entries_of-same, log_of-same, spells, used_within}
 use Rattle.pud_defs.proofs.Replay.{overwritten-again, new_value-of}
 use Rattle.log_entry.specs.Reading.{Reading}
+use Rattle.log_entry.proofs.Left.{entries_left-start}
 use Rattle.log_replay.specs.Replaying.{IsReplayable, AreApart, IsLeft, Named, Applies, ReplaysSame, Replays}
 use Rattle.log_replay.proofs.Left.{undone-apart, redone-apart}
 
@@ -24,11 +25,11 @@ use Rattle.log_replay.proofs.Left.{undone-apart, redone-apart}
 
 -- the log gives nothing to its own words
 pub new_value-apart : (place : Place) (size at : ℕ) (es : List Entry) (words : Words) → IsReplayable place size at es words
-    → (k : ℕ) → at ≤ k → k < at + LOG_WORDS → new_value place (log_of (reads words) at) k ≡ None
-new_value-apart place size at es words r k low high =
+    → (k : ℕ) → IsInLog at k → new_value place (log_of (reads words) at) k ≡ None
+new_value-apart place size at es words r k inside =
     let log = log_of (reads words) at in
     new_value-of place log es k r.spells
-    ∙ ap₂ option_or (redone-apart place size at log es r.apart k low high) (undone-apart place size at log es r.apart k low high)
+    ∙ ap₂ option_or (redone-apart place size at log es r.apart k inside) (undone-apart place size at log es r.apart k inside)
 
 -- an image of these words has the log that they read
 pub log_of_picked : (place : Place) (size at : ℕ) (es : List Entry) (words : Words) (image : Image) → IsReplayable place size at es words → Picks words image → log_of image at ≡ log_of (reads words) at
@@ -38,14 +39,12 @@ log_of_picked place size at es words image r picked =
 
 -- before the first entry all are left to read
 pub all_left : (place : Place) (size at : ℕ) (es : List Entry) (words : Words) (reading : Reading) → reading ≡ record { log_at = at; passed = 0 } → IsReplayable place size at es words
-    → IsLeft place size (log_of (reads words) at) reading es words
+    → IsLeft place size (log_of (reads words) at) reading es (reads words)
 all_left place size at es words reading start r =
-    let nothing_passed : gate_used (reads words at) - 0 ≡ gate_used (reads words at) = omega arith in
-    subst (λ (x : Reading). IsLeft place size (log_of (reads words) at) x es words) (sym start) (record {
-      within = used_within (reads words) at es r.spells;
-      spells = ap₂ (λ (k n : ℕ). entries_in 0 (words_from (reads words) k n)) (add-zero (at + LOG_HEADER_WORDS)) nothing_passed ∙ (spells (reads words) at es r.spells).words;
-      apart = r.apart;
-    })
+    record {
+      left = entries_left-start (reads words) at reading start ∙ r.spells;
+      apart = subst (λ (k : ℕ). AreApart place size k (log_of (reads words) at) es) (sym (ap (λ (x : Reading). x.log_at) start)) r.apart;
+    }
 
 -- what all its entries give, undo entries first
 pub new_value-parts : (place : Place) (size at : ℕ) (es : List Entry) (words : Words) → IsReplayable place size at es words
@@ -56,8 +55,8 @@ new_value-parts place size at es words r w = new_value-of place (log_of (reads w
 
 module _ (place : Place) (size at : ℕ) (es : List Entry) (fault : Option HostFault) (s t : State)
     (r : IsReplayable place size at es s.now.words) (changes : Changes (Named (new_value place (log_of (reads s.now.words) at))) fault s t) where
-  nothing_there : (k : ℕ) → at ≤ k → k < at + LOG_WORDS → (v : ℕ) → Named (new_value place (log_of (reads s.now.words) at)) k v → ⊥
-  nothing_there k low high v named = absurd (let it : None ≡ Some named.value = sym (new_value-apart place size at es s.now.words r k low high) ∙ named.is in cc)
+  nothing_there : (k : ℕ) → IsInLog at k → (v : ℕ) → Named (new_value place (log_of (reads s.now.words) at)) k v → ⊥
+  nothing_there k inside v named = absurd (let it : None ≡ Some named.value = sym (new_value-apart place size at es s.now.words r k inside) ∙ named.is in cc)
 
   -- each image left replays to the same
   pub replays_same : Leaves (Silently (ReplaysSame place at s.now.words)) s t
@@ -71,11 +70,11 @@ module _ (place : Place) (size at : ℕ) (es : List Entry) (fault : Option HostF
         | inl same ↦ same
         | inr named ↦ absurd (let it : None ≡ Some named.value = sym none ∙ named.is in cc)
       ] in
-      let inside : (k : ℕ) → at ≤ k → k < at + LOG_WORDS → image k ≡ before k = λ k low high. stays k (new_value-apart place size at es s.now.words r k low high) in
-      let gate : image at ≡ before at = inside at (omega arith) (omega arith) in
+      let inside : (k : ℕ) → IsInLog at k → image k ≡ before k = λ k within. stays k (new_value-apart place size at es s.now.words r k within) in
+      let gate : image at ≡ before at = inside at (record { low = omega arith; high = omega arith }) in
       let used : gate_used (image at) ≤ LOG_ENTRY_WORDS =
       subst (λ (v : ℕ). gate_used v ≤ LOG_ENTRY_WORDS) (sym (gate ∙ r.gate.each (before at) (picked.each at))) (used_within (reads s.now.words) at es r.spells) in
-      let same_log : log_of image at ≡ log_of before at = log_of-same image before at gate (λ k low high. inside k (omega arith) (omega arith)) in
+      let same_log : log_of image at ≡ log_of before at = log_of-same image before at gate (λ k low high. inside k (record { low = omega arith; high = omega arith })) in
       record {
         before = before;
         picked = picked;
@@ -87,11 +86,11 @@ module _ (place : Place) (size at : ℕ) (es : List Entry) (fault : Option HostF
       }) changes
 
   -- a word of the log has its one value still
-  still : (k : ℕ) → at ≤ k → k < at + LOG_WORDS → HasOnly (s.now.words k) (reads s.now.words k) → HasOnly (t.now.words k) (reads s.now.words k)
-  still k low high one = HasOnly-kept (Named (new_value place (log_of (reads s.now.words) at))) fault s t k (reads s.now.words k) changes (nothing_there k low high) one
+  still : (k : ℕ) → IsInLog at k → HasOnly (s.now.words k) (reads s.now.words k) → HasOnly (t.now.words k) (reads s.now.words k)
+  still k inside one = HasOnly-kept (Named (new_value place (log_of (reads s.now.words) at))) fault s t k (reads s.now.words k) changes (nothing_there k inside) one
 
-  reads_still : (k : ℕ) → at ≤ k → k < at + LOG_WORDS → HasOnly (s.now.words k) (reads s.now.words k) → reads t.now.words k ≡ reads s.now.words k
-  reads_still k low high one = (still k low high one).each (reads t.now.words k) (inl refl)
+  reads_still : (k : ℕ) → IsInLog at k → HasOnly (s.now.words k) (reads s.now.words k) → reads t.now.words k ≡ reads s.now.words k
+  reads_still k inside one = (still k inside one).each (reads t.now.words k) (inl refl)
 
   -- the log can be replayed again
   pub replayable_again : IsReplayable place size at es t.now.words
@@ -99,14 +98,14 @@ module _ (place : Place) (size at : ℕ) (es : List Entry) (fault : Option HostF
       let i = reads s.now.words in
       let j = reads t.now.words in
       let used : gate_used (i at) ≤ LOG_ENTRY_WORDS = used_within i at es r.spells in
-      let gate : j at ≡ i at = reads_still at (omega arith) (omega arith) r.gate in
+      let gate : j at ≡ i at = reads_still at (record { low = omega arith; high = omega arith }) r.gate in
       let read : (k : ℕ) → at + LOG_HEADER_WORDS ≤ k → k < at + LOG_HEADER_WORDS + gate_used (i at) → j k ≡ i k =
-      λ k low high. reads_still k (omega arith) (omega arith) (r.counted k low high) in
+      λ k low high. reads_still k (record { low = omega arith; high = omega arith }) (r.counted k low high) in
       let counted : (k : ℕ) → at + LOG_HEADER_WORDS ≤ k → k < at + LOG_HEADER_WORDS + gate_used (i at) → HasOnly (t.now.words k) (j k) =
-      λ k low high. subst (λ (v : ℕ). HasOnly (t.now.words k) v) (sym (read k low high)) (still k (omega arith) (omega arith) (r.counted k low high)) in
+      λ k low high. subst (λ (v : ℕ). HasOnly (t.now.words k) v) (sym (read k low high)) (still k (record { low = omega arith; high = omega arith }) (r.counted k low high)) in
       let same : log_of i at ≡ log_of j at = log_of-same i j at (sym gate) (λ k low high. sym (read k low high)) in
       record {
-        gate = subst (λ (v : ℕ). HasOnly (t.now.words at) v) (sym gate) (still at (omega arith) (omega arith) r.gate);
+        gate = subst (λ (v : ℕ). HasOnly (t.now.words at) v) (sym gate) (still at (record { low = omega arith; high = omega arith }) r.gate);
         counted = λ k low high. counted k low (subst (λ (v : ℕ). k < at + LOG_HEADER_WORDS + gate_used v) gate high);
         spells = sym (entries_of-same i j at (sym gate) (λ k low high. sym (read k low high))) ∙ r.spells;
         apart = subst (λ (l : Log). AreApart place size at l es) same r.apart;

@@ -1,18 +1,17 @@
 -- What a replay needs of the words of a device, and what it does to them.
-use Rattle.std.specs.Prelude.{◌≡◌, ◌⊎◌, ℕ, ◌+◌, ◌-◌, ◌<◌, ◌≤◌, true, false, IsTrue, List, [], All, length, Option, Some, None, ⊤}
+use Rattle.std.specs.Prelude.{◌≡◌, ◌⊎◌, ℕ, ◌+◌, ◌<◌, ◌≤◌, true, false, IsTrue, List, [], All, length, Option, Some, None, ⊤}
 use Rattle.pm_model.specs.declared.host.HostFault.{HostFault}
 use Rattle.pm_model.specs.Words.{Words, reads, Picks, HasOnly}
 use Rattle.pm_model.specs.Moments.{State}
 use Rattle.pm_model.specs.Changes.{Footprint, Write, Changes, Leaves, Silently}
-use Rattle.pud_defs.specs.declared.layout.TheConstants.{LOG_WORDS, LOG_HEADER_WORDS, LOG_ENTRY_WORDS}
+use Rattle.pud_defs.specs.declared.layout.TheConstants.{LOG_WORDS, LOG_HEADER_WORDS}
 use Rattle.pud_defs.specs.declared.log_words.TheConstants.{CLOSED_GATE}
 use Rattle.pud_defs.specs.Image.{Image}
-use Rattle.pud_defs.specs.Entries.{Entry, Log, log_of, gate_used, is_closed_gate, entries_of, entries_in, words_from}
+use Rattle.pud_defs.specs.Entries.{Entry, Log, log_of, gate_used, is_closed_gate, entries_of}
 use Rattle.pud_defs.specs.Replay.{Place, device_word, is_in_range, new_value, replayed, is_in_log, settled_by}
-use Rattle.log_entry.specs.Reading.{Reading}
+use Rattle.log_entry.specs.Reading.{Reading, entries_left}
 use Rattle.log_replay.specs.declared.Target.{Target}
 use Rattle.log_replay.specs.declared.Target.TheVariants as targets
-use Rattle.log_replay.specs.declared.Replay.{Replay}
 
 -- which device word an address of the target is
 abbrev pub place_of : Target → Place
@@ -37,15 +36,9 @@ pub record IsReplayable (place : Place) (size at : ℕ) (es : List Entry) (words
   pub spells : entries_of (reads words) at ≡ Some es
   pub apart : AreApart place size at (log_of (reads words) at) es
 
--- what a replay goes by is the range of this log
-pub record HasRange (replay : Replay) (log : Log) : Type 0 where
-  pub lo : replay.lo ≡ log.lo
-  pub hi : replay.hi ≡ log.hi
-
 -- these entries are left to read, and those in range name words apart
-pub record IsLeft (place : Place) (size : ℕ) (log : Log) (r : Reading) (es : List Entry) (words : Words) : Type 0 where
-  pub within : gate_used (reads words r.log_at) ≤ LOG_ENTRY_WORDS
-  pub spells : entries_in 0 (words_from (reads words) (r.log_at + LOG_HEADER_WORDS + r.passed) (gate_used (reads words r.log_at) - r.passed)) ≡ Some es
+pub record IsLeft (place : Place) (size : ℕ) (log : Log) (r : Reading) (es : List Entry) (image : Image) : Type 0 where
+  pub left : entries_left image r ≡ Some es
   pub apart : AreApart place size r.log_at log es
 
 -- any value may come to any word

@@ -13,12 +13,13 @@ ghost use Rattle.pud_defs.specs.declared.log_words.TheConstants.{UNDO_ORDER, RED
 ghost use Rattle.pud_defs.specs.Entries.{Entry as LoggedEntry, Log, log_of, words_from};
 ghost use Rattle.pud_defs.specs.Replay.{device_word, is_in_range, given_by, undone, redone, new_value};
 ghost use Rattle.log_entry.specs.Reading.{entry_from};
-ghost use Rattle.log_replay.specs.Replaying.{Anything, place_of, NamesApart, HasRange, IsLeft, IsReplayable, Applies, Replays, SettlesLog};
+ghost use Rattle.log_entry.specs.Ranges.{HasRange};
+ghost use Rattle.log_replay.specs.Replaying.{Anything, place_of, NamesApart, IsLeft, IsReplayable, Applies, Replays, SettlesLog};
 
-use log_entry::{Entry, EntryReader};
+use log_entry::{Entry, EntryReader, LogRange};
 use pm_model::{Host, HostFault};
 use pm_persist::{persist_word, write_range};
-use pud_defs::log_words::{CLOSED_GATE, REDO_ORDER, UNDO_ORDER, gate_hi, gate_lo};
+use pud_defs::log_words::{CLOSED_GATE, REDO_ORDER, UNDO_ORDER};
 
 /// Which places the addresses of a log's entries are.
 #[derive(Clone, Copy, Debug, PartialEq, Eq)]
@@ -30,8 +31,7 @@ pub enum Target {
 /// What is applied of a log: the entries within its range, to the places that its addresses are.
 #[derive(Clone, Copy)]
 struct Replay {
-    lo: u32,
-    hi: u32,
+    range: LogRange,
     to: Target,
 }
 
@@ -77,13 +77,13 @@ impl Replay {
     fn apply<H: Host>(&self, h: &mut H, order: u32, entry: &Entry) -> Result<(), HostFault>
         requires few { entry.now.n ≤ MAX_ENTRY_VALUES }
         requires source { entry.now.at + entry.now.n ≤ (H.counts h.old).size }
-        ensures applies { H.tells → (log : Log) (e : LoggedEntry) (log_at : ℕ) → HasRange self.now log → entry_from (reads (H.state h.old).now.words) entry.now ≡ e
-            → (IsTrue (is_in_range log e) → NamesApart (place_of self.now.to) (H.counts h.old).size log_at e)
+        ensures applies { H.tells → (size : ℕ) → size ≡ (H.counts h.old).size → (log : Log) (e : LoggedEntry) (log_at : ℕ) → HasRange self.now.range log
+            → entry_from (reads (H.state h.old).now.words) entry.now ≡ e → (IsTrue (is_in_range log e) → NamesApart (place_of self.now.to) size log_at e)
             → Applies (given_by (place_of self.now.to) log order e) (fault_of result) (H.state h.old) (H.state h.new) }
         ensures any { H.tells → Changes Anything (fault_of result) (H.state h.old) (H.state h.new) }
         ensures cause { H.counts h.new ≡ after_fault (fault_of result) (H.counts h.old) }
     {
-        if entry.order != order || entry.seq <= self.lo || self.hi <= entry.seq {
+        if entry.order != order || !self.range.counts(entry) {
             return Ok(());
         }
         match self.first_word(h, entry) {
@@ -95,8 +95,8 @@ impl Replay {
     /// Applies the undo entries that are left to read, the newest first.
     fn undo<H: Host>(&self, h: &mut H, reader: &mut EntryReader) -> Result<(), HostFault>
         requires { reader.old.log_at + LOG_WORDS ≤ (H.counts h.old).size }
-        ensures undoes { H.tells → (size : ℕ) → size ≡ (H.counts h.old).size → (log : Log) (es : List LoggedEntry) → HasRange self.now log
-            → IsLeft (place_of self.now.to) size log reader.old es (H.state h.old).now.words
+        ensures undoes { H.tells → (size : ℕ) → size ≡ (H.counts h.old).size → (log : Log) (es : List LoggedEntry) → HasRange self.now.range log
+            → IsLeft (place_of self.now.to) size log reader.old es (reads (H.state h.old).now.words)
             → Applies (undone (place_of self.now.to) log es) (fault_of result) (H.state h.old) (H.state h.new) }
         ensures any { H.tells → Changes Anything (fault_of result) (H.state h.old) (H.state h.new) }
         ensures cause { H.counts h.new ≡ after_fault (fault_of result) (H.counts h.old) }
@@ -113,8 +113,8 @@ impl Replay {
     /// Applies the redo entries that are left to read, the oldest first.
     fn redo<H: Host>(&self, h: &mut H, reader: &mut EntryReader) -> Result<(), HostFault>
         requires { reader.old.log_at + LOG_WORDS ≤ (H.counts h.old).size }
-        ensures redoes { H.tells → (size : ℕ) → size ≡ (H.counts h.old).size → (log : Log) (es : List LoggedEntry) → HasRange self.now log
-            → IsLeft (place_of self.now.to) size log reader.old es (H.state h.old).now.words
+        ensures redoes { H.tells → (size : ℕ) → size ≡ (H.counts h.old).size → (log : Log) (es : List LoggedEntry) → HasRange self.now.range log
+            → IsLeft (place_of self.now.to) size log reader.old es (reads (H.state h.old).now.words)
             → Applies (redone (place_of self.now.to) log es) (fault_of result) (H.state h.old) (H.state h.new) }
         ensures any { H.tells → Changes Anything (fault_of result) (H.state h.old) (H.state h.new) }
         ensures cause { H.counts h.new ≡ after_fault (fault_of result) (H.counts h.old) }
@@ -137,12 +137,8 @@ fn overwrite<H: Host>(h: &mut H, log_at: u32, to: Target) -> Result<(), HostFaul
     ensures any { H.tells → Changes Anything (fault_of result) (H.state h.old) (H.state h.new) }
     ensures cause { H.counts h.new ≡ after_fault (fault_of result) (H.counts h.old) }
 {
-    let gate = h.load(log_at)?;
-    let replay = Replay {
-        lo: gate_lo(gate),
-        hi: gate_hi(gate),
-        to,
-    };
+    let range = LogRange::of(h, log_at)?;
+    let replay = Replay { range, to };
     let mut newest_first = EntryReader::new(log_at);
     replay.undo(h, &mut newest_first)?;
     let mut oldest_first = EntryReader::new(log_at);

@@ -4,9 +4,10 @@ use Rattle.std.specs.List.{range_with_len}
 use Rattle.pud_defs.specs.declared.machine.Reply.TheVariants as replies
 use Rattle.pud_defs.specs.declared.machine.Refusal.TheVariants as refusals
 use Rattle.pud_defs.specs.World.{World, no_clients, restart, blank_world}
-use Rattle.pud_defs.specs.Step.{step_reply, step_world}
+use Rattle.pud_defs.specs.Step.{step_answer, step_world}
+use Rattle.pud_defs.specs.Step.Answer.{of_reply, of_text}
 use Rattle.pud_defs.specs.Run.{newlines, lines_taken}
-use Rattle.pud_defs.specs.Texts.{start_text, formatted_text, reply_text}
+use Rattle.pud_defs.specs.Texts.{start_text, formatted_text, reply_text, answer_text, begins_with_ok}
 use Rattle.pud_defs.proofs.Opened.{opened}
 
 -- a world of four frames with these types, no clients and no files
@@ -22,11 +23,11 @@ second_world : step_world (of_types ((1, 8589934594) ∷ [])) (codes "type 2 30 
 unfolding opened
 second_world = refl
 
-first_reply : step_reply (of_types []) (codes "type 1 2 1") ≡ replies.Ok
+first_reply : step_answer (of_types []) (codes "type 1 2 1") ≡ of_reply replies.Ok
 unfolding opened
 first_reply = refl
 
-second_reply : step_reply (of_types ((1, 8589934594) ∷ [])) (codes "type 2 30 0,29") ≡ replies.Ok
+second_reply : step_answer (of_types ((1, 8589934594) ∷ [])) (codes "type 2 30 0,29") ≡ of_reply replies.Ok
 unfolding opened
 second_reply = refl
 
@@ -35,7 +36,7 @@ lower_id_goes_before : step_world (of_types ((2, 4294967296) ∷ [])) (codes "ty
 unfolding opened
 lower_id_goes_before = refl
 
-bad_reply : step_reply (of_types []) (codes "type 01 2 1") ≡ replies.No refusals.Bad
+bad_reply : step_answer (of_types []) (codes "type 01 2 1") ≡ of_reply (replies.No refusals.Bad)
 unfolding opened
 bad_reply = refl
 
@@ -43,7 +44,7 @@ bad_changes_nothing : step_world (of_types []) (codes "type 01 2 1") ≡ of_type
 unfolding opened
 bad_changes_nothing = refl
 
-clash_reply : step_reply (of_types ((1, 8589934594) ∷ [])) (codes "type 1 2 0") ≡ replies.No refusals.Clash
+clash_reply : step_answer (of_types ((1, 8589934594) ∷ [])) (codes "type 1 2 0") ≡ of_reply (replies.No refusals.Clash)
 unfolding opened
 clash_reply = refl
 
@@ -51,7 +52,7 @@ clash_changes_nothing : step_world (of_types ((1, 8589934594) ∷ [])) (codes "t
 unfolding opened
 clash_changes_nothing = refl
 
-same_map_again : step_reply (of_types ((1, 8589934594) ∷ [])) (codes "type 1 2 1") ≡ replies.Ok
+same_map_again : step_answer (of_types ((1, 8589934594) ∷ [])) (codes "type 1 2 1") ≡ of_reply replies.Ok
 unfolding opened
 same_map_again = refl
 
@@ -63,11 +64,11 @@ same_map_changes_nothing = refl
 abbrev pub first_types : ℕ → List (ℕ × ℕ)
 first_types n = map (λ id. (id, 4294967296)) (range_with_len 1 n)
 
-sixty_fourth_type : step_reply (of_types (first_types 63)) (codes "type 64 1 -") ≡ replies.Ok
+sixty_fourth_type : step_answer (of_types (first_types 63)) (codes "type 64 1 -") ≡ of_reply replies.Ok
 unfolding opened
 sixty_fourth_type = refl
 
-sixty_fifth_type : step_reply (of_types (first_types 64)) (codes "type 65 1 -") ≡ replies.No refusals.Full
+sixty_fifth_type : step_answer (of_types (first_types 64)) (codes "type 65 1 -") ≡ of_reply (replies.No refusals.Full)
 unfolding opened
 sixty_fifth_type = refl
 
@@ -75,21 +76,21 @@ full_changes_nothing : step_world (of_types (first_types 64)) (codes "type 65 1 
 unfolding opened
 full_changes_nothing = refl
 
-same_map_where_full : step_reply (of_types (first_types 64)) (codes "type 64 1 -") ≡ replies.Ok
+same_map_where_full : step_answer (of_types (first_types 64)) (codes "type 64 1 -") ≡ of_reply replies.Ok
 unfolding opened
 same_map_where_full = refl
 
 -- the clash is answered before the full table
-clash_where_full : step_reply (of_types (first_types 64)) (codes "type 64 1 0") ≡ replies.No refusals.Clash
+clash_where_full : step_answer (of_types (first_types 64)) (codes "type 64 1 0") ≡ of_reply (replies.No refusals.Clash)
 unfolding opened
 clash_where_full = refl
 
 -- a client comes once, and one that is not there does not leave
-comes : step_reply (of_types []) (codes "client 0 5 5") ≡ replies.Ok
+comes : step_answer (of_types []) (codes "client 0 5 5") ≡ of_reply replies.Ok
 unfolding opened
 comes = refl
 
-taken : step_reply (step_world (of_types []) (codes "client 0 5 5")) (codes "client 0 1 1") ≡ replies.No refusals.Taken
+taken : step_answer (step_world (of_types []) (codes "client 0 5 5")) (codes "client 0 1 1") ≡ of_reply (replies.No refusals.Taken)
 unfolding opened
 taken = refl
 
@@ -97,11 +98,11 @@ taken_changes_nothing : (step_world (step_world (of_types []) (codes "client 0 5
 unfolding opened
 taken_changes_nothing = refl
 
-absent : step_reply (step_world (of_types []) (codes "client 0 5 5")) (codes "leave 3") ≡ replies.No refusals.Client
+absent : step_answer (step_world (of_types []) (codes "client 0 5 5")) (codes "leave 3") ≡ of_reply (replies.No refusals.Client)
 unfolding opened
 absent = refl
 
-leaves : step_reply (step_world (of_types []) (codes "client 0 5 5")) (codes "leave 0") ≡ replies.Ok
+leaves : step_answer (step_world (of_types []) (codes "client 0 5 5")) (codes "leave 0") ≡ of_reply replies.Ok
 unfolding opened
 leaves = refl
 
@@ -110,7 +111,7 @@ unfolding opened
 left = refl
 
 -- a power loss by command: the types stay, and each client is gone
-loses_power : step_reply (of_types (first_types 3)) (codes "cut 0") ≡ replies.Ok
+loses_power : step_answer (of_types (first_types 3)) (codes "cut 0") ≡ of_reply replies.Ok
 unfolding opened
 loses_power = refl
 
@@ -122,7 +123,7 @@ clients_are_gone : step_world (step_world (of_types []) (codes "client 0 5 5")) 
 unfolding opened
 clients_are_gone = refl
 
-comes_again : step_reply (step_world (step_world (of_types []) (codes "client 0 5 5")) (codes "cut 0")) (codes "client 0 9 9") ≡ replies.Ok
+comes_again : step_answer (step_world (step_world (of_types []) (codes "client 0 5 5")) (codes "cut 0")) (codes "client 0 9 9") ≡ of_reply replies.Ok
 unfolding opened
 comes_again = refl
 
@@ -167,6 +168,45 @@ formatted = refl
 said_ok : reply_text replies.Ok ≡ 111 ∷ 107 ∷ 10 ∷ []
 unfolding opened
 said_ok = refl
+
+said_zero : reply_text (replies.Num 0) ≡ codes "ok 0" ++ 10 ∷ []
+unfolding opened
+said_zero = refl
+
+said_largest : reply_text (replies.Num 18446744073709551615) ≡ codes "ok 18446744073709551615" ++ 10 ∷ []
+unfolding opened
+said_largest = refl
+
+said_null : reply_text (replies.Ref 0) ≡ codes "ok @0" ++ 10 ∷ []
+unfolding opened
+said_null = refl
+
+said_serial : reply_text (replies.Ref 992) ≡ codes "ok @992" ++ 10 ∷ []
+unfolding opened
+said_serial = refl
+
+-- a text is one line, whatever it has
+said_list : answer_text (of_text (codes " a:5" ++ 10 ∷ codes " b:7")) ≡ codes "ok a:5 b:7" ++ 10 ∷ []
+said_list = refl
+
+said_empty_list : answer_text (of_text []) ≡ codes "ok" ++ 10 ∷ []
+said_empty_list = refl
+
+-- which answers begin with `ok`
+number_is_ok : begins_with_ok (of_reply (replies.Num 7)) ≡ true
+unfolding opened
+number_is_ok = refl
+
+refusal_is_not_ok : begins_with_ok (of_reply (replies.No refusals.Bad)) ≡ false
+unfolding opened
+refusal_is_not_ok = refl
+
+cut_is_not_ok : begins_with_ok (of_reply replies.Cut) ≡ false
+unfolding opened
+cut_is_not_ok = refl
+
+list_is_ok : begins_with_ok (of_text []) ≡ true
+list_is_ok = refl
 
 said_bad : reply_text (replies.No refusals.Bad) ≡ codes "no bad" ++ 10 ∷ []
 unfolding opened

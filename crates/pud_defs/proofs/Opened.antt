@@ -1,4 +1,5 @@
 -- All definitions of the crate opened by one word, for examples that compute.
+use Rattle.std.specs.Fmt.{digits}
 use Rattle.pud_defs.specs.Entries.{entries_in, first_entry, words_from, entries_of}
 use Rattle.pud_defs.specs.Replay.{undone, redone, new_value, settled_by}
 use Rattle.pud_defs.specs.Types.{type_records, first_free}
@@ -6,10 +7,10 @@ use Rattle.pud_defs.specs.Registry.{are_zero, is_registry, has_legal_log, is_sou
 use Rattle.pud_defs.specs.Spaces.{all_below}
 use Rattle.pud_defs.specs.World.{stored_by, registry_world, world_of}
 use Rattle.pud_defs.specs.Grammar.{number_of, fields_from, pointers_of, client_by, leave_by, define_by, cut_by, arm_by, taking, at_end, command_with, command_of}
-use Rattle.pud_defs.specs.Step.{holds, refusal_of, after}
+use Rattle.pud_defs.specs.Step.{holds, refusal_of, answer, after}
 use Rattle.pud_defs.specs.Run.{closed_pieces, open_rest, lines_taken}
 use Rattle.pud_defs.specs.Texts.{start_text, formatted_text, reply_text}
 
 unfoldable pub opened : Unit {0}
-unfolding entries_in first_entry words_from entries_of undone redone new_value settled_by type_records first_free are_zero is_registry has_legal_log is_sound all_below stored_by registry_world world_of number_of fields_from pointers_of client_by leave_by define_by cut_by arm_by taking at_end command_with command_of holds refusal_of after closed_pieces open_rest lines_taken start_text formatted_text reply_text
+unfolding entries_in first_entry words_from entries_of undone redone new_value settled_by type_records first_free are_zero is_registry has_legal_log is_sound all_below stored_by registry_world world_of number_of fields_from pointers_of client_by leave_by define_by cut_by arm_by taking at_end command_with command_of holds refusal_of answer after closed_pieces open_rest lines_taken start_text formatted_text reply_text digits
 opened = tt

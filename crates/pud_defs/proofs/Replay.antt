@@ -1,8 +1,8 @@
 -- What replay makes of an image: which words stay, in which order, and once more.
-use Rattle.std.proofs.Common.{◌≡◌, ◌⊎◌, inl, inr, ℕ, ◌+◌, ◌<◌, ◌≤◌, true, false, ◌&&◌, ltb, leb, eqb, List, [], ◌∷◌, ◌++◌, Option, Some, None, refl, sym, ap, ap₂, ◌∙◌, arith}
-use Rattle.std.specs.Prelude.{◌-◌, length, slice_get, unwrap_or}
+use Rattle.std.proofs.Common.{◌≡◌, ◌⊎◌, inl, inr, ℕ, ◌+◌, ◌-◌, ◌<◌, ◌≤◌, true, false, ◌&&◌, ltb, leb, eqb, List, [], ◌∷◌, ◌++◌, length, Option, Some, None, refl, sym, ap, ap₂, ◌∙◌, arith, ne_eqb}
+use Rattle.std.specs.Prelude.{slice_get, unwrap_or}
 use Rattle.std.specs.Option.{option_or}
-use Rattle.std.proofs.lemmas.Bool.{leb-true, eqb-true, ltb-true, le-leb, lt-leb, lt-ltb, and_from, and_parts, and_left, cond-true, cond-false, cases_Bool}
+use Rattle.std.proofs.lemmas.Bool.{leb-true, eqb-true, ltb-true, le-leb, lt-leb, lt-ltb, and_from, and_parts, and_left, and_right, cond-true, cond-false, cases_Bool}
 use Rattle.std.proofs.lemmas.Bool.Decides.{leb_tells, nat_tests}
 use Rattle.std.proofs.lemmas.Option.{slice_get_past}
 use Rattle.pud_defs.specs.declared.log_words.TheConstants.{UNDO_ORDER, REDO_ORDER}
@@ -81,11 +81,12 @@ pub redone-none : (place : Place) (log : Log) (w : ℕ) → redone place log [] 
 unfolding redone
 redone-none place log w = refl
 
-or_assoc : (a b c : Option ℕ) → option_or a (option_or b c) ≡ option_or (option_or a b) c
+-- the first value of three is the first of two and one
+pub or_assoc : (a b c : Option ℕ) → option_or a (option_or b c) ≡ option_or (option_or a b) c
 or_assoc None b c = refl
 or_assoc (Some x) b c = refl
 
-or_none : (a : Option ℕ) → a ≡ option_or a None
+pub or_none : (a : Option ℕ) → a ≡ option_or a None
 or_none None = refl
 or_none (Some x) = refl
 
@@ -111,8 +112,16 @@ nothing_between lo hi seq closed = elim (leb_tells hi seq) [
 closed_range : (log : Log) (e : Entry) → log.hi ≤ log.lo + 1 → is_in_range log e ≡ false
 closed_range log e closed = nothing_between log.lo log.hi e.seq closed
 
+-- an entry that does not count gives nothing
+pub given_by-out : (place : Place) (log : Log) (order : ℕ) (e : Entry) (w : ℕ) → is_in_range log e ≡ false → given_by place log order e w ≡ None
+given_by-out place log order e w out = cond-false _ _ _ (and_left (is_in_range log e) (eqb e.order order) out)
+
+-- nor does one of another order
+pub given_by-other : (place : Place) (log : Log) (order : ℕ) (e : Entry) (w : ℕ) → (e.order ≡ order → ⊥) → given_by place log order e w ≡ None
+given_by-other place log order e w other = cond-false _ _ _ (and_right (is_in_range log e) (eqb e.order order) (ne_eqb e.order order other))
+
 pub given_by-closed : (place : Place) (log : Log) (order : ℕ) (e : Entry) (w : ℕ) → log.hi ≤ log.lo + 1 → given_by place log order e w ≡ None
-given_by-closed place log order e w closed = cond-false _ _ _ (and_left (is_in_range log e) (eqb e.order order) (closed_range log e closed))
+given_by-closed place log order e w closed = given_by-out place log order e w (closed_range log e closed)
 
 undone-closed : (place : Place) (log : Log) (es : List Entry) (w : ℕ) → log.hi ≤ log.lo + 1 → undone place log es w ≡ None
 unfolding undone

@@ -27,5 +27,5 @@ pub world_after-append : (w : World) (turns more : List Turn) (k : ℕ) → k �
 world_after-append w turns more k h = ap (last_world w) (take-append-le k turns more h)
 
 -- the turns are a run over their lines
-pub Run-from_turns : (w : World) (turns : List Turn) → IsRun w turns → Run w (map (λ t. t.line) turns) (map (λ t. t.reply) turns) (last_world w turns)
-Run-from_turns w turns h = record { turns = turns; is_run = h; has_lines = refl; has_replies = refl; ends = refl }
+pub Run-from_turns : (w : World) (turns : List Turn) → IsRun w turns → Run w (map (λ t. t.line) turns) (map (λ t. t.answer) turns) (last_world w turns)
+Run-from_turns w turns h = record { turns = turns; is_run = h; has_lines = refl; has_answers = refl; ends = refl }

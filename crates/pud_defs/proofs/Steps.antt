@@ -12,7 +12,9 @@ use Rattle.pud_defs.specs.Types.{map_of}
 use Rattle.pud_defs.specs.Spaces.{Owner}
 use Rattle.pud_defs.specs.World.{World}
 use Rattle.pud_defs.specs.Grammar.{command_of}
-use Rattle.pud_defs.specs.Step.{is_other, is_clash, is_full, holds, refusal_of, after, refusal_by, reply_to, world_by, step_world, unless_refused, Step}
+use Rattle.pud_defs.specs.Step.{Answer, step_answer, is_other, is_clash, is_full, holds, refusal_of, after, answer, answer_unless, answer_by, world_by, step_world, unless_refused, Step}
+use Rattle.pud_defs.specs.Step.Answer.{of_reply}
+use Rattle.pud_defs.specs.Run.{is_cut}
 use Rattle.pud_defs.proofs.TypeLists.{with_type-same, is_sorted-with_type}
 
 -- the first of the two causes, by whether each holds
@@ -73,23 +75,49 @@ leave-absent w client e = refusal_of-leave w client None e
 
 -- ---- lines
 
+-- a command that is refused is answered so, and leaves the world
+pub refused_answer : (w : World) (c : Command) (r : Refusal) → refusal_of w c ≡ Some r → answer_by w (Some c) ≡ of_reply (replies.No r)
+refused_answer w c r h = ap (λ o. answer_unless o (answer w c)) h
+
+pub refused_world : (w : World) (c : Command) (r : Refusal) → refusal_of w c ≡ Some r → world_by w (Some c) ≡ w
+refused_world w c r h = ap (λ o. unless_refused o w (after w c)) h
+
+-- one that is carried out
+pub done_answer : (w : World) (c : Command) → refusal_of w c ≡ None → answer_by w (Some c) ≡ answer w c
+done_answer w c h = ap (λ o. answer_unless o (answer w c)) h
+
+pub done_world : (w : World) (c : Command) → refusal_of w c ≡ None → world_by w (Some c) ≡ after w c
+done_world w c h = ap (λ o. unless_refused o w (after w c)) h
+
+-- and is answered `ok` alone
+pub answer_is_ok : (w : World) (c : Command) → refusal_of w c ≡ None → answer_by w (Some c) ≡ of_reply replies.Ok
+unfolding answer
+answer_is_ok w c h = done_answer w c h
+
 -- a line that is no command
-pub step-bad : (w : World) (line : List ℕ) → command_of line ≡ None → Step w line (replies.No refusals.Bad) w
-step-bad w line e = record { answered = sym (ap (λ c. reply_to (refusal_by w c)) e); given = sym (ap (world_by w) e) }
+pub step-bad : (w : World) (line : List ℕ) → command_of line ≡ None → Step w line (of_reply (replies.No refusals.Bad)) w
+step-bad w line e = record { answered = sym (ap (answer_by w) e); given = sym (ap (world_by w) e) }
 
 -- a command that is refused
-pub step-refused : (w : World) (line : List ℕ) (c : Command) (r : Refusal) → command_of line ≡ Some c → refusal_of w c ≡ Some r → Step w line (replies.No r) w
-step-refused w line c r e h = record {
-  answered = sym (ap (λ d. reply_to (refusal_by w d)) e ∙ ap reply_to h);
-  given = sym (ap (world_by w) e ∙ ap (λ o. unless_refused o w (after w c)) h);
-}
+pub step-refused : (w : World) (line : List ℕ) (c : Command) (r : Refusal) → command_of line ≡ Some c → refusal_of w c ≡ Some r → Step w line (of_reply (replies.No r)) w
+step-refused w line c r e h = record { answered = sym (ap (answer_by w) e ∙ refused_answer w c r h); given = sym (ap (world_by w) e ∙ refused_world w c r h) }
 
 -- a command that is carried out
-pub step-done : (w : World) (line : List ℕ) (c : Command) → command_of line ≡ Some c → refusal_of w c ≡ None → Step w line replies.Ok (after w c)
-step-done w line c e h = record {
-  answered = sym (ap (λ d. reply_to (refusal_by w d)) e ∙ ap reply_to h);
-  given = sym (ap (world_by w) e ∙ ap (λ o. unless_refused o w (after w c)) h);
-}
+pub step-done : (w : World) (line : List ℕ) (c : Command) → command_of line ≡ Some c → refusal_of w c ≡ None → Step w line (answer w c) (after w c)
+step-done w line c e h = record { answered = sym (ap (answer_by w) e ∙ done_answer w c h); given = sym (ap (world_by w) e ∙ done_world w c h) }
+
+-- `cut` is no step's answer
+no_cut_unless : (r : Option Refusal) (done : Answer) → is_cut done ≡ false → is_cut (answer_unless r done) ≡ false
+no_cut_unless None done none = none
+no_cut_unless (Some r) done none = refl
+
+no_cut_by : (w : World) (c : Option Command) → is_cut (answer_by w c) ≡ false
+unfolding answer
+no_cut_by w None = refl
+no_cut_by w (Some c) = no_cut_unless (refusal_of w c) (answer w c) refl
+
+pub step_is_no_cut : (w : World) (line : List ℕ) → is_cut (step_answer w line) ≡ false
+step_is_no_cut w line = no_cut_by w (command_of line)
 
 -- types stay by ascending ids
 pub is_sorted-after : (w : World) (c : Command) → T (is_sorted nat_cmp w.stored.types) → T (is_sorted nat_cmp (after w c).stored.types)

@@ -1,5 +1,5 @@
 -- What replaying a log makes of an image.
-use Rattle.std.specs.Prelude.{ℕ, ◌+◌, ◌-◌, Bool, ◌&&◌, nat_le, nat_lt, ◌==◌, cond, List, [], ◌∷◌, slice_get, Option, Some, None, unwrap_or}
+use Rattle.std.specs.Prelude.{ℕ, ◌+◌, ◌-◌, ◌<◌, ◌≤◌, Bool, ◌&&◌, nat_le, nat_lt, ◌==◌, cond, List, [], ◌∷◌, slice_get, Option, Some, None, unwrap_or}
 use Rattle.std.specs.Option.{option_or}
 use Rattle.pud_defs.specs.declared.layout.TheConstants.{LOG_WORDS}
 use Rattle.pud_defs.specs.declared.log_words.TheConstants.{UNDO_ORDER, REDO_ORDER}
@@ -70,7 +70,12 @@ overwritten write image w = unwrap_or (write w) (image w)
 abbrev pub replayed : Place → Log → Image → Image
 replayed place log image = overwritten (new_value place log) image
 
--- whether the word is one of the log's at this word
+-- the word is one of the log's whose gate is word `at`
+pub record IsInLog (at k : ℕ) : Type 0 where
+  pub low : at ≤ k
+  pub high : k < at + LOG_WORDS
+
+-- whether it is
 abbrev pub is_in_log : ℕ → ℕ → Bool
 is_in_log at w = nat_le at w && nat_lt w (at + LOG_WORDS)
 

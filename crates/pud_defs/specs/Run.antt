@@ -1,42 +1,42 @@
 -- A run: the turns of the machine over the lines of a script.
 use Rattle.std.specs.Prelude.{◌≡◌, ◌⊎◌, ℕ, Bool, true, false, cond, not, ◌==◌, List, [], ◌∷◌, length, map, take, filter, count_by, ⊤}
 use Rattle.std.specs.List.{after_last}
-use Rattle.pud_defs.specs.declared.machine.Reply.{Reply}
 use Rattle.pud_defs.specs.declared.machine.Reply.TheVariants as replies
 use Rattle.pud_defs.specs.World.{World, restart}
 use Rattle.pud_defs.specs.Grammar.{split_at}
-use Rattle.pud_defs.specs.Step.{Step, step_world}
+use Rattle.pud_defs.specs.Step.{Answer, Step, step_world}
+use Rattle.pud_defs.specs.Step.Answer.{of_reply, of_text}
 
--- A line with its reply, the world that the line gives, and the world from which the run goes on.
+-- A line with its answer, the world that the line gives, and the world from which the run goes on.
 pub record Turn : Type 0 where
   pub line : List ℕ
-  pub reply : Reply
+  pub answer : Answer
   pub under : World
   pub next : World
 
 -- a step of the machine, whose world the run goes on from
 pub record IsStep (w : World) (t : Turn) : Type 0 where
-  pub step : Step w t.line t.reply t.under
+  pub step : Step w t.line t.answer t.under
   pub goes_on : t.next ≡ t.under
 
 -- Power was lost while the line was carried out: the run goes on from the restarted world of before it, or of what the line gives.
 pub record IsCutOff (w : World) (t : Turn) : Type 0 where
-  pub answered : t.reply ≡ replies.Cut
+  pub answered : t.answer ≡ of_reply replies.Cut
   pub given : t.under ≡ step_world w t.line
   pub goes_on : (t.next ≡ restart w) ⊎ (t.next ≡ restart t.under)
 
 abbrev pub IsTurn : World → Turn → Type 0
 IsTurn w t = IsStep w t ⊎ IsCutOff w t
 
--- whether the reply is `cut`
-abbrev pub is_cut : Reply → Bool
-is_cut replies.Ok = false
-is_cut (replies.No refusal) = false
-is_cut replies.Cut = true
+-- whether the answer is the reply `cut`
+abbrev pub is_cut : Answer → Bool
+is_cut (of_reply replies.Cut) = true
+is_cut (of_reply reply) = false
+is_cut (of_text text) = false
 
 -- how many replies are `cut`
 abbrev pub cuts_of : List Turn → ℕ
-cuts_of turns = count_by (λ t. is_cut t.reply) turns
+cuts_of turns = count_by (λ t. is_cut t.answer) turns
 
 -- each is a turn from the world that the one before it left
 abbrev pub IsRun : World → List Turn → Type 0
@@ -52,12 +52,12 @@ last_world w (t ∷ turns) = last_world t.next turns
 abbrev pub world_after : World → List Turn → ℕ → World
 world_after w turns k = last_world w (take k turns)
 
--- there is a run over these lines with these replies, which ends in this world
-pub record Run (w : World) (lines : List (List ℕ)) (replies : List Reply) (end : World) : Type 0 where
+-- there is a run over these lines with these answers, which ends in this world
+pub record Run (w : World) (lines : List (List ℕ)) (answers : List Answer) (end : World) : Type 0 where
   pub turns : List Turn
   pub is_run : IsRun w turns
   pub has_lines : map (λ t. t.line) turns ≡ lines
-  pub has_replies : map (λ t. t.reply) turns ≡ replies
+  pub has_answers : map (λ t. t.answer) turns ≡ answers
   pub ends : last_world w turns ≡ end
 
 -- how many newlines there are among the bytes

@@ -12,6 +12,11 @@ use Rattle.pud_defs.specs.Spaces.{Owner}
 use Rattle.pud_defs.specs.World.{World, restart}
 use Rattle.pud_defs.specs.Grammar.{command_of}
 
+-- The answer to a line: a reply, or the text behind `ok` that the line asks for.
+pub data Answer : Type 0 where
+  of_reply : Reply → Answer
+  of_text : List ℕ → Answer
+
 -- the refusals that a command may meet, in the order in which they are tested
 abbrev pub causes : Command → List Refusal
 causes (Client client uid gid) = refusals.Taken ∷ []
@@ -79,36 +84,37 @@ after w (Define id map) = record w { stored = record w.stored { types = with_typ
 after w (Cut pick) = restart w
 after w (Arm step pick) = w
 
--- the answer
-abbrev pub reply_to : Option Refusal → Reply
-reply_to None = replies.Ok
-reply_to (Some refusal) = replies.No refusal
+-- the answer to a command that is not refused
+unfoldable pub answer : World → Command → Answer
+answer w c = of_reply replies.Ok
+
+-- the answer: the refusal, where there is one
+abbrev pub answer_unless : Option Refusal → Answer → Answer
+answer_unless None done = done
+answer_unless (Some refusal) done = of_reply (replies.No refusal)
 
 -- the world: as it was where there is a refusal
 abbrev pub unless_refused : Option Refusal → World → World → World
 unless_refused None before later = later
 unless_refused (Some refusal) before later = before
 
--- why a line is refused, by the command that it is: a line that is no command is bad
-abbrev pub refusal_by : World → Option Command → Option Refusal
-refusal_by w None = Some refusals.Bad
-refusal_by w (Some c) = refusal_of w c
+-- the answer to a line, by the command that it is: a line that is no command is bad
+abbrev pub answer_by : World → Option Command → Answer
+answer_by w None = of_reply (replies.No refusals.Bad)
+answer_by w (Some c) = answer_unless (refusal_of w c) (answer w c)
 
 -- the world that it gives
 abbrev pub world_by : World → Option Command → World
 world_by w None = w
 world_by w (Some c) = unless_refused (refusal_of w c) w (after w c)
 
-abbrev pub refusal : World → List ℕ → Option Refusal
-refusal w line = refusal_by w (command_of line)
-
-abbrev pub step_reply : World → List ℕ → Reply
-step_reply w line = reply_to (refusal w line)
+abbrev pub step_answer : World → List ℕ → Answer
+step_answer w line = answer_by w (command_of line)
 
 abbrev pub step_world : World → List ℕ → World
 step_world w line = world_by w (command_of line)
 
 -- the line is answered so, and gives this world
-pub record Step (w : World) (line : List ℕ) (reply : Reply) (next : World) : Type 0 where
-  pub answered : reply ≡ step_reply w line
+pub record Step (w : World) (line : List ℕ) (said : Answer) (next : World) : Type 0 where
+  pub answered : said ≡ step_answer w line
   pub given : next ≡ step_world w line

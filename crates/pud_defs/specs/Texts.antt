@@ -1,9 +1,11 @@
 -- What is said.
-use Rattle.std.specs.Prelude.{ℕ, List, [], ◌∷◌, ◌++◌, codes, flat_map}
+use Rattle.std.specs.Prelude.{ℕ, Bool, not, ◌==◌, List, [], ◌∷◌, ◌++◌, take, filter, codes, bytes_eq, decimal, flat_map}
 use Rattle.pud_defs.specs.declared.machine.Reply.{Reply}
 use Rattle.pud_defs.specs.declared.machine.Reply.TheVariants as replies
 use Rattle.pud_defs.specs.declared.machine.Refusal.{Refusal}
 use Rattle.pud_defs.specs.declared.machine.Refusal.TheVariants as refusals
+use Rattle.pud_defs.specs.Step.{Answer}
+use Rattle.pud_defs.specs.Step.Answer.{of_reply, of_text}
 use Rattle.pud_defs.specs.Run.{Turn}
 
 -- a text with the newline that ends its line
@@ -28,9 +30,23 @@ refusal_word refusals.Full = codes "full"
 -- what is said in reply
 unfoldable pub reply_text : Reply → List ℕ
 reply_text replies.Ok = line_of (codes "ok")
+reply_text (replies.Num value) = line_of (codes "ok " ++ decimal value)
+reply_text (replies.Ref serial) = line_of (codes "ok @" ++ decimal serial)
 reply_text (replies.No refusal) = line_of (codes "no " ++ refusal_word refusal)
 reply_text replies.Cut = line_of (codes "cut")
 
+-- a text without its newlines, which would end its line
+abbrev pub in_one_line : List ℕ → List ℕ
+in_one_line text = filter (λ b. not (b == 10)) text
+
+-- what is said in answer: one line
+abbrev pub answer_text : Answer → List ℕ
+answer_text (of_reply reply) = reply_text reply
+answer_text (of_text text) = line_of (codes "ok" ++ in_one_line text)
+
+abbrev pub begins_with_ok : Answer → Bool
+begins_with_ok answer = bytes_eq (take 2 (answer_text answer)) (codes "ok")
+
 -- what a run says
 abbrev pub replies_text : List Turn → List ℕ
-replies_text turns = flat_map (λ t. reply_text t.reply) turns
+replies_text turns = flat_map (λ t. answer_text t.answer) turns

@@ -1,5 +1,9 @@
 //! What a line asks for and what is answered.
 
+ghost use Rattle.std.specs.Prelude.{◌≡◌};
+ghost use Rattle.pud_defs.specs.Step.Answer.{of_reply};
+ghost use Rattle.pud_defs.specs.Texts.{begins_with_ok};
+
 /// What a line asks for.
 #[derive(Clone, Copy, Debug, PartialEq, Eq)]
 pub enum Command {
@@ -15,16 +19,33 @@ pub enum Command {
     Arm { step: u32, pick: u64 },
 }
 
-/// The answer to a line.
+/// The answer to a line, where it is no text that the line asks for.
 #[derive(Clone, Copy, Debug, PartialEq, Eq)]
 pub enum Reply {
     /// The line was carried out.
     Ok,
+    /// The line was carried out, and this is the number that it asks for.
+    Num(u64),
+    /// The line was carried out, and this is the serial of the object that it made or asks for: 0 is null.
+    Ref(u64),
     /// The line was refused, and nothing changed.
     No(Refusal),
     /// Power was lost while the line was carried out, and the daemon started again. The line was done wholly or not at
     /// all.
     Cut,
+}
+
+impl Reply {
+    /// Whether the line was carried out: the text of the reply begins with `ok`.
+    #[tactic(auto, unfolding(crate::specs::Texts::reply_text))]
+    pub fn is_ok(self) -> bool
+        ensures { result ≡ begins_with_ok (of_reply self) }
+    {
+        match self {
+            Reply::Ok | Reply::Num(_) | Reply::Ref(_) => true,
+            Reply::No(_) | Reply::Cut => false,
+        }
+    }
 }
 
 /// Why a line is refused. The first that holds, in this order, is answered.

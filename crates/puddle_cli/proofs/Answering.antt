@@ -13,9 +13,9 @@ use Rattle.pud_defs.specs.declared.layout.TheConstants.{SCRIPT_LIMIT}
 use Rattle.pud_defs.specs.declared.machine.Command.{Command}
 use Rattle.pud_defs.specs.World.{World}
 use Rattle.pud_defs.specs.Grammar.{command_of}
-use Rattle.pud_defs.specs.Step.{reply_to, refusal_by, world_by}
+use Rattle.pud_defs.specs.Step.{answer_by, world_by}
 use Rattle.pud_defs.specs.Run.{Turn, IsTurn, cuts_of, IsRun, last_world, newlines, open_rest, lines_taken, lines_among}
-use Rattle.pud_defs.specs.Texts.{reply_text, replies_text}
+use Rattle.pud_defs.specs.Texts.{answer_text, replies_text}
 use Rattle.pud_defs.specs.Stands.{StandsWith}
 use Rattle.pud_defs.proofs.Commands.{command_of-front}
 use Rattle.pud_defs.proofs.Lines.{open_rest-newline, open_rest-other, open_rest-nothing, lines_taken-nothing, lines_taken-newline, lines_taken-other, lines_taken-end, lines_among_empty, lines_among_line}
@@ -59,7 +59,7 @@ module _ (w : World) (t : Turn) (piece line : List ℕ) (of_line : t.line ≡ pi
   is_turn_relined (inl turn) =
       inl (record {
         step = record {
-          answered = turn.step.answered ∙ ap (λ (c : Option Command). reply_to (refusal_by w c)) same_command;
+          answered = turn.step.answered ∙ ap (answer_by w) same_command;
           given = turn.step.given ∙ ap (λ (c : Option Command). world_by w c) same_command;
         };
         goes_on = turn.goes_on;
@@ -86,7 +86,7 @@ AnswersLine-turn size w piece line result before after old new some kept a =
       lines = sym (lines_among_line line longer);
       is_run = (is_turn_relined w a.turn piece line a.of_line kept a.is_turn, tt);
       moments = a.moments;
-      says = subst (λ (text : List ℕ). SaysPart text (run_fault result) old new) (sym (append-nil (reply_text a.turn.reply))) a.says;
+      says = subst (λ (text : List ℕ). SaysPart text (run_fault result) old new) (sym (append-nil (answer_text a.turn.answer))) a.says;
       ready = a.ready;
       counted = counts;
       turns_counted = λ none. CountsTurns-one t before after (run_fault result) none counts;

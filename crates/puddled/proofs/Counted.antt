@@ -164,7 +164,7 @@ CountsTurns-append [] more a b c first later = subst (λ (x : Counts). CountsTur
 CountsTurns-append (t ∷ turns) more a b c first later = (first.0, first.1, CountsTurns-append turns more first.0 b c first.2 later)
 
 cuts_of-cons : (t : Turn) (turns : List Turn) → cuts_of (t ∷ turns) ≡ cuts_of turns + cuts_of (t ∷ [])
-cuts_of-cons t turns = omega (arith, sum_by-append (λ (x : Turn). cond (is_cut x.reply) 1 0) (t ∷ []) turns)
+cuts_of-cons t turns = omega (arith, sum_by-append (λ (x : Turn). cond (is_cut x.answer) 1 0) (t ∷ []) turns)
 
 -- a rise by more is one by fewer
 pub RoseBy-fewer : (l k a b : ℕ) → RoseBy (l + k) a b → RoseBy k a b

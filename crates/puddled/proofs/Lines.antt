@@ -1,5 +1,5 @@
 -- One line, from what was done without a word to what was said of it.
-use Rattle.std.proofs.Common.{◌≡◌, ◌≢◌, ◌⊎◌, ◌↔◌, inl, inr, ℕ, zero, suc, ◌<◌, ◌≤◌, Bool, true, false, List, [], ◌∷◌, ◌++◌, take, drop, Option, Some, None, Result, Ok, Err, IfOk, refl, sym, ap, subst, ◌∙◌, arith, take-append-drop}
+use Rattle.std.proofs.Common.{◌≡◌, ◌≢◌, ◌⊎◌, inl, inr, ℕ, zero, suc, ◌<◌, ◌≤◌, Bool, true, false, List, [], ◌∷◌, ◌++◌, take, drop, Option, Some, None, Result, Ok, Err, IfOk, refl, sym, ap, subst, ◌∙◌, arith, take-append-drop}
 use Rattle.std.proofs.lemmas.List.{append-nil, drop_all}
 use Rattle.pm_model.specs.declared.host.HostFault.{HostFault}
 use Rattle.pm_model.specs.declared.host.HostFault.TheVariants as hosts
@@ -13,18 +13,18 @@ use Rattle.pm_model.proofs.Leaves.{Leaves-then, Leaves-weaker, Leaves-says, Leav
 use Rattle.pm_model.proofs.Said.{words-all_said, said-all_said, script-all_said, shelf-all_said}
 use Rattle.pud_defs.specs.declared.machine.Reply.{Reply}
 use Rattle.pud_defs.specs.declared.machine.Reply.TheVariants.{Cut}
-use Rattle.pud_defs.specs.declared.machine.Reply.TheVariants as replies
 use Rattle.pud_defs.specs.declared.layout.TheConstants.{DAEMON_LOG, CLIENTS}
 use Rattle.pud_defs.specs.Entries.{is_closed_gate}
 use Rattle.pud_defs.specs.Image.{Image}
 use Rattle.pud_defs.specs.World.{World, world_of, closed, restart}
 use Rattle.pud_defs.specs.Grammar.{command_of}
-use Rattle.pud_defs.specs.Step.{step_reply, step_world}
+use Rattle.pud_defs.specs.Step.{Answer, step_answer, step_world}
+use Rattle.pud_defs.specs.Step.Answer.{of_reply}
 use Rattle.pud_defs.specs.Run.{Turn, IsTurn, cuts_of, newlines}
-use Rattle.pud_defs.specs.Texts.{start_text, reply_text}
+use Rattle.pud_defs.specs.Texts.{start_text, reply_text, answer_text, begins_with_ok}
 use Rattle.pud_defs.specs.Stands.{StandsAfter, StandsWith}
 use Rattle.pud_defs.proofs.Lines.{newlines_part}
-use Rattle.pud_defs.proofs.Said.{newlines-reply_text}
+use Rattle.pud_defs.proofs.Said.{newlines-answer_text}
 use Rattle.pud_defs.proofs.Steps.{shelf_of_step}
 use Rattle.type_maps.specs.Define.{HasDurableTypes}
 use Rattle.puddled.specs.declared.daemon.RunFault.{RunFault}
@@ -33,7 +33,7 @@ use Rattle.puddled.specs.declared.daemon.Daemon.{Daemon}
 use Rattle.puddled.specs.declared.daemon.StartFault.{StartFault}
 use Rattle.puddled.specs.declared.daemon.StartFault.TheVariants as starts
 use Rattle.puddled.specs.Faults.{start_fault, of_host, of_start, run_fault, CountsLine}
-use Rattle.puddled.specs.Daemon.{HasSpace, KeepsRest, IsReady, IsPart, SaysPart, Applies, Recovers, Settles, Starts, spoken, begins_with_ok, Answers}
+use Rattle.puddled.specs.Daemon.{HasSpace, KeepsRest, IsReady, IsPart, SaysPart, Applies, Recovers, Settles, Starts, spoken, Answers}
 use Rattle.puddled.proofs.Turns.{turn_of, is_turn_of, cut_turn, is_cut_turn}
 use Rattle.puddled.proofs.Counted.{counted_step, host_is_sound}
 
@@ -113,7 +113,7 @@ Between size w under image = (world_of size image ≡ Some (closed w)) ⊎ (worl
 
 -- The line was done: the reply is the machine's.
 pub Settles-done : (size : ℕ) (w : World) (line : List ℕ) (reply : Reply) (before after : Counts) (old new : State) → Applies size w (step_world w line) None old new
-    → reply ≡ step_reply w line → CountsLine (command_of line) None 0 before after → Settles size w line (Ok reply) before after old new
+    → of_reply reply ≡ step_answer w line → CountsLine (command_of line) None 0 before after → Settles size w line (Ok reply) before after old new
 Settles-done size w line reply before after old new a same counts =
     record {
       turn = turn_of w line;
@@ -243,14 +243,6 @@ module _ (size : ℕ) (w : World) (line : List ℕ) (old mid : State) (a : Appli
   Settles-restart starts.NotSound before after new sound r counts = absurd (sound refl)
   Settles-restart (starts.Host fault) before after new sound r counts = Settles-failed_again fault before after new r counts
 
--- only the reply `ok` begins with `ok`
-pub begins_by_eq : (reply : Reply) (ok : Bool) → ((ok ≡ true) ↔ (reply ≡ replies.Ok)) → ok ≡ begins_with_ok reply
-begins_by_eq replies.Ok ok is = is.1 refl
-begins_by_eq (replies.No r) true is = absurd (let no = is.0 refl in cc no)
-begins_by_eq (replies.No r) false is = refl
-begins_by_eq replies.Cut true is = absurd (let no = is.0 refl in cc no)
-begins_by_eq replies.Cut false is = refl
-
 -- nothing was said yet
 silent_moments : (size : ℕ) (w : World) (t : Turn) (old new : State) → Leaves (Silently (Between size w t.under)) old new → Leaves (StandsWith size w (t ∷ [])) old new
 silent_moments size w t old new moments =
@@ -266,7 +258,7 @@ Answers-fault size w line aloud fault before after old new s =
       is_turn = s.is_turn;
       ok = tt;
       moments = silent_moments size w s.turn old new s.moments;
-      says = record { bytes = []; rest = spoken aloud s.turn.reply; part = refl; said = s.quiet ∙ sym (append-nil old.now.said); whole = λ no. absurd (cc) };
+      says = record { bytes = []; rest = spoken aloud s.turn.answer; part = refl; said = s.quiet ∙ sym (append-nil old.now.said); whole = λ no. absurd (cc) };
       ready = s.ready;
       counted = s.counted;
       sound = s.sound;
@@ -276,7 +268,7 @@ Answers-fault size w line aloud fault before after old new s =
 
 -- the reply is not said aloud
 pub Answers-unsaid : (size : ℕ) (w : World) (line : List ℕ) (reply : Reply) (ok : Bool) (before after : Counts) (old new : State)
-    → Settles size w line (Ok reply) before after old new → ok ≡ begins_with_ok reply → Answers size w line false (Ok ok) before after old new
+    → Settles size w line (Ok reply) before after old new → ok ≡ begins_with_ok (of_reply reply) → Answers size w line false (Ok ok) before after old new
 Answers-unsaid size w line reply ok before after old new s is =
     record {
       turn = s.turn;
@@ -306,38 +298,38 @@ stands_by_count size w t zero image is few stands = next_between size w t image 
 stands_by_count size w t (suc zero) image is few stands = stands
 stands_by_count size w t (suc (suc n)) image is few stands = absurd (omega arith)
 
-front_of_reply : (reply : Reply) (front : List ℕ) → IsPrefix front (reply_text reply) → newlines front ≤ 1
-front_of_reply reply front prefix =
+front_of_answer : (answer : Answer) (front : List ℕ) → IsPrefix front (answer_text answer) → newlines front ≤ 1
+front_of_answer answer front prefix =
     let part = newlines_part front prefix.rest in
-    let whole = ap newlines (sym prefix.is) ∙ newlines-reply_text reply in
+    let whole = ap newlines (sym prefix.is) ∙ newlines-answer_text answer in
     omega arith
 
 -- the line was settled, and its reply is said
 module _ (size : ℕ) (w : World) (line : List ℕ) (reply : Reply) (before between after : Counts) (old mid new : State) (s : Settles size w line (Ok reply) before between old mid) where
-  said_moments : (fault : Option HostFault) → Says (reply_text s.turn.reply) fault mid new → Leaves (StandsWith size w (s.turn ∷ [])) old new
+  said_moments : (fault : Option HostFault) → Says (answer_text s.turn.answer) fault mid new → Leaves (StandsWith size w (s.turn ∷ [])) old new
   said_moments fault says =
       let t = s.turn in
       let ready = s.ready refl in
       Leaves-then (StandsWith size w (t ∷ [])) (StandsWith size w (t ∷ [])) (StandsWith size w (t ∷ [])) [] old mid new (s.quiet ∙ sym (append-nil old.now.said))
       (λ front image p. p) (λ more image p. p)
       (silent_moments size w t old mid s.moments)
-      (Leaves-says (reply_text t.reply) fault (StandsWith size w (t ∷ [])) mid new
-      (λ front image prefix picked. stands_by_count size w t (newlines front) image s.is_turn (front_of_reply t.reply front prefix) (ready.stands image picked)) says)
+      (Leaves-says (answer_text t.answer) fault (StandsWith size w (t ∷ [])) mid new
+      (λ front image prefix picked. stands_by_count size w t (newlines front) image s.is_turn (front_of_answer t.answer front prefix) (ready.stands image picked)) says)
 
-  text_is : (fault : Option HostFault) → Says (reply_text reply) fault mid new → Says (reply_text s.turn.reply) fault mid new
-  text_is fault says = subst (λ (r : Reply). Says (reply_text r) fault mid new) (sym s.replied) says
+  text_is : (fault : Option HostFault) → Says (reply_text reply) fault mid new → Says (answer_text s.turn.answer) fault mid new
+  text_is fault says = subst (λ (a : Answer). Says (answer_text a) fault mid new) (sym s.replied) says
 
   pub Answers-said : (result : Result Bool RunFault) (fault : Option HostFault) → Says (reply_text reply) fault mid new → (run_fault result ≡ None → fault ≡ None)
-      → IfOk result (λ ok. ok ≡ begins_with_ok reply) → (run_fault result ≡ Some NotSound → ⊥) → CountsLine (command_of line) (run_fault result) (cuts_of (s.turn ∷ [])) before after
+      → IfOk result (λ ok. ok ≡ begins_with_ok (of_reply reply)) → (run_fault result ≡ Some NotSound → ⊥) → CountsLine (command_of line) (run_fault result) (cuts_of (s.turn ∷ [])) before after
       → Answers size w line true result before after old new
   Answers-said result fault spoken_text none is sound counts =
       let says = text_is fault spoken_text in
-      let part = SaysPart-says (reply_text s.turn.reply) fault mid new says in
+      let part = SaysPart-says (answer_text s.turn.answer) fault mid new says in
       record {
         turn = s.turn;
         of_line = s.of_line;
         is_turn = s.is_turn;
-        ok = subst (λ (r : Reply). IfOk result (λ ok. ok ≡ begins_with_ok r)) (sym s.replied) is;
+        ok = subst (λ (a : Answer). IfOk result (λ ok. ok ≡ begins_with_ok a)) (sym s.replied) is;
         moments = said_moments fault says;
         says = record { bytes = part.bytes; rest = part.rest; part = part.part; said = part.said ∙ ap (λ (l : List ℕ). l ++ part.bytes) s.quiet; whole = λ n. part.whole (none n) };
         ready = λ n. IsReady-said size s.turn.next mid new (words_said _ fault mid new says) (shelf_said _ fault mid new says) (s.ready refl);

@@ -11,7 +11,9 @@ use Rattle.pud_defs.specs.declared.machine.Reply.TheVariants as replies
 use Rattle.pud_defs.specs.Grammar.{command_of}
 use Rattle.pud_defs.specs.World.{World, restart}
 use Rattle.pud_defs.specs.Run.{cuts_of}
-use Rattle.pud_defs.specs.Step.{refusal_of, after, refusal_by, reply_to, world_by, unless_refused, step_reply, step_world}
+use Rattle.pud_defs.specs.Step.{refusal_of, after, answer_by, world_by, unless_refused, step_answer, step_world}
+use Rattle.pud_defs.specs.Step.Answer.{of_reply}
+use Rattle.pud_defs.proofs.Steps.{answer_is_ok}
 use Rattle.puddled.specs.declared.daemon.StartFault.{StartFault}
 use Rattle.puddled.specs.declared.daemon.StartFault.TheVariants as starts
 use Rattle.puddled.specs.declared.daemon.RunFault.{RunFault}
@@ -47,7 +49,7 @@ module _ (size : ℕ) (w : World) (line : List ℕ) (before after : Counts) (old
   Settles-bad is ready counts same =
       Settles-done size w line (replies.No refusals.Bad) before after old new
       (subst (λ (c : Option Command). Applies size w (world_by w c) None old new) (sym is) (Applies-idle size w old new ready same))
-      (sym (ap (λ (c : Option Command). reply_to (refusal_by w c)) is))
+      (sym (ap (answer_by w) is))
       (subst (λ (c : Option Command). CountsLine c None 0 before after) (sym is) (counted_nothing before after counts))
 
   -- a cut was armed
@@ -55,7 +57,7 @@ module _ (size : ℕ) (w : World) (line : List ℕ) (before after : Counts) (old
   Settles-armed step pick is ready counts same =
       Settles-done size w line replies.Ok before after old new
       (subst (λ (v : World). Applies size w v None old new) (sym (ap (world_by w) is ∙ world_of_arm w step pick)) (Applies-idle size w old new ready same))
-      (sym (ap (λ (c : Option Command). reply_to (refusal_by w c)) is ∙ ap reply_to (arm_is_free w step pick)))
+      (sym (ap (answer_by w) is ∙ answer_is_ok w (Arm step pick) (arm_is_free w step pick)))
       (subst (λ (c : Option Command). CountsLine c None 0 before after) (sym is) (refl, λ no. cc, counts))
 
   module _ (pick : ℕ) (is : command_of line ≡ Some (Cut pick)) where
@@ -63,8 +65,8 @@ module _ (size : ℕ) (w : World) (line : List ℕ) (before after : Counts) (old
     next_is : (n : State) → IsReady size (restart w) n → IsReady size (step_world w line) n
     next_is n ready = subst (λ (v : World). IsReady size v n) (sym (ap (world_by w) is ∙ world_of_cut w pick)) ready
 
-    reply_is : step_reply w line ≡ replies.Ok
-    reply_is = ap (λ (c : Option Command). reply_to (refusal_by w c)) is ∙ ap reply_to (cut_is_free w pick)
+    reply_is : step_answer w line ≡ of_reply replies.Ok
+    reply_is = ap (answer_by w) is ∙ answer_is_ok w (Cut pick) (cut_is_free w pick)
 
     counts_are : (fault : Option RunFault) → CountsLine (Some (Cut pick)) fault 0 before after → CountsLine (command_of line) fault (cuts_of (turn_of w line ∷ [])) before after
     counts_are fault counts = counted_step w line fault before after (subst (λ (c : Option Command). CountsLine c fault 0 before after) (sym is) counts)

@@ -1,5 +1,5 @@
 -- What the daemon's start and one line do, at every moment.
-use Rattle.std.specs.Prelude.{◌≡◌, ◌≢◌, ◌<◌, ◌⊎◌, ℕ, ◌+◌, Bool, true, false, cond, List, [], ◌∷◌, ◌++◌, Option, Some, None, Result, IfOk}
+use Rattle.std.specs.Prelude.{◌≡◌, ◌≢◌, ◌<◌, ◌⊎◌, ℕ, ◌+◌, Bool, true, cond, List, [], ◌∷◌, ◌++◌, Option, Some, None, Result, IfOk}
 use Rattle.pm_model.specs.declared.host.HostFault.{HostFault}
 use Rattle.pm_model.specs.declared.host.HostFault.TheVariants as hosts
 use Rattle.pm_model.specs.Words.{Has, HasOnly, Words, values, Picks, IsRested}
@@ -7,7 +7,8 @@ use Rattle.pm_model.specs.Counts.{Counts}
 use Rattle.pm_model.specs.Moments.{State}
 use Rattle.pm_model.specs.Changes.{Leaves, Silently}
 use Rattle.pud_defs.specs.declared.machine.Reply.{Reply}
-use Rattle.pud_defs.specs.declared.machine.Reply.TheVariants as replies
+use Rattle.pud_defs.specs.Step.{Answer}
+use Rattle.pud_defs.specs.Step.Answer.{of_reply}
 use Rattle.pud_defs.specs.declared.layout.TheConstants.{DAEMON_LOG, CLIENTS}
 use Rattle.pud_defs.specs.Image.{Image}
 use Rattle.pud_defs.specs.Entries.{is_closed_gate}
@@ -15,7 +16,7 @@ use Rattle.pud_defs.specs.Spaces.{Owner, space_record_at, has_closed_logs}
 use Rattle.pud_defs.specs.World.{World, world_of, closed, restart}
 use Rattle.pud_defs.specs.Grammar.{command_of}
 use Rattle.pud_defs.specs.Run.{Turn, IsTurn, cuts_of}
-use Rattle.pud_defs.specs.Texts.{start_text, reply_text}
+use Rattle.pud_defs.specs.Texts.{start_text, answer_text, begins_with_ok}
 use Rattle.pud_defs.specs.Stands.{StandsWith}
 use Rattle.type_maps.specs.Define.{HasDurableTypes}
 use Rattle.puddled.specs.declared.daemon.RunFault.{RunFault}
@@ -74,7 +75,7 @@ pub record Settles (size : ℕ) (w : World) (line : List ℕ) (result : Result R
   pub turn : Turn
   pub of_line : turn.line ≡ line
   pub is_turn : IsTurn w turn
-  pub replied : IfOk result (λ reply. turn.reply ≡ reply)
+  pub replied : IfOk result (λ reply. turn.answer ≡ of_reply reply)
   pub moments : Leaves (Silently (λ image. (world_of size image ≡ Some (closed w)) ⊎ (world_of size image ≡ Some (closed turn.under)))) old new
   pub quiet : new.now.said ≡ old.now.said
   pub ready : run_fault result ≡ None → IsReady size turn.next new
@@ -101,14 +102,9 @@ pub record Starts (size : ℕ) (w : World) (fault : Option HostFault) (old new :
   pub script : new.script ≡ old.script
   pub shelf : new.shelf ≡ old.shelf
 
-abbrev pub begins_with_ok : Reply → Bool
-begins_with_ok replies.Ok = true
-begins_with_ok (replies.No refusal) = false
-begins_with_ok replies.Cut = false
-
--- what is said of a reply: its text where it is said aloud
-abbrev pub spoken : Bool → Reply → List ℕ
-spoken aloud reply = cond aloud (reply_text reply) []
+-- what is said of an answer: its text where it is said aloud
+abbrev pub spoken : Bool → Answer → List ℕ
+spoken aloud answer = cond aloud (answer_text answer) []
 
 -- One line is one turn of the machine: at every moment the images stand for the world before it or the one that it gives, with its reply said
 -- only once that one is durable; without a fault the reply is whole and the daemon ready for the next line. Where the reply is `cut` power
@@ -117,9 +113,9 @@ pub record Answers (size : ℕ) (w : World) (line : List ℕ) (aloud : Bool) (re
   pub turn : Turn
   pub of_line : turn.line ≡ line
   pub is_turn : IsTurn w turn
-  pub ok : IfOk result (λ ok. ok ≡ begins_with_ok turn.reply)
+  pub ok : IfOk result (λ ok. ok ≡ begins_with_ok turn.answer)
   pub moments : Leaves (StandsWith size w (turn ∷ [])) old new
-  pub says : SaysPart (spoken aloud turn.reply) (run_fault result) old new
+  pub says : SaysPart (spoken aloud turn.answer) (run_fault result) old new
   pub ready : run_fault result ≡ None → IsReady size turn.next new
   pub counted : CountsLine (command_of line) (run_fault result) (cuts_of (turn ∷ [])) before after
   pub sound : run_fault result ≢ Some faults.NotSound

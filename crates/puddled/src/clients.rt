@@ -5,7 +5,8 @@ ghost use Rattle.pm_model.specs.Counts.{after_fault, fault_of};
 ghost use Rattle.pud_defs.specs.declared.layout.TheConstants.{CLIENTS, MAX_OWNER_ID};
 ghost use Rattle.pud_defs.specs.Layout.{device_words};
 ghost use Rattle.pud_defs.specs.World.{World};
-ghost use Rattle.pud_defs.specs.Step.{refusal_of, reply_to, world_by};
+ghost use Rattle.pud_defs.specs.Step.{answer_by, world_by};
+ghost use Rattle.pud_defs.specs.Step.Answer.{of_reply};
 ghost use Rattle.pud_defs.specs.declared.machine.Command.TheVariants as commands;
 ghost use Rattle.puddled.specs.Daemon.{KeepsRest, IsReady, Applies, ClosesFirst};
 
@@ -35,7 +36,7 @@ pub fn come<H: Host>(h: &mut H, client: u32, uid: u32, gid: u32) -> Result<Reply
     requires gid_fits { gid ≤ MAX_OWNER_ID }
     requires smallest { device_words MIN_FRAMES ≤ (H.counts h.old).size }
     ensures reply { H.tells → (size : ℕ) → size ≡ (H.counts h.old).size → (w : World) → IsReady size w (H.state h.old)
-        → IfOk result (λ reply. reply ≡ reply_to (refusal_of w (commands.Client client uid gid))) }
+        → IfOk result (λ reply. of_reply reply ≡ answer_by w (Option.Some (commands.Client client uid gid))) }
     ensures applies { H.tells → (size : ℕ) → size ≡ (H.counts h.old).size → (w : World) → IsReady size w (H.state h.old)
         → Applies size w (world_by w (Option.Some (commands.Client client uid gid))) (fault_of result) (H.state h.old) (H.state h.new) }
     ensures rest { H.tells → KeepsRest (H.state h.old) (H.state h.new) }
@@ -56,7 +57,7 @@ pub fn leave<H: Host>(h: &mut H, client: u32) -> Result<Reply, HostFault>
     requires known { client < CLIENTS }
     requires smallest { device_words MIN_FRAMES ≤ (H.counts h.old).size }
     ensures reply { H.tells → (size : ℕ) → size ≡ (H.counts h.old).size → (w : World) → IsReady size w (H.state h.old)
-        → IfOk result (λ reply. reply ≡ reply_to (refusal_of w (commands.Leave client))) }
+        → IfOk result (λ reply. of_reply reply ≡ answer_by w (Option.Some (commands.Leave client))) }
     ensures applies { H.tells → (size : ℕ) → size ≡ (H.counts h.old).size → (w : World) → IsReady size w (H.state h.old)
         → Applies size w (world_by w (Option.Some (commands.Leave client))) (fault_of result) (H.state h.old) (H.state h.new) }
     // Its logs are closed in each image in which its record may be free.

@@ -9,7 +9,8 @@ ghost use Rattle.pud_defs.specs.World.{World, world_of, closed};
 ghost use Rattle.pud_defs.specs.Texts.{reply_text};
 ghost use Rattle.puddled.specs.Faults.{start_fault, run_fault, IsCounted, is_at_once, CountsLine};
 ghost use Rattle.pud_defs.specs.Grammar.{command_of};
-ghost use Rattle.pud_defs.specs.Step.{step_reply, step_world};
+ghost use Rattle.pud_defs.specs.Step.{step_answer, step_world};
+ghost use Rattle.pud_defs.specs.Step.Answer.{of_reply};
 ghost use Rattle.puddled.specs.Daemon.{KeepsRest, IsReady, Applies, Recovers, Settles};
 
 use crate::clients::{come, leave};
@@ -138,7 +139,7 @@ fn lose_power<H: Host>(h: &mut H, pick: u64) -> Result<(), StartFault>
 fn go_on<H: Host>(h: &mut H, done: Result<Reply, HostFault>) -> Result<Reply, RunFault>
     // The command began in the state `before`, with these counts.
     ensures settles { H.tells → (size : ℕ) → size ≡ (H.counts h.old).size → (w : World) → (line : List ℕ) → (counted : Counts) → (before : State) → before.shelf ≡ w.shelf
-        → Applies size w (step_world w line) (fault_of done) before (H.state h.old) → IfOk done (λ reply. reply ≡ step_reply w line)
+        → Applies size w (step_world w line) (fault_of done) before (H.state h.old) → IfOk done (λ reply. of_reply reply ≡ step_answer w line)
         → H.counts h.old ≡ after_fault (fault_of done) counted → is_at_once (command_of line) ≡ false
         → Settles size w line result counted (H.counts h.new) before (H.state h.new) }
     // Whatever the device holds: where power was lost, it then reads as a sound one.
@@ -269,7 +270,7 @@ impl Daemon {
         if aloud {
             say_reply(h, reply)?;
         }
-        Ok(reply == Reply::Ok)
+        Ok(reply.is_ok())
     }
 
     /// Ends the daemon. It touches no device: the next start does what is to be done.

@@ -5,7 +5,8 @@ ghost use Rattle.pm_model.specs.Counts.{after_fault, fault_of};
 ghost use Rattle.pud_defs.specs.Layout.{device_words};
 ghost use Rattle.pud_defs.specs.TypeMap.{is_legal_type_id, is_legal_map};
 ghost use Rattle.pud_defs.specs.World.{World};
-ghost use Rattle.pud_defs.specs.Step.{refusal_of, reply_to, world_by};
+ghost use Rattle.pud_defs.specs.Step.{answer_by, world_by};
+ghost use Rattle.pud_defs.specs.Step.Answer.{of_reply};
 ghost use Rattle.pud_defs.specs.declared.machine.Command.TheVariants.{Define};
 ghost use Rattle.puddled.specs.Daemon.{KeepsRest, IsReady, Applies};
 
@@ -18,7 +19,7 @@ use type_maps::{TypeFault, define};
 pub fn define_type<H: Host>(h: &mut H, id: u32, map: u64) -> Result<Reply, HostFault>
     requires { device_words MIN_FRAMES ≤ (H.counts h.old).size }
     ensures reply { H.tells → (size : ℕ) → size ≡ (H.counts h.old).size → (w : World) → IsReady size w (H.state h.old)
-        → IfOk result (λ reply. reply ≡ reply_to (refusal_of w (Define id map))) }
+        → IfOk result (λ reply. of_reply reply ≡ answer_by w (Option.Some (Define id map))) }
     ensures applies { H.tells → (size : ℕ) → size ≡ (H.counts h.old).size → (w : World) → IsReady size w (H.state h.old)
         → is_legal_type_id id ≡ true → is_legal_map map ≡ true
         → Applies size w (world_by w (Option.Some (Define id map))) (fault_of result) (H.state h.old) (H.state h.new) }

@@ -17,54 +17,10 @@ use Rattle.pud_defs.proofs.Entries.{words_from-length}
 use Rattle.pud_defs.proofs.Logged.{settled_by-unlogged, settled_by-client_logs}
 use Rattle.pud_defs.proofs.Spaces.{has_closed_logs-same}
 use Rattle.pud_defs.proofs.Worlds.{standing_of_world, world_of-sound}
-use Rattle.log_entry.specs.declared.Entry.{Entry as Found}
-use Rattle.log_entry.specs.Reading.{Reading, entry_next, entry_from, PassesOne}
+use Rattle.log_entry.specs.Ranges.{HasRange}
 use Rattle.registry.specs.declared.overlay.Overlay.{Overlay}
-use Rattle.registry.specs.Overlaying.{HasRange, IsOverlay}
+use Rattle.registry.specs.Overlaying.{IsOverlay}
 use Rattle.registry.specs.Judging.{frames_described, has_sound_tables, has_sound_spaces}
-use Rattle.registry.proofs.Overlaid.{IsLeft, all_left, has_next, none_left}
-
--- ---- the entries of a legal log
-
--- these are left to read, and all are allowed where these are
-pub record AllowedSoFar (image : Image) (F : ℕ) (log : Log) (all : List Entry) (r : Reading) : Type 0 where
-  pub rest : List Entry
-  pub left : IsLeft image r rest
-  pub same : list_all (is_allowed F log) all ≡ list_all (is_allowed F log) rest
-
-pub allowed_none : (image : Image) (F : ℕ) (log : Log) (es : List Entry) (at : ℕ) (r : Reading) → r ≡ record { log_at = at; passed = 0 } → entries_of image at ≡ Some es → AllowedSoFar image F log es r
-allowed_none image F log es at r start are = record { rest = es; left = all_left image at es r start are; same = refl }
-
--- the test of an entry by what was found of it
-allowed_by : (o : Overlay) (image : Image) (F : ℕ) (log : Log) (e : Found) → HasRange o log
-    → (not (ltb o.lo e.seq && ltb e.seq o.hi) || may_be_logged F e.addr e.n) ≡ is_allowed F log (entry_from image e)
-allowed_by o image F log e range =
-    ap (λ (n : ℕ). not (ltb o.lo e.seq && ltb e.seq o.hi) || may_be_logged F e.addr n) (sym (words_from-length image e.at e.n))
-    ∙ ap₂ (λ (lo hi : ℕ). not (ltb lo e.seq && ltb e.seq hi) || may_be_logged F e.addr (length (entry_from image e).vals)) range.lo range.hi
-
--- one entry further
-pub allowed_further : (o : Overlay) (image : Image) (F : ℕ) (log : Log) (all : List Entry) (r next : Reading) (e : Found) → HasRange o log → AllowedSoFar image F log all r
-    → Some (entry_from image e) ≡ entry_next image r → PassesOne e r next → (not (ltb o.lo e.seq && ltb e.seq o.hi) || may_be_logged F e.addr e.n) ≡ true → AllowedSoFar image F log all next
-allowed_further o image F log all r next e range so_far comes passes here =
-    let found = has_next image r next e so_far.rest so_far.left comes passes in
-    record {
-      rest = found.behind;
-      left = found.left;
-      same = so_far.same ∙ ap (list_all (is_allowed F log)) found.is
-          ∙ ap (λ (b : Bool). b && list_all (is_allowed F log) found.behind) (sym (allowed_by o image F log e range) ∙ here);
-    }
-
--- one that is not allowed
-pub allowed_fails : (o : Overlay) (image : Image) (F : ℕ) (log : Log) (all : List Entry) (r next : Reading) (e : Found) → HasRange o log → AllowedSoFar image F log all r
-    → Some (entry_from image e) ≡ entry_next image r → PassesOne e r next → (not (ltb o.lo e.seq && ltb e.seq o.hi) || may_be_logged F e.addr e.n) ≡ false → list_all (is_allowed F log) all ≡ false
-allowed_fails o image F log all r next e range so_far comes passes here =
-    let found = has_next image r next e so_far.rest so_far.left comes passes in
-    so_far.same ∙ ap (list_all (is_allowed F log)) found.is
-    ∙ and_left (is_allowed F log (entry_from image e)) (list_all (is_allowed F log) found.behind) (sym (allowed_by o image F log e range) ∙ here)
-
--- no entry is left
-pub allowed_all : (image : Image) (F : ℕ) (log : Log) (all : List Entry) (r : Reading) → AllowedSoFar image F log all r → None ≡ entry_next image r → list_all (is_allowed F log) all ≡ true
-allowed_all image F log all r so_far comes = so_far.same ∙ ap (list_all (is_allowed F log)) (none_left image r so_far.rest so_far.left comes)
 
 -- ---- a legal log
 
@@ -92,7 +48,7 @@ is_well_formed image some =
     let es = some_of (entries_of image DAEMON_LOG) some in
     record { entries = es.0; are = es.1; legal = sym (ap (are_allowed (frames_of image) (log_of image DAEMON_LOG)) es.1) }
 
-pub is_overlay : (o : Overlay) (image : Image) → HasRange o (log_of image DAEMON_LOG) → has_legal_log image ≡ true → IsOverlay o image
+pub is_overlay : (o : Overlay) (image : Image) → HasRange o.range (log_of image DAEMON_LOG) → has_legal_log image ≡ true → IsOverlay o image
 is_overlay o image range legal = elim (cases_Bool (is_some (entries_of image DAEMON_LOG))) [
   | inl formed ↦ let es = some_of (entries_of image DAEMON_LOG) formed in record { range = range; entries = es.0; are = es.1 }
   | inr spoilt ↦ absurd (let it : true ≡ false = sym legal ∙ not_legal image spoilt in cc)

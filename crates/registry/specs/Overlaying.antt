@@ -6,17 +6,13 @@ use Rattle.pud_defs.specs.declared.log_words.TheConstants.{UNDO_ORDER, REDO_ORDE
 use Rattle.pud_defs.specs.Image.{Image}
 use Rattle.pud_defs.specs.Entries.{Entry, Log, log_of, entries_of}
 use Rattle.pud_defs.specs.Replay.{device_word, given_by, undone, redone}
+use Rattle.log_entry.specs.Ranges.{HasRange}
 use Rattle.registry.specs.declared.overlay.Overlay.{Overlay}
 use Rattle.registry.specs.declared.overlay.Given.{Given}
 
--- what is read is the range of this log
-pub record HasRange (o : Overlay) (log : Log) : Type 0 where
-  pub lo : o.lo ≡ log.lo
-  pub hi : o.hi ≡ log.hi
-
--- it is the range of the image's daemon log, which is well formed
+-- it has the range of the image's daemon log, which is well formed
 pub record IsOverlay (o : Overlay) (image : Image) : Type 0 where
-  pub range : HasRange o (log_of image DAEMON_LOG)
+  pub range : HasRange o.range (log_of image DAEMON_LOG)
   pub entries : List Entry
   pub are : entries_of image DAEMON_LOG ≡ Some entries
 

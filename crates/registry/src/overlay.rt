@@ -10,12 +10,13 @@ ghost use Rattle.pud_defs.specs.Image.{Image};
 ghost use Rattle.pud_defs.specs.Entries.{Entry as LoggedEntry, Log, log_of, entries_of};
 ghost use Rattle.pud_defs.specs.Replay.{is_in_log, settled_by};
 ghost use Rattle.log_entry.specs.Reading.{entry_from};
-ghost use Rattle.registry.specs.Overlaying.{HasRange, IsOverlay, GivesMore, Gives};
+ghost use Rattle.log_entry.specs.Ranges.{HasRange};
+ghost use Rattle.registry.specs.Overlaying.{IsOverlay, GivesMore, Gives};
 
-use log_entry::{Entry, EntryReader};
+use log_entry::{Entry, EntryReader, LogRange};
 use pm_model::{Host, HostFault};
 use pud_defs::layout::DAEMON_LOG;
-use pud_defs::log_words::{REDO_ORDER, UNDO_ORDER, gate_hi, gate_lo};
+use pud_defs::log_words::{REDO_ORDER, UNDO_ORDER};
 
 /// What entries give to a word: the oldest undo entry that names it decides, and the newest redo entry.
 #[derive(Clone, Copy)]
@@ -46,41 +47,24 @@ impl Given {
     }
 }
 
-/// The range of the daemon log, by which its entries count.
+/// The words of a device under its daemon log.
 #[derive(Clone, Copy)]
 pub struct Overlay {
-    lo: u32,
-    hi: u32,
+    /// The range of the daemon log.
+    pub range: LogRange,
 }
 
 impl Overlay {
-    /// The range that the daemon log has now.
+    /// The overlay by the range that the daemon log has now.
     pub fn of<H: Host>(h: &mut H) -> Result<Overlay, HostFault>
         requires { DAEMON_LOG + LOG_WORDS ≤ (H.counts h.old).size }
-        ensures range { H.tells → IfOk result (λ overlay. HasRange overlay (log_of (reads (H.state h.old).now.words) DAEMON_LOG)) }
+        ensures range { H.tells → (image : Image) → reads (H.state h.old).now.words ≡ image → IfOk result (λ overlay. HasRange overlay.range (log_of image DAEMON_LOG)) }
         ensures stays { H.tells → H.state h.new ≡ H.state h.old }
         ensures cause { H.counts h.new ≡ after_fault (fault_of result) (H.counts h.old) }
         ensures never_cut { fault_of result ≢ Option.Some HostFault.Cut }
     {
-        let gate = h.load(DAEMON_LOG)?;
-        Ok(Overlay {
-            lo: gate_lo(gate),
-            hi: gate_hi(gate),
-        })
-    }
-
-    /// Whether an entry is within the range.
-    pub fn counts(&self, entry: &Entry) -> bool
-        ensures { result ≡ (nat_lt self.now.lo entry.now.seq && nat_lt entry.now.seq self.now.hi) }
-    {
-        self.lo < entry.seq && entry.seq < self.hi
-    }
-
-    /// Whether no entry can be within the range.
-    fn is_closed(&self) -> bool
-        ensures { result ≡ nat_le self.now.hi (self.now.lo + 1) }
-    {
-        self.hi.saturating_sub(self.lo) <= 1
+        let range = LogRange::of(h, DAEMON_LOG)?;
+        Ok(Overlay { range })
     }
 
     /// Takes in what an entry gives to word `w`.
@@ -92,14 +76,14 @@ impl Overlay {
         given: Given,
     ) -> Result<Given, HostFault>
         requires { entry.now.at + entry.now.n ≤ (H.counts h.old).size }
-        ensures more { H.tells → (image : Image) → reads (H.state h.old).now.words ≡ image → (log : Log) → HasRange self.now log
+        ensures more { H.tells → (image : Image) → reads (H.state h.old).now.words ≡ image → (log : Log) → HasRange self.now.range log
             → IfOk result (λ after. GivesMore log (entry_from image entry.now) w given after) }
         ensures stays { H.tells → H.state h.new ≡ H.state h.old }
         ensures cause { H.counts h.new ≡ after_fault (fault_of result) (H.counts h.old) }
         ensures never_cut { fault_of result ≢ Option.Some HostFault.Cut }
     {
         let _words = h.words();
-        if !self.counts(entry) || !names(entry, w) {
+        if !self.range.counts(entry) || !names(entry, w) {
             return Ok(given);
         }
         let value = h.load(entry.at + (w - entry.addr as u32))?;
@@ -110,7 +94,7 @@ impl Overlay {
     fn given<H: Host>(&self, h: &mut H, w: u32) -> Result<Given, HostFault>
         requires { DAEMON_LOG + LOG_WORDS ≤ (H.counts h.old).size }
         ensures given { H.tells → (image : Image) → reads (H.state h.old).now.words ≡ image → (es : List LoggedEntry) → entries_of image DAEMON_LOG ≡ Option.Some es
-            → HasRange self.now (log_of image DAEMON_LOG) → IfOk result (λ given. Gives (log_of image DAEMON_LOG) es w given) }
+            → HasRange self.now.range (log_of image DAEMON_LOG) → IfOk result (λ given. Gives (log_of image DAEMON_LOG) es w given) }
         ensures stays { H.tells → H.state h.new ≡ H.state h.old }
         ensures cause { H.counts h.new ≡ after_fault (fault_of result) (H.counts h.old) }
         ensures never_cut { fault_of result ≢ Option.Some HostFault.Cut }
@@ -137,7 +121,7 @@ impl Overlay {
         ensures never_cut { fault_of result ≢ Option.Some HostFault.Cut }
     {
         let before = h.load(w)?;
-        if self.is_closed() {
+        if self.range.is_closed() {
             return Ok(before);
         }
         let given = self.given(h, w)?;

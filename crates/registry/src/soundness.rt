@@ -6,11 +6,13 @@ ghost use Rattle.pm_model.specs.Words.{reads};
 ghost use Rattle.pm_model.specs.Counts.{after_fault, fault_of};
 ghost use Rattle.pud_defs.specs.Image.{Image};
 ghost use Rattle.pud_defs.specs.Layout.{device_words};
-ghost use Rattle.pud_defs.specs.Entries.{Entry as LoggedEntry, log_of, entries_of};
+ghost use Rattle.pud_defs.specs.Entries.{Entry as LoggedEntry, Log, log_of, entries_of};
 ghost use Rattle.pud_defs.specs.Replay.{settled_by};
 ghost use Rattle.pud_defs.specs.Spaces.{is_legal_space, is_closed_log, has_closed_logs, are_legal_spaces, are_closed_logs};
 ghost use Rattle.pud_defs.specs.Registry.{frames_of, are_zero, has_legal_number, has_legal_types, may_be_logged, is_allowed, has_legal_log, is_registry, is_sound};
-ghost use Rattle.registry.specs.Overlaying.{HasRange, IsOverlay};
+ghost use Rattle.log_entry.specs.Reading.{entry_from};
+ghost use Rattle.log_entry.specs.Ranges.{HasRange};
+ghost use Rattle.registry.specs.Overlaying.{IsOverlay};
 ghost use Rattle.registry.specs.Judging.{IsRoomFor, frames_by, frames_described, with_one_more, is_number, is_space, is_closed_space, has_sound_tables, has_sound_spaces};
 
 use crate::overlay::Overlay;
@@ -82,9 +84,9 @@ fn may_be_logged(frames: u32, at: u64, n: u32) -> bool
 /// Whether an entry is out of range, or lies where the daemon log may write.
 fn is_allowed(overlay: &Overlay, frames: u32, entry: &Entry) -> bool
     requires { frames ≤ MAX_FRAMES }
-    ensures { result ≡ (not (nat_lt overlay.now.lo entry.now.seq && nat_lt entry.now.seq overlay.now.hi) || may_be_logged frames entry.now.addr entry.now.n) }
+    ensures { (image : Image) (log : Log) → HasRange overlay.now.range log → result ≡ is_allowed frames log (entry_from image entry.now) }
 {
-    !overlay.counts(entry) || may_be_logged(frames, entry.addr, entry.n)
+    !overlay.range.counts(entry) || may_be_logged(frames, entry.addr, entry.n)
 }
 
 /// Whether each entry of the daemon log is.
@@ -92,7 +94,7 @@ fn are_allowed<H: Host>(h: &mut H, overlay: &Overlay, frames: u32) -> Result<boo
     requires few { frames ≤ MAX_FRAMES }
     requires log { DAEMON_LOG + LOG_WORDS ≤ (H.counts h.old).size }
     ensures allowed { H.tells → (image : Image) → reads (H.state h.old).now.words ≡ image → (es : List LoggedEntry) → entries_of image DAEMON_LOG ≡ Option.Some es
-        → HasRange overlay.now (log_of image DAEMON_LOG) → IfOk result (λ allowed. allowed ≡ list_all (is_allowed frames (log_of image DAEMON_LOG)) es) }
+        → HasRange overlay.now.range (log_of image DAEMON_LOG) → IfOk result (λ allowed. allowed ≡ list_all (is_allowed frames (log_of image DAEMON_LOG)) es) }
     ensures stays { H.tells → H.state h.new ≡ H.state h.old }
     ensures cause { H.counts h.new ≡ after_fault (fault_of result) (H.counts h.old) }
     ensures never_cut { fault_of result ≢ Option.Some HostFault.Cut }
@@ -110,7 +112,7 @@ fn are_allowed<H: Host>(h: &mut H, overlay: &Overlay, frames: u32) -> Result<boo
 fn has_legal_log<H: Host>(h: &mut H, overlay: &Overlay, frames: u32) -> Result<bool, HostFault>
     requires few { frames ≤ MAX_FRAMES }
     requires log { DAEMON_LOG + LOG_WORDS ≤ (H.counts h.old).size }
-    ensures legal { H.tells → (image : Image) → reads (H.state h.old).now.words ≡ image → HasRange overlay.now (log_of image DAEMON_LOG) → frames ≡ frames_of image
+    ensures legal { H.tells → (image : Image) → reads (H.state h.old).now.words ≡ image → HasRange overlay.now.range (log_of image DAEMON_LOG) → frames ≡ frames_of image
         → IfOk result (λ legal. legal ≡ has_legal_log image) }
     ensures stays { H.tells → H.state h.new ≡ H.state h.old }
     ensures cause { H.counts h.new ≡ after_fault (fault_of result) (H.counts h.old) }

@@ -1,34 +1,51 @@
 //! The texts of replies.
 
-ghost use Rattle.std.specs.Prelude.{◌≡◌, ◌≤◌, length, take};
-ghost use Rattle.pud_defs.specs.Texts.{reply_text};
+ghost use Rattle.std.specs.Prelude.{◌≡◌, ◌+◌, ◌≤◌, ◌++◌, length, take};
+ghost use Rattle.pud_defs.specs.Texts.{line_of, refusal_word, reply_text};
 
+use itoa::Buffer;
 use pud_defs::machine::{Refusal, Reply};
 
-/// The text of the reply, with its newline.
-#[tactic(auto, unfolding(pud_defs::specs::Texts::reply_text))]
-fn text_of(reply: Reply) -> &'static [u8]
-    ensures text { result.now ≡ reply_text reply }
-    ensures within { length result.now ≤ 32 }
+/// The word of the refusal.
+fn word_of(refusal: Refusal) -> &'static [u8]
+    ensures word { result.now ≡ refusal_word refusal }
+    ensures short { length result.now ≤ 8 }
 {
-    match reply {
-        Reply::Ok => b"ok\n",
-        Reply::No(Refusal::Bad) => b"no bad\n",
-        Reply::No(Refusal::Client) => b"no client\n",
-        Reply::No(Refusal::Taken) => b"no taken\n",
-        Reply::No(Refusal::Clash) => b"no clash\n",
-        Reply::No(Refusal::Full) => b"no full\n",
-        Reply::Cut => b"cut\n",
+    match refusal {
+        Refusal::Bad => b"bad",
+        Refusal::Client => b"client",
+        Refusal::Taken => b"taken",
+        Refusal::Clash => b"clash",
+        Refusal::Full => b"full",
     }
+}
+
+/// Writes the line that begins with `front` and ends with `rest` at the front of `out`, and says how many bytes it has, its
+/// newline among them.
+fn print_line(front: &[u8], rest: &[u8], out: &mut [u8; 32]) -> usize
+    requires short { length front.now + length rest.now ≤ 31 }
+    ensures within { result ≤ 32 }
+    ensures text { take result out.new ≡ line_of (front.now ++ rest.now) }
+{
+    let end = front.len() + rest.len();
+    out[..front.len()].copy_from_slice(front);
+    out[front.len()..end].copy_from_slice(rest);
+    out[end] = b'\n';
+    end + 1
 }
 
 /// Writes the text of the reply, with its newline, at the front of `out`, and says how many bytes it has. The bytes
 /// of `out` behind them say nothing.
+#[tactic(auto, unfolding(pud_defs::specs::Texts::reply_text))]
 pub fn print_reply(reply: Reply, out: &mut [u8; 32]) -> usize
     ensures within { result ≤ 32 }
     ensures text { take result out.new ≡ reply_text reply }
 {
-    let text = text_of(reply);
-    out[..text.len()].copy_from_slice(text);
-    text.len()
+    match reply {
+        Reply::Ok => print_line(b"ok", b"", out),
+        Reply::Num(value) => print_line(b"ok ", Buffer::new().format(value).as_bytes(), out),
+        Reply::Ref(serial) => print_line(b"ok @", Buffer::new().format(serial).as_bytes(), out),
+        Reply::No(refusal) => print_line(b"no ", word_of(refusal), out),
+        Reply::Cut => print_line(b"cut", b"", out),
+    }
 }

@@ -1,7 +1,9 @@
-use Rattle.std.proofs.Common.{◌≡◌, ◌-◌, ◌≤◌}
+use Rattle.std.proofs.Common.{◌≡◌, ◌-◌, ◌≤◌, is_some}
 use Rattle.pm_model.specs.Words.{reads}
 use Rattle.pud_defs.specs.declared.layout.TheConstants.{LOG_ENTRY_WORDS}
-use Rattle.log_entry.proofs.WellFormed.{IsReadTo}
+use Rattle.pud_defs.specs.Image.{Image}
+use Rattle.pud_defs.specs.Entries.{entries_of}
+use Rattle.log_entry.specs.Reading.{entries_left}
 use Rattle.log_entry.proofs.well_formed.Given as goal
 
 abbrev pub invariant-loop-entry : goal.invariant-loop-entry
@@ -11,7 +13,7 @@ invariant-loop-entry g l = record {
   within : l.reader.passed ≤ LOG_ENTRY_WORDS;
   counts : g.H.Host.counts l.h ≡ g.H.Host.counts l.initial.h;
   stays : g.H.Host.tells → g.H.Host.state l.h ≡ g.H.Host.state l.initial.h;
-  read : g.H.Host.tells → IsReadTo (reads (g.H.Host.state l.initial.h).now.words) l.log_at l.reader.passed;
+  formed : g.H.Host.tells → (image : Image) → reads (g.H.Host.state l.initial.h).now.words ≡ image → is_some (entries_left image l.reader) ≡ is_some (entries_of image l.log_at);
 }
 
 abbrev pub decreases-loop-entry : goal.decreases-loop-entry

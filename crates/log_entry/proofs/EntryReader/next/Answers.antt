@@ -1,9 +1,10 @@
-use Rattle.std.proofs.Common.{◌≡◌, ◌+◌, sym, ap, ◌∙◌, arith}
+use Rattle.std.proofs.Common.{◌≡◌, ◌+◌, Some, None, refl, rules, sym, ap, ◌∙◌, arith}
 use Rattle.pm_model.specs.Words.{reads}
 use Rattle.pm_model.specs.Moments.{State}
 use Rattle.pud_defs.specs.Entries.{gate_used}
 use Rattle.log_entry.specs.Reading.{Reading, entry_next}
 use Rattle.log_entry.proofs.Readings.{IsNext, next-too_many, next-few, next-none, next-found}
+use Rattle.log_entry.proofs.Left.{left_by}
 use Rattle.log_entry.proofs.EntryReader.next.Goals as goal
 use Rattle.log_entry.proofs.EntryReader.next.Goals.{then-used-gt-LOG_ENTRY_WORDS-via-then-used-gt-LOG_ENTRY_WORDS, then-used-gt-LOG_ENTRY_WORDS-via-else-used-gt-LOG_ENTRY_WORDS+then-used-self}
 
@@ -47,3 +48,12 @@ returns-clause-next g c = λ t.
     sym (next-found image r c.gate_used-used.result at c.in_ok-word.word c.in_ok-addr.addr c.entry_n-n.result c.entry_seq.result c.entry_order.result next
     (sym c.begins_entry.ensures ∙ c.if-not-begins_entry.false) address c.entry_n-n.ensures c.entry_seq.ensures c.entry_order.ensures)
     ∙ ap (entry_next image) c.self.view_is
+
+pub returns-then-used-gt-LOG_ENTRY_WORDS-clause-left : goal.returns-then-used-gt-LOG_ENTRY_WORDS-clause-left
+returns-then-used-gt-LOG_ENTRY_WORDS-clause-left g c = λ t image same. left_by image None _ _ (rw same at (returns-then-used-gt-LOG_ENTRY_WORDS-clause-next g c t)) refl
+
+pub returns-then-not-begins_entry-clause-left : goal.returns-then-not-begins_entry-clause-left
+returns-then-not-begins_entry-clause-left g c = λ t image same. left_by image None _ _ (rw same at (returns-then-not-begins_entry-clause-next g c t)) refl
+
+pub returns-clause-left : goal.returns-clause-left
+returns-clause-left g c = λ t image same. left_by image (Some _) _ _ (rw same at (returns-clause-next g c t)) (search rules)

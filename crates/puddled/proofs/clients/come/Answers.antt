@@ -1,12 +1,11 @@
-use Rattle.std.proofs.Common.{◌≡◌, [], ◌∷◌, Option, Some, None, refl, sym, ap, subst, ◌∙◌, arith}
+use Rattle.std.proofs.Common.{◌≡◌, [], ◌∷◌, Some, None, refl, sym, ap, subst, ◌∙◌, arith}
 use Rattle.std.proofs.lemmas.Result.{err_from_is_err_and}
 use Rattle.pm_model.specs.Counts.{Counts}
 use Rattle.pm_model.specs.Moments.{State}
 use Rattle.pud_defs.specs.declared.machine.Command.TheVariants.{Client}
-use Rattle.pud_defs.specs.declared.machine.Refusal.{Refusal}
 use Rattle.pud_defs.specs.declared.machine.Refusal.TheVariants as refusals
 use Rattle.pud_defs.specs.World.{World, closed}
-use Rattle.pud_defs.specs.Step.{reply_to}
+use Rattle.pud_defs.proofs.Steps.{refused_answer, answer_is_ok}
 use Rattle.log_space.specs.Closed.{Closes}
 use Rattle.puddled.specs.Daemon.{Applies, IsReady}
 use Rattle.puddled.proofs.Coming.{IsReady-settled, taken, is_new, world_of_client, Applies-refused, Applies-unclosed, Applies-changed}
@@ -14,7 +13,7 @@ use Rattle.puddled.proofs.clients.come.Goals as goal
 
 pub returns-then-branch-clause-reply : goal.returns-then-branch-clause-reply
 returns-then-branch-clause-reply g c = λ t size e w ready.
-    sym (ap (λ (o : Option Refusal). reply_to o) (taken w c.args.client c.args.uid c.args.gid (sym c.if-branch.true ∙ c.in_ok-is_present.ensures.present t size w ready)))
+    sym (refused_answer w (Client c.args.client c.args.uid c.args.gid) refusals.Taken (taken w c.args.client c.args.uid c.args.gid (sym c.if-branch.true ∙ c.in_ok-is_present.ensures.present t size w ready)))
 
 pub returns-then-branch-clause-applies : goal.returns-then-branch-clause-applies
 returns-then-branch-clause-applies g c = λ t size e w ready.
@@ -24,7 +23,7 @@ returns-then-branch-clause-applies g c = λ t size e w ready.
 
 pub returns-clause-reply : goal.returns-clause-reply
 returns-clause-reply g c = λ t size e w ready.
-    sym (ap (λ (o : Option Refusal). reply_to o) (is_new w c.args.client c.args.uid c.args.gid (sym c.if-branch.false ∙ c.in_ok-is_present.ensures.present t size w ready)))
+    sym (answer_is_ok w (Client c.args.client c.args.uid c.args.gid) (is_new w c.args.client c.args.uid c.args.gid (sym c.if-branch.false ∙ c.in_ok-is_present.ensures.present t size w ready)))
 
 pub returns-in_err-close_logs-clause-applies : goal.returns-in_err-close_logs-clause-applies
 returns-in_err-close_logs-clause-applies g c =

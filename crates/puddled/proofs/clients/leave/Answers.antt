@@ -1,12 +1,11 @@
-use Rattle.std.proofs.Common.{◌≡◌, true, false, [], ◌∷◌, Option, Some, None, refl, sym, ap, subst, ◌∙◌, arith}
+use Rattle.std.proofs.Common.{◌≡◌, true, false, [], ◌∷◌, Some, None, refl, sym, ap, subst, ◌∙◌, arith}
 use Rattle.std.proofs.lemmas.Result.{err_from_is_err_and}
 use Rattle.pm_model.specs.Counts.{Counts}
 use Rattle.pm_model.specs.Moments.{State}
 use Rattle.pud_defs.specs.declared.machine.Command.TheVariants.{Leave}
-use Rattle.pud_defs.specs.declared.machine.Refusal.{Refusal}
 use Rattle.pud_defs.specs.declared.machine.Refusal.TheVariants as refusals
 use Rattle.pud_defs.specs.World.{World, closed}
-use Rattle.pud_defs.specs.Step.{reply_to}
+use Rattle.pud_defs.proofs.Steps.{refused_answer, answer_is_ok}
 use Rattle.log_space.specs.Closed.{Closes}
 use Rattle.puddled.specs.Daemon.{Applies, IsReady}
 use Rattle.puddled.proofs.Coming.{IsReady-settled, is_absent, is_there, world_of_leave, Applies-refused, Applies-unclosed, Applies-changed, space_used, ClosesFirst-idle, ClosesFirst-closing, ClosesFirst-freed}
@@ -14,7 +13,7 @@ use Rattle.puddled.proofs.clients.leave.Goals as goal
 
 pub returns-then-not-branch-clause-reply : goal.returns-then-not-branch-clause-reply
 returns-then-not-branch-clause-reply g c = λ t size e w ready.
-    sym (ap (λ (o : Option Refusal). reply_to o) (is_absent w c.args.client 0 0 (sym c.if-not-branch.true ∙ c.in_ok-is_present.ensures.present t size w ready)))
+    sym (refused_answer w (Leave c.args.client) refusals.Client (is_absent w c.args.client 0 0 (sym c.if-not-branch.true ∙ c.in_ok-is_present.ensures.present t size w ready)))
 
 pub returns-then-not-branch-clause-applies : goal.returns-then-not-branch-clause-applies
 returns-then-not-branch-clause-applies g c = λ t size e w ready.
@@ -24,7 +23,7 @@ returns-then-not-branch-clause-applies g c = λ t size e w ready.
 
 pub returns-clause-reply : goal.returns-clause-reply
 returns-clause-reply g c = λ t size e w ready.
-    sym (ap (λ (o : Option Refusal). reply_to o) (is_there w c.args.client 0 0 (sym c.if-not-branch.false ∙ c.in_ok-is_present.ensures.present t size w ready)))
+    sym (answer_is_ok w (Leave c.args.client) (is_there w c.args.client 0 0 (sym c.if-not-branch.false ∙ c.in_ok-is_present.ensures.present t size w ready)))
 
 pub returns-in_err-close_logs-clause-applies : goal.returns-in_err-close_logs-clause-applies
 returns-in_err-close_logs-clause-applies g c =

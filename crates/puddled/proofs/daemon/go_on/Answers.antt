@@ -8,7 +8,8 @@ use Rattle.pm_model.specs.Counts.{after_fault, fault_of}
 use Rattle.pud_defs.specs.declared.machine.Reply.{Reply}
 use Rattle.pud_defs.specs.World.{world_of}
 use Rattle.pud_defs.specs.Grammar.{command_of}
-use Rattle.pud_defs.specs.Step.{step_reply, step_world}
+use Rattle.pud_defs.specs.Step.{step_answer, step_world}
+use Rattle.pud_defs.specs.Step.Answer.{of_reply}
 use Rattle.puddled.specs.Daemon.{Applies}
 use Rattle.puddled.specs.declared.daemon.StartFault.{StartFault}
 use Rattle.puddled.specs.declared.daemon.RunFault.TheVariants.{Failed}
@@ -48,7 +49,7 @@ returns-in-Ok-clause-settles g c = λ t size e w line counted before shelf done 
     let is = c.in-Ok.is in
     Settles-done size w line c.in-Ok.reply counted _ before mid
     (subst (λ (r : Result Reply HostFault). Applies size w (step_world w line) (fault_of r) before mid) is done)
-    (subst (λ (r : Result Reply HostFault). IfOk r (λ reply. reply ≡ step_reply w line)) is replied)
+    (subst (λ (r : Result Reply HostFault). IfOk r (λ reply. of_reply reply ≡ step_answer w line)) is replied)
     (counted_plain (command_of line) None 0 _ _ plain (counted_nothing _ _ (counts ∙ ap (λ (r : Result Reply HostFault). after_fault (fault_of r) counted) is)))
 
 pub returns-in-Err-Failed-clause-settles : goal.returns-in-Err-Failed-clause-settles

@@ -5,7 +5,8 @@ use Rattle.pm_model.specs.Counts.{Counts, fault_of}
 use Rattle.pud_defs.specs.declared.machine.Command.{Command}
 use Rattle.pud_defs.specs.declared.machine.Command.TheVariants.{Client, Leave, Define, Cut}
 use Rattle.pud_defs.specs.Grammar.{command_of}
-use Rattle.pud_defs.specs.Step.{refusal_by, reply_to, world_by}
+use Rattle.pud_defs.specs.Step.{answer_by, world_by}
+use Rattle.pud_defs.specs.Step.Answer.{of_reply}
 use Rattle.puddled.specs.declared.daemon.StartFault.{StartFault}
 use Rattle.puddled.specs.Faults.{start_fault, is_at_once}
 use Rattle.puddled.specs.Daemon.{Applies}
@@ -22,7 +23,7 @@ returns-in-Ok-Client-clause-settles g c = λ t size e w ready.
     let after = e ∙ sym (ap (λ (x : Counts). x.size) c.come-done.ensures.cause ∙ size_after_fault (fault_of c.come-done.result) (g.H.Host.counts c.args.h.now)) in
     c.go_on.ensures.settles t size after w line (g.H.Host.counts c.args.h.now) old ready.shelf
     (subst (λ (x : Option Command). Applies size w (world_by w x) (fault_of c.come-done.result) old mid) (sym is) (c.come-done.ensures.applies t size e w ready))
-    (subst (λ (x : Option Command). IfOk c.come-done.result (λ reply. reply ≡ reply_to (refusal_by w x))) (sym is) (c.come-done.ensures.reply t size e w ready))
+    (subst (λ (x : Option Command). IfOk c.come-done.result (λ reply. of_reply reply ≡ answer_by w x)) (sym is) (c.come-done.ensures.reply t size e w ready))
     c.come-done.ensures.cause
     (ap is_at_once is)
 
@@ -35,7 +36,7 @@ returns-in-Ok-Leave-clause-settles g c = λ t size e w ready.
     let after = e ∙ sym (ap (λ (x : Counts). x.size) c.leave-done.ensures.cause ∙ size_after_fault (fault_of c.leave-done.result) (g.H.Host.counts c.args.h.now)) in
     c.go_on-in-Ok-Leave.ensures.settles t size after w line (g.H.Host.counts c.args.h.now) old ready.shelf
     (subst (λ (x : Option Command). Applies size w (world_by w x) (fault_of c.leave-done.result) old mid) (sym is) (c.leave-done.ensures.applies t size e w ready))
-    (subst (λ (x : Option Command). IfOk c.leave-done.result (λ reply. reply ≡ reply_to (refusal_by w x))) (sym is) (c.leave-done.ensures.reply t size e w ready))
+    (subst (λ (x : Option Command). IfOk c.leave-done.result (λ reply. of_reply reply ≡ answer_by w x)) (sym is) (c.leave-done.ensures.reply t size e w ready))
     c.leave-done.ensures.cause
     (ap is_at_once is)
 
@@ -48,7 +49,7 @@ returns-in-Ok-Define-clause-settles g c = λ t size e w ready.
     let after = e ∙ sym (ap (λ (x : Counts). x.size) c.define_type-done.ensures.cause ∙ size_after_fault (fault_of c.define_type-done.result) (g.H.Host.counts c.args.h.now)) in
     c.go_on-in-Ok-Define.ensures.settles t size after w line (g.H.Host.counts c.args.h.now) old ready.shelf
     (subst (λ (x : Option Command). Applies size w (world_by w x) (fault_of c.define_type-done.result) old mid) (sym is) (c.define_type-done.ensures.applies t size e w ready (rw c.in-Ok-Define.field-0-is at c.in-Ok-Define.ensures.legal).0 (rw c.in-Ok-Define.field-0-is at c.in-Ok-Define.ensures.legal).1))
-    (subst (λ (x : Option Command). IfOk c.define_type-done.result (λ reply. reply ≡ reply_to (refusal_by w x))) (sym is) (c.define_type-done.ensures.reply t size e w ready))
+    (subst (λ (x : Option Command). IfOk c.define_type-done.result (λ reply. of_reply reply ≡ answer_by w x)) (sym is) (c.define_type-done.ensures.reply t size e w ready))
     c.define_type-done.ensures.cause
     (ap is_at_once is)
 

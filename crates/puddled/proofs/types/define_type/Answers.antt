@@ -1,12 +1,13 @@
-use Rattle.std.proofs.Common.{Option, Some, None, refl, ap, ◌∙◌}
+use Rattle.std.proofs.Common.{Some, None, refl, sym, ◌∙◌}
 use Rattle.pm_model.specs.Words.{reads}
-use Rattle.pud_defs.specs.declared.machine.Refusal.{Refusal}
-use Rattle.pud_defs.specs.Step.{reply_to}
+use Rattle.pud_defs.specs.declared.machine.Command.TheVariants.{Define}
+use Rattle.pud_defs.specs.declared.machine.Refusal.TheVariants.{Clash, Full}
+use Rattle.pud_defs.proofs.Steps.{refused_answer, answer_is_ok}
 use Rattle.puddled.proofs.Defining.{Applies-define, KeepsRest-define, refusal_when_ready}
 use Rattle.puddled.proofs.types.define_type.Goals as goal
 
 pub returns-in-Ok-clause-reply : goal.returns-in-Ok-clause-reply
-returns-in-Ok-clause-reply g c = λ t size e w ready. ap (λ (o : Option Refusal). reply_to o) (c.in-Ok.ensures.refusal t refl ∙ refusal_when_ready size w c.args.id c.args.map _ ready)
+returns-in-Ok-clause-reply g c = λ t size e w ready. sym (answer_is_ok w (Define c.args.id c.args.map) (sym (c.in-Ok.ensures.refusal t refl ∙ refusal_when_ready size w c.args.id c.args.map _ ready)))
 
 pub returns-in-Ok-clause-applies : goal.returns-in-Ok-clause-applies
 returns-in-Ok-clause-applies g c = λ t size e w ready legal_id legal_map.
@@ -15,7 +16,7 @@ returns-in-Ok-clause-applies g c = λ t size e w ready legal_id legal_map.
 pub returns-in-Err-Clash-clause-reply : goal.returns-in-Err-Clash-clause-reply
 returns-in-Err-Clash-clause-reply g c = λ t size e w ready.
     let clause = rw c.in-Err-Clash.field-0-is at c.in-Err-Clash.ensures.refusal in
-    ap (λ (o : Option Refusal). reply_to o) (clause t refl ∙ refusal_when_ready size w c.args.id c.args.map _ ready)
+    sym (refused_answer w (Define c.args.id c.args.map) Clash (sym (clause t refl ∙ refusal_when_ready size w c.args.id c.args.map _ ready)))
 
 pub returns-in-Err-Clash-clause-applies : goal.returns-in-Err-Clash-clause-applies
 returns-in-Err-Clash-clause-applies g c = λ t size e w ready legal_id legal_map.
@@ -25,7 +26,7 @@ returns-in-Err-Clash-clause-applies g c = λ t size e w ready legal_id legal_map
 pub returns-in-Err-Full-clause-reply : goal.returns-in-Err-Full-clause-reply
 returns-in-Err-Full-clause-reply g c = λ t size e w ready.
     let clause = rw c.in-Err-Full.field-0-is at c.in-Err-Full.ensures.refusal in
-    ap (λ (o : Option Refusal). reply_to o) (clause t refl ∙ refusal_when_ready size w c.args.id c.args.map _ ready)
+    sym (refused_answer w (Define c.args.id c.args.map) Full (sym (clause t refl ∙ refusal_when_ready size w c.args.id c.args.map _ ready)))
 
 pub returns-in-Err-Full-clause-applies : goal.returns-in-Err-Full-clause-applies
 returns-in-Err-Full-clause-applies g c = λ t size e w ready legal_id legal_map.

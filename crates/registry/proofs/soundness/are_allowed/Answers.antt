@@ -1,11 +1,14 @@
-use Rattle.std.proofs.Common.{◌≡◌, Some, None, option_map, refl, sym, ap, subst, ◌∙◌, arith}
+use Rattle.std.proofs.Common.{◌≡◌, ◌&&◌, Bool, false, refl, sym, ap, ◌∙◌, arith}
+use Rattle.std.specs.List.{list_all}
+use Rattle.std.proofs.lemmas.Bool.{and_left}
 use Rattle.pm_model.specs.Words.{reads}
 use Rattle.pm_model.specs.Moments.{State}
 use Rattle.pud_defs.specs.declared.layout.TheConstants.{DAEMON_LOG}
 use Rattle.pud_defs.specs.Image.{Image}
-use Rattle.pud_defs.specs.Entries.{log_of}
-use Rattle.log_entry.specs.Reading.{Reading, entry_next, entry_from, PassesOne}
-use Rattle.registry.proofs.Judged.{allowed_none, allowed_further, allowed_fails, allowed_all}
+use Rattle.pud_defs.specs.Entries.{Entry, Log, log_of}
+use Rattle.pud_defs.specs.Registry.{is_allowed}
+use Rattle.log_entry.specs.Reading.{Reading, PassesOne}
+use Rattle.log_entry.proofs.Left.{MakesWhole-start, MakesWhole-more, MakesWhole-decided, MakesWhole-end}
 use Rattle.registry.proofs.soundness.are_allowed.Goals as goal
 
 pub loop-entry-init : goal.loop-entry-init
@@ -14,7 +17,7 @@ loop-entry-init g c = record {
   within = let begun : c.new-reader.result.passed ≡ 0 = ap (λ (r : Reading). r.passed) c.new-reader.ensures in omega arith;
   counts = refl;
   stays = λ t. refl;
-  allowed = λ t image same es are range. allowed_none image c.args.frames (log_of image DAEMON_LOG) es DAEMON_LOG c.new-reader.result c.new-reader.ensures are;
+  allowed = λ t image same es are range. MakesWhole-start {A = Unit {0}} (λ _. list_all (is_allowed c.args.frames (log_of image DAEMON_LOG))) image DAEMON_LOG c.new-reader.result tt es c.new-reader.ensures are;
 }
 
 pub loop-entry-preserved : goal.loop-entry-preserved
@@ -28,26 +31,23 @@ loop-entry-preserved g c =
       stays = λ t. c.next.ensures.stays t ∙ old.stays t;
       allowed = λ t image same es are range.
           let before = ap (λ (s : State). reads s.now.words) (old.stays t) ∙ same in
-          let found : Some (entry_from image c.in-Some.entry) ≡ entry_next image c.loop-entry.reader =
-          subst (λ (i : Image). option_map (entry_from i) (Some c.in-Some.entry) ≡ entry_next i c.loop-entry.reader) before (rw c.in-Some.is at (c.in_ok-entry.ensures.next t)) in
-          allowed_further c.args.overlay.now image c.args.frames (log_of image DAEMON_LOG) es c.loop-entry.reader c.next.new.self c.in-Some.entry range
-          (old.allowed t image same es are range) found passes (sym c.is_allowed.ensures ∙ c.if-not-is_allowed.false);
+          let all = list_all (is_allowed c.args.frames (log_of image DAEMON_LOG)) in
+          let here = sym (c.is_allowed.ensures image (log_of image DAEMON_LOG) range) ∙ c.if-not-is_allowed.false in
+          MakesWhole-more {A = Unit {0}} (λ _. all) image _ c.in-Some.entry _ _ tt tt _ (old.allowed t image same es are range) c.in-Some.is (c.in_ok-entry.ensures.left t image before)
+          (λ behind. sym (ap (λ (b : Bool). b && all behind) here));
     }
 
 pub returns-then-not-is_allowed-clause-allowed : goal.returns-then-not-is_allowed-clause-allowed
 returns-then-not-is_allowed-clause-allowed g c = λ t image same es are range.
     let old = c.loop-entry.invariant in
-    let passes : PassesOne c.in-Some.entry c.loop-entry.reader c.next.new.self = rw c.in-Some.is at c.in_ok-entry.ensures.passes in
     let before = ap (λ (s : State). reads s.now.words) (old.stays t) ∙ same in
-    let found : Some (entry_from image c.in-Some.entry) ≡ entry_next image c.loop-entry.reader =
-    subst (λ (i : Image). option_map (entry_from i) (Some c.in-Some.entry) ≡ entry_next i c.loop-entry.reader) before (rw c.in-Some.is at (c.in_ok-entry.ensures.next t)) in
-    sym (allowed_fails c.args.overlay.now image c.args.frames (log_of image DAEMON_LOG) es c.loop-entry.reader c.next.new.self c.in-Some.entry range
-    (old.allowed t image same es are range) found passes (sym c.is_allowed.ensures ∙ c.if-not-is_allowed.true))
+    let all = list_all (is_allowed c.args.frames (log_of image DAEMON_LOG)) in
+    let here = sym (c.is_allowed.ensures image (log_of image DAEMON_LOG) range) ∙ c.if-not-is_allowed.true in
+    MakesWhole-decided {A = Unit {0}} (λ _. all) image _ c.in-Some.entry _ _ tt _ false (old.allowed t image same es are range) c.in-Some.is (c.in_ok-entry.ensures.left t image before)
+    (λ behind. and_left _ (all behind) here)
 
 pub returns-clause-allowed : goal.returns-clause-allowed
 returns-clause-allowed g c = λ t image same es are range.
     let old = c.loop-entry.invariant in
     let before = ap (λ (s : State). reads s.now.words) (old.stays t) ∙ same in
-    let none : None ≡ entry_next image c.loop-entry.reader =
-    subst (λ (i : Image). option_map (entry_from i) None ≡ entry_next i c.loop-entry.reader) before (rw c.in_default.is at (c.in_ok-entry.ensures.next t)) in
-    sym (allowed_all image c.args.frames (log_of image DAEMON_LOG) es c.loop-entry.reader (old.allowed t image same es are range) none)
+    MakesWhole-end {A = Unit {0}} (λ _. list_all (is_allowed c.args.frames (log_of image DAEMON_LOG))) image _ _ _ tt _ (old.allowed t image same es are range) c.in_default.is (c.in_ok-entry.ensures.left t image before)

@@ -1,13 +1,10 @@
-use Rattle.std.proofs.Common.{◌≡◌, Bool, sym, ap, subst, ◌∙◌, arith}
+use Rattle.std.proofs.Common.{◌≡◌, Bool, sym, ap, ◌∙◌, arith}
 use Rattle.std.proofs.lemmas.Result.{IfOk-weaker}
 use Rattle.pm_model.specs.Words.{reads}
 use Rattle.pm_model.specs.Moments.{State}
 use Rattle.pud_defs.specs.declared.layout.TheConstants.{DAEMON_LOG}
-use Rattle.pud_defs.specs.Image.{Image}
-use Rattle.pud_defs.specs.Entries.{log_of}
 use Rattle.pud_defs.specs.Replay.{settled_by}
 use Rattle.pud_defs.specs.Registry.{is_registry, is_sound}
-use Rattle.registry.specs.Overlaying.{HasRange}
 use Rattle.registry.proofs.Judged.{is_overlay, frames_are, unsound_small, unsound_header, unsound_log, sound_by}
 use Rattle.registry.proofs.soundness.is_sound.Goals as goal
 
@@ -23,7 +20,7 @@ returns-then-not-branch-clause-sound g c = λ t.
     let image = reads (g.H.Host.state c.args.h.now).now.words in
     let first = ap (λ (s : State). reads s.now.words) (c.described_frames.ensures.stays t) in
     let second = ap (λ (s : State). reads s.now.words) (c.of.ensures.stays t) ∙ first in
-    let range = subst (λ (i : Image). HasRange c.in_ok-overlay-in-Some.overlay (log_of i DAEMON_LOG)) first (c.in_ok-overlay-in-Some.ensures.range t) in
+    let range = c.in_ok-overlay-in-Some.ensures.range t image first in
     let described = sym (c.in_ok-described_frames.ensures.frames t) ∙ c.in-Some.is in
     let legal = c.in_ok-has_legal_log-in-Some.ensures.legal t image second range (frames_are size image c.in-Some.frames described) in
     sym (unsound_log size image (sym legal ∙ c.if-not-branch.true))
@@ -35,7 +32,7 @@ returns-else-not-branch-clause-sound g c = λ t.
     let first = ap (λ (s : State). reads s.now.words) (c.described_frames.ensures.stays t) in
     let second = ap (λ (s : State). reads s.now.words) (c.of.ensures.stays t) ∙ first in
     let third = ap (λ (s : State). reads s.now.words) (c.has_legal_log.ensures.stays t) ∙ second in
-    let range = subst (λ (i : Image). HasRange c.in_ok-overlay-in-Some.overlay (log_of i DAEMON_LOG)) first (c.in_ok-overlay-in-Some.ensures.range t) in
+    let range = c.in_ok-overlay-in-Some.ensures.range t image first in
     let described = sym (c.in_ok-described_frames.ensures.frames t) ∙ c.in-Some.is in
     let judged = c.in_ok-has_legal_log-in-Some.ensures.legal t image second range (frames_are size image c.in-Some.frames described) in
     let legal = sym judged ∙ c.if-not-branch.false in

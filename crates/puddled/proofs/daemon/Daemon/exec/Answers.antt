@@ -1,9 +1,9 @@
-use Rattle.std.proofs.Common.{None, Some, Ok, Err, refl, ap, ◌∙◌, rules}
+use Rattle.std.proofs.Common.{None, Some, Ok, Err, refl, ap, ◌∙◌}
 use Rattle.std.proofs.lemmas.Result.{err_from_is_err_and}
 use Rattle.pm_model.specs.Counts.{Counts}
 use Rattle.puddled.specs.Faults.{of_host}
 use Rattle.puddled.proofs.Counted.{not_none, none_is_sound, counted_say, counted_same, host_is_sound}
-use Rattle.puddled.proofs.Lines.{Answers-fault, Answers-unsaid, Answers-said, begins_by_eq, KeepsRest-says, sound_said}
+use Rattle.puddled.proofs.Lines.{Answers-fault, Answers-unsaid, Answers-said, KeepsRest-says, sound_said}
 use Rattle.puddled.proofs.daemon.Daemon.exec.Goals as goal
 use Rattle.puddled.proofs.daemon.Daemon.exec.Goals.{then-aloud+in_ok-say_reply, else-aloud}
 
@@ -42,9 +42,9 @@ returns-clause-answers g c = λ t size e w ready.
     let s = c.in_ok-reply.ensures.settles t size e w ready in
     elim c.if-aloud.branch [
       | then-aloud+in_ok-say_reply b ↦
-          rw (b.if-aloud.true, b.h-is) (Answers-said size w c.args.line.now _ _ _ _ _ _ _ s (Ok c.eq.result) None (b.in_ok-say_reply.ensures.says t) (λ _. refl)
-          (begins_by_eq _ _ (search rules)) (none_is_sound) (counted_same _ _ _ _ _ _ s.counted b.in_ok-say_reply.ensures.cause))
-      | else-aloud b ↦ rw (b.if-aloud.false, b.h-is) (Answers-unsaid size w c.args.line.now _ c.eq.result _ _ _ _ s (begins_by_eq _ _ (search rules)))
+          rw (b.if-aloud.true, b.h-is) (Answers-said size w c.args.line.now _ _ _ _ _ _ _ s (Ok c.is_ok.result) None (b.in_ok-say_reply.ensures.says t) (λ _. refl)
+          c.is_ok.ensures (none_is_sound) (counted_same _ _ _ _ _ _ s.counted b.in_ok-say_reply.ensures.cause))
+      | else-aloud b ↦ rw (b.if-aloud.false, b.h-is) (Answers-unsaid size w c.args.line.now _ c.is_ok.result _ _ _ _ s c.is_ok.ensures)
     ]
 
 pub returns-in_err-say_reply-clause-cause : goal.returns-in_err-say_reply-clause-cause

@@ -1,11 +1,11 @@
-use Rattle.std.proofs.Common.{◌≡◌, Some, None, option_map, refl, ap, subst, ◌∙◌, arith}
+use Rattle.std.proofs.Common.{◌≡◌, refl, ap, ◌∙◌, arith}
 use Rattle.pm_model.specs.Words.{reads}
 use Rattle.pm_model.specs.Moments.{State}
 use Rattle.pud_defs.specs.declared.layout.TheConstants.{DAEMON_LOG}
-use Rattle.pud_defs.specs.Image.{Image}
 use Rattle.pud_defs.specs.Entries.{log_of}
-use Rattle.log_entry.specs.Reading.{Reading, entry_next, entry_from, PassesOne}
-use Rattle.registry.proofs.Overlaid.{gives_none, gives_further, gives_all}
+use Rattle.log_entry.specs.Reading.{Reading, PassesOne}
+use Rattle.log_entry.proofs.Left.{MakesWhole-start, MakesWhole-more, MakesWhole-end}
+use Rattle.registry.proofs.Overlaid.{given_then, given_then-more, gives_all}
 use Rattle.registry.proofs.overlay.Overlay.given.Goals as goal
 
 pub loop-entry-init : goal.loop-entry-init
@@ -14,7 +14,7 @@ loop-entry-init g c = record {
   within = let begun : c.new-reader.result.passed ≡ 0 = ap (λ (r : Reading). r.passed) c.new-reader.ensures in omega arith;
   counts = refl;
   stays = λ t. refl;
-  gives = λ t image same es are range. gives_none image (log_of image DAEMON_LOG) es c.args.w DAEMON_LOG c.new-reader.result c.new-reader.ensures are;
+  gives = λ t image same es are range. MakesWhole-start (given_then (log_of image DAEMON_LOG) c.args.w) image DAEMON_LOG c.new-reader.result _ es c.new-reader.ensures are;
 }
 
 pub loop-entry-preserved : goal.loop-entry-preserved
@@ -29,16 +29,15 @@ loop-entry-preserved g c =
       gives = λ t image same es are range.
           let before = ap (λ (s : State). reads s.now.words) (old.stays t) ∙ same in
           let behind = ap (λ (s : State). reads s.now.words) (c.next.ensures.stays t) ∙ before in
-          let found : Some (entry_from image c.in-Some.entry) ≡ entry_next image c.loop-entry.reader =
-          subst (λ (i : Image). option_map (entry_from i) (Some c.in-Some.entry) ≡ entry_next i c.loop-entry.reader) before (rw c.in-Some.is at (c.in_ok-entry.ensures.next t)) in
-          gives_further image (log_of image DAEMON_LOG) es c.args.w c.loop-entry.reader c.next.new.self c.in-Some.entry c.loop-entry.given c.in_ok-given.given
-          (old.gives t image same es are range) found passes (c.in_ok-given.ensures.more t image behind (log_of image DAEMON_LOG) range);
+          let log = log_of image DAEMON_LOG in
+          MakesWhole-more (given_then log c.args.w) image _ c.in-Some.entry _ _ c.loop-entry.given c.in_ok-given.given _ (old.gives t image same es are range) c.in-Some.is (c.in_ok-entry.ensures.left t image before)
+          (given_then-more log _ c.args.w c.loop-entry.given c.in_ok-given.given (c.in_ok-given.ensures.more t image behind log range));
     }
 
 pub returns-clause-given : goal.returns-clause-given
 returns-clause-given g c = λ t image same es are range.
     let old = c.loop-entry.invariant in
     let before = ap (λ (s : State). reads s.now.words) (old.stays t) ∙ same in
-    let none : None ≡ entry_next image c.loop-entry.reader =
-    subst (λ (i : Image). option_map (entry_from i) None ≡ entry_next i c.loop-entry.reader) before (rw c.in_default.is at (c.in_ok-entry.ensures.next t)) in
-    gives_all image (log_of image DAEMON_LOG) es c.args.w c.loop-entry.reader c.loop-entry.given (old.gives t image same es are range) none
+    let log = log_of image DAEMON_LOG in
+    gives_all log c.args.w es c.loop-entry.given
+    (MakesWhole-end (given_then log c.args.w) image _ _ _ c.loop-entry.given _ (old.gives t image same es are range) c.in_default.is (c.in_ok-entry.ensures.left t image before))

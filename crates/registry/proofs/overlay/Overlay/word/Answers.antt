@@ -10,7 +10,7 @@ use Rattle.registry.proofs.overlay.Overlay.word.Goals as goal
 pub returns-then-is_closed-clause-value : goal.returns-then-is_closed-clause-value
 returns-then-is_closed-clause-value g c = λ t image same over outside.
     let o = c.args.self.now in
-    word_closed o image c.args.w c.in_ok-before.before over outside (leb-true o.hi (o.lo + 1) (sym c.is_closed.ensures ∙ c.if-is_closed.true))
+    word_closed o image c.args.w c.in_ok-before.before over outside (leb-true o.range.hi (o.range.lo + 1) (sym c.is_closed.ensures ∙ c.if-is_closed.true))
     (c.in_ok-before.ensures.value t ∙ ap (λ (i : Image). i c.args.w) same)
 
 pub returns-clause-value : goal.returns-clause-value

@@ -1,0 +1,189 @@
+-- What is left to read of a log, entry by entry, and what is made of its entries meanwhile.
+use Rattle.std.proofs.Common.{◌≡◌, inl, inr, ℕ, ◌+◌, ◌-◌, ◌<◌, ◌≤◌, ◌^◌, ◌&&◌, Bool, true, false, cond, leb, ltb, List, [], ◌∷◌, length, drop, Option, Some, None, option_map, is_some, refl, sym, ap, ap₂, ◌∙◌, arith, add-zero}
+use Rattle.std.proofs.lemmas.Bool.{cond-true, cond-false, cases_Bool, and_left, and_parts, le-leb, lt-leb, leb-true}
+use Rattle.std.proofs.lemmas.Bool.Decides.{leb_tells}
+use Rattle.pud_defs.specs.declared.layout.TheConstants.{LOG_HEADER_WORDS, LOG_ENTRY_WORDS, ENTRY_HEADER_WORDS}
+use Rattle.pud_defs.specs.Image.{Image}
+use Rattle.pud_defs.specs.Entries.{Entry, gate_used, is_legal_gate, words_from, first_entry, entries_in, entries_of}
+use Rattle.pud_defs.specs.Replay.{IsInLog}
+use Rattle.pud_defs.proofs.Entries.{words_from-length, words_from-none, words_from-same, words_from-drop, first_entry-fits, entries_in-first, entries_in-none, entries_in-nothing}
+use Rattle.log_entry.specs.declared.Entry.{Entry as Found}
+use Rattle.log_entry.specs.Reading.{Reading, words_left, entry_next, entries_left, entry_from, PassesOne, Passes, left_before}
+use Rattle.log_entry.proofs.Readings.{next-by}
+
+-- no more words are counted than a log has
+legal_within : (v : ℕ) → is_legal_gate v ≡ true → gate_used v ≤ LOG_ENTRY_WORDS
+legal_within v legal = leb-true (gate_used v) LOG_ENTRY_WORDS (and_parts (ltb v (2 ^ 32)) (leb (gate_used v) LOG_ENTRY_WORDS) legal).1
+
+left_legal : (image : Image) (r : Reading) → is_legal_gate (image r.log_at) ≡ true → entries_left image r ≡ entries_in 0 (words_left image r)
+unfolding entries_left
+left_legal image r legal = cond-true _ _ _ legal
+
+left_illegal : (image : Image) (r : Reading) → is_legal_gate (image r.log_at) ≡ false → entries_left image r ≡ None
+unfolding entries_left
+left_illegal image r illegal = cond-false _ _ _ illegal
+
+-- before the first entry is read all are left
+pub entries_left-start : (image : Image) (at : ℕ) (r : Reading) → r ≡ record { log_at = at; passed = 0 } → entries_left image r ≡ entries_of image at
+unfolding entries_left entries_of
+entries_left-start image at r start =
+    let count : gate_used (image at) - 0 ≡ gate_used (image at) = omega arith in
+    ap (entries_left image) start
+    ∙ ap₂ (λ (k n : ℕ). cond (is_legal_gate (image at)) (entries_in 0 (words_from image k n)) None) (add-zero (at + LOG_HEADER_WORDS)) count
+
+-- images that hold the same log have the same entries left
+pub entries_left-same : (i j : Image) (r : Reading) → ((k : ℕ) → IsInLog r.log_at k → i k ≡ j k) → entries_left i r ≡ entries_left j r
+entries_left-same i j r same =
+    let gate : i r.log_at ≡ j r.log_at = same r.log_at (record { low = omega arith; high = omega arith }) in
+    elim (cases_Bool (is_legal_gate (i r.log_at))) [
+      | inr illegal ↦ left_illegal i r illegal ∙ sym (left_illegal j r (sym (ap is_legal_gate gate) ∙ illegal))
+      | inl legal ↦
+          let within = legal_within (i r.log_at) legal in
+          left_legal i r legal
+          ∙ ap (entries_in 0) (words_from-same i j (r.log_at + LOG_HEADER_WORDS + r.passed) (gate_used (i r.log_at) - r.passed) (λ k low high. same k (record { low = omega arith; high = omega arith })))
+          ∙ ap (λ (v : ℕ). entries_in 0 (words_from j (r.log_at + LOG_HEADER_WORDS + r.passed) (gate_used v - r.passed))) gate
+          ∙ sym (left_legal j r (sym (ap is_legal_gate gate) ∙ legal))
+    ]
+
+-- ---- one more entry is read
+
+none_before : (image : Image) (r : Reading) → entry_next image r ≡ None → entries_left image r ≡ left_before image None r
+none_before image r none = elim (cases_Bool (is_legal_gate (image r.log_at))) [
+  | inr illegal ↦ left_illegal image r illegal ∙ sym (cond-false _ _ _ (and_left _ (leb (gate_used (image r.log_at)) r.passed) illegal))
+  | inl legal ↦
+      let used = gate_used (image r.log_at) in
+      let at = r.log_at + LOG_HEADER_WORDS + r.passed in
+      let ws = words_left image r in
+      let counted : length ws ≡ used - r.passed = words_from-length image at (used - r.passed) in
+      let first : first_entry ws ≡ None = sym (next-by image r (legal_within (image r.log_at) legal)) ∙ none in
+      let by_words : left_before image None r ≡ cond (leb used r.passed) (Some []) None = ap (λ b. cond (b && leb used r.passed) (Some []) None) legal in
+      left_legal image r legal ∙ elim (leb_tells used r.passed) [
+        | inl all ↦ let behind = all.1 in entries_in-nothing ws (words_from-none image at (used - r.passed) (omega arith)) ∙ sym (by_words ∙ cond-true _ _ _ all.0)
+        | inr some ↦ let more = some.1 in elim (entries_in-none ws first) [
+          | inl empty ↦ absurd (let it : length ws ≡ 0 = ap length empty in omega arith)
+          | inr spoilt ↦ spoilt ∙ sym (by_words ∙ cond-false _ _ _ some.0)
+        ]
+      ]
+]
+
+one_before : (image : Image) (e : Found) (old new : Reading) → Some (entry_from image e) ≡ entry_next image old → PassesOne e old new → entries_left image old ≡ left_before image (Some e) new
+one_before image e old new comes passes =
+    let gate : image new.log_at ≡ image old.log_at = ap image passes.same_log in
+    let it = entry_from image e in
+    elim (cases_Bool (is_legal_gate (image old.log_at))) [
+      | inr illegal ↦ left_illegal image old illegal ∙ sym (ap (option_map (λ es. it ∷ es)) (left_illegal image new (ap is_legal_gate gate ∙ illegal)))
+      | inl legal ↦
+          let used = gate_used (image old.log_at) in
+          let at = old.log_at + LOG_HEADER_WORDS + old.passed in
+          let ws = words_left image old in
+          let m = e.n + 2 in
+          let counted : length ws ≡ used - old.passed = words_from-length image at (used - old.passed) in
+          let many : length it.vals ≡ e.n = words_from-length image e.at e.n in
+          let first : first_entry ws ≡ Some it = sym (next-by image old (legal_within (image old.log_at) legal)) ∙ sym comes in
+          let fits : m ≤ used - old.passed = omega (arith, first_entry-fits ws it first) in
+          let passed = passes.passed in
+          let same_log = passes.same_log in
+          let place : at + m ≡ new.log_at + LOG_HEADER_WORDS + new.passed = omega arith in
+          let count : used - old.passed - m ≡ used - new.passed = omega arith in
+          left_legal image old legal
+          ∙ entries_in-first ws it m first (omega arith)
+          ∙ ap (λ xs. option_map (λ es. it ∷ es) (entries_in 0 xs))
+          (words_from-drop image at (used - old.passed) m fits ∙ ap₂ (words_from image) place count
+          ∙ ap (λ (v : ℕ). words_from image (new.log_at + LOG_HEADER_WORDS + new.passed) (gate_used v - new.passed)) (sym gate))
+          ∙ sym (ap (option_map (λ es. it ∷ es)) (left_legal image new (ap is_legal_gate gate ∙ legal)))
+    ]
+
+-- what is found of the words that are read says what is left
+pub left_by : (image : Image) (found : Option Found) (old new : Reading) → option_map (entry_from image) found ≡ entry_next image old → Passes found old new → entries_left image old ≡ left_before image found new
+left_by image None old new none same = none_before image old (sym none) ∙ ap (left_before image None) (sym same)
+left_by image (Some e) old new comes passes = one_before image e old new comes passes
+
+-- ---- whether the log is well formed
+
+pub not_formed : (image : Image) (at : ℕ) → is_legal_gate (image at) ≡ false → is_some (entries_of image at) ≡ false
+not_formed image at illegal =
+    let r : Reading = record { log_at = at; passed = 0 } in
+    ap is_some (sym (entries_left-start image at r refl) ∙ left_illegal image r illegal)
+
+is_some-map : (f : List Entry → List Entry) (o : Option (List Entry)) → is_some (option_map f o) ≡ is_some o
+is_some-map f None = refl
+is_some-map f (Some es) = refl
+
+-- what is left behind an entry is well formed where what was left with it is
+pub formed-more : (image : Image) (found : Option Found) (e : Found) (old now : Reading) → found ≡ Some e → entries_left image old ≡ left_before image found now
+    → is_some (entries_left image now) ≡ is_some (entries_left image old)
+formed-more image found e old now one before =
+    sym (is_some-map (λ es. entry_from image e ∷ es) (entries_left image now)) ∙ sym (ap is_some (before ∙ ap (λ (o : Option Found). left_before image o now) one))
+
+some_if : (b : Bool) (o : Option (List Entry)) → o ≡ cond b (Some []) None → b ≡ is_some o
+some_if true o is = sym (ap is_some is)
+some_if false o is = sym (ap is_some is)
+
+-- where no entry comes next it is where all the words that count were read
+pub formed-end : (image : Image) (found : Option Found) (old now : Reading) → found ≡ None → entries_left image old ≡ left_before image found now → is_legal_gate (image now.log_at) ≡ true
+    → leb (gate_used (image now.log_at)) now.passed ≡ is_some (entries_left image old)
+formed-end image found old now none before legal =
+    let all = leb (gate_used (image now.log_at)) now.passed in
+    some_if all (entries_left image old) (before ∙ ap (λ (o : Option Found). left_before image o now) none ∙ ap (λ (b : Bool). cond (b && all) (Some []) None) legal)
+
+-- ---- where the log is well formed
+
+-- the entries that were left are the one that was found and those behind it
+pub record IsTaken (image : Image) (e : Found) (now : Reading) (es : List Entry) : Type 0 where
+  pub behind : List Entry
+  pub is : es ≡ entry_from image e ∷ behind
+  pub left : entries_left image now ≡ Some behind
+
+in_front : (image : Image) (e : Found) (now : Reading) (es : List Entry) (o : Option (List Entry)) → entries_left image now ≡ o → option_map (λ fs. entry_from image e ∷ fs) o ≡ Some es → IsTaken image e now es
+in_front image e now es None left is = absurd (cc)
+in_front image e now es (Some behind) left is = record { behind = behind; is = cc; left = left }
+
+pub taken : (image : Image) (found : Option Found) (e : Found) (old now : Reading) (es : List Entry) → found ≡ Some e → entries_left image old ≡ left_before image found now
+    → entries_left image old ≡ Some es → IsTaken image e now es
+taken image found e old now es one before left =
+    in_front image e now es (entries_left image now) refl (sym (ap (λ (o : Option Found). left_before image o now) one) ∙ sym before ∙ left)
+
+-- or none is left
+pub none_left : (image : Image) (found : Option Found) (old now : Reading) (es : List Entry) → found ≡ None → entries_left image old ≡ left_before image found now
+    → entries_left image old ≡ Some es → es ≡ []
+none_left image found old now es none before left =
+    let spelled : left_before image None now ≡ Some es = sym (ap (λ (o : Option Found). left_before image o now) none) ∙ sym before ∙ left in
+    elim (cases_Bool (is_legal_gate (image now.log_at) && leb (gate_used (image now.log_at)) now.passed)) [
+      | inl all ↦ (let it : Some [] ≡ Some es = sym (cond-true _ _ _ all) ∙ spelled in cc)
+      | inr some ↦ absurd (let it : None ≡ Some es = sym (cond-false _ _ _ some) ∙ spelled in cc)
+    ]
+
+-- ---- a loop over the entries of a log
+
+-- With what was made so far the entries that are left make the whole.
+pub record MakesWhole {A B : Type 0} (make : A → List Entry → B) (image : Image) (r : Reading) (so_far : A) (whole : B) : Type 0 where
+  pub rest : List Entry
+  pub left : entries_left image r ≡ Some rest
+  pub same : make so_far rest ≡ whole
+
+-- before the first entry
+pub MakesWhole-start : {A B : Type 0} (make : A → List Entry → B) (image : Image) (at : ℕ) (r : Reading) (start : A) (es : List Entry) → r ≡ record { log_at = at; passed = 0 } → entries_of image at ≡ Some es
+    → MakesWhole make image r start (make start es)
+MakesWhole-start make image at r start es begun are = record { rest = es; left = entries_left-start image at r begun ∙ are; same = refl }
+
+-- one entry further
+pub MakesWhole-more : {A B : Type 0} (make : A → List Entry → B) (image : Image) (found : Option Found) (e : Found) (old now : Reading) (before after : A) (whole : B)
+    → MakesWhole make image old before whole → found ≡ Some e → entries_left image old ≡ left_before image found now
+    → ((es : List Entry) → make after es ≡ make before (entry_from image e ∷ es)) → MakesWhole make image now after whole
+MakesWhole-more make image found e old now before after whole so_far one left step =
+    let next = taken image found e old now so_far.rest one left so_far.left in
+    record { rest = next.behind; left = next.left; same = step next.behind ∙ ap (make before) (sym next.is) ∙ so_far.same }
+
+-- an entry that decides, whatever stands behind it
+pub MakesWhole-decided : {A B : Type 0} (make : A → List Entry → B) (image : Image) (found : Option Found) (e : Found) (old now : Reading) (before : A) (whole made : B)
+    → MakesWhole make image old before whole → found ≡ Some e → entries_left image old ≡ left_before image found now
+    → ((es : List Entry) → make before (entry_from image e ∷ es) ≡ made) → made ≡ whole
+MakesWhole-decided make image found e old now before whole made so_far one left decides =
+    let next = taken image found e old now so_far.rest one left so_far.left in
+    sym (decides next.behind) ∙ ap (make before) (sym next.is) ∙ so_far.same
+
+-- no entry is left
+pub MakesWhole-end : {A B : Type 0} (make : A → List Entry → B) (image : Image) (found : Option Found) (old now : Reading) (made : A) (whole : B)
+    → MakesWhole make image old made whole → found ≡ None → entries_left image old ≡ left_before image found now → make made [] ≡ whole
+MakesWhole-end make image found old now made whole so_far none left =
+    ap (make made) (sym (none_left image found old now so_far.rest none left so_far.left)) ∙ so_far.same
