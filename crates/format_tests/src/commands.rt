@@ -4,9 +4,13 @@ use std::process::Abort;
 
 /// What stands for `client`, and in the same way for the other commands: their number, and what they carry.
 const CLIENT: u64 = 1;
+
 const LEAVE: u64 = 2;
+
 const DEFINE: u64 = 3;
+
 const CUT: u64 = 4;
+
 const ARM: u64 = 5;
 
 /// The line as numbers: which command it is, and what it carries; zeroes where it is none.
@@ -39,7 +43,8 @@ fn are_none(rt: &impl Abort, lines: &[&str]) {
 
 #[test]
 fn definitions_of_types(rt: HostRuntime) {
-    let every_field = "type 65535 30 0,1,2,3,4,5,6,7,8,9,10,11,12,13,14,15,16,17,18,19,20,21,22,23,24,25,26,27,28,29";
+    let every_field =
+        "type 65535 30 0,1,2,3,4,5,6,7,8,9,10,11,12,13,14,15,16,17,18,19,20,21,22,23,24,25,26,27,28,29";
     are_commands(
         &rt,
         &[

@@ -7,7 +7,7 @@ fn have_texts(rt: &impl Abort, rows: &[(Reply, &str)]) {
     for (reply, text) in rows {
         let mut out = [0; 32];
         let length = print_reply(*reply, &mut out);
-        assert!(rt; out[..length] == *text.as_bytes(), "{text}");
+        assert!(rt; &out[..length] == text.as_bytes(), "{text}");
     }
 }
 
