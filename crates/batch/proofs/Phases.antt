@@ -14,7 +14,7 @@ use Rattle.pud_defs.specs.declared.layout.TheConstants.{LOG_WORDS, LOG_HEADER_WO
 use Rattle.pud_defs.specs.declared.log_words.TheConstants.{COMMITTING_LO, COMMITTING_HI}
 use Rattle.pud_defs.specs.Image.{Image}
 use Rattle.pud_defs.specs.Entries.{Entry, Log, log_of, gate_lo, gate_hi, gate_used, gate_word, is_closed_gate, entries_in, entries_of, words_from}
-use Rattle.pud_defs.specs.Replay.{device_word, new_value, overwritten, is_in_log, settled_by}
+use Rattle.pud_defs.specs.Replay.{device_word, new_value, overwritten, IsInLog, is_in_log, settled_by}
 use Rattle.pud_defs.proofs.Entries.{words_from-holds, entries_of-is, gate_lo-of, gate_hi-of, gate_used-of, is_legal_gate-of}
 use Rattle.pud_defs.proofs.Replay.{not_inside}
 use Rattle.log_replay.specs.Replaying.{ByLog, SettlesSame, SettlesLog}
@@ -25,8 +25,8 @@ use Rattle.batch.proofs.Writes.{new_value-committed, settled_by-closed_same, set
 -- ---- the entries are made durable behind a closed gate
 
 module _ (size at : ℕ) (es : List Entry) (words : List ℕ) (s : State) (free : IsFree size at es s.now.words) (fits : length words ≤ LOG_ENTRY_WORDS) where
-  entries_apart : (k v : ℕ) → written (placed (at + LOG_HEADER_WORDS) words) k v → (at + LOG_HEADER_WORDS ≤ k) × (k < at + LOG_WORDS)
-  entries_apart k v is = let within = placed_within (at + LOG_HEADER_WORDS) k v words is in (within.0, let h = within.1 in omega arith)
+  entries_apart : (k v : ℕ) → written (placed (at + LOG_HEADER_WORDS) words) k v → (at < k) × IsInLog at k
+  entries_apart k v is = let within = placed_within (at + LOG_HEADER_WORDS) k v words is in let low = within.0 in let high = within.1 in (omega arith, record { low = omega arith; high = omega arith })
 
   pub entries_left : (fault : Option HostFault) (a : State) → Changes (written (placed (at + LOG_HEADER_WORDS) words)) fault s a → Leaves (Silently (IsUntouched s.now.words at)) s a
   entries_left fault a changes =
@@ -34,7 +34,7 @@ module _ (size at : ℕ) (es : List Entry) (words : List ℕ) (s : State) (free 
       (λ before image picked from.
       let outside : (k : ℕ) → is_in_log at k ≡ false → image k ≡ before k = λ k out. elim (from.each k) [
         | inl same ↦ same
-        | inr new ↦ absurd (let place = entries_apart k (image k) new in let low = place.0 in not_inside at k out (omega arith) place.1)
+        | inr new ↦ absurd (not_inside at k out (entries_apart k (image k) new).1)
       ] in
       let gate : image at ≡ before at = elim (from.each at) [ inl same ↦ same | inr new ↦ absurd (let low = (entries_apart at (image at) new).0 in omega arith) ] in
       let closed = free.closed (before at) (picked.each at) in
@@ -54,7 +54,7 @@ module _ (size at : ℕ) (es : List Entry) (words : List ℕ) (s : State) (free 
 
   pub entries_change : (fault : Option HostFault) (a : State) → Changes (written (placed (at + LOG_HEADER_WORDS) words)) fault s a → Changes (ByBatch at es) fault s a
   entries_change fault a changes = Changes-wider (written (placed (at + LOG_HEADER_WORDS) words)) (ByBatch at es) fault s a
-      (λ k v new. let place = entries_apart k v new in let low = place.0 in inl ((let low_at : at ≤ k = omega arith in low_at), place.1)) changes
+      (λ k v new. inl (entries_apart k v new).1) changes
 
 -- ---- the range counts them
 
@@ -126,7 +126,7 @@ module _ (size at : ℕ) (es : List Entry) (words : List ℕ) (s a : State) (fre
       let gate_write = only at (gate_word COMMITTING_LO COMMITTING_HI (length words)) in
       let P = Silently (IsBatched s.now.words at es) in
       let said = Changes-said (written (placed (at + LOG_HEADER_WORDS) words)) None s a first.changes in
-      let gate_only : (k v : ℕ) → written gate_write k v → ByBatch at es k v = λ k v new. let here = only_at at (gate_word COMMITTING_LO COMMITTING_HI (length words)) k v new in inl ((let low : at ≤ k = omega arith in low), (let high : k < at + LOG_WORDS = omega arith in high)) in
+      let gate_only : (k v : ℕ) → written gate_write k v → ByBatch at es k v = λ k v new. let here = only_at at (gate_word COMMITTING_LO COMMITTING_HI (length words)) k v new in inl (record { low = omega arith; high = omega arith }) in
       let others : (k : ℕ) → (k ≡ at → ⊥) → (v : ℕ) → written gate_write k v → ⊥ = λ k apart v new. apart (only_at at (gate_word COMMITTING_LO COMMITTING_HI (length words)) k v new) in
       let gate_value : fault ≡ None → HasOnly (b.now.words at) (gate_word COMMITTING_LO COMMITTING_HI (length words)) = λ none. second.durable none at (gate_word COMMITTING_LO COMMITTING_HI (length words)) (rw (eq-eqb at at refl) refl) in
       let entry_value : (k v : ℕ) → placed (at + LOG_HEADER_WORDS) words k ≡ Some v → HasOnly (b.now.words k) v = λ k v is.
@@ -210,7 +210,7 @@ Commits-settle size at es fault s b d batched p f =
       changes = Changes-then (ByBatch at es) fault s b d p.changes
           (Changes-wider (ByLog at (new_value device_word log)) (ByBatch at es) fault b d
           (λ k v may. elim may [
-            | inl gate ↦ inl ((let low : at ≤ k = omega arith in low), (let high : k < at + LOG_WORDS = omega arith in high))
+            | inl gate ↦ inl (record { low = omega arith; high = omega arith })
             | inr named ↦ inr (record { value = named.value; is = sym (gives k) ∙ named.is })
           ]) f.changes);
       moments = Leaves-then P P P [] s b d (Changes-said (ByBatch at es) None s b p.changes ∙ sym (append-nil s.now.said)) (λ front image q. q) (λ more image q. q) p.moments late;

@@ -83,9 +83,7 @@ module _ (size : ℕ) (s next : StoredWorld) (es : List Entry) (a : State) (batc
   module _ (b : State) (c : Commits DAEMON_LOG es None a b) (image : Image) (picked : Picks b.now.words image) where
     outside_batch : (k v : ℕ) → batch_write es k ≡ Some v → is_in_log DAEMON_LOG k ≡ false
     outside_batch k v some = elim (cases_Bool (is_in_log DAEMON_LOG k)) [
-      | inl inside ↦
-          let place = within_log DAEMON_LOG k inside in
-          absurd (let it : None ≡ Some v = sym (batch_write-apart es size DAEMON_LOG k apart place.0 place.1) ∙ some in cc)
+      | inl inside ↦ absurd (let it : None ≡ Some v = sym (batch_write-apart es size DAEMON_LOG k apart (within_log DAEMON_LOG k inside)) ∙ some in cc)
       | inr outside ↦ outside
     ]
 

@@ -4,13 +4,13 @@ use Rattle.std.specs.Prelude.{All, unwrap_or}
 use Rattle.std.specs.Option.{option_or}
 use Rattle.std.proofs.lemmas.Bool.{and_from, cond-true, cond-false, cases_Bool, eq-eqb}
 use Rattle.std.proofs.lemmas.List.Elements.{All-head, All-tail}
-use Rattle.pud_defs.specs.declared.layout.TheConstants.{LOG_WORDS}
 use Rattle.pud_defs.specs.declared.log_words.TheConstants.{UNDO_ORDER, REDO_ORDER, COMMITTING_LO, COMMITTING_HI}
 use Rattle.pud_defs.specs.Image.{Image}
 use Rattle.pud_defs.specs.Entries.{Entry, Log, log_of, is_closed_gate}
-use Rattle.pud_defs.specs.Replay.{device_word, value_at, is_in_range, given_by, undone, redone, new_value, overwritten, replayed, is_in_log, settled_by}
-use Rattle.pud_defs.proofs.Replay.{value_at-apart, undone-first, redone-first, undone-none, redone-none, new_value-of, settled_by-inside, settled_by-outside, settled_by-closed, within_log}
+use Rattle.pud_defs.specs.Replay.{device_word, value_at, is_in_range, given_by, undone, redone, new_value, overwritten, replayed, IsInLog, is_in_log, settled_by}
+use Rattle.pud_defs.proofs.Replay.{or_none, or_assoc, undone-first, redone-first, undone-none, redone-none, new_value-of, settled_by-inside, settled_by-outside, settled_by-closed, within_log}
 use Rattle.log_replay.specs.Replaying.{NamesApart}
+use Rattle.log_replay.proofs.Left.{value_from-apart}
 use Rattle.batch.specs.Batches.{batch_write, committed, IsBatchEntry, AreBatched}
 
 -- ---- what a committed log gives is what its entries write
@@ -40,24 +40,16 @@ undone_nothing log (e ∷ es) k b =
     undone-first device_word (committed log) e es k
     ∙ ap₂ option_or (undo_given log e k (All-head IsBatchEntry e es b)) (undone_nothing log es k (All-tail IsBatchEntry e es b))
 
-or_none : (o : Option ℕ) → option_or o None ≡ o
-or_none None = refl
-or_none (Some x) = refl
-
 pub new_value-committed : (es : List Entry) (k : ℕ) → AreBatched es → new_value device_word (committed es) k ≡ batch_write es k
 new_value-committed es k b =
     new_value-of device_word (committed es) es k refl
     ∙ ap₂ option_or (redone_written es es k b) (undone_nothing es es k b)
-    ∙ or_none (batch_write es k)
-
-or_assoc : (a b c : Option ℕ) → option_or a (option_or b c) ≡ option_or (option_or a b) c
-or_assoc None b c = refl
-or_assoc (Some x) b c = refl
+    ∙ sym (or_none (batch_write es k))
 
 -- of entries and then others the others count
 pub batch_write-append : (xs ys : List Entry) (k : ℕ) → batch_write (xs ++ ys) k ≡ option_or (batch_write ys k) (batch_write xs k)
 unfolding batch_write
-batch_write-append [] ys k = sym (or_none (batch_write ys k))
+batch_write-append [] ys k = or_none (batch_write ys k)
 batch_write-append (e ∷ xs) ys k = ap (λ (o : Option ℕ). option_or o (value_at e.address e.vals k)) (batch_write-append xs ys k) ∙ sym (or_assoc (batch_write ys k) (batch_write xs k) (value_at e.address e.vals k))
 
 -- one entry writes what it gives
@@ -67,20 +59,12 @@ batch_write-single e k = refl
 
 -- ---- the words of a batch lie apart from the log
 
-value_apart : (e : Entry) (size at k : ℕ) → NamesApart device_word size at e → at ≤ k → k < at + LOG_WORDS → value_at e.address e.vals k ≡ None
-value_apart e size at k names low high =
-    let here : e.address ≡ names.first = let p = names.placed in cc in
-    value_at-apart e.address k e.vals (elim names.apart as (λ _. (k < e.address) ⊎ (e.address + length e.vals ≤ k)) [
-      | inl before ↦ inr (omega arith)
-      | inr behind ↦ inl (omega arith)
-    ])
-
-pub batch_write-apart : (es : List Entry) (size at k : ℕ) → All (NamesApart device_word size at) es → at ≤ k → k < at + LOG_WORDS → batch_write es k ≡ None
+pub batch_write-apart : (es : List Entry) (size at k : ℕ) → All (NamesApart device_word size at) es → IsInLog at k → batch_write es k ≡ None
 unfolding batch_write
-batch_write-apart [] size at k apart low high = refl
-batch_write-apart (e ∷ es) size at k apart low high =
-    ap₂ option_or (batch_write-apart es size at k (All-tail (NamesApart device_word size at) e es apart) low high)
-    (value_apart e size at k (All-head (NamesApart device_word size at) e es apart) low high)
+batch_write-apart [] size at k apart inside = refl
+batch_write-apart (e ∷ es) size at k apart inside =
+    ap₂ option_or (batch_write-apart es size at k (All-tail (NamesApart device_word size at) e es apart) inside)
+    (value_from-apart size at k device_word e (All-head (NamesApart device_word size at) e es apart) inside)
 
 -- ---- a closed log
 
@@ -102,9 +86,8 @@ settled_by-committed size at es i j batched apart log closed same =
     let write = batch_write es in
     let each : (w : ℕ) → settled_by at i w ≡ overwritten write (settled_by at j) w = λ w. elim (cases_Bool (is_in_log at w)) [
       | inl inside ↦
-          let place = within_log at w inside in
           settled_by-inside at i w inside ∙ sym (settled_by-inside at j w inside)
-          ∙ ap (λ (o : Option ℕ). unwrap_or o (settled_by at j w)) (sym (batch_write-apart es size at w apart place.0 place.1))
+          ∙ ap (λ (o : Option ℕ). unwrap_or o (settled_by at j w)) (sym (batch_write-apart es size at w apart (within_log at w inside)))
       | inr outside ↦
           settled_by-outside at i w outside
           ∙ ap (λ (l : Log). replayed device_word l i w) log

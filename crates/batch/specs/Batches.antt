@@ -9,7 +9,7 @@ use Rattle.pud_defs.specs.declared.layout.TheConstants.{LOG_WORDS, LOG_ENTRY_WOR
 use Rattle.pud_defs.specs.declared.log_words.TheConstants.{REDO_SEQ, REDO_ORDER, COMMITTING_LO, COMMITTING_HI, CLOSED_GATE}
 use Rattle.pud_defs.specs.Image.{Image}
 use Rattle.pud_defs.specs.Entries.{Entry, Log, log_of, is_closed_gate, entries_in}
-use Rattle.pud_defs.specs.Replay.{device_word, value_at, entries_or_none, overwritten, is_in_log, settled_by}
+use Rattle.pud_defs.specs.Replay.{device_word, value_at, entries_or_none, overwritten, IsInLog, is_in_log, settled_by}
 use Rattle.log_replay.specs.Replaying.{NamesApart, IsNamed, IsReplayable}
 
 -- these values, for the words from w on
@@ -55,7 +55,7 @@ committed es = record { lo = COMMITTING_LO; hi = COMMITTING_HI; entries = Some e
 
 -- any value may come to the words of the log, and to those of the batch
 abbrev pub ByBatch : ℕ → List Entry → Footprint
-ByBatch at es k v = ((at ≤ k) × (k < at + LOG_WORDS)) ⊎ IsNamed (batch_write es) k
+ByBatch at es k v = IsInLog at k ⊎ IsNamed (batch_write es) k
 
 -- An image that is one of these words but in the log and in words of the batch. With the log replayed it is as it was, or has all of the
 -- batch's words. The log is closed and counts no word, or its range counts the entries of the batch.

@@ -1,5 +1,5 @@
 -- What is left to read of a log, entry by entry, and what is made of its entries meanwhile.
-use Rattle.std.proofs.Common.{◌≡◌, inl, inr, ℕ, ◌+◌, ◌-◌, ◌<◌, ◌≤◌, ◌^◌, ◌&&◌, Bool, true, false, cond, leb, ltb, List, [], ◌∷◌, length, drop, Option, Some, None, option_map, is_some, refl, sym, ap, ap₂, ◌∙◌, arith, add-zero}
+use Rattle.std.proofs.Common.{◌≡◌, inl, inr, ℕ, ◌+◌, ◌-◌, ◌<◌, ◌≤◌, ◌^◌, ◌&&◌, Bool, true, false, cond, leb, ltb, List, [], ◌∷◌, length, drop, Option, Some, None, option_map, is_some, refl, sym, ap, ap₂, subst, ◌∙◌, arith, add-zero}
 use Rattle.std.proofs.lemmas.Bool.{cond-true, cond-false, cases_Bool, and_left, and_parts, le-leb, lt-leb, leb-true}
 use Rattle.std.proofs.lemmas.Bool.Decides.{leb_tells}
 use Rattle.pud_defs.specs.declared.layout.TheConstants.{LOG_HEADER_WORDS, LOG_ENTRY_WORDS, ENTRY_HEADER_WORDS}
@@ -154,6 +154,21 @@ none_left image found old now es none before left =
     ]
 
 -- ---- a loop over the entries of a log
+
+-- the reader reads the log whose gate is this word
+pub record IsReading (at : ℕ) (r : Reading) : Type 0 where
+  pub same_log : r.log_at ≡ at
+  pub within : r.passed ≤ LOG_ENTRY_WORDS
+
+pub IsReading-start : (at : ℕ) (r : Reading) → r ≡ record { log_at = at; passed = 0 } → IsReading at r
+IsReading-start at r start =
+    let begun : r.passed ≡ 0 = ap (λ (x : Reading). x.passed) start in
+    record { same_log = ap (λ (x : Reading). x.log_at) start; within = omega arith }
+
+pub IsReading-more : (at : ℕ) (found : Option Found) (e : Found) (old now : Reading) → IsReading at old → found ≡ Some e → Passes found old now → IsReading at now
+IsReading-more at found e old now reading one passed =
+    let passes : PassesOne e old now = subst (λ (o : Option Found). Passes o old now) one passed in
+    record { same_log = passes.same_log ∙ reading.same_log; within = passes.within }
 
 -- With what was made so far the entries that are left make the whole.
 pub record MakesWhole {A B : Type 0} (make : A → List Entry → B) (image : Image) (r : Reading) (so_far : A) (whole : B) : Type 0 where

@@ -38,7 +38,7 @@ one_word w v before image from =
     ]
 
 pub gate_apart : (at k : ℕ) → is_in_log at k ≡ false → k ≡ at → ⊥
-gate_apart at k outside here = not_inside at k outside (omega arith) (omega arith)
+gate_apart at k outside here = not_inside at k outside (record { low = omega arith; high = omega arith })
 
 -- ---- replayed
 

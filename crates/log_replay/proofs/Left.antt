@@ -20,8 +20,8 @@ use Rattle.log_replay.specs.Replaying.{NamesApart, AreApart, IsLeft, Named}
 
 -- ---- entries give nothing to the words of their log
 
-given_there : (size at k : ℕ) (place : Place) (e : Entry) → NamesApart place size at e → IsInLog at k → value_from (place e.address) e.vals k ≡ None
-given_there size at k place e names inside =
+pub value_from-apart : (size at k : ℕ) (place : Place) (e : Entry) → NamesApart place size at e → IsInLog at k → value_from (place e.address) e.vals k ≡ None
+value_from-apart size at k place e names inside =
     ap (λ (o : Option ℕ). value_from o e.vals k) names.placed
     ∙ value_at-apart names.first k e.vals (⊎_elim (λ before. inr (omega arith)) (λ behind. inl (omega arith)) names.apart)
 
@@ -29,7 +29,7 @@ pub given_by-apart : (place : Place) (size at order : ℕ) (log : Log) (e : Entr
 given_by-apart place size at order log e apart k inside =
     elim (cases_Bool (is_in_range log e && eqb e.order order)) [
       | inr other ↦ cond-false _ _ _ other
-      | inl counts ↦ cond-true _ _ _ counts ∙ given_there size at k place e (apart ((and_parts (is_in_range log e) (eqb e.order order) counts).0)) inside
+      | inl counts ↦ cond-true _ _ _ counts ∙ value_from-apart size at k place e (apart ((and_parts (is_in_range log e) (eqb e.order order) counts).0)) inside
     ]
 
 pub undone-apart : (place : Place) (size at : ℕ) (log : Log) (es : List Entry) → AreApart place size at log es → (k : ℕ) → IsInLog at k → undone place log es k ≡ None

@@ -64,7 +64,7 @@ written_within log e k v is = elim (cases_eq k log.at) [
 
 -- what an append that fits changes lies within its log
 pub written_in_log : (log : OpenLog) (e : Entry) → log.used + entry_size e ≤ LOG_ENTRY_WORDS → (k v : ℕ) → written (entry_write log e) k v → InLog log.at k v
-written_in_log log e fits k v is = elim (written_within log e k v is) [ inl here ↦ (omega arith, omega arith) | inr inside ↦ (omega arith, omega arith) ]
+written_in_log log e fits k v is = elim (written_within log e k v is) [ inl here ↦ record { low = omega arith; high = omega arith } | inr inside ↦ record { low = omega arith; high = omega arith } ]
 
 -- ---- the calls together
 
@@ -187,7 +187,7 @@ second_images log es e fault s t u legal within open_log first second =
       before = o.before;
       picked = o.picked;
       outside = λ k apart.
-          other k (λ here. apart (omega arith, omega arith))
+          other k (λ here. apart (record { low = omega arith; high = omega arith }))
           ∙ (let it : half k ≡ o.before k = elim (o.from.each k) [ inl same ↦ same | inr new ↦ absurd (apart (entry_inside log e k (half k) within new)) ] in it);
       log = elim (from.each log.at) [
         | inl same ↦

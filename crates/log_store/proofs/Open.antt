@@ -101,7 +101,7 @@ pub IsOpen-kept : (may : Footprint) (fault : Option HostFault) (old new : State)
 IsOpen-kept may fault old new log es changes apart open_log =
     let within = (IsOpen-fits log es old.now.words open_log).used_within in
     IsOpen-kept_by may fault old new log es changes
-    (λ k v counts. apart k v (elim counts.is [ inl gate ↦ (omega arith, omega arith) | inr entry ↦ (omega arith, omega arith) ]))
+    (λ k v counts. apart k v (elim counts.is [ inl gate ↦ record { low = omega arith; high = omega arith } | inr entry ↦ record { low = omega arith; high = omega arith } ]))
     open_log
 
 -- ---- one word written

@@ -1,13 +1,14 @@
 -- What the words of a device hold of an open log, and how an entry is appended.
-use Rattle.std.specs.Prelude.{◌≡◌, ◌⊎◌, ℕ, ◌+◌, ◌<◌, ◌≤◌, ◌==◌, cond, List, [], ◌∷◌, ◌++◌, length, Option, Some, None, option_map, Result, Ok, Err, IfOk}
+use Rattle.std.specs.Prelude.{◌≡◌, ◌⊎◌, ℕ, ◌+◌, ◌≤◌, ◌<◌, ◌==◌, cond, List, [], ◌∷◌, ◌++◌, length, Option, Some, None, option_map, Result, Ok, Err, IfOk}
 use Rattle.pm_model.specs.declared.host.HostFault.{HostFault}
 use Rattle.pm_model.specs.Words.{Words, reads, Picks, HasOnly}
 use Rattle.pm_model.specs.Moments.{State}
 use Rattle.pm_model.specs.Changes.{Footprint, Changes, Leaves, Silently, Write, placed, written}
-use Rattle.pud_defs.specs.declared.layout.TheConstants.{LOG_WORDS, LOG_HEADER_WORDS, ENTRY_HEADER_WORDS}
+use Rattle.pud_defs.specs.declared.layout.TheConstants.{LOG_HEADER_WORDS, ENTRY_HEADER_WORDS}
 use Rattle.pud_defs.specs.declared.log_words.TheConstants.{COMMITTING_LO, COMMITTING_HI}
 use Rattle.pud_defs.specs.Image.{Image}
 use Rattle.pud_defs.specs.Entries.{Entry, Log, log_of, gate_word, spelled}
+use Rattle.pud_defs.specs.Replay.{IsInLog}
 use Rattle.log_store.specs.declared.AppendFault.{AppendFault}
 use Rattle.log_store.specs.declared.AppendFault.TheVariants as faults
 
@@ -36,7 +37,7 @@ append_fault (Err (faults.Host fault)) = Some fault
 
 -- any value may come to the words of the log
 abbrev pub InLog : ℕ → Footprint
-InLog at k v = (at ≤ k) × (k < at + LOG_WORDS)
+InLog at k v = IsInLog at k
 
 -- The words hold this log with these entries: its gate and each entry word that counts have one value, and say this. What stands behind
 -- the words that count may be anything.
@@ -59,7 +60,7 @@ with_last e log = record log { entries = option_map (λ es. es ++ e ∷ []) log.
 pub record HasGrown (words : Words) (at : ℕ) (e : Entry) (image : Image) : Type 0 where
   pub before : Image
   pub picked : Picks words before
-  pub outside : (k : ℕ) → ((at ≤ k) × (k < at + LOG_WORDS) → ⊥) → image k ≡ before k
+  pub outside : (k : ℕ) → (IsInLog at k → ⊥) → image k ≡ before k
   pub log : (log_of image at ≡ log_of before at) ⊎ (log_of image at ≡ with_last e (log_of before at))
 
 -- The entry is appended: only its words and the gate that counts it are written; at each moment each image has the log as it was or with the

@@ -1,3 +1,3 @@
 pub mod Rows
-pub mod Tallied
+pub mod Silence
 pub mod Steps

@@ -1,6 +1,7 @@
 -- What the device's rows of words hold after each step.
-use Rattle.std.specs.Prelude.{◌≡◌, ℕ, ◌/◌, ◌%◌, ◌^◌, ◌==◌, Bool, true, false, List, slice_index, cond}
+use Rattle.std.specs.Prelude.{◌≡◌, ℕ, ◌/◌, ◌==◌, Bool, List, slice_index, cond}
 use Rattle.std.specs.List.{list_any}
+use Rattle.pm_model.specs.Picking.{keeps_newest}
 
 -- whether a line is among those
 abbrev pub is_listed : ℕ → List ℕ → Bool
@@ -14,11 +15,7 @@ pub record TakesLine (line : ℕ) (from old new : List ℕ) : Type 0 where
 pub record TakesLines (lines from old new : List ℕ) : Type 0 where
   pub each : (word : ℕ) → slice_index new word ≡ cond (is_listed (word / 8) lines) (slice_index from word) (slice_index old word)
 
--- whether a word keeps its newest value at a power loss with that pick, and not its durable one
-abbrev pub keeps_newest : ℕ → ℕ → Bool
-keeps_newest pick word = cond (pick == 0) false (cond (pick == 1) true (pick / 2 ^ (word % 64) % 2 == 1))
-
--- the value that it keeps
+-- the value that a word keeps at a power loss with that pick
 abbrev pub picked : ℕ → ℕ → ℕ → ℕ → ℕ
 picked pick word durable newest = cond (keeps_newest pick word) newest durable
 

@@ -1,16 +1,11 @@
 -- What a step of the device does to its armed cut and to its rows.
 use Rattle.std.specs.Prelude.{◌≡◌, ℕ, Option, Some, None}
-use Rattle.pm_model.specs.Calls.{Armed, IsDue}
+use Rattle.pm_model.specs.declared.losses.Armed.{Armed}
+use Rattle.pm_model.specs.Calls.{IsDue}
 use Rattle.pm_model.specs.declared.host.HostFault.{HostFault}
 use Rattle.pm_model.specs.declared.host.HostFault.TheVariants.{Failed, Cut}
-use Rattle.pm_file.specs.declared.armed_cut.ArmedCut.{ArmedCut}
 use Rattle.pm_file.specs.declared.device_rows.DeviceRows.{DeviceRows}
 use Rattle.pm_file.specs.Rows.{Loses}
-
--- the cut that is to come
-abbrev pub armed_of : Option ArmedCut → Option Armed
-armed_of None = None
-armed_of (Some cut) = Some (record { steps = cut.steps; pick = cut.pick })
 
 -- After a power loss each of the three rows has the values that the pick gives.
 pub record LosesRows (pick : ℕ) (old new : DeviceRows) : Type 0 where
@@ -25,7 +20,7 @@ pub record KeepsRows (old new : DeviceRows) : Type 0 where
   pub newest : new.newest ≡ old.newest
 
 -- A step that fails keeps the rows; one that is cut was due to be, and loses power with the armed pick.
-pub record Stops (fault : Option HostFault) (armed : Option ArmedCut) (old new : DeviceRows) : Type 0 where
+pub record Stops (fault : Option HostFault) (armed : Option Armed) (old new : DeviceRows) : Type 0 where
   pub failed : fault ≡ Some Failed → KeepsRows old new
-  pub due : fault ≡ Some Cut → IsDue (armed_of armed)
-  pub cut : fault ≡ Some Cut → (cut : ArmedCut) → armed ≡ Some cut → LosesRows cut.pick old new
+  pub due : fault ≡ Some Cut → IsDue armed
+  pub cut : fault ≡ Some Cut → (cut : Armed) → armed ≡ Some cut → LosesRows cut.pick old new

@@ -1,16 +1,13 @@
 //! The device: its rows of words, the file behind them, the armed cut and the counts.
 ghost use Rattle.std.specs.Prelude.{◌≡◌, ◌≢◌, ℕ, ◌*◌, ◌/◌, ◌<◌, ◌≤◌, true, false, Option, Some, None, IfOk, OnErr, slice_index, slice_set};
-ghost use Rattle.pm_model.specs.Counts.{risen, after_fault, after_arm, after_loss_of, fault_of};
+ghost use Rattle.pm_model.specs.Counts.{counts_of, fresh_counts, after_fault, after_arm, after_loss_of, fault_of};
 ghost use Rattle.pm_model.specs.Calls.{IsDue, CountsDown, counted_down};
 ghost use Rattle.pm_file.specs.Rows.{is_listed, TakesLine, TakesLines};
-ghost use Rattle.pm_file.specs.Steps.{armed_of, LosesRows, KeepsRows, Stops};
-ghost use Rattle.pm_file.specs.Tallied.{counts_of, fresh_counts};
+ghost use Rattle.pm_file.specs.Steps.{LosesRows, KeepsRows, Stops};
 
-use crate::armed_cut::ArmedCut;
 use crate::device_file;
 use crate::device_rows::DeviceRows;
-use crate::tally::Tally;
-use pm_model::HostFault;
+use pm_model::{Armed, HostFault, Tally, counted_down};
 use std::fs::OpenFile;
 use std::io::{Seek, Write};
 
@@ -19,7 +16,7 @@ use std::io::{Seek, Write};
 pub(crate) struct Device<F> {
     file: F,
     pub(crate) rows: DeviceRows,
-    pub(crate) armed: Option<ArmedCut>,
+    pub(crate) armed: Option<Armed>,
     /// Whether a power loss could not be written, which the next device call answers.
     pub(crate) owes_fault: bool,
     pub(crate) tally: Tally,
@@ -49,8 +46,7 @@ impl<F: Write + Seek + OpenFile> Device<F> {
         ensures armed { self.new.armed ≡ self.old.armed }
         ensures owed { self.new.owes_fault ≡ self.old.owes_fault }
     {
-        self.tally.count_fault();
-        HostFault::Failed
+        self.tally.fault()
     }
 
     /// The newest value of a word.
@@ -80,7 +76,7 @@ impl<F: Write + Seek + OpenFile> Device<F> {
         requires { word < 8 * self.old.rows.lines }
         ensures cause { counts_of (8 * self.new.rows.lines) self.new.tally
             ≡ after_fault (fault_of result) (counts_of (8 * self.old.rows.lines) self.old.tally) }
-        ensures armed { CountsDown (fault_of result) (armed_of self.old.armed) (armed_of self.new.armed) }
+        ensures armed { CountsDown (fault_of result) self.old.armed self.new.armed }
         ensures stopped { Stops (fault_of result) self.old.armed self.old.rows self.new.rows }
         ensures stored { fault_of result ≡ Option.None → self.new.rows.newest.items
             ≡ slice_set self.old.rows.newest.items word value }
@@ -100,7 +96,7 @@ impl<F: Write + Seek + OpenFile> Device<F> {
         requires { line < self.old.rows.lines }
         ensures cause { counts_of (8 * self.new.rows.lines) self.new.tally
             ≡ after_fault (fault_of result) (counts_of (8 * self.old.rows.lines) self.old.tally) }
-        ensures armed { CountsDown (fault_of result) (armed_of self.old.armed) (armed_of self.new.armed) }
+        ensures armed { CountsDown (fault_of result) self.old.armed self.new.armed }
         ensures stopped { Stops (fault_of result) self.old.armed self.old.rows self.new.rows }
         ensures marked { fault_of result ≡ Option.None → TakesLine line self.old.rows.newest.items
             self.old.rows.marked.items self.new.rows.marked.items }
@@ -120,7 +116,7 @@ impl<F: Write + Seek + OpenFile> Device<F> {
     pub(crate) fn fence(&mut self) -> Result<(), HostFault>
         ensures cause { counts_of (8 * self.new.rows.lines) self.new.tally
             ≡ after_fault (fault_of result) (counts_of (8 * self.old.rows.lines) self.old.tally) }
-        ensures armed { CountsDown (fault_of result) (armed_of self.old.armed) (armed_of self.new.armed) }
+        ensures armed { CountsDown (fault_of result) self.old.armed self.new.armed }
         ensures stopped { Stops (fault_of result) self.old.armed self.old.rows self.new.rows }
         ensures durable { fault_of result ≡ Option.None → TakesLines self.old.rows.noted.lines.items
             self.old.rows.marked.items self.old.rows.durable.items self.new.rows.durable.items }
@@ -141,7 +137,7 @@ impl<F: Write + Seek + OpenFile> Device<F> {
         ensures lost { LosesRows pick self.old.rows self.new.rows }
     {
         self.lose(pick);
-        self.tally.count_loss(pick);
+        self.tally.loss(pick);
     }
 
     /// Arms a cut in the place of one that is armed.
@@ -151,8 +147,8 @@ impl<F: Write + Seek + OpenFile> Device<F> {
         ensures armed { self.new.armed ≡ Option.Some (record { steps = steps; pick = pick }) }
         ensures rows { self.new.rows ≡ self.old.rows }
     {
-        self.armed = Some(ArmedCut { steps, pick });
-        self.tally.count_arm(steps, pick);
+        self.armed = Some(Armed { steps, pick });
+        self.tally.arm(steps, pick);
     }
 
     // Answers the fault of a power loss that could not be written, once.
@@ -177,7 +173,7 @@ impl<F: Write + Seek + OpenFile> Device<F> {
         ensures cause { counts_of (8 * self.new.rows.lines) self.new.tally
             ≡ after_fault (fault_of result) (counts_of (8 * self.old.rows.lines) self.old.tally) }
         ensures size { self.new.rows.lines ≡ self.old.rows.lines }
-        ensures not_due { fault_of result ≡ Option.None → IsDue (armed_of self.old.armed) → ⊥ }
+        ensures not_due { fault_of result ≡ Option.None → IsDue self.old.armed → ⊥ }
         ensures waits { fault_of result ≢ Option.Some HostFault.Cut → self.new.armed ≡ self.old.armed }
         ensures fires { fault_of result ≡ Option.Some HostFault.Cut → self.new.armed ≡ Option.None }
         ensures kept { fault_of result ≡ Option.None → self.new.rows ≡ self.old.rows }
@@ -188,8 +184,7 @@ impl<F: Write + Seek + OpenFile> Device<F> {
             Some(cut) if cut.steps <= 1 => {
                 self.armed = None;
                 self.lose(cut.pick);
-                self.tally.count_cut();
-                Err(HostFault::Cut)
+                Err(self.tally.cut())
             }
             _ => Ok(()),
         }
@@ -199,14 +194,9 @@ impl<F: Write + Seek + OpenFile> Device<F> {
     fn count_step(&mut self)
         ensures rows { self.new.rows ≡ self.old.rows }
         ensures tally { self.new.tally ≡ self.old.tally }
-        ensures armed { armed_of self.new.armed ≡ counted_down (armed_of self.old.armed) }
+        ensures armed { self.new.armed ≡ counted_down self.old.armed }
     {
-        if let Some(cut) = self.armed {
-            self.armed = Some(ArmedCut {
-                steps: cut.steps.saturating_sub(1),
-                pick: cut.pick,
-            });
-        }
+        self.armed = counted_down(self.armed);
     }
 
     // Loses power: the file takes each line in which a durable word changed.

@@ -1,8 +1,9 @@
 //! What the device's words are: durable, marked by a flush, and newest.
 ghost use Rattle.std.specs.Prelude.{All, ◌≡◌, ◌≢◌, ℕ, ◌+◌, ◌*◌, ◌/◌, ◌^◌, ◌<◌, ◌≤◌, ◌==◌, ◌||◌, true, false, [], slice_index, slice_range, slice_set, vec_len, IfOk};
-ghost use Rattle.pm_file.specs.Rows.{is_listed, keeps_newest, picked, TakesLine, TakesLines, Loses};
+ghost use Rattle.pm_file.specs.Rows.{is_listed, picked, TakesLine, TakesLines, Loses};
 
 use crate::line_set::LineSet;
+use pm_model::keeps_newest;
 use std::alloc::{AllocError, Global};
 
 /// The words of a line.
@@ -245,15 +246,4 @@ fn lines_differ(a: &Vec<u64>, b: &Vec<u64>, line: u32) -> bool
         }
     }
     false
-}
-
-// Whether a word keeps its newest value at a power loss with that pick.
-fn keeps_newest(pick: u64, word: usize) -> bool
-    ensures { result ≡ keeps_newest pick word }
-{
-    match pick {
-        0 => false,
-        1 => true,
-        _ => (pick >> (word % 64)) % 2 == 1,
-    }
 }

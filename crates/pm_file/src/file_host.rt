@@ -2,9 +2,8 @@
 ghost use Rattle.std.specs.Prelude.{◌≡◌, ◌≢◌, ℕ, ◌*◌, ◌/◌, ◌<◌, ◌≤◌, Option, Result, IfOk, [], None, vec_len};
 ghost use Rattle.pm_model.specs.Words.{single};
 ghost use Rattle.pm_model.specs.Moments.{State};
-ghost use Rattle.pm_model.specs.Counts.{Counts, after_fault, file_fault_of};
-ghost use Rattle.pm_file.specs.Steps.{armed_of};
-ghost use Rattle.pm_file.specs.Tallied.{counts_of, fresh_counts, silent};
+ghost use Rattle.pm_model.specs.Counts.{Counts, counts_of, fresh_counts, after_fault, file_fault_of};
+ghost use Rattle.pm_file.specs.Silence.{silent};
 
 use crate::device::Device;
 use crate::device_rows::DeviceRows;
@@ -77,7 +76,7 @@ impl<R: Files + Input + Print + Clone + Drop> Host for FileHost<R> {
 
     ghost state = { λ _. silent };
 
-    ghost armed = { λ host. armed_of host.device.armed };
+    ghost armed = { λ host. host.device.armed };
 
     ghost counts = { λ host. counts_of (8 * host.device.rows.lines) host.device.tally };
 

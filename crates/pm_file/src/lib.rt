@@ -2,7 +2,6 @@
 //! script from standard input and replies to standard output.
 #![tactic(auto)]
 
-mod armed_cut;
 mod device;
 mod device_file;
 mod device_rows;
@@ -12,6 +11,5 @@ mod line_set;
 mod script;
 mod shelf;
 mod storage_fault;
-mod tally;
 
 pub use file_host::FileHost;

@@ -6,7 +6,8 @@ use Rattle.std.proofs.lemmas.List.{append-nil}
 use Rattle.pm_model.specs.Words.{Cell, last_or, durable, single, stored, marked, Words, Image, after_store, after_flush, after_fence, after_loss}
 use Rattle.pm_model.specs.Moments.{State}
 use Rattle.pm_mem.specs.declared.event.Event.{Event}
-use Rattle.pm_mem.specs.Events.{takes_newest, image_of, words_from, fresh, told_events}
+use Rattle.pm_model.specs.Picking.{keeps_newest}
+use Rattle.pm_mem.specs.Events.{image_of, words_from, fresh, told_events}
 use Rattle.pm_mem.proofs.Events.{told_events-none}
 use Rattle.pm_mem.specs.Rows.{marked_value, AreOf, AreSingle}
 
@@ -50,13 +51,13 @@ AreOf-fence newest marks durables words rows = record {
 }
 
 lost_values : (newest left marks durables : List ℕ) (words : Words) (pick : ℕ)
-    → ((k : ℕ) → get_or left k 0 ≡ cond (takes_newest pick k) (get_or newest k 0) (get_or durables k 0))
+    → ((k : ℕ) → get_or left k 0 ≡ cond (keeps_newest pick k) (get_or newest k 0) (get_or durables k 0))
     → AreOf newest marks durables words → (k : ℕ) → get_or left k 0 ≡ image_of pick words k
 lost_values newest left marks durables words pick is rows k =
-    is k ∙ ap (λ (x : ℕ). cond (takes_newest pick k) x (get_or durables k 0)) (rows.newest k) ∙ ap (λ (x : ℕ). cond (takes_newest pick k) ((words k).newest) x) (rows.durables k)
+    is k ∙ ap (λ (x : ℕ). cond (keeps_newest pick k) x (get_or durables k 0)) (rows.newest k) ∙ ap (λ (x : ℕ). cond (keeps_newest pick k) ((words k).newest) x) (rows.durables k)
 
 pub AreOf-lost : (newest left marks durables : List ℕ) (words : Words) (pick : ℕ)
-    → ((k : ℕ) → get_or left k 0 ≡ cond (takes_newest pick k) (get_or newest k 0) (get_or durables k 0))
+    → ((k : ℕ) → get_or left k 0 ≡ cond (keeps_newest pick k) (get_or newest k 0) (get_or durables k 0))
     → AreOf newest marks durables words → AreOf left left left (after_loss (image_of pick words) words)
 AreOf-lost newest left marks durables words pick is rows =
     let each : (k : ℕ) → get_or left k 0 ≡ image_of pick words k = lost_values newest left marks durables words pick is rows in

@@ -7,7 +7,8 @@ use Rattle.pm_model.specs.Moments.{State}
 use Rattle.pm_model.specs.Calls.{LosesPower, Steps}
 use Rattle.pm_mem.specs.declared.turns.Turn.{Turn}
 use Rattle.pm_mem.specs.declared.turns.Turn.TheVariants.{Done, Failed, Cut}
-use Rattle.pm_mem.specs.Events.{takes_newest, image_of, after_pick}
+use Rattle.pm_model.specs.Picking.{keeps_newest}
+use Rattle.pm_mem.specs.Events.{image_of, after_pick}
 use Rattle.pm_mem.specs.Turns.{turn_fault, before_step}
 
 Has-last : (x : ℕ) (xs : List ℕ) → Has (x ∷ xs) (last_or x xs)
@@ -19,7 +20,7 @@ Has-either true c = inl refl
 Has-either false c = Has-last c.newest (c.kept ++ c.passed)
 
 pub Picks-image_of : (pick : ℕ) (words : Words) → Picks words (image_of pick words)
-Picks-image_of pick words = record { each = λ k. Has-either (takes_newest pick k) (words k) }
+Picks-image_of pick words = record { each = λ k. Has-either (keeps_newest pick k) (words k) }
 
 pub LosesPower-pick : (pick : ℕ) (old new : State) → new ≡ after_pick pick old → LosesPower old new
 LosesPower-pick pick old new is = record { image = image_of pick old.now.words; picked = Picks-image_of pick old.now.words; is = is }
@@ -32,8 +33,8 @@ Steps-err f Failed x fault old new is answer left = record { done = λ none. abs
 Steps-err f (Cut pick) x fault old new is answer left = record { done = λ none. absurd (cc (is, none)); failed = λ failed. absurd (cc (is, answer, failed)); cut = λ _. LosesPower-pick pick old new left }
 
 -- pick 0 leaves each word's durable value, pick 1 each word's newest
-pub takes_newest-zero : (k : ℕ) → takes_newest 0 k ≡ false
-takes_newest-zero k = rw (bit_at-zero (k % 64))
+pub keeps_newest-zero : (k : ℕ) → keeps_newest 0 k ≡ false
+keeps_newest-zero k = rw (bit_at-zero (k % 64))
 
-pub takes_newest-one : (k : ℕ) → takes_newest 1 k ≡ true
-takes_newest-one k = refl
+pub keeps_newest-one : (k : ℕ) → keeps_newest 1 k ≡ true
+keeps_newest-one k = refl

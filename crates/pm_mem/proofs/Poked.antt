@@ -7,7 +7,8 @@ use Rattle.pm_model.specs.Words.{Cell, durable, single, stored, marked, fenced, 
 use Rattle.pm_model.specs.Moments.{State, stepped}
 use Rattle.pm_mem.specs.declared.event.Event.{Event}
 use Rattle.pm_mem.specs.declared.event.Event.TheVariants.{Store, Flush, Fence, Lost, Said, Blank}
-use Rattle.pm_mem.specs.Events.{takes_newest, image_of, words_from, nothing, after, replayed, start, told_events, blanked, with_value, always}
+use Rattle.pm_model.specs.Picking.{keeps_newest}
+use Rattle.pm_mem.specs.Events.{image_of, words_from, nothing, after, replayed, start, told_events, blanked, with_value, always}
 use Rattle.pm_mem.specs.Rows.{marked_value, AreOf, AreSingle}
 use Rattle.pm_mem.proofs.Followed.{get_or-set, at_choice}
 
@@ -70,7 +71,7 @@ after-blanked w v (Flush line) s = stepped_always (after_flush line) (after_flus
 after-blanked w v Fence s = stepped_always after_fence after_fence w v s (λ i k. (fence_choice (eqb k w) v (s.now.words k)) i)
 after-blanked w v (Lost pick) s =
     stepped_always (after_loss (image_of pick (with_value w v s.now.words))) (after_loss (image_of pick s.now.words)) w v s
-    (λ i k. (loss_choice (takes_newest pick k) (eqb k w) v (s.now.words k)) i)
+    (λ i k. (loss_choice (keeps_newest pick k) (eqb k w) v (s.now.words k)) i)
 after-blanked w v (Said byte) s = refl
 after-blanked w v Blank s = refl
 

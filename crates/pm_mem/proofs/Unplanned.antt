@@ -1,7 +1,7 @@
 -- Over a plan that lists nothing, with room left, no call fails, and only an armed cut cuts.
 use Rattle.std.proofs.Common.{◌≡◌, ℕ, ◌+◌, ◌<◌, ◌≤◌, Bool, false, cond, ◌||◌, eqb, ltb, List, [], Option, None, ap, ◌∙◌, arith}
 use Rattle.std.proofs.lemmas.Bool.Decides.{nat_tests}
-use Rattle.pm_mem.specs.declared.turns.Arm.{Arm}
+use Rattle.pm_model.specs.declared.losses.Armed.{Armed}
 use Rattle.pm_mem.specs.declared.turns.Turn.TheVariants.{Done, Failed}
 use Rattle.pm_mem.specs.declared.turns.Turns.{Turns}
 use Rattle.pm_mem.specs.Turns.{call_number, is_listed, call_fails, say_fails, planned, armed_now, first_of, pick_due, cut_or_done, turn_of}
@@ -29,4 +29,4 @@ turn_of-unplanned t none room =
 
 -- with nothing armed it is carried out
 pub turn_of-unarmed : (t : Turns) → IsUnplanned t → t.steps < t.limit → t.armed ≡ None → turn_of t ≡ Done
-turn_of-unarmed t none room unarmed = turn_of-unplanned t none room ∙ ap (λ (armed : Option Arm). cut_or_done (armed_now armed)) unarmed
+turn_of-unarmed t none room unarmed = turn_of-unplanned t none room ∙ ap (λ (armed : Option Armed). cut_or_done (armed_now armed)) unarmed

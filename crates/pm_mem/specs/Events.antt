@@ -1,17 +1,14 @@
 -- What is told of the moments so far, from the words at the start and what happened since.
-use Rattle.std.specs.Prelude.{ℕ, ◌/◌, ◌%◌, ◌^◌, Bool, ◌||◌, ◌==◌, cond, List, [], ◌∷◌, None, slice_index}
+use Rattle.std.specs.Prelude.{ℕ, ◌==◌, cond, List, [], ◌∷◌, None, slice_index}
+use Rattle.pm_model.specs.Picking.{keeps_newest}
 use Rattle.pm_model.specs.Words.{durable, single, Words, Image, after_store, after_flush, after_fence, after_loss}
 use Rattle.pm_model.specs.Moments.{Moment, State, stepped, one_said}
 use Rattle.pm_mem.specs.declared.event.Event.{Event}
 use Rattle.pm_mem.specs.declared.event.Event.TheVariants.{Store, Flush, Fence, Lost, Said, Blank}
 
--- whether a power loss with that pick leaves the newest value of word k: pick 1 does of each word, and so pick 0 of none
-abbrev pub takes_newest : ℕ → ℕ → Bool
-takes_newest pick k = (pick == 1) || (pick / 2 ^ (k % 64) % 2 == 1)
-
 -- what a power loss with that pick leaves: of each word the newest value or the durable one
 abbrev pub image_of : ℕ → Words → Image
-image_of pick words k = cond (takes_newest pick k) (words k).newest (durable (words k))
+image_of pick words k = cond (keeps_newest pick k) (words k).newest (durable (words k))
 
 -- each word has its value at the start and no other
 abbrev pub words_from : List ℕ → Words

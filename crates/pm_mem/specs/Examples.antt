@@ -2,7 +2,8 @@
 use Rattle.std.specs.Prelude.{◌≡◌, true, false, [], ◌∷◌, Some, refl}
 use Rattle.pm_model.specs.Words.{Cell, durable, single, stored, marked, fenced}
 use Rattle.pm_mem.specs.declared.event.Event.TheVariants.{Store, Blank}
-use Rattle.pm_mem.specs.Events.{takes_newest, image_of, blanked}
+use Rattle.pm_model.specs.Picking.{keeps_newest}
+use Rattle.pm_mem.specs.Events.{image_of, blanked}
 use Rattle.pm_mem.specs.Rows.{marked_value}
 use Rattle.pm_mem.specs.Turns.{is_listed, planned}
 
@@ -18,14 +19,14 @@ not_listed : is_listed (3 ∷ 4294967295 ∷ []) 4294967295 ≡ false
 not_listed = refl
 
 -- bits 1 and 2 are set in 6; word 65 has the bit of word 1
-clear_bit : takes_newest 6 0 ≡ false
+clear_bit : keeps_newest 6 0 ≡ false
 clear_bit = refl
 
-set_bit : takes_newest 6 65 ≡ true
+set_bit : keeps_newest 6 65 ≡ true
 set_bit = refl
 
 -- pick 1 takes each word's newest value, not bit 0 alone
-whole : takes_newest 1 5 ≡ true
+whole : keeps_newest 1 5 ≡ true
 whole = refl
 
 -- a value that was marked and then overwritten: a fence makes it durable

@@ -1,5 +1,5 @@
 pub mod Turns
-pub mod Tallies
+pub mod Watches
 pub mod Events
 pub mod Rows
 pub mod Device

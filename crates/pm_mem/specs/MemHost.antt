@@ -3,13 +3,11 @@ use Rattle.std.specs.Prelude.{◌≡◌, ℕ, ◌+◌, ◌-◌, ◌*◌, ◌≤�
 use Rattle.pm_model.specs.declared.host.HostFault.{HostFault}
 use Rattle.pm_model.specs.declared.host.HostFault.TheVariants as faults
 use Rattle.pm_model.specs.Moments.{State, Shelf}
-use Rattle.pm_model.specs.Counts.{Counts}
-use Rattle.pm_model.specs.Calls.{Armed}
+use Rattle.pm_model.specs.Counts.{Counts, counts_of}
+use Rattle.pm_model.specs.declared.losses.Armed.{Armed}
 use Rattle.pm_mem.specs.declared.turns.Turns.{Turns}
-use Rattle.pm_mem.specs.declared.tally.Watch.{Watch}
+use Rattle.pm_mem.specs.declared.watch.Watch.{Watch}
 use Rattle.pm_mem.specs.declared.mem_host.MemHost.{MemHost}
-use Rattle.pm_mem.specs.Turns.{told_armed}
-use Rattle.pm_mem.specs.Tallies.{counts_of}
 use Rattle.pm_mem.specs.Device.{device_state}
 use Rattle.pm_mem.specs.Shelves.{shelf_of}
 
@@ -32,7 +30,7 @@ abbrev pub mem_turns : MemHost → Turns
 mem_turns m = m.turns
 
 abbrev pub mem_armed : MemHost → Option Armed
-mem_armed m = told_armed m.turns.armed
+mem_armed m = m.turns.armed
 
 -- the watched word and the count of its loads
 abbrev pub mem_watch : MemHost → Watch

@@ -5,9 +5,9 @@ use Rattle.pm_model.specs.declared.host.HostFault.{HostFault}
 use Rattle.pm_model.specs.declared.host.HostFault.TheVariants as faults
 use Rattle.pm_model.specs.Words.{Words}
 use Rattle.pm_model.specs.Moments.{State, stepped}
-use Rattle.pm_model.specs.Calls.{Armed}
+use Rattle.pm_model.specs.declared.losses.Armed.{Armed}
+use Rattle.pm_model.specs.Calls.{counted_down}
 use Rattle.pm_mem.specs.Events.{after_pick}
-use Rattle.pm_mem.specs.declared.turns.Arm.{Arm}
 use Rattle.pm_mem.specs.declared.turns.Turns.{Turns}
 use Rattle.pm_mem.specs.declared.turns.Turn.{Turn}
 use Rattle.pm_mem.specs.declared.turns.Turn.TheVariants.{Done, Failed, Cut}
@@ -40,13 +40,9 @@ planned [] step = None
 planned (cut ∷ cuts) step = cond (cut.0 == step) (Some cut.1) (planned cuts step)
 
 -- the pick of an armed cut that falls on the next step
-abbrev pub armed_now : Option Arm → Option ℕ
+abbrev pub armed_now : Option Armed → Option ℕ
 armed_now None = None
 armed_now (Some a) = cond (nat_le a.steps 1) (Some a.pick) None
-
-abbrev pub counted : Option Arm → Option Arm
-counted None = None
-counted (Some a) = Some (record a { steps = a.steps - 1 })
 
 abbrev pub first_of : Option ℕ → Option ℕ → Option ℕ
 first_of None other = other
@@ -67,7 +63,7 @@ turn_of t = cond (call_fails t || t.steps == t.limit) Failed (cut_or_done (pick_
 -- a step that fails does not count as a step; after a cut nothing is armed
 abbrev pub after_step : Turn → Turns → Turns
 after_step Failed t = after_call t
-after_step Done t = record (after_call t) { steps = t.steps + 1; armed = counted t.armed }
+after_step Done t = record (after_call t) { steps = t.steps + 1; armed = counted_down t.armed }
 after_step (Cut pick) t = record (after_call t) { steps = t.steps + 1; armed = None }
 
 -- a device step makes f of the words, or power is lost in its place, or nothing happens
@@ -91,8 +87,3 @@ turn_fault (Cut pick) = Some faults.Cut
 -- the fault that another call answers
 abbrev pub call_fault : Bool → Option HostFault
 call_fault fails = cond fails (Some faults.Failed) None
-
--- an armed cut as every host tells it
-abbrev pub told_armed : Option Arm → Option Armed
-told_armed None = None
-told_armed (Some a) = Some (record { steps = a.steps; pick = a.pick })

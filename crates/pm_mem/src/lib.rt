@@ -7,8 +7,8 @@ mod event;
 mod mem_host;
 mod plan;
 mod rows;
-mod tally;
 mod turns;
+mod watch;
 
 pub use mem_host::MemHost;
 pub use plan::Plan;

@@ -5,9 +5,9 @@ ghost use Rattle.pm_mem.specs.Shelves.{shelf_of};
 
 use crate::device::Device;
 use crate::plan::Plan;
-use crate::tally::{Tally, Watch};
-use crate::turns::{Arm, Turn, Turns};
-use pm_model::{FILE_READ_LIMIT, FileFault, Host, HostFault};
+use crate::turns::{Turn, Turns};
+use crate::watch::Watch;
+use pm_model::{Armed, FILE_READ_LIMIT, FileFault, Host, HostFault, Tally};
 use std::alloc::{AllocError, Global};
 use std::collections::BTreeMap;
 
@@ -36,7 +36,7 @@ pub struct MemHost {
 impl MemHost {
     ghost use Rattle.std.specs.Prelude.{None, IfOk, slice_index};
     ghost use Rattle.pm_model.specs.Moments.{with_script, with_shelf};
-    ghost use Rattle.pm_model.specs.Counts.{after_fault, fault_of};
+    ghost use Rattle.pm_model.specs.Counts.{fresh_counts, after_fault, fault_of};
     ghost use Rattle.pm_mem.specs.Events.{fresh, always};
     ghost use Rattle.pm_mem.specs.Turns.{call_fails, after_call, turn_of, turn_fault, after_step, before_step};
     ghost use Rattle.pm_mem.specs.MemHost.{mem_state, mem_counts, mem_turns, mem_watch, answer, KeepsCounts, HasStepRoom};
@@ -55,7 +55,7 @@ impl MemHost {
         ensures state { IfOk result (λ host. mem_state host ≡ fresh script.now) }
         ensures turns { IfOk result (λ host. mem_turns host ≡ record { plan = plan; calls = 0; steps = 0; limit = steps; room = room; armed = None }) }
         ensures watch { IfOk result (λ host. mem_watch host ≡ record { word = None; count = 0 }) }
-        ensures counts { IfOk result (λ host. mem_counts host ≡ record { size = words; faults = 0; cuts = 0; arms = 0; arm_steps = 0; arm_pick = 0; losses = 0; loss_pick = 0 }) }
+        ensures counts { IfOk result (λ host. mem_counts host ≡ fresh_counts words) }
     {
         let moments = 2 * steps as usize + room as usize;
         Ok(MemHost {
@@ -178,7 +178,7 @@ impl Host for MemHost {
     ghost use Rattle.pm_model.specs.Calls.{Steps, CountsDown, LosesAtOnce, TakesByte, Says, LeavesFile};
     ghost use Rattle.pm_mem.specs.Events.{image_of};
     ghost use Rattle.pm_mem.specs.Turns.{call_fails, after_call, call_fault, turn_of, turn_fault, after_step, after_turn, say_fails, after_say};
-    ghost use Rattle.pm_mem.specs.Tallies.{after_load};
+    ghost use Rattle.pm_mem.specs.Watches.{after_load};
     ghost use Rattle.pm_mem.specs.MemHost.{mem_tells, mem_state, mem_counts, mem_turns, mem_armed, mem_watch, answer, next_byte, after_byte};
 
     ghost tells = { mem_tells };
@@ -285,7 +285,7 @@ impl Host for MemHost {
         ensures watch { mem_watch self.new ≡ mem_watch self.old }
     {
         self.tally.arm(steps, pick);
-        self.turns.armed = Some(Arm { steps, pick });
+        self.turns.armed = Some(Armed { steps, pick });
     }
 
     fn read(&mut self) -> Result<Option<u8>, HostFault>

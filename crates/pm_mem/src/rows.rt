@@ -1,7 +1,8 @@
 //! Rows of values, one of each word.
 ghost use Rattle.std.specs.Prelude.{◌≡◌, ℕ, ◌+◌, ◌*◌, ◌/◌, ◌<◌, ◌≤◌, ◌==◌, cond, length, slice_index, vec_len, IfOk};
-ghost use Rattle.pm_mem.specs.Events.{takes_newest};
+ghost use Rattle.pm_model.specs.Picking.{keeps_newest};
 
+use pm_model::keeps_newest;
 use std::alloc::{AllocError, Global};
 
 /// The number of words in a line.
@@ -42,7 +43,7 @@ pub fn copy_line(to: &mut Vec<u64>, from: &[u64], line: u32)
 pub fn lose(newest: &mut Vec<u64>, durable: &[u64], pick: u64)
     requires { vec_len newest.old ≡ length durable.now }
     ensures values { (k : ℕ) → slice_index newest.new.items k
-        ≡ cond (takes_newest pick k) (slice_index newest.old.items k) (slice_index durable.now k) }
+        ≡ cond (keeps_newest pick k) (slice_index newest.old.items k) (slice_index durable.now k) }
     ensures len { vec_len newest.new ≡ vec_len newest.old }
 {
     for word in 0..newest.len() {
@@ -50,11 +51,4 @@ pub fn lose(newest: &mut Vec<u64>, durable: &[u64], pick: u64)
             newest[word] = durable[word];
         }
     }
-}
-
-// Whether a power loss with that pick leaves the newest value of a word. Pick 1 does so of each word.
-fn keeps_newest(pick: u64, word: usize) -> bool
-    ensures { result ≡ takes_newest pick word }
-{
-    pick == 1 || (pick >> (word % 64)) % 2 == 1
 }

@@ -1,15 +1,9 @@
 //! Which call comes next, and what becomes of it by the plan, the room and an armed cut.
 ghost use Rattle.std.specs.Prelude.{◌≡◌, ◌≤◌};
-ghost use Rattle.pm_mem.specs.Turns.{planned, armed_now, counted, call_fails, after_call, say_fails, after_say, turn_of, after_step};
+ghost use Rattle.pm_mem.specs.Turns.{planned, armed_now, call_fails, after_call, say_fails, after_say, turn_of, after_step};
 
 use crate::plan::Plan;
-
-/// A cut that is to come, at the device step of number `steps` from now on.
-#[derive(Clone, Copy, Debug)]
-pub struct Arm {
-    pub steps: u32,
-    pub pick: u64,
-}
+use pm_model::{Armed, counted_down};
 
 /// What becomes of a device step.
 #[derive(Clone, Copy, Debug)]
@@ -32,7 +26,7 @@ pub struct Turns {
     pub limit: u32,
     /// The number of bytes that may be said yet.
     pub room: u32,
-    pub armed: Option<Arm>,
+    pub armed: Option<Armed>,
 }
 
 impl Turns {
@@ -87,7 +81,7 @@ impl Turns {
                 Turn::Cut(pick)
             }
             None => {
-                self.armed = count_down(self.armed);
+                self.armed = counted_down(self.armed);
                 Turn::Done
             }
         }
@@ -107,23 +101,11 @@ fn pick_at(cuts: &[(u32, u64)], step: u32) -> Option<u64>
 }
 
 // The pick of an armed cut that is due at the next step.
-fn pick_now(armed: Option<Arm>) -> Option<u64>
+fn pick_now(armed: Option<Armed>) -> Option<u64>
     ensures { result ≡ armed_now armed }
 {
     match armed {
         Some(arm) if arm.steps <= 1 => Some(arm.pick),
         _ => None,
-    }
-}
-
-fn count_down(armed: Option<Arm>) -> Option<Arm>
-    ensures { result ≡ counted armed }
-{
-    match armed {
-        Some(arm) => Some(Arm {
-            steps: arm.steps.saturating_sub(1),
-            pick: arm.pick,
-        }),
-        None => None,
     }
 }

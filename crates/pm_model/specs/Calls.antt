@@ -3,6 +3,7 @@ use Rattle.std.specs.Prelude.{◌≡◌, ◌⊎◌, ℕ, ◌-◌, ◌≤◌, Lis
 use Rattle.std.specs.Str.{bytes_eq}
 use Rattle.pm_model.specs.declared.host.HostFault.{HostFault}
 use Rattle.pm_model.specs.declared.host.HostFault.TheVariants.{Failed, Cut}
+use Rattle.pm_model.specs.declared.losses.Armed.{Armed}
 use Rattle.pm_model.specs.Words.{Image, Words, Picks, IsRested, after_loss}
 use Rattle.pm_model.specs.Moments.{State, Shelf, stepped, all_said, with_script, with_shelf}
 
@@ -22,11 +23,7 @@ pub record Steps (f : Words → Words) (fault : Option HostFault) (old new : Sta
   pub failed : fault ≡ Some Failed → new ≡ old
   pub cut : fault ≡ Some Cut → LosesPower old new
 
--- a cut that is to come: at which step from now on, and with which pick
-pub record Armed : Type 0 where
-  pub steps : ℕ
-  pub pick : ℕ
-
+-- after a step that was carried out
 abbrev pub counted_down : Option Armed → Option Armed
 counted_down None = None
 counted_down (Some a) = Some (record a { steps = a.steps - 1 })

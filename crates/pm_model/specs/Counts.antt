@@ -3,6 +3,7 @@ use Rattle.std.specs.Prelude.{ℕ, ◌+◌, ◌-◌, ◌^◌, ◌≤◌, Option,
 use Rattle.pm_model.specs.declared.host.HostFault.{HostFault}
 use Rattle.pm_model.specs.declared.host.HostFault.TheVariants.{Failed, Cut}
 use Rattle.pm_model.specs.declared.host.FileFault.{FileFault}
+use Rattle.pm_model.specs.declared.tally.Tally.{Tally}
 use Rattle.pm_model.specs.declared.host.FileFault.TheVariants as file_faults
 
 pub record Counts : Type 0 where
@@ -22,6 +23,14 @@ risen n = cond (nat_lt n (2 ^ 64 - 1)) (n + 1) n
 -- it rose, or stands at its type's end
 abbrev pub Rose : ℕ → ℕ → Type 0
 Rose before now = risen before ≤ now
+
+-- by what a host keeps of them, with its size
+abbrev pub counts_of : ℕ → Tally → Counts
+counts_of size t = record { size = size; faults = t.faults; cuts = t.cuts; arms = t.arms; arm_steps = t.arm_steps; arm_pick = t.arm_pick; losses = t.losses; loss_pick = t.loss_pick }
+
+-- those of a host for which nothing was counted yet
+abbrev pub fresh_counts : ℕ → Counts
+fresh_counts size = record { size = size; faults = 0; cuts = 0; arms = 0; arm_steps = 0; arm_pick = 0; losses = 0; loss_pick = 0 }
 
 abbrev pub after_fault : Option HostFault → Counts → Counts
 after_fault None c = c

@@ -2,4 +2,5 @@ pub mod Words
 pub mod Moments
 pub mod Counts
 pub mod Calls
+pub mod Picking
 pub mod Changes

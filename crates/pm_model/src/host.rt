@@ -3,7 +3,8 @@ ghost use Rattle.std.specs.Prelude.{◌≡◌, ◌≢◌, ◌<◌, ◌≤◌, �
 ghost use Rattle.pm_model.specs.Words.{after_store, after_flush, after_fence};
 ghost use Rattle.pm_model.specs.Moments.{State, with_shelf};
 ghost use Rattle.pm_model.specs.Counts.{Counts, after_fault, after_arm, after_loss_of, fault_of, file_fault_of};
-ghost use Rattle.pm_model.specs.Calls.{Armed, Steps, CountsDown, LosesAtOnce, TakesByte, Says, shelved, LeavesFile};
+ghost use Rattle.pm_model.specs.declared.losses.Armed.{Armed};
+ghost use Rattle.pm_model.specs.Calls.{Steps, CountsDown, LosesAtOnce, TakesByte, Says, shelved, LeavesFile};
 
 use std::alloc::Global;
 

@@ -3,5 +3,9 @@
 #![tactic(auto)]
 
 mod host;
+mod losses;
+mod tally;
 
 pub use host::{FILE_READ_LIMIT, FileFault, Host, HostFault};
+pub use losses::{Armed, counted_down, keeps_newest};
+pub use tally::Tally;

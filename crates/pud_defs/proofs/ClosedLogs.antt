@@ -7,7 +7,7 @@ use Rattle.pud_defs.specs.declared.log_words.TheConstants.{CLOSED_GATE}
 use Rattle.pud_defs.specs.Image.{Image}
 use Rattle.pud_defs.specs.Layout.{tables_end, log_at}
 use Rattle.pud_defs.specs.Entries.{is_closed_gate, entries_of}
-use Rattle.pud_defs.specs.Replay.{is_in_log, beside_log}
+use Rattle.pud_defs.specs.Replay.{IsInLog, is_in_log, beside_log}
 use Rattle.pud_defs.specs.Spaces.{space_record_at, is_closed_range, is_closed_log, has_closed_logs, are_closed_logs, IsGateOf}
 use Rattle.pud_defs.specs.World.{StoredWorld, world_of}
 use Rattle.pud_defs.proofs.Replay.{entries_of-closed, beside_log-outside, outside_log}
@@ -43,10 +43,10 @@ module _ (F client : ℕ) (i j : Image) (anew : IsClosedAnew F client i j) where
   behind_gate : (c n k : ℕ) → log_at F c n < k → k < log_at F c n + LOG_WORDS → j k ≡ i k
   behind_gate c n k low high = no_gate k (λ g. let is = g.is in omega arith)
 
-  same_log : (c n : ℕ) → j (log_at F c n) ≡ i (log_at F c n) → (k : ℕ) → log_at F c n ≤ k → k < log_at F c n + LOG_WORDS → j k ≡ i k
-  same_log c n gate k low high = ⊎_elim
+  same_log : (c n : ℕ) → j (log_at F c n) ≡ i (log_at F c n) → (k : ℕ) → IsInLog (log_at F c n) k → j k ≡ i k
+  same_log c n gate k inside = ⊎_elim
       (λ here. ap j here ∙ gate ∙ sym (ap i here))
-      (λ apart. behind_gate c n k (above (log_at F c n) k low apart) high)
+      (λ apart. behind_gate c n k (above (log_at F c n) k inside.low apart) inside.high)
       (cases_eq k (log_at F c n))
 
   -- a log that was closed still is

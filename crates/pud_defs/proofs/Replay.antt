@@ -9,7 +9,7 @@ use Rattle.pud_defs.specs.declared.log_words.TheConstants.{UNDO_ORDER, REDO_ORDE
 use Rattle.pud_defs.specs.Image.{Image}
 use Rattle.pud_defs.specs.declared.layout.TheConstants.{LOG_WORDS, LOG_HEADER_WORDS}
 use Rattle.pud_defs.specs.Entries.{Entry, Log, log_of, gate_lo, gate_hi, gate_used, is_legal_gate, is_closed_gate, entries_of, words_from}
-use Rattle.pud_defs.specs.Replay.{Place, device_word, is_in_range, value_at, given_by, undone, redone, given, entries_or_none, new_value, over, overwritten, replayed, is_in_log, settled_by, beside_log}
+use Rattle.pud_defs.specs.Replay.{Place, device_word, is_in_range, value_at, given_by, undone, redone, given, entries_or_none, new_value, over, overwritten, replayed, IsInLog, is_in_log, settled_by, beside_log}
 use Rattle.pud_defs.proofs.Entries.{words_from-none, entries_of-is, entries_in-nothing}
 
 -- ---- words written over an image
@@ -81,7 +81,8 @@ pub redone-none : (place : Place) (log : Log) (w : ℕ) → redone place log [] 
 unfolding redone
 redone-none place log w = refl
 
--- the first value of three is the first of two and one
+-- ---- the first of several values that is there
+
 pub or_assoc : (a b c : Option ℕ) → option_or a (option_or b c) ≡ option_or (option_or a b) c
 or_assoc None b c = refl
 or_assoc (Some x) b c = refl
@@ -89,6 +90,8 @@ or_assoc (Some x) b c = refl
 pub or_none : (a : Option ℕ) → a ≡ option_or a None
 or_none None = refl
 or_none (Some x) = refl
+
+-- ---- what entries give behind others
 
 pub undone-append : (place : Place) (log : Log) (xs ys : List Entry) (w : ℕ) → undone place log (xs ++ ys) w ≡ option_or (undone place log xs w) (undone place log ys w)
 unfolding undone
@@ -202,8 +205,8 @@ pub outside_log : (at k : ℕ) → (k < at) ⊎ (at + LOG_WORDS ≤ k) → is_in
 outside_log at k (inl before) = and_left _ _ (lt-leb at k before)
 outside_log at k (inr behind) = grind (arith, nat_tests)
 
-pub within_log : (at k : ℕ) → is_in_log at k ≡ true → (at ≤ k) × (k < at + LOG_WORDS)
-within_log at k inside = let parts = and_parts (leb at k) (ltb k (at + LOG_WORDS)) inside in (leb-true at k parts.0, ltb-true k (at + LOG_WORDS) parts.1)
+pub within_log : (at k : ℕ) → is_in_log at k ≡ true → IsInLog at k
+within_log at k inside = let parts = and_parts (leb at k) (ltb k (at + LOG_WORDS)) inside in record { low = leb-true at k parts.0; high = ltb-true k (at + LOG_WORDS) parts.1 }
 
-pub not_inside : (at k : ℕ) → is_in_log at k ≡ false → at ≤ k → k < at + LOG_WORDS → ⊥
-not_inside at k outside low high = absurd (let it : true ≡ false = sym (and_from (leb at k) (ltb k (at + LOG_WORDS)) (le-leb at k low) (lt-ltb k (at + LOG_WORDS) high)) ∙ outside in cc)
+pub not_inside : (at k : ℕ) → is_in_log at k ≡ false → IsInLog at k → ⊥
+not_inside at k outside inside = absurd (let it : true ≡ false = sym (and_from (leb at k) (ltb k (at + LOG_WORDS)) (le-leb at k inside.low) (lt-ltb k (at + LOG_WORDS) inside.high)) ∙ outside in cc)

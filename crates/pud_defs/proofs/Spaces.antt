@@ -6,6 +6,7 @@ use Rattle.pud_defs.specs.declared.layout.TheConstants.{SPACE_TABLE, CLIENTS, CL
 use Rattle.pud_defs.specs.Image.{Image}
 use Rattle.pud_defs.specs.Layout.{tables_end, log_at, frames_at}
 use Rattle.pud_defs.specs.Entries.{gate_used, is_legal_gate, entries_of}
+use Rattle.pud_defs.specs.Replay.{IsInLog}
 use Rattle.pud_defs.specs.Spaces.{space_record_at, all_below, is_legal_space, is_closed_range, is_closed_log, has_closed_logs, are_legal_spaces, are_closed_logs}
 use Rattle.pud_defs.proofs.Entries.{entries_of-same}
 
@@ -41,24 +42,24 @@ all_below-fails n k f below fails = elim (cases_Bool (all_below n f)) [
 -- ---- images that agree
 
 -- images that agree on the words of a log have the same entries there
-pub entries_of-within : (i j : Image) (at : ℕ) → ((k : ℕ) → at ≤ k → k < at + LOG_WORDS → i k ≡ j k) → entries_of i at ≡ entries_of j at
+pub entries_of-within : (i j : Image) (at : ℕ) → ((k : ℕ) → IsInLog at k → i k ≡ j k) → entries_of i at ≡ entries_of j at
 unfolding entries_of
 entries_of-within i j at same =
-    let gate : i at ≡ j at = same at (omega arith) (omega arith) in
+    let gate : i at ≡ j at = same at (record { low = omega arith; high = omega arith }) in
     elim (cases_Bool (is_legal_gate (i at))) [
       | inl legal ↦
           let within : gate_used (i at) ≤ LOG_ENTRY_WORDS = leb-true _ _ (and_parts (ltb (i at) (2 ^ 32)) (leb (gate_used (i at)) LOG_ENTRY_WORDS) legal).1 in
-          entries_of-same i j at gate (λ k low high. same k (omega arith) (omega arith))
+          entries_of-same i j at gate (λ k low high. same k (record { low = omega arith; high = omega arith }))
       | inr illegal ↦ cond-false _ _ _ illegal ∙ sym (cond-false _ _ _ (ap is_legal_gate (sym gate) ∙ illegal))
     ]
 
-pub is_closed_log-same : (i j : Image) (at : ℕ) → ((k : ℕ) → at ≤ k → k < at + LOG_WORDS → i k ≡ j k) → is_closed_log i at ≡ is_closed_log j at
-is_closed_log-same i j at same = ap₂ (λ (v : ℕ) (x : Bool). is_closed_range v && x) (same at (omega arith) (omega arith)) (ap is_some (entries_of-within i j at same))
+pub is_closed_log-same : (i j : Image) (at : ℕ) → ((k : ℕ) → IsInLog at k → i k ≡ j k) → is_closed_log i at ≡ is_closed_log j at
+is_closed_log-same i j at same = ap₂ (λ (v : ℕ) (x : Bool). is_closed_range v && x) (same at (record { low = omega arith; high = omega arith })) (ap is_some (entries_of-within i j at same))
 
 pub has_closed_logs-same : (i j : Image) (F client : ℕ) → client < CLIENTS → ((k : ℕ) → tables_end F ≤ k → k < frames_at F → i k ≡ j k) → has_closed_logs i F client ≡ has_closed_logs j F client
 has_closed_logs-same i j F client known same =
     all_below-same CLIENT_LOGS (λ n. is_closed_log i (log_at F client n)) (λ n. is_closed_log j (log_at F client n))
-    (λ n below. is_closed_log-same i j (log_at F client n) (λ k low high. same k (omega arith) (omega arith)))
+    (λ n below. is_closed_log-same i j (log_at F client n) (λ k inside. same k (omega arith) (omega arith)))
 
 -- images that agree on the table, and on the clients' logs
 pub are_legal_spaces-same : (i j : Image) → ((k : ℕ) → SPACE_TABLE ≤ k → k < PUDDLE_TABLE → i k ≡ j k) → are_legal_spaces i ≡ are_legal_spaces j

@@ -58,7 +58,7 @@ no_gate F slot k v below gate = let is = gate.0.is in absurd (omega arith)
 
 -- a client's record is all of the tables that its batch writes
 no_record : (slot k v : ℕ) (vals : List ℕ) → TYPE_TABLE ≤ k → (k < space_record_at slot) ⊎ (space_record_at slot + length vals ≤ k) → ByBatch DAEMON_LOG (record_batch slot vals) k v → ⊥
-no_record slot k v vals low apart (inl log) = let high = log.1 in absurd (omega arith)
+no_record slot k v vals low apart (inl log) = let high = log.high in absurd (omega arith)
 no_record slot k v vals low apart (inr named) = absurd (let it : None ≡ Some named.value = sym (writes_elsewhere slot k vals apart) ∙ named.is in cc)
 
 -- the records of two clients lie apart

@@ -51,7 +51,7 @@ Recovers-applies size w fault a b p =
 
 -- the type table is not written by the batch that empties the log-space table
 types_apart : (k v : ℕ) → TYPE_TABLE ≤ k → k < POOL_TABLE → ByBatch DAEMON_LOG (clearing CLIENTS) k v → ⊥
-types_apart k v low high (inl log) = absurd (let below = log.1 in omega arith)
+types_apart k v low high (inl log) = absurd (let below = log.high in omega arith)
 types_apart k v low high (inr named) = absurd (let it : None ≡ Some named.value = sym (clearing-outside CLIENTS k (omega arith) (inl (omega arith))) ∙ named.is in cc)
 
 -- it was applied, and then the log-space table was emptied

@@ -4,7 +4,7 @@ use Rattle.pm_model.specs.Moments.{State}
 use Rattle.pud_defs.specs.Image.{Image}
 use Rattle.pud_defs.specs.Entries.{gate_used, is_legal_gate, entries_of}
 use Rattle.log_entry.specs.Reading.{Reading, PassesOne}
-use Rattle.log_entry.proofs.Left.{entries_left-start, not_formed, formed-more, formed-end}
+use Rattle.log_entry.proofs.Left.{entries_left-start, IsReading-start, IsReading-more, not_formed, formed-more, formed-end}
 use Rattle.log_entry.proofs.well_formed.Goals as goal
 
 pub returns-then-not-is_legal_gate-clause-answer : goal.returns-then-not-is_legal_gate-clause-answer
@@ -16,9 +16,8 @@ pub loop-entry-init : goal.loop-entry-init
 loop-entry-init g c =
     let begun : c.new-reader.result.passed ≡ 0 = ap (λ (r : Reading). r.passed) c.new-reader.ensures in
     record {
-      same_log = ap (λ (r : Reading). r.log_at) c.new-reader.ensures;
+      reading = IsReading-start c.args.log_at c.new-reader.result c.new-reader.ensures;
       passed = sym begun;
-      within = omega arith;
       counts = refl;
       stays = λ t. refl;
       formed = λ t image same. ap is_some (entries_left-start image c.args.log_at c.new-reader.result c.new-reader.ensures);
@@ -29,9 +28,8 @@ loop-entry-preserved g c =
     let old = c.loop-entry.invariant in
     let passes : PassesOne c.in-Some.entry c.loop-entry.reader c.next.new.self = rw c.in-Some.is at c.in_ok-entry.ensures.passes in
     record {
-      same_log = passes.same_log ∙ old.same_log;
+      reading = IsReading-more c.args.log_at _ c.in-Some.entry _ _ old.reading c.in-Some.is c.in_ok-entry.ensures.passes;
       passed = let before = old.passed in let now = passes.passed in omega arith;
-      within = passes.within;
       counts = c.in_ok-entry.ensures.cause ∙ old.counts;
       stays = λ t. c.next.ensures.stays t ∙ old.stays t;
       formed = λ t image same.
@@ -46,7 +44,7 @@ returns-clause-answer g c = λ t.
     let same = ap (λ (s : State). reads s.now.words) (c.load.ensures.state t) in
     let read = ap (λ (s : State). reads s.now.words) (old.stays t) ∙ same in
     let stands : c.next.new.self ≡ c.loop-entry.reader = rw c.in_default.is at c.in_ok-entry.ensures.passes in
-    let here : c.next.new.self.log_at ≡ c.args.log_at = ap (λ (r : Reading). r.log_at) stands ∙ old.same_log in
+    let here : c.next.new.self.log_at ≡ c.args.log_at = ap (λ (r : Reading). r.log_at) stands ∙ old.reading.same_log in
     let gate : c.in_ok-gate.gate ≡ image c.args.log_at = c.in_ok-gate.ensures.value t in
     let legal : is_legal_gate (image c.next.new.self.log_at) ≡ true = ap (λ (k : ℕ). is_legal_gate (image k)) here ∙ ap is_legal_gate (sym gate) ∙ sym c.is_legal_gate.ensures ∙ c.if-not-is_legal_gate.false in
     ap₂ leb (c.gate_used.ensures ∙ ap gate_used gate ∙ ap (λ (k : ℕ). gate_used (image k)) (sym here)) (old.passed ∙ ap (λ (r : Reading). r.passed) (sym stands))

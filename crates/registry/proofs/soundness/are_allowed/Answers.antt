@@ -1,4 +1,4 @@
-use Rattle.std.proofs.Common.{◌≡◌, ◌&&◌, Bool, false, refl, sym, ap, ◌∙◌, arith}
+use Rattle.std.proofs.Common.{◌≡◌, ◌&&◌, Bool, false, refl, sym, ap, ◌∙◌}
 use Rattle.std.specs.List.{list_all}
 use Rattle.std.proofs.lemmas.Bool.{and_left}
 use Rattle.pm_model.specs.Words.{reads}
@@ -7,14 +7,12 @@ use Rattle.pud_defs.specs.declared.layout.TheConstants.{DAEMON_LOG}
 use Rattle.pud_defs.specs.Image.{Image}
 use Rattle.pud_defs.specs.Entries.{Entry, Log, log_of}
 use Rattle.pud_defs.specs.Registry.{is_allowed}
-use Rattle.log_entry.specs.Reading.{Reading, PassesOne}
-use Rattle.log_entry.proofs.Left.{MakesWhole-start, MakesWhole-more, MakesWhole-decided, MakesWhole-end}
+use Rattle.log_entry.proofs.Left.{IsReading-start, IsReading-more, MakesWhole-start, MakesWhole-more, MakesWhole-decided, MakesWhole-end}
 use Rattle.registry.proofs.soundness.are_allowed.Goals as goal
 
 pub loop-entry-init : goal.loop-entry-init
 loop-entry-init g c = record {
-  same_log = ap (λ (r : Reading). r.log_at) c.new-reader.ensures;
-  within = let begun : c.new-reader.result.passed ≡ 0 = ap (λ (r : Reading). r.passed) c.new-reader.ensures in omega arith;
+  reading = IsReading-start DAEMON_LOG c.new-reader.result c.new-reader.ensures;
   counts = refl;
   stays = λ t. refl;
   allowed = λ t image same es are range. MakesWhole-start {A = Unit {0}} (λ _. list_all (is_allowed c.args.frames (log_of image DAEMON_LOG))) image DAEMON_LOG c.new-reader.result tt es c.new-reader.ensures are;
@@ -23,10 +21,8 @@ loop-entry-init g c = record {
 pub loop-entry-preserved : goal.loop-entry-preserved
 loop-entry-preserved g c =
     let old = c.loop-entry.invariant in
-    let passes : PassesOne c.in-Some.entry c.loop-entry.reader c.next.new.self = rw c.in-Some.is at c.in_ok-entry.ensures.passes in
     record {
-      same_log = passes.same_log ∙ old.same_log;
-      within = passes.within;
+      reading = IsReading-more DAEMON_LOG _ c.in-Some.entry _ _ old.reading c.in-Some.is c.in_ok-entry.ensures.passes;
       counts = c.in_ok-entry.ensures.cause ∙ old.counts;
       stays = λ t. c.next.ensures.stays t ∙ old.stays t;
       allowed = λ t image same es are range.

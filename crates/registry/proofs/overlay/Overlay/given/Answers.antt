@@ -1,17 +1,15 @@
-use Rattle.std.proofs.Common.{◌≡◌, refl, ap, ◌∙◌, arith}
+use Rattle.std.proofs.Common.{◌≡◌, refl, ap, ◌∙◌}
 use Rattle.pm_model.specs.Words.{reads}
 use Rattle.pm_model.specs.Moments.{State}
 use Rattle.pud_defs.specs.declared.layout.TheConstants.{DAEMON_LOG}
 use Rattle.pud_defs.specs.Entries.{log_of}
-use Rattle.log_entry.specs.Reading.{Reading, PassesOne}
-use Rattle.log_entry.proofs.Left.{MakesWhole-start, MakesWhole-more, MakesWhole-end}
+use Rattle.log_entry.proofs.Left.{IsReading-start, IsReading-more, MakesWhole-start, MakesWhole-more, MakesWhole-end}
 use Rattle.registry.proofs.Overlaid.{given_then, given_then-more, gives_all}
 use Rattle.registry.proofs.overlay.Overlay.given.Goals as goal
 
 pub loop-entry-init : goal.loop-entry-init
 loop-entry-init g c = record {
-  same_log = ap (λ (r : Reading). r.log_at) c.new-reader.ensures;
-  within = let begun : c.new-reader.result.passed ≡ 0 = ap (λ (r : Reading). r.passed) c.new-reader.ensures in omega arith;
+  reading = IsReading-start DAEMON_LOG c.new-reader.result c.new-reader.ensures;
   counts = refl;
   stays = λ t. refl;
   gives = λ t image same es are range. MakesWhole-start (given_then (log_of image DAEMON_LOG) c.args.w) image DAEMON_LOG c.new-reader.result _ es c.new-reader.ensures are;
@@ -20,10 +18,8 @@ loop-entry-init g c = record {
 pub loop-entry-preserved : goal.loop-entry-preserved
 loop-entry-preserved g c =
     let old = c.loop-entry.invariant in
-    let passes : PassesOne c.in-Some.entry c.loop-entry.reader c.next.new.self = rw c.in-Some.is at c.in_ok-entry.ensures.passes in
     record {
-      same_log = passes.same_log ∙ old.same_log;
-      within = passes.within;
+      reading = IsReading-more DAEMON_LOG _ c.in-Some.entry _ _ old.reading c.in-Some.is c.in_ok-entry.ensures.passes;
       counts = c.in_ok-given.ensures.cause ∙ c.in_ok-entry.ensures.cause ∙ old.counts;
       stays = λ t. c.add.ensures.stays t ∙ c.next.ensures.stays t ∙ old.stays t;
       gives = λ t image same es are range.

@@ -1,9 +1,8 @@
-//! The counts that every host tells, and the count of the loads of a watched word.
+//! The counts that every host keeps.
 ghost use Rattle.std.specs.Prelude.{◌≡◌};
 ghost use Rattle.pm_model.specs.Counts.{risen};
-ghost use Rattle.pm_mem.specs.Tallies.{after_load};
 
-use pm_model::HostFault;
+use crate::HostFault;
 
 /// How often calls failed and were cut, and what was armed and lost last. Each count stays at 2^64 - 1.
 #[derive(Clone, Copy, Debug)]
@@ -17,14 +16,8 @@ pub struct Tally {
     pub loss_pick: u64,
 }
 
-/// A word whose loads are counted, if there is one. The count stays at 2^32 - 1.
-#[derive(Clone, Copy, Debug)]
-pub struct Watch {
-    pub word: Option<u32>,
-    pub count: u32,
-}
-
 impl Tally {
+    /// Nothing was counted yet.
     pub fn new() -> Tally
         ensures { result ≡ record { faults = 0; cuts = 0; arms = 0; arm_steps = 0; arm_pick = 0; losses = 0; loss_pick = 0 } }
     {
@@ -75,29 +68,8 @@ impl Tally {
     }
 }
 
-impl Watch {
-    /// No word is watched.
-    pub fn new() -> Watch
-        ensures { result ≡ record { word = None; count = 0 } }
-    {
-        Watch {
-            word: None,
-            count: 0,
-        }
-    }
-
-    /// Counts a load of that word, if it is the watched one.
-    pub fn load(&mut self, w: u32)
-        ensures { self.new ≡ after_load w self.old }
-    {
-        if self.word == Some(w) {
-            self.count = self.count.saturating_add(1);
-        }
-    }
-}
-
-/// Adds one to a count, unless it is at its type's end.
-pub fn rise(count: &mut u64)
+// Adds one to a count, unless it is at its type's end.
+fn rise(count: &mut u64)
     ensures { count.new ≡ risen count.old }
 {
     if *count < u64::MAX {

@@ -1,20 +1,10 @@
-//! `puddle`: formats a device of persistent memory, and runs scripts over it.
+//! `puddle`: formats a device of persistent memory, and runs scripts over it. All that it does stands in `puddle_cli`; here
+//! it is given the words, the file of the device and the streams.
 #![tactic(auto)]
 
-mod command_line;
-mod format;
-mod piece;
-mod run;
-mod status;
-#[cfg(test)]
-mod tests;
-mod top;
-
-use crate::command_line::mode_of;
-use crate::status::{DEVICE_FAULT, NO_MEMORY, USAGE, message_of};
-use crate::top::puddle_main;
 use pm_file::FileHost;
 use pm_model::FileFault;
+use puddle_cli::{DEVICE_FAULT, NO_MEMORY, USAGE, message_of, mode_of, puddle_main};
 use std::process::ExitCode;
 use std::{env, io};
 
