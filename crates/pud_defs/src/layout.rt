@@ -102,6 +102,9 @@ pub const MAX_ARMED_STEP: u32 = 1_000_000;
 /// The most bytes that a line has, without its newline.
 pub const LINE_LIMIT: usize = 128;
 
+/// The most bytes that the text of a reply has, its newline among them.
+pub const REPLY_LIMIT: usize = 32;
+
 /// How many bytes of a script are taken at most, 2^20.
 pub const SCRIPT_LIMIT: u32 = 0x10_0000;
 
