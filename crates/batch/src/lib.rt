@@ -135,6 +135,3 @@ impl Batch {
         commit_by(h, DAEMON_LOG, &self.words[..self.used as usize])
     }
 }
-
-#[cfg(test)]
-mod tests;

@@ -26,7 +26,7 @@ use pud_defs::log_words::{
 use std::marker::Model;
 
 /// An entry of a log on a device.
-#[derive(Clone, Copy, Debug, PartialEq, Eq)]
+#[derive(Clone, Copy)]
 pub struct Entry {
     /// The place that it names: a device word in the daemon log, a global address in a client's.
     pub addr: u64,
@@ -190,6 +190,3 @@ impl LogRange {
         self.hi.saturating_sub(self.lo) <= 1
     }
 }
-
-#[cfg(test)]
-mod tests;

@@ -23,7 +23,7 @@ use pud_defs::layout::MAX_ENTRY_VALUES;
 use pud_defs::log_words::{CLOSED_GATE, REDO_ORDER, UNDO_ORDER};
 
 /// Which places the addresses of a log's entries are.
-#[derive(Clone, Copy, Debug, PartialEq, Eq)]
+#[derive(Clone, Copy)]
 pub enum Target {
     /// Device words, by their numbers: the daemon log's.
     Words,
@@ -178,6 +178,3 @@ pub fn settle_log<H: Host>(h: &mut H, log_at: u32) -> Result<(), HostFault>
     replay_range(h, log_at, Target::Words)?;
     persist_word(h, log_at, CLOSED_GATE)
 }
-
-#[cfg(test)]
-mod tests;

@@ -22,7 +22,7 @@ use pud_defs::log_words::{
 use std::marker::Model;
 
 /// Why an entry was not appended.
-#[derive(Clone, Copy, Debug, PartialEq, Eq, thiserror::Error)]
+#[derive(Clone, Copy, Debug, thiserror::Error)]
 pub enum AppendFault {
     /// The log has no room for the entry. Nothing changed.
     #[error("the log has no room for the entry")]
@@ -202,6 +202,3 @@ impl Log {
         persist_word(h, self.at, CLOSED_GATE)
     }
 }
-
-#[cfg(test)]
-mod tests;

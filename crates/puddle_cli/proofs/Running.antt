@@ -1,5 +1,5 @@
 -- One run over a script, from the start to the exit.
-use Rattle.std.proofs.Common.{◌≡◌, inl, inr, ℕ, zero, suc, ◌+◌, ◌≤◌, Bool, true, false, List, [], ◌∷◌, ◌++◌, Option, Some, None, refl, sym, ap, subst, ◌∙◌, arith, append_assoc}
+use Rattle.std.proofs.Common.{◌≡◌, inl, ℕ, zero, suc, ◌+◌, ◌≤◌, Bool, true, false, List, [], ◌∷◌, ◌++◌, Option, Some, None, refl, sym, ap, subst, ◌∙◌, arith, append_assoc}
 use Rattle.std.proofs.lemmas.List.{append-nil}
 use Rattle.std.proofs.Math.Numerals.{one-add}
 use Rattle.pm_model.specs.declared.host.HostFault.{HostFault}
@@ -85,32 +85,43 @@ module _ (size : ℕ) (w : World) (start : State) (rested : IsRested start.now.w
       let not_whole = not_whole_of status fault of_mode is in
       let as_told : after ≡ after_fault (status_fault status) before = last ∙ ap (λ (f : Option HostFault). after_fault f before) (sym is) in
       record {
-        taken = [];
-        ended = false;
-        script = sym s.script;
-        to_end = λ e. absurd (let it : false ≡ true = e in cc);
-        answered = [];
-        pending = [];
-        few = omega arith;
-        is_run = tt;
-        lines = sym (lines_taken-nothing false);
-        bytes = s.says.bytes;
-        said = s.says.said;
-        mid = before;
-        how_far = inl (record { nothing_taken = refl; no_turns = refl; rest = s.says.rest; part = s.says.part; failed = as_told });
-        whole = λ none. absurd (not_whole none);
-        all_lines = λ done. absurd (not_whole (ap run_fault_at done));
-        not_ended = λ _. refl;
-        ends = λ none. absurd (not_whole none);
-        shelf = s.shelf ∙ shelf;
-        shelf_of_run = λ none. absurd (not_whole none);
-        moments = Leaves-each (λ said image. StandsBehindStart size w [] (newlines said) image) start now (start_moments [] (Some fault) now s);
-        turns_counted = refl;
-        cuts = subst (λ (x : Counts). before.cuts ≤ x.cuts) (sym last) (cuts_after_fault (Some fault) before);
-        cuts_in_start = λ lost.
-            let cut : Some fault ≡ Some hosts.Cut = sym is ∙ ap status_fault lost in
-            subst (λ (x : Counts). risen before.cuts ≤ x.cuts) (sym (last ∙ ap (λ (f : Option HostFault). after_fault f before) cut)) (omega arith);
-        cuts_in_line = λ lost t no. absurd (let it : [] ≡ t ∷ [] = no in cc);
+        run = record {
+          begun = false;
+          taken = [];
+          ended = false;
+          script = sym s.script;
+          to_end = λ e. absurd (let it : false ≡ true = e in cc);
+          answered = [];
+          pending = [];
+          few = omega arith;
+          is_run = tt;
+          lines = sym (lines_taken-nothing false);
+          nothing_yet = λ _. (refl, refl);
+        };
+        exit = record {
+          bytes = s.says.bytes;
+          said = s.says.said;
+          in_start = λ _. record { rest = s.says.rest; is = s.says.part };
+          behind_start = λ e. absurd (let it : false ≡ true = e in cc);
+          whole = λ none. absurd (not_whole none);
+          all_lines = λ done. absurd (not_whole (ap run_fault_at done));
+          not_ended = λ _. refl;
+          ends = λ none. absurd (not_whole none);
+          shelf = s.shelf ∙ shelf;
+          shelf_of_run = λ none. absurd (not_whole none);
+        };
+        moments = record { stands = Leaves-each (λ said image. StandsBehindStart size w [] (newlines said) image) start now (start_moments [] (Some fault) now s) };
+        counted = record {
+          mid = before;
+          in_start = λ _. as_told;
+          turns_counted = refl;
+          pending_counted = λ e. absurd (let it : false ≡ true = e in cc);
+          cuts = subst (λ (x : Counts). before.cuts ≤ x.cuts) (sym last) (cuts_after_fault (Some fault) before);
+          cuts_in_start = λ lost.
+              let cut : Some fault ≡ Some hosts.Cut = sym is ∙ ap status_fault lost in
+              subst (λ (x : Counts). risen before.cuts ≤ x.cuts) (sym (last ∙ ap (λ (f : Option HostFault). after_fault f before) cut)) (omega arith);
+          cuts_in_line = λ lost t no. absurd (let it : [] ≡ t ∷ [] = no in cc);
+        };
       }
 
   said_behind : (mid now : State) (replies more : List ℕ) → mid.now.said ≡ start.now.said ++ start_text → now.now.said ≡ mid.now.said ++ replies ++ more
@@ -133,37 +144,50 @@ module _ (size : ℕ) (w : World) (start : State) (rested : IsRested start.now.w
       let first : mid.now.said ≡ start.now.said ++ start_text =
       s.says.said ∙ ap (λ (l : List ℕ). start.now.said ++ l) (sym (s.says.part ∙ ap (λ (l : List ℕ). s.says.bytes ++ l) (s.says.whole refl) ∙ append-nil s.says.bytes)) in
       record {
-        taken = a.taken;
-        ended = ended;
-        script = sym s.script ∙ a.script;
-        to_end = a.to_end;
-        answered = a.answered;
-        pending = a.pending;
-        few = a.few;
-        is_run = a.is_run;
-        lines = a.lines;
-        bytes = start_text ++ replies_text a.answered ++ a.more;
-        said = said_behind mid now (replies_text a.answered) a.more first a.said;
-        mid = a.mid;
-        how_far = inr (record { more = a.more; rest = a.rest; said = refl; part = a.part; counted = subst (λ (f : Option RunFault). CountsPending a.pending f a.mid after) (sym is) a.counted });
-        whole = λ none.
-            let nothing = a.whole (sym is ∙ none) in
-            let no_more = nothing_more a.more a.rest (ap replies_text (sym nothing) ∙ a.part) in
-            (nothing, ap (λ (l : List ℕ). start_text ++ replies_text a.answered ++ l) no_more ∙ append-nil (start_text ++ replies_text a.answered));
-        all_lines = done;
-        not_ended = too_long;
-        ends = λ none. (a.ready (sym is ∙ none)).stands;
-        shelf = kept ∙ s.shelf ∙ shelf;
-        shelf_of_run = λ none. (a.ready (sym is ∙ none)).shelf;
-        moments = Leaves-each (λ said image. StandsBehindStart size w (a.answered ++ a.pending) (newlines said) image) start now (Leaves-then _ (StandsWith size w (a.answered ++ a.pending)) _ start_text start mid now first
-            (λ front image p. p)
-            (λ more image p. subst (λ (n : ℕ). StandsBehindStart size w (a.answered ++ a.pending) n image)
-            (sym (newlines-append start_text more ∙ ap (λ (n : ℕ). n + newlines more) newlines-start_text ∙ one-add (newlines more))) p)
-            (start_moments (a.answered ++ a.pending) None mid s) a.moments);
-        turns_counted = a.turns_counted;
-        cuts = rose_in_all a.answered a.pending fault before a.mid after a.turns_counted a.counted;
-        cuts_in_start = λ lost. rose_at_end a.answered a.pending fault before a.mid after a.turns_counted a.counted (cut lost);
-        cuts_in_line = λ lost. rose_twice_at_end a.answered a.pending fault before a.mid after a.turns_counted a.counted (cut lost);
+        run = record {
+          begun = true;
+          taken = a.taken;
+          ended = ended;
+          script = sym s.script ∙ a.script;
+          to_end = a.to_end;
+          answered = a.answered;
+          pending = a.pending;
+          few = a.few;
+          is_run = a.is_run;
+          lines = a.lines;
+          nothing_yet = λ e. absurd (let it : true ≡ false = e in cc);
+        };
+        exit = record {
+          bytes = start_text ++ replies_text a.answered ++ a.more;
+          said = said_behind mid now (replies_text a.answered) a.more first a.said;
+          in_start = λ e. absurd (let it : true ≡ false = e in cc);
+          behind_start = λ _. record { more = a.more; rest = a.rest; said = refl; part = a.part };
+          whole = λ none.
+              let nothing = a.whole (sym is ∙ none) in
+              let no_more = nothing_more a.more a.rest (ap replies_text (sym nothing) ∙ a.part) in
+              (nothing, ap (λ (l : List ℕ). start_text ++ replies_text a.answered ++ l) no_more ∙ append-nil (start_text ++ replies_text a.answered));
+          all_lines = done;
+          not_ended = too_long;
+          ends = λ none. (a.ready (sym is ∙ none)).stands;
+          shelf = kept ∙ s.shelf ∙ shelf;
+          shelf_of_run = λ none. (a.ready (sym is ∙ none)).shelf;
+        };
+        moments = record {
+          stands = Leaves-each (λ said image. StandsBehindStart size w (a.answered ++ a.pending) (newlines said) image) start now (Leaves-then _ (StandsWith size w (a.answered ++ a.pending)) _ start_text start mid now first
+              (λ front image p. p)
+              (λ more image p. subst (λ (n : ℕ). StandsBehindStart size w (a.answered ++ a.pending) n image)
+              (sym (newlines-append start_text more ∙ ap (λ (n : ℕ). n + newlines more) newlines-start_text ∙ one-add (newlines more))) p)
+              (start_moments (a.answered ++ a.pending) None mid s) a.moments);
+        };
+        counted = record {
+          mid = a.mid;
+          in_start = λ e. absurd (let it : true ≡ false = e in cc);
+          turns_counted = a.turns_counted;
+          pending_counted = λ _. subst (λ (f : Option RunFault). CountsPending a.pending f a.mid after) (sym is) a.counted;
+          cuts = rose_in_all a.answered a.pending fault before a.mid after a.turns_counted a.counted;
+          cuts_in_start = λ lost. rose_at_end a.answered a.pending fault before a.mid after a.turns_counted a.counted (cut lost);
+          cuts_in_line = λ lost. rose_twice_at_end a.answered a.pending fault before a.mid after a.turns_counted a.counted (cut lost);
+        };
       }
 
 -- a world without clients is as a start leaves it

@@ -1,0 +1,11 @@
+//! Tests of the floor of logs over its public calls: entries read, a log that grows, replays and batches.
+#![tactic(auto)]
+
+#[cfg(test)]
+mod appends;
+#[cfg(test)]
+mod batches;
+#[cfg(test)]
+mod entries;
+#[cfg(test)]
+mod replays;
