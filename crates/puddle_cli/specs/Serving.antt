@@ -13,6 +13,7 @@ use Rattle.puddled.specs.declared.daemon.RunFault.{RunFault}
 use Rattle.puddled.specs.declared.daemon.RunFault.TheVariants.{CutInStart, NotSound}
 use Rattle.puddled.specs.Faults.{last_fault, CountsLine, CountsTurns}
 use Rattle.puddled.specs.Daemon.{IsReady, SaysPart}
+use Rattle.puddle_cli.specs.declared.piece.TheConstants.{KEPT}
 
 -- so many bytes of the script were taken
 pub record Takes (count : ℕ) (start now : State) : Type 0 where
@@ -68,13 +69,13 @@ pub record AnswersLine (size : ℕ) (w : World) (line : List ℕ) (fault : Optio
   pub script : new.script ≡ old.script
 
 -- The lines that the bytes taken close were answered, each by a turn of the machine, and the bytes behind them are the piece under way, of
--- which the first 129 are kept.
+-- which the first are kept: one more than a line may have.
 pub record Serves (size : ℕ) (w : World) (before : Counts) (start : State) (counts : Counts) (now : State) (piece : List ℕ) : Type 0 where
   pub taken : List ℕ
   pub turns : List Turn
   pub is_run : IsRun w turns
   pub lines : map (λ t. t.line) turns ≡ lines_taken taken false
-  pub under_way : piece ≡ take 129 (open_rest taken)
+  pub under_way : piece ≡ take KEPT (open_rest taken)
   pub script : start.script ≡ taken ++ now.script
   pub said : now.now.said ≡ start.now.said ++ replies_text turns
   pub moments : Leaves (StandsWith size w turns) start now
