@@ -2,3 +2,4 @@ pub mod Writes
 pub mod Buffers
 pub mod Phases
 pub mod Worlds
+pub mod Tables

@@ -21,6 +21,7 @@ use Rattle.pud_defs.specs.Registry.{frames_of, may_be_logged, is_allowed, has_le
 use Rattle.pud_defs.specs.World.{StoredWorld, registry_world, world_of}
 use Rattle.pud_defs.proofs.Replay.{overwritten-stays, overwritten-there, settled_by-closed, outside_log, within_log}
 use Rattle.pud_defs.proofs.Logged.{IsUnlogged, unlogged, lies_apart, allowed_in_range, new_value-allowed, has_legal_log-of}
+use Rattle.pud_defs.proofs.Parts.Part.{Header}
 use Rattle.pud_defs.proofs.Worlds.{standing_of_world, legal_log_of_world, legal_log_closed, world_of_legal, frames_of_world}
 use Rattle.log_replay.specs.Replaying.{NamesApart}
 use Rattle.batch.specs.Batches.{batch_write, committed, IsBatchEntry, AreBatched, IsFree, ByBatch, IsBatched, Commits}
@@ -46,7 +47,7 @@ all_apart F size all (e ∷ es) room batched allowed =
 
 module _ (size : ℕ) (s next : StoredWorld) (es : List Entry) (a : State) (batched : AreBatched es) (settled : IsSettled size s a.now.words) (m : MovesBy size s next es a.now.words) where
   apart : All (NamesApart device_word size DAEMON_LOG) es
-  apart = all_apart s.frames size es es (standing_of_world size (reads a.now.words) s (settled.stands (reads a.now.words) (Picks-reads a.now.words))).room batched m.allowed
+  apart = all_apart s.frames size es es ((standing_of_world size (reads a.now.words) s (settled.stands (reads a.now.words) (Picks-reads a.now.words))).holds Header).room batched m.allowed
 
   pub IsFree-moves : IsFree size DAEMON_LOG es a.now.words
   IsFree-moves = record { closed = settled.closed; apart = apart }

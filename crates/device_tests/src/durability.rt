@@ -1,5 +1,5 @@
 //! A word, a range and a range of zeroes made durable. The ranges lie on both sides of the line that begins at word 8.
-use pm_mem::{MemHost, Plan};
+use pm_mem::Plan;
 use pm_model::{Host, HostFault};
 use pm_persist::{persist_range, persist_word, write_range, zero_range};
 use std::alloc::Global;
@@ -16,8 +16,8 @@ enum Call {
     ZeroRange(u32, u32),
 }
 
-/// Makes the call.
-fn made(rt: &impl Abort, host: &mut MemHost, call: Call) -> Result<(), HostFault> {
+/// Makes the call at any host.
+fn made<H: Host>(rt: &impl Abort, host: &mut H, call: Call) -> Result<(), HostFault> {
     let words = host.words();
     match call {
         Call::PersistWord(w, v) => {

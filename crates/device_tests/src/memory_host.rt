@@ -6,7 +6,7 @@ use pm_mem::{MemHost, Plan};
 use pm_model::{Host, HostFault};
 use std::alloc::Global;
 use std::process::Abort;
-use test_device::{cuts, failures};
+use test_device::{cuts, failures, poke};
 
 /// A call of the host.
 #[derive(Clone, Copy, Debug)]
@@ -18,9 +18,6 @@ enum Call {
     Cut(u64),
     Arm(u32, u64),
     Read,
-    Watch(u32),
-    Watched,
-    Poke(u32, u64),
 }
 
 /// The answer of a call that gives nothing.
@@ -49,11 +46,14 @@ fn number(outcome: Result<u64, HostFault>) -> u64 {
 }
 
 fn done(outcome: Result<(), HostFault>) -> u64 {
-    number(outcome.map(|()| DONE))
+    match outcome {
+        Ok(()) => DONE,
+        Err(fault) => number(Err(fault)),
+    }
 }
 
-/// What the call answers, as a number.
-fn answer(rt: &impl Abort, host: &mut MemHost, call: Call) -> u64 {
+/// What the call answers at any host, as a number.
+fn answer<H: Host>(rt: &impl Abort, host: &mut H, call: Call) -> u64 {
     let words = host.words();
     match call {
         Call::Load(w) => {
@@ -74,32 +74,31 @@ fn answer(rt: &impl Abort, host: &mut MemHost, call: Call) -> u64 {
             DONE
         }
         Call::Arm(steps, pick) => {
-            test_device::arm(host, steps, pick);
+            assert!(rt; steps >= 1);
+            host.arm(steps, pick);
             DONE
         }
-        Call::Read => number(host.read().map(|byte| byte.map_or(END, u64::from))),
-        Call::Watch(w) => {
-            host.watch(w);
-            DONE
-        }
-        Call::Watched => u64::from(host.watched()),
-        Call::Poke(w, v) => {
-            assert!(rt; w < words);
-            host.poke(w, v);
-            DONE
-        }
+        Call::Read => number(next_byte(host.read())),
+    }
+}
+
+fn next_byte(outcome: Result<Option<u8>, HostFault>) -> Result<u64, HostFault> {
+    match outcome {
+        Ok(Some(byte)) => Ok(u64::from(byte)),
+        Ok(None) => Ok(END),
+        Err(fault) => Err(fault),
     }
 }
 
 /// Makes the calls in turn, each of which has to answer this.
-fn answers(rt: &impl Abort, host: &mut MemHost, rows: &[(Call, u64)]) {
+fn answers<H: Host>(rt: &impl Abort, host: &mut H, rows: &[(Call, u64)]) {
     for (at, (call, want)) in rows.iter().enumerate() {
         assert_eq!(rt; answer(rt, host, *call), *want, "call {at}: {call:?}");
     }
 }
 
 /// Says each of these texts, where the answer has to be this.
-fn says(rt: &impl Abort, host: &mut MemHost, rows: &[(&str, u64)]) {
+fn says<H: Host>(rt: &impl Abort, host: &mut H, rows: &[(&str, u64)]) {
     for (text, want) in rows {
         assert_eq!(rt; done(host.say(text.as_bytes())), *want, "{text}");
     }
@@ -249,38 +248,32 @@ fn what_goes_beyond_the_steps_or_the_room_fails(rt: HostRuntime) {
 #[test]
 fn a_poked_word_has_one_value(rt: HostRuntime) {
     let mut host = host(&rt, rt.alloc(), Plan::none(rt.alloc()));
-    answers(
-        &rt,
-        &mut host,
-        &[
-            (Call::Store(3, 7), DONE),
-            (Call::Poke(3, 11), DONE),
-            (Call::Load(3), 11),
-            (Call::Cut(0), DONE),
-            (Call::Load(3), 11),
-        ],
-    );
+    answers(&rt, &mut host, &[(Call::Store(3, 7), DONE)]);
+    assert!(rt; poke(&mut host, &[(3, 11)]));
+    let rows = [
+        (Call::Load(3), 11),
+        (Call::Cut(0), DONE),
+        (Call::Load(3), 11),
+    ];
+    answers(&rt, &mut host, &rows);
 }
 
 #[test]
 fn loads_of_the_watched_word_are_counted(rt: HostRuntime) {
     let mut host = host(&rt, rt.alloc(), Plan::none(rt.alloc()));
-    answers(
-        &rt,
-        &mut host,
-        &[
-            (Call::Load(3), 0),
-            (Call::Watched, 0),
-            (Call::Watch(3), DONE),
-            (Call::Load(3), 0),
-            (Call::Load(4), 0),
-            (Call::Store(3, 7), DONE),
-            (Call::Load(3), 7),
-            (Call::Watched, 2),
-            (Call::Watch(4), DONE),
-            (Call::Watched, 0),
-        ],
-    );
+    answers(&rt, &mut host, &[(Call::Load(3), 0)]);
+    assert_eq!(rt; host.watched(), 0);
+    host.watch(3);
+    let rows = [
+        (Call::Load(3), 0),
+        (Call::Load(4), 0),
+        (Call::Store(3, 7), DONE),
+        (Call::Load(3), 7),
+    ];
+    answers(&rt, &mut host, &rows);
+    assert_eq!(rt; host.watched(), 2);
+    host.watch(4);
+    assert_eq!(rt; host.watched(), 0);
 }
 
 #[test]
@@ -303,15 +296,16 @@ fn the_script_is_read_to_its_end_and_filled_again(rt: HostRuntime) {
     );
 }
 
-/// Looks for each of these files, which has to be there with these bytes, or not at all.
-fn has_files(rt: &impl Abort, alloc: Global, host: &mut MemHost, rows: &[(&str, Option<&str>)]) {
+/// Looks for each of these files at any host, which has to be there with these bytes, or not at all.
+fn has_files<H: Host>(rt: &impl Abort, alloc: Global, host: &mut H, rows: &[(&str, Option<&str>)]) {
     for (name, want) in rows {
-        let found = host.file_get(alloc, name).ok().flatten();
-        assert_eq!(rt;
-            found.as_ref().map(|bytes| bytes.as_slice()),
-            want.map(|text| text.as_bytes()),
-            "{name}"
-        );
+        let found = host.file_get(alloc, name).expect(rt, "the file");
+        match (found, want) {
+            (Some(bytes), Some(text)) => {
+                assert!(rt; bytes.as_slice() == text.as_bytes(), "{name}");
+            }
+            (found, want) => assert!(rt; found.is_none() && want.is_none(), "{name}"),
+        }
     }
 }
 
@@ -321,17 +315,9 @@ fn files_are_replaced_whole(rt: HostRuntime) {
     let mut host = host(&rt, alloc, Plan::none(alloc));
     host.put_shelf(alloc, "x", b"old").expect(&rt, "memory");
     host.put_shelf(alloc, "y", b"other").expect(&rt, "memory");
-    has_files(
-        &rt,
-        alloc,
-        &mut host,
-        &[("x", Some("old")), ("y", Some("other")), ("z", None)],
-    );
-    assert!(rt; host.file_put(alloc, "x", b"new!").is_ok());
-    has_files(
-        &rt,
-        alloc,
-        &mut host,
-        &[("x", Some("new!")), ("y", Some("other")), ("z", None)],
-    );
+    let rows = [("x", Some("old")), ("y", Some("other")), ("z", None)];
+    has_files(&rt, alloc, &mut host, &rows);
+    host.file_put(alloc, "x", b"new!").expect(&rt, "memory");
+    let rows = [("x", Some("new!")), ("y", Some("other")), ("z", None)];
+    has_files(&rt, alloc, &mut host, &rows);
 }

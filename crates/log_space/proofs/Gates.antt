@@ -4,7 +4,6 @@ use Rattle.std.proofs.lemmas.List.{append-nil}
 use Rattle.std.proofs.lemmas.Option.{same_Some}
 use Rattle.std.proofs.lemmas.Bool.{cases_eq}
 use Rattle.pm_model.specs.declared.host.HostFault.{HostFault}
-use Rattle.pm_model.specs.declared.host.HostFault.TheVariants.{Cut}
 use Rattle.pm_model.specs.Words.{HasOnly, after_fence}
 use Rattle.pm_model.specs.Moments.{State}
 use Rattle.pm_model.specs.Calls.{Steps}
@@ -12,7 +11,7 @@ use Rattle.pm_model.specs.Changes.{Changes, Writes, placed, written, IsFrom, IsK
 use Rattle.pm_model.proofs.Changes.{Changes-still, Changes-then, Changes-wider, Changes-fence, Changes-now, Changes-said}
 use Rattle.pm_model.proofs.Words.{HasOnly-fenced}
 use Rattle.pm_persist.proofs.Ranges.{placed_at, placed_within}
-use Rattle.pm_model.proofs.Leaves.{Leaves-changes, Leaves-still, Leaves-now}
+use Rattle.pm_model.proofs.Leaves.{Leaves-changes, Leaves-now}
 use Rattle.pud_defs.specs.declared.layout.TheConstants.{CLIENT_LOGS, DAEMON_LOG}
 use Rattle.pud_defs.specs.declared.log_words.TheConstants.{CLOSED_GATE}
 use Rattle.pud_defs.specs.Image.{Image}
@@ -116,16 +115,3 @@ Closes-gates size s slot fault a b settled p =
             (λ m low. (p.durable none m low).each (image (log_at s.frames slot m)) (picked.each (log_at s.frames slot m)));
       };
     }
-
--- what the word of the frames could not be read for
-pub Closes-unread : (size : ℕ) (s : StoredWorld) (slot : ℕ) (fault : HostFault) (a b : State) → IsSettled size s a.now.words → (Some fault ≡ Some Cut → ⊥) → b ≡ a → Closes size s slot (Some fault) a b
-Closes-unread size s slot fault a b settled uncut same = record {
-  changes = Changes-still (ByClosing s.frames slot) (Some fault) a b uncut same;
-  moments = Leaves-still (Silently (λ (image : Image). world_of size image ≡ Some s)) a b (λ image picked. (refl, settled.stands image picked)) same;
-  settled = λ none. absurd (let it : None ≡ Some fault = sym none in cc);
-  closed = λ none. absurd (let it : None ≡ Some fault = sym none in cc);
-}
-
--- behind a call that changed nothing
-pub ClosesGates-behind : (F slot : ℕ) (fault : Option HostFault) (a b c : State) → b ≡ a → ClosesGates F slot fault b c → ClosesGates F slot fault a c
-ClosesGates-behind F slot fault a b c same p = subst (λ (s : State). ClosesGates F slot fault s c) same p

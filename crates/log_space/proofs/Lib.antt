@@ -1,5 +1,5 @@
 pub mod Tables
 pub mod Writing
+pub mod Cleared
 pub mod FirstFrom
-pub mod Rooms
 pub mod Gates

@@ -1,13 +1,13 @@
 -- The log-space table with one client's record changed.
-use Rattle.std.proofs.Common.{◌≡◌, ◌⊎◌, inl, inr, ℕ, ◌+◌, ◌<◌, ◌≤◌, Bool, true, ◌&&◌, ◌||◌, eqb, leb, Option, sym, ap, ap₂, ◌∙◌, arith, eq-eqb, ne_eqb}
+use Rattle.std.proofs.Common.{◌≡◌, ◌⊎◌, inl, inr, ℕ, ◌+◌, ◌<◌, ◌≤◌, Bool, true, ◌||◌, eqb, Option, sym, ap, ap₂, ◌∙◌, arith, eq-eqb, ne_eqb}
 use Rattle.std.proofs.lemmas.Bool.{cond-true, cond-false, cases_eq}
-use Rattle.pud_defs.specs.declared.layout.TheConstants.{CLIENTS, SPACE_RECORD_WORDS, MAX_OWNER_ID}
+use Rattle.pud_defs.specs.declared.layout.TheConstants.{CLIENTS, SPACE_RECORD_WORDS}
 use Rattle.pud_defs.specs.Image.{Image}
-use Rattle.pud_defs.specs.Spaces.{Owner, space_record_at, owner_by, owner_of, is_legal_space, has_closed_logs, are_legal_spaces, are_closed_logs}
+use Rattle.pud_defs.specs.Spaces.{Owner, space_record_at, owner_by, owner_of, is_space, is_legal_space, has_closed_logs, are_legal_spaces, are_closed_logs, with_owner}
 use Rattle.pud_defs.specs.World.{StoredWorld}
 use Rattle.pud_defs.proofs.Spaces.{all_below-each, all_below-from, has_closed_logs-same}
-use Rattle.pud_defs.proofs.Worlds.{StandsFor, standing_spaces}
-use Rattle.log_space.specs.Records.{with_owner}
+use Rattle.pud_defs.proofs.Parts.{StandsFor, standing_spaces}
+use Rattle.pud_defs.proofs.Parts.Part.{Spaces}
 
 -- the second image is the first one but in the client's record
 pub record IsBeside (slot : ℕ) (i j : Image) : Type 0 where
@@ -53,7 +53,7 @@ module _ (slot : ℕ) (i j : Image) (beside : IsBeside slot i j) where
         let first = used c other in
         let uid = other_record slot c 1 i j other (omega arith) beside in
         let gid = other_record slot c 2 i j other (omega arith) beside in
-        let still : is_legal_space j c ≡ is_legal_space i c = λ p. eqb (first p) 0 || (eqb (first p) 1 && leb (uid p) MAX_OWNER_ID && leb (gid p) MAX_OWNER_ID) in
+        let still : is_legal_space j c ≡ is_legal_space i c = λ p. is_space (first p) (uid p) (gid p) in
         still ∙ all_below-each CLIENTS (is_legal_space i) before c below
   ])
 
@@ -78,5 +78,5 @@ module _ (slot : ℕ) (i j : Image) (beside : IsBeside slot i j) where
       standing_spaces size i j s h
       (λ k low. beside.same k (inl (omega arith)))
       (λ k high below. beside.same k (inr (omega arith)))
-      (are_legal_spaces-changed legal h.spaces)
-      (are_closed_logs-changed s.frames known closed h.logs)
+      (are_legal_spaces-changed legal (h.holds Spaces).spaces)
+      (are_closed_logs-changed s.frames known closed (h.holds Spaces).logs)

@@ -1,3 +1,4 @@
 pub mod Records
 pub mod FreeLogs
 pub mod Closed
+pub mod Clearing

@@ -1,14 +1,14 @@
 -- A client's record of the log-space table, written by one batch.
-use Rattle.std.specs.Prelude.{◌≡◌, ◌⊎◌, ℕ, ◌+◌, true, false, ◌==◌, cond, List, [], ◌∷◌, Option, Some, None}
+use Rattle.std.specs.Prelude.{◌≡◌, ◌⊎◌, ℕ, ◌+◌, ◌<◌, ◌≤◌, true, false, List, [], ◌∷◌, Option, Some, None}
 use Rattle.pm_model.specs.declared.host.HostFault.{HostFault}
-use Rattle.pm_model.specs.Words.{Words, Picks, HasOnly}
+use Rattle.pm_model.specs.Words.{Words, Picks, HasOnly, reads}
 use Rattle.pm_model.specs.Moments.{State}
 use Rattle.pm_model.specs.Changes.{Changes, Leaves, Silently}
-use Rattle.pud_defs.specs.declared.layout.TheConstants.{DAEMON_LOG}
+use Rattle.pud_defs.specs.declared.layout.TheConstants.{DAEMON_LOG, PUDDLE_TABLE, CLIENTS}
 use Rattle.pud_defs.specs.Image.{Image}
 use Rattle.pud_defs.specs.Entries.{Entry}
 use Rattle.pud_defs.specs.Replay.{is_in_log, settled_by}
-use Rattle.pud_defs.specs.Spaces.{Owner, space_record_at, owner_of, has_closed_logs}
+use Rattle.pud_defs.specs.Spaces.{Owner, owner, with_owner, space_record_at, owner_of, has_closed_logs}
 use Rattle.pud_defs.specs.World.{StoredWorld, world_of}
 use Rattle.batch.specs.Batches.{batch_entry, batch_write, ByBatch}
 use Rattle.batch.specs.Worlds.{IsSettled}
@@ -25,29 +25,22 @@ registration slot uid gid = record_batch slot (1 ∷ uid ∷ gid ∷ [])
 abbrev pub unregistration : ℕ → List Entry
 unregistration slot = record_batch slot (0 ∷ [])
 
--- the user and the group, as one
-abbrev pub owner : ℕ → ℕ → Owner
-owner uid gid = record { uid = uid; gid = gid }
-
 -- the table of an image, once the daemon log is replayed: whose the logs of each client are
 abbrev pub owners : Image → ℕ → Option Owner
 owners image client = owner_of (settled_by DAEMON_LOG image) client
-
--- a table with one client's record changed
-abbrev pub with_owner : ℕ → Option Owner → (ℕ → Option Owner) → ℕ → Option Owner
-with_owner slot now table client = cond (client == slot) now (table client)
 
 -- each log of the client is closed, in each image that may be left
 pub record HasClosedLogs (F slot : ℕ) (words : Words) : Type 0 where
   pub each : (image : Image) → Picks words image → has_closed_logs image F slot ≡ true
 
--- An image that stands for the world, and that is one of these words but in the daemon log and in words of the batch. Its table is as it was,
--- or has the client's record changed.
+-- An image that stands for the world, and that is one of these words but in the daemon log and in words of the batch, which are of the
+-- log-space table. Its table is as it was, or has the client's record changed.
 pub record MayHaveOwner (size : ℕ) (s : StoredWorld) (slot : ℕ) (now : Option Owner) (es : List Entry) (words : Words) (image : Image) : Type 0 where
   pub stands : world_of size image ≡ Some s
   pub before : Image
   pub picked : Picks words before
   pub outside : (k : ℕ) → is_in_log DAEMON_LOG k ≡ false → batch_write es k ≡ None → image k ≡ before k
+  pub behind : (k : ℕ) → PUDDLE_TABLE ≤ k → image k ≡ before k
   pub table : (owners image ≡ owners before) ⊎ (owners image ≡ with_owner slot now (owners before))
 
 -- An image that is one of these words but in the daemon log and in words of the batch. Its table has the client's record changed.
@@ -58,12 +51,14 @@ pub record HasOwner (slot : ℕ) (now : Option Owner) (es : List Entry) (words :
   pub table : owners image ≡ with_owner slot now (owners before)
 
 -- The client's record is changed by this batch, wholly or not at all: at each moment each image stands for the world, with the record as it
--- was or changed. Without a fault it is changed in each image that may be left, and the daemon log is closed.
+-- was or changed. Without a fault it is changed in each image that may be left and in what is read, and the daemon log is closed.
 pub record ChangesOwner (size : ℕ) (s : StoredWorld) (slot : ℕ) (now : Option Owner) (es : List Entry) (fault : Option HostFault) (old new : State) : Type 0 where
   pub changes : Changes (ByBatch DAEMON_LOG es) fault old new
   pub moments : Leaves (Silently (MayHaveOwner size s slot now es old.now.words)) old new
   pub settled : fault ≡ None → IsSettled size s new.now.words
   pub done : fault ≡ None → (image : Image) → Picks new.now.words image → HasOwner slot now es old.now.words image
+  pub durable : fault ≡ None → (k v : ℕ) → batch_write es k ≡ Some v → HasOnly (new.now.words k) v
+  pub read : fault ≡ None → (client : ℕ) → client < CLIENTS → owner_of (reads new.now.words) client ≡ with_owner slot now (owner_of (reads old.now.words)) client
 
 -- The client's logs are registered for the owner; without a fault the three words of the record have the one value each.
 pub record Registers (size : ℕ) (s : StoredWorld) (slot uid gid : ℕ) (fault : Option HostFault) (old new : State) : Type 0 where

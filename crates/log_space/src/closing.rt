@@ -3,17 +3,16 @@
 ghost use Rattle.std.specs.Prelude.{◌≡◌, ◌<◌, ◌≤◌, ℕ};
 ghost use Rattle.pm_model.specs.Counts.{after_fault, fault_of};
 ghost use Rattle.pm_model.specs.Changes.{Changes};
-ghost use Rattle.pud_defs.specs.declared.layout.TheConstants.{CLIENTS, CLIENT_LOGS, MIN_FRAMES, MAX_FRAMES};
+ghost use Rattle.pud_defs.specs.declared.layout.TheConstants.{CLIENTS, CLIENT_LOGS, MAX_FRAMES};
 ghost use Rattle.pud_defs.specs.Layout.{device_words};
 ghost use Rattle.pud_defs.specs.World.{StoredWorld};
 ghost use Rattle.log_replay.specs.Replaying.{Anything};
 ghost use Rattle.batch.specs.Worlds.{IsSettled};
 ghost use Rattle.log_space.specs.Closed.{WritesGates, ClosesGates, Closes};
 
-use crate::frames_with_room;
 use pm_model::{Host, HostFault};
 use pm_persist::write_range;
-use pud_defs::layout::{CLIENT_LOGS, FRAMES_WORD, log_at};
+use pud_defs::layout::{CLIENT_LOGS, log_at};
 use pud_defs::log_words::CLOSED_GATE;
 
 /// Gives the gates of the client's logs the value of a closed log's, and marks them: they are durable after the next
@@ -43,23 +42,19 @@ fn close_gates<H: Host>(h: &mut H, frames: u32, slot: u32) -> Result<(), HostFau
     h.fence()
 }
 
-/// Closes the four logs of client `slot` durably, whatever they held. Nothing of them is replayed.
+/// Closes the four logs of client `slot` durably, with one fence, whatever they held, on a device of so many frames. Nothing
+/// of them is replayed.
 ///
-/// Where each image stands for a world and the daemon log is closed in it with nothing that counts, each image left
-/// meanwhile stands for that world too. A device that has no legal number of frames, or not the words that so many need,
-/// is left as it is. The only errors are the host's own.
-pub fn close_logs<H: Host>(h: &mut H, slot: u32) -> Result<(), HostFault>
+/// The device has the words that so many frames need. Where each image stands for a world and the daemon log is closed in it
+/// with nothing that counts, each image left meanwhile stands for that world too. The only errors are the host's own.
+pub fn close_logs<H: Host>(h: &mut H, frames: u32, slot: u32) -> Result<(), HostFault>
+    requires few { frames ≤ MAX_FRAMES }
+    requires room { device_words frames ≤ (H.counts h.old).size }
     requires known { slot < CLIENTS }
-    requires smallest { device_words MIN_FRAMES ≤ (H.counts h.old).size }
-    ensures closes { H.tells → (size : ℕ) → size ≡ (H.counts h.old).size → (s : StoredWorld) → IsSettled size s (H.state h.old).now.words
+    ensures closes { H.tells → (size : ℕ) → size ≡ (H.counts h.old).size → (s : StoredWorld) → frames ≡ s.frames → IsSettled size s (H.state h.old).now.words
         → Closes size s slot (fault_of result) (H.state h.old) (H.state h.new) }
     ensures any { H.tells → Changes Anything (fault_of result) (H.state h.old) (H.state h.new) }
     ensures cause { H.counts h.new ≡ after_fault (fault_of result) (H.counts h.old) }
 {
-    let words = h.words();
-    let frames = h.load(FRAMES_WORD)?;
-    match frames_with_room(words, frames) {
-        None => Ok(()),
-        Some(frames) => close_gates(h, frames, slot),
-    }
+    close_gates(h, frames, slot)
 }

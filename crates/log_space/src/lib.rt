@@ -1,33 +1,30 @@
 //! The log-space table of a device: whose the logs of each client are, and which of a client's logs is free.
 //!
-//! A client's record is changed by one batch, so that each image left meanwhile has it wholly as it was or wholly as it
-//! is to be.
+//! A client's record is changed by one batch, and so is the whole table emptied: each image left meanwhile has it wholly
+//! as it was or wholly as it is to be.
 #![tactic(auto)]
 
-ghost use Rattle.std.specs.Prelude.{◌≡◌, ◌≢◌, ◌+◌, ◌<◌, ◌≤◌, ◌&&◌, nat_le, cond, false, ℕ, Option, IfOk, IfSome, length};
+ghost use Rattle.std.specs.Prelude.{◌≡◌, ◌≢◌, ◌<◌, ◌≤◌, ℕ, Option, IfOk, IfSome, is_some, length};
 ghost use Rattle.pm_model.specs.Words.{reads};
 ghost use Rattle.pm_model.specs.Counts.{after_fault, fault_of};
 ghost use Rattle.pm_model.specs.Changes.{Changes};
-ghost use Rattle.pud_defs.specs.declared.layout.TheConstants.{DAEMON_LOG, PUDDLE_TABLE, SPACE_RECORD_WORDS, CLIENTS, MIN_FRAMES, MAX_FRAMES, MAX_OWNER_ID};
-ghost use Rattle.pud_defs.specs.Layout.{device_words, is_legal_frame_count};
-ghost use Rattle.pud_defs.specs.Registry.{has_room};
-ghost use Rattle.pud_defs.specs.World.{StoredWorld, world_of};
+ghost use Rattle.pud_defs.specs.declared.layout.TheConstants.{PUDDLE_TABLE, SPACE_RECORD_WORDS, CLIENTS, MAX_FRAMES, MAX_OWNER_ID};
+ghost use Rattle.pud_defs.specs.Layout.{device_words};
+ghost use Rattle.pud_defs.specs.Spaces.{owner_of};
+ghost use Rattle.pud_defs.specs.World.{StoredWorld};
 ghost use Rattle.log_replay.specs.Replaying.{Anything};
-ghost use Rattle.batch.specs.Batches.{IsFree, Commits};
-ghost use Rattle.batch.specs.Worlds.{IsSettled};
+ghost use Rattle.batch.specs.Worlds.{IsSettled, MovesBy, Moves};
 ghost use Rattle.log_space.specs.Records.{record_batch, HasClosedLogs, Registers, Unregisters};
+ghost use Rattle.log_space.specs.Clearing.{Clears};
 ghost use Rattle.log_space.specs.FreeLogs.{first_closed, IsLogOf};
 
 mod closing;
 
 use batch::Batch;
 pub use closing::close_logs;
+use log_entry::is_closed_log;
 use pm_model::{Host, HostFault};
-use pud_defs::layout::{
-    CLIENT_LOGS, FRAMES_WORD, MAX_FRAMES, MIN_FRAMES, SPACE_RECORD_WORDS, SPACE_TABLE,
-    device_words, log_at,
-};
-use registry::is_closed_log;
+use pud_defs::layout::{CLIENT_LOGS, CLIENTS, SPACE_RECORD_WORDS, SPACE_TABLE, log_at};
 
 /// Gives the first words of the record of client `slot` these values, all or none.
 fn write_record<H: Host>(h: &mut H, slot: u32, vals: &[u64]) -> Result<(), HostFault>
@@ -35,8 +32,8 @@ fn write_record<H: Host>(h: &mut H, slot: u32, vals: &[u64]) -> Result<(), HostF
     requires known { slot < CLIENTS }
     requires some { 1 ≤ length vals.now }
     requires no_more { length vals.now ≤ SPACE_RECORD_WORDS }
-    ensures commits { H.tells → (size : ℕ) → size ≡ (H.counts h.old).size → IsFree size DAEMON_LOG (record_batch slot vals.now) (H.state h.old).now.words
-        → Commits DAEMON_LOG (record_batch slot vals.now) (fault_of result) (H.state h.old) (H.state h.new) }
+    ensures moves { H.tells → (size : ℕ) → size ≡ (H.counts h.old).size → (s next : StoredWorld) → IsSettled size s (H.state h.old).now.words
+        → MovesBy size s next (record_batch slot vals.now) (H.state h.old).now.words → Moves size s next (record_batch slot vals.now) (fault_of result) (H.state h.old) (H.state h.new) }
     ensures any { H.tells → Changes Anything (fault_of result) (H.state h.old) (H.state h.new) }
     ensures cause { H.counts h.new ≡ after_fault (fault_of result) (H.counts h.old) }
 {
@@ -79,26 +76,46 @@ pub fn unregister<H: Host>(h: &mut H, slot: u32) -> Result<(), HostFault>
     write_record(h, slot, &[0])
 }
 
-/// The number of frames, where it is legal and a device of so many words has the words that so many frames need.
-fn frames_with_room(words: u32, frames: u64) -> Option<u32>
-    ensures { result ≡ cond (is_legal_frame_count frames && nat_le (device_words frames) words) (Option.Some frames) Option.None }
+/// Empties the log-space table by one batch: no client's logs are registered any more.
+///
+/// The device has that table. Where each image stands for a world and the daemon log is closed in it with nothing that
+/// counts, each image left meanwhile stands for that world. The only errors are the host's own.
+pub fn clear_spaces<H: Host>(h: &mut H) -> Result<(), HostFault>
+    requires { PUDDLE_TABLE ≤ (H.counts h.old).size }
+    ensures clears { H.tells → (size : ℕ) → size ≡ (H.counts h.old).size → (s : StoredWorld) → IsSettled size s (H.state h.old).now.words
+        → Clears size s (fault_of result) (H.state h.old) (H.state h.new) }
+    ensures any { H.tells → Changes Anything (fault_of result) (H.state h.old) (H.state h.new) }
+    ensures cause { H.counts h.new ≡ after_fault (fault_of result) (H.counts h.old) }
 {
-    if frames < u64::from(MIN_FRAMES) || frames > u64::from(MAX_FRAMES) {
-        return None;
+    let mut batch = Batch::new();
+    for client in 0..CLIENTS {
+        let _fits = batch.add(SPACE_TABLE + SPACE_RECORD_WORDS * client, &[0]);
     }
-    let frames = frames as u32;
-    if words < device_words(frames) {
-        return None;
-    }
-    Some(frames)
+    batch.commit(h)
 }
 
-/// The lowest of the client's logs that is closed, on a device of so many frames.
-fn first_closed<H: Host>(h: &mut H, frames: u32, slot: u32) -> Result<Option<u32>, HostFault>
+/// Whether the logs of client `slot` are registered. The device has the log-space table, and where the daemon log names words
+/// of it, what it names is not read. Nothing changes, and the only errors are the host's own.
+pub fn is_registered<H: Host>(h: &mut H, slot: u32) -> Result<bool, HostFault>
+    requires table { PUDDLE_TABLE ≤ (H.counts h.old).size }
+    requires known { slot < CLIENTS }
+    ensures registered { H.tells → IfOk result (λ registered. registered ≡ is_some (owner_of (reads (H.state h.old).now.words) slot)) }
+    ensures stays { H.tells → H.state h.new ≡ H.state h.old }
+    ensures cause { H.counts h.new ≡ after_fault (fault_of result) (H.counts h.old) }
+    ensures never_cut { fault_of result ≢ Option.Some HostFault.Cut }
+{
+    Ok(h.load(SPACE_TABLE + SPACE_RECORD_WORDS * slot)? == 1)
+}
+
+/// The lowest of the logs of client `slot` that is closed, as `4 * slot + k` for its log `k`, or None where none is, on a
+/// device of so many frames.
+///
+/// The device has the words that so many frames need. Nothing changes, and the only errors are the host's own.
+pub fn free_log<H: Host>(h: &mut H, frames: u32, slot: u32) -> Result<Option<u32>, HostFault>
     requires few { frames ≤ MAX_FRAMES }
     requires room { device_words frames ≤ (H.counts h.old).size }
     requires known { slot < CLIENTS }
-    ensures first { H.tells → IfOk result (λ found. found ≡ first_closed (reads (H.state h.old).now.words) frames slot) }
+    ensures lowest { H.tells → IfOk result (λ found. found ≡ first_closed (reads (H.state h.old).now.words) frames slot) }
     ensures within { IfOk result (λ found. IfSome found (IsLogOf slot)) }
     ensures stays { H.tells → H.state h.new ≡ H.state h.old }
     ensures cause { H.counts h.new ≡ after_fault (fault_of result) (H.counts h.old) }
@@ -111,29 +128,3 @@ fn first_closed<H: Host>(h: &mut H, frames: u32, slot: u32) -> Result<Option<u32
     }
     Ok(None)
 }
-
-/// The lowest of the logs of client `slot` that is closed, as `4 * slot + k` for its log `k`, or None where none is.
-///
-/// None comes too where the device has no legal number of frames, or not the words that so many need. Nothing changes, and
-/// the only errors are the host's own.
-pub fn free_log<H: Host>(h: &mut H, slot: u32) -> Result<Option<u32>, HostFault>
-    requires known { slot < CLIENTS }
-    requires smallest { device_words MIN_FRAMES ≤ (H.counts h.old).size }
-    ensures lowest { H.tells → (size : ℕ) → size ≡ (H.counts h.old).size → (s : StoredWorld) → world_of size (reads (H.state h.old).now.words) ≡ Option.Some s
-        → IfOk result (λ found. found ≡ first_closed (reads (H.state h.old).now.words) s.frames slot) }
-    ensures no_room { H.tells → has_room (H.counts h.old).size (reads (H.state h.old).now.words) ≡ false → IfOk result (λ found. found ≡ Option.None) }
-    ensures within { IfOk result (λ found. IfSome found (IsLogOf slot)) }
-    ensures stays { H.tells → H.state h.new ≡ H.state h.old }
-    ensures cause { H.counts h.new ≡ after_fault (fault_of result) (H.counts h.old) }
-    ensures never_cut { fault_of result ≢ Option.Some HostFault.Cut }
-{
-    let words = h.words();
-    let frames = h.load(FRAMES_WORD)?;
-    match frames_with_room(words, frames) {
-        None => Ok(None),
-        Some(frames) => first_closed(h, frames, slot),
-    }
-}
-
-#[cfg(test)]
-mod tests;

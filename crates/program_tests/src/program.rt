@@ -1,5 +1,6 @@
 //! The program, and the devices that it is run on.
 use pm_mem::{MemHost, Plan};
+use pm_model::Host;
 use puddle_cli::puddle_main;
 use std::alloc::Global;
 use std::process::Abort;
@@ -28,8 +29,8 @@ pub const EVERY_OTHER: u64 = 0x5555_5555_5555_5555;
 /// gate.
 pub const START_STEPS: u32 = 55;
 
-/// The status that the program ends with for these words.
-pub fn status_of(rt: &impl Abort, alloc: Global, host: &mut MemHost, words: &[&str]) -> u8 {
+/// The status that the program ends with for these words, at any host.
+pub fn status_of<H: Host>(rt: &impl Abort, alloc: Global, host: &mut H, words: &[&str]) -> u8 {
     let mut all = Vec::new(alloc);
     for word in words {
         let word = String::from_str(alloc, word).expect(rt, "memory");

@@ -11,7 +11,9 @@ use Rattle.pud_defs.specs.Replay.{is_in_log, beside_log}
 use Rattle.pud_defs.specs.Spaces.{space_record_at}
 use Rattle.pud_defs.proofs.Replay.{beside_log-outside, outside_log}
 use Rattle.pud_defs.proofs.Spaces.{are_legal_spaces-none, are_closed_logs-none}
-use Rattle.pud_defs.proofs.Worlds.{StandsFor, registry_world_standing, world_of-closed}
+use Rattle.pud_defs.proofs.Parts.{Part, Holds, StandsFor}
+use Rattle.pud_defs.proofs.Parts.Part.{Header, Types, Pools, Spaces, Puddles}
+use Rattle.pud_defs.proofs.Worlds.{ registry_world_standing, world_of-closed}
 
 -- records whose id words are 0 are free
 pub type_records-blank : (image : Image) (from count : ℕ) → ((i : ℕ) → from ≤ i → i < from + count → image (type_record_at i) ≡ 0) → type_records image from count ≡ []
@@ -24,24 +26,28 @@ pub standing_blank : (size F machine : ℕ) (image : Image) → is_legal_frame_c
 standing_blank size F machine image legal room h =
     let counts : (nat_le MIN_FRAMES F ≡ true) × (nat_le F MAX_FRAMES ≡ true) = and_parts _ _ legal in
     let none : type_table image ≡ [] = type_records-blank image 0 TYPE_RECORDS (λ i low high. h.rest (type_record_at i) (omega arith) (omega arith)) in
-    record {
-      magic = h.magic;
-      version = h.version;
-      machine = h.machine;
-      frames = h.frames;
-      next_number = h.next_number;
-      enough_frames = leb-true _ _ counts.0;
-      no_more_frames = leb-true _ _ counts.1;
-      room = room;
-      number_low = omega arith;
-      number_high = leb-true _ _ refl;
-      types = ap by_id none;
-      legal = ap are_legal_types none;
-      no_pools = λ k from below. h.rest k (omega arith) (omega arith);
-      no_puddles = λ k from below. h.rest k (omega arith) (omega arith);
-      spaces = are_legal_spaces-none image (λ c below. h.rest (space_record_at c) (omega arith) (omega arith));
-      logs = are_closed_logs-none image F (λ c below. h.rest (space_record_at c) (omega arith) (omega arith));
-    }
+    let held : (p : Part) → Holds p size (blank_world F machine) image = λ p. elim p as (λ p. Holds p size (blank_world F machine) image) [
+      | Header ↦ record {
+        magic = h.magic;
+        version = h.version;
+        machine = h.machine;
+        frames = h.frames;
+        next_number = h.next_number;
+        enough_frames = leb-true _ _ counts.0;
+        no_more_frames = leb-true _ _ counts.1;
+        room = room;
+        number_low = omega arith;
+        number_high = leb-true _ _ refl;
+      }
+      | Types ↦ record { types = ap by_id none; legal = ap are_legal_types none }
+      | Pools ↦ record { each = λ k from below. h.rest k (omega arith) (omega arith) }
+      | Spaces ↦ record {
+        spaces = are_legal_spaces-none image (λ c below. h.rest (space_record_at c) (omega arith) (omega arith));
+        logs = are_closed_logs-none image F (λ c below. h.rest (space_record_at c) (omega arith) (omega arith));
+      }
+      | Puddles ↦ record { each = λ k from below. h.rest k (omega arith) (omega arith) }
+    ] in
+    record { holds = held }
 
 -- beside the daemon log, which is closed, it is blank too
 pub world_of-blank : (size F machine : ℕ) (image : Image) → is_legal_frame_count F ≡ true → device_words F ≤ size → IsBlank F machine image → world_of size image ≡ Some (blank_world F machine)

@@ -12,7 +12,9 @@ use Rattle.pud_defs.specs.Spaces.{space_record_at, is_closed_range, is_closed_lo
 use Rattle.pud_defs.specs.World.{StoredWorld, world_of}
 use Rattle.pud_defs.proofs.Replay.{entries_of-closed, beside_log-outside, outside_log}
 use Rattle.pud_defs.proofs.Spaces.{all_below-from, all_below-each, is_closed_log-same}
-use Rattle.pud_defs.proofs.Worlds.{StandsFor, standing_logs, standing_closed, world_of-closed, registry_world_standing}
+use Rattle.pud_defs.proofs.Parts.{StandsFor}
+use Rattle.pud_defs.proofs.Parts.Part.{Spaces}
+use Rattle.pud_defs.proofs.Worlds.{standing_logs, standing_closed, world_of-closed, registry_world_standing}
 
 -- the second image is the first but for gates of this client's logs, which it has closed
 pub record IsClosedAnew (F client : ℕ) (i j : Image) : Type 0 where
@@ -76,7 +78,7 @@ module _ (F client : ℕ) (i j : Image) (anew : IsClosedAnew F client i j) where
 -- so it stands for the same world
 pub standing_anew : (size client : ℕ) (i j : Image) (s : StoredWorld) → StandsFor size i s → IsClosedAnew s.frames client i j → StandsFor size j s
 standing_anew size client i j s h anew =
-    standing_logs size i j s h (record { at = λ k below. sym (below_logs s.frames client i j anew k below) }) (logs_stay_closed s.frames client i j anew h.logs)
+    standing_logs size i j s h (record { at = λ k below. sym (below_logs s.frames client i j anew k below) }) (logs_stay_closed s.frames client i j anew (h.holds Spaces).logs)
 
 anew_beside : (F client : ℕ) (i j : Image) → IsClosedAnew F client i j → IsClosedAnew F client (beside_log DAEMON_LOG i) (beside_log DAEMON_LOG j)
 anew_beside F client i j anew = record {

@@ -1,51 +1,33 @@
 -- What the two writes of a type's definition do to the world that an image stands for.
-use Rattle.std.proofs.Common.{◌≡◌, inl, inr, cond, false, eq-eqb, ℕ, ◌+◌, ◌-◌, ◌<◌, ◌≤◌, true, ◌∷◌, ◌++◌, Some, None, refl, sym, ap, ◌∙◌, arith, leb-true}
+use Rattle.std.proofs.Common.{◌≡◌, inl, inr, cond, false, eq-eqb, ℕ, ◌+◌, ◌-◌, ◌<◌, ◌≤◌, true, List, ◌∷◌, ◌++◌, Some, None, sym, ap, ◌∙◌, arith, leb-true}
 use Rattle.std.proofs.lemmas.Bool.{and_parts, cond-true, cond-false, cases_eq}
-use Rattle.pud_defs.specs.declared.layout.TheConstants.{TYPE_RECORDS, MAGIC_WORD, VERSION_WORD, MACHINE_WORD, FRAMES_WORD, NEXT_NUMBER_WORD, DAEMON_LOG}
+use Rattle.pud_defs.specs.declared.layout.TheConstants.{TYPE_RECORDS, DAEMON_LOG}
 use Rattle.pud_defs.specs.Image.{Image, written}
 use Rattle.pud_defs.specs.TypeMap.{is_legal_map, is_legal_type_id}
-use Rattle.pud_defs.specs.Types.{type_record_at, type_records, type_table, types_of, by_id, map_of, with_type, are_legal_types}
+use Rattle.pud_defs.specs.Types.{type_record_at, type_records, type_table, by_id, map_of, with_type, are_legal_types}
 use Rattle.pud_defs.specs.World.{StoredWorld, registry_world, world_of}
 use Rattle.pud_defs.specs.Entries.{is_closed_gate}
 use Rattle.pud_defs.specs.Replay.{is_in_log, beside_log}
-use Rattle.pud_defs.specs.Spaces.{are_closed_logs}
 use Rattle.pud_defs.proofs.Replay.{beside_log-outside, outside_log}
-use Rattle.pud_defs.proofs.Spaces.{are_legal_spaces-same, are_closed_logs-same}
 use Rattle.pud_defs.proofs.Images.{written_there, written_other}
 use Rattle.pud_defs.proofs.TypeLists.{by_id-insert, are_legal_types-insert}
 use Rattle.pud_defs.proofs.TypeTable.{type_records_but, type_records-map_written, type_records-id_written}
-use Rattle.pud_defs.proofs.Worlds.{StandsFor, registry_world_standing, standing_closed, world_of-closed, map_of_world}
+use Rattle.pud_defs.proofs.Parts.{StandsFor, HasTypes, standing_with_types}
+use Rattle.pud_defs.proofs.Parts.Part.{Types}
+use Rattle.pud_defs.proofs.Worlds.{registry_world_standing, standing_closed, world_of-closed, map_of_world}
 
 -- a word of the type table is written: what else is read stays
-rest_stays : (size : ℕ) (image : Image) (s t : StoredWorld) (w v : ℕ) → type_record_at 0 ≤ w → w < type_record_at TYPE_RECORDS → StandsFor size image s
-    → t.frames ≡ s.frames → t.machine ≡ s.machine → t.next_number ≡ s.next_number
-    → types_of (written w v image) ≡ t.types → are_legal_types (type_table (written w v image)) ≡ true → StandsFor size (written w v image) t
-rest_stays size image s t w v low high h frames machine number types legal = record {
-  magic = written_other w v image MAGIC_WORD (λ e. absurd (omega arith)) ∙ h.magic;
-  version = written_other w v image VERSION_WORD (λ e. absurd (omega arith)) ∙ h.version;
-  machine = written_other w v image MACHINE_WORD (λ e. absurd (omega arith)) ∙ h.machine ∙ sym machine;
-  frames = written_other w v image FRAMES_WORD (λ e. absurd (omega arith)) ∙ h.frames ∙ sym frames;
-  next_number = written_other w v image NEXT_NUMBER_WORD (λ e. absurd (omega arith)) ∙ h.next_number ∙ sym number;
-  enough_frames = let few = h.enough_frames in omega arith;
-  no_more_frames = let many = h.no_more_frames in omega arith;
-  room = let words = h.room in omega arith;
-  number_low = let least = h.number_low in omega arith;
-  number_high = let most = h.number_high in omega arith;
-  types = types;
-  legal = legal;
-  no_pools = λ k from below. written_other w v image k (λ e. absurd (omega arith)) ∙ h.no_pools k from below;
-  no_puddles = λ k from below. written_other w v image k (λ e. absurd (omega arith)) ∙ h.no_puddles k from (omega arith);
-  spaces = are_legal_spaces-same (written w v image) image (λ k from below. written_other w v image k (λ e. absurd (omega arith))) ∙ h.spaces;
-  logs = ap (are_closed_logs (written w v image)) frames
-      ∙ are_closed_logs-same (written w v image) image s.frames (λ k from below. written_other w v image k (λ e. absurd (omega arith))) (λ k from below. written_other w v image k (λ e. absurd (omega arith)))
-      ∙ h.logs;
-}
+type_written : (size : ℕ) (image : Image) (s : StoredWorld) (ts : List (ℕ × ℕ)) (w v : ℕ) → type_record_at 0 ≤ w → w < type_record_at TYPE_RECORDS → StandsFor size image s
+    → HasTypes ts (written w v image) → StandsFor size (written w v image) (record s { types = ts })
+type_written size image s ts w v low high h now =
+    standing_with_types size image (written w v image) s ts h (λ k not. written_other w v image k (λ e. not (omega arith) (omega arith))) now
 
 -- the map word of a free record is written: the image stands for the same world
 pub standing-map_written : (size : ℕ) (image : Image) (s : StoredWorld) (r v : ℕ) → StandsFor size image s → r < TYPE_RECORDS → image (type_record_at r) ≡ 0 → StandsFor size (written (type_record_at r + 1) v image) s
 standing-map_written size image s r v h within free =
     let same : type_table (written (type_record_at r + 1) v image) ≡ type_table image = type_records-map_written image TYPE_RECORDS r v within free in
-    rest_stays size image s s (type_record_at r + 1) v (omega arith) (omega arith) h refl refl refl (ap by_id same ∙ h.types) (ap are_legal_types same ∙ h.legal)
+    let types = h.holds Types in
+    type_written size image s s.types (type_record_at r + 1) v (omega arith) (omega arith) h (record { types = ap by_id same ∙ types.types; legal = ap are_legal_types same ∙ types.legal })
 
 -- the id word of a free record is written where its map word is in place: the type is defined
 pub standing-id_written : (size : ℕ) (image : Image) (s : StoredWorld) (r id map : ℕ) → StandsFor size image s → r < TYPE_RECORDS → image (type_record_at r) ≡ 0 → image (type_record_at r + 1) ≡ map
@@ -58,9 +40,11 @@ standing-id_written size image s r id map h within free there legal_id legal_map
     let but : type_table image ≡ before ++ behind = type_records_but image TYPE_RECORDS r within free in
     let now : type_table (written (type_record_at r) id image) ≡ before ++ (id, map) ∷ behind = type_records-id_written image TYPE_RECORDS r id within above ∙ ap (λ m. before ++ (id, m) ∷ behind) there in
     let apart : map_of id (before ++ behind) ≡ None = ap (map_of id) (sym but) ∙ map_of_world size image s id h ∙ none in
-    rest_stays size image s (record s { types = with_type id map s.types }) (type_record_at r) id (omega arith) (omega arith) h refl refl refl
-    (ap by_id now ∙ by_id-insert id map before behind apart ∙ ap (with_type id map) (ap by_id (sym but) ∙ h.types))
-    (ap are_legal_types now ∙ are_legal_types-insert id map before behind legal_id legal_map apart (ap are_legal_types (sym but) ∙ h.legal))
+    let types = h.holds Types in
+    type_written size image s (with_type id map s.types) (type_record_at r) id (omega arith) (omega arith) h (record {
+      types = ap by_id now ∙ by_id-insert id map before behind apart ∙ ap (with_type id map) (ap by_id (sym but) ∙ types.types);
+      legal = ap are_legal_types now ∙ are_legal_types-insert id map before behind legal_id legal_map apart (ap are_legal_types (sym but) ∙ types.legal);
+    })
 
 -- ---- the same two, of an image whose daemon log is closed and counts no word
 

@@ -7,6 +7,7 @@ pub mod Replay
 pub mod Zeroes
 pub mod Spaces
 pub mod Logged
+pub mod Parts
 pub mod Worlds
 pub mod ClosedLogs
 pub mod Definitions
@@ -14,6 +15,7 @@ pub mod Blank
 pub mod Lines
 pub mod Runs
 pub mod Steps
+pub mod Changing
 pub mod Commands
 pub mod Said
 pub mod Opened

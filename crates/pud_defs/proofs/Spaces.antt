@@ -1,13 +1,13 @@
 -- The log-space table: images that agree on what is read of it and of the clients' logs.
 use Rattle.std.proofs.Common.{◌≡◌, ℕ, zero, suc, ◌+◌, ◌^◌, ◌<◌, ◌≤◌, Bool, true, false, ◌&&◌, ◌||◌, eqb, leb, ltb, refl, sym, ap, ap₂, ◌∙◌, ⊎_elim, inl, inr, arith, add-one, eq-eqb}
-use Rattle.std.specs.Prelude.{is_some}
+use Rattle.std.specs.Prelude.{cond, Some, None, is_some}
 use Rattle.std.proofs.lemmas.Bool.{and_parts, and_from, cond-false, cases_Bool, cases_eq, or_left, leb-true}
-use Rattle.pud_defs.specs.declared.layout.TheConstants.{SPACE_TABLE, CLIENTS, CLIENT_LOGS, MAX_OWNER_ID, LOG_WORDS, LOG_ENTRY_WORDS, PUDDLE_TABLE}
+use Rattle.pud_defs.specs.declared.layout.TheConstants.{SPACE_TABLE, CLIENTS, CLIENT_LOGS, LOG_WORDS, LOG_ENTRY_WORDS, PUDDLE_TABLE}
 use Rattle.pud_defs.specs.Image.{Image}
 use Rattle.pud_defs.specs.Layout.{tables_end, log_at, frames_at}
 use Rattle.pud_defs.specs.Entries.{gate_used, is_legal_gate, entries_of}
 use Rattle.pud_defs.specs.Replay.{IsInLog}
-use Rattle.pud_defs.specs.Spaces.{space_record_at, all_below, is_legal_space, is_closed_range, is_closed_log, has_closed_logs, are_legal_spaces, are_closed_logs}
+use Rattle.pud_defs.specs.Spaces.{Owner, owner, space_record_at, owner_by, all_below, is_space, is_legal_space, is_closed_range, is_closed_log, has_closed_logs, are_legal_spaces, are_closed_logs, owner_of}
 use Rattle.pud_defs.proofs.Entries.{entries_of-same}
 
 pub all_below-same : (n : ℕ) (f g : ℕ → Bool) → ((k : ℕ) → k < n → f k ≡ g k) → all_below n f ≡ all_below n g
@@ -39,6 +39,12 @@ all_below-fails n k f below fails = elim (cases_Bool (all_below n f)) [
   | inr some ↦ some
 ]
 
+-- ---- one record
+
+-- its first word tells whether there is an owner
+pub used_is_some : (used uid gid : ℕ) → eqb used 1 ≡ is_some (owner_by used uid gid)
+used_is_some used uid gid = elim (eqb used 1) as (λ b. b ≡ is_some {T = Owner} (cond b (Some (owner uid gid)) None)) [ true ↦ refl | false ↦ refl ]
+
 -- ---- images that agree
 
 -- images that agree on the words of a log have the same entries there
@@ -69,13 +75,21 @@ are_legal_spaces-same i j same =
     let used = same (space_record_at c) (omega arith) (omega arith) in
     let uid = same (space_record_at c + 1) (omega arith) (omega arith) in
     let gid = same (space_record_at c + 2) (omega arith) (omega arith) in
-    λ p. eqb (used p) 0 || (eqb (used p) 1 && leb (uid p) MAX_OWNER_ID && leb (gid p) MAX_OWNER_ID))
+    λ p. is_space (used p) (uid p) (gid p))
 
 pub are_closed_logs-same : (i j : Image) (F : ℕ) → ((k : ℕ) → SPACE_TABLE ≤ k → k < PUDDLE_TABLE → i k ≡ j k) → ((k : ℕ) → tables_end F ≤ k → k < frames_at F → i k ≡ j k)
     → are_closed_logs i F ≡ are_closed_logs j F
 are_closed_logs-same i j F table logs =
     all_below-same CLIENTS (λ c. eqb (i (space_record_at c)) 0 || has_closed_logs i F c) (λ c. eqb (j (space_record_at c)) 0 || has_closed_logs j F c)
     (λ c below. ap₂ (λ (v : ℕ) (x : Bool). eqb v 0 || x) (table (space_record_at c) (omega arith) (omega arith)) (has_closed_logs-same i j F c below logs))
+
+-- images that agree on the table have the same owners
+pub owner_of-same : (i j : Image) (client : ℕ) → client < CLIENTS → ((k : ℕ) → SPACE_TABLE ≤ k → k < PUDDLE_TABLE → i k ≡ j k) → owner_of i client ≡ owner_of j client
+owner_of-same i j client known same =
+    let used = same (space_record_at client) (omega arith) (omega arith) in
+    let uid = same (space_record_at client + 1) (omega arith) (omega arith) in
+    let gid = same (space_record_at client + 2) (omega arith) (omega arith) in
+    λ p. owner_by (used p) (uid p) (gid p)
 
 -- a table in which no record is used is legal, and no log is registered
 pub are_legal_spaces-none : (image : Image) → ((c : ℕ) → c < CLIENTS → image (space_record_at c) ≡ 0) → are_legal_spaces image ≡ true

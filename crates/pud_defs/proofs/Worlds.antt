@@ -1,71 +1,55 @@
 -- What it says that an image stands for a world, point by point: an image with nothing to replay first, and then any.
-use Rattle.std.proofs.Common.{◌≡◌, inl, inr, Bool, ℕ, ◌-◌, ◌<◌, ◌≤◌, true, ◌&&◌, T, length, Option, Some, None, nat_cmp, refl, sym, ap, ◌∙◌, arith, eqb-true, eq-eqb, leb-true, le-leb, subst, false}
+use Rattle.std.proofs.Common.{◌≡◌, ◌⊎◌, ◌+◌, inl, inr, Bool, ℕ, ◌-◌, ◌<◌, ◌≤◌, true, ◌&&◌, T, length, Option, Some, None, nat_cmp, refl, sym, ap, ◌∙◌, arith, eqb-true, eq-eqb, leb-true, le-leb, subst, false}
 use Rattle.std.specs.FinMap.Entries.{is_sorted}
 use Rattle.std.proofs.lemmas.Bool.{and_parts, and_from, cond-true, cond-false, cases_Bool}
 use Rattle.std.proofs.lemmas.Option.{cond_some}
-use Rattle.pud_defs.specs.declared.layout.TheConstants.{DEVICE_MAGIC, VERSION, MIN_FRAMES, MAX_FRAMES, NUMBER_LIMIT, MAGIC_WORD, VERSION_WORD, MACHINE_WORD, FRAMES_WORD, NEXT_NUMBER_WORD, DAEMON_LOG, TYPE_TABLE, POOL_TABLE, SPACE_TABLE, PUDDLE_TABLE, TYPE_RECORDS}
-use Rattle.pud_defs.specs.Layout.{tables_end, frames_at, device_words}
+use Rattle.pud_defs.specs.declared.layout.TheConstants.{DEVICE_MAGIC, MIN_FRAMES, MAX_FRAMES, NUMBER_LIMIT, MAGIC_WORD, FRAMES_WORD, NEXT_NUMBER_WORD, DAEMON_LOG, LOG_WORDS, TYPE_TABLE, POOL_TABLE, SPACE_TABLE, PUDDLE_TABLE, TYPE_RECORDS}
+use Rattle.pud_defs.specs.Layout.{tables_end, device_words}
 use Rattle.pud_defs.specs.Image.{Image, IsSameBelow}
-use Rattle.pud_defs.specs.Types.{type_table, types_of, by_id, map_of, first_free, are_legal_types}
+use Rattle.pud_defs.specs.Types.{type_table, map_of, first_free}
 use Rattle.pud_defs.specs.Registry.{frames_of, is_sound, has_magic, has_version, has_room, has_legal_number, has_legal_types, has_no_pools, has_no_puddles, has_legal_spaces, has_closed_logs, is_registry, has_legal_log, are_allowed}
 use Rattle.pud_defs.specs.World.{StoredWorld, stored_by, registry_world, world_of}
 use Rattle.pud_defs.specs.Entries.{is_closed_gate, log_of}
 use Rattle.pud_defs.specs.Replay.{settled_by, beside_log}
-use Rattle.pud_defs.specs.Spaces.{are_legal_spaces, are_closed_logs}
+use Rattle.pud_defs.specs.Spaces.{are_closed_logs}
 use Rattle.pud_defs.proofs.Replay.{entries_of-closed, settled_by-beside, beside_log-outside, outside_log}
-use Rattle.pud_defs.proofs.Spaces.{are_legal_spaces-same, are_closed_logs-same}
+use Rattle.pud_defs.proofs.Spaces.{are_legal_spaces-same}
 use Rattle.pud_defs.proofs.Logged.{settled_by-unlogged}
 use Rattle.pud_defs.proofs.TypeLists.{is_sorted-by_id, map_of-by_id, length-by_id}
-use Rattle.pud_defs.proofs.TypeTable.{type_records_same, length-type_records, length-type_records_full, first_free_some}
+use Rattle.pud_defs.proofs.TypeTable.{length-type_records, length-type_records_full, first_free_some}
 use Rattle.pud_defs.proofs.Zeroes.{zero_at, are_zero_from}
+use Rattle.pud_defs.proofs.Parts.{Part, Holds, StandsFor, standing_same, standing_with_spaces}
+use Rattle.pud_defs.proofs.Parts.Part.{Header, Types, Pools, Spaces, Puddles}
 
 none_from : {A : Type 0} (o : Option A) → ((x : A) → o ≡ Some x → ⊥) → o ≡ None
 none_from None h = refl
 none_from (Some x) h = absurd (h x refl)
 
--- an image with nothing to replay stands for this world, on a device of so many words
-pub record StandsFor (size : ℕ) (image : Image) (s : StoredWorld) : Type 0 where
-  pub magic : image MAGIC_WORD ≡ DEVICE_MAGIC
-  pub version : image VERSION_WORD ≡ VERSION
-  pub machine : image MACHINE_WORD ≡ s.machine
-  pub frames : image FRAMES_WORD ≡ s.frames
-  pub next_number : image NEXT_NUMBER_WORD ≡ s.next_number
-  pub enough_frames : MIN_FRAMES ≤ s.frames
-  pub no_more_frames : s.frames ≤ MAX_FRAMES
-  pub room : device_words s.frames ≤ size
-  pub number_low : 1 ≤ s.next_number
-  pub number_high : s.next_number ≤ NUMBER_LIMIT
-  pub types : types_of image ≡ s.types
-  pub legal : are_legal_types (type_table image) ≡ true
-  pub no_pools : (k : ℕ) → POOL_TABLE ≤ k → k < SPACE_TABLE → image k ≡ 0
-  pub no_puddles : (k : ℕ) → PUDDLE_TABLE ≤ k → k < tables_end s.frames → image k ≡ 0
-  pub spaces : are_legal_spaces image ≡ true
-  pub logs : are_closed_logs image s.frames ≡ true
-
 sound_from : (size : ℕ) (image : Image) (s : StoredWorld) → StandsFor size image s → is_registry size image ≡ true
 unfolding is_registry
 sound_from size image s h =
-    let frames = h.frames in
-    let low : MIN_FRAMES ≤ frames_of image = let few = h.enough_frames in omega arith in
-    let high : frames_of image ≤ MAX_FRAMES = let many = h.no_more_frames in omega arith in
-    let room : device_words (frames_of image) ≤ size = let words = h.room in omega arith in
-    let number = h.next_number in
-    let number_low : 1 ≤ image NEXT_NUMBER_WORD = let least = h.number_low in omega arith in
-    let number_high : image NEXT_NUMBER_WORD ≤ NUMBER_LIMIT = let most = h.number_high in omega arith in
+    let header = h.holds Header in
+    let frames = header.frames in
+    let low : MIN_FRAMES ≤ frames_of image = let few = header.enough_frames in omega arith in
+    let high : frames_of image ≤ MAX_FRAMES = let many = header.no_more_frames in omega arith in
+    let room : device_words (frames_of image) ≤ size = let words = header.room in omega arith in
+    let number = header.next_number in
+    let number_low : 1 ≤ image NEXT_NUMBER_WORD = let least = header.number_low in omega arith in
+    let number_high : image NEXT_NUMBER_WORD ≤ NUMBER_LIMIT = let most = header.number_high in omega arith in
     and_from _ _ (and_from _ _ (and_from _ _ (and_from _ _ (and_from _ _ (and_from _ _ (and_from _ _ (and_from _ _
-    (eq-eqb _ _ h.magic)
-    (eq-eqb _ _ h.version))
+    (eq-eqb _ _ header.magic)
+    (eq-eqb _ _ header.version))
     (and_from _ _ (and_from _ _ (le-leb _ _ low) (le-leb _ _ high)) (le-leb _ _ room)))
     (and_from _ _ (le-leb _ _ number_low) (le-leb _ _ number_high)))
-    h.legal)
-    (are_zero_from image POOL_TABLE (SPACE_TABLE - POOL_TABLE) (λ k from below. h.no_pools k from (omega arith))))
-    (are_zero_from image PUDDLE_TABLE (tables_end (frames_of image) - PUDDLE_TABLE) (λ k from below. h.no_puddles k from (omega arith))))
-    h.spaces)
-    (ap (are_closed_logs image) frames ∙ h.logs)
+    (h.holds Types).legal)
+    (are_zero_from image POOL_TABLE (SPACE_TABLE - POOL_TABLE) (λ k from below. (h.holds Pools).each k from (omega arith))))
+    (are_zero_from image PUDDLE_TABLE (tables_end (frames_of image) - PUDDLE_TABLE) (λ k from below. (h.holds Puddles).each k from (omega arith))))
+    (h.holds Spaces).spaces)
+    (ap (are_closed_logs image) frames ∙ (h.holds Spaces).logs)
 
 stored_from : (size : ℕ) (image : Image) (s : StoredWorld) → StandsFor size image s → stored_by image ≡ s
 unfolding stored_by
-stored_from size image s h = λ i. record { frames = h.frames i; machine = h.machine i; next_number = h.next_number i; types = h.types i }
+stored_from size image s h = λ i. record { frames = (h.holds Header).frames i; machine = (h.holds Header).machine i; next_number = (h.holds Header).next_number i; types = (h.holds Types).types i }
 
 pub registry_world_standing : (size : ℕ) (image : Image) (s : StoredWorld) → StandsFor size image s → registry_world size image ≡ Some s
 unfolding registry_world
@@ -85,24 +69,25 @@ standing_by size image sound =
     let words = and_parts _ _ room.1 in
     let counts = and_parts _ _ words.0 in
     let numbers = and_parts _ _ number.1 in
-    record {
-      magic = eqb-true _ _ first.0;
-      version = eqb-true _ _ first.1;
-      machine = refl;
-      frames = refl;
-      next_number = refl;
-      enough_frames = leb-true _ _ counts.0;
-      no_more_frames = leb-true _ _ counts.1;
-      room = leb-true _ _ words.1;
-      number_low = leb-true _ _ numbers.0;
-      number_high = leb-true _ _ numbers.1;
-      types = refl;
-      legal = types.1;
-      no_pools = λ k from below. zero_at image POOL_TABLE (SPACE_TABLE - POOL_TABLE) pools.1 k from (omega arith);
-      no_puddles = λ k from below. zero_at image PUDDLE_TABLE (tables_end (frames_of image) - PUDDLE_TABLE) puddles.1 k from (omega arith);
-      spaces = spaces.1;
-      logs = logs.1;
-    }
+    let held : (p : Part) → Holds p size (stored_by image) image = λ p. elim p as (λ p. Holds p size (stored_by image) image) [
+      | Header ↦ record {
+        magic = eqb-true _ _ first.0;
+        version = eqb-true _ _ first.1;
+        machine = refl;
+        frames = refl;
+        next_number = refl;
+        enough_frames = leb-true _ _ counts.0;
+        no_more_frames = leb-true _ _ counts.1;
+        room = leb-true _ _ words.1;
+        number_low = leb-true _ _ numbers.0;
+        number_high = leb-true _ _ numbers.1;
+      }
+      | Types ↦ record { types = refl; legal = types.1 }
+      | Pools ↦ record { each = λ k from below. zero_at image POOL_TABLE (SPACE_TABLE - POOL_TABLE) pools.1 k from (omega arith) }
+      | Spaces ↦ record { spaces = spaces.1; logs = logs.1 }
+      | Puddles ↦ record { each = λ k from below. zero_at image PUDDLE_TABLE (tables_end (frames_of image) - PUDDLE_TABLE) puddles.1 k from (omega arith) }
+    ] in
+    record { holds = held }
 
 pub standing_of_registry : (size : ℕ) (image : Image) (s : StoredWorld) → registry_world size image ≡ Some s → StandsFor size image s
 unfolding registry_world
@@ -135,7 +120,7 @@ legal_log_of_world size image s h = elim (cases_Bool (has_legal_log image)) [
 -- no replay changes the number of frames
 pub frames_of_world : (size : ℕ) (image : Image) (s : StoredWorld) → world_of size image ≡ Some s → image FRAMES_WORD ≡ s.frames
 frames_of_world size image s world =
-    sym (settled_by-unlogged image FRAMES_WORD (legal_log_of_world size image s world) (omega arith)) ∙ (standing_of_world size image s world).frames
+    sym (settled_by-unlogged image FRAMES_WORD (legal_log_of_world size image s world) (omega arith)) ∙ ((standing_of_world size image s world).holds Header).frames
 
 -- with a legal daemon log the image stands for what it does once that is replayed
 pub world_of_legal : (size : ℕ) (image : Image) → has_legal_log image ≡ true → world_of size image ≡ registry_world size (settled_by DAEMON_LOG image)
@@ -174,106 +159,41 @@ world_of-closed size image closed = cond-true _ _ _ (legal_log_closed image clos
 pub standing_closed : (size : ℕ) (image : Image) (s : StoredWorld) → is_closed_gate (image DAEMON_LOG) ≡ true → world_of size image ≡ Some s → StandsFor size (beside_log DAEMON_LOG image) s
 standing_closed size image s closed h = standing_of_registry size (beside_log DAEMON_LOG image) s (sym (world_of-closed size image closed) ∙ h)
 
+around_log : (k : ℕ) → (k < DAEMON_LOG) ⊎ (TYPE_TABLE ≤ k) → (k < DAEMON_LOG) ⊎ (DAEMON_LOG + LOG_WORDS ≤ k)
+around_log k (inl low) = inl low
+around_log k (inr high) = inr (omega arith)
+
 -- an image that is the same beside the daemon log stands for the same world
 pub standing_beside : (size : ℕ) (image : Image) (s : StoredWorld) → StandsFor size (beside_log DAEMON_LOG image) s → StandsFor size image s
 standing_beside size image s h =
-    let low : (k : ℕ) → k < DAEMON_LOG → image k ≡ beside_log DAEMON_LOG image k = λ k below. sym (beside_log-outside DAEMON_LOG image k (outside_log DAEMON_LOG k (inl below))) in
-    let high : (k : ℕ) → TYPE_TABLE ≤ k → image k ≡ beside_log DAEMON_LOG image k = λ k above. sym (beside_log-outside DAEMON_LOG image k (outside_log DAEMON_LOG k (inr (omega arith)))) in
-    let table : type_table image ≡ type_table (beside_log DAEMON_LOG image) = type_records_same image (beside_log DAEMON_LOG image) 0 TYPE_RECORDS (λ k from below. high k (omega arith)) in
-    record {
-      magic = low MAGIC_WORD (omega arith) ∙ h.magic;
-      version = low VERSION_WORD (omega arith) ∙ h.version;
-      machine = low MACHINE_WORD (omega arith) ∙ h.machine;
-      frames = low FRAMES_WORD (omega arith) ∙ h.frames;
-      next_number = low NEXT_NUMBER_WORD (omega arith) ∙ h.next_number;
-      enough_frames = h.enough_frames;
-      no_more_frames = h.no_more_frames;
-      room = h.room;
-      number_low = h.number_low;
-      number_high = h.number_high;
-      types = ap by_id table ∙ h.types;
-      legal = ap are_legal_types table ∙ h.legal;
-      no_pools = λ k from below. high k (omega arith) ∙ h.no_pools k from below;
-      no_puddles = λ k from below. high k (omega arith) ∙ h.no_puddles k from below;
-      spaces = are_legal_spaces-same image (beside_log DAEMON_LOG image) (λ k from below. high k (omega arith)) ∙ h.spaces;
-      logs = are_closed_logs-same image (beside_log DAEMON_LOG image) s.frames (λ k from below. high k (omega arith)) (λ k from below. high k (omega arith)) ∙ h.logs;
-    }
-
--- ---- images that agree on all that is read
+    standing_same size (beside_log DAEMON_LOG image) image s h (λ k beside below. sym (beside_log-outside DAEMON_LOG image k (outside_log DAEMON_LOG k (around_log k beside))))
 
 -- an image that is the same up to the clients' logs, and whose registered logs are closed, stands for the same world
 pub standing_logs : (size : ℕ) (i j : Image) (s : StoredWorld) → StandsFor size i s → IsSameBelow (tables_end s.frames) i j → are_closed_logs j s.frames ≡ true → StandsFor size j s
 standing_logs size i j s h same logs =
-    let table : type_table i ≡ type_table j = type_records_same i j 0 TYPE_RECORDS (λ k low high. same.at k (omega arith)) in
-    record {
-      magic = sym (same.at MAGIC_WORD (omega arith)) ∙ h.magic;
-      version = sym (same.at VERSION_WORD (omega arith)) ∙ h.version;
-      machine = sym (same.at MACHINE_WORD (omega arith)) ∙ h.machine;
-      frames = sym (same.at FRAMES_WORD (omega arith)) ∙ h.frames;
-      next_number = sym (same.at NEXT_NUMBER_WORD (omega arith)) ∙ h.next_number;
-      enough_frames = h.enough_frames;
-      no_more_frames = h.no_more_frames;
-      room = h.room;
-      number_low = h.number_low;
-      number_high = h.number_high;
-      types = sym (ap by_id table) ∙ h.types;
-      legal = sym (ap are_legal_types table) ∙ h.legal;
-      no_pools = λ k from below. sym (same.at k (omega arith)) ∙ h.no_pools k from below;
-      no_puddles = λ k from below. sym (same.at k (omega arith)) ∙ h.no_puddles k from below;
-      spaces = sym (are_legal_spaces-same i j (λ k low high. same.at k (omega arith))) ∙ h.spaces;
-      logs = logs;
-    }
-
--- an image that is the same below the frames stands for the same world
-pub standing_same : (size : ℕ) (i j : Image) (s : StoredWorld) → StandsFor size i s → IsSameBelow (frames_at s.frames) i j → StandsFor size j s
-standing_same size i j s h same =
-    standing_logs size i j s h (record { at = λ k below. same.at k (omega arith) })
-    (sym (are_closed_logs-same i j s.frames (λ k low high. same.at k (omega arith)) (λ k low high. same.at k high)) ∙ h.logs)
-
--- an image that differs in the log-space table alone, and whose registered logs are closed, stands for the same world
-pub standing_spaces : (size : ℕ) (i j : Image) (s : StoredWorld) → StandsFor size i s → ((k : ℕ) → k < SPACE_TABLE → j k ≡ i k) → ((k : ℕ) → PUDDLE_TABLE ≤ k → k < frames_at s.frames → j k ≡ i k)
-    → are_legal_spaces j ≡ true → are_closed_logs j s.frames ≡ true → StandsFor size j s
-standing_spaces size i j s h below behind spaces logs =
-    let table : type_table j ≡ type_table i = type_records_same j i 0 TYPE_RECORDS (λ k low high. below k (omega arith)) in
-    record {
-      magic = below MAGIC_WORD (omega arith) ∙ h.magic;
-      version = below VERSION_WORD (omega arith) ∙ h.version;
-      machine = below MACHINE_WORD (omega arith) ∙ h.machine;
-      frames = below FRAMES_WORD (omega arith) ∙ h.frames;
-      next_number = below NEXT_NUMBER_WORD (omega arith) ∙ h.next_number;
-      enough_frames = h.enough_frames;
-      no_more_frames = h.no_more_frames;
-      room = h.room;
-      number_low = h.number_low;
-      number_high = h.number_high;
-      types = ap by_id table ∙ h.types;
-      legal = ap are_legal_types table ∙ h.legal;
-      no_pools = λ k from high. below k high ∙ h.no_pools k from high;
-      no_puddles = λ k from high. behind k from (omega arith) ∙ h.no_puddles k from high;
-      spaces = spaces;
-      logs = logs;
-    }
+    standing_with_spaces size i j s h (λ k below not. sym (same.at k below))
+    (record { spaces = are_legal_spaces-same j i (λ k low high. sym (same.at k (omega arith))) ∙ (h.holds Spaces).spaces; logs = logs })
 
 -- ---- an image without the device magic stands for nothing
 
 pub world_of-no_magic : (size : ℕ) (image : Image) → (image MAGIC_WORD ≡ DEVICE_MAGIC → ⊥) → world_of size image ≡ None
 unfolding world_of
 world_of-no_magic size image h = elim (cases_Bool (has_legal_log image)) [
-  | inl legal ↦ no_world size image (λ s e. h (sym (settled_by-unlogged image MAGIC_WORD legal (omega arith)) ∙ (standing_of_world size image s e).magic))
+  | inl legal ↦ no_world size image (λ s e. h (sym (settled_by-unlogged image MAGIC_WORD legal (omega arith)) ∙ ((standing_of_world size image s e).holds Header).magic))
   | inr illegal ↦ cond-false _ _ _ illegal
 ]
 
 -- ---- the world's types are those of the table
 
 pub types_sorted : (size : ℕ) (image : Image) (s : StoredWorld) → StandsFor size image s → T (is_sorted nat_cmp s.types)
-types_sorted size image s h = subst (λ ts. T (is_sorted nat_cmp ts)) h.types (is_sorted-by_id (type_table image))
+types_sorted size image s h = subst (λ ts. T (is_sorted nat_cmp ts)) (h.holds Types).types (is_sorted-by_id (type_table image))
 
 -- the first record with an id gives its map
 pub map_of_world : (size : ℕ) (image : Image) (s : StoredWorld) (id : ℕ) → StandsFor size image s → map_of id (type_table image) ≡ map_of id s.types
-map_of_world size image s id h = sym (map_of-by_id id (type_table image)) ∙ ap (map_of id) h.types
+map_of_world size image s id h = sym (map_of-by_id id (type_table image)) ∙ ap (map_of id) (h.holds Types).types
 
 pub length_of_world : (size : ℕ) (image : Image) (s : StoredWorld) → StandsFor size image s → length (type_table image) ≡ length s.types
-length_of_world size image s h = sym (length-by_id (type_table image) h.legal) ∙ ap length h.types
+length_of_world size image s h = sym (length-by_id (type_table image) (h.holds Types).legal) ∙ ap length (h.holds Types).types
 
 -- all records are used exactly where as many types are defined
 pub full_of_world : (size : ℕ) (image : Image) (s : StoredWorld) → StandsFor size image s → first_free image 0 TYPE_RECORDS ≡ None → length s.types ≡ TYPE_RECORDS

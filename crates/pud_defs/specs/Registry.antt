@@ -24,8 +24,11 @@ abbrev pub has_room : ℕ → Image → Bool
 has_room size image = is_legal_frame_count (frames_of image) && nat_le (device_words (frames_of image)) size
 
 -- the next UUID number is from 1 to 2^63
+abbrev pub is_number : ℕ → Bool
+is_number v = nat_le 1 v && nat_le v NUMBER_LIMIT
+
 abbrev pub has_legal_number : Image → Bool
-has_legal_number image = nat_le 1 (image NEXT_NUMBER_WORD) && nat_le (image NEXT_NUMBER_WORD) NUMBER_LIMIT
+has_legal_number image = is_number (image NEXT_NUMBER_WORD)
 
 abbrev pub has_legal_types : Image → Bool
 has_legal_types image = are_legal_types (type_table image)

@@ -11,13 +11,21 @@ pub record Owner : Type 0 where
   pub uid : ℕ
   pub gid : ℕ
 
+-- these, as one
+abbrev pub owner : ℕ → ℕ → Owner
+owner uid gid = record { uid = uid; gid = gid }
+
+-- the owners of clients with one of them changed
+abbrev pub with_owner : ℕ → Option Owner → (ℕ → Option Owner) → ℕ → Option Owner
+with_owner client now owners other = cond (other == client) now (owners other)
+
 -- the word of a client's record that tells whether its logs are registered; its uid and its gid stand behind it
 abbrev pub space_record_at : ℕ → ℕ
 space_record_at client = SPACE_TABLE + SPACE_RECORD_WORDS * client
 
 -- the owner by the three words of a record, where it is used
 abbrev pub owner_by : ℕ → ℕ → ℕ → Option Owner
-owner_by used uid gid = cond (used == 1) (Some (record { uid = uid; gid = gid })) None
+owner_by used uid gid = cond (used == 1) (Some (owner uid gid)) None
 
 -- whose the logs of a client are, where they are registered
 abbrev pub owner_of : Image → ℕ → Option Owner
@@ -28,11 +36,12 @@ unfoldable pub all_below : ℕ → (ℕ → Bool) → Bool
 all_below zero test = true
 all_below (suc n) test = all_below n test && test n
 
--- the record is free or used, and a used one has a legal uid and gid
+-- a record of these three words is free, or it is used and has a legal uid and gid
+abbrev pub is_space : (used uid gid : ℕ) → Bool
+is_space used uid gid = used == 0 || (used == 1 && nat_le uid MAX_OWNER_ID && nat_le gid MAX_OWNER_ID)
+
 abbrev pub is_legal_space : Image → ℕ → Bool
-is_legal_space image client =
-    image (space_record_at client) == 0
-    || (image (space_record_at client) == 1 && nat_le (image (space_record_at client + 1)) MAX_OWNER_ID && nat_le (image (space_record_at client + 2)) MAX_OWNER_ID)
+is_legal_space image client = is_space (image (space_record_at client)) (image (space_record_at client + 1)) (image (space_record_at client + 2))
 
 -- a gate's range is (4,4), or (0,0) as after formatting
 abbrev pub is_closed_range : ℕ → Bool

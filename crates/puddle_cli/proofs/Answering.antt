@@ -17,6 +17,8 @@ use Rattle.pud_defs.specs.Step.{answer_by, world_by}
 use Rattle.pud_defs.specs.Run.{Turn, IsTurn, cuts_of, IsRun, last_world, newlines, open_rest, lines_taken, lines_among}
 use Rattle.pud_defs.specs.Texts.{answer_text, replies_text}
 use Rattle.pud_defs.specs.Stands.{StandsWith}
+use Rattle.pud_defs.specs.Changing.{file_in, KeepsFiles}
+use Rattle.pud_defs.proofs.Changing.{KeepsFiles-still, KeepsUnwritable-still, KeepsUnwritable-then, KeepsUnwritable-line}
 use Rattle.pud_defs.proofs.Commands.{command_of-front}
 use Rattle.pud_defs.proofs.Lines.{open_rest-newline, open_rest-other, open_rest-nothing, lines_taken-nothing, lines_taken-newline, lines_taken-other, lines_taken-end, lines_among_empty, lines_among_line}
 use Rattle.pud_defs.proofs.Runs.{IsRun-append, last_world-append}
@@ -26,8 +28,9 @@ use Rattle.puddled.specs.declared.daemon.RunFault.{RunFault}
 use Rattle.puddled.specs.declared.daemon.RunFault.TheVariants.{NotSound}
 use Rattle.puddled.specs.Faults.{of_host, run_fault, CountsLine, CountsTurns}
 use Rattle.puddled.proofs.Counted.{none_is_sound, CountsTurns-one, CountsTurns-append}
-use Rattle.puddled.specs.Daemon.{KeepsRest, IsReady, SaysPart, Answers}
-use Rattle.puddle_cli.specs.Serving.{Takes, TakesAtMost, TakesAll, CountsPending, AnswersLine, Serves, Answered}
+use Rattle.puddled.specs.Memory.{Memory}
+use Rattle.puddled.specs.Daemon.{KeepsLine, IsReady, SaysPart, Answers}
+use Rattle.puddle_cli.specs.Serving.{KeepsScript, file_under_way, Takes, TakesAtMost, TakesAll, CountsPending, AnswersLine, Serves, Answered}
 
 nothing_from_take : (line : List ℕ) → take 129 line ≡ [] → line ≡ []
 nothing_from_take [] e = refl
@@ -72,13 +75,14 @@ module _ (w : World) (t : Turn) (piece line : List ℕ) (of_line : t.line ≡ pi
       })
 
 -- a line that is not empty
-pub AnswersLine-turn : (size : ℕ) (w : World) (piece line : List ℕ) (result : Result Bool RunFault) (before after : Counts) (old new : State) → (piece ≡ [] → ⊥) → piece ≡ take 129 line
-    → Answers size w piece true result before after old new → AnswersLine size w line (run_fault result) before after old new
+pub AnswersLine-turn : (size : ℕ) (w : World) (memory : Memory) (piece line : List ℕ) (result : Result Bool RunFault) (before after : Counts) (old new : State) → (piece ≡ [] → ⊥) → piece ≡ take 129 line
+    → old.shelf ≡ w.shelf → KeepsLine (file_in (command_of piece)) old new → Answers size w piece true result memory before after old new → AnswersLine size w line (run_fault result) memory before after old new
 unfolding relined
-AnswersLine-turn size w piece line result before after old new some kept a =
+AnswersLine-turn size w memory piece line result before after old new some kept shelf keeps a =
     let t = relined a.turn line in
+    let same : command_of piece ≡ command_of line = ap command_of kept ∙ command_of-front line in
     let counts : CountsLine (command_of line) (run_fault result) (cuts_of (t ∷ [])) before after =
-    subst (λ (c : Option Command). CountsLine c (run_fault result) (cuts_of (t ∷ [])) before after) (ap command_of kept ∙ command_of-front line) a.counted in
+    subst (λ (c : Option Command). CountsLine c (run_fault result) (cuts_of (t ∷ [])) before after) same a.counted in
     let longer : length line ≡ 0 → ⊥ = λ none. some (kept ∙ ap (λ (l : List ℕ). take 129 l) (nothing_long line none)) in
     record {
       turns = t ∷ [];
@@ -92,24 +96,26 @@ AnswersLine-turn size w piece line result before after old new some kept a =
       turns_counted = λ none. CountsTurns-one t before after (run_fault result) none counts;
       sound = a.sound;
       script = a.script;
+      files = subst (λ (o : Option Command). KeepsFiles (file_in o) w.shelf new.shelf) same (subst (λ (shelf : List ℕ → Option (List ℕ)). KeepsFiles (file_in (command_of piece)) shelf new.shelf) shelf keeps.files);
     }
 
 -- an empty one
-pub AnswersLine-nothing : (size : ℕ) (w : World) (line : List ℕ) (before after : Counts) (old new : State) → IsReady size w old → take 129 line ≡ [] → after ≡ before → new ≡ old
-    → AnswersLine size w line None before after old new
-AnswersLine-nothing size w line before after old new ready none uncounted same =
-    subst (λ (n : State). AnswersLine size w line None before after old n) (sym same) (record {
+pub AnswersLine-nothing : (size : ℕ) (w : World) (memory : Memory) (line : List ℕ) (before after : Counts) (old new : State) → IsReady size w memory old → take 129 line ≡ [] → after ≡ before → new ≡ old
+    → AnswersLine size w line None memory before after old new
+AnswersLine-nothing size w memory line before after old new ready none uncounted same =
+    subst (λ (n : State). AnswersLine size w line None memory before after old n) (sym same) (record {
       turns = [];
       few = omega arith;
       lines = sym (lines_among_empty line (ap length (nothing_from_take line none)));
       is_run = tt;
-      moments = Leaves-still (StandsWith size w []) old old (λ image picked. ready.stands image picked) refl;
+      moments = Leaves-still (StandsWith size w []) old old (λ image picked. ready.settled.stands image picked) refl;
       says = record { bytes = []; rest = []; part = refl; said = sym (append-nil old.now.said); whole = λ _. refl };
       ready = λ _. ready;
       counted = (λ lost. cc, uncounted);
       turns_counted = λ _. uncounted;
       sound = none_is_sound;
       script = refl;
+      files = KeepsFiles-still None w.shelf old.shelf ready.shelf;
     })
 
 -- the host failed as it was read
@@ -121,18 +127,19 @@ counts_nothing_more hosts.Cut before after last never_cut = absurd (never_cut re
 Leaves-script : (P : List ℕ → Image → Type 0) (bytes : List ℕ) (start now : State) → Leaves P start now → Leaves P start (with_script bytes now)
 Leaves-script P bytes start now l = record { added = l.added; history = l.history; start = l.start; later = l.later }
 
-IsReady-script : (size : ℕ) (w : World) (bytes : List ℕ) (s : State) → IsReady size w s → IsReady size w (with_script bytes s)
-IsReady-script size w bytes s r = record { stands = r.stands; log = r.log; types = r.types; spaces = r.spaces; shelf = r.shelf }
+IsReady-script : (size : ℕ) (w : World) (memory : Memory) (bytes : List ℕ) (s : State) → IsReady size w memory s → IsReady size w memory (with_script bytes s)
+IsReady-script size w memory bytes s r = record { settled = r.settled; tables = r.tables; clients = r.clients; frames = r.frames; shelf = r.shelf }
 
 -- ready where the bytes taken left the daemon, after a byte more was read
-pub ready_read : (size : ℕ) (w : World) (before : Counts) (start : State) (counts : Counts) (now after : State) (piece : List ℕ) (byte : Option ℕ)
-    → (s : Serves size w before start counts now piece) → TakesByte byte now after → IsReady size (last_world w s.turns) after
-ready_read size w before start counts now after piece None s took = subst (λ (n : State). IsReady size (last_world w s.turns) n) (sym took.1) s.ready
-ready_read size w before start counts now after piece (Some b) s took =
-    subst (λ (n : State). IsReady size (last_world w s.turns) n) (sym took.1) (IsReady-script size (last_world w s.turns) after.script now s.ready)
+pub ready_read : (size : ℕ) (w : World) (before : Counts) (start : State) (counts : Counts) (memory : Memory) (now after : State) (piece : List ℕ) (byte : Option ℕ)
+    → (s : Serves size w before start counts memory now piece) → TakesByte byte now after → IsReady size (last_world w s.turns) memory after
+ready_read size w before start counts memory now after piece None s took = subst (λ (n : State). IsReady size (last_world w s.turns) memory n) (sym took.1) s.ready
+ready_read size w before start counts memory now after piece (Some b) s took =
+    subst (λ (n : State). IsReady size (last_world w s.turns) memory n) (sym took.1) (IsReady-script size (last_world w s.turns) memory after.script now s.ready)
 
 -- one line more, behind those that were answered: at the exit of a call that answered it
-module _ (size : ℕ) (w : World) (before : Counts) (start : State) (counts : Counts) (now : State) (read_counts : Counts) (read : State) (piece : List ℕ) (uncounted : read_counts ≡ counts) (s : Serves size w before start counts now piece) where
+module _ (size : ℕ) (w : World) (before : Counts) (start : State) (counts : Counts) (memory : Memory) (now : State) (read_counts : Counts) (read : State) (piece : List ℕ) (uncounted : read_counts ≡ counts)
+    (s : Serves size w before start counts memory now piece) where
   -- the counts stay as a byte is read
   so_far_counted : CountsTurns s.turns before read_counts
   so_far_counted = subst (λ (x : Counts). CountsTurns s.turns before x) (sym uncounted) s.counted
@@ -151,13 +158,13 @@ module _ (size : ℕ) (w : World) (before : Counts) (start : State) (counts : Co
       map-append (λ (t : Turn). t.line) s.turns turns ∙ (λ i. s.lines i ++ line i) ∙ sym all
 
   -- with a fault, or at the end of the script
-  pub Answered-line : (taken : List ℕ) (ended : Bool) (fault : Option RunFault) (after : Counts) (new : State)
+  pub Answered-line : (next : Memory) (taken : List ℕ) (ended : Bool) (fault : Option RunFault) (after : Counts) (new : State)
       → lines_taken taken ended ≡ lines_taken s.taken false ++ lines_among (open_rest s.taken ∷ [])
       → start.script ≡ taken ++ read.script → (ended ≡ true → read.script ≡ [])
       → Leaves (StandsWith size w s.turns) start read → read.now.said ≡ start.now.said ++ replies_text s.turns
-      → (a : AnswersLine size (last_world w s.turns) (open_rest s.taken) fault read_counts after read new) → (fault ≡ None → ⊥)
+      → (a : AnswersLine size (last_world w s.turns) (open_rest s.taken) fault next read_counts after read new) → (fault ≡ None → ⊥)
       → Answered size w ended fault before after start new
-  Answered-line taken ended fault after new all script to_end so_far said a faulty =
+  Answered-line next taken ended fault after new all script to_end so_far said a faulty =
       record {
         taken = taken;
         answered = s.turns;
@@ -173,7 +180,9 @@ module _ (size : ℕ) (w : World) (before : Counts) (start : State) (counts : Co
         part = a.says.part;
         whole = λ none. absurd (faulty none);
         moments = joined_moments a.turns new so_far said a.moments;
+        memory = next;
         ready = λ none. absurd (faulty none);
+        files = a.files;
         mid = read_counts;
         turns_counted = so_far_counted;
         counted = a.counted;
@@ -188,11 +197,12 @@ module _ (size : ℕ) (w : World) (before : Counts) (start : State) (counts : Co
       ∙ ap (λ (l : List ℕ). start.now.said ++ (replies_text s.turns ++ l)) (sym whole) ∙ ap (λ (l : List ℕ). start.now.said ++ l) (sym (replies_text-append s.turns turns))
 
   -- the script is answered to its end
-  pub Answered-end : (after : Counts) (new : State) → read ≡ now → now.script ≡ [] → (a : AnswersLine size (last_world w s.turns) (open_rest s.taken) None read_counts after read new)
+  pub Answered-end : (next : Memory) (after : Counts) (new : State) → read ≡ now → now.script ≡ [] → (a : AnswersLine size (last_world w s.turns) (open_rest s.taken) None next read_counts after read new)
       → Answered size w true None before after start new
-  Answered-end after new same none_left a =
+  Answered-end next after new same none_left a =
       let said = ap (λ (x : State). x.now.said) same ∙ s.said in
       let so_far = subst (λ (n : State). Leaves (StandsWith size w s.turns) start n) (sym same) s.moments in
+      let ready_end : IsReady size (last_world w (s.turns ++ a.turns)) next new = subst (λ (v : World). IsReady size v next new) (sym (last_world-append w s.turns a.turns)) (a.ready refl) in
       record {
         taken = s.taken;
         answered = s.turns ++ a.turns;
@@ -208,7 +218,9 @@ module _ (size : ℕ) (w : World) (before : Counts) (start : State) (counts : Co
         part = refl;
         whole = λ _. refl;
         moments = subst (λ (ts : List Turn). Leaves (StandsWith size w ts) start new) (sym (append-nil (s.turns ++ a.turns))) (joined_moments a.turns new so_far said a.moments);
-        ready = λ _. subst (λ (v : World). IsReady size v new) (sym (last_world-append w s.turns a.turns)) (a.ready refl);
+        memory = next;
+        ready = λ _. ready_end;
+        files = KeepsFiles-still None (last_world w (s.turns ++ a.turns)).shelf new.shelf ready_end.shelf;
         mid = after;
         turns_counted = CountsTurns-append s.turns a.turns before read_counts after so_far_counted (a.turns_counted refl);
         counted = (λ lost. cc, refl);
@@ -216,9 +228,9 @@ module _ (size : ℕ) (w : World) (before : Counts) (start : State) (counts : Co
       }
 
   -- a newline was taken, and the line that it ends was answered
-  pub Serves-line : (byte : ℕ) (after : Counts) (new : State) → byte ≡ 10 → TakesByte (Some byte) now read
-      → (a : AnswersLine size (last_world w s.turns) (open_rest s.taken) None read_counts after read new) → Serves size w before start after new []
-  Serves-line byte after new newline took a =
+  pub Serves-line : (next : Memory) (byte : ℕ) (after : Counts) (new : State) → byte ≡ 10 → TakesByte (Some byte) now read
+      → (a : AnswersLine size (last_world w s.turns) (open_rest s.taken) None next read_counts after read new) → Serves size w before start after next new []
+  Serves-line next byte after new newline took a =
       let said : read.now.said ≡ start.now.said ++ replies_text s.turns = ap (λ (x : State). x.now.said) took.1 ∙ s.said in
       let so_far : Leaves (StandsWith size w s.turns) start read = subst (λ (n : State). Leaves (StandsWith size w s.turns) start n) (sym took.1) (Leaves-script (StandsWith size w s.turns) read.script start now s.moments) in
       record {
@@ -230,15 +242,15 @@ module _ (size : ℕ) (w : World) (before : Counts) (start : State) (counts : Co
         script = s.script ∙ ap (λ (l : List ℕ). s.taken ++ l) (took.0 ∙ ap (λ (l : List ℕ). byte ∷ l) (sym a.script)) ∙ sym (append_assoc s.taken (byte ∷ []) new.script);
         said = all_said_whole a.turns a.says.bytes a.says.rest read new a.says.part (a.says.whole refl) a.says.said said;
         moments = joined_moments a.turns new so_far said a.moments;
-        ready = subst (λ (v : World). IsReady size v new) (sym (last_world-append w s.turns a.turns)) (a.ready refl);
+        ready = subst (λ (v : World). IsReady size v next new) (sym (last_world-append w s.turns a.turns)) (a.ready refl);
         counted = CountsTurns-append s.turns a.turns before read_counts after so_far_counted (a.turns_counted refl);
       }
 
   -- it was taken, and the line was not answered whole
-  pub Answered-newline : (byte : ℕ) (fault : RunFault) (after : Counts) (new : State) → byte ≡ 10 → TakesByte (Some byte) now read
-      → AnswersLine size (last_world w s.turns) (open_rest s.taken) (Some fault) read_counts after read new → Answered size w false (Some fault) before after start new
-  Answered-newline byte fault after new newline took a =
-      Answered-line (s.taken ++ byte ∷ []) false (Some fault) after new (lines_taken-newline s.taken byte newline)
+  pub Answered-newline : (next : Memory) (byte : ℕ) (fault : RunFault) (after : Counts) (new : State) → byte ≡ 10 → TakesByte (Some byte) now read
+      → AnswersLine size (last_world w s.turns) (open_rest s.taken) (Some fault) next read_counts after read new → Answered size w false (Some fault) before after start new
+  Answered-newline next byte fault after new newline took a =
+      Answered-line next (s.taken ++ byte ∷ []) false (Some fault) after new (lines_taken-newline s.taken byte newline)
       (s.script ∙ ap (λ (l : List ℕ). s.taken ++ l) took.0 ∙ sym (append_assoc s.taken (byte ∷ []) read.script))
       (λ e. absurd (let no : false ≡ true = e in cc))
       (subst (λ (n : State). Leaves (StandsWith size w s.turns) start n) (sym took.1) (Leaves-script (StandsWith size w s.turns) read.script start now s.moments))
@@ -246,10 +258,10 @@ module _ (size : ℕ) (w : World) (before : Counts) (start : State) (counts : Co
       a (λ none. let no : Some fault ≡ None = none in cc)
 
   -- the end was read, and the last line was not answered whole
-  pub Answered-last : (fault : RunFault) (after : Counts) (new : State) → read ≡ now → now.script ≡ []
-      → AnswersLine size (last_world w s.turns) (open_rest s.taken) (Some fault) read_counts after read new → Answered size w true (Some fault) before after start new
-  Answered-last fault after new same none_left a =
-      Answered-line s.taken true (Some fault) after new (lines_taken-end s.taken)
+  pub Answered-last : (next : Memory) (fault : RunFault) (after : Counts) (new : State) → read ≡ now → now.script ≡ []
+      → AnswersLine size (last_world w s.turns) (open_rest s.taken) (Some fault) next read_counts after read new → Answered size w true (Some fault) before after start new
+  Answered-last next fault after new same none_left a =
+      Answered-line next s.taken true (Some fault) after new (lines_taken-end s.taken)
       (s.script ∙ ap (λ (x : State). s.taken ++ x.script) (sym same))
       (λ _. ap (λ (x : State). x.script) same ∙ none_left)
       (subst (λ (n : State). Leaves (StandsWith size w s.turns) start n) (sym same) s.moments)
@@ -274,7 +286,9 @@ module _ (size : ℕ) (w : World) (before : Counts) (start : State) (counts : Co
         part = refl;
         whole = λ _. refl;
         moments = subst (λ (ts : List Turn). Leaves (StandsWith size w ts) start now) (sym (append-nil s.turns)) s.moments;
+        memory = memory;
         ready = λ _. s.ready;
+        files = KeepsFiles-still None (last_world w s.turns).shelf now.shelf s.ready.shelf;
         mid = read_counts;
         turns_counted = so_far_counted;
         counted = last;
@@ -282,7 +296,7 @@ module _ (size : ℕ) (w : World) (before : Counts) (start : State) (counts : Co
       })
 
   -- another byte was taken
-  pub Serves-byte : (byte : ℕ) → (byte ≡ 10 → ⊥) → TakesByte (Some byte) now read → Serves size w before start read_counts read (take 129 (piece ++ byte ∷ []))
+  pub Serves-byte : (byte : ℕ) → (byte ≡ 10 → ⊥) → TakesByte (Some byte) now read → Serves size w before start read_counts memory read (take 129 (piece ++ byte ∷ []))
   Serves-byte byte other took =
       record {
         taken = s.taken ++ byte ∷ [];
@@ -293,14 +307,14 @@ module _ (size : ℕ) (w : World) (before : Counts) (start : State) (counts : Co
         script = s.script ∙ ap (λ (l : List ℕ). s.taken ++ l) took.0 ∙ sym (append_assoc s.taken (byte ∷ []) read.script);
         said = ap (λ (x : State). x.now.said) took.1 ∙ s.said;
         moments = subst (λ (n : State). Leaves (StandsWith size w s.turns) start n) (sym took.1) (Leaves-script (StandsWith size w s.turns) read.script start now s.moments);
-        ready = subst (λ (n : State). IsReady size (last_world w s.turns) n) (sym took.1) (IsReady-script size (last_world w s.turns) read.script now s.ready);
+        ready = subst (λ (n : State). IsReady size (last_world w s.turns) memory n) (sym took.1) (IsReady-script size (last_world w s.turns) memory read.script now s.ready);
         counted = so_far_counted;
       }
 
 -- before any byte is taken
-pub Serves-start : (size : ℕ) (w : World) (before : Counts) (start now : State) → now ≡ start → IsReady size w start → Serves size w before start before now []
-Serves-start size w before start now same ready =
-    subst (λ (n : State). Serves size w before start before n []) (sym same) (record {
+pub Serves-start : (size : ℕ) (w : World) (memory : Memory) (before : Counts) (start now : State) → now ≡ start → IsReady size w memory start → Serves size w before start before memory now []
+Serves-start size w memory before start now same ready =
+    subst (λ (n : State). Serves size w before start before memory n []) (sym same) (record {
       taken = [];
       turns = [];
       is_run = tt;
@@ -308,35 +322,50 @@ Serves-start size w before start now same ready =
       under_way = sym (ap (λ (l : List ℕ). take 129 l) open_rest-nothing);
       script = refl;
       said = sym (append-nil start.now.said);
-      moments = Leaves-still (StandsWith size w []) start start (λ image picked. ready.stands image picked) refl;
+      moments = Leaves-still (StandsWith size w []) start start (λ image picked. ready.settled.stands image picked) refl;
       ready = ready;
       counted = refl;
     })
 
 -- ---- the bytes taken, whatever the device holds
 
-pub Takes-start : (start now : State) → now ≡ start → Takes 0 start now
-Takes-start start now same = subst (λ (n : State). Takes 0 start n) (sym same) (record { taken = []; counted = refl; script = refl; shelf = refl })
+pub KeepsScript-still : (old new : State) → new ≡ old → KeepsScript old new
+KeepsScript-still old new same = record { script = ap (λ (x : State). x.script) same; files = KeepsUnwritable-still old.shelf new.shelf (ap (λ (x : State). x.shelf) same) }
 
-pub Takes-more : (count byte : ℕ) (start now read new : State) → Takes count start now → TakesByte (Some byte) now read → KeepsRest read new → Takes (count + 1) start new
+pub KeepsScript-line : (line : List ℕ) (old new : State) → KeepsLine (file_in (command_of line)) old new → KeepsScript old new
+KeepsScript-line line old new k = record { script = k.script; files = KeepsUnwritable-line line old.shelf new.shelf k.files }
+
+pub Takes-start : (start now : State) → now ≡ start → Takes 0 start now
+Takes-start start now same = subst (λ (n : State). Takes 0 start n) (sym same) (record { taken = []; counted = refl; script = refl; files = KeepsUnwritable-still start.shelf start.shelf refl })
+
+pub Takes-more : (count byte : ℕ) (start now read new : State) → Takes count start now → TakesByte (Some byte) now read → KeepsScript read new → Takes (count + 1) start new
 Takes-more count byte start now read new t took kept =
     record {
       taken = t.taken ++ byte ∷ [];
       counted = let n = t.counted in omega (arith, length-append t.taken (byte ∷ []));
       script = t.script ∙ ap (λ (l : List ℕ). t.taken ++ l) (took.0 ∙ ap (λ (l : List ℕ). byte ∷ l) (sym kept.script)) ∙ sym (append_assoc t.taken (byte ∷ []) new.script);
-      shelf = kept.shelf ∙ ap (λ (x : State). x.shelf) took.1 ∙ t.shelf;
+      files = KeepsUnwritable-then start.shelf now.shelf new.shelf t.files
+          (KeepsUnwritable-then now.shelf read.shelf new.shelf (KeepsUnwritable-still now.shelf read.shelf (ap (λ (x : State). x.shelf) took.1)) kept.files);
     }
 
 pub TakesAtMost-takes : (count most : ℕ) (start now : State) → count ≤ most → Takes count start now → TakesAtMost most start now
-TakesAtMost-takes count most start now below t = record { taken = t.taken; counted = let n = t.counted in omega arith; script = t.script; shelf = t.shelf }
+TakesAtMost-takes count most start now below t = record { taken = t.taken; counted = let n = t.counted in omega arith; script = t.script; files = t.files }
 
 pub Takes-same : (count : ℕ) (start now new : State) → new ≡ now → Takes count start now → Takes count start new
 Takes-same count start now new same t = subst (λ (n : State). Takes count start n) (sym same) t
 
-pub Takes-kept : (count : ℕ) (start now new : State) → Takes count start now → KeepsRest now new → Takes count start new
+pub Takes-kept : (count : ℕ) (start now new : State) → Takes count start now → KeepsScript now new → Takes count start new
 Takes-kept count start now new t kept =
-    record { taken = t.taken; counted = t.counted; script = t.script ∙ ap (λ (l : List ℕ). t.taken ++ l) (sym kept.script); shelf = kept.shelf ∙ t.shelf }
+    record { taken = t.taken; counted = t.counted; script = t.script ∙ ap (λ (l : List ℕ). t.taken ++ l) (sym kept.script); files = KeepsUnwritable-then start.shelf now.shelf new.shelf t.files kept.files }
 
 pub TakesAll-end : (count : ℕ) (start now : State) → count < SCRIPT_LIMIT → now.script ≡ [] → Takes count start now → TakesAll start now
 TakesAll-end count start now below none_left t =
-    record { taken = t.taken; below = let n = t.counted in omega arith; script = t.script; none_left = none_left; shelf = t.shelf }
+    record { taken = t.taken; below = let n = t.counted in omega arith; script = t.script; none_left = none_left; files = t.files }
+
+-- what was taken, behind a start
+pub TakesAtMost-behind : (most : ℕ) (start mid now : State) → mid.script ≡ start.script → mid.shelf ≡ start.shelf → TakesAtMost most mid now → TakesAtMost most start now
+TakesAtMost-behind most start mid now script shelf t =
+    record { taken = t.taken; counted = t.counted; script = sym script ∙ t.script; files = KeepsUnwritable-then start.shelf mid.shelf now.shelf (KeepsUnwritable-still start.shelf mid.shelf shelf) t.files }
+
+-- what the loop over the script rests on
+pub ruleset taking = (KeepsScript-still, KeepsScript-line, Takes-start, Takes-same, Takes-kept, TakesAtMost-takes, TakesAll-end)

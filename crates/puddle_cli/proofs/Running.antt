@@ -1,5 +1,5 @@
 -- One run over a script, from the start to the exit.
-use Rattle.std.proofs.Common.{◌≡◌, inl, inr, ℕ, zero, suc, ◌+◌, ◌≤◌, Bool, true, false, List, [], ◌∷◌, ◌++◌, Option, Some, None, refl, sym, ap, subst, ◌∙◌, arith, append_assoc}
+use Rattle.std.proofs.Common.{◌≡◌, inl, inr, ℕ, zero, suc, ◌+◌, ◌≤◌, Bool, true, false, List, [], ◌∷◌, ◌++◌, Option, Some, None, Result, Ok, Err, refl, sym, ap, subst, ◌∙◌, arith, append_assoc}
 use Rattle.std.proofs.lemmas.List.{append-nil}
 use Rattle.std.proofs.Math.Numerals.{one-add}
 use Rattle.pm_model.specs.declared.host.HostFault.{HostFault}
@@ -12,19 +12,23 @@ use Rattle.pm_model.proofs.Leaves.{Leaves-then, Leaves-weaker, Leaves-each}
 use Rattle.pud_defs.specs.Grammar.{command_of}
 use Rattle.pud_defs.specs.Spaces.{Owner}
 use Rattle.pud_defs.specs.World.{World, no_clients, world_of, closed, restart}
-use Rattle.pud_defs.specs.Run.{Turn, cuts_of, newlines}
+use Rattle.pud_defs.specs.Run.{Turn, cuts_of, last_world, newlines}
 use Rattle.pud_defs.specs.Texts.{start_text, replies_text}
 use Rattle.pud_defs.specs.Stands.{StandsWith, StandsBehindStart}
+use Rattle.pud_defs.proofs.Changing.{KeepsFiles-still, KeepsFiles-none, no_file_in, shelf_of_turns}
 use Rattle.pud_defs.proofs.Lines.{newlines-append, newlines_part, lines_taken-nothing}
 use Rattle.pud_defs.proofs.Said.{newlines-start_text}
 use Rattle.puddled.specs.declared.daemon.RunFault.{RunFault}
 use Rattle.puddled.specs.declared.daemon.RunFault.TheVariants as faults
 use Rattle.puddled.specs.Faults.{RoseBy, last_fault, is_loss, CountsTurns}
 use Rattle.puddled.proofs.Counted.{risen_by-least, RoseBy-then, CountsTurns-cuts, rose_in_line, lost_in_line, lost_in_restart, cuts_after_fault}
+use Rattle.puddled.specs.declared.daemon.StartFault.{StartFault}
+use Rattle.puddled.specs.declared.daemon.StartFault.TheVariants as starts
+use Rattle.puddled.specs.Memory.{Memory}
 use Rattle.puddled.specs.Daemon.{Starts}
 use Rattle.puddle_cli.specs.declared.status.TheConstants.{DONE, POWER_LOST, TOO_LONG}
 use Rattle.puddle_cli.specs.Status.{status_fault, run_fault_at, IsStatusOfMode}
-use Rattle.puddle_cli.specs.Serving.{CountsPending, Answered}
+use Rattle.puddle_cli.specs.Serving.{CountsPending, file_under_way, Answered}
 use Rattle.puddle_cli.specs.Headline.{Headline}
 use Rattle.puddle_cli.proofs.Statuses.{not_whole_of}
 
@@ -70,8 +74,8 @@ module _ (size : ℕ) (w : World) (start : State) (rested : IsRested start.now.w
   stands_at_start (t ∷ turns) (suc zero) image few e = inl e
   stands_at_start turns (suc (suc n)) image few e = absurd (omega arith)
 
-  start_moments : (turns : List Turn) (fault : Option HostFault) (now : State) → Starts size w fault start now → Leaves (λ bytes image. StandsBehindStart size w turns (newlines bytes) image) start now
-  start_moments turns fault now s =
+  start_moments : (turns : List Turn) (result : Result Memory StartFault) (now : State) → Starts size w result start now → Leaves (λ bytes image. StandsBehindStart size w turns (newlines bytes) image) start now
+  start_moments turns result now s =
       Leaves-weaker _ _ start now
       (λ bytes image m.
       let part = newlines_part bytes m.0.rest in
@@ -80,37 +84,48 @@ module _ (size : ℕ) (w : World) (start : State) (rested : IsRested start.now.w
 
   -- the host failed within the start, or power was lost in it
   pub Headline-in_start : (fault : HostFault) (status : ℕ) (before after : Counts) (now : State) → IsStatusOfMode status → status_fault status ≡ Some fault
-      → after ≡ after_fault (Some fault) before → start.shelf ≡ w.shelf → Starts size w (Some fault) start now → Headline size w status before after start now
+      → after ≡ after_fault (Some fault) before → start.shelf ≡ w.shelf → Starts size w (Err (starts.Host fault)) start now → Headline size w status before after start now
   Headline-in_start fault status before after now of_mode is last shelf s =
       let not_whole = not_whole_of status fault of_mode is in
       let as_told : after ≡ after_fault (status_fault status) before = last ∙ ap (λ (f : Option HostFault). after_fault f before) (sym is) in
       record {
-        taken = [];
-        ended = false;
-        script = sym s.script;
-        to_end = λ e. absurd (let it : false ≡ true = e in cc);
-        answered = [];
-        pending = [];
-        few = omega arith;
-        is_run = tt;
-        lines = sym (lines_taken-nothing false);
-        bytes = s.says.bytes;
-        said = s.says.said;
-        mid = before;
-        how_far = inl (record { nothing_taken = refl; no_turns = refl; rest = s.says.rest; part = s.says.part; failed = as_told });
-        whole = λ none. absurd (not_whole none);
-        all_lines = λ done. absurd (not_whole (ap run_fault_at done));
-        not_ended = λ _. refl;
-        ends = λ none. absurd (not_whole none);
-        shelf = s.shelf ∙ shelf;
-        shelf_of_run = λ none. absurd (not_whole none);
-        moments = Leaves-each (λ said image. StandsBehindStart size w [] (newlines said) image) start now (start_moments [] (Some fault) now s);
-        turns_counted = refl;
-        cuts = subst (λ (x : Counts). before.cuts ≤ x.cuts) (sym last) (cuts_after_fault (Some fault) before);
-        cuts_in_start = λ lost.
-            let cut : Some fault ≡ Some hosts.Cut = sym is ∙ ap status_fault lost in
-            subst (λ (x : Counts). risen before.cuts ≤ x.cuts) (sym (last ∙ ap (λ (f : Option HostFault). after_fault f before) cut)) (omega arith);
-        cuts_in_line = λ lost t no. absurd (let it : [] ≡ t ∷ [] = no in cc);
+        run = record {
+          begun = false;
+          taken = [];
+          ended = false;
+          script = sym s.script;
+          to_end = λ e. absurd (let it : false ≡ true = e in cc);
+          answered = [];
+          pending = [];
+          few = omega arith;
+          is_run = tt;
+          lines = sym (lines_taken-nothing false);
+          nothing_yet = λ _. (refl, refl);
+        };
+        exit = record {
+          bytes = s.says.bytes;
+          said = s.says.said;
+          in_start = λ _. record { rest = s.says.rest; is = s.says.part };
+          behind_start = λ e. absurd (let it : false ≡ true = e in cc);
+          whole = λ none. absurd (not_whole none);
+          all_lines = λ done. absurd (not_whole (ap run_fault_at done));
+          not_ended = λ _. refl;
+          ends = λ none. absurd (not_whole none);
+          files = KeepsFiles-still None w.shelf now.shelf (s.shelf ∙ shelf);
+          shelf_of_run = λ none. absurd (not_whole none);
+        };
+        moments = record { stands = Leaves-each (λ said image. StandsBehindStart size w [] (newlines said) image) start now (start_moments [] (Err (starts.Host fault)) now s) };
+        counted = record {
+          mid = before;
+          in_start = λ _. as_told;
+          turns_counted = refl;
+          pending_counted = λ e. absurd (let it : false ≡ true = e in cc);
+          cuts = subst (λ (x : Counts). before.cuts ≤ x.cuts) (sym last) (cuts_after_fault (Some fault) before);
+          cuts_in_start = λ lost.
+              let cut : Some fault ≡ Some hosts.Cut = sym is ∙ ap status_fault lost in
+              subst (λ (x : Counts). risen before.cuts ≤ x.cuts) (sym (last ∙ ap (λ (f : Option HostFault). after_fault f before) cut)) (omega arith);
+          cuts_in_line = λ lost t no. absurd (let it : [] ≡ t ∷ [] = no in cc);
+        };
       }
 
   said_behind : (mid now : State) (replies more : List ℕ) → mid.now.said ≡ start.now.said ++ start_text → now.now.said ≡ mid.now.said ++ replies ++ more
@@ -125,47 +140,70 @@ module _ (size : ℕ) (w : World) (start : State) (rested : IsRested start.now.w
   nothing_more (b ∷ more) rest e = absurd (let no : [] ≡ b ∷ (more ++ rest) = e in cc)
 
   -- the start was said whole, and the script was answered so far
-  pub Headline-behind_start : (status : ℕ) (ended : Bool) (fault : Option RunFault) (before after : Counts) (mid now : State) → start.shelf ≡ w.shelf → Starts size w None start mid → now.shelf ≡ mid.shelf
+  pub Headline-behind_start : (status : ℕ) (ended : Bool) (fault : Option RunFault) (before after : Counts) (memory : Memory) (mid now : State) → Starts size w (Ok memory) start mid
       → run_fault_at status ≡ fault → (status ≡ DONE → ended ≡ true) → (status ≡ TOO_LONG → ended ≡ false)
       → Answered size w ended fault before after mid now → Headline size w status before after start now
-  Headline-behind_start status ended fault before after mid now shelf s kept is done too_long a =
+  Headline-behind_start status ended fault before after memory mid now s is done too_long a =
       let cut : status ≡ POWER_LOST → fault ≡ Some faults.CutInStart = λ lost. sym is ∙ ap run_fault_at lost in
       let first : mid.now.said ≡ start.now.said ++ start_text =
       s.says.said ∙ ap (λ (l : List ℕ). start.now.said ++ l) (sym (s.says.part ∙ ap (λ (l : List ℕ). s.says.bytes ++ l) (s.says.whole refl) ∙ append-nil s.says.bytes)) in
       record {
-        taken = a.taken;
-        ended = ended;
-        script = sym s.script ∙ a.script;
-        to_end = a.to_end;
-        answered = a.answered;
-        pending = a.pending;
-        few = a.few;
-        is_run = a.is_run;
-        lines = a.lines;
-        bytes = start_text ++ replies_text a.answered ++ a.more;
-        said = said_behind mid now (replies_text a.answered) a.more first a.said;
-        mid = a.mid;
-        how_far = inr (record { more = a.more; rest = a.rest; said = refl; part = a.part; counted = subst (λ (f : Option RunFault). CountsPending a.pending f a.mid after) (sym is) a.counted });
-        whole = λ none.
-            let nothing = a.whole (sym is ∙ none) in
-            let no_more = nothing_more a.more a.rest (ap replies_text (sym nothing) ∙ a.part) in
-            (nothing, ap (λ (l : List ℕ). start_text ++ replies_text a.answered ++ l) no_more ∙ append-nil (start_text ++ replies_text a.answered));
-        all_lines = done;
-        not_ended = too_long;
-        ends = λ none. (a.ready (sym is ∙ none)).stands;
-        shelf = kept ∙ s.shelf ∙ shelf;
-        shelf_of_run = λ none. (a.ready (sym is ∙ none)).shelf;
-        moments = Leaves-each (λ said image. StandsBehindStart size w (a.answered ++ a.pending) (newlines said) image) start now (Leaves-then _ (StandsWith size w (a.answered ++ a.pending)) _ start_text start mid now first
-            (λ front image p. p)
-            (λ more image p. subst (λ (n : ℕ). StandsBehindStart size w (a.answered ++ a.pending) n image)
-            (sym (newlines-append start_text more ∙ ap (λ (n : ℕ). n + newlines more) newlines-start_text ∙ one-add (newlines more))) p)
-            (start_moments (a.answered ++ a.pending) None mid s) a.moments);
-        turns_counted = a.turns_counted;
-        cuts = rose_in_all a.answered a.pending fault before a.mid after a.turns_counted a.counted;
-        cuts_in_start = λ lost. rose_at_end a.answered a.pending fault before a.mid after a.turns_counted a.counted (cut lost);
-        cuts_in_line = λ lost. rose_twice_at_end a.answered a.pending fault before a.mid after a.turns_counted a.counted (cut lost);
+        run = record {
+          begun = true;
+          taken = a.taken;
+          ended = ended;
+          script = sym s.script ∙ a.script;
+          to_end = a.to_end;
+          answered = a.answered;
+          pending = a.pending;
+          few = a.few;
+          is_run = a.is_run;
+          lines = a.lines;
+          nothing_yet = λ e. absurd (let it : true ≡ false = e in cc);
+        };
+        exit = record {
+          bytes = start_text ++ replies_text a.answered ++ a.more;
+          said = said_behind mid now (replies_text a.answered) a.more first a.said;
+          in_start = λ e. absurd (let it : true ≡ false = e in cc);
+          behind_start = λ _. record { more = a.more; rest = a.rest; said = refl; part = a.part };
+          whole = λ none.
+              let nothing = a.whole (sym is ∙ none) in
+              let no_more = nothing_more a.more a.rest (ap replies_text (sym nothing) ∙ a.part) in
+              (nothing, ap (λ (l : List ℕ). start_text ++ replies_text a.answered ++ l) no_more ∙ append-nil (start_text ++ replies_text a.answered));
+          all_lines = done;
+          not_ended = too_long;
+          ends = λ none. (a.ready (sym is ∙ none)).settled.stands;
+          files = a.files;
+          shelf_of_run = λ none. (a.ready (sym is ∙ none)).shelf;
+        };
+        moments = record {
+          stands = Leaves-each (λ said image. StandsBehindStart size w (a.answered ++ a.pending) (newlines said) image) start now (Leaves-then _ (StandsWith size w (a.answered ++ a.pending)) _ start_text start mid now first
+              (λ front image p. p)
+              (λ more image p. subst (λ (n : ℕ). StandsBehindStart size w (a.answered ++ a.pending) n image)
+              (sym (newlines-append start_text more ∙ ap (λ (n : ℕ). n + newlines more) newlines-start_text ∙ one-add (newlines more))) p)
+              (start_moments (a.answered ++ a.pending) (Ok memory) mid s) a.moments);
+        };
+        counted = record {
+          mid = a.mid;
+          in_start = λ e. absurd (let it : true ≡ false = e in cc);
+          turns_counted = a.turns_counted;
+          pending_counted = λ _. subst (λ (f : Option RunFault). CountsPending a.pending f a.mid after) (sym is) a.counted;
+          cuts = rose_in_all a.answered a.pending fault before a.mid after a.turns_counted a.counted;
+          cuts_in_start = λ lost. rose_at_end a.answered a.pending fault before a.mid after a.turns_counted a.counted (cut lost);
+          cuts_in_line = λ lost. rose_twice_at_end a.answered a.pending fault before a.mid after a.turns_counted a.counted (cut lost);
+        };
       }
 
 -- a world without clients is as a start leaves it
 pub is_started : (w : World) → w.clients ≡ no_clients → restart w ≡ w
 is_started w none = ap (λ (c : ℕ → Option Owner). record w { clients = c }) (sym none)
+
+-- no line of today writes a file
+no_file_under_way : (pending : List Turn) → file_under_way pending ≡ None
+no_file_under_way [] = refl
+no_file_under_way (t ∷ turns) = no_file_in (command_of t.line)
+
+-- so the shelf stays
+pub shelf_stays : (size : ℕ) (w : World) (status : ℕ) (before after : Counts) (start end : State) → Headline size w status before after start end → end.shelf ≡ w.shelf
+shelf_stays size w status before after start end h =
+    KeepsFiles-none (file_under_way h.run.pending) (last_world w h.run.answered).shelf end.shelf (no_file_under_way h.run.pending) h.exit.files ∙ shelf_of_turns w h.run.answered h.run.pending h.run.is_run

@@ -3,3 +3,4 @@ pub mod Status
 pub mod Formatting
 pub mod Serving
 pub mod Headline
+pub mod Modes

@@ -6,15 +6,16 @@ ghost use Rattle.pm_model.specs.Counts.{Counts, Rose};
 ghost use Rattle.pud_defs.specs.Layout.{device_words};
 ghost use Rattle.pud_defs.specs.World.{World, no_clients, world_of, closed};
 ghost use Rattle.puddled.specs.Faults.{run_fault, Ends};
-ghost use Rattle.puddled.specs.Daemon.{KeepsRest, IsReady};
+ghost use Rattle.puddled.specs.Daemon.{IsReady};
+ghost use Rattle.puddle_cli.specs.declared.piece.TheConstants.{KEPT};
 ghost use Rattle.puddle_cli.specs.Status.{status_fault, IsStatusOfMode, Causes};
-ghost use Rattle.puddle_cli.specs.Serving.{Takes, TakesOne, TakesBy, AnswersLine, Serves, Answered, AnsweredBy};
+ghost use Rattle.puddle_cli.specs.Serving.{KeepsScript, Takes, TakesOne, TakesBy, AnswersLine, Serves, Answered, AnsweredBy};
 ghost use Rattle.puddle_cli.specs.Headline.{TakesScript, Headline};
 
 use crate::piece::Piece;
 use crate::status::{DONE, NOT_USABLE, TOO_LONG, status_of, status_of_run};
 use pm_model::Host;
-use pud_defs::layout::{MIN_FRAMES, SCRIPT_LIMIT};
+use pud_defs::layout::SCRIPT_LIMIT;
 use puddled::{Daemon, RunFault, StartFault};
 use std::alloc::Global;
 
@@ -25,12 +26,13 @@ fn answer<H: Host>(
     h: &mut H,
     piece: &mut Piece,
 ) -> Result<(), RunFault>
-    requires { device_words MIN_FRAMES ≤ (H.counts h.old).size }
-    ensures answers { H.tells → (size : ℕ) → size ≡ (H.counts h.old).size → (w : World) → IsReady size w (H.state h.old)
-        → (line : List ℕ) → piece.old ≡ take 129 line
-        → AnswersLine size w line (run_fault result) (H.counts h.old) (H.counts h.new) (H.state h.old) (H.state h.new) }
+    requires { device_words daemon.old.frames ≤ (H.counts h.old).size }
+    ensures answers { H.tells → (size : ℕ) → size ≡ (H.counts h.old).size → (w : World) → IsReady size w daemon.old (H.state h.old)
+        → (line : List ℕ) → piece.old ≡ take KEPT line
+        → AnswersLine size w line (run_fault result) daemon.new (H.counts h.old) (H.counts h.new) (H.state h.old) (H.state h.new) }
     ensures piece { OnOk result (piece.new ≡ []) }
-    ensures rest { H.tells → KeepsRest (H.state h.old) (H.state h.new) }
+    ensures room { device_words daemon.new.frames ≤ (H.counts h.old).size }
+    ensures rest { H.tells → KeepsScript (H.state h.old) (H.state h.new) }
     ensures cause { Ends (run_fault result) (H.counts h.old) (H.counts h.new) }
 {
     if piece.is_empty() {
@@ -48,16 +50,17 @@ fn serve_byte<H: Host>(
     h: &mut H,
     piece: &mut Piece,
 ) -> Result<bool, RunFault>
-    requires { device_words MIN_FRAMES ≤ (H.counts h.old).size }
+    requires { device_words daemon.old.frames ≤ (H.counts h.old).size }
     ensures serves { H.tells → (size : ℕ) → size ≡ (H.counts h.old).size → (w : World) → (before : Counts) → (start : State)
-        → Serves size w before start (H.counts h.old) (H.state h.old) piece.old
-        → IfOk result (λ more. Serves size w before start (H.counts h.new) (H.state h.new) piece.new) }
+        → Serves size w before start (H.counts h.old) daemon.old (H.state h.old) piece.old
+        → IfOk result (λ more. Serves size w before start (H.counts h.new) daemon.new (H.state h.new) piece.new) }
     ensures ended { H.tells → IfOk result (λ more. more ≡ false → (H.state h.new).script ≡ []) }
     ensures answered { H.tells → (size : ℕ) → size ≡ (H.counts h.old).size → (w : World) → (before : Counts) → (start : State)
-        → Serves size w before start (H.counts h.old) (H.state h.old) piece.old
+        → Serves size w before start (H.counts h.old) daemon.old (H.state h.old) piece.old
         → IfErr result (λ fault. Answered size w false (Option.Some fault) before (H.counts h.new) start (H.state h.new)) }
     ensures takes { H.tells → (count : ℕ) → (start : State) → Takes count start (H.state h.old)
         → TakesOne result count start (H.state h.new) }
+    ensures room { device_words daemon.new.frames ≤ (H.counts h.old).size }
     ensures cause { Ends (run_fault result) (H.counts h.old) (H.counts h.new) }
 {
     match h.read()? {
@@ -75,8 +78,8 @@ fn serve_byte<H: Host>(
 
 /// Answers the script's lines. The answer is whether the script was read to its end; else 2^20 bytes were taken.
 fn serve<H: Host>(alloc: Global, daemon: Daemon, h: &mut H) -> Result<bool, RunFault>
-    requires { device_words MIN_FRAMES ≤ (H.counts h.old).size }
-    ensures answered { H.tells → (size : ℕ) → size ≡ (H.counts h.old).size → (w : World) → IsReady size w (H.state h.old)
+    requires { device_words daemon.frames ≤ (H.counts h.old).size }
+    ensures answered { H.tells → (size : ℕ) → size ≡ (H.counts h.old).size → (w : World) → IsReady size w daemon (H.state h.old)
         → AnsweredBy size w result (H.counts h.old) (H.counts h.new) (H.state h.old) (H.state h.new) }
     ensures takes { H.tells → TakesBy result (H.state h.old) (H.state h.new) }
     ensures cause { Ends (run_fault result) (H.counts h.old) (H.counts h.new) }

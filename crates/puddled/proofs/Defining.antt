@@ -3,12 +3,12 @@ use Rattle.std.proofs.Common.{◌≡◌, ◌⊎◌, inl, inr, ℕ, ◌+◌, ◌<
 use Rattle.std.proofs.lemmas.Bool.{cases_eq, cond-false, ne_eqb}
 use Rattle.pm_model.specs.declared.host.HostFault.{HostFault}
 use Rattle.pm_model.specs.declared.host.HostFault.TheVariants.{Cut}
-use Rattle.pm_model.specs.Words.{Picks, IsRested, reads}
+use Rattle.pm_model.specs.Words.{Has, values, Picks, IsRested, reads}
 use Rattle.pm_model.specs.Moments.{State}
 use Rattle.pm_model.proofs.Words.{Picks-reads}
 use Rattle.pm_model.specs.Changes.{written}
 use Rattle.pm_model.proofs.Changes.{Changes-said, Changes-now}
-use Rattle.pm_model.proofs.Leaves.{Leaves-still, Leaves-weaker}
+use Rattle.pm_model.proofs.Leaves.{Leaves-weaker}
 use Rattle.pud_defs.specs.declared.layout.TheConstants.{TYPE_RECORDS, TYPE_TABLE, POOL_TABLE, DAEMON_LOG}
 use Rattle.pud_defs.specs.declared.machine.Command.TheVariants.{Define}
 use Rattle.pud_defs.specs.declared.machine.Refusal.{Refusal}
@@ -16,16 +16,20 @@ use Rattle.pud_defs.specs.declared.machine.Refusal.TheVariants.{Clash, Full}
 use Rattle.pud_defs.specs.Image.{Image}
 use Rattle.pud_defs.specs.TypeMap.{is_legal_map, is_legal_type_id}
 use Rattle.pud_defs.specs.Types.{type_record_at, type_table, first_free, map_of, with_type}
-use Rattle.pud_defs.specs.Spaces.{Owner}
+use Rattle.pud_defs.specs.Entries.{is_closed_gate}
 use Rattle.pud_defs.specs.World.{World, world_of, closed}
 use Rattle.pud_defs.specs.Step.{is_other, refusal_of, after, unless_refused, world_by}
 use Rattle.pud_defs.proofs.TypeTable.{IsLowestFree, first_free_some}
-use Rattle.pud_defs.proofs.Worlds.{StandsFor, standing_beside, standing_closed, types_sorted, map_of_world, length_of_world, full_of_world, room_of_world}
+use Rattle.pud_defs.proofs.Spaces.{owner_of-same}
+use Rattle.pud_defs.proofs.Parts.{StandsFor}
+use Rattle.pud_defs.proofs.Worlds.{standing_beside, standing_closed, types_sorted, map_of_world, length_of_world, full_of_world, room_of_world}
 use Rattle.pud_defs.proofs.Definitions.{world_of-map_written, world_of-defined}
 use Rattle.pud_defs.proofs.Steps.{refusal_of-define, define-same, define-clash, define-full, define-new, after-same}
-use Rattle.type_maps.specs.Define.{table_refusal, place_for, record_write, defined, Defines}
-use Rattle.puddled.specs.Daemon.{HasSpace, KeepsRest, IsReady, Applies}
-use Rattle.puddled.proofs.Coming.{HasSpace-kept}
+use Rattle.type_maps.specs.Define.{table_refusal, place_for, record_write, half_defined, defined, Defines}
+use Rattle.batch.proofs.Tables.{reads_kept, HasDurableTables-persisted}
+use Rattle.puddled.specs.Memory.{Memory}
+use Rattle.puddled.specs.Daemon.{KeepsRest, IsReady, Applies}
+use Rattle.puddled.proofs.Applying.{Applies-still}
 
 abbrev table_refusal_by : Option ℕ → ℕ → ℕ → Option Refusal
 table_refusal_by found count map = cond (is_other map found) (Some Clash) (cond (is_none found && leb TYPE_RECORDS count) (Some Full) None)
@@ -76,39 +80,11 @@ closed_after : (w : World) (id map : ℕ) → closed (after w (Define id map)) �
 unfolding after
 closed_after w id map = refl
 
-shelf_after : (w : World) (id map : ℕ) → w.shelf ≡ (after w (Define id map)).shelf
-unfolding after
-shelf_after w id map = refl
-
-clients_after : (w : World) (id map client : ℕ) → w.clients client ≡ (after w (Define id map)).clients client
-unfolding after
-clients_after w id map client = refl
-
--- the state that a definition begins in, as the daemon knows it
-standing : (size : ℕ) (w : World) (s : State) → IsReady size w s → StandsFor size (reads s.now.words) (closed w)
-standing size w s ready =
+-- what a ready daemon reads stands for the world
+standing : (size : ℕ) (w : World) (memory : Memory) (s : State) → IsReady size w memory s → StandsFor size (reads s.now.words) (closed w)
+standing size w memory s ready =
     standing_beside size (reads s.now.words) (closed w)
-    (standing_closed size (reads s.now.words) (closed w) (ready.log (reads s.now.words DAEMON_LOG) (inl refl)) (ready.stands (reads s.now.words) (Picks-reads s.now.words)))
-
-idle_applies : (size : ℕ) (w next : World) (fault : Option HostFault) (old new : State) → IsReady size w old → next ≡ w → new ≡ old
-    → (fault ≡ Some Cut → IsRested new.now.words) → Applies size w next fault old new
-idle_applies size w next fault old new ready stays same lost =
-    record {
-      moments = Leaves-still _ old new (λ image picked. (refl, inl (ready.stands image picked))) same;
-      quiet = ap (λ (s : State). s.now.said) same;
-      ready = λ _. subst (λ (n : State). IsReady size next n) (sym same) (subst (λ (v : World). IsReady size v old) (sym stays) ready);
-      lost = lost;
-      script = ap (λ (s : State). s.script) same;
-      shelf = ap (λ (s : State). s.shelf) same;
-    }
-
--- in each image of these words record r is free
-free_in : (size : ℕ) (w : World) (s : State) (id map r : ℕ) (ready : IsReady size w s) → IsNew size w (reads s.now.words) id map (standing size w s ready) r
-    → (image : Image) → Picks s.now.words image → image (type_record_at r) ≡ 0
-free_in size w s id map r ready is_new image picked =
-    let high = is_new.lowest.high in
-    let one = ready.types.each (type_record_at r) (omega arith) (omega arith) in
-    one.each (image (type_record_at r)) (picked.each (type_record_at r)) ∙ is_new.lowest.free
+    (standing_closed size (reads s.now.words) (closed w) (ready.settled.closed (reads s.now.words DAEMON_LOG) (inl refl)) (ready.settled.stands (reads s.now.words) (Picks-reads s.now.words)))
 
 -- a definition writes no word outside the type table
 not_outside : (r id map k v : ℕ) → r < TYPE_RECORDS → (k < TYPE_TABLE) ⊎ (POOL_TABLE ≤ k) → written (record_write r id map) k v → ⊥
@@ -120,69 +96,87 @@ not_outside r id map k v known outside may =
     let it : None ≡ Some v = sym (cond-false _ _ _ one ∙ cond-false _ _ _ two) ∙ may in
     absurd (cc)
 
-new_applies : (size : ℕ) (w : World) (id map r : ℕ) (fault : Option HostFault) (old new : State) → IsReady size w old
-    → is_legal_type_id id ≡ true → is_legal_map map ≡ true → place_for (reads old.now.words) id ≡ Some r → Defines r id map fault old new
-    → Applies size w (world_by w (Some (Define id map))) fault old new
-new_applies size w id map r fault old new ready legal_id legal_map place d =
-    let is_new = new_type size w (reads old.now.words) id map (standing size w old ready) r place in
-    let high = is_new.lowest.high in
-    let free = free_in size w old id map r ready is_new in
-    let gives : (image : Image) → Picks old.now.words image → world_of size (defined r id map image) ≡ Some (closed (after w (Define id map))) = λ image picked.
-    world_of-defined size image (closed w) r id map (ready.log (image DAEMON_LOG) (picked.each DAEMON_LOG)) (ready.stands image picked) (omega arith) (free image picked) legal_id legal_map is_new.missing ∙ ap Some (sym (closed_after w id map)) in
-    subst (λ (v : World). Applies size w v fault old new) (sym is_new.world) (record {
-      moments = Leaves-weaker _ _ old new (λ bytes image m. (
-        m.0,
-        elim m.1.is [
-          | inl same ↦ inl (ap (world_of size) same ∙ ready.stands m.1.before m.1.picked)
-          | inr more ↦ elim more [
-            | inl half ↦ inl (ap (world_of size) half ∙ world_of-map_written size m.1.before (closed w) r map (ready.log (m.1.before DAEMON_LOG) (m.1.picked.each DAEMON_LOG)) (ready.stands m.1.before m.1.picked) (omega arith) (free m.1.before m.1.picked))
-            | inr whole ↦ inr (ap (world_of size) whole ∙ gives m.1.before m.1.picked)
-          ]
-        ],
-      )) d.moments;
-      quiet = Changes-said _ fault old new d.changes;
-      ready = λ none. record {
-        stands = λ image picked. let h = d.done none image picked in ap (world_of size) h.is ∙ gives h.before h.picked;
-        log = λ v had. elim (Changes-now (written (record_write r id map)) fault old new d.changes DAEMON_LOG v had) [
-          | inl was ↦ ready.log v was
-          | inr may ↦ absurd (not_outside r id map DAEMON_LOG v (omega arith) (inl (omega arith)) may)
-        ];
-        types = d.durable none ready.types;
-        spaces = λ client low. subst (λ (o : Option Owner). HasSpace new.now.words client o) (clients_after w id map client)
-            (HasSpace-kept (written (record_write r id map)) fault old new client (w.clients client) d.changes
-            (λ k v from to may. not_outside r id map k v (omega arith) (inr (omega arith)) may) (ready.spaces client low));
-        shelf = d.changes.shelf ∙ ready.shelf ∙ shelf_after w id map;
-      };
-      lost = d.changes.rests;
-      script = d.changes.script;
-      shelf = d.changes.shelf;
-    })
+-- a new type is defined in the lowest free record
+module _ (size : ℕ) (w : World) (memory : Memory) (id map r : ℕ) (old : State) (ready : IsReady size w memory old) (legal_id : is_legal_type_id id ≡ true) (legal_map : is_legal_map map ≡ true)
+    (is_new : IsNew size w (reads old.now.words) id map (standing size w memory old ready) r) where
+  within : r < TYPE_RECORDS
+  within = let high = is_new.lowest.high in omega arith
 
-place_applies : (size : ℕ) (w : World) (id map : ℕ) (fault : Option HostFault) (old new : State) → IsReady size w old → is_legal_type_id id ≡ true → is_legal_map map ≡ true
+  -- the record is free in each image
+  free : (image : Image) → Picks old.now.words image → image (type_record_at r) ≡ 0
+  free image picked =
+      let known = within in
+      let one = ready.tables.each (type_record_at r) (inr (omega arith)) (omega arith) in
+      one.each (image (type_record_at r)) (picked.each (type_record_at r)) ∙ is_new.lowest.free
+
+  gate : (image : Image) → Picks old.now.words image → is_closed_gate (image DAEMON_LOG) ≡ true
+  gate image picked = ready.settled.closed (image DAEMON_LOG) (picked.each DAEMON_LOG)
+
+  half_gives : (image : Image) → Picks old.now.words image → world_of size (half_defined r map image) ≡ Some (closed w)
+  half_gives image picked = world_of-map_written size image (closed w) r map (gate image picked) (ready.settled.stands image picked) within (free image picked)
+
+  gives : (image : Image) → Picks old.now.words image → world_of size (defined r id map image) ≡ Some (record w.stored { types = with_type id map w.stored.types })
+  gives image picked = world_of-defined size image (closed w) r id map (gate image picked) (ready.settled.stands image picked) within (free image picked) legal_id legal_map is_new.missing
+
+  still_closed : (new : State) → Defines r id map None old new → (v : ℕ) → Has (values (new.now.words DAEMON_LOG)) v → is_closed_gate v ≡ true
+  still_closed new d v had = elim (Changes-now (written (record_write r id map)) None old new d.persists.changes DAEMON_LOG v had) [
+    | inl was ↦ ready.settled.closed v was
+    | inr may ↦ absurd (not_outside r id map DAEMON_LOG v within (inl (omega arith)) may)
+  ]
+
+  ready_defined : (new : State) → Defines r id map None old new → IsReady size (after w (Define id map)) memory new
+  unfolding after
+  ready_defined new d = record {
+    settled = record { stands = λ image picked. let h = d.done refl image picked in ap (world_of size) h.is ∙ gives h.before h.picked; closed = still_closed new d };
+    tables = HasDurableTables-persisted w.stored.frames (record_write r id map) old new d.persists ready.tables;
+    clients = λ client low.
+        owner_of-same (reads new.now.words) (reads old.now.words) client low
+        (λ k from to. reads_kept (written (record_write r id map)) old new k d.persists.changes (λ v. not_outside r id map k v within (inr (omega arith))))
+        ∙ ready.clients client low;
+    frames = ready.frames;
+    shelf = d.persists.changes.shelf ∙ ready.shelf;
+  }
+
+  new_applies : (fault : Option HostFault) (new : State) → Defines r id map fault old new → Applies size w (world_by w (Some (Define id map))) memory fault old new
+  new_applies fault new d = subst (λ (v : World). Applies size w v memory fault old new) (sym is_new.world) (record {
+    moments = Leaves-weaker _ _ old new (λ bytes image m. (
+      m.0,
+      elim m.1.is [
+        | inl same ↦ inl (ap (world_of size) same ∙ ready.settled.stands m.1.before m.1.picked)
+        | inr more ↦ elim more [
+          | inl half ↦ inl (ap (world_of size) half ∙ half_gives m.1.before m.1.picked)
+          | inr whole ↦ inr (ap (world_of size) whole ∙ gives m.1.before m.1.picked ∙ ap Some (sym (closed_after w id map)))
+        ]
+      ],
+    )) d.moments;
+    quiet = Changes-said (written (record_write r id map)) fault old new d.persists.changes;
+    ready = λ none. ready_defined new (subst (λ (f : Option HostFault). Defines r id map f old new) none d);
+    lost = d.persists.changes.rests;
+    script = d.persists.changes.script;
+  })
+
+place_applies : (size : ℕ) (w : World) (memory : Memory) (id map : ℕ) (fault : Option HostFault) (old new : State) → IsReady size w memory old → is_legal_type_id id ≡ true → is_legal_map map ≡ true
     → (place : Option ℕ) → place_for (reads old.now.words) id ≡ place
     → (place_for (reads old.now.words) id ≡ None → new ≡ old) → ((r : ℕ) → place_for (reads old.now.words) id ≡ Some r → Defines r id map fault old new)
     → (fault ≡ Some Cut → IsRested new.now.words)
-    → Applies size w (world_by w (Some (Define id map))) fault old new
-place_applies size w id map fault old new ready legal_id legal_map None place idle defines lost =
-    idle_applies size w _ fault old new ready (idle_world size w (reads old.now.words) id map (standing size w old ready) place) (idle place) lost
-place_applies size w id map fault old new ready legal_id legal_map (Some r) place idle defines lost =
-    new_applies size w id map r fault old new ready legal_id legal_map place (defines r place)
+    → Applies size w (world_by w (Some (Define id map))) memory fault old new
+place_applies size w memory id map fault old new ready legal_id legal_map None place idle defines lost =
+    subst (λ (v : World). Applies size w v memory fault old new) (sym (idle_world size w (reads old.now.words) id map (standing size w memory old ready) place))
+    (Applies-still size w memory fault old new ready (idle place) lost)
+place_applies size w memory id map fault old new ready legal_id legal_map (Some r) place idle defines lost =
+    new_applies size w memory id map r old ready legal_id legal_map (new_type size w (reads old.now.words) id map (standing size w memory old ready) r place) fault new (defines r place)
 
 -- a definition is carried out or refused as the machine has it
-pub Applies-define : (size : ℕ) (w : World) (id map : ℕ) (fault : Option HostFault) (old new : State) → IsReady size w old → is_legal_type_id id ≡ true → is_legal_map map ≡ true
+pub Applies-define : (size : ℕ) (w : World) (memory : Memory) (id map : ℕ) (fault : Option HostFault) (old new : State) → IsReady size w memory old → is_legal_type_id id ≡ true → is_legal_map map ≡ true
     → (place_for (reads old.now.words) id ≡ None → new ≡ old) → ((r : ℕ) → place_for (reads old.now.words) id ≡ Some r → Defines r id map fault old new)
     → (fault ≡ Some Cut → IsRested new.now.words)
-    → Applies size w (world_by w (Some (Define id map))) fault old new
-Applies-define size w id map fault old new ready legal_id legal_map idle defines lost =
-    place_applies size w id map fault old new ready legal_id legal_map (place_for (reads old.now.words) id) refl idle defines lost
+    → Applies size w (world_by w (Some (Define id map))) memory fault old new
+Applies-define size w memory id map fault old new ready legal_id legal_map idle defines lost =
+    place_applies size w memory id map fault old new ready legal_id legal_map (place_for (reads old.now.words) id) refl idle defines lost
 
 -- the reply is the machine's
-pub refusal_when_ready : (size : ℕ) (w : World) (id map : ℕ) (old : State) → IsReady size w old → table_refusal (type_table (reads old.now.words)) id map ≡ refusal_of w (Define id map)
-refusal_when_ready size w id map old ready = refusal_of_table size w (reads old.now.words) id map (standing size w old ready)
-
--- a line that is no command leaves all as it was
-pub Applies-nothing : (size : ℕ) (w : World) (old new : State) → IsReady size w old → new ≡ old → Applies size w w None old new
-Applies-nothing size w old new ready same = idle_applies size w w None old new ready refl same (λ no. absurd (cc))
+pub refusal_when_ready : (size : ℕ) (w : World) (memory : Memory) (id map : ℕ) (old : State) → IsReady size w memory old → table_refusal (type_table (reads old.now.words)) id map ≡ refusal_of w (Define id map)
+refusal_when_ready size w memory id map old ready = refusal_of_table size w (reads old.now.words) id map (standing size w memory old ready)
 
 rest_by_place : (image : Image) (id map : ℕ) (fault : Option HostFault) (old new : State) → (place : Option ℕ) → place_for image id ≡ place
     → (place_for image id ≡ None → new ≡ old) → ((r : ℕ) → place_for image id ≡ Some r → Defines r id map fault old new) → KeepsRest old new
@@ -191,7 +185,7 @@ rest_by_place image id map fault old new None place idle defines =
     record { script = ap (λ (s : State). s.script) same; shelf = ap (λ (s : State). s.shelf) same }
 rest_by_place image id map fault old new (Some r) place idle defines =
     let d = defines r place in
-    record { script = d.changes.script; shelf = d.changes.shelf }
+    record { script = d.persists.changes.script; shelf = d.persists.changes.shelf }
 
 -- whatever the device holds, a definition leaves the script and the shelf
 pub KeepsRest-define : (image : Image) (id map : ℕ) (fault : Option HostFault) (old new : State)

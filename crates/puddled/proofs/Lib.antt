@@ -1,8 +1,10 @@
+pub mod Applying
 pub mod Defining
 pub mod Coming
 pub mod Turns
 pub mod Counted
 pub mod Restarts
 pub mod Losing
-pub mod Lines
+pub mod Carrying
 pub mod Settling
+pub mod Lines

@@ -1,2 +1,3 @@
+pub mod Memory
 pub mod Faults
 pub mod Daemon

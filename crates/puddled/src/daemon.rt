@@ -1,26 +1,27 @@
 //! The daemon's own calls: start, one line, stop.
 ghost use Rattle.std.specs.Prelude.{◌≡◌, ◌≢◌, ◌≤◌, ◌↔◌, ℕ, List, IsOk, IfOk, false, Option, Result};
 ghost use Rattle.pm_model.specs.Words.{IsRested, reads};
-ghost use Rattle.pm_model.specs.Counts.{Counts, after_fault, after_loss_of, fault_of};
+ghost use Rattle.pm_model.specs.Counts.{Counts, after_fault, after_arm, after_loss_of, fault_of};
 ghost use Rattle.pm_model.specs.Moments.{State};
 ghost use Rattle.pud_defs.specs.Layout.{device_words};
 ghost use Rattle.pm_model.specs.Calls.{Says};
-ghost use Rattle.pud_defs.specs.World.{World, world_of, closed};
+ghost use Rattle.pud_defs.specs.World.{World, world_of, closed, restart};
 ghost use Rattle.pud_defs.specs.Texts.{reply_text};
-ghost use Rattle.puddled.specs.Faults.{start_fault, run_fault, IsCounted, is_at_once, CountsLine};
-ghost use Rattle.pud_defs.specs.Grammar.{command_of};
-ghost use Rattle.pud_defs.specs.Step.{step_answer, step_world};
-ghost use Rattle.pud_defs.specs.Step.Answer.{of_reply};
-ghost use Rattle.puddled.specs.Daemon.{KeepsRest, IsReady, Applies, Recovers, Settles};
+ghost use Rattle.puddled.specs.Faults.{start_fault, run_fault, kind_of, CountsLine, CountsCommand, behind_loss, HasLostPower};
+ghost use Rattle.pud_defs.specs.Grammar.{command_of, IsLegalCommand};
+ghost use Rattle.pud_defs.specs.Changing.{file_of, file_in};
+ghost use Rattle.puddled.specs.Memory.{Memory};
+ghost use Rattle.puddled.specs.Daemon.{KeepsRest, KeepsLine, IsReady, Applies, CarriesOut, Recovers, Settles};
 
 use crate::clients::{come, leave};
 use crate::types::define_type;
+use log_space::clear_spaces;
 use pm_model::{Host, HostFault};
-use pud_defs::layout::MIN_FRAMES;
 use pud_defs::machine::{Command, Refusal, Reply};
-use registry::{LoadFault, clear_spaces, load_sound};
+use registry::{LoadFault, load_sound};
 use script::{parse_line, print_reply};
 use std::alloc::Global;
+use std::marker::Model;
 
 /// Why the daemon did not start.
 #[derive(Clone, Copy, Debug, PartialEq, Eq, thiserror::Error)]
@@ -96,108 +97,149 @@ impl From<StartFault> for RunFault {
     }
 }
 
-/// A daemon that has started on a device.
+/// A daemon that has started on a device, and what it holds in memory between two lines.
 #[derive(Drop)]
 pub struct Daemon {
-    started: (),
+    /// How many frames the device has, 4 to 1,024.
+    frames: u32,
+}
+
+impl Model for Daemon {
+    ghost use Rattle.std.specs.Prelude.{◌≤◌};
+    ghost use Rattle.pud_defs.specs.declared.layout.TheConstants.{MIN_FRAMES, MAX_FRAMES};
+    ghost use Rattle.puddled.specs.Memory.{Memory};
+
+    ghost Value = { Memory };
+
+    ghost view = { λ d. record { frames = d.frames } };
+
+    ghost invariant = { λ d. (MIN_FRAMES ≤ d.frames) × (d.frames ≤ MAX_FRAMES) };
 }
 
 /// Judges the device, applies what its daemon log names, and empties the log-space table, all without a word.
-fn recover<H: Host>(h: &mut H) -> Result<(), StartFault>
+fn recover<H: Host>(h: &mut H) -> Result<Daemon, StartFault>
     ensures not_sound { H.tells → start_fault result ≡ Option.None
         → (result ≡ Result.Err StartFault.NotSound) ↔ (world_of (H.counts h.old).size (reads (H.state h.old).now.words) ≡ Option.None) }
     ensures unchanged { H.tells → result ≡ Result.Err StartFault.NotSound → H.state h.new ≡ H.state h.old }
     ensures recovers { H.tells → (size : ℕ) → size ≡ (H.counts h.old).size → (w : World) → IsRested (H.state h.old).now.words
         → world_of size (reads (H.state h.old).now.words) ≡ Option.Some (closed w) → (H.state h.old).shelf ≡ w.shelf
-        → Recovers size w (start_fault result) (H.state h.old) (H.state h.new) }
-    ensures room { IsOk result → device_words MIN_FRAMES ≤ (H.counts h.old).size }
+        → Recovers size w result (H.state h.old) (H.state h.new) }
+    ensures room { IfOk result (λ daemon. device_words daemon.frames ≤ (H.counts h.old).size) }
     ensures rest { H.tells → KeepsRest (H.state h.old) (H.state h.new) }
     ensures cause { H.counts h.new ≡ after_fault (start_fault result) (H.counts h.old) }
 {
-    load_sound(h)?;
+    let geo = load_sound(h)?;
     clear_spaces(h)?;
-    Ok(())
+    Ok(Daemon { frames: geo.frames })
 }
 
-/// Loses power at once, and starts again without a word.
-fn lose_power<H: Host>(h: &mut H, pick: u64) -> Result<(), StartFault>
-    ensures recovers { H.tells → (size : ℕ) → size ≡ (H.counts h.old).size → (w : World) → IsReady size w (H.state h.old)
-        → Recovers size w (start_fault result) (H.state h.old) (H.state h.new) }
-    ensures sound { H.tells → (size : ℕ) → size ≡ (H.counts h.old).size → (w : World) → IsReady size w (H.state h.old)
-        → start_fault result ≡ Option.None → result ≢ Result.Err StartFault.NotSound }
-    ensures restarted { H.tells → IsOk result → world_of (H.counts h.old).size (reads (H.state h.new).now.words) ≢ Option.None }
-    ensures not_sound { H.tells → result ≡ Result.Err StartFault.NotSound
-        → world_of (H.counts h.old).size (reads (H.state h.new).now.words) ≡ Option.None }
+/// Loses power at once: the daemon is to start again behind it, as behind each power loss.
+fn lose_power<H: Host>(h: &mut H, pick: u64) -> Result<Reply, HostFault>
+    ensures lost { result ≡ Result.Err HostFault.Cut }
+    ensures applies { H.tells → (size : ℕ) → (w : World) → (memory : Memory) → IsReady size w memory (H.state h.old)
+        → Applies size w (restart w) memory (Option.Some HostFault.Cut) (H.state h.old) (H.state h.new) }
     ensures rest { H.tells → KeepsRest (H.state h.old) (H.state h.new) }
-    ensures cause { H.counts h.new ≡ after_fault (start_fault result) (after_loss_of pick (H.counts h.old)) }
+    ensures rests { H.tells → IsRested (H.state h.new).now.words }
+    ensures cause { H.counts h.new ≡ after_loss_of pick (H.counts h.old) }
 {
     h.cut(pick);
-    recover(h)
+    Err(HostFault::Cut)
 }
 
-/// Goes on behind a command: where power was lost in it, the daemon starts again, and the reply is `Cut`.
-fn go_on<H: Host>(h: &mut H, done: Result<Reply, HostFault>) -> Result<Reply, RunFault>
+/// Arms a loss of power at the device step that is number `step` from now on.
+fn arm<H: Host>(h: &mut H, step: u32, pick: u64) -> Result<Reply, HostFault>
+    requires { 1 ≤ step }
+    ensures done { result ≡ Result.Ok Reply.Ok }
+    ensures stays { H.tells → H.state h.new ≡ H.state h.old }
+    ensures cause { H.counts h.new ≡ after_arm step pick (H.counts h.old) }
+{
+    h.arm(step, pick);
+    Ok(Reply::Ok)
+}
+
+/// Carries out the command, or refuses it, without a word.
+#[tactic(auto, using(crate::proofs::Carrying::keeps_line))]
+fn apply<H: Host>(daemon: &Daemon, h: &mut H, command: Command) -> Result<Reply, HostFault>
+    requires legal { IsLegalCommand command }
+    requires room { device_words daemon.now.frames ≤ (H.counts h.old).size }
+    ensures carries { H.tells → (size : ℕ) → size ≡ (H.counts h.old).size → (w : World) → IsReady size w daemon.now (H.state h.old)
+        → CarriesOut size w daemon.now (Option.Some command) result (H.counts h.old) (H.counts h.new) (H.state h.old) (H.state h.new) }
+    ensures rest { H.tells → KeepsLine (file_of command) (H.state h.old) (H.state h.new) }
+    ensures rests { H.tells → fault_of result ≡ Option.Some HostFault.Cut → IsRested (H.state h.new).now.words }
+    ensures cause { CountsCommand (kind_of (Option.Some command)) (fault_of result) (H.counts h.old) (H.counts h.new) }
+{
+    match command {
+        Command::Client { client, uid, gid } => come(h, daemon.frames, u32::from(client), uid, gid),
+        Command::Leave { client } => leave(h, daemon.frames, u32::from(client)),
+        Command::Define { t, map } => define_type(h, t, map),
+        Command::Cut { pick } => lose_power(h, pick),
+        Command::Arm { step, pick } => arm(h, step, pick),
+    }
+}
+
+/// The reply behind a restart: `Cut`, but to a command that asks for the power loss.
+fn reply_behind_loss(command: Command) -> Reply
+    ensures { result ≡ behind_loss (kind_of (Option.Some command)) }
+{
+    match command {
+        Command::Cut { .. } => Reply::Ok,
+        _ => Reply::Cut,
+    }
+}
+
+/// Goes on behind the command: where power was lost in it, the daemon starts again.
+fn go_on<H: Host>(
+    daemon: &mut Daemon,
+    h: &mut H,
+    command: Command,
+    done: Result<Reply, HostFault>,
+) -> Result<Reply, RunFault>
+    requires { device_words daemon.old.frames ≤ (H.counts h.old).size }
     // The command began in the state `before`, with these counts.
-    ensures settles { H.tells → (size : ℕ) → size ≡ (H.counts h.old).size → (w : World) → (line : List ℕ) → (counted : Counts) → (before : State) → before.shelf ≡ w.shelf
-        → Applies size w (step_world w line) (fault_of done) before (H.state h.old) → IfOk done (λ reply. of_reply reply ≡ step_answer w line)
-        → H.counts h.old ≡ after_fault (fault_of done) counted → is_at_once (command_of line) ≡ false
-        → Settles size w line result counted (H.counts h.new) before (H.state h.new) }
+    ensures settles { H.tells → (size : ℕ) → size ≡ (H.counts h.old).size → (w : World) → (line : List ℕ) → (counted : Counts) → (before : State)
+        → command_of line ≡ Option.Some command → before.shelf ≡ w.shelf
+        → CarriesOut size w daemon.old (command_of line) done counted (H.counts h.old) before (H.state h.old)
+        → Settles size w line result daemon.new counted (H.counts h.new) before (H.state h.new) }
     // Whatever the device holds: where power was lost, it then reads as a sound one.
     ensures restarted { H.tells → (fault_of done ≡ Option.Some HostFault.Cut → IsRested (H.state h.old).now.words) → (counted : Counts)
-        → H.counts h.old ≡ after_fault (fault_of done) counted → IsOk result → (H.counts h.new).cuts ≢ counted.cuts
+        → CountsCommand (kind_of (Option.Some command)) (fault_of done) counted (H.counts h.old) → IsOk result → HasLostPower counted (H.counts h.new)
         → world_of (H.counts h.old).size (reads (H.state h.new).now.words) ≢ Option.None }
-    ensures passed { (reply : Reply) → done ≡ Result.Ok reply → (result ≡ Result.Ok reply) × (H.counts h.new ≡ H.counts h.old) }
     ensures not_sound { H.tells → result ≡ Result.Err RunFault.NotSound
         → world_of (H.counts h.old).size (reads (H.state h.new).now.words) ≡ Option.None }
     ensures rest { H.tells → KeepsRest (H.state h.old) (H.state h.new) }
-    ensures cause { (counted : Counts) → H.counts h.old ≡ after_fault (fault_of done) counted → IsCounted (run_fault result) 0 counted (H.counts h.new) }
+    ensures room { device_words daemon.new.frames ≤ (H.counts h.old).size }
+    ensures cause { (counted : Counts) → CountsCommand (kind_of (Option.Some command)) (fault_of done) counted (H.counts h.old)
+        → CountsLine (Option.Some command) (run_fault result) 0 counted (H.counts h.new) }
 {
     match done {
         Ok(reply) => Ok(reply),
         Err(HostFault::Failed) => Err(RunFault::Failed),
         Err(HostFault::Cut) => {
-            recover(h)?;
-            Ok(Reply::Cut)
+            *daemon = recover(h)?;
+            Ok(reply_behind_loss(command))
         }
     }
 }
 
-/// Carries out one line without a word. Where power is lost in it the daemon starts again, and the reply is `Cut`.
-fn settle<H: Host>(h: &mut H, line: &[u8]) -> Result<Reply, RunFault>
-    requires { device_words MIN_FRAMES ≤ (H.counts h.old).size }
-    ensures settles { H.tells → (size : ℕ) → size ≡ (H.counts h.old).size → (w : World) → IsReady size w (H.state h.old)
-        → Settles size w line.now result (H.counts h.old) (H.counts h.new) (H.state h.old) (H.state h.new) }
+/// Carries out one line without a word. Where power is lost in it the daemon starts again.
+fn settle<H: Host>(daemon: &mut Daemon, h: &mut H, line: &[u8]) -> Result<Reply, RunFault>
+    requires { device_words daemon.old.frames ≤ (H.counts h.old).size }
+    ensures settles { H.tells → (size : ℕ) → size ≡ (H.counts h.old).size → (w : World) → IsReady size w daemon.old (H.state h.old)
+        → Settles size w line.now result daemon.new (H.counts h.old) (H.counts h.new) (H.state h.old) (H.state h.new) }
     // Whatever the device holds: where power was lost, as counted or at once, it reads as a sound one behind the restart.
-    ensures restarted { H.tells → IsOk result → (H.counts h.new).cuts ≢ (H.counts h.old).cuts
-        → world_of (H.counts h.old).size (reads (H.state h.new).now.words) ≢ Option.None }
-    ensures restarted_at_once { H.tells → IsOk result → (H.counts h.new).losses ≢ (H.counts h.old).losses
+    ensures restarted { H.tells → IsOk result → HasLostPower (H.counts h.old) (H.counts h.new)
         → world_of (H.counts h.old).size (reads (H.state h.new).now.words) ≢ Option.None }
     ensures not_sound { H.tells → result ≡ Result.Err RunFault.NotSound
         → world_of (H.counts h.old).size (reads (H.state h.new).now.words) ≡ Option.None }
-    ensures rest { H.tells → KeepsRest (H.state h.old) (H.state h.new) }
+    ensures room { device_words daemon.new.frames ≤ (H.counts h.old).size }
+    ensures rest { H.tells → KeepsLine (file_in (command_of line.now)) (H.state h.old) (H.state h.new) }
     ensures cause { CountsLine (command_of line.now) (run_fault result) 0 (H.counts h.old) (H.counts h.new) }
 {
     match parse_line(line) {
         Err(_) => Ok(Reply::No(Refusal::Bad)),
-        Ok(Command::Client { client, uid, gid }) => {
-            let done = come(h, u32::from(client), uid, gid);
-            go_on(h, done)
-        }
-        Ok(Command::Leave { client }) => {
-            let done = leave(h, u32::from(client));
-            go_on(h, done)
-        }
-        Ok(Command::Define { t, map }) => {
-            let done = define_type(h, t, map);
-            go_on(h, done)
-        }
-        Ok(Command::Cut { pick }) => {
-            lose_power(h, pick)?;
-            Ok(Reply::Ok)
-        }
-        Ok(Command::Arm { step, pick }) => {
-            h.arm(step, pick);
-            Ok(Reply::Ok)
+        Ok(command) => {
+            let done = apply(daemon, h, command);
+            go_on(daemon, h, command, done)
         }
     }
 }
@@ -214,6 +256,7 @@ fn say_reply<H: Host>(h: &mut H, reply: Reply) -> Result<(), HostFault>
 }
 
 impl Daemon {
+    ghost use Rattle.pud_defs.specs.declared.layout.TheConstants.{MIN_FRAMES, MAX_FRAMES};
     ghost use Rattle.puddled.specs.Daemon.{Starts, Answers};
 
     /// Starts on the device: applies what its daemon log names, empties the log-space table, and says the start text.
@@ -227,14 +270,23 @@ impl Daemon {
         ensures unchanged { H.tells → result ≡ Result.Err StartFault.NotSound → H.state h.new ≡ H.state h.old }
         ensures starts { H.tells → (size : ℕ) → size ≡ (H.counts h.old).size → (w : World) → IsRested (H.state h.old).now.words
             → world_of size (reads (H.state h.old).now.words) ≡ Option.Some (closed w) → (H.state h.old).shelf ≡ w.shelf
-            → Starts size w (start_fault result) (H.state h.old) (H.state h.new) }
-        ensures room { IsOk result → device_words MIN_FRAMES ≤ (H.counts h.old).size }
+            → Starts size w result (H.state h.old) (H.state h.new) }
+        ensures room { IfOk result (λ daemon. device_words daemon.frames ≤ (H.counts h.old).size) }
         ensures rest { H.tells → KeepsRest (H.state h.old) (H.state h.new) }
         ensures cause { H.counts h.new ≡ after_fault (start_fault result) (H.counts h.old) }
     {
-        recover(h)?;
+        let daemon = recover(h)?;
         h.say(b"ready\n")?;
-        Ok(Daemon { started: () })
+        Ok(daemon)
+    }
+
+    /// How many frames the device has, 4 to 1,024, as the start found it.
+    pub fn frames(&self) -> u32
+        ensures frames { result ≡ self.now.frames }
+        ensures some { MIN_FRAMES ≤ result }
+        ensures no_more { result ≤ MAX_FRAMES }
+    {
+        self.frames
     }
 
     /// Carries out one line, given without its newline, and says the reply where `aloud`. The answer is whether the
@@ -242,9 +294,9 @@ impl Daemon {
     ///
     /// Where power is lost in the line the daemon starts again within the call, and the reply is `cut`: the line was
     /// done wholly or not at all, and no client is present. At a line `cut N` power is lost at once, the daemon starts again,
-    /// and the reply is `ok`. The device is the one that this daemon started on. `Failed` comes where a call of the host
-    /// failed, `CutInStart` where power was lost in that restart too, `NotSound` where the restart read a registry that is
-    /// not sound; then no further line is to be given.
+    /// and the reply is `ok`. The device is the one that this daemon started on: it has the words that `frames` need.
+    /// `Failed` comes where a call of the host failed, `CutInStart` where power was lost in that restart too, `NotSound`
+    /// where the restart read a registry that is not sound; then no further line is to be given.
     pub fn exec<H: Host>(
         &mut self,
         _alloc: Global,
@@ -252,21 +304,22 @@ impl Daemon {
         line: &[u8],
         aloud: bool,
     ) -> Result<bool, RunFault>
-        requires { device_words MIN_FRAMES ≤ (H.counts h.old).size }
-        ensures answers { H.tells → (size : ℕ) → size ≡ (H.counts h.old).size → (w : World) → IsReady size w (H.state h.old)
-            → Answers size w line.now aloud result (H.counts h.old) (H.counts h.new) (H.state h.old) (H.state h.new) }
+        requires { device_words self.old.frames ≤ (H.counts h.old).size }
+        ensures answers { H.tells → (size : ℕ) → size ≡ (H.counts h.old).size → (w : World) → IsReady size w self.old (H.state h.old)
+            → Answers size w line.now aloud result self.new (H.counts h.old) (H.counts h.new) (H.state h.old) (H.state h.new) }
         // Whatever the device holds: where power was lost, as counted or at once, and without a fault, it then reads as a sound
         // one, and at `NotSound` it does not.
-        ensures restarted { H.tells → IsOk result → (H.counts h.new).cuts ≢ (H.counts h.old).cuts
-            → world_of (H.counts h.old).size (reads (H.state h.new).now.words) ≢ Option.None }
-        ensures restarted_at_once { H.tells → IsOk result → (H.counts h.new).losses ≢ (H.counts h.old).losses
+        ensures restarted { H.tells → IsOk result → HasLostPower (H.counts h.old) (H.counts h.new)
             → world_of (H.counts h.old).size (reads (H.state h.new).now.words) ≢ Option.None }
         ensures not_sound { H.tells → result ≡ Result.Err RunFault.NotSound
             → world_of (H.counts h.old).size (reads (H.state h.new).now.words) ≡ Option.None }
-        ensures rest { H.tells → KeepsRest (H.state h.old) (H.state h.new) }
+        // The device that it knows has the words that its frames need.
+        ensures room { device_words self.new.frames ≤ (H.counts h.old).size }
+        // The script stays, and each file but one that the line names.
+        ensures rest { H.tells → KeepsLine (file_in (command_of line.now)) (H.state h.old) (H.state h.new) }
         ensures cause { CountsLine (command_of line.now) (run_fault result) 0 (H.counts h.old) (H.counts h.new) }
     {
-        let reply = settle(h, line)?;
+        let reply = settle(self, h, line)?;
         if aloud {
             say_reply(h, reply)?;
         }
@@ -275,6 +328,6 @@ impl Daemon {
 
     /// Ends the daemon. It touches no device: the next start does what is to be done.
     pub fn stop(self) {
-        let Daemon { started: () } = self;
+        let Daemon { frames: _frames } = self;
     }
 }

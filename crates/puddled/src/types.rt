@@ -2,27 +2,27 @@
 ghost use Rattle.std.specs.Prelude.{◌≡◌, ◌≤◌, ℕ, true, IfOk, Option};
 ghost use Rattle.pm_model.specs.Words.{IsRested};
 ghost use Rattle.pm_model.specs.Counts.{after_fault, fault_of};
-ghost use Rattle.pud_defs.specs.Layout.{device_words};
+ghost use Rattle.pud_defs.specs.declared.layout.TheConstants.{POOL_TABLE};
 ghost use Rattle.pud_defs.specs.TypeMap.{is_legal_type_id, is_legal_map};
 ghost use Rattle.pud_defs.specs.World.{World};
 ghost use Rattle.pud_defs.specs.Step.{answer_by, world_by};
 ghost use Rattle.pud_defs.specs.Step.Answer.{of_reply};
 ghost use Rattle.pud_defs.specs.declared.machine.Command.TheVariants.{Define};
+ghost use Rattle.puddled.specs.Memory.{Memory};
 ghost use Rattle.puddled.specs.Daemon.{KeepsRest, IsReady, Applies};
 
 use pm_model::{Host, HostFault};
-use pud_defs::layout::MIN_FRAMES;
 use pud_defs::machine::{Refusal, Reply};
 use type_maps::{TypeFault, define};
 
 /// Defines a type, or refuses to. A refused one changes nothing.
 pub fn define_type<H: Host>(h: &mut H, id: u32, map: u64) -> Result<Reply, HostFault>
-    requires { device_words MIN_FRAMES ≤ (H.counts h.old).size }
-    ensures reply { H.tells → (size : ℕ) → size ≡ (H.counts h.old).size → (w : World) → IsReady size w (H.state h.old)
+    requires { POOL_TABLE ≤ (H.counts h.old).size }
+    ensures reply { H.tells → (size : ℕ) → size ≡ (H.counts h.old).size → (w : World) → (memory : Memory) → IsReady size w memory (H.state h.old)
         → IfOk result (λ reply. of_reply reply ≡ answer_by w (Option.Some (Define id map))) }
-    ensures applies { H.tells → (size : ℕ) → size ≡ (H.counts h.old).size → (w : World) → IsReady size w (H.state h.old)
+    ensures applies { H.tells → (size : ℕ) → size ≡ (H.counts h.old).size → (w : World) → (memory : Memory) → IsReady size w memory (H.state h.old)
         → is_legal_type_id id ≡ true → is_legal_map map ≡ true
-        → Applies size w (world_by w (Option.Some (Define id map))) (fault_of result) (H.state h.old) (H.state h.new) }
+        → Applies size w (world_by w (Option.Some (Define id map))) memory (fault_of result) (H.state h.old) (H.state h.new) }
     ensures rest { H.tells → KeepsRest (H.state h.old) (H.state h.new) }
     ensures rests { H.tells → fault_of result ≡ Option.Some HostFault.Cut → IsRested (H.state h.new).now.words }
     ensures cause { H.counts h.new ≡ after_fault (fault_of result) (H.counts h.old) }

@@ -1,73 +1,36 @@
 -- The daemon log of a rested device applied: each image left stands for the same world.
-use Rattle.std.proofs.Common.{◌≡◌, ◌⊎◌, inl, inr, ℕ, ◌+◌, ◌%◌, ◌^◌, ◌<◌, ◌≤◌, Bool, true, not, ◌&&◌, ◌||◌, leb, eqb, List, length, get_or, Option, Some, None, refl, sym, ap, ap₂, subst, ◌∙◌, arith, eqb-true}
+use Rattle.std.proofs.Common.{◌≡◌, inl, inr, ℕ, ◌<◌, ◌≤◌, true, List, get_or, Option, Some, None, refl, sym, ap, subst, ◌∙◌, arith}
 use Rattle.std.specs.Prelude.{[]}
 use Rattle.std.specs.List.{list_all}
-use Rattle.std.proofs.lemmas.Bool.{and_parts, or_cases, leb-true, cases_eq}
+use Rattle.std.proofs.lemmas.Bool.{cases_eq}
 use Rattle.std.proofs.lemmas.List.{append-nil}
 use Rattle.std.proofs.lemmas.List.Sums.{AllPass-from_list_all}
 use Rattle.pm_model.specs.declared.host.HostFault.{HostFault}
 use Rattle.pm_model.specs.declared.host.HostFault.TheVariants.{Cut}
-use Rattle.pm_model.specs.Words.{Words, reads, Picks, HasOnly, IsRested}
+use Rattle.pm_model.specs.Words.{reads, HasOnly, IsRested}
 use Rattle.pm_model.specs.Moments.{State}
 use Rattle.pm_model.specs.Changes.{Leaves, Silently}
-use Rattle.pm_model.proofs.Words.{HasOnly-own, Picks-reads}
+use Rattle.pm_model.proofs.Words.{HasOnly-own, Picks-reads, reads_only}
 use Rattle.pm_model.proofs.Changes.{Changes-said, Changes-still, Changes-then, HasOnly-kept}
 use Rattle.pm_model.proofs.Leaves.{Leaves-weaker, Leaves-still, Leaves-now}
-use Rattle.pud_defs.specs.declared.layout.TheConstants.{DAEMON_LOG, LOG_WORDS, TYPE_TABLE, NEXT_NUMBER_WORD, FRAMES_WORD, MACHINE_WORD}
+use Rattle.pud_defs.specs.declared.layout.TheConstants.{DAEMON_LOG, FRAMES_WORD, MACHINE_WORD}
 use Rattle.pud_defs.specs.declared.log_words.TheConstants.{CLOSED_GATE}
 use Rattle.pud_defs.specs.Image.{Image}
-use Rattle.pud_defs.specs.Layout.{tables_end, frames_at, device_words}
-use Rattle.pud_defs.specs.Entries.{Entry, Log, log_of, is_closed_gate}
+use Rattle.pud_defs.specs.Layout.{device_words}
+use Rattle.pud_defs.specs.Entries.{Entry, log_of, is_closed_gate}
 use Rattle.pud_defs.specs.Replay.{device_word, new_value, settled_by}
-use Rattle.pud_defs.specs.Registry.{frames_of, may_be_logged, is_allowed, are_allowed, has_legal_log}
+use Rattle.pud_defs.specs.Registry.{frames_of, is_allowed, are_allowed, has_legal_log}
 use Rattle.pud_defs.specs.World.{StoredWorld, registry_world, world_of}
 use Rattle.pud_defs.proofs.Replay.{outside_log, settled_by-closed}
-use Rattle.pud_defs.proofs.Logged.{legal_entries, new_value-unlogged, settled_by-unlogged}
-use Rattle.pud_defs.proofs.Worlds.{standing_of_world, legal_log_of_world, legal_log_closed, world_of_legal}
-use Rattle.log_replay.specs.Replaying.{NamesApart, IsReplayable, ByLog, SettlesSame, SettlesLog}
+use Rattle.pud_defs.proofs.Logged.{legal_entries, allowed_in_range, has_legal_log-of, new_value-unlogged}
+use Rattle.pud_defs.proofs.Parts.Part.{Header}
+use Rattle.pud_defs.proofs.Worlds.{standing_of_world, legal_log_of_world, legal_log_closed, frames_of_world, world_of_legal}
+use Rattle.log_replay.specs.Replaying.{IsReplayable, ByLog, SettlesSame, SettlesLog}
 use Rattle.batch.specs.Worlds.{IsSettled}
+use Rattle.batch.proofs.Worlds.{names_apart}
 use Rattle.registry.specs.Registry.{AppliesLog}
 
 -- ---- a sound rested device: its daemon log may be replayed
-
--- where the daemon log may write lies in the device, apart from that log
-names_apart : (F size at n : ℕ) (e : Entry) → n ≡ length e.vals → at ≡ e.address → device_words F ≤ size → may_be_logged F at n ≡ true → NamesApart device_word size DAEMON_LOG e
-names_apart F size at n e count place room may =
-    let lies : (at + n ≤ size) × ((at + n ≤ DAEMON_LOG) ⊎ (DAEMON_LOG + LOG_WORDS ≤ at)) =
-    elim (or_cases ((eqb at NEXT_NUMBER_WORD && eqb n 1) || (leb TYPE_TABLE at && leb (at + n) (tables_end F))) (leb (frames_at F) at && leb (at + n) (device_words F)) may) [
-      | inl tables ↦ elim (or_cases (eqb at NEXT_NUMBER_WORD && eqb n 1) (leb TYPE_TABLE at && leb (at + n) (tables_end F)) tables) [
-        | inl number ↦
-            let parts = and_parts (eqb at NEXT_NUMBER_WORD) (eqb n 1) number in
-            let here = eqb-true _ _ parts.0 in
-            let one = eqb-true _ _ parts.1 in
-            (omega arith, inl (omega arith))
-        | inr types ↦
-            let parts = and_parts (leb TYPE_TABLE at) (leb (at + n) (tables_end F)) types in
-            let low = leb-true _ _ parts.0 in
-            let high = leb-true _ _ parts.1 in
-            (omega arith, inr (omega arith))
-      ]
-      | inr frames ↦
-          let parts = and_parts (leb (frames_at F) at) (leb (at + n) (device_words F)) frames in
-          let low = leb-true _ _ parts.0 in
-          let high = leb-true _ _ parts.1 in
-          (omega arith, inr (omega arith))
-    ] in
-    record {
-      first = at;
-      placed = ap Some (sym place);
-      within = subst (λ (k : ℕ). at + k ≤ size) count lies.0;
-      apart = subst (λ (k : ℕ). (at + k ≤ DAEMON_LOG) ⊎ (DAEMON_LOG + LOG_WORDS ≤ at)) count lies.1;
-    }
-
--- images that agree on the log and on the number of frames have a legal daemon log together
-still_legal : (i j : Image) → i FRAMES_WORD ≡ j FRAMES_WORD → log_of i DAEMON_LOG ≡ log_of j DAEMON_LOG → has_legal_log j ≡ true → has_legal_log i ≡ true
-unfolding has_legal_log
-still_legal i j frames same legal = ap₂ (λ (F : ℕ) (l : Log). are_allowed F l l.entries) frames same ∙ legal
-
--- an image of a rested device is what it reads
-rested_image : (words : Words) (image : Image) → IsRested words → Picks words image → image ≡ reads words
-rested_image words image rested picked = λ p k. (rested.each k).each (image k) (picked.each k) p
 
 module _ (size : ℕ) (s : StoredWorld) (a : State) (rested : IsRested a.now.words) (world : world_of size (reads a.now.words) ≡ Some s) where
   legal : has_legal_log (reads a.now.words) ≡ true
@@ -75,9 +38,8 @@ module _ (size : ℕ) (s : StoredWorld) (a : State) (rested : IsRested a.now.wor
 
   frames_fit : device_words (frames_of (reads a.now.words)) ≤ size
   frames_fit =
-      let h = standing_of_world size (reads a.now.words) s world in
-      let frames : frames_of (reads a.now.words) ≡ s.frames = sym (settled_by-unlogged (reads a.now.words) FRAMES_WORD legal (omega arith)) ∙ h.frames in
-      let room = h.room in
+      let frames : frames_of (reads a.now.words) ≡ s.frames = frames_of_world size (reads a.now.words) s world in
+      let room = ((standing_of_world size (reads a.now.words) s world).holds Header).room in
       omega arith
 
   pub entries : List Entry
@@ -102,28 +64,24 @@ module _ (size : ℕ) (s : StoredWorld) (a : State) (rested : IsRested a.now.wor
         apart = λ k d below within.
             let e = get_or entries k d in
             let passes : is_allowed F log e ≡ true = AllPass-from_list_all (is_allowed F log) entries allowed k d below in
-            let may : may_be_logged F e.address (length e.vals) ≡ true = sym (ap (λ (b : Bool). not b || may_be_logged F e.address (length e.vals)) within) ∙ passes in
-            names_apart F size e.address (length e.vals) e refl refl frames_fit may;
+            names_apart F size e frames_fit (allowed_in_range F log e passes within);
       }
 
   -- an image whose log is as it was, or closed, and that settles the same stands for the same world
   stands_still : (image : Image) → SettlesSame a.now.words DAEMON_LOG (log_of (reads a.now.words) DAEMON_LOG) image → world_of size image ≡ Some s
   stands_still image p =
       let log = log_of (reads a.now.words) DAEMON_LOG in
-      let before : p.before ≡ reads a.now.words = rested_image a.now.words p.before rested p.picked in
+      let before : p.before ≡ reads a.now.words = reads_only a.now.words p.before rested p.picked in
       let frames : image FRAMES_WORD ≡ reads a.now.words FRAMES_WORD =
       p.outside FRAMES_WORD (outside_log DAEMON_LOG FRAMES_WORD (inl (omega arith))) (new_value-unlogged (reads a.now.words) FRAMES_WORD legal (omega arith)) ∙ ap (λ (i : Image). i FRAMES_WORD) before in
       let legal_now : has_legal_log image ≡ true = elim p.gate [
-        | inl same ↦ still_legal image (reads a.now.words) frames same legal
+        | inl same ↦ has_legal_log-of image (frames_of (reads a.now.words)) log frames same (ap (are_allowed (frames_of (reads a.now.words)) log) spelled ∙ allowed)
         | inr closed ↦ legal_log_closed image closed
       ] in
       world_of_legal size image legal_now
       ∙ ap (registry_world size) (p.same ∙ ap (settled_by DAEMON_LOG) before)
       ∙ sym (world_of_legal size (reads a.now.words) legal)
       ∙ world
-
-  closed_gate : is_closed_gate CLOSED_GATE ≡ true
-  closed_gate = refl
 
   one_value : (b : State) → SettlesLog DAEMON_LOG None a b → (k : ℕ) (o : Option ℕ) → new_value device_word (log_of (reads a.now.words) DAEMON_LOG) k ≡ o → (k ≡ DAEMON_LOG → ⊥) → HasOnly (b.now.words k) (reads b.now.words k)
   one_value b settles k (Some v) named other = HasOnly-own (b.now.words k) v (settles.durable refl k v named)
@@ -154,7 +112,7 @@ module _ (size : ℕ) (s : StoredWorld) (a : State) (rested : IsRested a.now.wor
         moments = moments;
         settled = λ none. record {
           stands = λ image picked. (Leaves-now (Silently (λ i. world_of size i ≡ Some s)) [] a b (said ∙ sym (append-nil a.now.said)) moments image picked).1;
-          closed = λ v has. ap is_closed_gate ((settles.closed none).each v has) ∙ closed_gate;
+          closed = λ v has. ap is_closed_gate ((settles.closed none).each v has);
         };
         rested = λ none. rested_then b (subst (λ (f : Option HostFault). SettlesLog DAEMON_LOG f a b) none settles);
       }
@@ -180,7 +138,7 @@ AppliesLog-failed size s fault a b rested world not_cut same =
     record {
       changes = Changes-still may (Some fault) a b not_cut same;
       moments = Leaves-still (Silently (λ image. world_of size image ≡ Some s)) a b
-          (λ image picked. (refl, ap (world_of size) (rested_image a.now.words image rested picked) ∙ world)) same;
+          (λ image picked. (refl, ap (world_of size) (reads_only a.now.words image rested picked) ∙ world)) same;
       settled = λ none. absurd (let it : None ≡ Some fault = sym none in cc);
       rested = λ none. absurd (let it : None ≡ Some fault = sym none in cc);
     }
@@ -189,16 +147,9 @@ AppliesLog-failed size s fault a b rested world not_cut same =
 pub reads_so : (size : ℕ) (s : StoredWorld) (b : State) (w : ℕ) → IsSettled size s b.now.words → w < DAEMON_LOG → settled_by DAEMON_LOG (reads b.now.words) w ≡ reads b.now.words w
 reads_so size s b w settled low = settled_by-closed DAEMON_LOG (reads b.now.words) w (settled.closed (reads b.now.words DAEMON_LOG) (inl refl)) (outside_log DAEMON_LOG w (inl low))
 
-pub frames_read : (size : ℕ) (s : StoredWorld) (b : State) → IsSettled size s b.now.words → reads b.now.words FRAMES_WORD % 2 ^ 32 ≡ s.frames
-frames_read size s b settled =
-    let h = standing_of_world size (reads b.now.words) s (settled.stands (reads b.now.words) (Picks-reads b.now.words)) in
-    let same : reads b.now.words FRAMES_WORD ≡ s.frames = sym (reads_so size s b FRAMES_WORD settled (omega arith)) ∙ h.frames in
-    let few = h.no_more_frames in
-    omega arith
-
 pub machine_read : (size : ℕ) (s : StoredWorld) (b : State) → IsSettled size s b.now.words → reads b.now.words MACHINE_WORD ≡ s.machine
 machine_read size s b settled =
-    sym (reads_so size s b MACHINE_WORD settled (omega arith)) ∙ (standing_of_world size (reads b.now.words) s (settled.stands (reads b.now.words) (Picks-reads b.now.words))).machine
+    sym (reads_so size s b MACHINE_WORD settled (omega arith)) ∙ ((standing_of_world size (reads b.now.words) s (settled.stands (reads b.now.words) (Picks-reads b.now.words))).holds Header).machine
 
 -- behind a call that changed nothing
 pub AppliesLog-behind : (size : ℕ) (s : StoredWorld) (fault : Option HostFault) (a b c : State) → b ≡ a

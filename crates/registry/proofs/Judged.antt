@@ -1,21 +1,21 @@
 -- The daemon log is legal, entry by entry; and soundness by its parts.
-use Rattle.std.proofs.Common.{◌≡◌, inl, inr, ℕ, ◌<◌, ◌≤◌, Bool, true, false, not, ◌&&◌, ◌||◌, cond, leb, ltb, eqb, List, length, Option, Some, None, refl, sym, ap, ap₂, subst, ◌∙◌, arith}
+use Rattle.std.proofs.Common.{◌≡◌, inl, inr, ℕ, ◌<◌, ◌≤◌, Bool, true, false, ◌&&◌, cond, leb, eqb, List, Option, Some, None, refl, sym, ap, subst, ◌∙◌, arith}
 use Rattle.std.specs.List.{list_all}
 use Rattle.std.specs.Prelude.{is_some}
 use Rattle.std.proofs.lemmas.Bool.{and_left, and_right, cases_Bool}
 use Rattle.std.proofs.lemmas.Option.{cond_some}
 use Rattle.pud_defs.specs.declared.layout.TheConstants.{DEVICE_MAGIC, VERSION, MAGIC_WORD, VERSION_WORD, FRAMES_WORD, MIN_FRAMES, DAEMON_LOG, CLIENTS}
 use Rattle.pud_defs.specs.Image.{Image}
-use Rattle.pud_defs.specs.Entries.{Entry, Log, log_of, entries_of}
+use Rattle.pud_defs.specs.Entries.{Entry, log_of, entries_of}
 use Rattle.pud_defs.specs.Layout.{tables_end, frames_at, device_words, is_legal_frame_count}
 use Rattle.pud_defs.specs.Replay.{settled_by}
 use Rattle.pud_defs.specs.Spaces.{has_closed_logs}
 use Rattle.pud_defs.specs.World.{stored_by}
 use Rattle.pud_defs.specs.Registry.{frames_of, has_magic, has_version, has_room, has_legal_number, has_legal_types, has_no_pools, has_no_puddles, has_legal_spaces, is_registry, may_be_logged, is_allowed, are_allowed, has_legal_log, is_sound}
 use Rattle.pud_defs.specs.Registry as registry
-use Rattle.pud_defs.proofs.Entries.{words_from-length}
 use Rattle.pud_defs.proofs.Logged.{settled_by-unlogged, settled_by-client_logs}
 use Rattle.pud_defs.proofs.Spaces.{has_closed_logs-same}
+use Rattle.pud_defs.proofs.Parts.Part.{Header}
 use Rattle.pud_defs.proofs.Worlds.{standing_of_world, world_of-sound}
 use Rattle.log_entry.specs.Ranges.{HasRange}
 use Rattle.registry.specs.declared.overlay.Overlay.{Overlay}
@@ -111,8 +111,8 @@ pub unsound_small : (size : ℕ) (image : Image) → size < device_words MIN_FRA
 unsound_small size image small = elim (cases_Bool (is_sound size image)) [
   | inl sound ↦
       let h = standing_of_world size image (stored_by (settled_by DAEMON_LOG image)) (world_of-sound size image sound) in
-      let least = h.enough_frames in
-      let room = h.room in
+      let least = (h.holds Header).enough_frames in
+      let room = (h.holds Header).room in
       absurd (omega arith)
   | inr unsound ↦ unsound
 ]

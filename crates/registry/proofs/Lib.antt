@@ -2,4 +2,3 @@ pub mod Overlaid
 pub mod Judged
 pub mod Records
 pub mod Applied
-pub mod Cleared

@@ -1,6 +1,6 @@
 -- The parts of a sound registry, in the order in which they are read.
 use Rattle.std.specs.Prelude.{ℕ, ◌-◌, ◌≤◌, ◌==◌, nat_le, Bool, not, ◌&&◌, ◌||◌, cond, List, Option, Some, None}
-use Rattle.pud_defs.specs.declared.layout.TheConstants.{DEVICE_MAGIC, VERSION, MAGIC_WORD, VERSION_WORD, FRAMES_WORD, MIN_FRAMES, MAX_FRAMES, TYPE_RECORDS, PUDDLE_TABLE, NUMBER_LIMIT, MAX_OWNER_ID}
+use Rattle.pud_defs.specs.declared.layout.TheConstants.{DEVICE_MAGIC, VERSION, MAGIC_WORD, VERSION_WORD, FRAMES_WORD, MIN_FRAMES, MAX_FRAMES, TYPE_RECORDS, PUDDLE_TABLE}
 use Rattle.pud_defs.specs.Image.{Image}
 use Rattle.pud_defs.specs.TypeMap.{is_legal_map, is_legal_type_id}
 use Rattle.pud_defs.specs.Types.{type_records}
@@ -30,13 +30,6 @@ last_records image n = type_records image (TYPE_RECORDS - n) n
 -- whether records are legal with one more in front, by whether its id is one of theirs and whether they are legal
 abbrev pub with_one_more : (id map : ℕ) (again legal : Bool) → Bool
 with_one_more id map again legal = cond (id == 0) legal (is_legal_type_id id && is_legal_map map && not again && legal)
-
-abbrev pub is_number : ℕ → Bool
-is_number v = nat_le 1 v && nat_le v NUMBER_LIMIT
-
--- a log-space record of these three words is legal
-abbrev pub is_space : (used uid gid : ℕ) → Bool
-is_space used uid gid = used == 0 || (used == 1 && nat_le uid MAX_OWNER_ID && nat_le gid MAX_OWNER_ID)
 
 -- the client's logs are not registered, or each is closed
 abbrev pub is_closed_space : Image → ℕ → ℕ → Bool

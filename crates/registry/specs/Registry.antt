@@ -1,18 +1,16 @@
--- What brings a registry up to date or changes it.
-use Rattle.std.specs.Prelude.{◌≡◌, ℕ, zero, suc, ◌<◌, List, [], ◌∷◌, ◌++◌, Option, Some, None, Result, Ok, Err}
+-- What brings a registry up to date.
+use Rattle.std.specs.Prelude.{◌≡◌, ℕ, Option, Some, None, Result, Ok, Err}
 use Rattle.pm_model.specs.declared.host.HostFault.{HostFault}
-use Rattle.pm_model.specs.Words.{reads, HasOnly, IsRested}
+use Rattle.pm_model.specs.Words.{reads, IsRested}
 use Rattle.pm_model.specs.Moments.{State}
 use Rattle.pm_model.specs.Changes.{Changes, Leaves, Silently}
-use Rattle.pud_defs.specs.declared.layout.TheConstants.{DAEMON_LOG, CLIENTS}
-use Rattle.pud_defs.specs.Entries.{Entry, log_of}
+use Rattle.pud_defs.specs.declared.layout.TheConstants.{DAEMON_LOG}
+use Rattle.pud_defs.specs.Entries.{log_of}
 use Rattle.pud_defs.specs.Replay.{device_word, new_value}
-use Rattle.pud_defs.specs.Spaces.{space_record_at}
 use Rattle.pud_defs.specs.World.{StoredWorld, world_of}
 use Rattle.log_replay.specs.Replaying.{ByLog}
 use Rattle.registry.specs.declared.LoadFault.{LoadFault}
 use Rattle.registry.specs.declared.LoadFault.TheVariants as faults
-use Rattle.batch.specs.Batches.{batch_entry, ByBatch}
 use Rattle.batch.specs.Worlds.{IsSettled}
 
 -- the host's fault that a load answered
@@ -28,15 +26,3 @@ pub record AppliesLog (size : ℕ) (s : StoredWorld) (fault : Option HostFault) 
   pub moments : Leaves (Silently (λ image. world_of size image ≡ Some s)) old new
   pub settled : fault ≡ None → IsSettled size s new.now.words
   pub rested : fault ≡ None → IsRested new.now.words
-
--- the batch that empties the records of the clients below n
-unfoldable pub clearing : ℕ → List Entry
-clearing zero = []
-clearing (suc n) = clearing n ++ batch_entry (space_record_at n) (0 ∷ []) ∷ []
-
--- The log-space table was emptied: at each moment each image stands for the world; without a fault no record is used, durably.
-pub record Clears (size : ℕ) (s : StoredWorld) (fault : Option HostFault) (old new : State) : Type 0 where
-  pub changes : Changes (ByBatch DAEMON_LOG (clearing CLIENTS)) fault old new
-  pub moments : Leaves (Silently (λ image. world_of size image ≡ Some s)) old new
-  pub settled : fault ≡ None → IsSettled size s new.now.words
-  pub cleared : fault ≡ None → (client : ℕ) → client < CLIENTS → HasOnly (new.now.words (space_record_at client)) 0

@@ -1,27 +1,23 @@
-//! The registry of a device: judged, brought up to date by its daemon log, and changed by batches.
+//! The registry of a device: judged, and brought up to date by its daemon log.
 #![tactic(auto)]
 
-ghost use Rattle.std.specs.Prelude.{◌≡◌, ◌≢◌, ◌↔◌, ◌+◌, ◌%◌, ◌^◌, ◌≤◌, ℕ, Option, Result, IsOk, IfOk};
+ghost use Rattle.std.specs.Prelude.{◌≡◌, ◌↔◌, ◌+◌, ◌≤◌, ℕ, Option, Result, IfOk};
 ghost use Rattle.pm_model.specs.Words.{IsRested, reads};
 ghost use Rattle.pm_model.specs.Counts.{after_fault, fault_of};
 ghost use Rattle.pm_model.specs.Changes.{Changes};
 ghost use Rattle.log_replay.specs.Replaying.{Anything};
-ghost use Rattle.pud_defs.specs.declared.layout.TheConstants.{DAEMON_LOG, LOG_WORDS, PUDDLE_TABLE, MIN_FRAMES, FRAMES_WORD, MACHINE_WORD};
-ghost use Rattle.pud_defs.specs.Layout.{device_words};
+ghost use Rattle.pud_defs.specs.declared.layout.TheConstants.{DAEMON_LOG, LOG_WORDS};
 ghost use Rattle.pud_defs.specs.World.{StoredWorld, world_of};
-ghost use Rattle.batch.specs.Worlds.{IsSettled};
-ghost use Rattle.registry.specs.Registry.{load_fault, AppliesLog, Clears};
+ghost use Rattle.registry.specs.Judging.{IsRoomFor};
+ghost use Rattle.registry.specs.Registry.{load_fault, AppliesLog};
 
 mod overlay;
 mod soundness;
 
-use batch::Batch;
 use log_replay::settle_log;
 use pm_model::{Host, HostFault};
-use pud_defs::layout::{
-    CLIENTS, DAEMON_LOG, FRAMES_WORD, MACHINE_WORD, SPACE_RECORD_WORDS, SPACE_TABLE,
-};
-pub use soundness::{is_closed_log, is_sound};
+use pud_defs::layout::{DAEMON_LOG, MACHINE_WORD};
+pub use soundness::sound_frames;
 
 /// What a device is: how many frames it has, 4 to 1,024, and its machine id.
 #[derive(Clone, Copy, Debug, PartialEq, Eq)]
@@ -53,22 +49,6 @@ impl From<HostFault> for LoadFault {
     }
 }
 
-/// Reads what the device is.
-fn read_geo<H: Host>(h: &mut H) -> Result<Geo, HostFault>
-    requires { DAEMON_LOG + LOG_WORDS ≤ (H.counts h.old).size }
-    ensures geo { H.tells → IfOk result (λ geo. (geo.frames ≡ reads (H.state h.old).now.words FRAMES_WORD % 2 ^ 32) × (geo.id ≡ reads (H.state h.old).now.words MACHINE_WORD)) }
-    ensures stays { H.tells → H.state h.new ≡ H.state h.old }
-    ensures cause { H.counts h.new ≡ after_fault (fault_of result) (H.counts h.old) }
-    ensures never_cut { fault_of result ≢ Option.Some HostFault.Cut }
-{
-    let frames = h.load(FRAMES_WORD)?;
-    let id = h.load(MACHINE_WORD)?;
-    Ok(Geo {
-        frames: (frames & 0xffff_ffff) as u32,
-        id,
-    })
-}
-
 /// Judges the device, and brings it up to date: its daemon log is applied and closed, durably at `Ok`.
 ///
 /// `NotSound` comes exactly where the device is not a sound registry once that log is replayed, where the host does not
@@ -77,7 +57,7 @@ pub fn load_sound<H: Host>(h: &mut H) -> Result<Geo, LoadFault>
     ensures not_sound { H.tells → load_fault result ≡ Option.None
         → (result ≡ Result.Err LoadFault.NotSound) ↔ (world_of (H.counts h.old).size (reads (H.state h.old).now.words) ≡ Option.None) }
     ensures unchanged { H.tells → result ≡ Result.Err LoadFault.NotSound → H.state h.new ≡ H.state h.old }
-    ensures room { IsOk result → device_words MIN_FRAMES ≤ (H.counts h.old).size }
+    ensures room { IfOk result (λ geo. IsRoomFor (H.counts h.old).size geo.frames) }
     ensures applies { H.tells → (size : ℕ) → size ≡ (H.counts h.old).size → (s : StoredWorld) → IsRested (H.state h.old).now.words
         → world_of size (reads (H.state h.old).now.words) ≡ Option.Some s → AppliesLog size s (load_fault result) (H.state h.old) (H.state h.new) }
     ensures geo { H.tells → (size : ℕ) → size ≡ (H.counts h.old).size → (s : StoredWorld) → IsRested (H.state h.old).now.words
@@ -85,11 +65,12 @@ pub fn load_sound<H: Host>(h: &mut H) -> Result<Geo, LoadFault>
     ensures any { H.tells → Changes Anything (load_fault result) (H.state h.old) (H.state h.new) }
     ensures cause { H.counts h.new ≡ after_fault (load_fault result) (H.counts h.old) }
 {
-    if !is_sound(h)? {
+    let Some(frames) = sound_frames(h)? else {
         return Err(LoadFault::NotSound);
-    }
+    };
     apply_log(h)?;
-    Ok(read_geo(h)?)
+    let id = h.load(MACHINE_WORD)?;
+    Ok(Geo { frames, id })
 }
 
 /// Applies what the daemon log names, and closes it.
@@ -102,23 +83,3 @@ fn apply_log<H: Host>(h: &mut H) -> Result<(), HostFault>
 {
     settle_log(h, DAEMON_LOG)
 }
-
-/// Empties the log-space table by one batch: no client's logs are registered any more.
-///
-/// The device has that table. The only errors are the host's own.
-pub fn clear_spaces<H: Host>(h: &mut H) -> Result<(), HostFault>
-    requires { PUDDLE_TABLE ≤ (H.counts h.old).size }
-    ensures clears { H.tells → (size : ℕ) → size ≡ (H.counts h.old).size → (s : StoredWorld) → IsSettled size s (H.state h.old).now.words
-        → Clears size s (fault_of result) (H.state h.old) (H.state h.new) }
-    ensures any { H.tells → Changes Anything (fault_of result) (H.state h.old) (H.state h.new) }
-    ensures cause { H.counts h.new ≡ after_fault (fault_of result) (H.counts h.old) }
-{
-    let mut batch = Batch::new();
-    for client in 0..CLIENTS {
-        let _fits = batch.add(SPACE_TABLE + SPACE_RECORD_WORDS * client, &[0]);
-    }
-    batch.commit(h)
-}
-
-#[cfg(test)]
-mod tests;

@@ -1,6 +1,6 @@
 //! Whether a device is a sound registry once its daemon log is replayed. Nothing is replayed and nothing is written: each
 //! word is read as the replay makes it.
-ghost use Rattle.std.specs.Prelude.{◌≡◌, ◌≢◌, ◌+◌, ◌-◌, ◌<◌, ◌≤◌, ◌==◌, ℕ, true, not, ◌&&◌, ◌||◌, nat_lt, nat_le, List, Option, IfOk, IfSome, IsTrue};
+ghost use Rattle.std.specs.Prelude.{◌≡◌, ◌≢◌, ◌+◌, ◌-◌, ◌<◌, ◌≤◌, ◌==◌, ℕ, true, not, ◌&&◌, ◌||◌, nat_lt, nat_le, List, Option, IfOk, IfSome, is_some};
 ghost use Rattle.std.specs.List.{list_all, list_any};
 ghost use Rattle.pm_model.specs.Words.{reads};
 ghost use Rattle.pm_model.specs.Counts.{after_fault, fault_of};
@@ -8,15 +8,15 @@ ghost use Rattle.pud_defs.specs.Image.{Image};
 ghost use Rattle.pud_defs.specs.Layout.{device_words};
 ghost use Rattle.pud_defs.specs.Entries.{Entry as LoggedEntry, Log, log_of, entries_of};
 ghost use Rattle.pud_defs.specs.Replay.{settled_by};
-ghost use Rattle.pud_defs.specs.Spaces.{is_legal_space, is_closed_log, has_closed_logs, are_legal_spaces, are_closed_logs};
-ghost use Rattle.pud_defs.specs.Registry.{frames_of, are_zero, has_legal_number, has_legal_types, may_be_logged, is_allowed, has_legal_log, is_registry, is_sound};
+ghost use Rattle.pud_defs.specs.Spaces.{is_space, is_legal_space, has_closed_logs, are_legal_spaces, are_closed_logs};
+ghost use Rattle.pud_defs.specs.Registry.{frames_of, are_zero, is_number, has_legal_number, has_legal_types, may_be_logged, is_allowed, has_legal_log, is_registry, is_sound};
 ghost use Rattle.log_entry.specs.Reading.{entry_from};
 ghost use Rattle.log_entry.specs.Ranges.{HasRange};
 ghost use Rattle.registry.specs.Overlaying.{IsOverlay};
-ghost use Rattle.registry.specs.Judging.{IsRoomFor, frames_by, frames_described, with_one_more, is_number, is_space, is_closed_space, has_sound_tables, has_sound_spaces};
+ghost use Rattle.registry.specs.Judging.{IsRoomFor, frames_by, frames_described, with_one_more, is_closed_space, has_sound_tables, has_sound_spaces};
 
 use crate::overlay::Overlay;
-use log_entry::{Entry, EntryReader, well_formed};
+use log_entry::{Entry, EntryReader, is_closed_log, well_formed};
 use pm_model::{Host, HostFault};
 use pud_defs::layout::{
     CLIENT_LOGS, CLIENTS, DAEMON_LOG, DEVICE_MAGIC, FRAMES_WORD, LOG_WORDS, MAGIC_WORD, MAX_FRAMES,
@@ -24,7 +24,6 @@ use pud_defs::layout::{
     SPACE_RECORD_WORDS, SPACE_TABLE, TYPE_RECORD_WORDS, TYPE_RECORDS, TYPE_TABLE, VERSION,
     VERSION_WORD, device_words, frames_at, log_at, tables_end,
 };
-use pud_defs::log_words::is_closed_range;
 use pud_defs::type_map::{is_legal_map, is_legal_type_id};
 
 /// The number of frames, by the words that describe a device.
@@ -170,7 +169,7 @@ fn has_legal_types<H: Host>(h: &mut H, overlay: &Overlay) -> Result<bool, HostFa
     ensures cause { H.counts h.new ≡ after_fault (fault_of result) (H.counts h.old) }
     ensures never_cut { fault_of result ≢ Option.Some HostFault.Cut }
 {
-    let mut ids = [0u64; 64];
+    let mut ids = [0u64; TYPE_RECORDS as usize];
     let mut legal = true;
     for done in 0..TYPE_RECORDS {
         let at = TYPE_TABLE + TYPE_RECORD_WORDS * (TYPE_RECORDS - 1 - done);
@@ -241,23 +240,6 @@ fn are_legal_spaces<H: Host>(h: &mut H, overlay: &Overlay) -> Result<bool, HostF
         }
     }
     Ok(true)
-}
-
-/// Whether the log whose gate is word `at` is closed: its range is, and it is well formed. Nothing changes, and the only errors
-/// are the host's own.
-///
-/// The device has all words of the log.
-pub fn is_closed_log<H: Host>(h: &mut H, at: u32) -> Result<bool, HostFault>
-    requires { at + LOG_WORDS ≤ (H.counts h.old).size }
-    ensures closed { H.tells → (image : Image) → reads (H.state h.old).now.words ≡ image → IfOk result (λ closed. closed ≡ is_closed_log image at) }
-    ensures stays { H.tells → H.state h.new ≡ H.state h.old }
-    ensures cause { H.counts h.new ≡ after_fault (fault_of result) (H.counts h.old) }
-    ensures never_cut { fault_of result ≢ Option.Some HostFault.Cut }
-{
-    if !is_closed_range(h.load(at)?) {
-        return Ok(false);
-    }
-    well_formed(h, at)
 }
 
 /// Whether each log of a client is closed, on a device of so many frames. The daemon log can write none of their words.
@@ -377,25 +359,28 @@ fn is_registry<H: Host>(h: &mut H, overlay: &Overlay, frames: u32) -> Result<boo
     Ok(are_both(tables, spaces))
 }
 
-/// Whether the device is a sound registry once its daemon log is replayed. Nothing changes.
-pub fn is_sound<H: Host>(h: &mut H) -> Result<bool, HostFault>
-    ensures sound { H.tells → IfOk result (λ sound. sound ≡ is_sound (H.counts h.old).size (reads (H.state h.old).now.words)) }
-    ensures room { IfOk result (λ sound. IsTrue sound → device_words MIN_FRAMES ≤ (H.counts h.old).size) }
+/// The number of frames of a device that is a sound registry once its daemon log is replayed, or None exactly where it is none.
+/// Nothing changes, and the only errors are the host's own.
+pub fn sound_frames<H: Host>(h: &mut H) -> Result<Option<u32>, HostFault>
+    ensures sound { H.tells → IfOk result (λ found. is_some found ≡ is_sound (H.counts h.old).size (reads (H.state h.old).now.words)) }
+    ensures frames { H.tells → IfOk result (λ found. IfSome found (λ frames. frames ≡ frames_of (reads (H.state h.old).now.words))) }
+    ensures room { IfOk result (λ found. IfSome found (IsRoomFor (H.counts h.old).size)) }
     ensures stays { H.tells → H.state h.new ≡ H.state h.old }
     ensures cause { H.counts h.new ≡ after_fault (fault_of result) (H.counts h.old) }
     ensures never_cut { fault_of result ≢ Option.Some HostFault.Cut }
 {
     if h.words() < device_words(MIN_FRAMES) {
-        return Ok(false);
+        return Ok(None);
     }
-    match described_frames(h)? {
-        None => Ok(false),
-        Some(frames) => {
-            let overlay = Overlay::of(h)?;
-            if !has_legal_log(h, &overlay, frames)? {
-                return Ok(false);
-            }
-            is_registry(h, &overlay, frames)
-        }
+    let Some(frames) = described_frames(h)? else {
+        return Ok(None);
+    };
+    let overlay = Overlay::of(h)?;
+    if !has_legal_log(h, &overlay, frames)? {
+        return Ok(None);
     }
+    if !is_registry(h, &overlay, frames)? {
+        return Ok(None);
+    }
+    Ok(Some(frames))
 }

@@ -1,10 +1,10 @@
 -- What a definition does to the type table.
-use Rattle.std.specs.Prelude.{◌≡◌, ◌⊎◌, ℕ, ◌+◌, ◌<◌, ◌≤◌, ◌==◌, cond, List, Option, Some, None, is_some, Result, Ok, Err}
+use Rattle.std.specs.Prelude.{◌≡◌, ◌⊎◌, ℕ, ◌+◌, ◌<◌, ◌==◌, cond, List, Option, Some, None, is_some, Result, Ok, Err}
 use Rattle.pm_model.specs.declared.host.HostFault.{HostFault}
-use Rattle.pm_model.specs.Words.{Words, Picks, HasOnly}
+use Rattle.pm_model.specs.Words.{Words, Picks}
 use Rattle.pm_model.specs.Moments.{State}
-use Rattle.pm_model.specs.Changes.{Changes, Leaves, Silently, Write, written as may_be_written}
-use Rattle.pud_defs.specs.declared.layout.TheConstants.{TYPE_TABLE, TYPE_RECORDS, POOL_TABLE}
+use Rattle.pm_model.specs.Changes.{Leaves, Silently, Write, Persists}
+use Rattle.pud_defs.specs.declared.layout.TheConstants.{TYPE_RECORDS}
 use Rattle.pud_defs.specs.declared.machine.Refusal.{Refusal}
 use Rattle.pud_defs.specs.declared.machine.Refusal.TheVariants as refusals
 use Rattle.pud_defs.specs.Image.{Image, written}
@@ -76,14 +76,9 @@ pub record IsDefined (words : Words) (r id map : ℕ) (image : Image) : Type 0 w
   pub picked : Picks words before
   pub is : image ≡ defined r id map before
 
--- each word of the type table has one value
-pub record HasDurableTypes (words : Words) : Type 0 where
-  pub each : (k : ℕ) → TYPE_TABLE ≤ k → k < POOL_TABLE → HasOnly (words k) (words k).newest
-
 -- Record r is written, its map word durable before its id word: each image left has the table as it was, or with the map word of the free
 -- record written, or with the record; at Ok each image left has the record.
 pub record Defines (r id map : ℕ) (fault : Option HostFault) (old new : State) : Type 0 where
-  pub changes : Changes (may_be_written (record_write r id map)) fault old new
+  pub persists : Persists (record_write r id map) fault old new
   pub moments : Leaves (Silently (IsDefining old.now.words r id map)) old new
   pub done : fault ≡ None → (image : Image) → Picks new.now.words image → IsDefined old.now.words r id map image
-  pub durable : fault ≡ None → HasDurableTypes old.now.words → HasDurableTypes new.now.words

@@ -1,24 +1,44 @@
-use Rattle.std.proofs.Common.{◌≡◌, ℕ, Some, None, sym, subst, ◌∙◌}
-use Rattle.std.specs.Prelude.{IfOk}
-use Rattle.std.proofs.lemmas.Bool.{cond-true}
+use Rattle.std.proofs.Common.{◌≡◌, ℕ, ◌+◌, ◌-◌, true, false, option_map, sym, ap, ◌∙◌, arith}
 use Rattle.pm_model.specs.Words.{reads}
 use Rattle.pm_model.specs.Moments.{State}
-use Rattle.log_space.specs.FreeLogs.{first_closed}
-use Rattle.log_space.proofs.Rooms.{frames_of_world, room_of_world}
+use Rattle.pm_model.specs.Counts.{after_fault, fault_of}
+use Rattle.pud_defs.specs.declared.layout.TheConstants.{CLIENT_LOGS}
+use Rattle.pud_defs.specs.Layout.{log_at}
+use Rattle.pud_defs.specs.Spaces.{is_closed_log}
+use Rattle.log_space.specs.FreeLogs.{log_number}
+use Rattle.log_space.proofs.FirstFrom.{first_from-passes, first_from-fails, first_from-none}
 use Rattle.log_space.proofs.free_log.Goals as goal
 
-pub returns-in-None-clause-lowest : goal.returns-in-None-clause-lowest
-returns-in-None-clause-lowest g c = λ t size same s world.
+pub returns-then-branch-clause-lowest : goal.returns-then-branch-clause-lowest
+returns-then-branch-clause-lowest g c = λ t.
+    let number = c.loop-number.number in
+    let before = c.loop-number.invariant in
     let image = reads (g.H.Host.state c.args.h.now).now.words in
-    let room = room_of_world size image s c.words-words.result c.in_ok-frames.frames world (c.words-words.ensures.size ∙ sym same) (c.in_ok-frames.ensures.value t) in
-    absurd (let it : None ≡ Some c.in_ok-frames.frames = sym c.in-None.is ∙ c.frames_with_room.ensures ∙ cond-true _ _ _ room in cc)
+    let test = λ (k : ℕ). is_closed_log image (log_at c.args.frames c.args.slot k) in
+    let within = c.loop-number-test.true in
+    let passes : test number ≡ true =
+    sym (c.in_ok-is_closed_log.ensures.closed t image (ap (λ (s : State). reads s.now.words) (before.stays t)) ∙ ap (is_closed_log image) c.log_at.ensures) ∙ c.if-branch.true in
+    sym (ap (option_map (log_number c.args.slot)) (before.passed t ∙ first_from-passes number (CLIENT_LOGS - number) test (omega arith) passes))
 
-pub returns-in-Some-clause-lowest : goal.returns-in-Some-clause-lowest
-returns-in-Some-clause-lowest g c = λ t size same s world.
-    let image = reads (g.H.Host.state c.args.h.now).now.words in
-    let room = room_of_world size image s c.words-words.result c.in_ok-frames.frames world (c.words-words.ensures.size ∙ sym same) (c.in_ok-frames.ensures.value t) in
-    let it : Some c.in-Some.frames ≡ Some c.in_ok-frames.frames = sym c.in-Some.is ∙ c.frames_with_room.ensures ∙ cond-true _ _ _ room in
-    let read : c.in-Some.frames ≡ c.in_ok-frames.frames = cc in
-    let frames : c.in-Some.frames ≡ s.frames = read ∙ c.in_ok-frames.ensures.value t ∙ frames_of_world size image s world in
-    subst (λ (F : ℕ). IfOk c.first_closed.result (λ found. found ≡ first_closed image F c.args.slot)) frames
-    (subst (λ (st : State). IfOk c.first_closed.result (λ found. found ≡ first_closed (reads st.now.words) c.in-Some.frames c.args.slot)) (c.in_ok-frames.ensures.state t) (c.first_closed.ensures.first t))
+pub loop-number-preserved : goal.loop-number-preserved
+loop-number-preserved g c =
+    let number = c.loop-number.number in
+    let before = c.loop-number.invariant in
+    record {
+      counts = c.is_closed_log.ensures.cause ∙ ap (λ r. after_fault (fault_of r) (g.H.Host.counts c.loop-number.h)) c.in_ok-is_closed_log.was ∙ before.counts;
+      stays = λ t. c.is_closed_log.ensures.stays t ∙ before.stays t;
+      passed = λ t.
+          let image = reads (g.H.Host.state c.args.h.now).now.words in
+          let test = λ (k : ℕ). is_closed_log image (log_at c.args.frames c.args.slot k) in
+          let within = c.loop-number-test.true in
+          let fails : test number ≡ false =
+          sym (c.in_ok-is_closed_log.ensures.closed t image (ap (λ (s : State). reads s.now.words) (before.stays t)) ∙ ap (is_closed_log image) c.log_at.ensures) ∙ c.if-branch.false in
+          before.passed t ∙ first_from-fails number (CLIENT_LOGS - number) (CLIENT_LOGS - (number + 1)) test (omega arith) fails;
+    }
+
+pub returns-clause-lowest : goal.returns-clause-lowest
+returns-clause-lowest g c = λ t.
+    let number = c.loop-number.number in
+    let test = λ (k : ℕ). is_closed_log (reads (g.H.Host.state c.args.h.now).now.words) (log_at c.args.frames c.args.slot k) in
+    let past = c.loop-number-test.false in
+    sym (ap (option_map (log_number c.args.slot)) (c.loop-number.invariant.passed t ∙ first_from-none number (CLIENT_LOGS - number) test (omega arith)))

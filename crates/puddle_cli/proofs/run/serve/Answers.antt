@@ -11,7 +11,8 @@ pub loop-taken-init : goal.loop-taken-init
 loop-taken-init g c = record {
   counts = Grows-still _ _ refl;
   takes = λ t. Takes-start _ _ refl;
-  serves = λ t size e w ready. rw c.new-piece.ensures (Serves-start size w _ _ _ refl ready);
+  serves = λ t size e w ready. rw c.new-piece.ensures (Serves-start size w _ _ _ _ refl ready);
+  room = c.requires;
 }
 
 pub returns-in_err-answer-clause-answered : goal.returns-in_err-answer-clause-answered
@@ -21,15 +22,15 @@ returns-in_err-answer-clause-answered g c = λ t size e w ready.
     let s = c.in_ok-serve_byte.ensures.serves t size same w _ _ (c.loop-taken.invariant.serves t size e w ready) in
     let line = c.in_err-answer.ensures.answers t size (same ∙ sym (size_of_ends _ _ _ c.in_ok-serve_byte.ensures.cause)) (last_world w s.turns) s.ready (open_rest s.taken) s.under_way in
     subst (λ (r : Result Bool RunFault). AnsweredBy size w r (g.H.Host.counts c.args.h.now) (g.H.Host.counts c.answer.new.h) (g.H.Host.state c.args.h.now) (g.H.Host.state c.answer.new.h)) (sym p.1)
-    (rw p.2 (true, Answered-last size w _ _ _ _ _ _ _ refl s _ _ _ refl (c.in_ok-serve_byte.ensures.ended t c.if-not-branch.true) line))
+    (rw p.2 (true, Answered-last size w _ _ _ _ _ _ _ _ refl s _ _ _ _ refl (c.in_ok-serve_byte.ensures.ended t c.if-not-branch.true) line))
 
 pub returns-then-not-branch-clause-answered : goal.returns-then-not-branch-clause-answered
 returns-then-not-branch-clause-answered g c = λ t size e w ready.
     let same = e ∙ sym c.loop-taken.invariant.counts.size in
     let s = c.in_ok-serve_byte.ensures.serves t size same w _ _ (c.loop-taken.invariant.serves t size e w ready) in
     let line = c.in_ok-answer.ensures.answers t size (same ∙ sym (size_of_ends _ _ _ c.in_ok-serve_byte.ensures.cause)) (last_world w s.turns) s.ready (open_rest s.taken) s.under_way in
-    Answered-end size w _ _ _ _ _ _ _ refl s _ _ refl (c.in_ok-serve_byte.ensures.ended t c.if-not-branch.true) line
+    Answered-end size w _ _ _ _ _ _ _ _ refl s _ _ _ refl (c.in_ok-serve_byte.ensures.ended t c.if-not-branch.true) line
 
 pub returns-clause-answered : goal.returns-clause-answered
 returns-clause-answered g c = λ t size e w ready.
-    Answered-so_far size w _ _ _ _ _ _ _ refl (c.loop-taken.invariant.serves t size e w ready) None _ refl (λ lost. cc, refl) none_is_sound
+    Answered-so_far size w _ _ _ _ _ _ _ _ refl (c.loop-taken.invariant.serves t size e w ready) None _ refl (λ lost. cc, refl) none_is_sound

@@ -1,4 +1,5 @@
-use Rattle.std.proofs.Common.{◌≡◌, ℕ}
+use Rattle.std.proofs.Common.{◌≡◌, ◌≤◌, ℕ}
+use Rattle.pud_defs.specs.Layout.{device_words}
 use Rattle.pud_defs.specs.World.{World}
 use Rattle.puddled.specs.Faults.{Grows}
 use Rattle.puddled.specs.Daemon.{IsReady}
@@ -9,6 +10,7 @@ abbrev pub invariant-loop-taken : goal.invariant-loop-taken
 invariant-loop-taken g l = record {
   counts : Grows (g.H.Host.counts l.initial.h) (g.H.Host.counts l.h);
   takes : g.H.Host.tells → Takes l._taken (g.H.Host.state l.initial.h) (g.H.Host.state l.h);
-  serves : g.H.Host.tells → (size : ℕ) → size ≡ (g.H.Host.counts l.initial.h).size → (w : World) → IsReady size w (g.H.Host.state l.initial.h)
-      → Serves size w (g.H.Host.counts l.initial.h) (g.H.Host.state l.initial.h) (g.H.Host.counts l.h) (g.H.Host.state l.h) l.piece;
+  serves : g.H.Host.tells → (size : ℕ) → size ≡ (g.H.Host.counts l.initial.h).size → (w : World) → IsReady size w l.initial.daemon (g.H.Host.state l.initial.h)
+      → Serves size w (g.H.Host.counts l.initial.h) (g.H.Host.state l.initial.h) (g.H.Host.counts l.h) l.daemon (g.H.Host.state l.h) l.piece;
+  room : device_words l.daemon.frames ≤ (g.H.Host.counts l.initial.h).size;
 }

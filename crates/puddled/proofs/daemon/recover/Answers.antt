@@ -1,30 +1,30 @@
-use Rattle.std.proofs.Common.{ℕ, None, Some, refl, sym, ap, ◌∙◌}
+use Rattle.std.proofs.Common.{ℕ, refl, sym, ap, ◌∙◌}
 use Rattle.std.proofs.lemmas.Result.{err_from_is_err_and}
 use Rattle.pm_model.specs.Words.{reads}
 use Rattle.pm_model.specs.Counts.{Counts}
 use Rattle.pud_defs.specs.World.{world_of, closed}
-use Rattle.puddled.proofs.Restarts.{Recovers-load, Recovers-clears, sound_load}
+use Rattle.puddled.proofs.Restarts.{Recovers-load, Recovers-done, Recovers-uncleared, sound_load}
 use Rattle.puddled.proofs.daemon.recover.Goals as goal
 
-pub returns-in_err-load_sound-clause-recovers : goal.returns-in_err-load_sound-clause-recovers
-returns-in_err-load_sound-clause-recovers g c =
+pub returns-in_err-geo-clause-recovers : goal.returns-in_err-geo-clause-recovers
+returns-in_err-geo-clause-recovers g c =
     let p = err_from_is_err_and c.from_residual.result c.from_residual.ensures.1 in
     rw (p.1, p.2) (λ t size same w rested world shelf.
     let a = g.H.Host.state c.args.h.now in
-    let fault = c.in_err-load_sound.field-0.0 in
+    let fault = c.in_err-geo.field-0.0 in
     let here = ap (λ (n : ℕ). world_of n (reads a.now.words)) (sym same) ∙ world in
-    Recovers-load size w fault a _ (sound_load _ w fault a here (c.in_err-load_sound.ensures.not_sound t)) (c.in_err-load_sound.ensures.applies t size same (closed w) rested world))
+    Recovers-load size w fault a _ (sound_load _ w fault a here (c.in_err-geo.ensures.not_sound t)) (c.in_err-geo.ensures.applies t size same (closed w) rested world))
 
 pub returns-in_err-clear_spaces-clause-recovers : goal.returns-in_err-clear_spaces-clause-recovers
 returns-in_err-clear_spaces-clause-recovers g c =
     let p = err_from_is_err_and c.from_residual-in_err-clear_spaces.result c.from_residual-in_err-clear_spaces.ensures.1 in
     rw (p.1, p.2) (λ t size same w rested world shelf.
-    let applied = c.in_ok-load_sound.ensures.applies t size same (closed w) rested world in
-    let after = same ∙ sym (ap (λ (n : Counts). n.size) c.in_ok-load_sound.ensures.cause) in
-    Recovers-clears size w (Some c.in_err-clear_spaces.field-0.0) _ _ _ shelf applied (c.in_err-clear_spaces.ensures.clears t size after (closed w) (applied.settled refl)))
+    let applied = c.in_ok-geo.ensures.applies t size same (closed w) rested world in
+    let after = same ∙ sym (ap (λ (n : Counts). n.size) c.in_ok-geo.ensures.cause) in
+    Recovers-uncleared size w c.in_err-clear_spaces.field-0.0 _ _ _ shelf applied (c.in_err-clear_spaces.ensures.clears t size after (closed w) (applied.settled refl)))
 
 pub returns-clause-recovers : goal.returns-clause-recovers
 returns-clause-recovers g c = λ t size same w rested world shelf.
-    let applied = c.in_ok-load_sound.ensures.applies t size same (closed w) rested world in
-    let after = same ∙ sym (ap (λ (n : Counts). n.size) c.in_ok-load_sound.ensures.cause) in
-    Recovers-clears size w None _ _ _ shelf applied (c.in_ok-clear_spaces.ensures.clears t size after (closed w) (applied.settled refl))
+    let applied = c.in_ok-geo.ensures.applies t size same (closed w) rested world in
+    let after = same ∙ sym (ap (λ (n : Counts). n.size) c.in_ok-geo.ensures.cause) in
+    Recovers-done size w _ _ _ _ shelf applied (c.in_ok-clear_spaces.ensures.clears t size after (closed w) (applied.settled refl)) (c.in_ok-geo.ensures.geo t size same (closed w) rested world).0

@@ -4,8 +4,7 @@ use Rattle.std.proofs.lemmas.Bool.{and_left}
 use Rattle.pm_model.specs.Words.{reads}
 use Rattle.pm_model.specs.Moments.{State}
 use Rattle.pud_defs.specs.declared.layout.TheConstants.{DAEMON_LOG}
-use Rattle.pud_defs.specs.Image.{Image}
-use Rattle.pud_defs.specs.Entries.{Entry, Log, log_of}
+use Rattle.pud_defs.specs.Entries.{log_of}
 use Rattle.pud_defs.specs.Registry.{is_allowed}
 use Rattle.log_entry.proofs.Left.{IsReading-start, IsReading-more, MakesWhole-start, MakesWhole-more, MakesWhole-decided, MakesWhole-end}
 use Rattle.registry.proofs.soundness.are_allowed.Goals as goal

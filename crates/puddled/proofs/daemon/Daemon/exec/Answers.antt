@@ -1,16 +1,16 @@
-use Rattle.std.proofs.Common.{None, Some, Ok, Err, refl, ap, ◌∙◌}
+use Rattle.std.proofs.Common.{None, Some, Ok, Err, refl, ap, subst, ◌∙◌}
 use Rattle.std.proofs.lemmas.Result.{err_from_is_err_and}
 use Rattle.pm_model.specs.Counts.{Counts}
-use Rattle.puddled.specs.Faults.{of_host}
+use Rattle.puddled.specs.Faults.{of_host, HasLostPower}
 use Rattle.puddled.proofs.Counted.{not_none, none_is_sound, counted_say, counted_same, host_is_sound}
-use Rattle.puddled.proofs.Lines.{Answers-fault, Answers-unsaid, Answers-said, KeepsRest-says, sound_said}
+use Rattle.puddled.proofs.Lines.{Answers-fault, Answers-unsaid, Answers-said, KeepsLine-says, sound_said}
 use Rattle.puddled.proofs.daemon.Daemon.exec.Goals as goal
 use Rattle.puddled.proofs.daemon.Daemon.exec.Goals.{then-aloud+in_ok-say_reply, else-aloud}
 
 pub returns-in_err-reply-clause-answers : goal.returns-in_err-reply-clause-answers
 returns-in_err-reply-clause-answers g c =
     let p = err_from_is_err_and c.from_residual.result c.from_residual.ensures.1 in
-    rw (p.1, p.2) (λ t size e w ready. Answers-fault size w c.args.line.now c.args.aloud _ _ _ _ _ (c.in_err-reply.ensures.settles t size e w ready))
+    rw (p.1, p.2) (λ t size e w ready. Answers-fault size w _ c.args.line.now c.args.aloud _ _ _ _ _ (c.in_err-reply.ensures.settles t size e w ready))
 
 pub returns-in_err-say_reply-clause-answers : goal.returns-in_err-say_reply-clause-answers
 returns-in_err-say_reply-clause-answers g c =
@@ -18,23 +18,15 @@ returns-in_err-say_reply-clause-answers g c =
     rw (p.1, p.2, c.if-aloud.true) (λ t size e w ready.
     let s = c.in_ok-reply.ensures.settles t size e w ready in
     let fault = c.in_err-say_reply.field-0.0 in
-    Answers-said size w c.args.line.now _ _ _ _ _ _ _ s (Err (of_host fault)) (Some fault) (c.in_err-say_reply.ensures.says t) (λ no. absurd (not_none (of_host fault) no)) tt (host_is_sound fault)
+    Answers-said size w _ c.args.line.now _ _ _ _ _ _ _ s (Err (of_host fault)) (Some fault) (c.in_err-say_reply.ensures.says t) (λ no. absurd (not_none (of_host fault) no)) tt (host_is_sound fault)
     (counted_say _ fault _ _ _ _ s.counted c.in_err-say_reply.ensures.cause c.in_err-say_reply.ensures.never_cut))
 
 pub returns-clause-restarted : goal.returns-clause-restarted
 returns-clause-restarted g c = λ t. elim c.if-aloud.branch [
   | then-aloud+in_ok-say_reply b ↦
       rw b.h-is (λ _ moved. sound_said _ _ _ _ _ (b.in_ok-say_reply.ensures.says t)
-      (c.in_ok-reply.ensures.restarted t refl (λ same. moved (ap (λ (x : Counts). x.cuts) b.in_ok-say_reply.ensures.cause ∙ same))))
+      (c.in_ok-reply.ensures.restarted t refl (subst (λ (x : Counts). HasLostPower (g.H.Host.counts c.args.h.now) x) b.in_ok-say_reply.ensures.cause moved)))
   | else-aloud b ↦ rw b.h-is (λ _ moved. c.in_ok-reply.ensures.restarted t refl moved)
-]
-
-pub returns-clause-restarted_at_once : goal.returns-clause-restarted_at_once
-returns-clause-restarted_at_once g c = λ t. elim c.if-aloud.branch [
-  | then-aloud+in_ok-say_reply b ↦
-      rw b.h-is (λ _ moved. sound_said _ _ _ _ _ (b.in_ok-say_reply.ensures.says t)
-      (c.in_ok-reply.ensures.restarted_at_once t refl (λ same. moved (ap (λ (x : Counts). x.losses) b.in_ok-say_reply.ensures.cause ∙ same))))
-  | else-aloud b ↦ rw b.h-is (λ _ moved. c.in_ok-reply.ensures.restarted_at_once t refl moved)
 ]
 
 pub returns-clause-answers : goal.returns-clause-answers
@@ -42,9 +34,9 @@ returns-clause-answers g c = λ t size e w ready.
     let s = c.in_ok-reply.ensures.settles t size e w ready in
     elim c.if-aloud.branch [
       | then-aloud+in_ok-say_reply b ↦
-          rw (b.if-aloud.true, b.h-is) (Answers-said size w c.args.line.now _ _ _ _ _ _ _ s (Ok c.is_ok.result) None (b.in_ok-say_reply.ensures.says t) (λ _. refl)
+          rw (b.if-aloud.true, b.h-is) (Answers-said size w _ c.args.line.now _ _ _ _ _ _ _ s (Ok c.is_ok.result) None (b.in_ok-say_reply.ensures.says t) (λ _. refl)
           c.is_ok.ensures (none_is_sound) (counted_same _ _ _ _ _ _ s.counted b.in_ok-say_reply.ensures.cause))
-      | else-aloud b ↦ rw (b.if-aloud.false, b.h-is) (Answers-unsaid size w c.args.line.now _ c.is_ok.result _ _ _ _ s c.is_ok.ensures)
+      | else-aloud b ↦ rw (b.if-aloud.false, b.h-is) (Answers-unsaid size w _ c.args.line.now _ c.is_ok.result _ _ _ _ s c.is_ok.ensures)
     ]
 
 pub returns-in_err-say_reply-clause-cause : goal.returns-in_err-say_reply-clause-cause
@@ -53,10 +45,10 @@ returns-in_err-say_reply-clause-cause g c =
     rw (p.1, p.2) (counted_say _ c.in_err-say_reply.field-0.0 _ _ _ _ c.in_ok-reply.ensures.cause c.in_err-say_reply.ensures.cause c.in_err-say_reply.ensures.never_cut)
 
 pub returns-in_err-say_reply-clause-rest : goal.returns-in_err-say_reply-clause-rest
-returns-in_err-say_reply-clause-rest g c = λ t. KeepsRest-says _ _ _ _ _ (c.in_ok-reply.ensures.rest t) (c.in_err-say_reply.ensures.says t)
+returns-in_err-say_reply-clause-rest g c = λ t. KeepsLine-says _ _ _ _ _ _ (c.in_ok-reply.ensures.rest t) (c.in_err-say_reply.ensures.says t)
 
 pub returns-clause-rest : goal.returns-clause-rest
 returns-clause-rest g c = λ t. elim c.if-aloud.branch [
-  | then-aloud+in_ok-say_reply b ↦ rw b.h-is (KeepsRest-says _ _ _ _ _ (c.in_ok-reply.ensures.rest t) (b.in_ok-say_reply.ensures.says t))
+  | then-aloud+in_ok-say_reply b ↦ rw b.h-is (KeepsLine-says _ _ _ _ _ _ (c.in_ok-reply.ensures.rest t) (b.in_ok-say_reply.ensures.says t))
   | else-aloud b ↦ rw b.h-is (c.in_ok-reply.ensures.rest t)
 ]

@@ -1,0 +1,151 @@
+-- What an image with nothing to replay holds of a world, part by part, and the words that each part is read from.
+use Rattle.std.proofs.Common.{◌≡◌, ◌⊎◌, inl, inr, ⊎_elim, ℕ, ◌<◌, ◌≤◌, true, List, ap, ◌∙◌, arith, zero-le}
+use Rattle.std.proofs.lemmas.Bool.{cases_lt}
+use Rattle.pud_defs.specs.declared.layout.TheConstants.{DEVICE_MAGIC, VERSION, MIN_FRAMES, MAX_FRAMES, NUMBER_LIMIT, MAGIC_WORD, VERSION_WORD, MACHINE_WORD, FRAMES_WORD, NEXT_NUMBER_WORD, DAEMON_LOG, TYPE_TABLE, POOL_TABLE, SPACE_TABLE, PUDDLE_TABLE, TYPE_RECORDS}
+use Rattle.pud_defs.specs.Layout.{tables_end, frames_at, device_words}
+use Rattle.pud_defs.specs.Image.{Image}
+use Rattle.pud_defs.specs.Types.{type_table, types_of, by_id, are_legal_types}
+use Rattle.pud_defs.specs.Spaces.{are_legal_spaces, are_closed_logs}
+use Rattle.pud_defs.specs.World.{StoredWorld}
+use Rattle.pud_defs.proofs.Spaces.{are_legal_spaces-same, are_closed_logs-same}
+use Rattle.pud_defs.proofs.TypeTable.{type_records_same}
+
+-- the words that describe the device; the types; the pools; the log spaces, with the clients' logs; the puddles
+pub data Part : Type 0 where
+  Header : Part
+  Types : Part
+  Pools : Part
+  Spaces : Part
+  Puddles : Part
+
+-- the word lies from one on and before another
+pub record IsWithin (from end k : ℕ) : Type 0 where
+  pub low : from ≤ k
+  pub high : k < end
+
+-- the words that a part is read from, on a device of so many frames
+abbrev pub IsReadBy : ℕ → Part → ℕ → Type 0
+IsReadBy F Header k = IsWithin 0 DAEMON_LOG k
+IsReadBy F Types k = IsWithin TYPE_TABLE POOL_TABLE k
+IsReadBy F Pools k = IsWithin POOL_TABLE SPACE_TABLE k
+IsReadBy F Spaces k = IsWithin SPACE_TABLE PUDDLE_TABLE k ⊎ IsWithin (tables_end F) (frames_at F) k
+IsReadBy F Puddles k = IsWithin PUDDLE_TABLE (tables_end F) k
+
+pub record HasHeader (size F id number : ℕ) (image : Image) : Type 0 where
+  pub magic : image MAGIC_WORD ≡ DEVICE_MAGIC
+  pub version : image VERSION_WORD ≡ VERSION
+  pub machine : image MACHINE_WORD ≡ id
+  pub frames : image FRAMES_WORD ≡ F
+  pub next_number : image NEXT_NUMBER_WORD ≡ number
+  pub enough_frames : MIN_FRAMES ≤ F
+  pub no_more_frames : F ≤ MAX_FRAMES
+  pub room : device_words F ≤ size
+  pub number_low : 1 ≤ number
+  pub number_high : number ≤ NUMBER_LIMIT
+
+pub record HasTypes (ts : List (ℕ × ℕ)) (image : Image) : Type 0 where
+  pub types : types_of image ≡ ts
+  pub legal : are_legal_types (type_table image) ≡ true
+
+pub record HasSpaces (F : ℕ) (image : Image) : Type 0 where
+  pub spaces : are_legal_spaces image ≡ true
+  pub logs : are_closed_logs image F ≡ true
+
+-- no record of a table is used: its words are 0
+pub record IsEmpty (from end : ℕ) (image : Image) : Type 0 where
+  pub each : (k : ℕ) → from ≤ k → k < end → image k ≡ 0
+
+-- what the part holds of a world, on a device of so many words
+abbrev pub Holds : Part → ℕ → StoredWorld → Image → Type 0
+Holds Header size s image = HasHeader size s.frames s.machine s.next_number image
+Holds Types size s image = HasTypes s.types image
+Holds Pools size s image = IsEmpty POOL_TABLE SPACE_TABLE image
+Holds Spaces size s image = HasSpaces s.frames image
+Holds Puddles size s image = IsEmpty PUDDLE_TABLE (tables_end s.frames) image
+
+IsEmpty-same : (from end : ℕ) (i j : Image) → ((k : ℕ) → IsWithin from end k → j k ≡ i k) → IsEmpty from end i → IsEmpty from end j
+IsEmpty-same from end i j same h = record { each = λ k low high. same k (record { low = low; high = high }) ∙ h.each k low high }
+
+-- the same words, the same part
+pub Holds-same : (p : Part) (size : ℕ) (s : StoredWorld) (i j : Image) → ((k : ℕ) → IsReadBy s.frames p k → j k ≡ i k) → Holds p size s i → Holds p size s j
+Holds-same Header size s i j same h =
+    let at : (k : ℕ) → k < DAEMON_LOG → j k ≡ i k = λ k below. same k (record { low = zero-le; high = below }) in
+    record {
+      magic = at MAGIC_WORD (omega arith) ∙ h.magic;
+      version = at VERSION_WORD (omega arith) ∙ h.version;
+      machine = at MACHINE_WORD (omega arith) ∙ h.machine;
+      frames = at FRAMES_WORD (omega arith) ∙ h.frames;
+      next_number = at NEXT_NUMBER_WORD (omega arith) ∙ h.next_number;
+      enough_frames = h.enough_frames;
+      no_more_frames = h.no_more_frames;
+      room = h.room;
+      number_low = h.number_low;
+      number_high = h.number_high;
+    }
+Holds-same Types size s i j same h =
+    let table : type_table j ≡ type_table i = type_records_same j i 0 TYPE_RECORDS (λ k low high. same k (record { low = omega arith; high = omega arith })) in
+    record { types = ap by_id table ∙ h.types; legal = ap are_legal_types table ∙ h.legal }
+Holds-same Pools size s i j same h = IsEmpty-same POOL_TABLE SPACE_TABLE i j same h
+Holds-same Spaces size s i j same h = record {
+  spaces = are_legal_spaces-same j i (λ k low high. same k (inl (record { low = low; high = high }))) ∙ h.spaces;
+  logs = are_closed_logs-same j i s.frames (λ k low high. same k (inl (record { low = low; high = high }))) (λ k low high. same k (inr (record { low = low; high = high }))) ∙ h.logs;
+}
+Holds-same Puddles size s i j same h = IsEmpty-same PUDDLE_TABLE (tables_end s.frames) i j same h
+
+-- each part is read from words beside the daemon log and before the frames
+pub record IsOfParts (F k : ℕ) : Type 0 where
+  pub beside : (k < DAEMON_LOG) ⊎ (TYPE_TABLE ≤ k)
+  pub before : k < frames_at F
+
+pub part_place : (F : ℕ) (p : Part) (k : ℕ) → IsReadBy F p k → IsOfParts F k
+part_place F Header k of = let high = of.high in record { beside = inl high; before = omega arith }
+part_place F Types k of = let low = of.low in let high = of.high in record { beside = inr low; before = omega arith }
+part_place F Pools k of = let low = of.low in let high = of.high in record { beside = inr (omega arith); before = omega arith }
+part_place F Spaces k (inl of) = let low = of.low in let high = of.high in record { beside = inr (omega arith); before = omega arith }
+part_place F Spaces k (inr of) = let low = of.low in let high = of.high in record { beside = inr (omega arith); before = high }
+part_place F Puddles k of = let low = of.low in let high = of.high in record { beside = inr (omega arith); before = omega arith }
+
+-- An image with nothing to replay stands for this world, on a device of so many words.
+pub record StandsFor (size : ℕ) (image : Image) (s : StoredWorld) : Type 0 where
+  pub holds : (p : Part) → Holds p size s image
+
+-- ---- images that agree
+
+-- on all that is read
+pub standing_same : (size : ℕ) (i j : Image) (s : StoredWorld) → StandsFor size i s → ((k : ℕ) → (k < DAEMON_LOG) ⊎ (TYPE_TABLE ≤ k) → k < frames_at s.frames → j k ≡ i k) → StandsFor size j s
+standing_same size i j s h same = record {
+  holds = λ p. Holds-same p size s i j (λ k of. let at = part_place s.frames p k of in same k at.beside at.before) (h.holds p);
+}
+
+-- but in the type table, which holds these types
+module _ (size : ℕ) (i j : Image) (s : StoredWorld) (ts : List (ℕ × ℕ)) (h : StandsFor size i s) (same : (k : ℕ) → (TYPE_TABLE ≤ k → k < POOL_TABLE → ⊥) → j k ≡ i k) (now : HasTypes ts j) where
+  with_types : (p : Part) → Holds p size (record s { types = ts }) j
+  with_types Types = now
+  with_types Spaces =
+      Holds-same Spaces size s i j
+      (λ k of. same k (λ low high. ⊎_elim (λ table. let from = table.low in omega arith) (λ logs. let from = logs.low in omega arith) of))
+      (h.holds Spaces)
+  with_types p = Holds-same p size s i j (λ k of. same k (λ low high. let from = of.low in let to = of.high in omega arith)) (h.holds p)
+
+  pub standing_with_types : StandsFor size j (record s { types = ts })
+  standing_with_types = record { holds = with_types }
+
+-- but in the log-space table and the clients' logs, which hold these spaces
+module _ (size : ℕ) (i j : Image) (s : StoredWorld) (h : StandsFor size i s) (same : (k : ℕ) → k < tables_end s.frames → (SPACE_TABLE ≤ k → k < PUDDLE_TABLE → ⊥) → j k ≡ i k) (now : HasSpaces s.frames j) where
+  with_spaces : (p : Part) → Holds p size s j
+  with_spaces Spaces = now
+  with_spaces p =
+      Holds-same p size s i j
+      (λ k of. let from = of.low in let to = of.high in same k (omega arith) (λ low high. omega arith))
+      (h.holds p)
+
+  pub standing_with_spaces : StandsFor size j s
+  standing_with_spaces = record { holds = with_spaces }
+
+pub standing_spaces : (size : ℕ) (i j : Image) (s : StoredWorld) → StandsFor size i s → ((k : ℕ) → k < SPACE_TABLE → j k ≡ i k) → ((k : ℕ) → PUDDLE_TABLE ≤ k → k < frames_at s.frames → j k ≡ i k)
+    → are_legal_spaces j ≡ true → are_closed_logs j s.frames ≡ true → StandsFor size j s
+standing_spaces size i j s h below behind spaces logs =
+    standing_with_spaces size i j s h (λ k before not. elim (cases_lt k SPACE_TABLE) [
+      | inl low ↦ below k low
+      | inr from ↦ elim (cases_lt k PUDDLE_TABLE) [ inl to ↦ absurd (not from to) | inr high ↦ behind k high (omega arith) ]
+    ]) (record { spaces = spaces; logs = logs })

@@ -1,0 +1,49 @@
+-- What the program does, by the mode that its words ask for.
+use Rattle.std.specs.Prelude.{◌≡◌, ◌≢◌, ◌⊎◌, ◌↔◌, ℕ, IsTrue, false, Option, Some, None}
+use Rattle.pm_model.specs.Words.{IsRested, reads}
+use Rattle.pm_model.specs.Moments.{State}
+use Rattle.pm_model.specs.Counts.{Counts, Rose, after_fault}
+use Rattle.pud_defs.specs.World.{World, no_clients, world_of, closed}
+use Rattle.puddle_cli.specs.declared.command_line.Mode.{Mode}
+use Rattle.puddle_cli.specs.declared.command_line.Mode.TheVariants.{Format, Run}
+use Rattle.puddle_cli.specs.declared.status.TheConstants.{DONE, USAGE, NOT_USABLE, TOO_LONG}
+use Rattle.puddle_cli.specs.Status.{status_fault, IsStatusOfMode}
+use Rattle.puddle_cli.specs.Formatting.{is_refused, Formats}
+use Rattle.puddle_cli.specs.Headline.{TakesScript, Headline}
+
+-- neither count of the host rose: no call failed, and power was not lost
+pub record NoneRose (before after : Counts) : Type 0 where
+  pub faults : Rose before.faults after.faults → ⊥
+  pub cuts : Rose before.cuts after.cuts → ⊥
+
+-- The mode `format F ID`. It is refused exactly where the device may not be formatted, which then stays; else the device is formatted, or a
+-- fault comes between, at every moment of which the device is not sound or blank. Where the device may be formatted and neither count rose it is
+-- done.
+pub record FormatsDevice (F id status : ℕ) (before after : Counts) (old new : State) : Type 0 where
+  pub not_usable : status_fault status ≡ None → (status ≡ NOT_USABLE) ↔ IsTrue (is_refused before.size F (reads old.now.words))
+  pub stays : status ≡ NOT_USABLE → new ≡ old
+  pub formats : status ≢ NOT_USABLE → Formats before.size F id (status_fault status) old new
+  pub completes : is_refused before.size F (reads old.now.words) ≡ false → NoneRose before after → status ≡ DONE
+
+-- The mode `run`. On a device that was rested it is refused exactly where what the device reads is not sound, and the device then stays; where
+-- it is sound and neither count rose the script was run. From a rested device that stands for a world without clients there is one run of the
+-- machine that the headline speaks of.
+pub record RunsScript (status : ℕ) (before after : Counts) (old new : State) : Type 0 where
+  pub takes : TakesScript status old new
+  pub not_usable : IsRested old.now.words → status_fault status ≡ None → (status ≡ NOT_USABLE) ↔ (world_of before.size (reads old.now.words) ≡ None)
+  pub stays : IsRested old.now.words → status ≡ NOT_USABLE → new ≡ old
+  pub completes : IsRested old.now.words → world_of before.size (reads old.now.words) ≢ None → NoneRose before after → (status ≡ DONE) ⊎ (status ≡ TOO_LONG)
+  pub headline : (w : World) → w.clients ≡ no_clients → IsRested old.now.words → old.shelf ≡ w.shelf
+      → world_of before.size (reads old.now.words) ≡ Some (closed w) → Headline before.size w status before after old new
+
+-- The statuses of each mode, and what a mode without lines counts: over words that are no mode nothing, and for `format` the host's one fault.
+abbrev pub EndsBy : Option Mode → ℕ → Counts → Counts → Type 0
+EndsBy None status before after = (status ≡ USAGE) × (after ≡ before)
+EndsBy (Some (Format F id)) status before after = IsStatusOfMode status × (status ≢ TOO_LONG) × (after ≡ after_fault (status_fault status) before)
+EndsBy (Some Run) status before after = IsStatusOfMode status
+
+-- what each mode does; words that are no mode leave all as it was
+abbrev pub DoesBy : Option Mode → ℕ → Counts → Counts → State → State → Type 0
+DoesBy None status before after old new = new ≡ old
+DoesBy (Some (Format F id)) status before after old new = FormatsDevice F id status before after old new
+DoesBy (Some Run) status before after old new = RunsScript status before after old new
