@@ -23,12 +23,12 @@ copied_is w from count vals out copied after spells same = after ∙ spells ∙ 
 pub invariant_of-self : goal.invariant_of-self
 invariant_of-self c =
     (grown c.self.inside.used c.args.w (c.self.inside.used + c.encode-n.result - c.self.inside.used) c.args.vals.now c.self.inside.words c.copy_from_slice.new.self
-    c.self.invariant c.requires.some c.requires.no_more c.self.told (let f = c.if-self-more-gt-LOG_ENTRY_WORDS.false in omega arith)
+    c.self.invariant c.requires.some c.requires.no_more c.self.told (omega arith)
     (copied_is c.args.w c.from.result c.encode-n.result c.args.vals.now c.encode-n.new.out c.copy_from_slice.new.self c.copy_from_slice.ensures.after c.encode-n.ensures.spells c.from.ensures)).buffer
 
 pub returns-clause-added : goal.returns-clause-added
 returns-clause-added c = λ _.
     (grown c.self.inside.used c.args.w (c.self.inside.used + c.encode-n.result - c.self.inside.used) c.args.vals.now c.self.inside.words c.copy_from_slice.new.self
-    c.self.invariant c.requires.some c.requires.no_more c.self.told (let f = c.if-self-more-gt-LOG_ENTRY_WORDS.false in omega arith)
+    c.self.invariant c.requires.some c.requires.no_more c.self.told (omega arith)
     (copied_is c.args.w c.from.result c.encode-n.result c.args.vals.now c.encode-n.new.out c.copy_from_slice.new.self c.copy_from_slice.ensures.after c.encode-n.ensures.spells c.from.ensures)).entries
     ∙ ap (λ (es : List Entry). es ++ batch_entry c.args.w c.args.vals.now ∷ []) c.self.view_is
