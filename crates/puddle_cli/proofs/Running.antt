@@ -1,5 +1,5 @@
 -- One run over a script, from the start to the exit.
-use Rattle.std.proofs.Common.{◌≡◌, inl, inr, ℕ, zero, suc, ◌+◌, ◌≤◌, Bool, true, false, List, [], ◌∷◌, ◌++◌, Option, Some, None, Result, Ok, Err, refl, sym, ap, subst, ◌∙◌, arith, append_assoc}
+use Rattle.std.proofs.Common.{◌≡◌, inl, ℕ, zero, suc, ◌+◌, ◌≤◌, Bool, true, false, List, [], ◌∷◌, ◌++◌, Option, Some, None, Result, Ok, Err, refl, sym, ap, subst, ◌∙◌, arith, append_assoc}
 use Rattle.std.proofs.lemmas.List.{append-nil}
 use Rattle.std.proofs.Math.Numerals.{one-add}
 use Rattle.pm_model.specs.declared.host.HostFault.{HostFault}
@@ -199,25 +199,25 @@ is_started : (w : World) → w.clients ≡ no_clients → restart w ≡ w
 is_started w none = ap (λ (c : ℕ → Option Owner). record w { clients = c }) (sym none)
 
 -- the status by how the script was answered
-pub status_by : Result Bool RunFault → ℕ
+abbrev pub status_by : Result Bool RunFault → ℕ
 status_by (Ok true) = DONE
 status_by (Ok false) = TOO_LONG
 status_by (Err fault) = status_at fault
 
 -- A start that came to its end, and the script answered from there on.
-module _ (size : ℕ) (before begun after : Counts) (memory : Memory) (start mid now : State) where
-  served_by : (w : World) → IsRested start.now.words → world_of size (reads start.now.words) ≡ Some (closed w) → Starts size w (Ok memory) start mid
+module _ (size : ℕ) (begun after : Counts) (memory : Memory) (start mid now : State) where
+  served_by : (before : Counts) (w : World) → IsRested start.now.words → world_of size (reads start.now.words) ≡ Some (closed w) → Starts size w (Ok memory) start mid
       → (served : Result Bool RunFault) → AnsweredBy size w served before after mid now → Headline size w (status_by served) before after start now
-  served_by w rested stands s (Ok true) a = Headline-behind_start size w start rested stands DONE true None before after memory mid now s refl (λ _. refl) (λ e. absurd (let no : DONE ≡ TOO_LONG = e in cc)) a
-  served_by w rested stands s (Ok false) a = Headline-behind_start size w start rested stands TOO_LONG false None before after memory mid now s refl (λ e. absurd (let no : TOO_LONG ≡ DONE = e in cc)) (λ _. refl) a
-  served_by w rested stands s (Err fault) a =
+  served_by before w rested stands s (Ok true) a = Headline-behind_start size w start rested stands DONE true None before after memory mid now s refl (λ _. refl) (λ e. absurd (let no : DONE ≡ TOO_LONG = e in cc)) a
+  served_by before w rested stands s (Ok false) a = Headline-behind_start size w start rested stands TOO_LONG false None before after memory mid now s refl (λ e. absurd (let no : TOO_LONG ≡ DONE = e in cc)) (λ _. refl) a
+  served_by before w rested stands s (Err fault) a =
       Headline-behind_start size w start rested stands (status_at fault) a.0 (Some fault) before after memory mid now s (fault_at_status fault)
       (λ e. absurd (not_whole_at fault DONE refl e)) (λ e. absurd (not_whole_at fault TOO_LONG refl e)) a.1
 
-  pub Headline-served : (w : World) → IsRested start.now.words → world_of size (reads start.now.words) ≡ Some (closed w) → w.clients ≡ no_clients → Starts size w (Ok memory) start mid → begun ≡ before
+  pub Headline-served : (before : Counts) (w : World) → IsRested start.now.words → world_of size (reads start.now.words) ≡ Some (closed w) → w.clients ≡ no_clients → Starts size w (Ok memory) start mid → begun ≡ before
       → (served : Result Bool RunFault) → (IsReady size w memory mid → AnsweredBy size w served begun after mid now) → Headline size w (status_by served) before after start now
-  Headline-served w rested stands none s counts served answers =
-      served_by w rested stands s served
+  Headline-served before w rested stands none s counts served answers =
+      served_by before w rested stands s served
       (subst (λ (x : Counts). AnsweredBy size w served x after mid now) counts (answers (subst (λ (v : World). IsReady size v memory mid) (is_started w none) s.ready)))
 
   -- a run from a device that stands for a world is never told that it is not sound

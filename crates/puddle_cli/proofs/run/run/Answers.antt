@@ -1,9 +1,8 @@
-use Rattle.std.proofs.Common.{◌≡◌, Bool, true, false, Ok, Err, Some, None, refl, sym, ap, subst, ◌∙◌}
+use Rattle.std.proofs.Common.{Bool, true, false, Ok, Err, Some, refl, sym, ap, subst, ◌∙◌}
 use Rattle.pm_model.specs.Counts.{Counts}
 use Rattle.pm_model.specs.Words.{reads}
 use Rattle.puddled.specs.Faults.{Ends}
 use Rattle.puddle_cli.specs.Serving.{AnsweredBy}
-use Rattle.puddle_cli.specs.Headline.{Headline}
 use Rattle.puddle_cli.proofs.Running.{Headline-in_start, Headline-served, never_unsound}
 use Rattle.puddle_cli.proofs.Statuses.{goes_on, stays_sound, usable_by}
 use Rattle.puddle_cli.proofs.run.run.Goals as goal
@@ -40,7 +39,7 @@ pub returns-in-Err-clause-not_usable : goal.returns-in-Err-clause-not_usable
 returns-in-Err-clause-not_usable g c = λ t rested none.
     let size = (g.H.Host.counts c.args.h.now).size in
     let same = sym (ap (λ (x : Counts). x.size) c.in-Ok.ensures.cause) in
-    let sound = never_unsound size _ _ _ _ _ _ _ c.in-Err.fault (λ w stands shelf. c.in-Ok.ensures.starts t size refl w rested stands shelf) (λ w ready. c.in-Err.ensures.answered t size same w ready) in (
+    let sound = never_unsound size _ _ _ _ _ _ c.in-Err.fault (λ w stands shelf. c.in-Ok.ensures.starts t size refl w rested stands shelf) (λ w ready. c.in-Err.ensures.answered t size same w ready) in (
       λ is. usable_by size (reads (g.H.Host.state c.args.h.now).now.words) _ refl c.in-Err.fault sound (sym c.status_of_run.ensures.status ∙ is),
       λ unsound. absurd (let no = (c.in-Ok.ensures.not_sound t refl).1 unsound in cc no),
     )
@@ -49,7 +48,7 @@ pub returns-in-Err-clause-unchanged : goal.returns-in-Err-clause-unchanged
 returns-in-Err-clause-unchanged g c = λ t rested is.
     let size = (g.H.Host.counts c.args.h.now).size in
     let same = sym (ap (λ (x : Counts). x.size) c.in-Ok.ensures.cause) in
-    let sound = never_unsound size _ _ _ _ _ _ _ c.in-Err.fault (λ w stands shelf. c.in-Ok.ensures.starts t size refl w rested stands shelf) (λ w ready. c.in-Err.ensures.answered t size same w ready) in
+    let sound = never_unsound size _ _ _ _ _ _ c.in-Err.fault (λ w stands shelf. c.in-Ok.ensures.starts t size refl w rested stands shelf) (λ w ready. c.in-Err.ensures.answered t size same w ready) in
     let unsound = usable_by size (reads (g.H.Host.state c.args.h.now).now.words) _ refl c.in-Err.fault sound (sym c.status_of_run.ensures.status ∙ is) in
     absurd (let no = (c.in-Ok.ensures.not_sound t refl).1 unsound in cc no)
 
@@ -57,6 +56,6 @@ pub returns-in-Err-clause-completes : goal.returns-in-Err-clause-completes
 returns-in-Err-clause-completes g c = λ t rested sound no_fault no_cut.
     let size = (g.H.Host.counts c.args.h.now).size in
     let same = sym (ap (λ (x : Counts). x.size) c.in-Ok.ensures.cause) in
-    let never = never_unsound size _ _ _ _ _ _ _ c.in-Err.fault (λ w stands shelf. c.in-Ok.ensures.starts t size refl w rested stands shelf) (λ w ready. c.in-Err.ensures.answered t size same w ready) in
+    let never = never_unsound size _ _ _ _ _ _ c.in-Err.fault (λ w stands shelf. c.in-Ok.ensures.starts t size refl w rested stands shelf) (λ w ready. c.in-Err.ensures.answered t size same w ready) in
     let ends = subst (λ (x : Counts). Ends (Some c.in-Err.fault) x (g.H.Host.counts c.serve.new.h)) c.in-Ok.ensures.cause c.in-Err.ensures.cause in
     absurd (goes_on (g.H.Host.counts c.args.h.now) (g.H.Host.counts c.serve.new.h) no_fault no_cut c.in-Err.fault ends (stays_sound size (reads (g.H.Host.state c.args.h.now).now.words) _ refl sound c.in-Err.fault never))
