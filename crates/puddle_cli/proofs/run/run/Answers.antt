@@ -1,4 +1,4 @@
-use Rattle.std.proofs.Common.{◌≡◌, Bool, true, false, Ok, Some, None, refl, sym, ap, subst, ◌∙◌}
+use Rattle.std.proofs.Common.{◌≡◌, Bool, true, false, Some, None, refl, sym, ap, subst, ◌∙◌}
 use Rattle.pm_model.specs.Counts.{Counts}
 use Rattle.pm_model.specs.Words.{reads}
 use Rattle.pud_defs.specs.World.{World, no_clients}
