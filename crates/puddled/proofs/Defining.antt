@@ -156,7 +156,7 @@ module _ (size : ℕ) (w : World) (memory : Memory) (id map r : ℕ) (old : Stat
     )) d.moments;
     quiet = Changes-said (written (record_write r id map)) fault old new d.persists.changes;
     ready = λ none. ready_defined new (subst (λ (f : Option HostFault). Defines r id map f old new) none d);
-    lost = d.persists.changes.rests;
+    rests = d.persists.changes.rests;
     script = d.persists.changes.script;
   })
 
@@ -165,10 +165,10 @@ place_applies : (size : ℕ) (w : World) (memory : Memory) (id map : ℕ) (fault
     → (place_for (reads old.now.words) id ≡ None → new ≡ old) → ((r : ℕ) → place_for (reads old.now.words) id ≡ Some r → Defines r id map fault old new)
     → (fault ≡ Some Cut → IsRested new.now.words)
     → Applies size w (world_by w (Some (Define id map))) memory fault old new
-place_applies size w memory id map fault old new ready legal_id legal_map None place idle defines lost =
+place_applies size w memory id map fault old new ready legal_id legal_map None place idle defines rests =
     subst (λ (v : World). Applies size w v memory fault old new) (sym (idle_world size w (reads old.now.words) id map (standing size w memory old ready) place))
-    (Applies-still size w memory fault old new ready (idle place) lost)
-place_applies size w memory id map fault old new ready legal_id legal_map (Some r) place idle defines lost =
+    (Applies-still size w memory fault old new ready (idle place) rests)
+place_applies size w memory id map fault old new ready legal_id legal_map (Some r) place idle defines rests =
     new_applies size w memory id map r old ready legal_id legal_map (new_type size w (reads old.now.words) id map (standing size w memory old ready) r place) fault new (defines r place)
 
 -- a definition is carried out or refused as the machine has it
@@ -176,8 +176,8 @@ pub Applies-define : (size : ℕ) (w : World) (memory : Memory) (id map : ℕ) (
     → (place_for (reads old.now.words) id ≡ None → new ≡ old) → ((r : ℕ) → place_for (reads old.now.words) id ≡ Some r → Defines r id map fault old new)
     → (fault ≡ Some Cut → IsRested new.now.words)
     → Applies size w (world_by w (Some (Define id map))) memory fault old new
-Applies-define size w memory id map fault old new ready legal_id legal_map idle defines lost =
-    place_applies size w memory id map fault old new ready legal_id legal_map (place_for (reads old.now.words) id) refl idle defines lost
+Applies-define size w memory id map fault old new ready legal_id legal_map idle defines rests =
+    place_applies size w memory id map fault old new ready legal_id legal_map (place_for (reads old.now.words) id) refl idle defines rests
 
 -- the reply is the machine's
 pub refusal_when_ready : (size : ℕ) (w : World) (memory : Memory) (id map : ℕ) (old : State) → IsReady size w memory old → table_refusal (type_table (reads old.now.words)) id map ≡ refusal_of w (Define id map)

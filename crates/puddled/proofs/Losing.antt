@@ -63,7 +63,7 @@ Applies-lost size w memory a b ready loses =
       moments = Leaves-weaker _ _ a b (λ bytes image m. (m.0, inl m.1)) (lost.moments (λ (image : Image). world_of size image ≡ Some (closed w)) ready.settled.stands);
       quiet = lost.quiet;
       ready = λ none. absurd (let no : Some Cut ≡ None = none in cc);
-      lost = λ _. lost.rested;
+      rests = λ _. lost.rested;
       script = lost.script;
     }
 
