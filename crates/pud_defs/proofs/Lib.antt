@@ -15,6 +15,7 @@ pub mod Blank
 pub mod Lines
 pub mod Runs
 pub mod Steps
+pub mod Changing
 pub mod Commands
 pub mod Said
 pub mod Opened

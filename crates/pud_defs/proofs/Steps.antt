@@ -118,32 +118,3 @@ no_cut_by w (Some c) = no_cut_unless (refusal_of w c) (answer w c) refl
 
 pub step_is_no_cut : (w : World) (line : List ℕ) → is_cut (step_answer w line) ≡ false
 step_is_no_cut w line = no_cut_by w (command_of line)
-
--- types stay by ascending ids
-pub is_sorted-after : (w : World) (c : Command) → T (is_sorted nat_cmp w.stored.types) → T (is_sorted nat_cmp (after w c).stored.types)
-unfolding after
-is_sorted-after w (Client client uid gid) h = h
-is_sorted-after w (Leave client) h = h
-is_sorted-after w (Cut pick) h = h
-is_sorted-after w (Arm step pick) h = h
-is_sorted-after w (Define id map) h = is_sorted-with_type id map w.stored.types h
-
-shelf_after : (w : World) (c : Command) → (after w c).shelf ≡ w.shelf
-unfolding after
-shelf_after w (Client client uid gid) = refl
-shelf_after w (Leave client) = refl
-shelf_after w (Define id map) = refl
-shelf_after w (Cut pick) = refl
-shelf_after w (Arm step pick) = refl
-
-shelf_unless : (r : Option Refusal) (before later : World) → later.shelf ≡ before.shelf → (unless_refused r before later).shelf ≡ before.shelf
-shelf_unless None before later same = same
-shelf_unless (Some r) before later same = refl
-
-shelf_by : (w : World) (c : Option Command) → (world_by w c).shelf ≡ w.shelf
-shelf_by w None = refl
-shelf_by w (Some c) = shelf_unless (refusal_of w c) w (after w c) (shelf_after w c)
-
--- the shelf stays
-pub shelf_of_step : (w : World) (line : List ℕ) → (step_world w line).shelf ≡ w.shelf
-shelf_of_step w line = shelf_by w (command_of line)

@@ -9,6 +9,7 @@ pub mod Registry
 pub mod World
 pub mod Grammar
 pub mod Step
+pub mod Changing
 pub mod Run
 pub mod Texts
 pub mod Stands

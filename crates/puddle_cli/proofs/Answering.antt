@@ -17,6 +17,8 @@ use Rattle.pud_defs.specs.Step.{answer_by, world_by}
 use Rattle.pud_defs.specs.Run.{Turn, IsTurn, cuts_of, IsRun, last_world, newlines, open_rest, lines_taken, lines_among}
 use Rattle.pud_defs.specs.Texts.{answer_text, replies_text}
 use Rattle.pud_defs.specs.Stands.{StandsWith}
+use Rattle.pud_defs.specs.Changing.{file_in, KeepsFiles}
+use Rattle.pud_defs.proofs.Changing.{KeepsFiles-still, KeepsUnwritable-still, KeepsUnwritable-then, KeepsUnwritable-line}
 use Rattle.pud_defs.proofs.Commands.{command_of-front}
 use Rattle.pud_defs.proofs.Lines.{open_rest-newline, open_rest-other, open_rest-nothing, lines_taken-nothing, lines_taken-newline, lines_taken-other, lines_taken-end, lines_among_empty, lines_among_line}
 use Rattle.pud_defs.proofs.Runs.{IsRun-append, last_world-append}
@@ -27,8 +29,8 @@ use Rattle.puddled.specs.declared.daemon.RunFault.TheVariants.{NotSound}
 use Rattle.puddled.specs.Faults.{of_host, run_fault, CountsLine, CountsTurns}
 use Rattle.puddled.proofs.Counted.{none_is_sound, CountsTurns-one, CountsTurns-append}
 use Rattle.puddled.specs.Memory.{Memory}
-use Rattle.puddled.specs.Daemon.{KeepsRest, IsReady, SaysPart, Answers}
-use Rattle.puddle_cli.specs.Serving.{Takes, TakesAtMost, TakesAll, CountsPending, AnswersLine, Serves, Answered}
+use Rattle.puddled.specs.Daemon.{KeepsLine, IsReady, SaysPart, Answers}
+use Rattle.puddle_cli.specs.Serving.{KeepsScript, file_under_way, Takes, TakesAtMost, TakesAll, CountsPending, AnswersLine, Serves, Answered}
 
 nothing_from_take : (line : List ℕ) → take 129 line ≡ [] → line ≡ []
 nothing_from_take [] e = refl
@@ -74,12 +76,13 @@ module _ (w : World) (t : Turn) (piece line : List ℕ) (of_line : t.line ≡ pi
 
 -- a line that is not empty
 pub AnswersLine-turn : (size : ℕ) (w : World) (memory : Memory) (piece line : List ℕ) (result : Result Bool RunFault) (before after : Counts) (old new : State) → (piece ≡ [] → ⊥) → piece ≡ take 129 line
-    → Answers size w piece true result memory before after old new → AnswersLine size w line (run_fault result) memory before after old new
+    → old.shelf ≡ w.shelf → KeepsLine (file_in (command_of piece)) old new → Answers size w piece true result memory before after old new → AnswersLine size w line (run_fault result) memory before after old new
 unfolding relined
-AnswersLine-turn size w memory piece line result before after old new some kept a =
+AnswersLine-turn size w memory piece line result before after old new some kept shelf keeps a =
     let t = relined a.turn line in
+    let same : command_of piece ≡ command_of line = ap command_of kept ∙ command_of-front line in
     let counts : CountsLine (command_of line) (run_fault result) (cuts_of (t ∷ [])) before after =
-    subst (λ (c : Option Command). CountsLine c (run_fault result) (cuts_of (t ∷ [])) before after) (ap command_of kept ∙ command_of-front line) a.counted in
+    subst (λ (c : Option Command). CountsLine c (run_fault result) (cuts_of (t ∷ [])) before after) same a.counted in
     let longer : length line ≡ 0 → ⊥ = λ none. some (kept ∙ ap (λ (l : List ℕ). take 129 l) (nothing_long line none)) in
     record {
       turns = t ∷ [];
@@ -93,6 +96,7 @@ AnswersLine-turn size w memory piece line result before after old new some kept 
       turns_counted = λ none. CountsTurns-one t before after (run_fault result) none counts;
       sound = a.sound;
       script = a.script;
+      files = subst (λ (o : Option Command). KeepsFiles (file_in o) w.shelf new.shelf) same (subst (λ (shelf : List ℕ → Option (List ℕ)). KeepsFiles (file_in (command_of piece)) shelf new.shelf) shelf keeps.files);
     }
 
 -- an empty one
@@ -111,6 +115,7 @@ AnswersLine-nothing size w memory line before after old new ready none uncounted
       turns_counted = λ _. uncounted;
       sound = none_is_sound;
       script = refl;
+      files = KeepsFiles-still None w.shelf old.shelf ready.shelf;
     })
 
 -- the host failed as it was read
@@ -177,6 +182,7 @@ module _ (size : ℕ) (w : World) (before : Counts) (start : State) (counts : Co
         moments = joined_moments a.turns new so_far said a.moments;
         memory = next;
         ready = λ none. absurd (faulty none);
+        files = a.files;
         mid = read_counts;
         turns_counted = so_far_counted;
         counted = a.counted;
@@ -196,6 +202,7 @@ module _ (size : ℕ) (w : World) (before : Counts) (start : State) (counts : Co
   Answered-end next after new same none_left a =
       let said = ap (λ (x : State). x.now.said) same ∙ s.said in
       let so_far = subst (λ (n : State). Leaves (StandsWith size w s.turns) start n) (sym same) s.moments in
+      let ready_end : IsReady size (last_world w (s.turns ++ a.turns)) next new = subst (λ (v : World). IsReady size v next new) (sym (last_world-append w s.turns a.turns)) (a.ready refl) in
       record {
         taken = s.taken;
         answered = s.turns ++ a.turns;
@@ -212,7 +219,8 @@ module _ (size : ℕ) (w : World) (before : Counts) (start : State) (counts : Co
         whole = λ _. refl;
         moments = subst (λ (ts : List Turn). Leaves (StandsWith size w ts) start new) (sym (append-nil (s.turns ++ a.turns))) (joined_moments a.turns new so_far said a.moments);
         memory = next;
-        ready = λ _. subst (λ (v : World). IsReady size v next new) (sym (last_world-append w s.turns a.turns)) (a.ready refl);
+        ready = λ _. ready_end;
+        files = KeepsFiles-still None (last_world w (s.turns ++ a.turns)).shelf new.shelf ready_end.shelf;
         mid = after;
         turns_counted = CountsTurns-append s.turns a.turns before read_counts after so_far_counted (a.turns_counted refl);
         counted = (λ lost. cc, refl);
@@ -280,6 +288,7 @@ module _ (size : ℕ) (w : World) (before : Counts) (start : State) (counts : Co
         moments = subst (λ (ts : List Turn). Leaves (StandsWith size w ts) start now) (sym (append-nil s.turns)) s.moments;
         memory = memory;
         ready = λ _. s.ready;
+        files = KeepsFiles-still None (last_world w s.turns).shelf now.shelf s.ready.shelf;
         mid = read_counts;
         turns_counted = so_far_counted;
         counted = last;
@@ -320,28 +329,43 @@ Serves-start size w memory before start now same ready =
 
 -- ---- the bytes taken, whatever the device holds
 
-pub Takes-start : (start now : State) → now ≡ start → Takes 0 start now
-Takes-start start now same = subst (λ (n : State). Takes 0 start n) (sym same) (record { taken = []; counted = refl; script = refl; shelf = refl })
+pub KeepsScript-still : (old new : State) → new ≡ old → KeepsScript old new
+KeepsScript-still old new same = record { script = ap (λ (x : State). x.script) same; files = KeepsUnwritable-still old.shelf new.shelf (ap (λ (x : State). x.shelf) same) }
 
-pub Takes-more : (count byte : ℕ) (start now read new : State) → Takes count start now → TakesByte (Some byte) now read → KeepsRest read new → Takes (count + 1) start new
+pub KeepsScript-line : (line : List ℕ) (old new : State) → KeepsLine (file_in (command_of line)) old new → KeepsScript old new
+KeepsScript-line line old new k = record { script = k.script; files = KeepsUnwritable-line line old.shelf new.shelf k.files }
+
+pub Takes-start : (start now : State) → now ≡ start → Takes 0 start now
+Takes-start start now same = subst (λ (n : State). Takes 0 start n) (sym same) (record { taken = []; counted = refl; script = refl; files = KeepsUnwritable-still start.shelf start.shelf refl })
+
+pub Takes-more : (count byte : ℕ) (start now read new : State) → Takes count start now → TakesByte (Some byte) now read → KeepsScript read new → Takes (count + 1) start new
 Takes-more count byte start now read new t took kept =
     record {
       taken = t.taken ++ byte ∷ [];
       counted = let n = t.counted in omega (arith, length-append t.taken (byte ∷ []));
       script = t.script ∙ ap (λ (l : List ℕ). t.taken ++ l) (took.0 ∙ ap (λ (l : List ℕ). byte ∷ l) (sym kept.script)) ∙ sym (append_assoc t.taken (byte ∷ []) new.script);
-      shelf = kept.shelf ∙ ap (λ (x : State). x.shelf) took.1 ∙ t.shelf;
+      files = KeepsUnwritable-then start.shelf now.shelf new.shelf t.files
+          (KeepsUnwritable-then now.shelf read.shelf new.shelf (KeepsUnwritable-still now.shelf read.shelf (ap (λ (x : State). x.shelf) took.1)) kept.files);
     }
 
 pub TakesAtMost-takes : (count most : ℕ) (start now : State) → count ≤ most → Takes count start now → TakesAtMost most start now
-TakesAtMost-takes count most start now below t = record { taken = t.taken; counted = let n = t.counted in omega arith; script = t.script; shelf = t.shelf }
+TakesAtMost-takes count most start now below t = record { taken = t.taken; counted = let n = t.counted in omega arith; script = t.script; files = t.files }
 
 pub Takes-same : (count : ℕ) (start now new : State) → new ≡ now → Takes count start now → Takes count start new
 Takes-same count start now new same t = subst (λ (n : State). Takes count start n) (sym same) t
 
-pub Takes-kept : (count : ℕ) (start now new : State) → Takes count start now → KeepsRest now new → Takes count start new
+pub Takes-kept : (count : ℕ) (start now new : State) → Takes count start now → KeepsScript now new → Takes count start new
 Takes-kept count start now new t kept =
-    record { taken = t.taken; counted = t.counted; script = t.script ∙ ap (λ (l : List ℕ). t.taken ++ l) (sym kept.script); shelf = kept.shelf ∙ t.shelf }
+    record { taken = t.taken; counted = t.counted; script = t.script ∙ ap (λ (l : List ℕ). t.taken ++ l) (sym kept.script); files = KeepsUnwritable-then start.shelf now.shelf new.shelf t.files kept.files }
 
 pub TakesAll-end : (count : ℕ) (start now : State) → count < SCRIPT_LIMIT → now.script ≡ [] → Takes count start now → TakesAll start now
 TakesAll-end count start now below none_left t =
-    record { taken = t.taken; below = let n = t.counted in omega arith; script = t.script; none_left = none_left; shelf = t.shelf }
+    record { taken = t.taken; below = let n = t.counted in omega arith; script = t.script; none_left = none_left; files = t.files }
+
+-- what was taken, behind a start
+pub TakesAtMost-behind : (most : ℕ) (start mid now : State) → mid.script ≡ start.script → mid.shelf ≡ start.shelf → TakesAtMost most mid now → TakesAtMost most start now
+TakesAtMost-behind most start mid now script shelf t =
+    record { taken = t.taken; counted = t.counted; script = sym script ∙ t.script; files = KeepsUnwritable-then start.shelf mid.shelf now.shelf (KeepsUnwritable-still start.shelf mid.shelf shelf) t.files }
+
+-- what the loop over the script rests on
+pub ruleset taking = (KeepsScript-still, KeepsScript-line, Takes-start, Takes-same, Takes-kept, TakesAtMost-takes, TakesAll-end)

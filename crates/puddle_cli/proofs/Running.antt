@@ -1,5 +1,5 @@
 -- One run over a script, from the start to the exit.
-use Rattle.std.proofs.Common.{◌≡◌, inl, ℕ, zero, suc, ◌+◌, ◌≤◌, Bool, true, false, List, [], ◌∷◌, ◌++◌, Option, Some, Result, Ok, Err, refl, sym, ap, subst, ◌∙◌, arith, append_assoc}
+use Rattle.std.proofs.Common.{◌≡◌, inl, inr, ℕ, zero, suc, ◌+◌, ◌≤◌, Bool, true, false, List, [], ◌∷◌, ◌++◌, Option, Some, None, Result, Ok, Err, refl, sym, ap, subst, ◌∙◌, arith, append_assoc}
 use Rattle.std.proofs.lemmas.List.{append-nil}
 use Rattle.std.proofs.Math.Numerals.{one-add}
 use Rattle.pm_model.specs.declared.host.HostFault.{HostFault}
@@ -12,9 +12,10 @@ use Rattle.pm_model.proofs.Leaves.{Leaves-then, Leaves-weaker, Leaves-each}
 use Rattle.pud_defs.specs.Grammar.{command_of}
 use Rattle.pud_defs.specs.Spaces.{Owner}
 use Rattle.pud_defs.specs.World.{World, no_clients, world_of, closed, restart}
-use Rattle.pud_defs.specs.Run.{Turn, cuts_of, newlines}
+use Rattle.pud_defs.specs.Run.{Turn, cuts_of, last_world, newlines}
 use Rattle.pud_defs.specs.Texts.{start_text, replies_text}
 use Rattle.pud_defs.specs.Stands.{StandsWith, StandsBehindStart}
+use Rattle.pud_defs.proofs.Changing.{KeepsFiles-still, KeepsFiles-none, no_file_in, shelf_of_turns}
 use Rattle.pud_defs.proofs.Lines.{newlines-append, newlines_part, lines_taken-nothing}
 use Rattle.pud_defs.proofs.Said.{newlines-start_text}
 use Rattle.puddled.specs.declared.daemon.RunFault.{RunFault}
@@ -27,7 +28,7 @@ use Rattle.puddled.specs.Memory.{Memory}
 use Rattle.puddled.specs.Daemon.{Starts}
 use Rattle.puddle_cli.specs.declared.status.TheConstants.{DONE, POWER_LOST, TOO_LONG}
 use Rattle.puddle_cli.specs.Status.{status_fault, run_fault_at, IsStatusOfMode}
-use Rattle.puddle_cli.specs.Serving.{CountsPending, Answered}
+use Rattle.puddle_cli.specs.Serving.{CountsPending, file_under_way, Answered}
 use Rattle.puddle_cli.specs.Headline.{Headline}
 use Rattle.puddle_cli.proofs.Statuses.{not_whole_of}
 
@@ -110,7 +111,7 @@ module _ (size : ℕ) (w : World) (start : State) (rested : IsRested start.now.w
           all_lines = λ done. absurd (not_whole (ap run_fault_at done));
           not_ended = λ _. refl;
           ends = λ none. absurd (not_whole none);
-          shelf = s.shelf ∙ shelf;
+          files = KeepsFiles-still None w.shelf now.shelf (s.shelf ∙ shelf);
           shelf_of_run = λ none. absurd (not_whole none);
         };
         moments = record { stands = Leaves-each (λ said image. StandsBehindStart size w [] (newlines said) image) start now (start_moments [] (Err (starts.Host fault)) now s) };
@@ -139,10 +140,10 @@ module _ (size : ℕ) (w : World) (start : State) (rested : IsRested start.now.w
   nothing_more (b ∷ more) rest e = absurd (let no : [] ≡ b ∷ (more ++ rest) = e in cc)
 
   -- the start was said whole, and the script was answered so far
-  pub Headline-behind_start : (status : ℕ) (ended : Bool) (fault : Option RunFault) (before after : Counts) (memory : Memory) (mid now : State) → start.shelf ≡ w.shelf → Starts size w (Ok memory) start mid → now.shelf ≡ mid.shelf
+  pub Headline-behind_start : (status : ℕ) (ended : Bool) (fault : Option RunFault) (before after : Counts) (memory : Memory) (mid now : State) → Starts size w (Ok memory) start mid
       → run_fault_at status ≡ fault → (status ≡ DONE → ended ≡ true) → (status ≡ TOO_LONG → ended ≡ false)
       → Answered size w ended fault before after mid now → Headline size w status before after start now
-  Headline-behind_start status ended fault before after memory mid now shelf s kept is done too_long a =
+  Headline-behind_start status ended fault before after memory mid now s is done too_long a =
       let cut : status ≡ POWER_LOST → fault ≡ Some faults.CutInStart = λ lost. sym is ∙ ap run_fault_at lost in
       let first : mid.now.said ≡ start.now.said ++ start_text =
       s.says.said ∙ ap (λ (l : List ℕ). start.now.said ++ l) (sym (s.says.part ∙ ap (λ (l : List ℕ). s.says.bytes ++ l) (s.says.whole refl) ∙ append-nil s.says.bytes)) in
@@ -172,7 +173,7 @@ module _ (size : ℕ) (w : World) (start : State) (rested : IsRested start.now.w
           all_lines = done;
           not_ended = too_long;
           ends = λ none. (a.ready (sym is ∙ none)).settled.stands;
-          shelf = kept ∙ s.shelf ∙ shelf;
+          files = a.files;
           shelf_of_run = λ none. (a.ready (sym is ∙ none)).shelf;
         };
         moments = record {
@@ -196,3 +197,13 @@ module _ (size : ℕ) (w : World) (start : State) (rested : IsRested start.now.w
 -- a world without clients is as a start leaves it
 pub is_started : (w : World) → w.clients ≡ no_clients → restart w ≡ w
 is_started w none = ap (λ (c : ℕ → Option Owner). record w { clients = c }) (sym none)
+
+-- no line of today writes a file
+no_file_under_way : (pending : List Turn) → file_under_way pending ≡ None
+no_file_under_way [] = refl
+no_file_under_way (t ∷ turns) = no_file_in (command_of t.line)
+
+-- so the shelf stays
+pub shelf_stays : (size : ℕ) (w : World) (status : ℕ) (before after : Counts) (start end : State) → Headline size w status before after start end → end.shelf ≡ w.shelf
+shelf_stays size w status before after start end h =
+    KeepsFiles-none (file_under_way h.run.pending) (last_world w h.run.answered).shelf end.shelf (no_file_under_way h.run.pending) h.exit.files ∙ shelf_of_turns w h.run.answered h.run.pending h.run.is_run

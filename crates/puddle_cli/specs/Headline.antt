@@ -7,6 +7,7 @@ use Rattle.pud_defs.specs.declared.layout.TheConstants.{SCRIPT_LIMIT}
 use Rattle.pud_defs.specs.Image.{Image}
 use Rattle.pud_defs.specs.World.{World, world_of, closed}
 use Rattle.pud_defs.specs.Grammar.{command_of}
+use Rattle.pud_defs.specs.Changing.{KeepsFiles, KeepsUnwritable}
 use Rattle.pud_defs.specs.Run.{Turn, cuts_of, IsRun, last_world, lines_taken, newlines}
 use Rattle.pud_defs.specs.Texts.{start_text, replies_text}
 use Rattle.pud_defs.specs.Stands.{StandsBehindStart}
@@ -14,16 +15,16 @@ use Rattle.puddle_cli.specs.declared.status.TheConstants.{DONE, POWER_LOST, TOO_
 use Rattle.puddled.specs.Daemon.{IsPart}
 use Rattle.puddled.specs.Faults.{RoseBy, is_loss, CountsTurns}
 use Rattle.puddle_cli.specs.Status.{status_fault, run_fault_at}
-use Rattle.puddle_cli.specs.Serving.{CountsPending}
+use Rattle.puddle_cli.specs.Serving.{CountsPending, file_under_way}
 
--- Bytes of the script were taken: all of them at status 0, and 2^20 at status 7.
+-- Bytes of the script were taken: all of them at status 0, and 2^20 at status 7. Each file that no line may write is as it was.
 pub record TakesScript (status : ℕ) (start end : State) : Type 0 where
   pub taken : List ℕ
   pub script : start.script ≡ taken ++ end.script
   pub within : length taken ≤ SCRIPT_LIMIT
   pub done : status ≡ DONE → (end.script ≡ []) × (length taken < SCRIPT_LIMIT)
   pub too_long : status ≡ TOO_LONG → length taken ≡ SCRIPT_LIMIT
-  pub shelf : end.shelf ≡ start.shelf
+  pub files : KeepsUnwritable start.shelf end.shelf
 
 -- One run of the machine over a script: whether the start was said whole, before which nothing is taken; the bytes taken, whether their end was
 -- read, and the lines that they are, some of them answered and at most one without a whole reply.
@@ -48,7 +49,8 @@ pub record IsBehindStart (answered pending : List Turn) (bytes : List ℕ) : Typ
   pub part : replies_text pending ≡ more ++ rest
 
 -- The exit of a run: what was said since the start, and what is left. Within the start, in which the host failed or power was lost, a part of
--- the start text was said. At status 0 and 7 the run is whole, and each image left stands for its closed last world.
+-- the start text was said. At status 0 and 7 the run is whole, and each image left stands for its closed last world,
+-- whose shelf is left; else each file is as the lines answered left it, but one that the line without a reply may write.
 pub record RunExit (size : ℕ) (w : World) (status : ℕ) (start end : State) (run : ScriptRun w start end) : Type 0 where
   pub bytes : List ℕ
   pub said : end.now.said ≡ start.now.said ++ bytes
@@ -58,7 +60,7 @@ pub record RunExit (size : ℕ) (w : World) (status : ℕ) (start end : State) (
   pub all_lines : status ≡ DONE → run.ended ≡ true
   pub not_ended : status ≡ TOO_LONG → run.ended ≡ false
   pub ends : run_fault_at status ≡ None → (image : Image) → Picks end.now.words image → world_of size image ≡ Some (closed (last_world w run.answered))
-  pub shelf : end.shelf ≡ w.shelf
+  pub files : KeepsFiles (file_under_way run.pending) (last_world w run.answered).shelf end.shelf
   pub shelf_of_run : run_fault_at status ≡ None → end.shelf ≡ (last_world w run.answered).shelf
 
 -- Every moment of a run: what an image stands for that may have been left since the start of the call, by the bytes said since then.

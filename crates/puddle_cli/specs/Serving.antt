@@ -6,6 +6,7 @@ use Rattle.pm_model.specs.Changes.{Leaves}
 use Rattle.pud_defs.specs.declared.layout.TheConstants.{SCRIPT_LIMIT}
 use Rattle.pud_defs.specs.World.{World}
 use Rattle.pud_defs.specs.Grammar.{command_of}
+use Rattle.pud_defs.specs.Changing.{file_in, KeepsFiles, KeepsUnwritable}
 use Rattle.pud_defs.specs.Run.{Turn, cuts_of, IsRun, last_world, open_rest, lines_taken, lines_among}
 use Rattle.pud_defs.specs.Texts.{replies_text}
 use Rattle.pud_defs.specs.Stands.{StandsWith}
@@ -14,20 +15,26 @@ use Rattle.puddled.specs.declared.daemon.RunFault.TheVariants.{CutInStart, NotSo
 use Rattle.puddled.specs.Faults.{last_fault, CountsLine, CountsTurns}
 use Rattle.puddled.specs.Memory.{Memory}
 use Rattle.puddled.specs.Daemon.{IsReady, SaysPart}
+use Rattle.puddle_cli.specs.declared.piece.TheConstants.{KEPT}
+
+-- the bytes left to read stay, and each file that no line may write
+pub record KeepsScript (old new : State) : Type 0 where
+  pub script : new.script ≡ old.script
+  pub files : KeepsUnwritable old.shelf new.shelf
 
 -- so many bytes of the script were taken
 pub record Takes (count : ℕ) (start now : State) : Type 0 where
   pub taken : List ℕ
   pub counted : length taken ≡ count
   pub script : start.script ≡ taken ++ now.script
-  pub shelf : now.shelf ≡ start.shelf
+  pub files : KeepsUnwritable start.shelf now.shelf
 
 -- no more than so many bytes of the script were taken
 pub record TakesAtMost (count : ℕ) (start now : State) : Type 0 where
   pub taken : List ℕ
   pub counted : length taken ≤ count
   pub script : start.script ≡ taken ++ now.script
-  pub shelf : now.shelf ≡ start.shelf
+  pub files : KeepsUnwritable start.shelf now.shelf
 
 -- fewer than 2^20 bytes of the script were taken, and none is left
 pub record TakesAll (start now : State) : Type 0 where
@@ -35,7 +42,7 @@ pub record TakesAll (start now : State) : Type 0 where
   pub below : length taken < SCRIPT_LIMIT
   pub script : start.script ≡ taken ++ now.script
   pub none_left : now.script ≡ []
-  pub shelf : now.shelf ≡ start.shelf
+  pub files : KeepsUnwritable start.shelf now.shelf
 
 -- what a call that reads a script took of it, by whether it came to its end
 abbrev pub TakesBy : Result Bool RunFault → State → State → Type 0
@@ -54,6 +61,11 @@ abbrev pub CountsPending : List Turn → Option RunFault → Counts → Counts �
 CountsPending [] fault old new = (fault ≢ Some CutInStart) × (new ≡ after_fault (last_fault fault) old)
 CountsPending (t ∷ turns) fault old new = CountsLine (command_of t.line) fault (cuts_of (t ∷ [])) old new
 
+-- the file that the line under way may write, where there is one
+abbrev pub file_under_way : List Turn → Option (List ℕ)
+file_under_way [] = None
+file_under_way (t ∷ turns) = file_in (command_of t.line)
+
 -- A line was answered: by no turn where it is empty, else by one turn of the machine, whose reply is said whole without a fault.
 pub record AnswersLine (size : ℕ) (w : World) (line : List ℕ) (fault : Option RunFault) (memory : Memory) (before after : Counts) (old new : State) : Type 0 where
   pub turns : List Turn
@@ -67,22 +79,24 @@ pub record AnswersLine (size : ℕ) (w : World) (line : List ℕ) (fault : Optio
   pub turns_counted : fault ≡ None → CountsTurns turns before after
   pub sound : fault ≢ Some NotSound
   pub script : new.script ≡ old.script
+  pub files : KeepsFiles (file_under_way turns) w.shelf new.shelf
 
 -- The lines that the bytes taken close were answered, each by a turn of the machine, and the bytes behind them are the piece under way, of
--- which the first 129 are kept.
+-- which the first are kept: one more than a line may have.
 pub record Serves (size : ℕ) (w : World) (before : Counts) (start : State) (counts : Counts) (memory : Memory) (now : State) (piece : List ℕ) : Type 0 where
   pub taken : List ℕ
   pub turns : List Turn
   pub is_run : IsRun w turns
   pub lines : map (λ t. t.line) turns ≡ lines_taken taken false
-  pub under_way : piece ≡ take 129 (open_rest taken)
+  pub under_way : piece ≡ take KEPT (open_rest taken)
   pub script : start.script ≡ taken ++ now.script
   pub said : now.now.said ≡ start.now.said ++ replies_text turns
   pub moments : Leaves (StandsWith size w turns) start now
   pub ready : IsReady size (last_world w turns) memory now
   pub counted : CountsTurns turns before counts
 
--- The script was answered so far: some lines whole, and at most one more whose reply is not whole. Without a fault there is none such. Up to
+-- The script was answered so far: some lines whole, and at most one more whose reply is not whole. Without a fault there is none such. Each
+-- file but the one that this line may write is as the lines answered left it. Up to
 -- some counts each line is counted by its command and its reply, and then the line under way ended so.
 pub record Answered (size : ℕ) (w : World) (ended : Bool) (fault : Option RunFault) (before after : Counts) (start now : State) : Type 0 where
   pub taken : List ℕ
@@ -101,6 +115,7 @@ pub record Answered (size : ℕ) (w : World) (ended : Bool) (fault : Option RunF
   pub moments : Leaves (StandsWith size w (answered ++ pending)) start now
   pub memory : Memory
   pub ready : fault ≡ None → IsReady size (last_world w answered) memory now
+  pub files : KeepsFiles (file_under_way pending) (last_world w answered).shelf now.shelf
   pub mid : Counts
   pub turns_counted : CountsTurns answered before mid
   pub counted : CountsPending pending fault mid after

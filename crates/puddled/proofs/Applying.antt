@@ -21,7 +21,6 @@ Applies-still size w memory fault old new ready same lost = record {
   ready = λ _. subst (λ (n : State). IsReady size w memory n) (sym same) ready;
   lost = lost;
   script = ap (λ (s : State). s.script) same;
-  shelf = ap (λ (s : State). s.shelf) same;
 }
 
 pub Applies-idle : (size : ℕ) (w : World) (memory : Memory) (old new : State) → IsReady size w memory old → new ≡ old → Applies size w w memory None old new

@@ -62,7 +62,6 @@ module _ (size : ℕ) (w : World) (memory : Memory) (slot : ℕ) (known : slot <
     ready = λ none. absurd (let it : None ≡ Some fault = sym none in cc);
     lost = p.changes.rests;
     script = p.changes.script;
-    shelf = p.changes.shelf;
   }
 
   module _ (now : Option Owner) (es : List Entry) (a b c : State) (ready : IsReady size w memory a) (p : Closes size (closed w) slot None a b) where
@@ -100,7 +99,6 @@ module _ (size : ℕ) (w : World) (memory : Memory) (slot : ℕ) (known : slot <
           ready = λ none. ready_changed (subst (λ (f : Option HostFault). ChangesOwner size (closed w) slot now es f b c) none q);
           lost = q.changes.rests;
           script = q.changes.script ∙ p.changes.script;
-          shelf = q.changes.shelf ∙ p.changes.shelf;
         }
 
   -- a client came

@@ -1,5 +1,5 @@
 -- How often power was lost, over one call after another.
-use Rattle.std.proofs.Common.{◌≡◌, ℕ, zero, suc, ◌+◌, ◌-◌, ◌^◌, ◌≤◌, ltb, ltb-true, zero-add, Bool, true, false, cond, List, [], ◌∷◌, ◌++◌, Option, Some, None, Err, refl, sym, ap, subst, ◌∙◌, arith}
+use Rattle.std.proofs.Common.{◌≡◌, ◌⊎◌, inl, inr, ℕ, zero, suc, ◌+◌, ◌-◌, ◌^◌, ◌≤◌, ltb, ltb-true, zero-add, Bool, true, false, cond, List, [], ◌∷◌, ◌++◌, Option, Some, None, Err, refl, sym, ap, subst, ◌∙◌, arith}
 use Rattle.std.proofs.lemmas.List.Sums.{sum_by-append}
 use Rattle.std.proofs.Math.Nat.{suc-add}
 use Rattle.std.proofs.lemmas.Bool.{ltb-false}
@@ -8,16 +8,16 @@ use Rattle.pm_model.specs.declared.host.HostFault.TheVariants as hosts
 use Rattle.pm_model.specs.Counts.{Counts, risen, after_fault, after_arm, after_loss_of}
 use Rattle.pud_defs.specs.World.{World}
 use Rattle.pud_defs.specs.declared.machine.Command.{Command}
-use Rattle.pud_defs.specs.declared.machine.Command.TheVariants.{Client, Leave, Define, Cut, Arm}
 use Rattle.pud_defs.specs.Grammar.{command_of}
 use Rattle.pud_defs.specs.Run.{Turn, is_cut, cuts_of}
 use Rattle.puddled.specs.declared.daemon.StartFault.{StartFault}
 use Rattle.puddled.specs.declared.daemon.StartFault.TheVariants as starts
 use Rattle.puddled.specs.declared.daemon.RunFault.{RunFault}
 use Rattle.puddled.specs.declared.daemon.RunFault.TheVariants as faults
-use Rattle.puddled.proofs.Turns.{turn_of, no_cut_reply}
 use Rattle.puddled.specs.Memory.{Memory}
-use Rattle.puddled.specs.Faults.{start_fault, of_host, of_start, risen_by, RoseBy, CountsCuts, CountsTurns, losses_at, restart_losses, last_fault, IsEnded, IsCounted, is_at_once, is_loss, CountsLine, Grows, Ends}
+use Rattle.puddled.proofs.Turns.{turn_of, no_cut_reply}
+use Rattle.puddled.specs.Faults.Kind.{ordinary, loses, arms}
+use Rattle.puddled.specs.Faults.{start_fault, of_host, of_start, risen_by, RoseBy, CountsCuts, CountsTurns, losses_at, restart_losses, last_fault, IsEnded, IsCounted, Kind, kind_of, is_loss_kind, is_loss, CountsKind, CountsLine, CountsCommand, HasLostPower, Grows, Ends}
 
 least_by : (n : ℕ) (b : Bool) → n ≤ cond b (n + 1) n
 least_by n true = omega arith
@@ -103,18 +103,15 @@ counted_failed before after last = record { before = before; lost = CountsCuts-s
 ended_failed : (n : ℕ) (before between after : Counts) → IsEnded n None before between → after ≡ after_fault (Some hosts.Failed) between → IsEnded n (Some faults.Failed) before after
 ended_failed n before between after c last = record { before = c.before; lost = c.lost; last = last ∙ ap (λ (x : Counts). after_fault (Some hosts.Failed) x) c.last }
 
-line_failed : (command : Option Command) (n : ℕ) (before between after : Counts) → CountsLine command None n before between → after ≡ after_fault (Some hosts.Failed) between
-    → CountsLine command (Some faults.Failed) n before after
-line_failed None n before between after c last = ended_failed (0 + n) before between after c last
-line_failed (Some (Client client uid gid)) n before between after c last = ended_failed (0 + n) before between after c last
-line_failed (Some (Leave client)) n before between after c last = ended_failed (0 + n) before between after c last
-line_failed (Some (Define id map)) n before between after c last = ended_failed (0 + n) before between after c last
-line_failed (Some (Cut pick)) n before between after c last = (c.0, ended_failed 0 (after_loss_of pick before) between after c.1 last)
-line_failed (Some (Arm step pick)) n before between after c last = (c.0, λ e. cc, last ∙ ap (λ (x : Counts). after_fault (Some hosts.Failed) x) c.2)
+kind_failed : (kind : Kind) (n : ℕ) (before between after : Counts) → CountsKind kind None n before between → after ≡ after_fault (Some hosts.Failed) between
+    → CountsKind kind (Some faults.Failed) n before after
+kind_failed ordinary n before between after c last = ended_failed (0 + n) before between after c last
+kind_failed (loses pick) n before between after c last = (c.0, ended_failed 0 (after_loss_of pick before) between after c.1 last)
+kind_failed (arms step pick) n before between after c last = (c.0, λ e. cc, last ∙ ap (λ (x : Counts). after_fault (Some hosts.Failed) x) c.2)
 
 pub counted_say : (command : Option Command) (fault : HostFault) (n : ℕ) (before between after : Counts) → CountsLine command None n before between → after ≡ after_fault (Some fault) between
     → (Some fault ≡ Some hosts.Cut → ⊥) → CountsLine command (Some (of_host fault)) n before after
-counted_say command hosts.Failed n before between after c last never_cut = line_failed command n before between after c last
+counted_say command hosts.Failed n before between after c last never_cut = kind_failed (kind_of command) n before between after c last
 counted_say command hosts.Cut n before between after c last never_cut = absurd (never_cut refl)
 
 -- what the device is judged is not what a host's fault is
@@ -136,24 +133,52 @@ none_is_sound e = cc
 pub counted_same : (command : Option Command) (fault : Option RunFault) (n : ℕ) (before between after : Counts) → CountsLine command fault n before between → after ≡ between → CountsLine command fault n before after
 counted_same command fault n before between after c same = subst (λ (x : Counts). CountsLine command fault n before x) (sym same) c
 
--- a line that is none that the host does at once
-pub counted_plain : (command : Option Command) (fault : Option RunFault) (n : ℕ) (before after : Counts) → is_at_once command ≡ false → IsCounted fault n before after → CountsLine command fault n before after
-counted_plain None fault n before after plain c = c
-counted_plain (Some (Client client uid gid)) fault n before after plain c = c
-counted_plain (Some (Leave client)) fault n before after plain c = c
-counted_plain (Some (Define id map)) fault n before after plain c = c
-counted_plain (Some (Cut pick)) fault n before after plain c = absurd (let no : true ≡ false = plain in cc)
-counted_plain (Some (Arm step pick)) fault n before after plain c = absurd (let no : true ≡ false = plain in cc)
-
 -- power lost at once, and the restart behind it
-pub counted_loss : (pick : ℕ) (fault : StartFault) (before after : Counts) → after ≡ after_fault (start_fault {T = Memory} (Err fault)) (after_loss_of pick before)
-    → CountsLine (Some (Cut pick)) (Some (of_start fault)) 0 before after
+counted_loss : (pick : ℕ) (fault : StartFault) (before after : Counts) → after ≡ after_fault (start_fault {T = Memory} (Err fault)) (after_loss_of pick before)
+    → CountsKind (loses pick) (Some (of_start fault)) 0 before after
 counted_loss pick starts.NotSound before after last = (refl, record { before = after_loss_of pick before; lost = CountsCuts-still _ _ refl; last = last })
 counted_loss pick (starts.Host hosts.Failed) before after last = (refl, record { before = after_loss_of pick before; lost = CountsCuts-still _ _ refl; last = last })
 counted_loss pick (starts.Host hosts.Cut) before after last = (refl, record { before = after; lost = CountsCuts-one (after_loss_of pick before) after last; last = refl })
 
-pub counted_lost : (pick : ℕ) (before after : Counts) → after ≡ after_loss_of pick before → CountsLine (Some (Cut pick)) None 0 before after
-counted_lost pick before after same = (refl, counted_nothing (after_loss_of pick before) after same)
+-- ---- a command, and what goes on behind it
+
+-- it was carried out, or refused
+pub kind_done : (kind : Kind) (before after : Counts) → CountsCommand kind None before after → CountsKind kind None 0 before after
+kind_done ordinary before after c = counted_nothing before after c
+kind_done (loses pick) before after c = absurd (let no : None ≡ Some hosts.Cut = c.0 in cc)
+kind_done (arms step pick) before after c = (refl, (λ no. cc), c.1)
+
+-- the host failed in it
+pub kind_faulty : (kind : Kind) (before after : Counts) → CountsCommand kind (Some hosts.Failed) before after → CountsKind kind (Some faults.Failed) 0 before after
+kind_faulty ordinary before after c = counted_failed before after c
+kind_faulty (loses pick) before after c = absurd (let no : Some hosts.Failed ≡ Some hosts.Cut = c.0 in cc)
+kind_faulty (arms step pick) before after c = absurd (let no : Some hosts.Failed ≡ None = c.0 in cc)
+
+-- power was lost in it, and the restart went well
+pub kind_restarted : (kind : Kind) (before mid after : Counts) → CountsCommand kind (Some hosts.Cut) before mid → after ≡ mid → CountsKind kind None 0 before after
+kind_restarted ordinary before mid after c same =
+    let counted = counted_cut before mid after c same in
+    record { before = counted.before; lost = CountsCuts-fewer 0 1 before counted.before counted.lost; last = counted.last }
+kind_restarted (loses pick) before mid after c same = (refl, counted_nothing (after_loss_of pick before) after (same ∙ c.1))
+kind_restarted (arms step pick) before mid after c same = absurd (let no : Some hosts.Cut ≡ None = c.0 in cc)
+
+-- or did not
+pub kind_unstarted : (kind : Kind) (fault : StartFault) (before mid after : Counts) → CountsCommand kind (Some hosts.Cut) before mid → after ≡ after_fault (start_fault {T = Memory} (Err fault)) mid
+    → CountsKind kind (Some (of_start fault)) 0 before after
+kind_unstarted ordinary fault before mid after c last = counted_restart fault before mid after c last
+kind_unstarted (loses pick) fault before mid after c last = counted_loss pick fault before after (last ∙ ap (λ (x : Counts). after_fault (start_fault {T = Memory} (Err fault)) x) c.1)
+kind_unstarted (arms step pick) fault before mid after c last = absurd (let no : Some hosts.Cut ≡ None = c.0 in cc)
+
+-- where no power was lost, none is counted
+pub no_loss_in : (kind : Kind) (before after : Counts) → CountsCommand kind None before after → HasLostPower before after → ⊥
+no_loss_in ordinary before after c (inl moved) = moved (ap (λ (x : Counts). x.cuts) c)
+no_loss_in ordinary before after c (inr moved) = moved (ap (λ (x : Counts). x.losses) c)
+no_loss_in (loses pick) before after c moved = absurd (let no : None ≡ Some hosts.Cut = c.0 in cc)
+no_loss_in (arms step pick) before after c (inl moved) = moved (ap (λ (x : Counts). x.cuts) c.1)
+no_loss_in (arms step pick) before after c (inr moved) = moved (ap (λ (x : Counts). x.losses) c.1)
+
+pub no_loss_still : (before after : Counts) → after ≡ before → HasLostPower before after → ⊥
+no_loss_still before after same moved = no_loss_in ordinary before after same moved
 
 -- ---- over turns
 
@@ -183,6 +208,12 @@ pub size_after_fault : (fault : Option HostFault) (c : Counts) → (after_fault 
 size_after_fault None c = refl
 size_after_fault (Some hosts.Failed) c = refl
 size_after_fault (Some hosts.Cut) c = refl
+
+-- a command leaves the device's size
+pub size_of_command : (kind : Kind) (fault : Option HostFault) (before after : Counts) → CountsCommand kind fault before after → after.size ≡ before.size
+size_of_command ordinary fault before after c = ap (λ (x : Counts). x.size) c ∙ size_after_fault fault before
+size_of_command (loses pick) fault before after c = ap (λ (x : Counts). x.size) c.1
+size_of_command (arms step pick) fault before after c = ap (λ (x : Counts). x.size) c.1
 
 -- ---- lines that are not known
 
@@ -231,19 +262,19 @@ no_restart (Some faults.NotSound) a never = omega arith
 no_restart (Some faults.CutInStart) a never = absurd (never refl)
 
 -- whatever the line is
-pub counted_ends : (command : Option Command) (fault : Option RunFault) (n : ℕ) (a b : Counts) → CountsLine command fault n a b → Ends fault a b
-counted_ends None fault n a b c = ends_plain fault n a b c
-counted_ends (Some (Client client uid gid)) fault n a b c = ends_plain fault n a b c
-counted_ends (Some (Leave client)) fault n a b c = ends_plain fault n a b c
-counted_ends (Some (Define id map)) fault n a b c = ends_plain fault n a b c
-counted_ends (Some (Cut pick)) fault n a b c =
+kind_ends : (kind : Kind) (fault : Option RunFault) (n : ℕ) (a b : Counts) → CountsKind kind fault n a b → Ends fault a b
+kind_ends ordinary fault n a b c = ends_plain fault n a b c
+kind_ends (loses pick) fault n a b c =
     record {
       before = c.1.before;
       grows = Grows-then a (after_loss_of pick a) c.1.before (Grows-loss pick a) (Grows-cuts (restart_losses fault) (after_loss_of pick a) c.1.before c.1.lost);
       lost = c.1.lost.cuts;
       last = c.1.last;
     }
-counted_ends (Some (Arm step pick)) fault n a b c = record { before = after_arm step pick a; grows = Grows-arm step pick a; lost = no_restart fault a.cuts c.1; last = c.2 }
+kind_ends (arms step pick) fault n a b c = record { before = after_arm step pick a; grows = Grows-arm step pick a; lost = no_restart fault a.cuts c.1; last = c.2 }
+
+pub counted_ends : (command : Option Command) (fault : Option RunFault) (n : ℕ) (a b : Counts) → CountsLine command fault n a b → Ends fault a b
+counted_ends command fault n a b c = kind_ends (kind_of command) fault n a b c
 
 pub Ends-none : (a b : Counts) → Ends None a b → Grows a b
 Ends-none a b e = subst (λ (x : Counts). Grows a x) (sym e.last) e.grows
@@ -283,36 +314,36 @@ rose_at_least fault n a b c = RoseBy-fewer (losses_at fault) n a.cuts b.cuts (ro
 rose_by_none : (n a b : ℕ) → n ≡ 0 → a ≤ b → RoseBy n a b
 rose_by_none n a b none le = subst (λ (x : ℕ). RoseBy x a b) (sym none) le
 
+rose_in_kind : (kind : Kind) (fault : Option RunFault) (n : ℕ) (a b : Counts) → CountsKind kind fault n a b → RoseBy n a.cuts b.cuts
+rose_in_kind ordinary fault n a b c = rose_at_least fault n a b c
+rose_in_kind (loses pick) fault n a b c = rose_by_none n a.cuts b.cuts c.0 (let rose = rose_plain fault (restart_losses fault) (after_loss_of pick a) b c.1 in let least = risen_by-least (restart_losses fault) a.cuts in omega arith)
+rose_in_kind (arms step pick) fault n a b c =
+    rose_by_none n a.cuts b.cuts c.0 (let later = cuts_after_fault (last_fault fault) (after_arm step pick a) in let e : b.cuts ≡ (after_fault (last_fault fault) (after_arm step pick a)).cuts = ap (λ (x : Counts). x.cuts) c.2 in omega arith)
+
 -- power was lost as often at least as the reply is `cut`
 pub rose_in_line : (command : Option Command) (fault : Option RunFault) (n : ℕ) (a b : Counts) → CountsLine command fault n a b → RoseBy n a.cuts b.cuts
-rose_in_line None fault n a b c = rose_at_least fault n a b c
-rose_in_line (Some (Client client uid gid)) fault n a b c = rose_at_least fault n a b c
-rose_in_line (Some (Leave client)) fault n a b c = rose_at_least fault n a b c
-rose_in_line (Some (Define id map)) fault n a b c = rose_at_least fault n a b c
-rose_in_line (Some (Cut pick)) fault n a b c = rose_by_none n a.cuts b.cuts c.0 (let rose = rose_plain fault (restart_losses fault) (after_loss_of pick a) b c.1 in let least = risen_by-least (restart_losses fault) a.cuts in omega arith)
-rose_in_line (Some (Arm step pick)) fault n a b c =
-    rose_by_none n a.cuts b.cuts c.0 (let later = cuts_after_fault (last_fault fault) (after_arm step pick a) in let e : b.cuts ≡ (after_fault (last_fault fault) (after_arm step pick a)).cuts = ap (λ (x : Counts). x.cuts) c.2 in omega arith)
+rose_in_line command fault n a b c = rose_in_kind (kind_of command) fault n a b c
 
 two_at_least : (n : ℕ) (a b : Counts) → IsCounted (Some faults.CutInStart) n a b → RoseBy 2 a.cuts b.cuts
 two_at_least n a b c =
     RoseBy-fewer n 2 a.cuts b.cuts (subst (λ (x : ℕ). RoseBy x a.cuts b.cuts) (let e : 2 + n ≡ n + 2 = omega arith in e) (rose_plain (Some faults.CutInStart) (2 + n) a b c))
 
+lost_in_kind : (kind : Kind) (n : ℕ) (a b : Counts) → is_loss_kind kind ≡ false → CountsKind kind (Some faults.CutInStart) n a b → RoseBy 2 a.cuts b.cuts
+lost_in_kind ordinary n a b other c = two_at_least n a b c
+lost_in_kind (loses pick) n a b other c = absurd (let no : true ≡ false = other in cc)
+lost_in_kind (arms step pick) n a b other c = absurd (c.1 refl)
+
 -- in the restart it was lost once more, but for a line in which it was lost at once
 pub lost_in_line : (command : Option Command) (n : ℕ) (a b : Counts) → is_loss command ≡ false → CountsLine command (Some faults.CutInStart) n a b → RoseBy 2 a.cuts b.cuts
-lost_in_line None n a b other c = two_at_least n a b c
-lost_in_line (Some (Client client uid gid)) n a b other c = two_at_least n a b c
-lost_in_line (Some (Leave client)) n a b other c = two_at_least n a b c
-lost_in_line (Some (Define id map)) n a b other c = two_at_least n a b c
-lost_in_line (Some (Cut pick)) n a b other c = absurd (let no : true ≡ false = other in cc)
-lost_in_line (Some (Arm step pick)) n a b other c = absurd (c.1 refl)
+lost_in_line command n a b other c = lost_in_kind (kind_of command) n a b other c
+
+lost_in_restart_of : (kind : Kind) (n : ℕ) (a b : Counts) → CountsKind kind (Some faults.CutInStart) n a b → RoseBy 1 a.cuts b.cuts
+lost_in_restart_of ordinary n a b c = RoseBy-fewer 1 1 a.cuts b.cuts (two_at_least n a b c)
+lost_in_restart_of (loses pick) n a b c = rose_plain (Some faults.CutInStart) 1 (after_loss_of pick a) b c.1
+lost_in_restart_of (arms step pick) n a b c = absurd (c.1 refl)
 
 pub lost_in_restart : (command : Option Command) (n : ℕ) (a b : Counts) → CountsLine command (Some faults.CutInStart) n a b → RoseBy 1 a.cuts b.cuts
-lost_in_restart None n a b c = RoseBy-fewer 1 1 a.cuts b.cuts (two_at_least n a b c)
-lost_in_restart (Some (Client client uid gid)) n a b c = RoseBy-fewer 1 1 a.cuts b.cuts (two_at_least n a b c)
-lost_in_restart (Some (Leave client)) n a b c = RoseBy-fewer 1 1 a.cuts b.cuts (two_at_least n a b c)
-lost_in_restart (Some (Define id map)) n a b c = RoseBy-fewer 1 1 a.cuts b.cuts (two_at_least n a b c)
-lost_in_restart (Some (Cut pick)) n a b c = rose_plain (Some faults.CutInStart) 1 (after_loss_of pick a) b c.1
-lost_in_restart (Some (Arm step pick)) n a b c = absurd (c.1 refl)
+lost_in_restart command n a b c = lost_in_restart_of (kind_of command) n a b c
 
 -- power was lost as often at least as a reply is `cut`
 pub CountsTurns-cuts : (turns : List Turn) (a b : Counts) → CountsTurns turns a b → RoseBy (cuts_of turns) a.cuts b.cuts

@@ -153,7 +153,6 @@ module _ (size : ℕ) (w : World) (memory : Memory) (id map r : ℕ) (old : Stat
     ready = λ none. ready_defined new (subst (λ (f : Option HostFault). Defines r id map f old new) none d);
     lost = d.persists.changes.rests;
     script = d.persists.changes.script;
-    shelf = d.persists.changes.shelf;
   })
 
 place_applies : (size : ℕ) (w : World) (memory : Memory) (id map : ℕ) (fault : Option HostFault) (old new : State) → IsReady size w memory old → is_legal_type_id id ≡ true → is_legal_map map ≡ true

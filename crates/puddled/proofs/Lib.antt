@@ -5,5 +5,6 @@ pub mod Turns
 pub mod Counted
 pub mod Restarts
 pub mod Losing
-pub mod Lines
+pub mod Carrying
 pub mod Settling
+pub mod Lines

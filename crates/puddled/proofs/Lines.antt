@@ -24,7 +24,6 @@ use Rattle.pud_defs.specs.Texts.{start_text, reply_text, answer_text, begins_wit
 use Rattle.pud_defs.specs.Stands.{StandsAfter, StandsWith}
 use Rattle.pud_defs.proofs.Lines.{newlines_part}
 use Rattle.pud_defs.proofs.Said.{newlines-answer_text}
-use Rattle.pud_defs.proofs.Steps.{shelf_of_step}
 use Rattle.batch.specs.Tables.{HasDurableTables}
 use Rattle.batch.specs.Worlds.{IsSettled}
 use Rattle.puddled.specs.declared.daemon.RunFault.{RunFault}
@@ -33,7 +32,9 @@ use Rattle.puddled.specs.Memory.{Memory}
 use Rattle.puddled.specs.declared.daemon.StartFault.{StartFault}
 use Rattle.puddled.specs.declared.daemon.StartFault.TheVariants as starts
 use Rattle.puddled.specs.Faults.{start_fault, of_host, of_start, run_fault, CountsLine}
-use Rattle.puddled.specs.Daemon.{KeepsRest, IsReady, IsPart, SaysPart, Applies, Recovers, Settles, Starts, spoken, Answers}
+use Rattle.puddled.specs.Daemon.{KeepsRest, KeepsLine, IsReady, IsPart, SaysPart, Applies, Recovers, Settles, Starts, spoken, Answers}
+use Rattle.puddled.proofs.Settling.{Between}
+use Rattle.puddled.proofs.Carrying.{KeepsLine-then}
 use Rattle.puddled.proofs.Turns.{turn_of, is_turn_of, cut_turn, is_cut_turn}
 use Rattle.puddled.proofs.Counted.{counted_step, host_is_sound}
 
@@ -112,142 +113,6 @@ pub Starts-refused : (size : ℕ) (w : World) (fault : StartFault) (old new : St
 Starts-refused size w starts.NotSound old new sound r = absurd (sound refl)
 Starts-refused size w (starts.Host fault) old new sound r = Starts-nothing size w fault old new r
 
--- the images between the world before a turn and the one that it gives
-abbrev Between : (size : ℕ) → World → World → Image → Type 0
-Between size w under image = (world_of size image ≡ Some (closed w)) ⊎ (world_of size image ≡ Some (closed under))
-
--- The line was done: the reply is the machine's.
-pub Settles-done : (size : ℕ) (w : World) (memory : Memory) (line : List ℕ) (reply : Reply) (before after : Counts) (old new : State) → Applies size w (step_world w line) memory None old new
-    → of_reply reply ≡ step_answer w line → CountsLine (command_of line) None 0 before after → Settles size w line (Ok reply) memory before after old new
-Settles-done size w memory line reply before after old new a same counts =
-    record {
-      turn = turn_of w line;
-      of_line = refl;
-      is_turn = is_turn_of w line;
-      replied = sym same;
-      moments = a.moments;
-      quiet = a.quiet;
-      ready = λ _. a.ready refl;
-      counted = counted_step w line None before after counts;
-      sound = λ no. cc;
-      script = a.script;
-      shelf = a.shelf;
-    }
-
--- The host failed: nothing was said of the line.
-pub Settles-fault : (size : ℕ) (w : World) (memory now : Memory) (line : List ℕ) (fault : RunFault) (before after : Counts) (old mid new : State) (lost : Option HostFault)
-    → Applies size w (step_world w line) memory lost old mid → new ≡ mid → (Some fault ≡ Some NotSound → ⊥) → CountsLine (command_of line) (Some fault) 0 before after
-    → Settles size w line (Err fault) now before after old new
-Settles-fault size w memory now line fault before after old mid new lost a same sound counts =
-    subst (λ (n : State). Settles size w line (Err fault) now before after old n) (sym same) (record {
-      turn = turn_of w line;
-      of_line = refl;
-      is_turn = is_turn_of w line;
-      replied = tt;
-      moments = a.moments;
-      quiet = a.quiet;
-      ready = λ no. absurd (cc);
-      counted = counted_step w line (Some fault) before after counts;
-      sound = sound;
-      script = a.script;
-      shelf = a.shelf;
-    })
-
--- After a power loss the device reads as one of the two worlds, and the daemon recovers that one.
-record Found (size : ℕ) (w : World) (line : List ℕ) (mid : State) : Type 0 where
-  next : World
-  which : (next ≡ restart w) ⊎ (next ≡ restart (step_world w line))
-  stands : world_of size (reads mid.now.words) ≡ Some (closed next)
-  shelf : mid.shelf ≡ next.shelf
-  again : restart next ≡ next
-
-module _ (size : ℕ) (w : World) (memory : Memory) (line : List ℕ) (old mid : State) (a : Applies size w (step_world w line) memory (Some hosts.Cut) old mid) (was : old.shelf ≡ w.shelf) where
-  read_image : Between size w (step_world w line) (reads mid.now.words)
-  read_image = (Leaves-now (Silently (Between size w (step_world w line))) [] old mid (a.quiet ∙ sym (append-nil old.now.said)) a.moments (reads mid.now.words) (Picks-reads mid.now.words)).1
-
-  found : Found size w line mid
-  found = elim read_image [
-    | inl before ↦ record { next = restart w; which = inl refl; stands = before; shelf = a.shelf ∙ was; again = refl }
-    | inr later ↦ record { next = restart (step_world w line); which = inr refl; stands = later; shelf = a.shelf ∙ was ∙ sym (shelf_of_step w line); again = refl }
-  ]
-
-  -- the restart finds a sound device
-  pub restart_sound : world_of size (reads mid.now.words) ≢ None
-  restart_sound none = let it : Some (closed found.next) ≡ None = sym found.stands ∙ none in cc
-
-  pub found_world : World
-  found_world = found.next
-
-  pub found_stands : world_of size (reads mid.now.words) ≡ Some (closed found_world)
-  unfolding found_world
-  found_stands = found.stands
-
-  pub found_shelf : mid.shelf ≡ found_world.shelf
-  unfolding found_world
-  found_shelf = found.shelf
-
-  -- it was restarted already
-  found_again : restart found_world ≡ found_world
-  unfolding found_world
-  found_again = found.again
-
-  between : (image : Image) → world_of size image ≡ Some (closed found_world) → Between size w (step_world w line) image
-  unfolding found_world
-  between image stands = elim found.which [
-    | inl before ↦ inl (stands ∙ ap (λ (v : World). Some (closed v)) before)
-    | inr later ↦ inr (stands ∙ ap (λ (v : World). Some (closed v)) later)
-  ]
-
-  pub which_world : (found_world ≡ restart w) ⊎ (found_world ≡ restart (step_world w line))
-  unfolding found_world
-  which_world = found.which
-
-  both_moments : (result : Result Memory StartFault) (new : State) → Recovers size found_world result mid new → Leaves (Silently (Between size w (step_world w line))) old new
-  both_moments result new r =
-      let P = Silently (Between size w (step_world w line)) in
-      Leaves-then P (Silently (λ image. world_of size image ≡ Some (closed found_world))) P [] old mid new (a.quiet ∙ sym (append-nil old.now.said))
-      (λ front image m. m) (λ more image m. (m.0, between image m.1)) a.moments r.moments
-
-  -- the daemon started again
-  pub Settles-cut : (now : Memory) (before after : Counts) (new : State) → Recovers size found_world (Ok now) mid new → CountsLine (command_of line) None 1 before after → Settles size w line (Ok Cut) now before after old new
-  Settles-cut now before after new r counts =
-      record {
-        turn = cut_turn w line found_world;
-        of_line = refl;
-        is_turn = is_cut_turn w line found_world which_world;
-        replied = refl;
-        moments = both_moments (Ok now) new r;
-        quiet = r.quiet ∙ a.quiet;
-        ready = λ _. subst (λ (v : World). IsReady size v now new) found_again r.ready;
-        counted = counts;
-        sound = λ no. cc;
-        script = r.script ∙ a.script;
-        shelf = r.shelf ∙ a.shelf;
-      }
-
-  -- the host failed in the restart, or power was lost in it
-  Settles-failed_again : (now : Memory) (fault : HostFault) (before after : Counts) (new : State) → Recovers size found_world (Err (starts.Host fault)) mid new → CountsLine (command_of line) (Some (of_host fault)) 0 before after
-      → Settles size w line (Err (of_host fault)) now before after old new
-  Settles-failed_again now fault before after new r counts =
-      record {
-        turn = turn_of w line;
-        of_line = refl;
-        is_turn = is_turn_of w line;
-        replied = tt;
-        moments = both_moments (Err (starts.Host fault)) new r;
-        quiet = r.quiet ∙ a.quiet;
-        ready = λ no. absurd (cc);
-        counted = counted_step w line (Some (of_host fault)) before after counts;
-        sound = host_is_sound fault;
-        script = r.script ∙ a.script;
-        shelf = r.shelf ∙ a.shelf;
-      }
-
-  pub Settles-restart : (now : Memory) (fault : StartFault) (before after : Counts) (new : State) → (fault ≡ starts.NotSound → ⊥) → Recovers size found_world (Err fault) mid new
-      → CountsLine (command_of line) (Some (of_start fault)) 0 before after → Settles size w line (Err (of_start fault)) now before after old new
-  Settles-restart now starts.NotSound before after new sound r counts = absurd (sound refl)
-  Settles-restart now (starts.Host fault) before after new sound r counts = Settles-failed_again now fault before after new r counts
-
 -- nothing was said yet
 silent_moments : (size : ℕ) (w : World) (t : Turn) (old new : State) → Leaves (Silently (Between size w t.under)) old new → Leaves (StandsWith size w (t ∷ [])) old new
 silent_moments size w t old new moments =
@@ -268,7 +133,6 @@ Answers-fault size w memory line aloud fault before after old new s =
       counted = s.counted;
       sound = s.sound;
       script = s.script;
-      shelf = s.shelf;
     }
 
 -- the reply is not said aloud
@@ -286,7 +150,6 @@ Answers-unsaid size w memory line reply ok before after old new s is =
       counted = s.counted;
       sound = λ no. cc;
       script = s.script;
-      shelf = s.shelf;
     }
 
 -- where the turn's next world stands, one of its two does
@@ -341,7 +204,6 @@ module _ (size : ℕ) (w : World) (memory : Memory) (line : List ℕ) (reply : R
         counted = counts;
         sound = sound;
         script = script_said _ fault mid new says ∙ s.script;
-        shelf = shelf_said _ fault mid new says ∙ s.shelf;
       }
 
 pub KeepsRest-says : (text : List ℕ) (fault : Option HostFault) (old mid new : State) → KeepsRest old mid → Says text fault mid new → KeepsRest old new
@@ -352,3 +214,7 @@ KeepsRest-says text fault old mid new k says =
 pub sound_said : (size : ℕ) (text : List ℕ) (fault : Option HostFault) (mid new : State) → Says text fault mid new → world_of size (reads mid.now.words) ≢ None
     → world_of size (reads new.now.words) ≢ None
 sound_said size text fault mid new says sound none = sound (ap (λ (x : Words). world_of size (reads x)) (sym (words_said text fault mid new says)) ∙ none)
+
+pub KeepsLine-says : (file : Option (List ℕ)) (text : List ℕ) (fault : Option HostFault) (old mid new : State) → KeepsLine file old mid → Says text fault mid new → KeepsLine file old new
+KeepsLine-says file text fault old mid new k says =
+    KeepsLine-then file old mid new k (record { script = script_said text fault mid new says; shelf = shelf_said text fault mid new says })

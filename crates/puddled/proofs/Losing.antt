@@ -8,12 +8,12 @@ use Rattle.pm_model.specs.Calls.{LosesPower, LosesAtOnce}
 use Rattle.pm_model.specs.Changes.{Footprint, Changes, Leaves, Silently}
 use Rattle.pm_model.proofs.Words.{Picks-reads}
 use Rattle.pm_model.proofs.Changes.{Changes-fence, Changes-said, Changes-now}
-use Rattle.pm_model.proofs.Leaves.{Leaves-changes, Leaves-still, Leaves-then}
+use Rattle.pm_model.proofs.Leaves.{Leaves-changes, Leaves-still, Leaves-weaker}
 use Rattle.pud_defs.specs.Image.{Image}
-use Rattle.pud_defs.specs.World.{World, world_of, closed}
+use Rattle.pud_defs.specs.World.{World, world_of, closed, restart}
 use Rattle.puddled.specs.Memory.{Memory}
 use Rattle.puddled.specs.declared.daemon.StartFault.{StartFault}
-use Rattle.puddled.specs.Daemon.{KeepsRest, IsReady, Recovers}
+use Rattle.puddled.specs.Daemon.{KeepsRest, IsReady, Applies}
 
 -- no value comes to any word
 abbrev Nothing : Footprint
@@ -58,30 +58,19 @@ lost_at_once a b (inr still) = record {
   shelf = ap (λ (s : State). s.shelf) still.1;
 }
 
--- what a ready daemon's device then reads as
-pub world_lost : (size : ℕ) (w : World) (memory : Memory) (a b : State) → IsReady size w memory a → LosesAtOnce a b → world_of size (reads b.now.words) ≡ Some (closed w)
-world_lost size w memory a b ready loses =
+-- the device of a ready daemon stands for the restarted world then
+pub Applies-lost : (size : ℕ) (w : World) (memory : Memory) (a b : State) → IsReady size w memory a → LosesAtOnce a b → Applies size w (restart w) memory (Some Cut) a b
+Applies-lost size w memory a b ready loses =
     let lost = lost_at_once a b loses in
-    ready.settled.stands (reads b.now.words) (record { each = λ k. lost.within k (reads b.now.words k) ((Picks-reads b.now.words).each k) })
-
-pub shelf_lost : (size : ℕ) (w : World) (memory : Memory) (a b : State) → IsReady size w memory a → LosesAtOnce a b → b.shelf ≡ w.shelf
-shelf_lost size w memory a b ready loses = (lost_at_once a b loses).shelf ∙ ready.shelf
-
--- the daemon recovers from there
-pub Recovers-lost : (size : ℕ) (w : World) (memory : Memory) (result : Result Memory StartFault) (a b c : State) → IsReady size w memory a → LosesAtOnce a b → Recovers size w result b c → Recovers size w result a c
-Recovers-lost size w memory result a b c ready loses r =
-    let lost = lost_at_once a b loses in
-    let P = Silently (λ (image : Image). world_of size image ≡ Some (closed w)) in
     record {
-      moments = Leaves-then P P P [] a b c (lost.quiet ∙ sym (append-nil a.now.said)) (λ front image m. m) (λ more image m. m)
-          (lost.moments (λ (image : Image). world_of size image ≡ Some (closed w)) ready.settled.stands) r.moments;
-      quiet = r.quiet ∙ lost.quiet;
-      ready = r.ready;
-      script = r.script ∙ lost.script;
-      shelf = r.shelf ∙ lost.shelf;
+      moments = Leaves-weaker _ _ a b (λ bytes image m. (m.0, inl m.1)) (lost.moments (λ (image : Image). world_of size image ≡ Some (closed w)) ready.settled.stands);
+      quiet = lost.quiet;
+      ready = λ none. absurd (let no : Some Cut ≡ None = none in cc);
+      lost = λ _. lost.rested;
+      script = lost.script;
     }
 
-pub KeepsRest-lost : (a b c : State) → LosesAtOnce a b → KeepsRest b c → KeepsRest a c
-KeepsRest-lost a b c loses k =
+pub KeepsRest-lost : (a b : State) → LosesAtOnce a b → KeepsRest a b
+KeepsRest-lost a b loses =
     let lost = lost_at_once a b loses in
-    record { script = k.script ∙ lost.script; shelf = k.shelf ∙ lost.shelf }
+    record { script = lost.script; shelf = lost.shelf }

@@ -1,117 +1,209 @@
--- A line by its command: what is answered, and the world that it gives.
-use Rattle.std.proofs.Common.{◌≡◌, inl, ℕ, List, [], ◌∷◌, Option, Some, None, Ok, Err, refl, sym, ap, subst, ◌∙◌}
+-- A line without a word: its command carried out, and what goes on behind it.
+use Rattle.std.proofs.Common.{◌≡◌, ◌≢◌, ◌⊎◌, inl, inr, ℕ, List, [], ◌∷◌, Option, Some, None, Result, Ok, Err, refl, sym, ap, subst, ◌∙◌}
+use Rattle.std.proofs.lemmas.List.{append-nil}
 use Rattle.pm_model.specs.declared.host.HostFault.{HostFault}
-use Rattle.pm_model.specs.Counts.{Counts, after_fault, after_loss_of, after_arm}
+use Rattle.pm_model.specs.declared.host.HostFault.TheVariants as hosts
+use Rattle.pm_model.specs.Counts.{Counts, after_fault}
+use Rattle.pm_model.specs.Words.{reads}
 use Rattle.pm_model.specs.Moments.{State}
-use Rattle.pm_model.proofs.Leaves.{Leaves-weaker}
-use Rattle.pud_defs.specs.declared.machine.Command.{Command}
-use Rattle.pud_defs.specs.declared.machine.Command.TheVariants.{Cut, Arm}
-use Rattle.pud_defs.specs.declared.machine.Refusal.TheVariants as refusals
+use Rattle.pm_model.specs.Changes.{Leaves, Silently}
+use Rattle.pm_model.proofs.Words.{Picks-reads}
+use Rattle.pm_model.proofs.Leaves.{Leaves-then, Leaves-now}
+use Rattle.pud_defs.specs.declared.machine.Reply.{Reply}
 use Rattle.pud_defs.specs.declared.machine.Reply.TheVariants as replies
+use Rattle.pud_defs.specs.Image.{Image}
+use Rattle.pud_defs.specs.World.{World, world_of, closed, restart}
 use Rattle.pud_defs.specs.Grammar.{command_of}
-use Rattle.pud_defs.specs.World.{World, restart}
-use Rattle.pud_defs.specs.Run.{cuts_of}
-use Rattle.pud_defs.specs.Step.{refusal_of, after, answer_by, world_by, unless_refused, step_answer, step_world}
-use Rattle.pud_defs.specs.Step.Answer.{of_reply}
-use Rattle.pud_defs.proofs.Steps.{answer_is_ok}
+use Rattle.pud_defs.specs.Step.{step_world}
+use Rattle.pud_defs.specs.Changing.{file_in}
+use Rattle.pud_defs.proofs.Changing.{shelf_by, KeepsFiles-none}
 use Rattle.puddled.specs.declared.daemon.StartFault.{StartFault}
 use Rattle.puddled.specs.declared.daemon.StartFault.TheVariants as starts
 use Rattle.puddled.specs.declared.daemon.RunFault.{RunFault}
-use Rattle.puddled.specs.declared.daemon.RunFault.TheVariants.{NotSound}
-use Rattle.puddled.specs.Faults.{start_fault, of_host, of_start, CountsLine}
+use Rattle.puddled.specs.declared.daemon.RunFault.TheVariants as faults
+use Rattle.puddled.specs.Faults.{start_fault, of_host, of_start, Kind, kind_of, CountsKind, CountsCommand, CountsLine, behind_loss}
+use Rattle.puddled.specs.Faults.Kind.{ordinary, loses, arms}
 use Rattle.puddled.specs.Memory.{Memory}
-use Rattle.puddled.specs.Daemon.{IsReady, Applies, Recovers, Settles}
-use Rattle.puddled.proofs.Turns.{turn_of, is_turn_of}
-use Rattle.puddled.proofs.Counted.{counted_step, counted_nothing, counted_loss, counted_lost, none_is_sound, host_is_sound}
-use Rattle.puddled.proofs.Applying.{Applies-idle}
-use Rattle.puddled.proofs.Lines.{Settles-done}
+use Rattle.puddled.specs.Daemon.{IsReady, CarriesOut, Recovers, Settles}
+use Rattle.puddled.proofs.Turns.{turn_of, is_turn_of, cut_turn, is_cut_turn}
+use Rattle.puddled.proofs.Counted.{counted_step, counted_cut, counted_nothing, kind_done, kind_faulty, kind_unstarted, host_is_sound}
+use Rattle.puddled.proofs.Carrying.{restart_line}
 
--- ---- commands that are never refused
+-- the images between the world before a turn and the one that it gives
+abbrev pub Between : (size : ℕ) → World → World → Image → Type 0
+Between size w under image = (world_of size image ≡ Some (closed w)) ⊎ (world_of size image ≡ Some (closed under))
 
-cut_is_free : (w : World) (pick : ℕ) → refusal_of w (Cut pick) ≡ None
-unfolding refusal_of
-cut_is_free w pick = refl
+-- the restart's fault is that of the start
+pub unsound_start : (fault : StartFault) → of_start fault ≡ faults.NotSound → fault ≡ starts.NotSound
+unsound_start starts.NotSound is = refl
+unsound_start (starts.Host fault) is = absurd (host_is_sound fault (ap Some is))
 
-arm_is_free : (w : World) (step pick : ℕ) → refusal_of w (Arm step pick) ≡ None
-unfolding refusal_of
-arm_is_free w step pick = refl
+module _ (size : ℕ) (w : World) (memory : Memory) (line : List ℕ) (before between : Counts) (old mid : State) where
+  -- the line was done: the reply is the machine's
+  pub Settles-done : (reply : Reply) → CarriesOut size w memory (command_of line) (Ok reply) before between old mid → Settles size w line (Ok reply) memory before between old mid
+  Settles-done reply k =
+      record {
+        turn = turn_of w line;
+        of_line = refl;
+        is_turn = is_turn_of w line;
+        replied = sym k.replied;
+        moments = k.applies.moments;
+        quiet = k.applies.quiet;
+        ready = λ _. k.applies.ready refl;
+        counted = counted_step w line None before between (kind_done (kind_of (command_of line)) before between k.counted);
+        sound = λ no. cc;
+        script = k.applies.script;
+      }
 
-world_of_cut : (w : World) (pick : ℕ) → world_by w (Some (Cut pick)) ≡ restart w
-unfolding after
-world_of_cut w pick = ap (λ o. unless_refused o w (after w (Cut pick))) (cut_is_free w pick)
+  -- the host failed: nothing was said of the line
+  pub Settles-failed : (now : Memory) → CarriesOut size w memory (command_of line) (Err hosts.Failed) before between old mid → Settles size w line (Err faults.Failed) now before between old mid
+  Settles-failed now k =
+      record {
+        turn = turn_of w line;
+        of_line = refl;
+        is_turn = is_turn_of w line;
+        replied = tt;
+        moments = k.applies.moments;
+        quiet = k.applies.quiet;
+        ready = λ no. absurd (cc);
+        counted = counted_step w line (Some faults.Failed) before between (kind_faulty (kind_of (command_of line)) before between k.counted);
+        sound = λ no. cc;
+        script = k.applies.script;
+      }
 
-world_of_arm : (w : World) (step pick : ℕ) → world_by w (Some (Arm step pick)) ≡ w
-unfolding after
-world_of_arm w step pick = ap (λ o. unless_refused o w (after w (Arm step pick))) (arm_is_free w step pick)
+-- After a power loss the device reads as one of the two worlds, and the daemon recovers that one.
+record Found (size : ℕ) (w : World) (line : List ℕ) (mid : State) : Type 0 where
+  next : World
+  which : (next ≡ restart w) ⊎ (next ≡ restart (step_world w line))
+  stands : world_of size (reads mid.now.words) ≡ Some (closed next)
+  shelf : mid.shelf ≡ next.shelf
+  again : restart next ≡ next
 
-module _ (size : ℕ) (w : World) (memory : Memory) (line : List ℕ) (before after : Counts) (old new : State) where
-  -- the line is no command
-  pub Settles-bad : command_of line ≡ None → IsReady size w memory old → after ≡ before → new ≡ old → Settles size w line (Ok (replies.No refusals.Bad)) memory before after old new
-  Settles-bad is ready counts same =
-      Settles-done size w memory line (replies.No refusals.Bad) before after old new
-      (subst (λ (c : Option Command). Applies size w (world_by w c) memory None old new) (sym is) (Applies-idle size w memory old new ready same))
-      (sym (ap (answer_by w) is))
-      (subst (λ (c : Option Command). CountsLine c None 0 before after) (sym is) (counted_nothing before after counts))
+module _ (size : ℕ) (w : World) (memory : Memory) (line : List ℕ) (before between : Counts) (old mid : State)
+    (k : CarriesOut size w memory (command_of line) (Err hosts.Cut) before between old mid) (was : old.shelf ≡ w.shelf) where
+  -- no file was written, nor is one by the line
+  kept : mid.shelf ≡ w.shelf
+  kept = KeepsFiles-none (file_in (command_of line)) old.shelf mid.shelf (k.no_file refl) k.files ∙ was
 
-  -- a cut was armed
-  pub Settles-armed : (step pick : ℕ) → command_of line ≡ Some (Arm step pick) → IsReady size w memory old → after ≡ after_arm step pick before → new ≡ old → Settles size w line (Ok replies.Ok) memory before after old new
-  Settles-armed step pick is ready counts same =
-      Settles-done size w memory line replies.Ok before after old new
-      (subst (λ (v : World). Applies size w v memory None old new) (sym (ap (world_by w) is ∙ world_of_arm w step pick)) (Applies-idle size w memory old new ready same))
-      (sym (ap (answer_by w) is ∙ answer_is_ok w (Arm step pick) (arm_is_free w step pick)))
-      (subst (λ (c : Option Command). CountsLine c None 0 before after) (sym is) (refl, λ no. cc, counts))
+  given : (step_world w line).shelf ≡ w.shelf
+  given = shelf_by w (command_of line) (k.no_file refl)
 
-  module _ (pick : ℕ) (is : command_of line ≡ Some (Cut pick)) where
-    -- what the world is read from behind a power loss at once
-    next_is : (n : State) → IsReady size (restart w) memory n → IsReady size (step_world w line) memory n
-    next_is n ready = subst (λ (v : World). IsReady size v memory n) (sym (ap (world_by w) is ∙ world_of_cut w pick)) ready
+  read_image : Between size w (step_world w line) (reads mid.now.words)
+  read_image = (Leaves-now (Silently (Between size w (step_world w line))) [] old mid (k.applies.quiet ∙ sym (append-nil old.now.said)) k.applies.moments (reads mid.now.words) (Picks-reads mid.now.words)).1
 
-    reply_is : step_answer w line ≡ of_reply replies.Ok
-    reply_is = ap (answer_by w) is ∙ answer_is_ok w (Cut pick) (cut_is_free w pick)
+  found : Found size w line mid
+  found = elim read_image [
+    | inl first ↦ record { next = restart w; which = inl refl; stands = first; shelf = kept; again = refl }
+    | inr later ↦ record { next = restart (step_world w line); which = inr refl; stands = later; shelf = kept ∙ sym given; again = refl }
+  ]
 
-    counts_are : (fault : Option RunFault) → CountsLine (Some (Cut pick)) fault 0 before after → CountsLine (command_of line) fault (cuts_of (turn_of w line ∷ [])) before after
-    counts_are fault counts = counted_step w line fault before after (subst (λ (c : Option Command). CountsLine c fault 0 before after) (sym is) counts)
+  -- the restart finds a sound device
+  pub restart_sound : world_of size (reads mid.now.words) ≢ None
+  restart_sound none = let it : Some (closed found.next) ≡ None = sym found.stands ∙ none in cc
 
-    -- power was lost at once, and the daemon started again
-    pub Settles-lost : Recovers size w (Ok memory) old new → after ≡ after_loss_of pick before → Settles size w line (Ok replies.Ok) memory before after old new
-    Settles-lost r counts =
+  pub found_world : World
+  found_world = found.next
+
+  pub found_stands : world_of size (reads mid.now.words) ≡ Some (closed found_world)
+  unfolding found_world
+  found_stands = found.stands
+
+  pub found_shelf : mid.shelf ≡ found_world.shelf
+  unfolding found_world
+  found_shelf = found.shelf
+
+  -- it was restarted already
+  found_again : restart found_world ≡ found_world
+  unfolding found_world
+  found_again = found.again
+
+  stands_between : (image : Image) → world_of size image ≡ Some (closed found_world) → Between size w (step_world w line) image
+  unfolding found_world
+  stands_between image stands = elim found.which [
+    | inl first ↦ inl (stands ∙ ap (λ (v : World). Some (closed v)) first)
+    | inr later ↦ inr (stands ∙ ap (λ (v : World). Some (closed v)) later)
+  ]
+
+  which_world : (found_world ≡ restart w) ⊎ (found_world ≡ restart (step_world w line))
+  unfolding found_world
+  which_world = found.which
+
+  -- where the line gives the restarted world, it is that
+  lost_world : step_world w line ≡ restart w → found_world ≡ step_world w line
+  lost_world is = elim which_world [
+    | inl first ↦ first ∙ sym is
+    | inr later ↦ later ∙ ap restart is ∙ sym is
+  ]
+
+  both_moments : (result : Result Memory StartFault) (new : State) → Recovers size found_world result mid new → Leaves (Silently (Between size w (step_world w line))) old new
+  both_moments result new r =
+      let P = Silently (Between size w (step_world w line)) in
+      Leaves-then P (Silently (λ image. world_of size image ≡ Some (closed found_world))) P [] old mid new (k.applies.quiet ∙ sym (append-nil old.now.said))
+      (λ front image m. m) (λ more image m. (m.0, stands_between image m.1)) k.applies.moments r.moments
+
+  module _ (now : Memory) (after : Counts) (new : State) where
+    -- the daemon started again behind a line that was cut off
+    Settles-cut : kind_of (command_of line) ≡ ordinary → Recovers size found_world (Ok now) mid new → after ≡ between → Settles size w line (Ok replies.Cut) now before after old new
+    Settles-cut is r same =
+        let lost : between ≡ after_fault (Some hosts.Cut) before = subst (λ (x : Kind). CountsCommand x (Some hosts.Cut) before between) is k.counted in
+        record {
+          turn = cut_turn w line found_world;
+          of_line = refl;
+          is_turn = is_cut_turn w line found_world which_world;
+          replied = refl;
+          moments = both_moments (Ok now) new r;
+          quiet = r.quiet ∙ k.applies.quiet;
+          ready = λ _. subst (λ (v : World). IsReady size v now new) found_again r.ready;
+          counted = subst (λ (x : Kind). CountsKind x None 1 before after) (sym is) (counted_cut before between after lost same);
+          sound = λ no. cc;
+          script = r.script ∙ k.applies.script;
+        }
+
+    -- or behind one that asks for it
+    Settles-lost : (pick : ℕ) → kind_of (command_of line) ≡ loses pick → Recovers size found_world (Ok now) mid new → after ≡ between → Settles size w line (Ok replies.Ok) now before after old new
+    Settles-lost pick is r same =
+        let it = restart_line w (command_of line) pick is in
+        let lost = subst (λ (x : Kind). CountsCommand x (Some hosts.Cut) before between) is k.counted in
+        let counts : CountsLine (command_of line) None 0 before after = subst (λ (x : Kind). CountsKind x None 0 before after) (sym is) (refl, counted_nothing _ after (same ∙ lost.1)) in
         record {
           turn = turn_of w line;
           of_line = refl;
           is_turn = is_turn_of w line;
-          replied = reply_is;
-          moments = Leaves-weaker _ _ old new (λ bytes image m. (m.0, inl m.1)) r.moments;
-          quiet = r.quiet;
-          ready = λ _. next_is new r.ready;
-          counted = counts_are None (counted_lost pick before after counts);
-          sound = none_is_sound;
-          script = r.script;
-          shelf = r.shelf;
+          replied = it.answered;
+          moments = both_moments (Ok now) new r;
+          quiet = r.quiet ∙ k.applies.quiet;
+          ready = λ _. subst (λ (v : World). IsReady size v now new) (found_again ∙ lost_world it.given) r.ready;
+          counted = counted_step w line None before after counts;
+          sound = λ no. cc;
+          script = r.script ∙ k.applies.script;
         }
 
-    Settles-lost_again : (fault : HostFault) → Recovers size w (Err (starts.Host fault)) old new → CountsLine (Some (Cut pick)) (Some (of_host fault)) 0 before after → Settles size w line (Err (of_host fault)) memory before after old new
-    Settles-lost_again fault r counts =
+    -- the daemon started again
+    pub Settles-again : (kind : Kind) → kind_of (command_of line) ≡ kind → Recovers size found_world (Ok now) mid new → after ≡ between → Settles size w line (Ok (behind_loss kind)) now before after old new
+    Settles-again ordinary is r same = Settles-cut is r same
+    Settles-again (loses pick) is r same = Settles-lost pick is r same
+    Settles-again (arms step pick) is r same =
+        absurd (let no : Some hosts.Cut ≡ None = (subst (λ (x : Kind). CountsCommand x (Some hosts.Cut) before between) is k.counted).0 in cc)
+
+    -- the host failed in the restart, or power was lost in it
+    Settles-failed_again : (fault : HostFault) → Recovers size found_world (Err (starts.Host fault)) mid new → CountsLine (command_of line) (Some (of_host fault)) 0 before after
+        → Settles size w line (Err (of_host fault)) now before after old new
+    Settles-failed_again fault r counts =
         record {
           turn = turn_of w line;
           of_line = refl;
           is_turn = is_turn_of w line;
           replied = tt;
-          moments = Leaves-weaker _ _ old new (λ bytes image m. (m.0, inl m.1)) r.moments;
-          quiet = r.quiet;
+          moments = both_moments (Err (starts.Host fault)) new r;
+          quiet = r.quiet ∙ k.applies.quiet;
           ready = λ no. absurd (cc);
-          counted = counts_are (Some (of_host fault)) counts;
+          counted = counted_step w line (Some (of_host fault)) before after counts;
           sound = host_is_sound fault;
-          script = r.script;
-          shelf = r.shelf;
+          script = r.script ∙ k.applies.script;
         }
 
-    -- and it did not
-    pub Settles-unstarted : (fault : StartFault) → (fault ≡ starts.NotSound → ⊥) → Recovers size w (Err fault) old new
-        → after ≡ after_fault (start_fault {T = Memory} (Err fault)) (after_loss_of pick before) → Settles size w line (Err (of_start fault)) memory before after old new
-    Settles-unstarted starts.NotSound sound r counts = absurd (sound refl)
-    Settles-unstarted (starts.Host fault) sound r counts = Settles-lost_again fault r (counted_loss pick (starts.Host fault) before after counts)
-
--- the restart's fault is that of the start
-pub unsound_start : (fault : StartFault) → of_start fault ≡ NotSound → fault ≡ starts.NotSound
-unsound_start starts.NotSound is = refl
-unsound_start (starts.Host fault) is = absurd (host_is_sound fault (ap Some is))
+    pub Settles-unstarted : (fault : StartFault) → (fault ≡ starts.NotSound → ⊥) → Recovers size found_world (Err fault) mid new → after ≡ after_fault (start_fault {T = Memory} (Err fault)) between
+        → Settles size w line (Err (of_start fault)) now before after old new
+    Settles-unstarted starts.NotSound sound r last = absurd (sound refl)
+    Settles-unstarted (starts.Host fault) sound r last =
+        Settles-failed_again fault r (kind_unstarted (kind_of (command_of line)) (starts.Host fault) before between after k.counted last)

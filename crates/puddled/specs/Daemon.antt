@@ -3,16 +3,18 @@ use Rattle.std.specs.Prelude.{◌≡◌, ◌≢◌, ◌<◌, ◌⊎◌, ℕ, Boo
 use Rattle.pm_model.specs.declared.host.HostFault.{HostFault}
 use Rattle.pm_model.specs.declared.host.HostFault.TheVariants as hosts
 use Rattle.pm_model.specs.Words.{reads, IsRested}
-use Rattle.pm_model.specs.Counts.{Counts}
+use Rattle.pm_model.specs.Counts.{Counts, fault_of}
 use Rattle.pm_model.specs.Moments.{State}
 use Rattle.pm_model.specs.Changes.{Leaves, Silently}
 use Rattle.pud_defs.specs.declared.machine.Reply.{Reply}
-use Rattle.pud_defs.specs.Step.{Answer}
+use Rattle.pud_defs.specs.Step.{Answer, answer_by, world_by}
 use Rattle.pud_defs.specs.Step.Answer.{of_reply}
 use Rattle.pud_defs.specs.declared.layout.TheConstants.{CLIENTS}
 use Rattle.pud_defs.specs.Spaces.{space_record_at, owner_of, has_closed_logs}
 use Rattle.pud_defs.specs.World.{World, world_of, closed, restart}
+use Rattle.pud_defs.specs.declared.machine.Command.{Command}
 use Rattle.pud_defs.specs.Grammar.{command_of}
+use Rattle.pud_defs.specs.Changing.{file_in, KeepsFiles}
 use Rattle.pud_defs.specs.Run.{Turn, IsTurn, cuts_of}
 use Rattle.pud_defs.specs.Texts.{start_text, answer_text, begins_with_ok}
 use Rattle.pud_defs.specs.Stands.{StandsWith}
@@ -22,12 +24,17 @@ use Rattle.puddled.specs.Memory.{Memory}
 use Rattle.puddled.specs.declared.daemon.StartFault.{StartFault}
 use Rattle.puddled.specs.declared.daemon.RunFault.{RunFault}
 use Rattle.puddled.specs.declared.daemon.RunFault.TheVariants as faults
-use Rattle.puddled.specs.Faults.{start_fault, run_fault, CountsLine}
+use Rattle.puddled.specs.Faults.{start_fault, run_fault, kind_of, CountsLine, CountsCommand}
 
 -- the bytes left to read and the shelf stay
 pub record KeepsRest (old new : State) : Type 0 where
   pub script : new.script ≡ old.script
   pub shelf : new.shelf ≡ old.shelf
+
+-- the bytes left to read stay, and each file but the one named
+pub record KeepsLine (file : Option (List ℕ)) (old new : State) : Type 0 where
+  pub script : new.script ≡ old.script
+  pub files : KeepsFiles file old.shelf new.shelf
 
 -- What the daemon needs of a device between two lines: each image that may be left stands for the world with nothing under way, the daemon
 -- log is closed in it and counts no word, the tables are durable, and what is read of them has the clients that are present. The number of
@@ -60,7 +67,15 @@ pub record Applies (size : ℕ) (w next : World) (memory : Memory) (fault : Opti
   pub ready : fault ≡ None → IsReady size next memory new
   pub lost : fault ≡ Some hosts.Cut → IsRested new.now.words
   pub script : new.script ≡ old.script
-  pub shelf : new.shelf ≡ old.shelf
+
+-- What each command owes, before the daemon goes on behind it: it was carried out, or refused, and the reply is the machine's; only a file that
+-- it names was written, and it names none where power was lost; it was counted by its kind.
+pub record CarriesOut (size : ℕ) (w : World) (memory : Memory) (command : Option Command) (done : Result Reply HostFault) (before after : Counts) (old new : State) : Type 0 where
+  pub replied : IfOk done (λ reply. of_reply reply ≡ answer_by w command)
+  pub applies : Applies size w (world_by w command) memory (fault_of done) old new
+  pub files : KeepsFiles (file_in command) old.shelf new.shelf
+  pub no_file : fault_of done ≡ Some hosts.Cut → file_in command ≡ None
+  pub counted : CountsCommand (kind_of command) (fault_of done) before after
 
 -- Each image left at any moment has the client's record of the log-space table used still, or has each of its logs closed.
 abbrev pub ClosesFirst : ℕ → ℕ → State → State → Type 0
@@ -79,7 +94,6 @@ pub record Settles (size : ℕ) (w : World) (line : List ℕ) (result : Result R
   pub counted : CountsLine (command_of line) (run_fault result) (cuts_of (turn ∷ [])) before after
   pub sound : run_fault result ≢ Some faults.NotSound
   pub script : new.script ≡ old.script
-  pub shelf : new.shelf ≡ old.shelf
 
 -- The daemon recovered what a rested device stands for, without a word: at each moment each image stands for the world, and without a fault
 -- the daemon is ready in it.
@@ -117,4 +131,3 @@ pub record Answers (size : ℕ) (w : World) (line : List ℕ) (aloud : Bool) (re
   pub counted : CountsLine (command_of line) (run_fault result) (cuts_of (turn ∷ [])) before after
   pub sound : run_fault result ≢ Some faults.NotSound
   pub script : new.script ≡ old.script
-  pub shelf : new.shelf ≡ old.shelf

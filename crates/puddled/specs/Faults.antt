@@ -1,10 +1,12 @@
 -- Why a start or a line ended, and how often power was lost, by what a host counts.
-use Rattle.std.specs.Prelude.{◌≡◌, ◌≢◌, ℕ, zero, suc, ◌+◌, ◌≤◌, Bool, true, false, List, [], ◌∷◌, Option, Some, None, Result, Ok, Err}
+use Rattle.std.specs.Prelude.{◌≡◌, ◌≢◌, ◌⊎◌, ℕ, zero, suc, ◌+◌, ◌≤◌, Bool, true, false, List, [], ◌∷◌, Option, Some, None, Result, Ok, Err}
 use Rattle.pm_model.specs.declared.host.HostFault.{HostFault}
 use Rattle.pm_model.specs.declared.host.HostFault.TheVariants as hosts
 use Rattle.pm_model.specs.Counts.{Counts, risen, after_fault, after_arm, after_loss_of}
 use Rattle.pud_defs.specs.declared.machine.Command.{Command}
 use Rattle.pud_defs.specs.declared.machine.Command.TheVariants.{Cut, Arm}
+use Rattle.pud_defs.specs.declared.machine.Reply.{Reply}
+use Rattle.pud_defs.specs.declared.machine.Reply.TheVariants as replies
 use Rattle.pud_defs.specs.Grammar.{command_of}
 use Rattle.pud_defs.specs.Run.{Turn, cuts_of}
 use Rattle.puddled.specs.declared.daemon.StartFault.{StartFault}
@@ -84,24 +86,54 @@ pub record IsEnded (n : ℕ) (fault : Option RunFault) (old new : Counts) : Type
 abbrev pub IsCounted : Option RunFault → ℕ → Counts → Counts → Type 0
 IsCounted fault n old new = IsEnded (losses_at fault + n) fault old new
 
--- the command is one that the host does at once: to lose power, or to arm a cut
-abbrev pub is_at_once : Option Command → Bool
-is_at_once (Some (Cut pick)) = true
-is_at_once (Some (Arm step pick)) = true
-is_at_once command = false
+-- What a host counts of a command: nothing of its own, a loss of power at once with this pick, or a cut armed with this step and pick.
+pub data Kind : Type 0 where
+  ordinary : Kind
+  loses : ℕ → Kind
+  arms : ℕ → ℕ → Kind
 
--- the command is to lose power at once
+abbrev pub kind_of : Option Command → Kind
+kind_of (Some (Cut pick)) = loses pick
+kind_of (Some (Arm step pick)) = arms step pick
+kind_of command = ordinary
+
+-- it is to lose power at once
+abbrev pub is_loss_kind : Kind → Bool
+is_loss_kind ordinary = false
+is_loss_kind (loses pick) = true
+is_loss_kind (arms step pick) = false
+
 abbrev pub is_loss : Option Command → Bool
-is_loss (Some (Cut pick)) = true
-is_loss command = false
+is_loss command = is_loss_kind (kind_of command)
 
--- What a host counts in a line of the command that has n replies `cut`, where it ends so. To arm a cut is counted with its step and pick, and
+-- What a host counts in a line of the kind that has n replies `cut`, where it ends so. To arm a cut is counted with its step and pick, and
 -- no power is lost. To lose power at once is counted with its pick, and no cut but in the restart. In all other lines nothing but cuts and
 -- the fault at its end is counted.
+abbrev pub CountsKind : Kind → Option RunFault → ℕ → Counts → Counts → Type 0
+CountsKind ordinary fault n old new = IsCounted fault n old new
+CountsKind (loses pick) fault n old new = (n ≡ 0) × IsEnded (restart_losses fault) fault (after_loss_of pick old) new
+CountsKind (arms step pick) fault n old new = (n ≡ 0) × (fault ≢ Some faults.CutInStart) × (new ≡ after_fault (last_fault fault) (after_arm step pick old))
+
+-- in a line of the command
 abbrev pub CountsLine : Option Command → Option RunFault → ℕ → Counts → Counts → Type 0
-CountsLine (Some (Arm step pick)) fault n old new = (n ≡ 0) × (fault ≢ Some faults.CutInStart) × (new ≡ after_fault (last_fault fault) (after_arm step pick old))
-CountsLine (Some (Cut pick)) fault n old new = (n ≡ 0) × IsEnded (restart_losses fault) fault (after_loss_of pick old) new
-CountsLine command fault n old new = IsCounted fault n old new
+CountsLine command fault n old new = CountsKind (kind_of command) fault n old new
+
+-- What a host counts of a command up to its end, before a restart: the fault at its end. One that is to lose power at once ends with power
+-- lost, and one that arms a cut without a fault.
+abbrev pub CountsCommand : Kind → Option HostFault → Counts → Counts → Type 0
+CountsCommand ordinary fault old new = new ≡ after_fault fault old
+CountsCommand (loses pick) fault old new = (fault ≡ Some hosts.Cut) × (new ≡ after_loss_of pick old)
+CountsCommand (arms step pick) fault old new = (fault ≡ None) × (new ≡ after_arm step pick old)
+
+-- the reply behind the restart that follows a power loss: where the command is to lose power at once, it was carried out
+abbrev pub behind_loss : Kind → Reply
+behind_loss ordinary = replies.Cut
+behind_loss (loses pick) = replies.Ok
+behind_loss (arms step pick) = replies.Cut
+
+-- power was lost meanwhile, as counted or at once
+abbrev pub HasLostPower : Counts → Counts → Type 0
+HasLostPower old new = (new.cuts ≢ old.cuts) ⊎ (new.losses ≢ old.losses)
 
 -- each of the turns was counted as its line, with its reply
 abbrev pub CountsTurns : List Turn → Counts → Counts → Type 0

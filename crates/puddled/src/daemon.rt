@@ -1,18 +1,17 @@
 //! The daemon's own calls: start, one line, stop.
 ghost use Rattle.std.specs.Prelude.{◌≡◌, ◌≢◌, ◌≤◌, ◌↔◌, ℕ, List, IsOk, IfOk, false, Option, Result};
 ghost use Rattle.pm_model.specs.Words.{IsRested, reads};
-ghost use Rattle.pm_model.specs.Counts.{Counts, after_fault, after_loss_of, fault_of};
+ghost use Rattle.pm_model.specs.Counts.{Counts, after_fault, after_arm, after_loss_of, fault_of};
 ghost use Rattle.pm_model.specs.Moments.{State};
 ghost use Rattle.pud_defs.specs.Layout.{device_words};
 ghost use Rattle.pm_model.specs.Calls.{Says};
-ghost use Rattle.pud_defs.specs.World.{World, world_of, closed};
+ghost use Rattle.pud_defs.specs.World.{World, world_of, closed, restart};
 ghost use Rattle.pud_defs.specs.Texts.{reply_text};
-ghost use Rattle.puddled.specs.Faults.{start_fault, run_fault, IsCounted, is_at_once, CountsLine};
-ghost use Rattle.pud_defs.specs.Grammar.{command_of};
-ghost use Rattle.pud_defs.specs.Step.{step_answer, step_world};
-ghost use Rattle.pud_defs.specs.Step.Answer.{of_reply};
+ghost use Rattle.puddled.specs.Faults.{start_fault, run_fault, kind_of, CountsLine, CountsCommand, behind_loss, HasLostPower};
+ghost use Rattle.pud_defs.specs.Grammar.{command_of, IsLegalCommand};
+ghost use Rattle.pud_defs.specs.Changing.{file_of, file_in};
 ghost use Rattle.puddled.specs.Memory.{Memory};
-ghost use Rattle.puddled.specs.Daemon.{KeepsRest, IsReady, Applies, Recovers, Settles};
+ghost use Rattle.puddled.specs.Daemon.{KeepsRest, KeepsLine, IsReady, Applies, CarriesOut, Recovers, Settles};
 
 use crate::clients::{come, leave};
 use crate::types::define_type;
@@ -134,93 +133,113 @@ fn recover<H: Host>(h: &mut H) -> Result<Daemon, StartFault>
     Ok(Daemon { frames: geo.frames })
 }
 
-/// Loses power at once, and starts again without a word.
-fn lose_power<H: Host>(h: &mut H, pick: u64) -> Result<Daemon, StartFault>
-    ensures recovers { H.tells → (size : ℕ) → size ≡ (H.counts h.old).size → (w : World) → (memory : Memory) → IsReady size w memory (H.state h.old)
-        → Recovers size w result (H.state h.old) (H.state h.new) }
-    ensures sound { H.tells → (size : ℕ) → size ≡ (H.counts h.old).size → (w : World) → (memory : Memory) → IsReady size w memory (H.state h.old)
-        → start_fault result ≡ Option.None → result ≢ Result.Err StartFault.NotSound }
-    ensures restarted { H.tells → IsOk result → world_of (H.counts h.old).size (reads (H.state h.new).now.words) ≢ Option.None }
-    ensures not_sound { H.tells → result ≡ Result.Err StartFault.NotSound
-        → world_of (H.counts h.old).size (reads (H.state h.new).now.words) ≡ Option.None }
-    ensures room { IfOk result (λ daemon. device_words daemon.frames ≤ (H.counts h.old).size) }
+/// Loses power at once: the daemon is to start again behind it, as behind each power loss.
+fn lose_power<H: Host>(h: &mut H, pick: u64) -> Result<Reply, HostFault>
+    ensures lost { result ≡ Result.Err HostFault.Cut }
+    ensures applies { H.tells → (size : ℕ) → (w : World) → (memory : Memory) → IsReady size w memory (H.state h.old)
+        → Applies size w (restart w) memory (Option.Some HostFault.Cut) (H.state h.old) (H.state h.new) }
     ensures rest { H.tells → KeepsRest (H.state h.old) (H.state h.new) }
-    ensures cause { H.counts h.new ≡ after_fault (start_fault result) (after_loss_of pick (H.counts h.old)) }
+    ensures rests { H.tells → IsRested (H.state h.new).now.words }
+    ensures cause { H.counts h.new ≡ after_loss_of pick (H.counts h.old) }
 {
     h.cut(pick);
-    recover(h)
+    Err(HostFault::Cut)
 }
 
-/// Goes on behind a command: where power was lost in it, the daemon starts again, and the reply is `Cut`.
+/// Arms a loss of power at the device step that is number `step` from now on.
+fn arm<H: Host>(h: &mut H, step: u32, pick: u64) -> Result<Reply, HostFault>
+    requires { 1 ≤ step }
+    ensures done { result ≡ Result.Ok Reply.Ok }
+    ensures stays { H.tells → H.state h.new ≡ H.state h.old }
+    ensures cause { H.counts h.new ≡ after_arm step pick (H.counts h.old) }
+{
+    h.arm(step, pick);
+    Ok(Reply::Ok)
+}
+
+/// Carries out the command, or refuses it, without a word.
+#[tactic(auto, using(crate::proofs::Carrying::keeps_line))]
+fn apply<H: Host>(daemon: &Daemon, h: &mut H, command: Command) -> Result<Reply, HostFault>
+    requires legal { IsLegalCommand command }
+    requires room { device_words daemon.now.frames ≤ (H.counts h.old).size }
+    ensures carries { H.tells → (size : ℕ) → size ≡ (H.counts h.old).size → (w : World) → IsReady size w daemon.now (H.state h.old)
+        → CarriesOut size w daemon.now (Option.Some command) result (H.counts h.old) (H.counts h.new) (H.state h.old) (H.state h.new) }
+    ensures rest { H.tells → KeepsLine (file_of command) (H.state h.old) (H.state h.new) }
+    ensures rests { H.tells → fault_of result ≡ Option.Some HostFault.Cut → IsRested (H.state h.new).now.words }
+    ensures cause { CountsCommand (kind_of (Option.Some command)) (fault_of result) (H.counts h.old) (H.counts h.new) }
+{
+    match command {
+        Command::Client { client, uid, gid } => come(h, daemon.frames, u32::from(client), uid, gid),
+        Command::Leave { client } => leave(h, daemon.frames, u32::from(client)),
+        Command::Define { t, map } => define_type(h, t, map),
+        Command::Cut { pick } => lose_power(h, pick),
+        Command::Arm { step, pick } => arm(h, step, pick),
+    }
+}
+
+/// The reply behind a restart: `Cut`, but to a command that asks for the power loss.
+fn reply_behind_loss(command: Command) -> Reply
+    ensures { result ≡ behind_loss (kind_of (Option.Some command)) }
+{
+    match command {
+        Command::Cut { .. } => Reply::Ok,
+        _ => Reply::Cut,
+    }
+}
+
+/// Goes on behind the command: where power was lost in it, the daemon starts again.
 fn go_on<H: Host>(
     daemon: &mut Daemon,
     h: &mut H,
+    command: Command,
     done: Result<Reply, HostFault>,
 ) -> Result<Reply, RunFault>
     requires { device_words daemon.old.frames ≤ (H.counts h.old).size }
     // The command began in the state `before`, with these counts.
-    ensures settles { H.tells → (size : ℕ) → size ≡ (H.counts h.old).size → (w : World) → (line : List ℕ) → (counted : Counts) → (before : State) → before.shelf ≡ w.shelf
-        → Applies size w (step_world w line) daemon.old (fault_of done) before (H.state h.old) → IfOk done (λ reply. of_reply reply ≡ step_answer w line)
-        → H.counts h.old ≡ after_fault (fault_of done) counted → is_at_once (command_of line) ≡ false
+    ensures settles { H.tells → (size : ℕ) → size ≡ (H.counts h.old).size → (w : World) → (line : List ℕ) → (counted : Counts) → (before : State)
+        → command_of line ≡ Option.Some command → before.shelf ≡ w.shelf
+        → CarriesOut size w daemon.old (command_of line) done counted (H.counts h.old) before (H.state h.old)
         → Settles size w line result daemon.new counted (H.counts h.new) before (H.state h.new) }
     // Whatever the device holds: where power was lost, it then reads as a sound one.
     ensures restarted { H.tells → (fault_of done ≡ Option.Some HostFault.Cut → IsRested (H.state h.old).now.words) → (counted : Counts)
-        → H.counts h.old ≡ after_fault (fault_of done) counted → IsOk result → (H.counts h.new).cuts ≢ counted.cuts
+        → CountsCommand (kind_of (Option.Some command)) (fault_of done) counted (H.counts h.old) → IsOk result → HasLostPower counted (H.counts h.new)
         → world_of (H.counts h.old).size (reads (H.state h.new).now.words) ≢ Option.None }
-    ensures passed { (reply : Reply) → done ≡ Result.Ok reply → (result ≡ Result.Ok reply) × (H.counts h.new ≡ H.counts h.old) }
     ensures not_sound { H.tells → result ≡ Result.Err RunFault.NotSound
         → world_of (H.counts h.old).size (reads (H.state h.new).now.words) ≡ Option.None }
     ensures rest { H.tells → KeepsRest (H.state h.old) (H.state h.new) }
     ensures room { device_words daemon.new.frames ≤ (H.counts h.old).size }
-    ensures cause { (counted : Counts) → H.counts h.old ≡ after_fault (fault_of done) counted → IsCounted (run_fault result) 0 counted (H.counts h.new) }
+    ensures cause { (counted : Counts) → CountsCommand (kind_of (Option.Some command)) (fault_of done) counted (H.counts h.old)
+        → CountsLine (Option.Some command) (run_fault result) 0 counted (H.counts h.new) }
 {
     match done {
         Ok(reply) => Ok(reply),
         Err(HostFault::Failed) => Err(RunFault::Failed),
         Err(HostFault::Cut) => {
             *daemon = recover(h)?;
-            Ok(Reply::Cut)
+            Ok(reply_behind_loss(command))
         }
     }
 }
 
-/// Carries out one line without a word. Where power is lost in it the daemon starts again, and the reply is `Cut`.
+/// Carries out one line without a word. Where power is lost in it the daemon starts again.
 fn settle<H: Host>(daemon: &mut Daemon, h: &mut H, line: &[u8]) -> Result<Reply, RunFault>
     requires { device_words daemon.old.frames ≤ (H.counts h.old).size }
     ensures settles { H.tells → (size : ℕ) → size ≡ (H.counts h.old).size → (w : World) → IsReady size w daemon.old (H.state h.old)
         → Settles size w line.now result daemon.new (H.counts h.old) (H.counts h.new) (H.state h.old) (H.state h.new) }
     // Whatever the device holds: where power was lost, as counted or at once, it reads as a sound one behind the restart.
-    ensures restarted { H.tells → IsOk result → (H.counts h.new).cuts ≢ (H.counts h.old).cuts
-        → world_of (H.counts h.old).size (reads (H.state h.new).now.words) ≢ Option.None }
-    ensures restarted_at_once { H.tells → IsOk result → (H.counts h.new).losses ≢ (H.counts h.old).losses
+    ensures restarted { H.tells → IsOk result → HasLostPower (H.counts h.old) (H.counts h.new)
         → world_of (H.counts h.old).size (reads (H.state h.new).now.words) ≢ Option.None }
     ensures not_sound { H.tells → result ≡ Result.Err RunFault.NotSound
         → world_of (H.counts h.old).size (reads (H.state h.new).now.words) ≡ Option.None }
     ensures room { device_words daemon.new.frames ≤ (H.counts h.old).size }
-    ensures rest { H.tells → KeepsRest (H.state h.old) (H.state h.new) }
+    ensures rest { H.tells → KeepsLine (file_in (command_of line.now)) (H.state h.old) (H.state h.new) }
     ensures cause { CountsLine (command_of line.now) (run_fault result) 0 (H.counts h.old) (H.counts h.new) }
 {
     match parse_line(line) {
         Err(_) => Ok(Reply::No(Refusal::Bad)),
-        Ok(Command::Client { client, uid, gid }) => {
-            let done = come(h, daemon.frames, u32::from(client), uid, gid);
-            go_on(daemon, h, done)
-        }
-        Ok(Command::Leave { client }) => {
-            let done = leave(h, daemon.frames, u32::from(client));
-            go_on(daemon, h, done)
-        }
-        Ok(Command::Define { t, map }) => {
-            let done = define_type(h, t, map);
-            go_on(daemon, h, done)
-        }
-        Ok(Command::Cut { pick }) => {
-            *daemon = lose_power(h, pick)?;
-            Ok(Reply::Ok)
-        }
-        Ok(Command::Arm { step, pick }) => {
-            h.arm(step, pick);
-            Ok(Reply::Ok)
+        Ok(command) => {
+            let done = apply(daemon, h, command);
+            go_on(daemon, h, command, done)
         }
     }
 }
@@ -290,15 +309,14 @@ impl Daemon {
             → Answers size w line.now aloud result self.new (H.counts h.old) (H.counts h.new) (H.state h.old) (H.state h.new) }
         // Whatever the device holds: where power was lost, as counted or at once, and without a fault, it then reads as a sound
         // one, and at `NotSound` it does not.
-        ensures restarted { H.tells → IsOk result → (H.counts h.new).cuts ≢ (H.counts h.old).cuts
-            → world_of (H.counts h.old).size (reads (H.state h.new).now.words) ≢ Option.None }
-        ensures restarted_at_once { H.tells → IsOk result → (H.counts h.new).losses ≢ (H.counts h.old).losses
+        ensures restarted { H.tells → IsOk result → HasLostPower (H.counts h.old) (H.counts h.new)
             → world_of (H.counts h.old).size (reads (H.state h.new).now.words) ≢ Option.None }
         ensures not_sound { H.tells → result ≡ Result.Err RunFault.NotSound
             → world_of (H.counts h.old).size (reads (H.state h.new).now.words) ≡ Option.None }
         // The device that it knows has the words that its frames need.
         ensures room { device_words self.new.frames ≤ (H.counts h.old).size }
-        ensures rest { H.tells → KeepsRest (H.state h.old) (H.state h.new) }
+        // The script stays, and each file but one that the line names.
+        ensures rest { H.tells → KeepsLine (file_in (command_of line.now)) (H.state h.old) (H.state h.new) }
         ensures cause { CountsLine (command_of line.now) (run_fault result) 0 (H.counts h.old) (H.counts h.new) }
     {
         let reply = settle(self, h, line)?;

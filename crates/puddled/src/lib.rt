@@ -6,6 +6,3 @@ mod daemon;
 mod types;
 
 pub use daemon::{Daemon, RunFault, StartFault};
-
-#[cfg(test)]
-mod tests;

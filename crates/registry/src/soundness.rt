@@ -169,7 +169,7 @@ fn has_legal_types<H: Host>(h: &mut H, overlay: &Overlay) -> Result<bool, HostFa
     ensures cause { H.counts h.new ≡ after_fault (fault_of result) (H.counts h.old) }
     ensures never_cut { fault_of result ≢ Option.Some HostFault.Cut }
 {
-    let mut ids = [0u64; 64];
+    let mut ids = [0u64; TYPE_RECORDS as usize];
     let mut legal = true;
     for done in 0..TYPE_RECORDS {
         let at = TYPE_TABLE + TYPE_RECORD_WORDS * (TYPE_RECORDS - 1 - done);

@@ -1,7 +1,7 @@
 use Rattle.std.proofs.Common.{◌≡◌, [], true, false, refl, sym, ◌∙◌}
 use Rattle.std.proofs.lemmas.Result.{err_from_is_err_and}
 use Rattle.puddled.proofs.Counted.{counted_ends}
-use Rattle.puddle_cli.proofs.Answering.{AnswersLine-turn, AnswersLine-nothing}
+use Rattle.puddle_cli.proofs.Answering.{AnswersLine-turn, AnswersLine-nothing, KeepsScript-still, KeepsScript-line}
 use Rattle.puddle_cli.proofs.run.answer.Goals as goal
 
 pub returns-then-is_empty-clause-answers : goal.returns-then-is_empty-clause-answers
@@ -14,15 +14,26 @@ returns-in_err-exec-clause-answers g c =
     rw (p.1, p.2) (λ t size e w ready line kept.
     let some : c.args.piece.now ≡ [] → ⊥ = λ none. let no : true ≡ false = sym (c.is_empty.ensures.1 none) ∙ c.if-is_empty.false in cc in
     let answers = rw c.bytes.ensures at (c.in_err-exec.ensures.answers t size e w ready) in
-    AnswersLine-turn size w _ c.args.piece.now line _ _ _ _ _ some kept answers)
+    let keeps = rw c.bytes.ensures at (c.in_err-exec.ensures.rest t) in
+    AnswersLine-turn size w _ c.args.piece.now line _ _ _ _ _ some kept ready.shelf keeps answers)
 
 pub returns-clause-answers : goal.returns-clause-answers
 returns-clause-answers g c = λ t size e w ready line kept.
     let some : c.args.piece.now ≡ [] → ⊥ = λ none. let no : true ≡ false = sym (c.is_empty.ensures.1 none) ∙ c.if-is_empty.false in cc in
     let answers = rw c.bytes.ensures at (c.in_ok-exec.ensures.answers t size e w ready) in
-    AnswersLine-turn size w _ c.args.piece.now line _ _ _ _ _ some kept answers
+    let keeps = rw c.bytes.ensures at (c.in_ok-exec.ensures.rest t) in
+    AnswersLine-turn size w _ c.args.piece.now line _ _ _ _ _ some kept ready.shelf keeps answers
 
 pub returns-in_err-exec-clause-cause : goal.returns-in_err-exec-clause-cause
 returns-in_err-exec-clause-cause g c =
     let p = err_from_is_err_and c.from_residual.result c.from_residual.ensures.1 in
     rw (p.1, p.2) (counted_ends _ _ 0 _ _ c.in_err-exec.ensures.cause)
+
+pub returns-then-is_empty-clause-rest : goal.returns-then-is_empty-clause-rest
+returns-then-is_empty-clause-rest g c = λ t. KeepsScript-still _ _ refl
+
+pub returns-in_err-exec-clause-rest : goal.returns-in_err-exec-clause-rest
+returns-in_err-exec-clause-rest g c = λ t. KeepsScript-line _ _ _ (c.in_err-exec.ensures.rest t)
+
+pub returns-clause-rest : goal.returns-clause-rest
+returns-clause-rest g c = λ t. KeepsScript-line _ _ _ (c.in_ok-exec.ensures.rest t)

@@ -5,7 +5,7 @@ use Rattle.pud_defs.specs.World.{World, no_clients}
 use Rattle.puddled.specs.Faults.{Ends}
 use Rattle.puddled.specs.Daemon.{IsReady}
 use Rattle.puddle_cli.specs.Status.{run_fault_at}
-use Rattle.puddle_cli.specs.Serving.{Answered, TakesBy}
+use Rattle.puddle_cli.specs.Serving.{Answered}
 use Rattle.puddle_cli.proofs.Running.{Headline-in_start, Headline-behind_start, is_started}
 use Rattle.puddle_cli.proofs.Statuses.{goes_on, stays_sound, usable_by, fault_at_status, not_whole_at}
 use Rattle.puddle_cli.proofs.run.run.Goals as goal
@@ -19,8 +19,7 @@ returns-in-Ok-true-clause-headline g c = λ t w none rested shelf stands.
     let by_end = c.in-Ok-true.ensures.answered t size same w ready in
     let answered = subst (λ (b : Bool). Answered size w b None (g.H.Host.counts c.start.new.h) (g.H.Host.counts c.serve.new.h) (g.H.Host.state c.start.new.h) (g.H.Host.state c.serve.new.h)) c.in-Ok-true.field-0-test by_end in
     let from_start = subst (λ (x : Counts). Answered size w true None x (g.H.Host.counts c.serve.new.h) (g.H.Host.state c.start.new.h) (g.H.Host.state c.serve.new.h)) c.in-Ok.ensures.cause answered in
-    let takes = subst (λ (b : Bool). TakesBy (Ok b) (g.H.Host.state c.start.new.h) (g.H.Host.state c.serve.new.h)) c.in-Ok-true.field-0-test (c.in-Ok-true.ensures.takes t) in
-    Headline-behind_start size w _ rested stands 0 true None _ _ _ _ _ shelf starts takes.shelf refl (λ _. refl) (λ e. absurd (cc e)) from_start
+    Headline-behind_start size w _ rested stands 0 true None _ _ _ _ _ starts refl (λ _. refl) (λ e. absurd (cc e)) from_start
 
 pub returns-in-Ok-false-clause-headline : goal.returns-in-Ok-false-clause-headline
 returns-in-Ok-false-clause-headline g c = λ t w none rested shelf stands.
@@ -31,8 +30,7 @@ returns-in-Ok-false-clause-headline g c = λ t w none rested shelf stands.
     let by_end = c.in-Ok-false.ensures.answered t size same w ready in
     let answered = subst (λ (b : Bool). Answered size w b None (g.H.Host.counts c.start.new.h) (g.H.Host.counts c.serve.new.h) (g.H.Host.state c.start.new.h) (g.H.Host.state c.serve.new.h)) c.in-Ok-false.field-0-test by_end in
     let from_start = subst (λ (x : Counts). Answered size w false None x (g.H.Host.counts c.serve.new.h) (g.H.Host.state c.start.new.h) (g.H.Host.state c.serve.new.h)) c.in-Ok.ensures.cause answered in
-    let takes = subst (λ (b : Bool). TakesBy (Ok b) (g.H.Host.state c.start.new.h) (g.H.Host.state c.serve.new.h)) c.in-Ok-false.field-0-test (c.in-Ok-false.ensures.takes t) in
-    Headline-behind_start size w _ rested stands 7 false None _ _ _ _ _ shelf starts takes.shelf refl (λ e. absurd (cc e)) (λ _. refl) from_start
+    Headline-behind_start size w _ rested stands 7 false None _ _ _ _ _ starts refl (λ e. absurd (cc e)) (λ _. refl) from_start
 
 pub returns-in-Err-Host-clause-headline : goal.returns-in-Err-Host-clause-headline
 returns-in-Err-Host-clause-headline g c = λ t w none rested shelf stands.
@@ -51,7 +49,7 @@ returns-in-Err-clause-headline g c = λ t w none rested shelf stands.
     let answered = c.in-Err.ensures.answered t size same w ready in
     let from_start = subst (λ (x : Counts). Answered size w answered.0 (Some fault) x (g.H.Host.counts c.serve.new.h) (g.H.Host.state c.start.new.h) (g.H.Host.state c.serve.new.h)) c.in-Ok.ensures.cause answered.1 in
     let status = c.status_of_run.ensures.status in
-    Headline-behind_start size w _ rested stands c.status_of_run.result answered.0 (Some fault) _ _ _ _ _ shelf starts (c.in-Err.ensures.takes t).shelf (ap run_fault_at status ∙ fault_at_status fault)
+    Headline-behind_start size w _ rested stands c.status_of_run.result answered.0 (Some fault) _ _ _ _ _ starts (ap run_fault_at status ∙ fault_at_status fault)
     (λ e. absurd (not_whole_at fault 0 refl (sym status ∙ e))) (λ e. absurd (not_whole_at fault 7 refl (sym status ∙ e))) from_start
 
 pub returns-in-Err-clause-not_usable : goal.returns-in-Err-clause-not_usable

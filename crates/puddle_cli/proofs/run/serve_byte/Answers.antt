@@ -7,7 +7,7 @@ use Rattle.puddled.specs.declared.daemon.RunFault.{RunFault}
 use Rattle.puddled.specs.Faults.{of_host}
 use Rattle.puddled.proofs.Counted.{Ends-host, host_is_sound}
 use Rattle.puddle_cli.specs.Serving.{Serves, TakesOne}
-use Rattle.puddle_cli.proofs.Answering.{counts_nothing_more, ready_read, Answered-newline, Answered-so_far, Serves-line, Serves-byte, Takes-more, TakesAtMost-takes}
+use Rattle.puddle_cli.proofs.Answering.{counts_nothing_more, ready_read, Answered-newline, Answered-so_far, Serves-line, Serves-byte, Takes-more, TakesAtMost-takes, KeepsScript-still}
 use Rattle.puddle_cli.proofs.run.serve_byte.Goals as goal
 
 pub returns-in_err-read-clause-answered : goal.returns-in_err-read-clause-answered
@@ -56,7 +56,7 @@ returns-in-Some-clause-serves g c = λ t size e w before start s.
 pub returns-in-Some-clause-takes : goal.returns-in-Some-clause-takes
 returns-in-Some-clause-takes g c = λ t count start so_far.
     let took = rw c.in-Some.is at (c.in_ok-read.ensures.taken t) in
-    Takes-more count c.in-Some.byte start _ _ _ so_far took (record { script = refl; shelf = refl })
+    Takes-more count c.in-Some.byte start _ _ _ so_far took (KeepsScript-still _ _ refl)
 
 pub returns-in_err-read-clause-cause : goal.returns-in_err-read-clause-cause
 returns-in_err-read-clause-cause g c =

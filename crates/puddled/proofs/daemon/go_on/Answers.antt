@@ -1,78 +1,86 @@
-use Rattle.std.proofs.Common.{◌≡◌, ℕ, Some, None, Result, Ok, Err, refl, ap, subst, ◌∙◌}
-use Rattle.std.specs.Prelude.{IfOk}
+use Rattle.std.proofs.Common.{◌≡◌, ℕ, Some, None, Result, Ok, Err, refl, sym, ap, subst, ◌∙◌}
 use Rattle.std.proofs.lemmas.Result.{err_from_is_err_and}
 use Rattle.pm_model.specs.declared.host.HostFault.{HostFault}
 use Rattle.pm_model.specs.declared.host.HostFault.TheVariants as hosts
 use Rattle.pm_model.specs.Words.{reads}
-use Rattle.pm_model.specs.Counts.{after_fault, fault_of}
+use Rattle.pm_model.specs.Counts.{fault_of}
 use Rattle.pud_defs.specs.declared.machine.Reply.{Reply}
 use Rattle.pud_defs.specs.World.{world_of}
 use Rattle.pud_defs.specs.Grammar.{command_of}
-use Rattle.pud_defs.specs.Step.{step_answer, step_world}
-use Rattle.pud_defs.specs.Step.Answer.{of_reply}
 use Rattle.puddled.specs.Memory.{Memory}
-use Rattle.puddled.specs.Daemon.{Applies}
+use Rattle.puddled.specs.Daemon.{CarriesOut, Settles}
 use Rattle.puddled.specs.declared.daemon.StartFault.{StartFault}
-use Rattle.puddled.specs.declared.daemon.RunFault.TheVariants.{Failed}
-use Rattle.puddled.specs.Faults.{start_fault}
-use Rattle.puddled.proofs.Counted.{counted_plain, counted_nothing, counted_cut, counted_restart, counted_failed}
+use Rattle.puddled.specs.Faults.{start_fault, kind_of, CountsCommand}
+use Rattle.puddled.proofs.Counted.{kind_done, kind_faulty, kind_restarted, kind_unstarted, no_loss_in}
 use Rattle.puddled.proofs.Restarts.{sound_recovered}
-use Rattle.puddled.proofs.Lines.{Settles-done, Settles-fault, Settles-cut, Settles-restart, restart_sound, found_world, found_stands, found_shelf}
+use Rattle.puddled.proofs.Settling.{Settles-done, Settles-failed, Settles-again, Settles-unstarted, restart_sound, found_world, found_stands, found_shelf}
 use Rattle.puddled.proofs.daemon.go_on.Goals as goal
 
 pub returns-in_err-daemon-in-Err-Cut-clause-settles : goal.returns-in_err-daemon-in-Err-Cut-clause-settles
-returns-in_err-daemon-in-Err-Cut-clause-settles g c = λ t size e w line counted before shelf done replied counts plain.
+returns-in_err-daemon-in-Err-Cut-clause-settles g c = λ t size e w line counted before of_line shelf carries.
     let p = err_from_is_err_and c.from_residual.result c.from_residual.ensures.1 in
     let is : c.args.done ≡ Err hosts.Cut = c.in-Err-Cut.is ∙ ap Err (rw c.in-Err-Cut.is at c.in-Err-Cut.field-0-is) in
     let mid = g.H.Host.state c.args.h.now in
-    let applies = subst (λ (r : Result Reply HostFault). Applies size w (step_world w line) c.args.daemon.now (fault_of r) before mid) is done in
-    let lost = counts ∙ ap (λ (r : Result Reply HostFault). after_fault (fault_of r) counted) is in
+    let k = subst (λ (r : Result Reply HostFault). CarriesOut size w c.args.daemon.now (command_of line) r counted (g.H.Host.counts c.args.h.now) before mid) is carries in
     let fault = c.in_err-daemon-in-Err-Cut.field-0.0 in
-    let next = found_world size w _ line before mid applies shelf in
-    let recovers = c.in_err-daemon-in-Err-Cut.ensures.recovers t size e next (applies.lost refl) (found_stands size w _ line before mid applies shelf) (found_shelf size w _ line before mid applies shelf) in
-    rw (p.1, p.2) (Settles-restart size w _ line before mid applies shelf _ fault _ _ _
+    let next = found_world size w _ line _ _ before mid k shelf in
+    rw (p.1, p.2) (Settles-unstarted size w _ line _ _ before mid k shelf _ _ _ fault
     (λ unsound.
     let none = (c.in_err-daemon-in-Err-Cut.ensures.not_sound t (ap (λ (f : StartFault). start_fault {T = Memory} (Err f)) unsound)).0 (ap Err unsound) in
-    restart_sound size w _ line before mid applies shelf (ap (λ (n : ℕ). world_of n (reads mid.now.words)) e ∙ none))
-    recovers
-    (counted_plain (command_of line) _ 0 _ _ plain (counted_restart fault _ _ _ lost c.in_err-daemon-in-Err-Cut.ensures.cause)))
+    restart_sound size w _ line _ _ before mid k shelf (ap (λ (n : ℕ). world_of n (reads mid.now.words)) e ∙ none))
+    (c.in_err-daemon-in-Err-Cut.ensures.recovers t size e next (k.applies.lost refl) (found_stands size w _ line _ _ before mid k shelf) (found_shelf size w _ line _ _ before mid k shelf))
+    c.in_err-daemon-in-Err-Cut.ensures.cause)
 
 pub returns-in_err-daemon-in-Err-Cut-clause-cause : goal.returns-in_err-daemon-in-Err-Cut-clause-cause
 returns-in_err-daemon-in-Err-Cut-clause-cause g c = λ counted counts.
     let p = err_from_is_err_and c.from_residual.result c.from_residual.ensures.1 in
     let is : c.args.done ≡ Err hosts.Cut = c.in-Err-Cut.is ∙ ap Err (rw c.in-Err-Cut.is at c.in-Err-Cut.field-0-is) in
-    let lost = counts ∙ ap (λ (r : Result Reply HostFault). after_fault (fault_of r) counted) is in
-    rw (p.1, p.2) (counted_restart c.in_err-daemon-in-Err-Cut.field-0.0 _ _ _ lost c.in_err-daemon-in-Err-Cut.ensures.cause)
+    let k = subst (λ (r : Result Reply HostFault). CountsCommand (kind_of (Some c.args.command)) (fault_of r) counted (g.H.Host.counts c.args.h.now)) is counts in
+    rw (p.1, p.2) (kind_unstarted (kind_of (Some c.args.command)) c.in_err-daemon-in-Err-Cut.field-0.0 _ _ _ k c.in_err-daemon-in-Err-Cut.ensures.cause)
 
 pub returns-in-Ok-clause-settles : goal.returns-in-Ok-clause-settles
-returns-in-Ok-clause-settles g c = λ t size e w line counted before shelf done replied counts plain.
-    let mid = g.H.Host.state c.args.h.now in
-    let is = c.in-Ok.is in
-    Settles-done size w _ line c.in-Ok.reply counted _ before mid
-    (subst (λ (r : Result Reply HostFault). Applies size w (step_world w line) c.args.daemon.now (fault_of r) before mid) is done)
-    (subst (λ (r : Result Reply HostFault). IfOk r (λ reply. of_reply reply ≡ step_answer w line)) is replied)
-    (counted_plain (command_of line) None 0 _ _ plain (counted_nothing _ _ (counts ∙ ap (λ (r : Result Reply HostFault). after_fault (fault_of r) counted) is)))
+returns-in-Ok-clause-settles g c = λ t size e w line counted before of_line shelf carries.
+    Settles-done size w _ line _ _ before _ c.in-Ok.reply
+    (subst (λ (r : Result Reply HostFault). CarriesOut size w c.args.daemon.now (command_of line) r counted (g.H.Host.counts c.args.h.now) before (g.H.Host.state c.args.h.now)) c.in-Ok.is carries)
+
+pub returns-in-Ok-clause-cause : goal.returns-in-Ok-clause-cause
+returns-in-Ok-clause-cause g c = λ counted counts.
+    kind_done (kind_of (Some c.args.command)) _ _ (subst (λ (r : Result Reply HostFault). CountsCommand (kind_of (Some c.args.command)) (fault_of r) counted (g.H.Host.counts c.args.h.now)) c.in-Ok.is counts)
+
+pub returns-in-Ok-clause-restarted : goal.returns-in-Ok-clause-restarted
+returns-in-Ok-clause-restarted g c = λ t rested counted counts ok moved.
+    absurd (no_loss_in (kind_of (Some c.args.command)) _ _
+    (subst (λ (r : Result Reply HostFault). CountsCommand (kind_of (Some c.args.command)) (fault_of r) counted (g.H.Host.counts c.args.h.now)) c.in-Ok.is counts) moved)
 
 pub returns-in-Err-Failed-clause-settles : goal.returns-in-Err-Failed-clause-settles
-returns-in-Err-Failed-clause-settles g c = λ t size e w line counted before shelf done replied counts plain.
-    let mid = g.H.Host.state c.args.h.now in
+returns-in-Err-Failed-clause-settles g c = λ t size e w line counted before of_line shelf carries.
     let is : c.args.done ≡ Err hosts.Failed = c.in-Err-Failed.is ∙ ap Err (rw c.in-Err-Failed.is at c.in-Err-Failed.field-0-is) in
-    let applies = subst (λ (r : Result Reply HostFault). Applies size w (step_world w line) c.args.daemon.now (fault_of r) before mid) is done in
-    let last = counts ∙ ap (λ (r : Result Reply HostFault). after_fault (fault_of r) counted) is in
-    Settles-fault size w _ _ line Failed counted _ before mid mid (Some hosts.Failed) applies refl (λ no. cc) (counted_plain (command_of line) _ 0 _ _ plain (counted_failed _ _ last))
+    Settles-failed size w _ line _ _ before _ _
+    (subst (λ (r : Result Reply HostFault). CarriesOut size w c.args.daemon.now (command_of line) r counted (g.H.Host.counts c.args.h.now) before (g.H.Host.state c.args.h.now)) is carries)
+
+pub returns-in-Err-Failed-clause-cause : goal.returns-in-Err-Failed-clause-cause
+returns-in-Err-Failed-clause-cause g c = λ counted counts.
+    let is : c.args.done ≡ Err hosts.Failed = c.in-Err-Failed.is ∙ ap Err (rw c.in-Err-Failed.is at c.in-Err-Failed.field-0-is) in
+    kind_faulty (kind_of (Some c.args.command)) _ _ (subst (λ (r : Result Reply HostFault). CountsCommand (kind_of (Some c.args.command)) (fault_of r) counted (g.H.Host.counts c.args.h.now)) is counts)
 
 pub returns-in_ok-daemon-in-Err-Cut-clause-settles : goal.returns-in_ok-daemon-in-Err-Cut-clause-settles
-returns-in_ok-daemon-in-Err-Cut-clause-settles g c = λ t size e w line counted before shelf done replied counts plain.
-    let mid = g.H.Host.state c.args.h.now in
+returns-in_ok-daemon-in-Err-Cut-clause-settles g c = λ t size e w line counted before of_line shelf carries.
     let is : c.args.done ≡ Err hosts.Cut = c.in-Err-Cut.is ∙ ap Err (rw c.in-Err-Cut.is at c.in-Err-Cut.field-0-is) in
-    let applies = subst (λ (r : Result Reply HostFault). Applies size w (step_world w line) c.args.daemon.now (fault_of r) before mid) is done in
-    let lost = counts ∙ ap (λ (r : Result Reply HostFault). after_fault (fault_of r) counted) is in
-    let next = found_world size w _ line before mid applies shelf in
-    let recovers = c.in_ok-daemon-in-Err-Cut.ensures.recovers t size e next (applies.lost refl) (found_stands size w _ line before mid applies shelf) (found_shelf size w _ line before mid applies shelf) in
-    Settles-cut size w _ line before mid applies shelf _ counted _ _ recovers (counted_plain (command_of line) None 1 _ _ plain (counted_cut _ _ _ lost c.in_ok-daemon-in-Err-Cut.ensures.cause))
+    let mid = g.H.Host.state c.args.h.now in
+    let k = subst (λ (r : Result Reply HostFault). CarriesOut size w c.args.daemon.now (command_of line) r counted (g.H.Host.counts c.args.h.now) before mid) is carries in
+    let next = found_world size w _ line _ _ before mid k shelf in
+    rw c.reply_behind_loss.ensures (Settles-again size w _ line _ _ before mid k shelf _ _ _ (kind_of (Some c.args.command)) (ap kind_of of_line)
+    (c.in_ok-daemon-in-Err-Cut.ensures.recovers t size e next (k.applies.lost refl) (found_stands size w _ line _ _ before mid k shelf) (found_shelf size w _ line _ _ before mid k shelf))
+    c.in_ok-daemon-in-Err-Cut.ensures.cause)
+
+pub returns-in_ok-daemon-in-Err-Cut-clause-cause : goal.returns-in_ok-daemon-in-Err-Cut-clause-cause
+returns-in_ok-daemon-in-Err-Cut-clause-cause g c = λ counted counts.
+    let is : c.args.done ≡ Err hosts.Cut = c.in-Err-Cut.is ∙ ap Err (rw c.in-Err-Cut.is at c.in-Err-Cut.field-0-is) in
+    kind_restarted (kind_of (Some c.args.command)) _ _ _ (subst (λ (r : Result Reply HostFault). CountsCommand (kind_of (Some c.args.command)) (fault_of r) counted (g.H.Host.counts c.args.h.now)) is counts)
+    c.in_ok-daemon-in-Err-Cut.ensures.cause
 
 pub returns-in_ok-daemon-in-Err-Cut-clause-restarted : goal.returns-in_ok-daemon-in-Err-Cut-clause-restarted
-returns-in_ok-daemon-in-Err-Cut-clause-restarted g c = λ t rested counted counts _ moved.
+returns-in_ok-daemon-in-Err-Cut-clause-restarted g c = λ t rested counted counts ok moved.
     let mid = g.H.Host.state c.args.h.now in
     let is : c.args.done ≡ Err hosts.Cut = c.in-Err-Cut.is ∙ ap Err (rw c.in-Err-Cut.is at c.in-Err-Cut.field-0-is) in
     sound_recovered (g.H.Host.counts c.args.h.now).size (Ok _) mid _ refl

@@ -1,9 +1,9 @@
-use Rattle.std.proofs.Common.{None, Some, Ok, Err, refl, ap, ◌∙◌}
+use Rattle.std.proofs.Common.{None, Some, Ok, Err, refl, ap, subst, ◌∙◌}
 use Rattle.std.proofs.lemmas.Result.{err_from_is_err_and}
 use Rattle.pm_model.specs.Counts.{Counts}
-use Rattle.puddled.specs.Faults.{of_host}
+use Rattle.puddled.specs.Faults.{of_host, HasLostPower}
 use Rattle.puddled.proofs.Counted.{not_none, none_is_sound, counted_say, counted_same, host_is_sound}
-use Rattle.puddled.proofs.Lines.{Answers-fault, Answers-unsaid, Answers-said, KeepsRest-says, sound_said}
+use Rattle.puddled.proofs.Lines.{Answers-fault, Answers-unsaid, Answers-said, KeepsLine-says, sound_said}
 use Rattle.puddled.proofs.daemon.Daemon.exec.Goals as goal
 use Rattle.puddled.proofs.daemon.Daemon.exec.Goals.{then-aloud+in_ok-say_reply, else-aloud}
 
@@ -25,16 +25,8 @@ pub returns-clause-restarted : goal.returns-clause-restarted
 returns-clause-restarted g c = λ t. elim c.if-aloud.branch [
   | then-aloud+in_ok-say_reply b ↦
       rw b.h-is (λ _ moved. sound_said _ _ _ _ _ (b.in_ok-say_reply.ensures.says t)
-      (c.in_ok-reply.ensures.restarted t refl (λ same. moved (ap (λ (x : Counts). x.cuts) b.in_ok-say_reply.ensures.cause ∙ same))))
+      (c.in_ok-reply.ensures.restarted t refl (subst (λ (x : Counts). HasLostPower (g.H.Host.counts c.args.h.now) x) b.in_ok-say_reply.ensures.cause moved)))
   | else-aloud b ↦ rw b.h-is (λ _ moved. c.in_ok-reply.ensures.restarted t refl moved)
-]
-
-pub returns-clause-restarted_at_once : goal.returns-clause-restarted_at_once
-returns-clause-restarted_at_once g c = λ t. elim c.if-aloud.branch [
-  | then-aloud+in_ok-say_reply b ↦
-      rw b.h-is (λ _ moved. sound_said _ _ _ _ _ (b.in_ok-say_reply.ensures.says t)
-      (c.in_ok-reply.ensures.restarted_at_once t refl (λ same. moved (ap (λ (x : Counts). x.losses) b.in_ok-say_reply.ensures.cause ∙ same))))
-  | else-aloud b ↦ rw b.h-is (λ _ moved. c.in_ok-reply.ensures.restarted_at_once t refl moved)
 ]
 
 pub returns-clause-answers : goal.returns-clause-answers
@@ -53,10 +45,10 @@ returns-in_err-say_reply-clause-cause g c =
     rw (p.1, p.2) (counted_say _ c.in_err-say_reply.field-0.0 _ _ _ _ c.in_ok-reply.ensures.cause c.in_err-say_reply.ensures.cause c.in_err-say_reply.ensures.never_cut)
 
 pub returns-in_err-say_reply-clause-rest : goal.returns-in_err-say_reply-clause-rest
-returns-in_err-say_reply-clause-rest g c = λ t. KeepsRest-says _ _ _ _ _ (c.in_ok-reply.ensures.rest t) (c.in_err-say_reply.ensures.says t)
+returns-in_err-say_reply-clause-rest g c = λ t. KeepsLine-says _ _ _ _ _ _ (c.in_ok-reply.ensures.rest t) (c.in_err-say_reply.ensures.says t)
 
 pub returns-clause-rest : goal.returns-clause-rest
 returns-clause-rest g c = λ t. elim c.if-aloud.branch [
-  | then-aloud+in_ok-say_reply b ↦ rw b.h-is (KeepsRest-says _ _ _ _ _ (c.in_ok-reply.ensures.rest t) (b.in_ok-say_reply.ensures.says t))
+  | then-aloud+in_ok-say_reply b ↦ rw b.h-is (KeepsLine-says _ _ _ _ _ _ (c.in_ok-reply.ensures.rest t) (b.in_ok-say_reply.ensures.says t))
   | else-aloud b ↦ rw b.h-is (c.in_ok-reply.ensures.rest t)
 ]

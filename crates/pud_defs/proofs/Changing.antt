@@ -1,0 +1,93 @@
+-- What is no part of what a command may change stays.
+use Rattle.std.proofs.Common.{◌≡◌, inl, inr, ℕ, T, List, [], ◌∷◌, ◌++◌, Option, Some, None, nat_cmp, refl, sym, ap, ◌∙◌}
+use Rattle.std.specs.FinMap.Entries.{is_sorted}
+use Rattle.pud_defs.specs.declared.machine.Command.{Command}
+use Rattle.pud_defs.specs.declared.machine.Command.TheVariants.{Client, Leave, Define, Cut, Arm}
+use Rattle.pud_defs.specs.declared.machine.Refusal.{Refusal}
+use Rattle.pud_defs.specs.World.{World}
+use Rattle.pud_defs.specs.Grammar.{command_of}
+use Rattle.pud_defs.specs.Step.{refusal_of, after, unless_refused, world_by, step_world}
+use Rattle.pud_defs.specs.Changing.{Part, part_of, with_part, file_of, file_in, KeepsFiles, IsWritable, KeepsUnwritable}
+use Rattle.pud_defs.specs.Run.{Turn, IsTurn, IsRun, last_world}
+use Rattle.pud_defs.proofs.TypeLists.{is_sorted-with_type}
+use Rattle.pud_defs.specs.Changing.Part.{types, clients, nothing}
+
+-- a command changes its part alone
+pub after-part : (w : World) (c : Command) → after w c ≡ with_part (part_of c) (after w c) w
+unfolding after
+after-part w (Client client uid gid) = refl
+after-part w (Leave client) = refl
+after-part w (Define id map) = refl
+after-part w (Cut pick) = refl
+after-part w (Arm step pick) = refl
+
+-- types stay by ascending ids
+pub is_sorted-after : (w : World) (c : Command) → T (is_sorted nat_cmp w.stored.types) → T (is_sorted nat_cmp (after w c).stored.types)
+unfolding after
+is_sorted-after w (Define id map) h = is_sorted-with_type id map w.stored.types h
+is_sorted-after w c h = h
+
+-- ---- the shelf
+
+-- no part has a file
+shelf_of_part : (p : Part) (v w : World) → (with_part p v w).shelf ≡ w.shelf
+shelf_of_part types v w = refl
+shelf_of_part clients v w = refl
+shelf_of_part nothing v w = refl
+
+shelf_after : (w : World) (c : Command) → (after w c).shelf ≡ w.shelf
+shelf_after w c = ap (λ (x : World). x.shelf) (after-part w c) ∙ shelf_of_part (part_of c) (after w c) w
+
+shelf_unless : (r : Option Refusal) (before later : World) → later.shelf ≡ before.shelf → (unless_refused r before later).shelf ≡ before.shelf
+shelf_unless None before later same = same
+shelf_unless (Some r) before later same = refl
+
+-- a command that writes no file leaves the shelf
+pub shelf_by : (w : World) (c : Option Command) → file_in c ≡ None → (world_by w c).shelf ≡ w.shelf
+shelf_by w None none = refl
+shelf_by w (Some c) none = shelf_unless (refusal_of w c) w (after w c) (shelf_after w c)
+
+-- no line of today writes one
+pub no_file_in : (c : Option Command) → file_in c ≡ None
+no_file_in None = refl
+no_file_in (Some c) = refl
+
+-- the shelf stays
+pub shelf_of_step : (w : World) (line : List ℕ) → (step_world w line).shelf ≡ w.shelf
+shelf_of_step w line = shelf_by w (command_of line) (no_file_in (command_of line))
+
+-- nor does a run change it
+shelf_of_turn : (w : World) (t : Turn) → IsTurn w t → t.next.shelf ≡ w.shelf
+shelf_of_turn w t (inl turn) = ap (λ (x : World). x.shelf) (turn.goes_on ∙ turn.step.given) ∙ shelf_of_step w t.line
+shelf_of_turn w t (inr turn) = elim turn.goes_on [
+  | inl before ↦ ap (λ (x : World). x.shelf) before
+  | inr later ↦ ap (λ (x : World). x.shelf) later ∙ ap (λ (x : World). x.shelf) turn.given ∙ shelf_of_step w t.line
+]
+
+pub shelf_of_turns : (w : World) (turns more : List Turn) → IsRun w (turns ++ more) → (last_world w turns).shelf ≡ w.shelf
+shelf_of_turns w [] more is = refl
+shelf_of_turns w (t ∷ turns) more is = shelf_of_turns t.next turns more is.1 ∙ shelf_of_turn w t is.0
+
+pub KeepsFiles-still : (file : Option (List ℕ)) (old new : List ℕ → Option (List ℕ)) → new ≡ old → KeepsFiles file old new
+KeepsFiles-still file old new same = record { others = λ name other. ap (λ (s : List ℕ → Option (List ℕ)). s name) same }
+
+-- where no file is named the shelf stays
+pub KeepsFiles-none : (file : Option (List ℕ)) (old new : List ℕ → Option (List ℕ)) → file ≡ None → KeepsFiles file old new → new ≡ old
+KeepsFiles-none file old new none k = λ i name. k.others name (λ named. absurd (cc)) i
+
+pub KeepsFiles-then : (file : Option (List ℕ)) (a b c : List ℕ → Option (List ℕ)) → KeepsFiles file a b → KeepsFiles file b c → KeepsFiles file a c
+KeepsFiles-then file a b c p q = record { others = λ name other. q.others name other ∙ p.others name other }
+
+pub KeepsUnwritable-still : (old new : List ℕ → Option (List ℕ)) → new ≡ old → KeepsUnwritable old new
+KeepsUnwritable-still old new same = record { others = λ name other. ap (λ (s : List ℕ → Option (List ℕ)). s name) same }
+
+pub KeepsUnwritable-then : (a b c : List ℕ → Option (List ℕ)) → KeepsUnwritable a b → KeepsUnwritable b c → KeepsUnwritable a c
+KeepsUnwritable-then a b c p q = record { others = λ name other. q.others name other ∙ p.others name other }
+
+-- a line writes its own file alone
+pub KeepsUnwritable-line : (line : List ℕ) (old new : List ℕ → Option (List ℕ)) → KeepsFiles (file_in (command_of line)) old new → KeepsUnwritable old new
+KeepsUnwritable-line line old new k = record { others = λ name other. k.others name (λ named. other (record { line = line; names = named })) }
+
+-- where no line writes a file the shelf stays
+pub KeepsUnwritable-none : (old new : List ℕ → Option (List ℕ)) → KeepsUnwritable old new → new ≡ old
+KeepsUnwritable-none old new k = λ i name. k.others name (λ w. absurd (let it : None ≡ Some name = sym (no_file_in (command_of w.line)) ∙ w.names in cc)) i

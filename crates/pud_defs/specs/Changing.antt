@@ -1,0 +1,46 @@
+-- Which part of the world a command may change, and which file it may write.
+use Rattle.std.specs.Prelude.{◌≡◌, ℕ, List, Option, Some, None}
+use Rattle.pud_defs.specs.declared.machine.Command.{Command}
+use Rattle.pud_defs.specs.declared.machine.Command.TheVariants.{Client, Leave, Define, Cut, Arm}
+use Rattle.pud_defs.specs.World.{World}
+use Rattle.pud_defs.specs.Grammar.{command_of}
+
+pub data Part : Type 0 where
+  types : Part
+  clients : Part
+  nothing : Part
+
+abbrev pub part_of : Command → Part
+part_of (Client client uid gid) = clients
+part_of (Leave client) = clients
+part_of (Define id map) = types
+part_of (Cut pick) = clients
+part_of (Arm step pick) = nothing
+
+-- the world w, but for this part, which is as v has it
+abbrev pub with_part : Part → World → World → World
+with_part types v w = record w { stored = record w.stored { types = v.stored.types } }
+with_part clients v w = record w { clients = v.clients }
+with_part nothing v w = w
+
+-- the file that a command may write: none does
+abbrev pub file_of : Command → Option (List ℕ)
+file_of c = None
+
+-- the file that a line may write, by the command that it is
+abbrev pub file_in : Option Command → Option (List ℕ)
+file_in None = None
+file_in (Some c) = file_of c
+
+-- Each file but the one named is as it was.
+pub record KeepsFiles (file : Option (List ℕ)) (old new : List ℕ → Option (List ℕ)) : Type 0 where
+  pub others : (name : List ℕ) → (file ≡ Some name → ⊥) → new name ≡ old name
+
+-- some line may write the file
+pub record IsWritable (name : List ℕ) : Type 0 where
+  pub line : List ℕ
+  pub names : file_in (command_of line) ≡ Some name
+
+-- Each file that no line may write is as it was.
+pub record KeepsUnwritable (old new : List ℕ → Option (List ℕ)) : Type 0 where
+  pub others : (name : List ℕ) → (IsWritable name → ⊥) → new name ≡ old name

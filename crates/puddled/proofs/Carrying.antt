@@ -1,0 +1,106 @@
+-- What each command owes, from what its own call ensures.
+use Rattle.std.proofs.Common.{◌≡◌, ℕ, List, Option, Some, None, Result, Ok, Err, refl, sym, ap, subst, ◌∙◌}
+use Rattle.std.specs.Prelude.{IfOk}
+use Rattle.pm_model.specs.declared.host.HostFault.{HostFault}
+use Rattle.pm_model.specs.declared.host.HostFault.TheVariants as hosts
+use Rattle.pm_model.specs.Counts.{Counts, after_fault, after_arm, after_loss_of, fault_of}
+use Rattle.pm_model.specs.Moments.{State}
+use Rattle.pud_defs.specs.declared.machine.Command.{Command}
+use Rattle.pud_defs.specs.declared.machine.Command.TheVariants.{Cut, Arm}
+use Rattle.pud_defs.specs.declared.machine.Reply.{Reply}
+use Rattle.pud_defs.specs.declared.machine.Reply.TheVariants as replies
+use Rattle.pud_defs.specs.declared.machine.Refusal.TheVariants as refusals
+use Rattle.pud_defs.specs.World.{World, restart}
+use Rattle.pud_defs.specs.Step.{refusal_of, after, answer_by, world_by}
+use Rattle.pud_defs.specs.Step.Answer.{of_reply}
+use Rattle.pud_defs.specs.Changing.{file_of}
+use Rattle.pud_defs.proofs.Changing.{KeepsFiles-still, KeepsFiles-then}
+use Rattle.pud_defs.proofs.Steps.{answer_is_ok, done_world}
+use Rattle.puddled.specs.Faults.{Kind, kind_of, CountsCommand}
+use Rattle.puddled.specs.Faults.Kind.{ordinary, loses, arms}
+use Rattle.puddled.specs.Memory.{Memory}
+use Rattle.puddled.specs.Daemon.{KeepsRest, KeepsLine, IsReady, Applies, CarriesOut}
+use Rattle.puddled.proofs.Applying.{Applies-idle}
+
+-- what keeps the shelf keeps each file
+pub keeps_line : (file : Option (List ℕ)) (old new : State) → KeepsRest old new → KeepsLine file old new
+keeps_line file old new k = record { script = k.script; files = KeepsFiles-still file old.shelf new.shelf k.shelf }
+
+pub KeepsLine-then : (file : Option (List ℕ)) (a b c : State) → KeepsLine file a b → KeepsRest b c → KeepsLine file a c
+KeepsLine-then file a b c p k =
+    let q = keeps_line file b c k in
+    record { script = q.script ∙ p.script; files = KeepsFiles-then file a.shelf b.shelf c.shelf p.files q.files }
+
+-- ---- commands that are never refused
+
+cut_is_free : (w : World) (pick : ℕ) → refusal_of w (Cut pick) ≡ None
+unfolding refusal_of
+cut_is_free w pick = refl
+
+arm_is_free : (w : World) (step pick : ℕ) → refusal_of w (Arm step pick) ≡ None
+unfolding refusal_of
+arm_is_free w step pick = refl
+
+world_of_cut : (w : World) (pick : ℕ) → world_by w (Some (Cut pick)) ≡ restart w
+unfolding after
+world_of_cut w pick = done_world w (Cut pick) (cut_is_free w pick)
+
+world_of_arm : (w : World) (step pick : ℕ) → world_by w (Some (Arm step pick)) ≡ w
+unfolding after
+world_of_arm w step pick = done_world w (Arm step pick) (arm_is_free w step pick)
+
+-- what a line that is to lose power at once is answered, and the world that it gives
+pub record IsRestart (w : World) (command : Option Command) : Type 0 where
+  pub answered : answer_by w command ≡ of_reply replies.Ok
+  pub given : world_by w command ≡ restart w
+
+pub restart_line : (w : World) (command : Option Command) (pick : ℕ) → kind_of command ≡ loses pick → IsRestart w command
+restart_line w (Some (Cut p)) pick is = record { answered = answer_is_ok w (Cut p) (cut_is_free w p); given = world_of_cut w p }
+restart_line w (Some (Arm step p)) pick is = absurd (let no : arms step p ≡ loses pick = is in cc)
+restart_line w command pick is = absurd (let no : ordinary ≡ loses pick = is in cc)
+
+-- ---- each command
+
+module _ (size : ℕ) (w : World) (memory : Memory) (before after : Counts) (old new : State) where
+  -- one that counts nothing of its own, and writes no file
+  pub CarriesOut-plain : (c : Command) (done : Result Reply HostFault) → kind_of (Some c) ≡ ordinary → file_of c ≡ None → IfOk done (λ reply. of_reply reply ≡ answer_by w (Some c))
+      → Applies size w (world_by w (Some c)) memory (fault_of done) old new → KeepsRest old new → after ≡ after_fault (fault_of done) before → CarriesOut size w memory (Some c) done before after old new
+  CarriesOut-plain c done plain none replied applies rest cause = record {
+    replied = replied;
+    applies = applies;
+    files = KeepsFiles-still (file_of c) old.shelf new.shelf rest.shelf;
+    no_file = λ _. none;
+    counted = subst (λ (k : Kind). CountsCommand k (fault_of done) before after) (sym plain) cause;
+  }
+
+  -- power was lost at once
+  pub CarriesOut-lost : (pick : ℕ) (done : Result Reply HostFault) → done ≡ Err hosts.Cut → Applies size w (restart w) memory (Some hosts.Cut) old new → KeepsRest old new
+      → after ≡ after_loss_of pick before → CarriesOut size w memory (Some (Cut pick)) done before after old new
+  CarriesOut-lost pick done is applies rest cause = subst (λ (r : Result Reply HostFault). CarriesOut size w memory (Some (Cut pick)) r before after old new) (sym is) (record {
+    replied = tt;
+    applies = subst (λ (v : World). Applies size w v memory (Some hosts.Cut) old new) (sym (world_of_cut w pick)) applies;
+    files = KeepsFiles-still None old.shelf new.shelf rest.shelf;
+    no_file = λ _. refl;
+    counted = (refl, cause);
+  })
+
+  -- a power loss was armed
+  pub CarriesOut-armed : (step pick : ℕ) (done : Result Reply HostFault) → done ≡ Ok replies.Ok → IsReady size w memory old → new ≡ old
+      → after ≡ after_arm step pick before → CarriesOut size w memory (Some (Arm step pick)) done before after old new
+  CarriesOut-armed step pick done is ready same cause = subst (λ (r : Result Reply HostFault). CarriesOut size w memory (Some (Arm step pick)) r before after old new) (sym is) (record {
+    replied = sym (answer_is_ok w (Arm step pick) (arm_is_free w step pick));
+    applies = subst (λ (v : World). Applies size w v memory None old new) (sym (world_of_arm w step pick)) (Applies-idle size w memory old new ready same);
+    files = KeepsFiles-still None old.shelf new.shelf (ap (λ (s : State). s.shelf) same);
+    no_file = λ _. refl;
+    counted = (refl, cause);
+  })
+
+  -- the line is no command
+  pub CarriesOut-bad : IsReady size w memory old → new ≡ old → after ≡ before → CarriesOut size w memory None (Ok (replies.No refusals.Bad)) before after old new
+  CarriesOut-bad ready same cause = record {
+    replied = refl;
+    applies = Applies-idle size w memory old new ready same;
+    files = KeepsFiles-still None old.shelf new.shelf (ap (λ (s : State). s.shelf) same);
+    no_file = λ _. refl;
+    counted = cause;
+  }
