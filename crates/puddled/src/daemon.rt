@@ -18,7 +18,6 @@ use crate::clients::{come, leave};
 use crate::types::define_type;
 use log_space::clear_spaces;
 use pm_model::{Host, HostFault};
-use pud_defs::layout::REPLY_LIMIT;
 use pud_defs::machine::{Command, Refusal, Reply};
 use registry::{LoadFault, load_sound};
 use script::{parse_line, print_reply};
@@ -253,7 +252,7 @@ fn say_reply<H: Host>(h: &mut H, reply: Reply) -> Result<(), HostFault>
     ensures cause { H.counts h.new ≡ after_fault (fault_of result) (H.counts h.old) }
     ensures never_cut { fault_of result ≢ Option.Some HostFault.Cut }
 {
-    let mut text = [0u8; REPLY_LIMIT];
+    let mut text = [0u8; 32];
     let length = print_reply(reply, &mut text);
     h.say(&text[..length])
 }
