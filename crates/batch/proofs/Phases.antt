@@ -1,5 +1,5 @@
 -- The parts in which a batch is written: its entries, the range, their places, the closed gate.
-use Rattle.std.proofs.Common.{◌≡◌, ◌⊎◌, inl, inr, ℕ, ◌+◌, ◌-◌, ◌<◌, ◌≤◌, ◌^◌, true, false, List, [], length, get_or, Option, Some, None, refl, sym, ap, ◌∙◌, arith}
+use Rattle.std.proofs.Common.{◌≡◌, ◌⊎◌, inl, inr, ℕ, ◌+◌, ◌-◌, ◌<◌, ◌≤◌, ◌^◌, true, false, List, [], length, get_or, Option, Some, None, refl, sym, ap, subst, ◌∙◌, arith}
 use Rattle.std.proofs.lemmas.Bool.{eq-eqb}
 use Rattle.std.proofs.lemmas.List.{append-nil}
 use Rattle.pm_model.specs.declared.host.HostFault.{HostFault}
@@ -8,7 +8,8 @@ use Rattle.pm_model.specs.Moments.{State}
 use Rattle.pm_model.specs.Changes.{Changes, Leaves, Silently, Persists, only, placed, written}
 use Rattle.pm_model.proofs.Words.{only_at, HasOnly-own, HasOnly-newest}
 use Rattle.pm_model.proofs.Changes.{Changes-now, Changes-said, Changes-wider, Changes-then, HasOnly-kept}
-use Rattle.pm_model.proofs.Leaves.{Leaves-changes, Leaves-now, Leaves-then, Leaves-weaker, origin}
+use Rattle.pm_model.proofs.Leaves.{Leaves-changes, Leaves-now, Leaves-then, Leaves-weaker}
+use Rattle.pm_model.proofs.OneWord.{one_word, one_word_after}
 use Rattle.pm_persist.proofs.Ranges.{placed_within, placed_at}
 use Rattle.pud_defs.specs.declared.layout.TheConstants.{LOG_WORDS, LOG_HEADER_WORDS, LOG_ENTRY_WORDS}
 use Rattle.pud_defs.specs.declared.log_words.TheConstants.{COMMITTING_LO, COMMITTING_HI}
@@ -18,7 +19,7 @@ use Rattle.pud_defs.specs.Replay.{device_word, new_value, overwritten, IsInLog, 
 use Rattle.pud_defs.proofs.Entries.{words_from-holds, entries_of-is, gate_lo-of, gate_hi-of, gate_used-of, is_legal_gate-of}
 use Rattle.pud_defs.proofs.Replay.{not_inside}
 use Rattle.log_replay.specs.Replaying.{ByLog, SettlesSame, SettlesLog}
-use Rattle.log_replay.proofs.Closing.{one_word, gate_apart}
+use Rattle.log_replay.proofs.Closing.{gate_apart}
 use Rattle.batch.specs.Batches.{batch_write, committed, AreBatched, IsFree, ByBatch, IsBatched, IsBatchedWholly, IsUntouched, Prepares, Commits}
 use Rattle.batch.proofs.Writes.{new_value-committed, settled_by-closed_same, settled_by-committed}
 
@@ -116,7 +117,7 @@ module _ (size at : ℕ) (es : List Entry) (words : List ℕ) (s a : State) (fre
           log = inl (ap (λ (i : Image). is_closed_gate (i at)) same ∙ so_far.closed);
         }
         | inr moved ↦
-            let w = wholly before image picked so_far moved.0 moved.1 in
+            let w = wholly before image picked so_far moved.there moved.others in
             record { before = w.before; picked = w.picked; outside = w.outside; settled = inr w.settled; log = inr w.log }
       ]) changes
 
@@ -161,11 +162,8 @@ module _ (size at : ℕ) (es : List Entry) (words : List ℕ) (s a : State) (fre
               log = reads_log none;
             };
         done = λ none image picked.
-            let o = origin (written gate_write) a.now.words b.now.words image (Changes-now (written gate_write) fault a b second.changes) picked in
-            elim (one_word at (gate_word COMMITTING_LO COMMITTING_HI (length words)) o.before image o.from) [
-              | inl same ↦ wholly o.before image o.picked (so_far_now o.before o.picked) ((gate_value none).each (image at) (picked.each at)) (λ k apart. ap (λ (i : Image). i k) same)
-              | inr moved ↦ wholly o.before image o.picked (so_far_now o.before o.picked) moved.0 moved.1
-            ];
+            let w = one_word_after at (gate_word COMMITTING_LO COMMITTING_HI (length words)) a b image (subst (λ (f : Option HostFault). Persists gate_write f a b) none second) picked in
+            wholly w.before image w.picked (so_far_now w.before w.picked) w.is.there w.is.others;
       }
 
 -- the entries alone were to be made durable, and were not

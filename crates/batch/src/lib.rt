@@ -19,7 +19,9 @@ use log_entry::encode;
 use log_replay::settle_log;
 use pm_model::{Host, HostFault};
 use pm_persist::{persist_range, persist_word};
-use pud_defs::layout::{DAEMON_LOG, ENTRY_HEADER_WORDS, LOG_ENTRY_WORDS, LOG_HEADER_WORDS};
+use pud_defs::layout::{
+    DAEMON_LOG, ENTRY_HEADER_WORDS, LOG_ENTRY_WORDS, LOG_HEADER_WORDS, MAX_ENTRY_WORDS,
+};
 use pud_defs::log_words::{COMMITTING_HI, COMMITTING_LO, REDO_ORDER, REDO_SEQ, gate_word};
 use std::marker::Model;
 
@@ -31,7 +33,7 @@ pub struct TooBig;
 /// Words to be written together.
 #[derive(Drop)]
 pub struct Batch {
-    words: [u64; 1016],
+    words: [u64; LOG_ENTRY_WORDS as usize],
     used: u32,
 }
 
@@ -84,7 +86,7 @@ impl Batch {
         ensures { result ≡ [] }
     {
         Batch {
-            words: [0; 1016],
+            words: [0; LOG_ENTRY_WORDS as usize],
             used: 0,
         }
     }
@@ -105,7 +107,7 @@ impl Batch {
         if self.used + more > LOG_ENTRY_WORDS {
             return Err(TooBig);
         }
-        let mut entry = [0u64; 34];
+        let mut entry = [0u64; MAX_ENTRY_WORDS as usize];
         let n = encode(u64::from(w), REDO_SEQ, REDO_ORDER, vals, &mut entry);
         let at = self.used as usize;
         self.words[at..at + n].copy_from_slice(&entry[..n]);

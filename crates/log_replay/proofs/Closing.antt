@@ -9,6 +9,7 @@ use Rattle.pm_model.specs.Moments.{State}
 use Rattle.pm_model.specs.Changes.{Changes, Leaves, Silently, IsFrom, Persists, only, written}
 use Rattle.pm_model.proofs.Words.{only_at}
 use Rattle.pm_model.proofs.Changes.{Changes-said, Changes-wider, Changes-then, HasOnly-kept}
+use Rattle.pm_model.proofs.OneWord.{one_word}
 use Rattle.pm_model.proofs.Leaves.{Leaves-changes, Leaves-now, Leaves-then, Leaves-weaker}
 use Rattle.pud_defs.specs.declared.log_words.TheConstants.{CLOSED_GATE}
 use Rattle.pud_defs.specs.Image.{Image}
@@ -17,25 +18,6 @@ use Rattle.pud_defs.specs.Replay.{device_word, new_value, replayed, is_in_log, s
 use Rattle.pud_defs.proofs.Replay.{settled_by-inside, settled_by-outside, settled_by-same, settled_by-closed, not_inside}
 use Rattle.log_replay.specs.Replaying.{IsReplayable, Named, ReplaysSame, Replays, ByLog, SettlesSame, SettlesLog}
 use Rattle.log_replay.proofs.Whole.{log_of_picked, new_value-apart}
-
--- ---- one word written
-
--- an image while one word is written: it is as it was, or has the word's new value
-abbrev pub IsOneWord : ℕ → ℕ → Image → Image → Type 0
-IsOneWord w v before image = (image ≡ before) ⊎ ((image w ≡ v) × ((k : ℕ) → (k ≡ w → ⊥) → image k ≡ before k))
-
-value_of_only : (w v x : ℕ) → only w v w ≡ Some x → x ≡ v
-value_of_only w v x e = let here : only w v w ≡ Some v = rw (eq-eqb w w refl) refl in cc
-
-pub one_word : (w v : ℕ) (before image : Image) → IsFrom (written (only w v)) before image → IsOneWord w v before image
-one_word w v before image from =
-    let other : (k : ℕ) → (k ≡ w → ⊥) → image k ≡ before k = λ k apart. elim (from.each k) [ inl same ↦ same | inr new ↦ absurd (apart (only_at w v k (image k) new)) ] in
-    elim (from.each w) [
-      | inl same ↦
-          let each : (k : ℕ) → image k ≡ before k = λ k. elim (cases_eq k w) [ inl here ↦ ap image here ∙ same ∙ ap before (sym here) | inr apart ↦ other k apart ] in
-          inl (λ i k. each k i)
-      | inr new ↦ inr (value_of_only w v (image w) new, other)
-    ]
 
 pub gate_apart : (at k : ℕ) → is_in_log at k ≡ false → k ≡ at → ⊥
 gate_apart at k outside here = not_inside at k outside (record { low = omega arith; high = omega arith })
@@ -96,9 +78,6 @@ module _ (size at : ℕ) (es : List Entry) (b : State) (replayable : IsReplayabl
       ∙ ap (λ (l : Log). replayed device_word l image w) p.log
       ∙ unwrapped (new_value device_word (log_of (reads b.now.words) at) w) (image w) (p.there w)
 
-  closed_gate : is_closed_gate CLOSED_GATE ≡ true
-  closed_gate = refl
-
   close_left : (fault : Option HostFault) (c d : State) → Replays device_word size at es None b c → Changes (written (only at CLOSED_GATE)) fault c d
       → Leaves (Silently (SettlesSame b.now.words at (log_of (reads b.now.words) at))) c d
   close_left fault c d r changes =
@@ -116,14 +95,14 @@ module _ (size at : ℕ) (es : List Entry) (b : State) (replayable : IsReplayabl
         | inr shut ↦
             let each : (w : ℕ) → settled_by at image w ≡ settled_by at before w = λ w. elim (cases_Bool (is_in_log at w)) [
               | inl inside ↦ settled_by-inside at image w inside ∙ sym (settled_by-inside at before w inside)
-              | inr out ↦ settled_by-closed at image w (ap is_closed_gate shut.0 ∙ closed_gate) out ∙ shut.1 w (gate_apart at w out) ∙ sym (settled_placed before p w out)
+              | inr out ↦ settled_by-closed at image w (ap is_closed_gate shut.there) out ∙ shut.others w (gate_apart at w out) ∙ sym (settled_placed before p w out)
             ] in
             record {
               before = p.so_far.before;
               picked = p.so_far.picked;
-              outside = λ k out none. shut.1 k (gate_apart at k out) ∙ p.so_far.outside k out none;
+              outside = λ k out none. shut.others k (gate_apart at k out) ∙ p.so_far.outside k out none;
               same = (λ i w. each w i) ∙ p.so_far.same;
-              gate = inr (ap is_closed_gate shut.0 ∙ closed_gate);
+              gate = inr (ap is_closed_gate shut.there);
             }
       ]) changes
 

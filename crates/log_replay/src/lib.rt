@@ -19,6 +19,7 @@ ghost use Rattle.log_replay.specs.Replaying.{Anything, place_of, NamesApart, IsL
 use log_entry::{Entry, EntryReader, LogRange};
 use pm_model::{Host, HostFault};
 use pm_persist::{persist_word, write_range};
+use pud_defs::layout::MAX_ENTRY_VALUES;
 use pud_defs::log_words::{CLOSED_GATE, REDO_ORDER, UNDO_ORDER};
 
 /// Which places the addresses of a log's entries are.
@@ -46,7 +47,7 @@ fn copy_words<H: Host>(h: &mut H, from: u32, n: u32, to: u32) -> Result<(), Host
 {
     let words = h.words();
     prove!(n <= words - from);
-    let mut values = [0u64; 32];
+    let mut values = [0u64; MAX_ENTRY_VALUES as usize];
     for i in 0..n {
         values[i as usize] = h.load(from + i)?;
     }

@@ -3,12 +3,11 @@ use Rattle.std.proofs.Common.{◌≡◌, ◌⊎◌, inl, inr, ℕ, ◌+◌, ◌<
 use Rattle.std.proofs.lemmas.Bool.{cond-true, cond-false, cases_eq}
 use Rattle.pud_defs.specs.declared.layout.TheConstants.{CLIENTS, SPACE_RECORD_WORDS}
 use Rattle.pud_defs.specs.Image.{Image}
-use Rattle.pud_defs.specs.Spaces.{Owner, space_record_at, owner_by, owner_of, is_space, is_legal_space, has_closed_logs, are_legal_spaces, are_closed_logs}
+use Rattle.pud_defs.specs.Spaces.{Owner, space_record_at, owner_by, owner_of, is_space, is_legal_space, has_closed_logs, are_legal_spaces, are_closed_logs, with_owner}
 use Rattle.pud_defs.specs.World.{StoredWorld}
 use Rattle.pud_defs.proofs.Spaces.{all_below-each, all_below-from, has_closed_logs-same}
 use Rattle.pud_defs.proofs.Parts.{StandsFor, standing_spaces}
 use Rattle.pud_defs.proofs.Parts.Part.{Spaces}
-use Rattle.log_space.specs.Records.{with_owner}
 
 -- the second image is the first one but in the client's record
 pub record IsBeside (slot : ℕ) (i j : Image) : Type 0 where

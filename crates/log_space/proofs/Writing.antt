@@ -12,7 +12,7 @@ use Rattle.pud_defs.specs.Image.{Image}
 use Rattle.pud_defs.specs.Entries.{is_closed_gate}
 use Rattle.pud_defs.specs.Replay.{overwritten, settled_by}
 use Rattle.pud_defs.specs.Registry.{is_allowed}
-use Rattle.pud_defs.specs.Spaces.{Owner, space_record_at, owner_by, owner_of, is_space, is_legal_space, has_closed_logs}
+use Rattle.pud_defs.specs.Spaces.{Owner, space_record_at, owner_by, owner_of, is_space, is_legal_space, has_closed_logs, owner, with_owner}
 use Rattle.pud_defs.specs.World.{StoredWorld}
 use Rattle.pud_defs.proofs.Replay.{settled_by-closed, outside_log, overwritten-stays, overwritten-there, value_at-there, value_at-apart}
 use Rattle.pud_defs.proofs.Logged.{may_be_logged-table, is_allowed-there}
@@ -23,7 +23,7 @@ use Rattle.batch.specs.Worlds.{IsSettled, with_batch, MovesBy, IsBetween, Moves}
 use Rattle.batch.proofs.Writes.{batch_write-single}
 use Rattle.batch.proofs.Worlds.{stands_still}
 use Rattle.batch.proofs.Tables.{reads_committed}
-use Rattle.log_space.specs.Records.{record_batch, registration, unregistration, owner, with_owner, HasClosedLogs, MayHaveOwner, ChangesOwner, Registers, Unregisters}
+use Rattle.log_space.specs.Records.{record_batch, registration, unregistration, HasClosedLogs, MayHaveOwner, ChangesOwner, Registers, Unregisters}
 use Rattle.log_space.proofs.Tables.{IsBeside, owner_of-changed, standing_changed, has_closed_logs-changed}
 
 -- ---- what the batch writes

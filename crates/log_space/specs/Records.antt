@@ -1,5 +1,5 @@
 -- A client's record of the log-space table, written by one batch.
-use Rattle.std.specs.Prelude.{◌≡◌, ◌⊎◌, ℕ, ◌+◌, ◌<◌, ◌≤◌, true, false, ◌==◌, cond, List, [], ◌∷◌, Option, Some, None}
+use Rattle.std.specs.Prelude.{◌≡◌, ◌⊎◌, ℕ, ◌+◌, ◌<◌, ◌≤◌, true, false, List, [], ◌∷◌, Option, Some, None}
 use Rattle.pm_model.specs.declared.host.HostFault.{HostFault}
 use Rattle.pm_model.specs.Words.{Words, Picks, HasOnly, reads}
 use Rattle.pm_model.specs.Moments.{State}
@@ -8,7 +8,7 @@ use Rattle.pud_defs.specs.declared.layout.TheConstants.{DAEMON_LOG, PUDDLE_TABLE
 use Rattle.pud_defs.specs.Image.{Image}
 use Rattle.pud_defs.specs.Entries.{Entry}
 use Rattle.pud_defs.specs.Replay.{is_in_log, settled_by}
-use Rattle.pud_defs.specs.Spaces.{Owner, space_record_at, owner_of, has_closed_logs}
+use Rattle.pud_defs.specs.Spaces.{Owner, owner, with_owner, space_record_at, owner_of, has_closed_logs}
 use Rattle.pud_defs.specs.World.{StoredWorld, world_of}
 use Rattle.batch.specs.Batches.{batch_entry, batch_write, ByBatch}
 use Rattle.batch.specs.Worlds.{IsSettled}
@@ -25,17 +25,9 @@ registration slot uid gid = record_batch slot (1 ∷ uid ∷ gid ∷ [])
 abbrev pub unregistration : ℕ → List Entry
 unregistration slot = record_batch slot (0 ∷ [])
 
--- the user and the group, as one
-abbrev pub owner : ℕ → ℕ → Owner
-owner uid gid = record { uid = uid; gid = gid }
-
 -- the table of an image, once the daemon log is replayed: whose the logs of each client are
 abbrev pub owners : Image → ℕ → Option Owner
 owners image client = owner_of (settled_by DAEMON_LOG image) client
-
--- a table with one client's record changed
-abbrev pub with_owner : ℕ → Option Owner → (ℕ → Option Owner) → ℕ → Option Owner
-with_owner slot now table client = cond (client == slot) now (table client)
 
 -- each log of the client is closed, in each image that may be left
 pub record HasClosedLogs (F slot : ℕ) (words : Words) : Type 0 where

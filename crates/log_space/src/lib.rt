@@ -128,6 +128,3 @@ pub fn free_log<H: Host>(h: &mut H, frames: u32, slot: u32) -> Result<Option<u32
     }
     Ok(None)
 }
-
-#[cfg(test)]
-mod tests;

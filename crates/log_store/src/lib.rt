@@ -15,7 +15,7 @@ ghost use Rattle.log_store.specs.Store.{OpenLog, append_fault, InLog, IsOpen, en
 use log_entry::encode;
 use pm_model::{Host, HostFault};
 use pm_persist::{persist_range, persist_word};
-use pud_defs::layout::{ENTRY_HEADER_WORDS, LOG_ENTRY_WORDS, LOG_HEADER_WORDS};
+use pud_defs::layout::{ENTRY_HEADER_WORDS, LOG_ENTRY_WORDS, LOG_HEADER_WORDS, MAX_ENTRY_WORDS};
 use pud_defs::log_words::{
     CLOSED_GATE, COMMITTING_HI, COMMITTING_LO, RUNNING_GATE, RUNNING_HI, RUNNING_LO, gate_word,
 };
@@ -75,7 +75,7 @@ fn persist_entry<H: Host>(
     ensures persists { H.tells → Persists (placed at (spelled (record { address = addr; seq = seq; order = order; vals = vals.now }))) (fault_of result) (H.state h.old) (H.state h.new) }
     ensures cause { H.counts h.new ≡ after_fault (fault_of result) (H.counts h.old) }
 {
-    let mut words = [0u64; 34];
+    let mut words = [0u64; MAX_ENTRY_WORDS as usize];
     let n = encode(addr, seq, order, vals, &mut words);
     persist_range(h, at, &words[..n])
 }

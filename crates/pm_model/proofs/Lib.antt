@@ -3,3 +3,4 @@ pub mod Words
 pub mod Changes
 pub mod Leaves
 pub mod Said
+pub mod OneWord

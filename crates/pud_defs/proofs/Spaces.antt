@@ -7,7 +7,7 @@ use Rattle.pud_defs.specs.Image.{Image}
 use Rattle.pud_defs.specs.Layout.{tables_end, log_at, frames_at}
 use Rattle.pud_defs.specs.Entries.{gate_used, is_legal_gate, entries_of}
 use Rattle.pud_defs.specs.Replay.{IsInLog}
-use Rattle.pud_defs.specs.Spaces.{Owner, space_record_at, owner_by, all_below, is_space, is_legal_space, is_closed_range, is_closed_log, has_closed_logs, are_legal_spaces, are_closed_logs, owner_of}
+use Rattle.pud_defs.specs.Spaces.{Owner, owner, space_record_at, owner_by, all_below, is_space, is_legal_space, is_closed_range, is_closed_log, has_closed_logs, are_legal_spaces, are_closed_logs, owner_of}
 use Rattle.pud_defs.proofs.Entries.{entries_of-same}
 
 pub all_below-same : (n : ℕ) (f g : ℕ → Bool) → ((k : ℕ) → k < n → f k ≡ g k) → all_below n f ≡ all_below n g
@@ -43,7 +43,7 @@ all_below-fails n k f below fails = elim (cases_Bool (all_below n f)) [
 
 -- its first word tells whether there is an owner
 pub used_is_some : (used uid gid : ℕ) → eqb used 1 ≡ is_some (owner_by used uid gid)
-used_is_some used uid gid = elim (eqb used 1) as (λ b. b ≡ is_some {T = Owner} (cond b (Some (record { uid = uid; gid = gid })) None)) [ true ↦ refl | false ↦ refl ]
+used_is_some used uid gid = elim (eqb used 1) as (λ b. b ≡ is_some {T = Owner} (cond b (Some (owner uid gid)) None)) [ true ↦ refl | false ↦ refl ]
 
 -- ---- images that agree
 

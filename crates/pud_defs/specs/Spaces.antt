@@ -11,13 +11,21 @@ pub record Owner : Type 0 where
   pub uid : ℕ
   pub gid : ℕ
 
+-- these, as one
+abbrev pub owner : ℕ → ℕ → Owner
+owner uid gid = record { uid = uid; gid = gid }
+
+-- the owners of clients with one of them changed
+abbrev pub with_owner : ℕ → Option Owner → (ℕ → Option Owner) → ℕ → Option Owner
+with_owner client now owners other = cond (other == client) now (owners other)
+
 -- the word of a client's record that tells whether its logs are registered; its uid and its gid stand behind it
 abbrev pub space_record_at : ℕ → ℕ
 space_record_at client = SPACE_TABLE + SPACE_RECORD_WORDS * client
 
 -- the owner by the three words of a record, where it is used
 abbrev pub owner_by : ℕ → ℕ → ℕ → Option Owner
-owner_by used uid gid = cond (used == 1) (Some (record { uid = uid; gid = gid })) None
+owner_by used uid gid = cond (used == 1) (Some (owner uid gid)) None
 
 -- whose the logs of a client are, where they are registered
 abbrev pub owner_of : Image → ℕ → Option Owner

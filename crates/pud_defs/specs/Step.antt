@@ -8,7 +8,7 @@ use Rattle.pud_defs.specs.declared.machine.Reply.TheVariants as replies
 use Rattle.pud_defs.specs.declared.machine.Refusal.{Refusal}
 use Rattle.pud_defs.specs.declared.machine.Refusal.TheVariants as refusals
 use Rattle.pud_defs.specs.Types.{map_of, with_type}
-use Rattle.pud_defs.specs.Spaces.{Owner}
+use Rattle.pud_defs.specs.Spaces.{Owner, owner, with_owner}
 use Rattle.pud_defs.specs.World.{World, restart}
 use Rattle.pud_defs.specs.Grammar.{command_of}
 
@@ -37,10 +37,6 @@ client_of (Arm step pick) = None
 abbrev pub is_present : (ℕ → Option Owner) → Option ℕ → Bool
 is_present clients None = false
 is_present clients (Some client) = is_some (clients client)
-
--- the clients with this one acting as this owner, or gone
-abbrev pub with_client : ℕ → Option Owner → (ℕ → Option Owner) → ℕ → Option Owner
-with_client client owner clients other = cond (other == client) owner (clients other)
 
 abbrev pub is_other : ℕ → Option ℕ → Bool
 is_other map None = false
@@ -78,8 +74,8 @@ refusal_of w c = find (holds w c) (causes c)
 
 -- the world after a command that is not refused
 unfoldable pub after : World → Command → World
-after w (Client client uid gid) = record w { clients = with_client client (Some (record { uid = uid; gid = gid })) w.clients }
-after w (Leave client) = record w { clients = with_client client None w.clients }
+after w (Client client uid gid) = record w { clients = with_owner client (Some (owner uid gid)) w.clients }
+after w (Leave client) = record w { clients = with_owner client None w.clients }
 after w (Define id map) = record w { stored = record w.stored { types = with_type id map w.stored.types } }
 after w (Cut pick) = restart w
 after w (Arm step pick) = w

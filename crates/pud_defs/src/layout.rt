@@ -102,6 +102,9 @@ pub const MAX_ARMED_STEP: u32 = 1_000_000;
 /// The most bytes that a line has, without its newline.
 pub const LINE_LIMIT: usize = 128;
 
+/// The most bytes that the text of a reply has, its newline among them.
+pub const REPLY_LIMIT: usize = 32;
+
 /// How many bytes of a script are taken at most, 2^20.
 pub const SCRIPT_LIMIT: u32 = 0x10_0000;
 
@@ -138,34 +141,4 @@ pub const fn device_words(frames: u32) -> u32
     ensures { result ≡ device_words frames }
 {
     frames_at(frames) + FRAME_WORDS * frames
-}
-
-#[cfg(test)]
-mod tests {
-    use super::*;
-
-    #[test]
-    fn magic_is_its_eight_letters(rt: HostRuntime) {
-        assert_eq!(rt; DEVICE_MAGIC.to_le_bytes(), *b"PUDDEV01");
-    }
-
-    #[test]
-    fn smallest_and_largest_device(rt: HostRuntime) {
-        for (frames, tables, first_frame, words) in [
-            (4, 1_568, 34_336, 42_528),
-            (1_024, 9_728, 42_496, 2_139_648),
-        ] {
-            assert_eq!(rt; tables_end(frames), tables, "tables of {frames}");
-            assert_eq!(rt; frames_at(frames), first_frame, "frames of {frames}");
-            assert_eq!(rt; device_words(frames), words, "words of {frames}");
-        }
-    }
-
-    #[test]
-    fn first_and_last_log_of_a_client(rt: HostRuntime) {
-        assert_eq!(rt; log_at(4, 0, 0), 1_568);
-        assert_eq!(rt; log_at(4, 1, 0), 5_664);
-        assert_eq!(rt; log_at(4, 7, 3), 33_312);
-        assert_eq!(rt; log_at(4, 7, 3) + LOG_WORDS, frames_at(4));
-    }
 }

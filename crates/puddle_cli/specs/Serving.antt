@@ -15,6 +15,7 @@ use Rattle.puddled.specs.declared.daemon.RunFault.TheVariants.{CutInStart, NotSo
 use Rattle.puddled.specs.Faults.{last_fault, CountsLine, CountsTurns}
 use Rattle.puddled.specs.Memory.{Memory}
 use Rattle.puddled.specs.Daemon.{IsReady, SaysPart}
+use Rattle.puddle_cli.specs.declared.piece.TheConstants.{KEPT}
 
 -- the bytes left to read stay, and each file that no line may write
 pub record KeepsScript (old new : State) : Type 0 where
@@ -81,13 +82,13 @@ pub record AnswersLine (size : ℕ) (w : World) (line : List ℕ) (fault : Optio
   pub files : KeepsFiles (file_under_way turns) w.shelf new.shelf
 
 -- The lines that the bytes taken close were answered, each by a turn of the machine, and the bytes behind them are the piece under way, of
--- which the first 129 are kept.
+-- which the first are kept: one more than a line may have.
 pub record Serves (size : ℕ) (w : World) (before : Counts) (start : State) (counts : Counts) (memory : Memory) (now : State) (piece : List ℕ) : Type 0 where
   pub taken : List ℕ
   pub turns : List Turn
   pub is_run : IsRun w turns
   pub lines : map (λ t. t.line) turns ≡ lines_taken taken false
-  pub under_way : piece ≡ take 129 (open_rest taken)
+  pub under_way : piece ≡ take KEPT (open_rest taken)
   pub script : start.script ≡ taken ++ now.script
   pub said : now.now.said ≡ start.now.said ++ replies_text turns
   pub moments : Leaves (StandsWith size w turns) start now

@@ -10,18 +10,19 @@ pub const KEPT: usize = LINE_LIMIT + 1;
 /// The first bytes of the line that is being read. It takes no memory.
 #[derive(Drop)]
 pub struct Piece {
-    bytes: [u8; 129],
+    bytes: [u8; KEPT],
     length: usize,
 }
 
 impl Model for Piece {
     ghost use Rattle.std.specs.Prelude.{◌≤◌, List, ℕ, take};
+    ghost use Rattle.puddle_cli.specs.declared.piece.TheConstants.{KEPT};
 
     ghost Value = { List ℕ };
 
     ghost view = { λ p. take p.length p.bytes };
 
-    ghost invariant = { λ p. p.length ≤ 129 };
+    ghost invariant = { λ p. p.length ≤ KEPT };
 }
 
 impl Piece {
@@ -30,14 +31,14 @@ impl Piece {
         ensures { result ≡ [] }
     {
         Piece {
-            bytes: [0; 129],
+            bytes: [0; KEPT],
             length: 0,
         }
     }
 
     /// Adds a byte, unless as many as are kept are there.
     pub fn push(&mut self, byte: u8)
-        ensures { self.new ≡ take 129 (self.old ++ byte ∷ []) }
+        ensures { self.new ≡ take KEPT (self.old ++ byte ∷ []) }
     {
         if self.length < KEPT {
             self.bytes[self.length] = byte;

@@ -7,6 +7,7 @@ ghost use Rattle.pud_defs.specs.Layout.{device_words};
 ghost use Rattle.pud_defs.specs.World.{World, no_clients, world_of, closed};
 ghost use Rattle.puddled.specs.Faults.{run_fault, Ends};
 ghost use Rattle.puddled.specs.Daemon.{IsReady};
+ghost use Rattle.puddle_cli.specs.declared.piece.TheConstants.{KEPT};
 ghost use Rattle.puddle_cli.specs.Status.{status_fault, IsStatusOfMode, Causes};
 ghost use Rattle.puddle_cli.specs.Serving.{KeepsScript, Takes, TakesOne, TakesBy, AnswersLine, Serves, Answered, AnsweredBy};
 ghost use Rattle.puddle_cli.specs.Headline.{TakesScript, Headline};
@@ -27,7 +28,7 @@ fn answer<H: Host>(
 ) -> Result<(), RunFault>
     requires { device_words daemon.old.frames ≤ (H.counts h.old).size }
     ensures answers { H.tells → (size : ℕ) → size ≡ (H.counts h.old).size → (w : World) → IsReady size w daemon.old (H.state h.old)
-        → (line : List ℕ) → piece.old ≡ take 129 line
+        → (line : List ℕ) → piece.old ≡ take KEPT line
         → AnswersLine size w line (run_fault result) daemon.new (H.counts h.old) (H.counts h.new) (H.state h.old) (H.state h.new) }
     ensures piece { OnOk result (piece.new ≡ []) }
     ensures room { device_words daemon.new.frames ≤ (H.counts h.old).size }

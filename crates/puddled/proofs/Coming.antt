@@ -13,17 +13,17 @@ use Rattle.pud_defs.specs.declared.layout.TheConstants.{DAEMON_LOG, CLIENTS}
 use Rattle.pud_defs.specs.Layout.{tables_end}
 use Rattle.pud_defs.specs.Image.{Image}
 use Rattle.pud_defs.specs.Entries.{Entry}
-use Rattle.pud_defs.specs.Spaces.{Owner, space_record_at, owner_by, owner_of, has_closed_logs}
+use Rattle.pud_defs.specs.Spaces.{Owner, space_record_at, owner_by, owner_of, has_closed_logs, owner, with_owner}
 use Rattle.pud_defs.specs.World.{World, world_of, closed}
 use Rattle.pud_defs.specs.declared.machine.Command.TheVariants.{Client, Leave}
 use Rattle.pud_defs.specs.declared.machine.Refusal.TheVariants as refusals
-use Rattle.pud_defs.specs.Step.{refusal_of, after, with_client}
+use Rattle.pud_defs.specs.Step.{refusal_of, after}
 use Rattle.pud_defs.proofs.Spaces.{used_is_some, owner_of-same, has_closed_logs-same}
 use Rattle.pud_defs.proofs.Steps.{client-taken, client-new, leave-absent, leave-present}
 use Rattle.batch.specs.Batches.{ByBatch}
 use Rattle.batch.specs.Tables.{HasDurableTables}
 use Rattle.batch.proofs.Tables.{reads_kept, HasDurableTables-kept, HasDurableTables-committed}
-use Rattle.log_space.specs.Records.{owner, record_batch, registration, unregistration, HasClosedLogs, MayHaveOwner, ChangesOwner, Registers, Unregisters}
+use Rattle.log_space.specs.Records.{record_batch, registration, unregistration, HasClosedLogs, MayHaveOwner, ChangesOwner, Registers, Unregisters}
 use Rattle.log_space.specs.Closed.{ByClosing, Closes}
 use Rattle.puddled.specs.Memory.{Memory}
 use Rattle.puddled.specs.Daemon.{IsReady, Applies, ClosesFirst}
@@ -60,13 +60,13 @@ module _ (size : ℕ) (w : World) (memory : Memory) (slot : ℕ) (known : slot <
     moments = Leaves-weaker _ _ a b (λ bytes image m. (m.0, inl m.1)) p.moments;
     quiet = Changes-said (ByClosing w.stored.frames slot) (Some fault) a b p.changes;
     ready = λ none. absurd (let it : None ≡ Some fault = sym none in cc);
-    lost = p.changes.rests;
+    rests = p.changes.rests;
     script = p.changes.script;
   }
 
   module _ (now : Option Owner) (es : List Entry) (a b c : State) (ready : IsReady size w memory a) (p : Closes size (closed w) slot None a b) where
     abbrev after_this : World
-    after_this = record w { clients = with_client slot now w.clients }
+    after_this = record w { clients = with_owner slot now w.clients }
 
     -- the tables are as they were while the logs were closed
     tables_closed : HasDurableTables w.stored.frames b.now.words
@@ -97,7 +97,7 @@ module _ (size : ℕ) (w : World) (memory : Memory) (slot : ℕ) (known : slot <
               (Leaves-weaker _ P b c (λ bytes image m. (m.0, inl m.1.stands)) q.moments);
           quiet = Changes-said (ByBatch DAEMON_LOG es) fault b c q.changes ∙ said;
           ready = λ none. ready_changed (subst (λ (f : Option HostFault). ChangesOwner size (closed w) slot now es f b c) none q);
-          lost = q.changes.rests;
+          rests = q.changes.rests;
           script = q.changes.script ∙ p.changes.script;
         }
 

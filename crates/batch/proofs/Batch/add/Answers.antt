@@ -1,12 +1,13 @@
 use Rattle.std.proofs.Common.{◌≡◌, ℕ, suc, ◌+◌, ◌-◌, ◌≤◌, List, [], ◌∷◌, ◌++◌, length, take, refl, ap, ◌∙◌, arith}
 use Rattle.std.proofs.lemmas.Slice.{take-put_mid}
 use borrow.Rule.Slice.PartMut.{put_mid}
+use Rattle.pud_defs.specs.declared.layout.TheConstants.{MAX_ENTRY_VALUES, LOG_ENTRY_WORDS}
 use Rattle.pud_defs.specs.Entries.{Entry, spelled}
 use Rattle.batch.specs.Batches.{batch_entry, IsBuffer}
 use Rattle.batch.proofs.Buffers.{HasMore, has_more}
 use Rattle.batch.proofs.Batch.add.Goals as goal
 
-grown : (used w k : ℕ) (vals words copied : List ℕ) → IsBuffer used words → 1 ≤ length vals → length vals ≤ 32 → length words ≡ 1016 → used + (length vals + 2) ≤ 1016
+grown : (used w k : ℕ) (vals words copied : List ℕ) → IsBuffer used words → 1 ≤ length vals → length vals ≤ MAX_ENTRY_VALUES → length words ≡ LOG_ENTRY_WORDS → used + (length vals + 2) ≤ LOG_ENTRY_WORDS
     → copied ≡ spelled (batch_entry w vals) → HasMore used words (batch_entry w vals) (used + (length vals + 2)) (put_mid used k words copied)
 grown used w k vals words copied buffer some no_more room fits same =
     has_more used words (batch_entry w vals) (used + (length vals + 2)) (put_mid used k words copied) buffer

@@ -1,6 +1,6 @@
 use Rattle.std.proofs.Common.{◌≡◌, ℕ, ◌-◌, ◌<◌, length, get_or}
 use Rattle.pm_model.specs.Words.{reads}
-use Rattle.pud_defs.specs.declared.layout.TheConstants.{DAEMON_LOG}
+use Rattle.pud_defs.specs.declared.layout.TheConstants.{DAEMON_LOG, TYPE_RECORDS}
 use Rattle.pud_defs.specs.Image.{Image}
 use Rattle.pud_defs.specs.Replay.{settled_by}
 use Rattle.pud_defs.specs.Types.{type_record_at, are_legal_types}
@@ -10,7 +10,7 @@ use Rattle.registry.proofs.soundness.has_legal_types.Given as goal
 
 abbrev pub invariant-loop-done : goal.invariant-loop-done
 invariant-loop-done g l = record {
-  size : length l.ids ≡ 64;
+  size : length l.ids ≡ TYPE_RECORDS;
   counts : g.H.Host.counts l.h ≡ g.H.Host.counts l.initial.h;
   stays : g.H.Host.tells → g.H.Host.state l.h ≡ g.H.Host.state l.initial.h;
   legal : g.H.Host.tells → (image : Image) → reads (g.H.Host.state l.initial.h).now.words ≡ image → IsOverlay l.overlay image

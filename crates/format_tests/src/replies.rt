@@ -1,0 +1,32 @@
+//! The texts of replies.
+use script::{Refusal, Reply, print_reply};
+use std::process::Abort;
+
+/// Each reply has this text.
+fn have_texts(rt: &impl Abort, rows: &[(Reply, &str)]) {
+    for (reply, text) in rows {
+        let mut out = [0; 32];
+        let length = print_reply(*reply, &mut out);
+        assert!(rt; &out[..length] == text.as_bytes(), "{text}");
+    }
+}
+
+#[test]
+fn texts_of_replies(rt: HostRuntime) {
+    have_texts(
+        &rt,
+        &[
+            (Reply::Ok, "ok\n"),
+            (Reply::Num(0), "ok 0\n"),
+            (Reply::Num(u64::MAX), "ok 18446744073709551615\n"),
+            (Reply::Ref(0), "ok @0\n"),
+            (Reply::Ref(u64::MAX), "ok @18446744073709551615\n"),
+            (Reply::No(Refusal::Bad), "no bad\n"),
+            (Reply::No(Refusal::Client), "no client\n"),
+            (Reply::No(Refusal::Taken), "no taken\n"),
+            (Reply::No(Refusal::Clash), "no clash\n"),
+            (Reply::No(Refusal::Full), "no full\n"),
+            (Reply::Cut, "cut\n"),
+        ],
+    );
+}

@@ -1,0 +1,119 @@
+//! A device is judged by its words, as its daemon log's replay makes them.
+use pm_mem::{MemHost, Plan};
+use pm_model::HostFault;
+use pud_defs::layout::{DEVICE_MAGIC, MIN_FRAMES};
+use registry::sound_frames;
+use std::alloc::Global;
+use std::process::Abort;
+use test_device::{blank_device, failures, poke};
+
+/// A word and its value.
+type Row = (u32, u64);
+
+/// The number of entries, the sequence number and the order of an undo entry in range and of one value, as its second word,
+/// and the same of a redo entry.
+const UNDO: u64 = 196_609;
+
+const REDO: u64 = 4_295_163_905;
+
+fn blank(rt: &impl Abort, alloc: Global, plan: Plan) -> MemHost {
+    blank_device(alloc, b"", plan).expect(rt, "memory")
+}
+
+/// A blank device with each of these groups of words in turn, beside the words that stand in all of them, is sound or not.
+fn judge(rt: &impl Abort, alloc: Global, always: &[Row], rows: &[(&[Row], bool)]) {
+    for (words, want) in rows {
+        let mut host = blank(rt, alloc, Plan::none(alloc));
+        assert!(rt; poke(&mut host, always) && poke(&mut host, words));
+        let frames = sound_frames(&mut host).expect(rt, "no call fails");
+        let found = frames.unwrap_or(0);
+        assert!(rt; found == if *want { MIN_FRAMES } else { 0 }, "{words:?}");
+    }
+}
+
+#[test]
+fn a_device_is_judged_by_its_words(rt: HostRuntime) {
+    let rows: [(&[Row], bool); 11] = [
+        (&[], true),
+        (&[(0, DEVICE_MAGIC + 1)], false),
+        (&[(1, 2)], false),
+        (&[(3, 3)], false),
+        (&[(3, 5)], false),
+        (&[(4, 0)], false),
+        (&[(64, 1 << 32)], false),
+        (&[(1_088, 1)], false),
+        (&[(1_216, 97)], false),
+        (&[(1_472, 2)], false),
+        (&[(1_567, 1)], false),
+    ];
+    judge(&rt, rt.alloc(), &[], &rows);
+}
+
+// The entry has two values for the type record of word 1,088: a map word without fields behind a legal id, which is no legal
+// type.
+#[test]
+fn a_batch_under_way_counts(rt: HostRuntime) {
+    let illegal_type = [(72, 1_088), (73, 4_295_163_906), (74, 1), (75, 0)];
+    let rows: [(&[Row], bool); 2] = [(&[(64, 263_170)], false), (&[(64, 262_656)], true)];
+    judge(&rt, rt.alloc(), &illegal_type, &rows);
+}
+
+// Two entries for the next number, by their second words and values: 0 is not legal there.
+#[test]
+fn the_oldest_undo_entry_decides_and_the_newest_redo_entry(rt: HostRuntime) {
+    let both = [(64, 394_240), (72, 4), (75, 4)];
+    let rows: [(&[Row], bool); 6] = [
+        (&[(73, UNDO), (74, 9), (76, UNDO), (77, 0)], true),
+        (&[(73, UNDO), (74, 0), (76, UNDO), (77, 9)], false),
+        (&[(73, REDO), (74, 0), (76, REDO), (77, 9)], true),
+        (&[(73, REDO), (74, 9), (76, REDO), (77, 0)], false),
+        (&[(73, REDO), (74, 9), (76, UNDO), (77, 0)], true),
+        (&[(73, UNDO), (74, 9), (76, REDO), (77, 0)], false),
+    ];
+    judge(&rt, rt.alloc(), &both, &rows);
+}
+
+// An entry of two values, for the words from this one on.
+#[test]
+fn an_entry_lies_where_the_log_may_write(rt: HostRuntime) {
+    let entry = [
+        (64, 263_170),
+        (73, 4_295_163_906),
+        (74, 1),
+        (75, 8_589_934_594),
+    ];
+    let rows: [(&[Row], bool); 9] = [
+        (&[(72, 3)], false),
+        (&[(72, 4)], false),
+        (&[(72, 1_087)], false),
+        (&[(72, 1_088)], true),
+        (&[(72, 1_567)], false),
+        (&[(72, 1_568)], false),
+        (&[(72, 34_336)], true),
+        (&[(72, 42_527)], false),
+        (&[(72, u64::MAX)], false),
+    ];
+    judge(&rt, rt.alloc(), &entry, &rows);
+}
+
+// The first log of client 0, and the last of client 7.
+#[test]
+fn a_registered_log_is_closed(rt: HostRuntime) {
+    let owner = [(1_473, 5), (1_474, 5)];
+    let rows: [(&[Row], bool); 5] = [
+        (&[(1_472, 1), (1_568, 0)], true),
+        (&[(1_472, 1), (1_568, 1_028)], true),
+        (&[(1_472, 1), (1_568, 512)], false),
+        (&[(1_472, 0), (1_568, 512)], true),
+        (&[(1_528, 1), (33_312, 512)], false),
+    ];
+    judge(&rt, rt.alloc(), &owner, &rows);
+}
+
+#[test]
+fn a_failed_load_is_told(rt: HostRuntime) {
+    let plan = failures(rt.alloc(), &[1]).expect(&rt, "memory");
+    let mut host = blank(&rt, rt.alloc(), plan);
+    let failed = matches!(sound_frames(&mut host), Err(HostFault::Failed));
+    assert!(rt; failed);
+}
