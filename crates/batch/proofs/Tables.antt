@@ -20,12 +20,12 @@ pub HasDurableTables-rested : (F : ℕ) (words : Words) → IsRested words → H
 HasDurableTables-rested F words rested = record { each = λ k outside below. rested.each k }
 
 -- no value may come to the word, or it has one value now
-abbrev pub IsSettledWord : Footprint → State → ℕ → Type 0
-IsSettledWord may now k = ((v : ℕ) → may k v → ⊥) ⊎ HasOnly (now.now.words k) (now.now.words k).newest
+abbrev pub StaysDurable : Footprint → State → ℕ → Type 0
+StaysDurable may now k = ((v : ℕ) → may k v → ⊥) ⊎ HasOnly (now.now.words k) (now.now.words k).newest
 
 -- calls that give each word of the tables one value, or write none of it, keep them
 pub HasDurableTables-changed : (F : ℕ) (may : Footprint) (fault : Option HostFault) (a b : State) → Changes may fault a b
-    → ((k : ℕ) → (k < DAEMON_LOG) ⊎ (TYPE_TABLE ≤ k) → k < tables_end F → IsSettledWord may b k) → HasDurableTables F a.now.words → HasDurableTables F b.now.words
+    → ((k : ℕ) → (k < DAEMON_LOG) ⊎ (TYPE_TABLE ≤ k) → k < tables_end F → StaysDurable may b k) → HasDurableTables F a.now.words → HasDurableTables F b.now.words
 HasDurableTables-changed F may fault a b c told had = record {
   each = λ k outside below. ⊎_elim
       (λ none. HasOnly-own (b.now.words k) (reads a.now.words k) (HasOnly-kept may fault a b k (reads a.now.words k) c none (had.each k outside below)))
@@ -38,7 +38,7 @@ pub HasDurableTables-kept : (F : ℕ) (may : Footprint) (fault : Option HostFaul
     → HasDurableTables F a.now.words → HasDurableTables F b.now.words
 HasDurableTables-kept F may fault a b c behind had = HasDurableTables-changed F may fault a b c (λ k outside below. inl (λ v. behind k v below)) had
 
-persisted_word : (write : Write) (a b : State) (k : ℕ) (o : Option ℕ) → write k ≡ o → Persists write None a b → IsSettledWord (written write) b k
+persisted_word : (write : Write) (a b : State) (k : ℕ) (o : Option ℕ) → write k ≡ o → Persists write None a b → StaysDurable (written write) b k
 persisted_word write a b k None is p = inl (λ v may. absurd (let it : None ≡ Some v = sym is ∙ may in cc))
 persisted_word write a b k (Some v) is p = inr (HasOnly-own (b.now.words k) v (p.durable refl k v is))
 
@@ -56,7 +56,7 @@ unnamed es k v none outside (inr named) = absurd (let it : None ≡ Some named.v
 abbrev pub IsCommitted : List Entry → State → Type 0
 IsCommitted es now = (k v : ℕ) → batch_write es k ≡ Some v → HasOnly (now.now.words k) v
 
-committed_word : (es : List Entry) (b : State) (k : ℕ) (o : Option ℕ) → batch_write es k ≡ o → (k < DAEMON_LOG) ⊎ (TYPE_TABLE ≤ k) → IsCommitted es b → IsSettledWord (ByBatch DAEMON_LOG es) b k
+committed_word : (es : List Entry) (b : State) (k : ℕ) (o : Option ℕ) → batch_write es k ≡ o → (k < DAEMON_LOG) ⊎ (TYPE_TABLE ≤ k) → IsCommitted es b → StaysDurable (ByBatch DAEMON_LOG es) b k
 committed_word es b k None none outside done = inl (λ v may. unnamed es k v none outside may)
 committed_word es b k (Some v) is outside done = inr (HasOnly-own (b.now.words k) v (done k v is))
 

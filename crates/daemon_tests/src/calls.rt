@@ -8,15 +8,22 @@ use std::process::Abort;
 
 // What a start answers.
 pub const STARTED: u8 = 10;
+
 pub const NOT_SOUND: u8 = 11;
+
 pub const START_FAILED: u8 = 12;
+
 pub const START_CUT: u8 = 13;
 
 // What a line answers: whether its reply begins with `ok`, or why the run ends.
 pub const NOT_OK: u8 = 0;
+
 pub const OK: u8 = 1;
+
 pub const LINE_FAILED: u8 = 2;
+
 pub const CUT_IN_START: u8 = 3;
+
 pub const UNSOUND_RESTART: u8 = 4;
 
 /// What a start on the device answers. The daemon is stopped again.
@@ -68,13 +75,7 @@ pub fn carry_out(
 
 /// Starts on the device, which has to go well, has each of these lines carried out aloud, which has to be answered so, and
 /// stops. This is what has to have been said on the device by then.
-pub fn serve(
-    rt: &impl Abort,
-    alloc: Global,
-    host: &mut MemHost,
-    rows: &[(&str, u8)],
-    said: &str,
-) {
+pub fn serve(rt: &impl Abort, alloc: Global, host: &mut MemHost, rows: &[(&str, u8)], said: &str) {
     let mut daemon = Daemon::start(host).expect(rt, "a start");
     carry_out(rt, alloc, &mut daemon, host, true, rows);
     daemon.stop();

@@ -23,7 +23,13 @@ fn planned(rt: &impl Abort, alloc: Global, plan: Plan) -> MemHost {
 fn lines_are_carried_out_and_answered(rt: HostRuntime) {
     let mut host = planned(&rt, rt.alloc(), Plan::none(rt.alloc()));
     let rows = [("type 1 2 1", OK), ("x", NOT_OK), ("type 1 2 0", NOT_OK)];
-    serve(&rt, rt.alloc(), &mut host, &rows, "ready\nok\nno bad\nno clash\n");
+    serve(
+        &rt,
+        rt.alloc(),
+        &mut host,
+        &rows,
+        "ready\nok\nno bad\nno clash\n",
+    );
 }
 
 #[test]
@@ -39,10 +45,22 @@ fn a_silent_line_is_carried_out(rt: HostRuntime) {
 #[test]
 fn what_is_answered_is_durable(rt: HostRuntime) {
     let mut host = planned(&rt, rt.alloc(), Plan::none(rt.alloc()));
-    serve(&rt, rt.alloc(), &mut host, &[("type 1 2 1", OK)], "ready\nok\n");
+    serve(
+        &rt,
+        rt.alloc(),
+        &mut host,
+        &[("type 1 2 1", OK)],
+        "ready\nok\n",
+    );
     host.cut(0);
     let rows = [("type 1 2 0", NOT_OK)];
-    serve(&rt, rt.alloc(), &mut host, &rows, "ready\nok\nready\nno clash\n");
+    serve(
+        &rt,
+        rt.alloc(),
+        &mut host,
+        &rows,
+        "ready\nok\nready\nno clash\n",
+    );
 }
 
 #[test]
@@ -70,7 +88,14 @@ fn power_lost_in_a_line_is_answered_cut_and_the_next_is_carried_out(rt: HostRunt
         let rows = [("type 1 2 1", NOT_OK)];
         carry_out(&rt, rt.alloc(), &mut daemon, &mut host, true, &rows);
         assert!(rt; host.said() == b"ready\ncut\n".as_slice());
-        carry_out(&rt, rt.alloc(), &mut daemon, &mut host, true, &[("type 1 2 0", next)]);
+        carry_out(
+            &rt,
+            rt.alloc(),
+            &mut daemon,
+            &mut host,
+            true,
+            &[("type 1 2 0", next)],
+        );
         daemon.stop();
     }
 }
@@ -94,7 +119,13 @@ fn power_lost_in_the_restart_ends_the_run(rt: HostRuntime) {
     for again in [LINE_END + 1, LINE_END + START_STEPS] {
         let plan = cuts(rt.alloc(), &[(LINE_END, 1), (again, 0)]).expect(&rt, "memory");
         let mut host = planned(&rt, rt.alloc(), plan);
-        serve(&rt, rt.alloc(), &mut host, &[("type 1 2 1", CUT_IN_START)], "ready\n");
+        serve(
+            &rt,
+            rt.alloc(),
+            &mut host,
+            &[("type 1 2 1", CUT_IN_START)],
+            "ready\n",
+        );
         assert!(rt; start_of(&mut host) == STARTED);
     }
 }

@@ -61,8 +61,9 @@ fn has_words(rt: &impl Abort, alloc: Global, host: &MemHost, rows: &[(u32, u64)]
 #[test]
 fn a_device_of_zero_words_is_not_sound(rt: HostRuntime) {
     let alloc = rt.alloc();
-    let mut host = zero_device(alloc, device_words(MIN_FRAMES), b"", Plan::none(alloc))
-        .expect(&rt, "memory");
+    let mut host = zero_device(alloc, device_words(MIN_FRAMES), b"", Plan::none(alloc)).expect(
+        &rt, "memory",
+    );
     assert!(rt; start_of(&mut host) == NOT_SOUND);
     assert!(rt; host.said() == b"".as_slice());
 }
@@ -132,7 +133,13 @@ fn a_batch_under_way_is_applied_by_the_start(rt: HostRuntime) {
     ];
     has_words(&rt, rt.alloc(), &host, &left);
     let rows = [("type 1 2 1", OK), ("type 1 2 0", NOT_OK)];
-    serve(&rt, rt.alloc(), &mut host, &rows, "ready\nready\nok\nno clash\n");
+    serve(
+        &rt,
+        rt.alloc(),
+        &mut host,
+        &rows,
+        "ready\nready\nok\nno clash\n",
+    );
 }
 
 /// A start is cut off at this step, and a second one does what it would have done.
@@ -142,7 +149,12 @@ fn start_twice(rt: &impl Abort, alloc: Global, step: u32, pick: u64) {
     assert!(rt; start_of(&mut host) == START_CUT, "step {step}");
     assert!(rt; host.said() == b"".as_slice());
     let mut daemon = Daemon::start(&mut host).expect(rt, "a start");
-    has_words(rt, alloc, &host, &[(SPACE_TABLE, 0), (DAEMON_LOG, CLOSED_GATE)]);
+    has_words(
+        rt,
+        alloc,
+        &host,
+        &[(SPACE_TABLE, 0), (DAEMON_LOG, CLOSED_GATE)],
+    );
     let rows = [("type 1 2 0", NOT_OK), ("type 1 2 1", OK)];
     carry_out(rt, alloc, &mut daemon, &mut host, false, &rows);
     daemon.stop();
@@ -151,14 +163,11 @@ fn start_twice(rt: &impl Abort, alloc: Global, step: u32, pick: u64) {
 
 #[test]
 fn a_start_that_is_cut_off_is_done_again(rt: HostRuntime) {
-    let mut cuts = 0;
     for pick in [0, 1, 0x5555_5555_5555_5555] {
         for step in 1..=RECOVERY_STEPS {
             start_twice(&rt, rt.alloc(), step, pick);
-            cuts += 1;
         }
     }
-    assert!(rt; cuts == 3 * RECOVERY_STEPS);
 }
 
 #[test]

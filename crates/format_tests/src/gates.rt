@@ -11,7 +11,10 @@ fn are_gates(rt: &impl Abort, rows: &[(u32, u32, u32, u64)]) {
     for (lo, hi, used, word) in rows {
         assert!(rt; *lo < 256 && *hi < 256 && *used < 65_536);
         assert!(rt; gate_word(*lo, *hi, *used) == *word, "gate {word}");
-        assert!(rt; [gate_lo(*word), gate_hi(*word), gate_used(*word)] == [*lo, *hi, *used], "gate {word}");
+        assert!(rt;
+            [gate_lo(*word), gate_hi(*word), gate_used(*word)] == [*lo, *hi, *used],
+            "gate {word}"
+        );
         assert!(rt; is_legal_gate(*word), "gate {word}");
     }
 }
@@ -21,7 +24,10 @@ fn are_entry_words(rt: &impl Abort, rows: &[(u32, u32, u32, u64, bool)]) {
     for (n, seq, order, word, legal) in rows {
         assert!(rt; *n < 65_536 && *seq < 65_536);
         assert!(rt; entry_word(*n, *seq, *order) == *word, "entry word {word}");
-        assert!(rt; [entry_n(*word), entry_seq(*word), entry_order(*word)] == [*n, *seq, *order], "entry word {word}");
+        assert!(rt;
+            [entry_n(*word), entry_seq(*word), entry_order(*word)] == [*n, *seq, *order],
+            "entry word {word}"
+        );
         assert!(rt; is_legal_entry_word(*word) == *legal, "entry word {word}");
     }
 }

@@ -20,7 +20,8 @@ mod closed;
 pub use closed::is_closed_log;
 use pm_model::{Host, HostFault};
 use pud_defs::layout::{
-    ENTRY_HEADER_WORDS, LOG_ENTRY_WORDS, LOG_HEADER_WORDS, LOG_WORDS, MAX_ENTRY_VALUES, MAX_ENTRY_WORDS,
+    ENTRY_HEADER_WORDS, LOG_ENTRY_WORDS, LOG_HEADER_WORDS, LOG_WORDS, MAX_ENTRY_VALUES,
+    MAX_ENTRY_WORDS,
 };
 use pud_defs::log_words::{
     entry_n, entry_order, entry_seq, entry_word, gate_hi, gate_lo, gate_used, is_legal_entry_word,
@@ -46,7 +47,13 @@ pub struct Entry {
 /// Writes an entry as words into the front of `out`, and gives their number, `vals.len() + 2`.
 ///
 /// There are 1 to 32 values, and the sequence number has 16 bits.
-pub fn encode(addr: u64, seq: u32, order: u32, vals: &[u64], out: &mut [u64; MAX_ENTRY_WORDS as usize]) -> usize
+pub fn encode(
+    addr: u64,
+    seq: u32,
+    order: u32,
+    vals: &[u64],
+    out: &mut [u64; MAX_ENTRY_WORDS as usize],
+) -> usize
     requires some { 1 ≤ length vals.now }
     requires no_more { length vals.now ≤ MAX_ENTRY_VALUES }
     requires seq_fits { seq < 2 ^ 16 }

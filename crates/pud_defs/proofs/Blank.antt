@@ -13,7 +13,7 @@ use Rattle.pud_defs.proofs.Replay.{beside_log-outside, outside_log}
 use Rattle.pud_defs.proofs.Spaces.{are_legal_spaces-none, are_closed_logs-none}
 use Rattle.pud_defs.proofs.Parts.{Part, Holds, StandsFor}
 use Rattle.pud_defs.proofs.Parts.Part.{Header, Types, Pools, Spaces, Puddles}
-use Rattle.pud_defs.proofs.Worlds.{ registry_world_standing, world_of-closed}
+use Rattle.pud_defs.proofs.Worlds.{registry_world_standing, world_of-closed}
 
 -- records whose id words are 0 are free
 pub type_records-blank : (image : Image) (from count : ℕ) → ((i : ℕ) → from ≤ i → i < from + count → image (type_record_at i) ≡ 0) → type_records image from count ≡ []

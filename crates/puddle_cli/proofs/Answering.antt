@@ -30,7 +30,7 @@ use Rattle.puddled.specs.Faults.{of_host, run_fault, CountsLine, CountsTurns}
 use Rattle.puddled.proofs.Counted.{none_is_sound, CountsTurns-one, CountsTurns-append}
 use Rattle.puddled.specs.Memory.{Memory}
 use Rattle.puddled.specs.Daemon.{KeepsLine, IsReady, SaysPart, Answers}
-use Rattle.puddle_cli.specs.Serving.{KeepsScript, file_under_way, Takes, TakesAtMost, TakesAll, CountsPending, AnswersLine, Serves, Answered}
+use Rattle.puddle_cli.specs.Serving.{KeepsScript, Takes, TakesAtMost, TakesAll, CountsPending, AnswersLine, Serves, Answered}
 
 nothing_from_take : (line : List ℕ) → take 129 line ≡ [] → line ≡ []
 nothing_from_take [] e = refl

@@ -1,5 +1,5 @@
 -- One run over a script, from the start to the exit.
-use Rattle.std.proofs.Common.{◌≡◌, inl, inr, ℕ, zero, suc, ◌+◌, ◌≤◌, Bool, true, false, List, [], ◌∷◌, ◌++◌, Option, Some, None, Result, Ok, Err, refl, sym, ap, subst, ◌∙◌, arith, append_assoc}
+use Rattle.std.proofs.Common.{◌≡◌, inl, ℕ, zero, suc, ◌+◌, ◌≤◌, Bool, true, false, List, [], ◌∷◌, ◌++◌, Option, Some, None, Result, Ok, Err, refl, sym, ap, subst, ◌∙◌, arith, append_assoc}
 use Rattle.std.proofs.lemmas.List.{append-nil}
 use Rattle.std.proofs.Math.Numerals.{one-add}
 use Rattle.pm_model.specs.declared.host.HostFault.{HostFault}
@@ -11,7 +11,7 @@ use Rattle.pm_model.specs.Changes.{Leaves}
 use Rattle.pm_model.proofs.Leaves.{Leaves-then, Leaves-weaker, Leaves-each}
 use Rattle.pud_defs.specs.Grammar.{command_of}
 use Rattle.pud_defs.specs.Spaces.{Owner}
-use Rattle.pud_defs.specs.World.{World, no_clients, world_of, closed, restart}
+use Rattle.pud_defs.specs.World.{World, StoredWorld, no_clients, world_of, closed, restart}
 use Rattle.pud_defs.specs.Run.{Turn, cuts_of, last_world, newlines}
 use Rattle.pud_defs.specs.Texts.{start_text, replies_text}
 use Rattle.pud_defs.specs.Stands.{StandsWith, StandsBehindStart}
@@ -25,12 +25,12 @@ use Rattle.puddled.proofs.Counted.{risen_by-least, RoseBy-then, CountsTurns-cuts
 use Rattle.puddled.specs.declared.daemon.StartFault.{StartFault}
 use Rattle.puddled.specs.declared.daemon.StartFault.TheVariants as starts
 use Rattle.puddled.specs.Memory.{Memory}
-use Rattle.puddled.specs.Daemon.{Starts}
+use Rattle.puddled.specs.Daemon.{IsReady, Starts}
 use Rattle.puddle_cli.specs.declared.status.TheConstants.{DONE, POWER_LOST, TOO_LONG}
-use Rattle.puddle_cli.specs.Status.{status_fault, run_fault_at, IsStatusOfMode}
-use Rattle.puddle_cli.specs.Serving.{CountsPending, file_under_way, Answered}
+use Rattle.puddle_cli.specs.Status.{status_fault, run_fault_at, status_at, IsStatusOfMode}
+use Rattle.puddle_cli.specs.Serving.{CountsPending, file_under_way, Answered, AnsweredBy}
 use Rattle.puddle_cli.specs.Headline.{Headline}
-use Rattle.puddle_cli.proofs.Statuses.{not_whole_of}
+use Rattle.puddle_cli.proofs.Statuses.{not_whole_of, fault_at_status, not_whole_at}
 
 -- ---- the counts of all lines, and of what ended the run
 
@@ -195,8 +195,38 @@ module _ (size : ℕ) (w : World) (start : State) (rested : IsRested start.now.w
       }
 
 -- a world without clients is as a start leaves it
-pub is_started : (w : World) → w.clients ≡ no_clients → restart w ≡ w
+is_started : (w : World) → w.clients ≡ no_clients → restart w ≡ w
 is_started w none = ap (λ (c : ℕ → Option Owner). record w { clients = c }) (sym none)
+
+-- the status by how the script was answered
+abbrev pub status_by : Result Bool RunFault → ℕ
+status_by (Ok true) = DONE
+status_by (Ok false) = TOO_LONG
+status_by (Err fault) = status_at fault
+
+-- A start that came to its end, and the script answered from there on.
+module _ (size : ℕ) (begun after : Counts) (memory : Memory) (start mid now : State) where
+  served_by : (before : Counts) (w : World) → IsRested start.now.words → world_of size (reads start.now.words) ≡ Some (closed w) → Starts size w (Ok memory) start mid
+      → (served : Result Bool RunFault) → AnsweredBy size w served before after mid now → Headline size w (status_by served) before after start now
+  served_by before w rested stands s (Ok true) a = Headline-behind_start size w start rested stands DONE true None before after memory mid now s refl (λ _. refl) (λ e. absurd (let no : DONE ≡ TOO_LONG = e in cc)) a
+  served_by before w rested stands s (Ok false) a = Headline-behind_start size w start rested stands TOO_LONG false None before after memory mid now s refl (λ e. absurd (let no : TOO_LONG ≡ DONE = e in cc)) (λ _. refl) a
+  served_by before w rested stands s (Err fault) a =
+      Headline-behind_start size w start rested stands (status_at fault) a.0 (Some fault) before after memory mid now s (fault_at_status fault)
+      (λ e. absurd (not_whole_at fault DONE refl e)) (λ e. absurd (not_whole_at fault TOO_LONG refl e)) a.1
+
+  pub Headline-served : (before : Counts) (w : World) → IsRested start.now.words → world_of size (reads start.now.words) ≡ Some (closed w) → w.clients ≡ no_clients → Starts size w (Ok memory) start mid → begun ≡ before
+      → (served : Result Bool RunFault) → (IsReady size w memory mid → AnsweredBy size w served begun after mid now) → Headline size w (status_by served) before after start now
+  Headline-served before w rested stands none s counts served answers =
+      served_by before w rested stands s served
+      (subst (λ (x : Counts). AnsweredBy size w served x after mid now) counts (answers (subst (λ (v : World). IsReady size v memory mid) (is_started w none) s.ready)))
+
+  -- a run from a device that stands for a world is never told that it is not sound
+  pub never_unsound : (fault : RunFault) → ((w : World) → world_of size (reads start.now.words) ≡ Some (closed w) → start.shelf ≡ w.shelf → Starts size w (Ok memory) start mid)
+      → ((w : World) → IsReady size w memory mid → AnsweredBy size w (Err fault) begun after mid now)
+      → (s : StoredWorld) → world_of size (reads start.now.words) ≡ Some s → Some fault ≡ Some faults.NotSound → ⊥
+  never_unsound fault begins answers s stands unsound =
+      let w : World = record { stored = s; clients = no_clients; shelf = start.shelf } in
+      (answers w (begins w stands refl).ready).1.sound unsound
 
 -- no line of today writes a file
 no_file_under_way : (pending : List Turn) → file_under_way pending ≡ None

@@ -15,11 +15,11 @@ use Rattle.puddled.specs.Daemon.{IsReady, Applies}
 -- nothing happened
 pub Applies-still : (size : ℕ) (w : World) (memory : Memory) (fault : Option HostFault) (old new : State) → IsReady size w memory old → new ≡ old → (fault ≡ Some Cut → IsRested new.now.words)
     → Applies size w w memory fault old new
-Applies-still size w memory fault old new ready same lost = record {
+Applies-still size w memory fault old new ready same rests = record {
   moments = Leaves-still _ old new (λ image picked. (refl, inl (ready.settled.stands image picked))) same;
   quiet = ap (λ (s : State). s.now.said) same;
   ready = λ _. subst (λ (n : State). IsReady size w memory n) (sym same) ready;
-  lost = lost;
+  rests = rests;
   script = ap (λ (s : State). s.script) same;
 }
 

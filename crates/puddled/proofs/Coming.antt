@@ -60,7 +60,7 @@ module _ (size : ℕ) (w : World) (memory : Memory) (slot : ℕ) (known : slot <
     moments = Leaves-weaker _ _ a b (λ bytes image m. (m.0, inl m.1)) p.moments;
     quiet = Changes-said (ByClosing w.stored.frames slot) (Some fault) a b p.changes;
     ready = λ none. absurd (let it : None ≡ Some fault = sym none in cc);
-    lost = p.changes.rests;
+    rests = p.changes.rests;
     script = p.changes.script;
   }
 
@@ -97,7 +97,7 @@ module _ (size : ℕ) (w : World) (memory : Memory) (slot : ℕ) (known : slot <
               (Leaves-weaker _ P b c (λ bytes image m. (m.0, inl m.1.stands)) q.moments);
           quiet = Changes-said (ByBatch DAEMON_LOG es) fault b c q.changes ∙ said;
           ready = λ none. ready_changed (subst (λ (f : Option HostFault). ChangesOwner size (closed w) slot now es f b c) none q);
-          lost = q.changes.rests;
+          rests = q.changes.rests;
           script = q.changes.script ∙ p.changes.script;
         }
 

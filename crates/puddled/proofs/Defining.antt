@@ -1,9 +1,10 @@
 -- What the definition of a type does to the worlds that images stand for.
-use Rattle.std.proofs.Common.{◌≡◌, ◌⊎◌, inl, inr, ℕ, ◌+◌, ◌<◌, ◌≤◌, true, false, ◌&&◌, leb, eqb, cond, List, Option, Some, None, is_some, is_none, refl, sym, ap, subst, ◌∙◌, ⊎_elim, arith}
+use Rattle.std.proofs.Common.{◌≡◌, ◌⊎◌, inl, inr, ℕ, ◌+◌, ◌<◌, ◌≤◌, true, false, ◌&&◌, leb, eqb, cond, List, Option, Some, None, Result, Ok, Err, IfOk, is_some, is_none, refl, sym, ap, subst, ◌∙◌, ⊎_elim, arith}
 use Rattle.std.proofs.lemmas.Bool.{cases_eq, cond-false, ne_eqb}
 use Rattle.pm_model.specs.declared.host.HostFault.{HostFault}
 use Rattle.pm_model.specs.declared.host.HostFault.TheVariants.{Cut}
 use Rattle.pm_model.specs.Words.{Has, values, Picks, IsRested, reads}
+use Rattle.pm_model.specs.Counts.{fault_of}
 use Rattle.pm_model.specs.Moments.{State}
 use Rattle.pm_model.proofs.Words.{Picks-reads}
 use Rattle.pm_model.specs.Changes.{written}
@@ -18,16 +19,20 @@ use Rattle.pud_defs.specs.TypeMap.{is_legal_map, is_legal_type_id}
 use Rattle.pud_defs.specs.Types.{type_record_at, type_table, first_free, map_of, with_type}
 use Rattle.pud_defs.specs.Entries.{is_closed_gate}
 use Rattle.pud_defs.specs.World.{World, world_of, closed}
-use Rattle.pud_defs.specs.Step.{is_other, refusal_of, after, unless_refused, world_by}
+use Rattle.pud_defs.specs.Step.{is_other, answer_by, refusal_of, after, unless_refused, world_by}
 use Rattle.pud_defs.proofs.TypeTable.{IsLowestFree, first_free_some}
 use Rattle.pud_defs.proofs.Spaces.{owner_of-same}
 use Rattle.pud_defs.proofs.Parts.{StandsFor}
 use Rattle.pud_defs.proofs.Worlds.{standing_beside, standing_closed, types_sorted, map_of_world, length_of_world, full_of_world, room_of_world}
 use Rattle.pud_defs.proofs.Definitions.{world_of-map_written, world_of-defined}
-use Rattle.pud_defs.proofs.Steps.{refusal_of-define, define-same, define-clash, define-full, define-new, after-same}
-use Rattle.type_maps.specs.Define.{table_refusal, place_for, record_write, half_defined, defined, Defines}
+use Rattle.pud_defs.specs.Step.Answer.{of_reply}
+use Rattle.pud_defs.proofs.Steps.{refused_answer, answer_is_ok, refusal_of-define, define-same, define-clash, define-full, define-new, after-same}
+use Rattle.type_maps.specs.declared.TypeFault.{TypeFault}
+use Rattle.type_maps.specs.declared.TypeFault.TheVariants as faults
+use Rattle.type_maps.specs.Define.{fault_in, refusal_in, table_refusal, place_for, record_write, half_defined, defined, Defines}
 use Rattle.batch.proofs.Tables.{reads_kept, HasDurableTables-persisted}
 use Rattle.puddled.specs.Memory.{Memory}
+use Rattle.puddled.specs.Defined.{reply_of}
 use Rattle.puddled.specs.Daemon.{KeepsRest, IsReady, Applies}
 use Rattle.puddled.proofs.Applying.{Applies-still}
 
@@ -151,7 +156,7 @@ module _ (size : ℕ) (w : World) (memory : Memory) (id map r : ℕ) (old : Stat
     )) d.moments;
     quiet = Changes-said (written (record_write r id map)) fault old new d.persists.changes;
     ready = λ none. ready_defined new (subst (λ (f : Option HostFault). Defines r id map f old new) none d);
-    lost = d.persists.changes.rests;
+    rests = d.persists.changes.rests;
     script = d.persists.changes.script;
   })
 
@@ -160,10 +165,10 @@ place_applies : (size : ℕ) (w : World) (memory : Memory) (id map : ℕ) (fault
     → (place_for (reads old.now.words) id ≡ None → new ≡ old) → ((r : ℕ) → place_for (reads old.now.words) id ≡ Some r → Defines r id map fault old new)
     → (fault ≡ Some Cut → IsRested new.now.words)
     → Applies size w (world_by w (Some (Define id map))) memory fault old new
-place_applies size w memory id map fault old new ready legal_id legal_map None place idle defines lost =
+place_applies size w memory id map fault old new ready legal_id legal_map None place idle defines rests =
     subst (λ (v : World). Applies size w v memory fault old new) (sym (idle_world size w (reads old.now.words) id map (standing size w memory old ready) place))
-    (Applies-still size w memory fault old new ready (idle place) lost)
-place_applies size w memory id map fault old new ready legal_id legal_map (Some r) place idle defines lost =
+    (Applies-still size w memory fault old new ready (idle place) rests)
+place_applies size w memory id map fault old new ready legal_id legal_map (Some r) place idle defines rests =
     new_applies size w memory id map r old ready legal_id legal_map (new_type size w (reads old.now.words) id map (standing size w memory old ready) r place) fault new (defines r place)
 
 -- a definition is carried out or refused as the machine has it
@@ -171,12 +176,25 @@ pub Applies-define : (size : ℕ) (w : World) (memory : Memory) (id map : ℕ) (
     → (place_for (reads old.now.words) id ≡ None → new ≡ old) → ((r : ℕ) → place_for (reads old.now.words) id ≡ Some r → Defines r id map fault old new)
     → (fault ≡ Some Cut → IsRested new.now.words)
     → Applies size w (world_by w (Some (Define id map))) memory fault old new
-Applies-define size w memory id map fault old new ready legal_id legal_map idle defines lost =
-    place_applies size w memory id map fault old new ready legal_id legal_map (place_for (reads old.now.words) id) refl idle defines lost
+Applies-define size w memory id map fault old new ready legal_id legal_map idle defines rests =
+    place_applies size w memory id map fault old new ready legal_id legal_map (place_for (reads old.now.words) id) refl idle defines rests
 
 -- the reply is the machine's
 pub refusal_when_ready : (size : ℕ) (w : World) (memory : Memory) (id map : ℕ) (old : State) → IsReady size w memory old → table_refusal (type_table (reads old.now.words)) id map ≡ refusal_of w (Define id map)
 refusal_when_ready size w memory id map old ready = refusal_of_table size w (reads old.now.words) id map (standing size w memory old ready)
+
+pub fault_of_reply : (done : Result (Unit {0}) TypeFault) → fault_of (reply_of done) ≡ fault_in done
+fault_of_reply (Ok x) = refl
+fault_of_reply (Err faults.Clash) = refl
+fault_of_reply (Err faults.Full) = refl
+fault_of_reply (Err (faults.Host fault)) = refl
+
+pub reply_when_ready : (size : ℕ) (w : World) (memory : Memory) (id map : ℕ) (done : Result (Unit {0}) TypeFault) (old : State) → IsReady size w memory old
+    → (fault_in done ≡ None → refusal_in done ≡ table_refusal (type_table (reads old.now.words)) id map) → IfOk (reply_of done) (λ reply. of_reply reply ≡ answer_by w (Some (Define id map)))
+reply_when_ready size w memory id map (Ok x) old ready told = sym (answer_is_ok w (Define id map) (sym (told refl ∙ refusal_when_ready size w memory id map old ready)))
+reply_when_ready size w memory id map (Err faults.Clash) old ready told = sym (refused_answer w (Define id map) Clash (sym (told refl ∙ refusal_when_ready size w memory id map old ready)))
+reply_when_ready size w memory id map (Err faults.Full) old ready told = sym (refused_answer w (Define id map) Full (sym (told refl ∙ refusal_when_ready size w memory id map old ready)))
+reply_when_ready size w memory id map (Err (faults.Host fault)) old ready told = tt
 
 rest_by_place : (image : Image) (id map : ℕ) (fault : Option HostFault) (old new : State) → (place : Option ℕ) → place_for image id ≡ place
     → (place_for image id ≡ None → new ≡ old) → ((r : ℕ) → place_for image id ≡ Some r → Defines r id map fault old new) → KeepsRest old new

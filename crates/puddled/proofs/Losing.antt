@@ -1,18 +1,15 @@
 -- Power lost at once, and what is left then.
-use Rattle.std.proofs.Common.{◌≡◌, inl, inr, ⊎_elim, ℕ, [], Some, None, Result, refl, sym, ap, subst, ◌∙◌}
-use Rattle.std.proofs.lemmas.List.{append-nil}
+use Rattle.std.proofs.Common.{◌≡◌, inl, inr, ⊎_elim, ℕ, Some, None, refl, sym, ap, subst}
 use Rattle.pm_model.specs.declared.host.HostFault.TheVariants.{Failed, Cut}
-use Rattle.pm_model.specs.Words.{Has, values, Picks, IsRested, reads}
+use Rattle.pm_model.specs.Words.{Has, values, Picks, IsRested}
 use Rattle.pm_model.specs.Moments.{State}
 use Rattle.pm_model.specs.Calls.{LosesPower, LosesAtOnce}
 use Rattle.pm_model.specs.Changes.{Footprint, Changes, Leaves, Silently}
-use Rattle.pm_model.proofs.Words.{Picks-reads}
 use Rattle.pm_model.proofs.Changes.{Changes-fence, Changes-said, Changes-now}
 use Rattle.pm_model.proofs.Leaves.{Leaves-changes, Leaves-still, Leaves-weaker}
 use Rattle.pud_defs.specs.Image.{Image}
 use Rattle.pud_defs.specs.World.{World, world_of, closed, restart}
 use Rattle.puddled.specs.Memory.{Memory}
-use Rattle.puddled.specs.declared.daemon.StartFault.{StartFault}
 use Rattle.puddled.specs.Daemon.{KeepsRest, IsReady, Applies}
 
 -- no value comes to any word
@@ -66,7 +63,7 @@ Applies-lost size w memory a b ready loses =
       moments = Leaves-weaker _ _ a b (λ bytes image m. (m.0, inl m.1)) (lost.moments (λ (image : Image). world_of size image ≡ Some (closed w)) ready.settled.stands);
       quiet = lost.quiet;
       ready = λ none. absurd (let no : Some Cut ≡ None = none in cc);
-      lost = λ _. lost.rested;
+      rests = λ _. lost.rested;
       script = lost.script;
     }
 

@@ -65,7 +65,7 @@ pub record Applies (size : ℕ) (w next : World) (memory : Memory) (fault : Opti
   pub moments : Leaves (Silently (λ image. (world_of size image ≡ Some (closed w)) ⊎ (world_of size image ≡ Some (closed next)))) old new
   pub quiet : new.now.said ≡ old.now.said
   pub ready : fault ≡ None → IsReady size next memory new
-  pub lost : fault ≡ Some hosts.Cut → IsRested new.now.words
+  pub rests : fault ≡ Some hosts.Cut → IsRested new.now.words
   pub script : new.script ≡ old.script
 
 -- What each command owes, before the daemon goes on behind it: it was carried out, or refused, and the reply is the machine's; only a file that

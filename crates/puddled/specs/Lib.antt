@@ -1,3 +1,4 @@
 pub mod Memory
+pub mod Defined
 pub mod Faults
 pub mod Daemon

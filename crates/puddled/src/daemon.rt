@@ -3,6 +3,7 @@ ghost use Rattle.std.specs.Prelude.{◌≡◌, ◌≢◌, ◌≤◌, ◌↔◌, 
 ghost use Rattle.pm_model.specs.Words.{IsRested, reads};
 ghost use Rattle.pm_model.specs.Counts.{Counts, after_fault, after_arm, after_loss_of, fault_of};
 ghost use Rattle.pm_model.specs.Moments.{State};
+ghost use Rattle.pud_defs.specs.declared.layout.TheConstants.{MIN_FRAMES};
 ghost use Rattle.pud_defs.specs.Layout.{device_words};
 ghost use Rattle.pm_model.specs.Calls.{Says};
 ghost use Rattle.pud_defs.specs.World.{World, world_of, closed, restart};
@@ -124,6 +125,7 @@ fn recover<H: Host>(h: &mut H) -> Result<Daemon, StartFault>
     ensures recovers { H.tells → (size : ℕ) → size ≡ (H.counts h.old).size → (w : World) → IsRested (H.state h.old).now.words
         → world_of size (reads (H.state h.old).now.words) ≡ Option.Some (closed w) → (H.state h.old).shelf ≡ w.shelf
         → Recovers size w result (H.state h.old) (H.state h.new) }
+    ensures enough { IfOk result (λ daemon. MIN_FRAMES ≤ daemon.frames) }
     ensures room { IfOk result (λ daemon. device_words daemon.frames ≤ (H.counts h.old).size) }
     ensures rest { H.tells → KeepsRest (H.state h.old) (H.state h.new) }
     ensures cause { H.counts h.new ≡ after_fault (start_fault result) (H.counts h.old) }
@@ -256,7 +258,7 @@ fn say_reply<H: Host>(h: &mut H, reply: Reply) -> Result<(), HostFault>
 }
 
 impl Daemon {
-    ghost use Rattle.pud_defs.specs.declared.layout.TheConstants.{MIN_FRAMES, MAX_FRAMES};
+    ghost use Rattle.pud_defs.specs.declared.layout.TheConstants.{MAX_FRAMES};
     ghost use Rattle.puddled.specs.Daemon.{Starts, Answers};
 
     /// Starts on the device: applies what its daemon log names, empties the log-space table, and says the start text.
@@ -271,6 +273,7 @@ impl Daemon {
         ensures starts { H.tells → (size : ℕ) → size ≡ (H.counts h.old).size → (w : World) → IsRested (H.state h.old).now.words
             → world_of size (reads (H.state h.old).now.words) ≡ Option.Some (closed w) → (H.state h.old).shelf ≡ w.shelf
             → Starts size w result (H.state h.old) (H.state h.new) }
+        ensures enough { IfOk result (λ daemon. MIN_FRAMES ≤ daemon.frames) }
         ensures room { IfOk result (λ daemon. device_words daemon.frames ≤ (H.counts h.old).size) }
         ensures rest { H.tells → KeepsRest (H.state h.old) (H.state h.new) }
         ensures cause { H.counts h.new ≡ after_fault (start_fault result) (H.counts h.old) }

@@ -9,11 +9,24 @@ ghost use Rattle.pud_defs.specs.Step.{answer_by, world_by};
 ghost use Rattle.pud_defs.specs.Step.Answer.{of_reply};
 ghost use Rattle.pud_defs.specs.declared.machine.Command.TheVariants.{Define};
 ghost use Rattle.puddled.specs.Memory.{Memory};
+ghost use Rattle.puddled.specs.Defined.{reply_of};
 ghost use Rattle.puddled.specs.Daemon.{KeepsRest, IsReady, Applies};
 
 use pm_model::{Host, HostFault};
 use pud_defs::machine::{Refusal, Reply};
 use type_maps::{TypeFault, define};
+
+/// What is replied to a definition, by what became of it.
+fn reply_of(done: Result<(), TypeFault>) -> Result<Reply, HostFault>
+    ensures { result ≡ reply_of done }
+{
+    match done {
+        Ok(()) => Ok(Reply::Ok),
+        Err(TypeFault::Clash) => Ok(Reply::No(Refusal::Clash)),
+        Err(TypeFault::Full) => Ok(Reply::No(Refusal::Full)),
+        Err(TypeFault::Host(fault)) => Err(fault),
+    }
+}
 
 /// Defines a type, or refuses to. A refused one changes nothing.
 pub fn define_type<H: Host>(h: &mut H, id: u32, map: u64) -> Result<Reply, HostFault>
@@ -27,10 +40,5 @@ pub fn define_type<H: Host>(h: &mut H, id: u32, map: u64) -> Result<Reply, HostF
     ensures rests { H.tells → fault_of result ≡ Option.Some HostFault.Cut → IsRested (H.state h.new).now.words }
     ensures cause { H.counts h.new ≡ after_fault (fault_of result) (H.counts h.old) }
 {
-    match define(h, id, map) {
-        Ok(()) => Ok(Reply::Ok),
-        Err(TypeFault::Clash) => Ok(Reply::No(Refusal::Clash)),
-        Err(TypeFault::Full) => Ok(Reply::No(Refusal::Full)),
-        Err(TypeFault::Host(fault)) => Err(fault),
-    }
+    reply_of(define(h, id, map))
 }

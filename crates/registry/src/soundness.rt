@@ -359,6 +359,23 @@ fn is_registry<H: Host>(h: &mut H, overlay: &Overlay, frames: u32) -> Result<boo
     Ok(are_both(tables, spaces))
 }
 
+/// Whether a device that is described to have so many frames is a sound registry once its daemon log is replayed.
+fn is_sound<H: Host>(h: &mut H, frames: u32) -> Result<bool, HostFault>
+    requires few { frames ≤ MAX_FRAMES }
+    requires room { device_words frames ≤ (H.counts h.old).size }
+    ensures sound { H.tells → (image : Image) → reads (H.state h.old).now.words ≡ image → (size : ℕ) → frames_described size image ≡ Option.Some frames
+        → IfOk result (λ sound. sound ≡ is_sound size image) }
+    ensures stays { H.tells → H.state h.new ≡ H.state h.old }
+    ensures cause { H.counts h.new ≡ after_fault (fault_of result) (H.counts h.old) }
+    ensures never_cut { fault_of result ≢ Option.Some HostFault.Cut }
+{
+    let overlay = Overlay::of(h)?;
+    if !has_legal_log(h, &overlay, frames)? {
+        return Ok(false);
+    }
+    is_registry(h, &overlay, frames)
+}
+
 /// The number of frames of a device that is a sound registry once its daemon log is replayed, or None exactly where it is none.
 /// Nothing changes, and the only errors are the host's own.
 pub fn sound_frames<H: Host>(h: &mut H) -> Result<Option<u32>, HostFault>
@@ -375,11 +392,7 @@ pub fn sound_frames<H: Host>(h: &mut H) -> Result<Option<u32>, HostFault>
     let Some(frames) = described_frames(h)? else {
         return Ok(None);
     };
-    let overlay = Overlay::of(h)?;
-    if !has_legal_log(h, &overlay, frames)? {
-        return Ok(None);
-    }
-    if !is_registry(h, &overlay, frames)? {
+    if !is_sound(h, frames)? {
         return Ok(None);
     }
     Ok(Some(frames))

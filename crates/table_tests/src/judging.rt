@@ -13,6 +13,7 @@ type Row = (u32, u64);
 /// The number of entries, the sequence number and the order of an undo entry in range and of one value, as its second word,
 /// and the same of a redo entry.
 const UNDO: u64 = 196_609;
+
 const REDO: u64 = 4_295_163_905;
 
 fn blank(rt: &impl Abort, alloc: Global, plan: Plan) -> MemHost {

@@ -33,6 +33,7 @@ const LOST: u64 = 1_002;
 
 /// The gate of a closed log, and one of a log that is not.
 const CLOSED: u64 = 1_028;
+
 const RUNNING: u64 = 512;
 
 /// Each pick of a power loss: the durable values, the newest ones, and every other word's.
@@ -89,7 +90,10 @@ fn a_record_is_registered_and_freed(rt: HostRuntime) {
         host.cut(0);
         hold(&rt, rt.alloc(), &host, &record);
         hold(&rt, rt.alloc(), &host, &around);
-        assert!(rt; answer(&rt, &mut host, Call::IsRegistered, 2) == registered, "{call:?}");
+        assert!(rt;
+            answer(&rt, &mut host, Call::IsRegistered, 2) == registered,
+            "{call:?}"
+        );
     }
 }
 
@@ -102,7 +106,10 @@ fn no_client_is_registered_once_the_table_is_empty(rt: HostRuntime) {
     assert!(rt; answer(&rt, &mut host, Call::Clear, 0) == DONE);
     host.cut(0);
     for client in 0..CLIENTS {
-        assert!(rt; answer(&rt, &mut host, Call::IsRegistered, client) == 0, "client {client}");
+        assert!(rt;
+            answer(&rt, &mut host, Call::IsRegistered, client) == 0,
+            "client {client}"
+        );
     }
 }
 
@@ -123,7 +130,10 @@ fn the_lowest_closed_log_is_free(rt: HostRuntime) {
         (8_736, 0, 7),
     ] {
         assert!(rt; poke(&mut host, &[(word, gate)]));
-        assert!(rt; answer(&rt, &mut host, Call::FreeLog, 1) == want, "word {word} of {gate}");
+        assert!(rt;
+            answer(&rt, &mut host, Call::FreeLog, 1) == want,
+            "word {word} of {gate}"
+        );
     }
 }
 
@@ -137,7 +147,10 @@ fn the_logs_of_a_client_are_closed_durably(rt: HostRuntime) {
         let others = [(4_640, RUNNING), (9_760, RUNNING)];
         assert!(rt; poke(&mut host, &gates) && poke(&mut host, &others));
         arm(&mut host, step, pick);
-        assert!(rt; answer(&rt, &mut host, Call::CloseLogs, 1) == want, "step {step}");
+        assert!(rt;
+            answer(&rt, &mut host, Call::CloseLogs, 1) == want,
+            "step {step}"
+        );
         host.cut(pick);
         if want == DONE {
             let closed = [5_664, 6_688, 7_712, 8_736].map(|word| (word, CLOSED));

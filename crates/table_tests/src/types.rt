@@ -24,10 +24,12 @@ const NONE: u64 = 1_000;
 
 /// The answer of a call that failed, and of one in which power was lost.
 const FAILED: u64 = 1_001;
+
 const LOST: u64 = 1_002;
 
 /// The refusals of a definition.
 const CLASH: u64 = 1_003;
+
 const FULL: u64 = 1_004;
 
 /// A device of four frames, all of whose words are zero.
@@ -73,7 +75,10 @@ fn run(rt: &impl Abort, host: &mut MemHost, rows: &[(Call, u64)]) {
 #[test]
 fn a_definition_is_durable_in_the_lowest_free_record(rt: HostRuntime) {
     let mut host = host(&rt, rt.alloc());
-    let rows = [(Call::Define(7, 0x102), DONE), (Call::Define(3, 0x203), DONE)];
+    let rows = [
+        (Call::Define(7, 0x102), DONE),
+        (Call::Define(3, 0x203), DONE),
+    ];
     run(&rt, &mut host, &rows);
     host.cut(0);
     for (word, want) in [
@@ -83,7 +88,10 @@ fn a_definition_is_durable_in_the_lowest_free_record(rt: HostRuntime) {
         (1_091, 0x203),
         (1_092, 0),
     ] {
-        assert!(rt; newest(rt.alloc(), &host, word) == Some(want), "word {word}");
+        assert!(rt;
+            newest(rt.alloc(), &host, word) == Some(want),
+            "word {word}"
+        );
     }
 }
 
@@ -116,7 +124,11 @@ fn another_map_is_a_clash_and_takes_no_device_step(rt: HostRuntime) {
 fn the_table_is_full_after_64_definitions(rt: HostRuntime) {
     let mut host = host(&rt, rt.alloc());
     for id in 1..65u32 {
-        run(&rt, &mut host, &[(Call::Define(id, 2 * u64::from(id)), DONE)]);
+        run(
+            &rt,
+            &mut host,
+            &[(Call::Define(id, 2 * u64::from(id)), DONE)],
+        );
     }
     let rows = [
         (Call::Arm, DONE),

@@ -1,6 +1,6 @@
 -- The search of the table, record by record.
 use Rattle.std.proofs.Common.{◌≡◌, ℕ, ◌+◌, ◌-◌, ◌<◌, ◌≤◌, ◌&&◌, cond, leb, List, length, Option, Some, None, IfSome, is_none, refl, ap, ap₂, ◌∙◌, arith}
-use Rattle.std.proofs.lemmas.Bool.{le-leb, lt-leb}
+use Rattle.std.proofs.lemmas.Bool.{eq-eqb, le-leb, lt-leb}
 use Rattle.pud_defs.specs.declared.machine.Refusal.TheVariants as refusals
 use Rattle.pud_defs.specs.Step.{is_other}
 use Rattle.std.specs.Option.{option_or}
@@ -68,3 +68,16 @@ free_accepts_by None None map count r is room = absurd (let no : places.Full ≡
 pub free_accepts : (image : Image) (id map r : ℕ) → place_of image id ≡ places.Free r → table_refusal (type_table image) id map ≡ None
 free_accepts image id map r is =
     free_accepts_by (map_of id (type_table image)) (first_free image 0 TYPE_RECORDS) map (length (type_table image)) r is (λ x free. (first_free_some image 0 TYPE_RECORDS x free).room)
+
+defined_by : (m f : Option ℕ) (map : ℕ) → place_by m f ≡ places.Defined map → m ≡ Some map
+defined_by (Some x) f map is = let same : places.Defined x ≡ places.Defined map = is in cc
+defined_by None (Some r) map is = absurd (let no : places.Free r ≡ places.Defined map = is in cc)
+defined_by None None map is = absurd (let no : places.Full ≡ places.Defined map = is in cc)
+
+-- where a type is defined, its map is this
+pub map_defined : (image : Image) (id map : ℕ) → place_of image id ≡ places.Defined map → map_of id (type_table image) ≡ Some map
+map_defined image id map is = defined_by (map_of id (type_table image)) (first_free image 0 TYPE_RECORDS) map is
+
+-- with this map it is not refused
+pub same_accepts : (image : Image) (id map known : ℕ) → place_of image id ≡ places.Defined known → known ≡ map → table_refusal (type_table image) id map ≡ None
+same_accepts image id map known is same = rw (map_defined image id known is) (rw (eq-eqb known map same) refl)

@@ -1,4 +1,4 @@
-use Rattle.std.proofs.Common.{◌≡◌, ℕ, ◌+◌, ◌-◌, true, false, option_map, sym, ap, ◌∙◌, arith}
+use Rattle.std.proofs.Common.{◌≡◌, ℕ, ◌+◌, ◌-◌, true, false, option_map, refl, sym, ap, ◌∙◌, arith}
 use Rattle.pm_model.specs.Words.{reads}
 use Rattle.pm_model.specs.Moments.{State}
 use Rattle.pm_model.specs.Counts.{after_fault, fault_of}
@@ -19,6 +19,9 @@ returns-then-branch-clause-lowest g c = λ t.
     let passes : test number ≡ true =
     sym (c.in_ok-is_closed_log.ensures.closed t image (ap (λ (s : State). reads s.now.words) (before.stays t)) ∙ ap (is_closed_log image) c.log_at.ensures) ∙ c.if-branch.true in
     sym (ap (option_map (log_number c.args.slot)) (before.passed t ∙ first_from-passes number (CLIENT_LOGS - number) test (omega arith) passes))
+
+pub loop-number-init : goal.loop-number-init
+loop-number-init g c = record { counts = refl; stays = λ t. refl; passed = λ t. refl }
 
 pub loop-number-preserved : goal.loop-number-preserved
 loop-number-preserved g c =

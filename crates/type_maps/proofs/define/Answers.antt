@@ -1,7 +1,7 @@
-use Rattle.std.proofs.Common.{sym, ◌∙◌}
+use Rattle.std.proofs.Common.{sym, ◌∙◌, arith}
 use Rattle.std.proofs.lemmas.Result.{err_from_is_err_and}
 use Rattle.pm_model.specs.Words.{reads}
-use Rattle.type_maps.proofs.LookUp.{full_refuses, free_accepts}
+use Rattle.type_maps.proofs.LookUp.{full_refuses, free_accepts, same_accepts}
 use Rattle.type_maps.proofs.Moments.{Defines-none}
 use Rattle.type_maps.proofs.define.Goals as goal
 
@@ -18,3 +18,7 @@ returns-in-Full-clause-refusal g c = λ t none. sym (full_refuses (reads (g.H.Ho
 
 pub returns-in_ok-write_record-in-Free-clause-refusal : goal.returns-in_ok-write_record-in-Free-clause-refusal
 returns-in_ok-write_record-in-Free-clause-refusal g c = λ t none. sym (free_accepts (reads (g.H.Host.state c.args.h.now).now.words) c.args.id c.args.map _ (sym (c.in_ok-defined.ensures.place t) ∙ c.in-Free.is))
+
+pub returns-then-defined-map-clause-refusal : goal.returns-then-defined-map-clause-refusal
+returns-then-defined-map-clause-refusal g c = λ t none.
+    sym (same_accepts (reads (g.H.Host.state c.args.h.now).now.words) c.args.id c.args.map _ (sym (c.in_ok-defined.ensures.place t) ∙ c.in-Defined.is) (let same = c.if-defined-map.true in omega arith))

@@ -1,6 +1,6 @@
 use Rattle.std.proofs.Common.{◌≡◌, ℕ, Some, refl, sym, ap, subst, ◌∙◌}
 use Rattle.pud_defs.specs.declared.machine.Command.{Command}
-use Rattle.pud_defs.specs.declared.machine.Command.TheVariants.{Client, Leave, Define, Cut, Arm}
+use Rattle.pud_defs.specs.declared.machine.Command.TheVariants.{Client, Leave, Define}
 use Rattle.pud_defs.specs.Grammar.{IsLegalCommand}
 use Rattle.puddled.specs.Memory.{Memory}
 use Rattle.puddled.specs.Daemon.{CarriesOut}

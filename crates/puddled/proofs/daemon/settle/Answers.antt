@@ -1,5 +1,5 @@
 use Rattle.std.proofs.Common.{◌≡◌, ℕ, Option, Some, Ok, refl, sym, ap, subst, ◌∙◌}
-use Rattle.pm_model.specs.Counts.{Counts, fault_of}
+use Rattle.pm_model.specs.Counts.{fault_of}
 use Rattle.pm_model.specs.Words.{reads}
 use Rattle.pud_defs.specs.declared.machine.Command.{Command}
 use Rattle.pud_defs.specs.declared.machine.Reply.TheVariants as replies
@@ -9,7 +9,7 @@ use Rattle.pud_defs.specs.Grammar.{command_of}
 use Rattle.pud_defs.specs.Changing.{file_in}
 use Rattle.puddled.specs.Faults.{kind_of, run_fault, CountsLine}
 use Rattle.puddled.specs.Daemon.{KeepsLine, CarriesOut}
-use Rattle.puddled.proofs.Counted.{size_of_command, no_loss_still}
+use Rattle.puddled.proofs.Counted.{size_of_command}
 use Rattle.puddled.proofs.Carrying.{CarriesOut-bad, KeepsLine-then}
 use Rattle.puddled.proofs.Settling.{Settles-done}
 use Rattle.puddled.proofs.daemon.settle.Goals as goal

@@ -1,4 +1,4 @@
-use Rattle.std.proofs.Common.{None, Some, Ok, Err, refl, ap, subst, ◌∙◌}
+use Rattle.std.proofs.Common.{None, Some, Ok, Err, refl, subst}
 use Rattle.std.proofs.lemmas.Result.{err_from_is_err_and}
 use Rattle.pm_model.specs.Counts.{Counts}
 use Rattle.puddled.specs.Faults.{of_host, HasLostPower}
