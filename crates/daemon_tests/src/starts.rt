@@ -163,14 +163,11 @@ fn start_twice(rt: &impl Abort, alloc: Global, step: u32, pick: u64) {
 
 #[test]
 fn a_start_that_is_cut_off_is_done_again(rt: HostRuntime) {
-    let mut cuts = 0;
     for pick in [0, 1, 0x5555_5555_5555_5555] {
         for step in 1..=RECOVERY_STEPS {
             start_twice(&rt, rt.alloc(), step, pick);
-            cuts += 1;
         }
     }
-    assert!(rt; cuts == 3 * RECOVERY_STEPS);
 }
 
 #[test]

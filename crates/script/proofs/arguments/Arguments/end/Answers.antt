@@ -1,0 +1,6 @@
+use Rattle.std.proofs.Common.{arith}
+use Rattle.script.proofs.Taken.{taken}
+use Rattle.script.proofs.arguments.Arguments.end.Goals as goal
+
+pub returns : goal.returns
+returns c = grind (arith, taken)
