@@ -15,7 +15,12 @@ fn device(rt: &impl Abort, alloc: Global) -> MemHost {
 
 /// Commits a batch of so many entries from word 1,095 on, with 32 values each that are its number, and then of these. Each
 /// of them has to be taken or not, as it says. The answer is whether power was lost.
-fn is_lost(rt: &impl Abort, host: &mut MemHost, full: u64, rows: &[(u32, &[u64], bool)]) -> bool {
+fn is_lost<H: Host>(
+    rt: &impl Abort,
+    host: &mut H,
+    full: u64,
+    rows: &[(u32, &[u64], bool)],
+) -> bool {
     let mut batch = Batch::new();
     for round in 0..full {
         assert!(rt; batch.add(1_095, &[round; 32]).is_ok(), "round {round}");
@@ -31,7 +36,7 @@ fn is_lost(rt: &impl Abort, host: &mut MemHost, full: u64, rows: &[(u32, &[u64],
 }
 
 /// Replays the daemon log where its range is that of a committing one.
-fn replay(rt: &impl Abort, host: &mut MemHost) {
+fn replay<H: Host>(rt: &impl Abort, host: &mut H) {
     assert!(rt; DAEMON_LOG + LOG_WORDS <= host.words());
     let gate = host.load(DAEMON_LOG).expect(rt, "no fault");
     if gate_lo(gate) == COMMITTING_LO && gate_hi(gate) == COMMITTING_HI {

@@ -26,7 +26,7 @@ fn device(rt: &impl Abort, alloc: Global, gate: u64, words: &[u64]) -> MemHost {
 
 /// The entries that a reader gives, up to five: of each its address, its number of values, its sequence number, its order
 /// and the word of its first value.
-fn entries(rt: &impl Abort, alloc: Global, host: &mut MemHost) -> Vec<[u64; 5]> {
+fn entries<H: Host>(rt: &impl Abort, alloc: Global, host: &mut H) -> Vec<[u64; 5]> {
     let mut entries = Vec::new(alloc);
     let mut reader = EntryReader::new(LOG);
     for _ in 0..5 {
@@ -42,7 +42,7 @@ fn entries(rt: &impl Abort, alloc: Global, host: &mut MemHost) -> Vec<[u64; 5]> 
 }
 
 /// Whether the log is well formed.
-fn formed(rt: &impl Abort, host: &mut MemHost) -> bool {
+fn formed<H: Host>(rt: &impl Abort, host: &mut H) -> bool {
     assert!(rt; LOG + LOG_WORDS <= host.words());
     well_formed(host, LOG).expect(rt, "no fault")
 }

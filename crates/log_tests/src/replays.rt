@@ -36,7 +36,7 @@ fn device(rt: &impl Abort, alloc: Global, gate: u64, words: &[u64]) -> MemHost {
 }
 
 /// Replays the log. The answer is whether power was lost.
-fn is_lost(rt: &impl Abort, host: &mut MemHost) -> bool {
+fn is_lost<H: Host>(rt: &impl Abort, host: &mut H) -> bool {
     assert!(rt; DAEMON_LOG + LOG_WORDS <= host.words());
     let outcome = replay_range(host, DAEMON_LOG, Target::Words);
     assert!(rt; outcome != Err(HostFault::Failed));
