@@ -14,7 +14,7 @@ use Rattle.pm_persist.proofs.Ranges.{placed_within, placed_at}
 use Rattle.pud_defs.specs.declared.layout.TheConstants.{LOG_WORDS, LOG_HEADER_WORDS, LOG_ENTRY_WORDS}
 use Rattle.pud_defs.specs.declared.log_words.TheConstants.{COMMITTING_LO, COMMITTING_HI}
 use Rattle.pud_defs.specs.Image.{Image}
-use Rattle.pud_defs.specs.Entries.{Entry, Log, log_of, gate_lo, gate_hi, gate_used, gate_word, is_closed_gate, entries_in, entries_of, words_from}
+use Rattle.pud_defs.specs.Entries.{Entry, Log, log_of, gate_lo, gate_hi, gate_used, gate_word, is_idle_gate, entries_in, entries_of, words_from}
 use Rattle.pud_defs.specs.Replay.{device_word, new_value, overwritten, IsInLog, is_in_log, settled_by}
 use Rattle.pud_defs.proofs.Entries.{words_from-holds, entries_of-is, gate_lo-of, gate_hi-of, gate_used-of, is_legal_gate-of}
 use Rattle.pud_defs.proofs.Replay.{not_inside}
@@ -43,11 +43,11 @@ module _ (size at : ℕ) (es : List Entry) (words : List ℕ) (s : State) (free 
         before = before;
         picked = picked;
         outside = outside;
-        same = settled_by-closed_same at image before (ap is_closed_gate gate ∙ closed) closed outside;
-        closed = ap is_closed_gate gate ∙ closed;
+        same = settled_by-closed_same at image before (ap is_idle_gate gate ∙ closed) closed outside;
+        closed = ap is_idle_gate gate ∙ closed;
       }) changes
 
-  pub gate_closed_still : (fault : Option HostFault) (a : State) → Changes (written (placed (at + LOG_HEADER_WORDS) words)) fault s a → (v : ℕ) → Has (values (a.now.words at)) v → is_closed_gate v ≡ true
+  pub gate_closed_still : (fault : Option HostFault) (a : State) → Changes (written (placed (at + LOG_HEADER_WORDS) words)) fault s a → (v : ℕ) → Has (values (a.now.words at)) v → is_idle_gate v ≡ true
   gate_closed_still fault a changes v has = elim (Changes-now (written (placed (at + LOG_HEADER_WORDS) words)) fault s a changes at v has) [
     | inl was ↦ free.closed v was
     | inr new ↦ absurd (let low = (entries_apart at v new).0 in omega arith)
@@ -114,7 +114,7 @@ module _ (size at : ℕ) (es : List Entry) (words : List ℕ) (s a : State) (fre
           picked = so_far.picked;
           outside = λ k out none. ap (λ (i : Image). i k) same ∙ so_far.outside k out;
           settled = inl (ap (settled_by at) same ∙ so_far.same);
-          log = inl (ap (λ (i : Image). is_closed_gate (i at)) same ∙ so_far.closed);
+          log = inl (ap (λ (i : Image). is_idle_gate (i at)) same ∙ so_far.closed);
         }
         | inr moved ↦
             let w = wholly before image picked so_far moved.there moved.others in
@@ -195,7 +195,7 @@ Commits-settle size at es fault s b d batched p f =
     let late = Leaves-weaker (Silently (SettlesSame b.now.words at log)) P b d
     (λ bytes image q.
     let whole = p.done refl q.1.before q.1.picked in
-    let left : (is_closed_gate (image at) ≡ true) ⊎ (log_of image at ≡ committed es) = elim q.1.gate [ inl same ↦ inr (same ∙ prepared.log) | inr closed ↦ inl closed ] in
+    let left : (is_idle_gate (image at) ≡ true) ⊎ (log_of image at ≡ committed es) = elim q.1.gate [ inl same ↦ inr (same ∙ prepared.log) | inr closed ↦ inl closed ] in
     let at_all : IsBatched s.now.words at es image = record {
       before = whole.before;
       picked = whole.picked;

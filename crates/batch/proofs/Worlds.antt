@@ -15,7 +15,7 @@ use Rattle.pm_model.proofs.Leaves.{Leaves-weaker, Leaves-now}
 use Rattle.pud_defs.specs.declared.layout.TheConstants.{DAEMON_LOG, FRAMES_WORD}
 use Rattle.pud_defs.specs.Image.{Image}
 use Rattle.pud_defs.specs.Layout.{device_words}
-use Rattle.pud_defs.specs.Entries.{Entry, is_closed_gate}
+use Rattle.pud_defs.specs.Entries.{Entry, is_idle_gate}
 use Rattle.pud_defs.specs.Replay.{device_word, overwritten, is_in_log, settled_by}
 use Rattle.pud_defs.specs.Registry.{frames_of, may_be_logged, is_allowed, has_legal_log}
 use Rattle.pud_defs.specs.World.{StoredWorld, registry_world, world_of}
@@ -93,7 +93,7 @@ module _ (size : ℕ) (s next : StoredWorld) (es : List Entry) (a : State) (batc
     word_written k (Some v) some =
         overwritten-there (batch_write es) (settled_by DAEMON_LOG image) k v some
         ∙ sym ((c.durable refl k v some).each (image k) (picked.each k))
-        ∙ sym (settled_by-closed DAEMON_LOG image k (ap is_closed_gate ((c.closed refl).each (image DAEMON_LOG) (picked.each DAEMON_LOG))) (outside_batch k v some))
+        ∙ sym (settled_by-closed DAEMON_LOG image k (ap is_idle_gate ((c.closed refl).each (image DAEMON_LOG) (picked.each DAEMON_LOG))) (outside_batch k v some))
 
     -- the batch's words are there, so to write them again changes nothing
     again : with_batch es image ≡ settled_by DAEMON_LOG image
@@ -131,7 +131,7 @@ module _ (size : ℕ) (s next : StoredWorld) (es : List Entry) (a : State) (batc
         moments = Leaves-weaker (Silently (IsBatched a.now.words DAEMON_LOG es)) (Silently (IsBetween size s next es a.now.words)) a b (λ bytes image p. (p.0, between image p.1)) c.moments;
         settled = λ none. record {
           stands = λ image picked. next_stands b (whole none) image picked;
-          closed = λ v has. ap is_closed_gate ((c.closed none).each v has);
+          closed = λ v has. ap is_idle_gate ((c.closed none).each v has);
         };
         done = λ none image picked. HasBatch-commits b (whole none) image picked;
       }

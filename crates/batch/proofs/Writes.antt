@@ -6,7 +6,7 @@ use Rattle.std.proofs.lemmas.Bool.{and_from, cond-true, cond-false, cases_Bool, 
 use Rattle.std.proofs.lemmas.List.Elements.{All-head, All-tail}
 use Rattle.pud_defs.specs.declared.log_words.TheConstants.{UNDO_ORDER, REDO_ORDER, COMMITTING_LO, COMMITTING_HI}
 use Rattle.pud_defs.specs.Image.{Image}
-use Rattle.pud_defs.specs.Entries.{Entry, Log, log_of, is_closed_gate}
+use Rattle.pud_defs.specs.Entries.{Entry, Log, log_of, is_idle_gate}
 use Rattle.pud_defs.specs.Replay.{device_word, value_at, is_in_range, given_by, undone, redone, new_value, overwritten, replayed, IsInLog, is_in_log, settled_by}
 use Rattle.pud_defs.proofs.Replay.{or_none, or_assoc, undone-first, redone-first, undone-none, redone-none, new_value-of, settled_by-inside, settled_by-outside, settled_by-closed, within_log}
 use Rattle.log_replay.specs.Replaying.{NamesApart}
@@ -69,7 +69,7 @@ batch_write-apart (e ∷ es) size at k apart inside =
 -- ---- a closed log
 
 -- images with a closed log that are the same beside it settle the same
-pub settled_by-closed_same : (at : ℕ) (i j : Image) → is_closed_gate (i at) ≡ true → is_closed_gate (j at) ≡ true → ((w : ℕ) → is_in_log at w ≡ false → i w ≡ j w) → settled_by at i ≡ settled_by at j
+pub settled_by-closed_same : (at : ℕ) (i j : Image) → is_idle_gate (i at) ≡ true → is_idle_gate (j at) ≡ true → ((w : ℕ) → is_in_log at w ≡ false → i w ≡ j w) → settled_by at i ≡ settled_by at j
 settled_by-closed_same at i j closed_i closed_j same =
     let each : (w : ℕ) → settled_by at i w ≡ settled_by at j w = λ w. elim (cases_Bool (is_in_log at w)) [
       | inl inside ↦ settled_by-inside at i w inside ∙ sym (settled_by-inside at j w inside)
@@ -80,7 +80,7 @@ settled_by-closed_same at i j closed_i closed_j same =
 -- ---- a committed log
 
 -- with it replayed the batch's words are over those of the image
-pub settled_by-committed : (size at : ℕ) (es : List Entry) (i j : Image) → AreBatched es → All (NamesApart device_word size at) es → log_of i at ≡ committed es → is_closed_gate (j at) ≡ true
+pub settled_by-committed : (size at : ℕ) (es : List Entry) (i j : Image) → AreBatched es → All (NamesApart device_word size at) es → log_of i at ≡ committed es → is_idle_gate (j at) ≡ true
     → ((w : ℕ) → is_in_log at w ≡ false → i w ≡ j w) → settled_by at i ≡ overwritten (batch_write es) (settled_by at j)
 settled_by-committed size at es i j batched apart log closed same =
     let write = batch_write es in

@@ -8,7 +8,7 @@ use Rattle.pm_model.specs.Changes.{Footprint, Write, Changes, Leaves, Silently}
 use Rattle.pud_defs.specs.declared.layout.TheConstants.{LOG_WORDS, LOG_ENTRY_WORDS, ENTRY_HEADER_WORDS}
 use Rattle.pud_defs.specs.declared.log_words.TheConstants.{REDO_SEQ, REDO_ORDER, COMMITTING_LO, COMMITTING_HI, CLOSED_GATE}
 use Rattle.pud_defs.specs.Image.{Image}
-use Rattle.pud_defs.specs.Entries.{Entry, Log, log_of, is_closed_gate, entries_in}
+use Rattle.pud_defs.specs.Entries.{Entry, Log, log_of, is_idle_gate, entries_in}
 use Rattle.pud_defs.specs.Replay.{device_word, value_at, entries_or_none, overwritten, IsInLog, is_in_log, settled_by}
 use Rattle.log_replay.specs.Replaying.{NamesApart, IsNamed, IsReplayable}
 
@@ -46,7 +46,7 @@ pub record IsBuffer (used : ℕ) (words : List ℕ) : Type 0 where
 
 -- The log whose gate is this word is closed in each image, and the words of the batch lie in the device, apart from it.
 pub record IsFree (size at : ℕ) (es : List Entry) (words : Words) : Type 0 where
-  pub closed : (v : ℕ) → Has (values (words at)) v → IsTrue (is_closed_gate v)
+  pub closed : (v : ℕ) → Has (values (words at)) v → IsTrue (is_idle_gate v)
   pub apart : All (NamesApart device_word size at) es
 
 -- the log that was made durable and whose range counts these entries
@@ -64,7 +64,7 @@ pub record IsBatched (words : Words) (at : ℕ) (es : List Entry) (image : Image
   pub picked : Picks words before
   pub outside : (k : ℕ) → is_in_log at k ≡ false → batch_write es k ≡ None → image k ≡ before k
   pub settled : (settled_by at image ≡ settled_by at before) ⊎ (settled_by at image ≡ overwritten (batch_write es) (settled_by at before))
-  pub log : (is_closed_gate (image at) ≡ true) ⊎ (log_of image at ≡ committed es)
+  pub log : (is_idle_gate (image at) ≡ true) ⊎ (log_of image at ≡ committed es)
 
 -- An image that is one of these words but in the log, which is closed, and that with the log replayed is the same.
 pub record IsUntouched (words : Words) (at : ℕ) (image : Image) : Type 0 where
@@ -72,7 +72,7 @@ pub record IsUntouched (words : Words) (at : ℕ) (image : Image) : Type 0 where
   pub picked : Picks words before
   pub outside : (k : ℕ) → is_in_log at k ≡ false → image k ≡ before k
   pub same : settled_by at image ≡ settled_by at before
-  pub closed : is_closed_gate (image at) ≡ true
+  pub closed : is_idle_gate (image at) ≡ true
 
 -- the log has one value in each word that is read of it, and its range counts the entries of the batch
 pub record IsPrepared (size at : ℕ) (es : List Entry) (words : Words) : Type 0 where

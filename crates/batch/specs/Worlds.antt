@@ -7,7 +7,7 @@ use Rattle.pm_model.specs.Moments.{State}
 use Rattle.pm_model.specs.Changes.{Leaves, Silently}
 use Rattle.pud_defs.specs.declared.layout.TheConstants.{DAEMON_LOG}
 use Rattle.pud_defs.specs.Image.{Image}
-use Rattle.pud_defs.specs.Entries.{Entry, is_closed_gate}
+use Rattle.pud_defs.specs.Entries.{Entry, is_idle_gate}
 use Rattle.pud_defs.specs.Replay.{overwritten, is_in_log, settled_by}
 use Rattle.pud_defs.specs.Registry.{is_allowed}
 use Rattle.pud_defs.specs.World.{StoredWorld, registry_world, world_of}
@@ -16,7 +16,7 @@ use Rattle.batch.specs.Batches.{batch_write, committed, IsBatched, Commits}
 -- Each image that may be left stands for this world, and the daemon log is closed in it and counts no word.
 pub record IsSettled (size : ℕ) (s : StoredWorld) (words : Words) : Type 0 where
   pub stands : (image : Image) → Picks words image → world_of size image ≡ Some s
-  pub closed : (v : ℕ) → Has (values (words DAEMON_LOG)) v → is_closed_gate v ≡ true
+  pub closed : (v : ℕ) → Has (values (words DAEMON_LOG)) v → is_idle_gate v ≡ true
 
 -- the image with the daemon log replayed, and the words of these entries over it
 abbrev pub with_batch : List Entry → Image → Image

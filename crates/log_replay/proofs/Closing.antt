@@ -13,7 +13,7 @@ use Rattle.pm_model.proofs.OneWord.{one_word}
 use Rattle.pm_model.proofs.Leaves.{Leaves-changes, Leaves-now, Leaves-then, Leaves-weaker}
 use Rattle.pud_defs.specs.declared.log_words.TheConstants.{CLOSED_GATE}
 use Rattle.pud_defs.specs.Image.{Image}
-use Rattle.pud_defs.specs.Entries.{Entry, Log, log_of, is_closed_gate}
+use Rattle.pud_defs.specs.Entries.{Entry, Log, log_of, is_idle_gate}
 use Rattle.pud_defs.specs.Replay.{device_word, new_value, replayed, is_in_log, settled_by}
 use Rattle.pud_defs.proofs.Replay.{settled_by-inside, settled_by-outside, settled_by-same, settled_by-closed, not_inside}
 use Rattle.log_replay.specs.Replaying.{IsReplayable, Named, ReplaysSame, Replays, ByLog, SettlesSame, SettlesLog}
@@ -95,14 +95,14 @@ module _ (size at : ℕ) (es : List Entry) (b : State) (replayable : IsReplayabl
         | inr shut ↦
             let each : (w : ℕ) → settled_by at image w ≡ settled_by at before w = λ w. elim (cases_Bool (is_in_log at w)) [
               | inl inside ↦ settled_by-inside at image w inside ∙ sym (settled_by-inside at before w inside)
-              | inr out ↦ settled_by-closed at image w (ap is_closed_gate shut.there) out ∙ shut.others w (gate_apart at w out) ∙ sym (settled_placed before p w out)
+              | inr out ↦ settled_by-closed at image w (ap is_idle_gate shut.there) out ∙ shut.others w (gate_apart at w out) ∙ sym (settled_placed before p w out)
             ] in
             record {
               before = p.so_far.before;
               picked = p.so_far.picked;
               outside = λ k out none. shut.others k (gate_apart at k out) ∙ p.so_far.outside k out none;
               same = (λ i w. each w i) ∙ p.so_far.same;
-              gate = inr (ap is_closed_gate shut.there);
+              gate = inr (ap is_idle_gate shut.there);
             }
       ]) changes
 

@@ -7,7 +7,7 @@ use Rattle.pm_model.specs.Changes.{Footprint, Write, Changes, Leaves, Silently}
 use Rattle.pud_defs.specs.declared.layout.TheConstants.{LOG_WORDS, LOG_HEADER_WORDS}
 use Rattle.pud_defs.specs.declared.log_words.TheConstants.{CLOSED_GATE}
 use Rattle.pud_defs.specs.Image.{Image}
-use Rattle.pud_defs.specs.Entries.{Entry, Log, log_of, gate_used, is_closed_gate, entries_of}
+use Rattle.pud_defs.specs.Entries.{Entry, Log, log_of, gate_used, is_idle_gate, entries_of}
 use Rattle.pud_defs.specs.Replay.{Place, device_word, is_in_range, new_value, replayed, is_in_log, settled_by}
 use Rattle.log_entry.specs.Reading.{Reading, entries_left}
 use Rattle.log_replay.specs.declared.Target.{Target}
@@ -88,7 +88,7 @@ pub record SettlesSame (words : Words) (at : ℕ) (log : Log) (image : Image) : 
   pub picked : Picks words before
   pub outside : (k : ℕ) → is_in_log at k ≡ false → new_value device_word log k ≡ None → image k ≡ before k
   pub same : settled_by at image ≡ settled_by at before
-  pub gate : (log_of image at ≡ log) ⊎ (is_closed_gate (image at) ≡ true)
+  pub gate : (log_of image at ≡ log) ⊎ (is_idle_gate (image at) ≡ true)
 
 -- The log of device words is replayed and then closed: with it replayed each image stays as it was. At Ok each word that it names has its new
 -- value and no other, and the log is closed.

@@ -9,7 +9,7 @@ use Rattle.pm_model.specs.Changes.{Changes, Silently}
 use Rattle.pm_model.proofs.Leaves.{Leaves-weaker}
 use Rattle.pud_defs.specs.declared.layout.TheConstants.{DAEMON_LOG, CLIENTS, SPACE_RECORD_WORDS, MAX_OWNER_ID}
 use Rattle.pud_defs.specs.Image.{Image}
-use Rattle.pud_defs.specs.Entries.{is_closed_gate}
+use Rattle.pud_defs.specs.Entries.{is_idle_gate}
 use Rattle.pud_defs.specs.Replay.{overwritten, settled_by}
 use Rattle.pud_defs.specs.Registry.{is_allowed}
 use Rattle.pud_defs.specs.Spaces.{Owner, space_record_at, owner_by, owner_of, is_space, is_legal_space, has_closed_logs, owner, with_owner}
@@ -145,7 +145,7 @@ GivesOwner-registration size s slot uid gid words settled known uid_fits gid_fit
   closed = λ image picked.
       let old = settled_by DAEMON_LOG image in
       let new = overwritten (batch_write (registration slot uid gid)) old in
-      let gate : is_closed_gate (image DAEMON_LOG) ≡ true = settled.closed (image DAEMON_LOG) (picked.each DAEMON_LOG) in
+      let gate : is_idle_gate (image DAEMON_LOG) ≡ true = settled.closed (image DAEMON_LOG) (picked.each DAEMON_LOG) in
       let same : has_closed_logs old s.frames slot ≡ has_closed_logs image s.frames slot =
       has_closed_logs-same old image s.frames slot known (λ k low high. settled_by-closed DAEMON_LOG image k gate (outside_log DAEMON_LOG k (inr (omega arith)))) in
       or_right (eqb (new (space_record_at slot)) 0) (has_closed_logs new s.frames slot)

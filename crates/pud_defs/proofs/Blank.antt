@@ -6,7 +6,7 @@ use Rattle.pud_defs.specs.Layout.{device_words, is_legal_frame_count}
 use Rattle.pud_defs.specs.Image.{Image}
 use Rattle.pud_defs.specs.Types.{type_record_at, type_records, type_table, by_id, are_legal_types}
 use Rattle.pud_defs.specs.World.{IsBlank, world_of, blank_world}
-use Rattle.pud_defs.specs.Entries.{is_closed_gate}
+use Rattle.pud_defs.specs.Entries.{is_idle_gate}
 use Rattle.pud_defs.specs.Replay.{is_in_log, beside_log}
 use Rattle.pud_defs.specs.Spaces.{space_record_at}
 use Rattle.pud_defs.proofs.Replay.{beside_log-outside, outside_log}
@@ -52,7 +52,7 @@ standing_blank size F machine image legal room h =
 -- beside the daemon log, which is closed, it is blank too
 pub world_of-blank : (size F machine : ℕ) (image : Image) → is_legal_frame_count F ≡ true → device_words F ≤ size → IsBlank F machine image → world_of size image ≡ Some (blank_world F machine)
 world_of-blank size F machine image legal room h =
-    let closed : is_closed_gate (image DAEMON_LOG) ≡ true = ap is_closed_gate (h.rest DAEMON_LOG (omega arith) (omega arith)) in
+    let closed : is_idle_gate (image DAEMON_LOG) ≡ true = ap is_idle_gate (h.rest DAEMON_LOG (omega arith) (omega arith)) in
     let read : (k : ℕ) → k < DAEMON_LOG → beside_log DAEMON_LOG image k ≡ image k = λ k low. beside_log-outside DAEMON_LOG image k (outside_log DAEMON_LOG k (inl low)) in
     world_of-closed size image closed
     ∙ registry_world_standing size (beside_log DAEMON_LOG image) (blank_world F machine) (standing_blank size F machine (beside_log DAEMON_LOG image) legal room (record {

@@ -6,7 +6,7 @@ use Rattle.pud_defs.specs.declared.layout.TheConstants.{DAEMON_LOG, CLIENTS, CLI
 use Rattle.pud_defs.specs.declared.log_words.TheConstants.{CLOSED_GATE}
 use Rattle.pud_defs.specs.Image.{Image}
 use Rattle.pud_defs.specs.Layout.{tables_end, log_at}
-use Rattle.pud_defs.specs.Entries.{is_closed_gate, entries_of}
+use Rattle.pud_defs.specs.Entries.{is_idle_gate, entries_of}
 use Rattle.pud_defs.specs.Replay.{IsInLog, is_in_log, beside_log}
 use Rattle.pud_defs.specs.Spaces.{space_record_at, is_closed_range, is_closed_log, has_closed_logs, are_closed_logs, IsGateOf}
 use Rattle.pud_defs.specs.World.{StoredWorld, world_of}
@@ -23,7 +23,7 @@ pub record IsClosedAnew (F client : ℕ) (i j : Image) : Type 0 where
 -- a log with this gate is closed
 pub closed_by_gate : (image : Image) (at : ℕ) → image at ≡ CLOSED_GATE → is_closed_log image at ≡ true
 closed_by_gate image at gate =
-    let empty : entries_of image at ≡ Some [] = entries_of-closed image at (ap is_closed_gate gate) in
+    let empty : entries_of image at ≡ Some [] = entries_of-closed image at (ap is_idle_gate gate) in
     λ p. is_closed_range (gate p) && is_some (empty p)
 
 above : (n k : ℕ) → n ≤ k → (k ≡ n → ⊥) → n < k
@@ -89,9 +89,9 @@ anew_beside F client i j anew = record {
 }
 
 -- also where the daemon log is closed and counts no word
-pub world_of-anew : (size client : ℕ) (i j : Image) (s : StoredWorld) → is_closed_gate (i DAEMON_LOG) ≡ true → world_of size i ≡ Some s → IsClosedAnew s.frames client i j → world_of size j ≡ Some s
+pub world_of-anew : (size client : ℕ) (i j : Image) (s : StoredWorld) → is_idle_gate (i DAEMON_LOG) ≡ true → world_of size i ≡ Some s → IsClosedAnew s.frames client i j → world_of size j ≡ Some s
 world_of-anew size client i j s closed world anew =
-    let gate : is_closed_gate (j DAEMON_LOG) ≡ true = ap is_closed_gate (below_logs s.frames client i j anew DAEMON_LOG (omega arith)) ∙ closed in
+    let gate : is_idle_gate (j DAEMON_LOG) ≡ true = ap is_idle_gate (below_logs s.frames client i j anew DAEMON_LOG (omega arith)) ∙ closed in
     world_of-closed size j gate
     ∙ registry_world_standing size (beside_log DAEMON_LOG j) s
     (standing_anew size client (beside_log DAEMON_LOG i) (beside_log DAEMON_LOG j) s (standing_closed size i s closed world) (anew_beside s.frames client i j anew))

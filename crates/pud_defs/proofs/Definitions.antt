@@ -6,7 +6,7 @@ use Rattle.pud_defs.specs.Image.{Image, written}
 use Rattle.pud_defs.specs.TypeMap.{is_legal_map, is_legal_type_id}
 use Rattle.pud_defs.specs.Types.{type_record_at, type_records, type_table, by_id, map_of, with_type, are_legal_types}
 use Rattle.pud_defs.specs.World.{StoredWorld, registry_world, world_of}
-use Rattle.pud_defs.specs.Entries.{is_closed_gate}
+use Rattle.pud_defs.specs.Entries.{is_idle_gate}
 use Rattle.pud_defs.specs.Replay.{is_in_log, beside_log}
 use Rattle.pud_defs.proofs.Replay.{beside_log-outside, outside_log}
 use Rattle.pud_defs.proofs.Images.{written_there, written_other}
@@ -63,10 +63,10 @@ beside_written image w v low =
 beside_read : (image : Image) (k : ℕ) → type_record_at 0 ≤ k → beside_log DAEMON_LOG image k ≡ image k
 beside_read image k low = beside_log-outside DAEMON_LOG image k (outside_log DAEMON_LOG k (inr (omega arith)))
 
-gate_written : (image : Image) (w v : ℕ) → type_record_at 0 ≤ w → is_closed_gate (image DAEMON_LOG) ≡ true → is_closed_gate (written w v image DAEMON_LOG) ≡ true
-gate_written image w v low closed = ap is_closed_gate (written_other w v image DAEMON_LOG (λ e. absurd (omega arith))) ∙ closed
+gate_written : (image : Image) (w v : ℕ) → type_record_at 0 ≤ w → is_idle_gate (image DAEMON_LOG) ≡ true → is_idle_gate (written w v image DAEMON_LOG) ≡ true
+gate_written image w v low closed = ap is_idle_gate (written_other w v image DAEMON_LOG (λ e. absurd (omega arith))) ∙ closed
 
-pub world_of-map_written : (size : ℕ) (image : Image) (s : StoredWorld) (r v : ℕ) → is_closed_gate (image DAEMON_LOG) ≡ true → world_of size image ≡ Some s → r < TYPE_RECORDS → image (type_record_at r) ≡ 0
+pub world_of-map_written : (size : ℕ) (image : Image) (s : StoredWorld) (r v : ℕ) → is_idle_gate (image DAEMON_LOG) ≡ true → world_of size image ≡ Some s → r < TYPE_RECORDS → image (type_record_at r) ≡ 0
     → world_of size (written (type_record_at r + 1) v image) ≡ Some s
 world_of-map_written size image s r v closed h within free =
     let low : type_record_at 0 ≤ type_record_at r + 1 = omega arith in
@@ -75,7 +75,7 @@ world_of-map_written size image s r v closed h within free =
     ∙ registry_world_standing size _ s
     (standing-map_written size (beside_log DAEMON_LOG image) s r v (standing_closed size image s closed h) within (beside_read image (type_record_at r) (omega arith) ∙ free))
 
-pub world_of-id_written : (size : ℕ) (image : Image) (s : StoredWorld) (r id map : ℕ) → is_closed_gate (image DAEMON_LOG) ≡ true → world_of size image ≡ Some s → r < TYPE_RECORDS → image (type_record_at r) ≡ 0
+pub world_of-id_written : (size : ℕ) (image : Image) (s : StoredWorld) (r id map : ℕ) → is_idle_gate (image DAEMON_LOG) ≡ true → world_of size image ≡ Some s → r < TYPE_RECORDS → image (type_record_at r) ≡ 0
     → image (type_record_at r + 1) ≡ map → is_legal_type_id id ≡ true → is_legal_map map ≡ true → map_of id s.types ≡ None
     → world_of size (written (type_record_at r) id image) ≡ Some (record s { types = with_type id map s.types })
 world_of-id_written size image s r id map closed h within free there legal_id legal_map none =
@@ -87,7 +87,7 @@ world_of-id_written size image s r id map closed h within free there legal_id le
     (beside_read image (type_record_at r) low ∙ free) (beside_read image (type_record_at r + 1) (omega arith) ∙ there) legal_id legal_map none)
 
 -- both writes
-pub world_of-defined : (size : ℕ) (image : Image) (s : StoredWorld) (r id map : ℕ) → is_closed_gate (image DAEMON_LOG) ≡ true → world_of size image ≡ Some s → r < TYPE_RECORDS → image (type_record_at r) ≡ 0
+pub world_of-defined : (size : ℕ) (image : Image) (s : StoredWorld) (r id map : ℕ) → is_idle_gate (image DAEMON_LOG) ≡ true → world_of size image ≡ Some s → r < TYPE_RECORDS → image (type_record_at r) ≡ 0
     → is_legal_type_id id ≡ true → is_legal_map map ≡ true → map_of id s.types ≡ None
     → world_of size (written (type_record_at r) id (written (type_record_at r + 1) map image)) ≡ Some (record s { types = with_type id map s.types })
 world_of-defined size image s r id map closed h within free legal_id legal_map none =

@@ -8,7 +8,7 @@ use Rattle.std.proofs.lemmas.Option.{slice_get_past}
 use Rattle.pud_defs.specs.declared.log_words.TheConstants.{UNDO_ORDER, REDO_ORDER}
 use Rattle.pud_defs.specs.Image.{Image}
 use Rattle.pud_defs.specs.declared.layout.TheConstants.{LOG_WORDS, LOG_HEADER_WORDS}
-use Rattle.pud_defs.specs.Entries.{Entry, Log, log_of, gate_lo, gate_hi, gate_used, is_legal_gate, is_closed_gate, entries_of, words_from}
+use Rattle.pud_defs.specs.Entries.{Entry, Log, log_of, gate_lo, gate_hi, gate_used, is_legal_gate, is_idle_gate, entries_of, words_from}
 use Rattle.pud_defs.specs.Replay.{Place, device_word, is_in_range, value_at, given_by, undone, redone, given, entries_or_none, new_value, over, overwritten, replayed, IsInLog, is_in_log, settled_by, beside_log}
 use Rattle.pud_defs.proofs.Entries.{words_from-none, entries_of-is, entries_in-nothing}
 
@@ -174,10 +174,10 @@ settled_by-same at i j same =
 
 -- ---- a closed log that counts no word
 
-pub closed_range_of : (v : ℕ) → is_closed_gate v ≡ true → gate_hi v ≤ gate_lo v + 1
+pub closed_range_of : (v : ℕ) → is_idle_gate v ≡ true → gate_hi v ≤ gate_lo v + 1
 closed_range_of v closed = leb-true _ _ (and_parts (is_legal_gate v && eqb (gate_used v) 0) (leb (gate_hi v) (gate_lo v + 1)) closed).1
 
-pub entries_of-closed : (image : Image) (at : ℕ) → is_closed_gate (image at) ≡ true → entries_of image at ≡ Some []
+pub entries_of-closed : (image : Image) (at : ℕ) → is_idle_gate (image at) ≡ true → entries_of image at ≡ Some []
 entries_of-closed image at closed =
     let parts = and_parts (is_legal_gate (image at) && eqb (gate_used (image at)) 0) (leb (gate_hi (image at)) (gate_lo (image at) + 1)) closed in
     let gate = and_parts (is_legal_gate (image at)) (eqb (gate_used (image at)) 0) parts.0 in
@@ -185,11 +185,11 @@ entries_of-closed image at closed =
     entries_of-is image at (image at) [] refl gate.0 none ∙ entries_in-nothing [] refl
 
 -- its replay changes nothing
-pub settled_by-closed : (at : ℕ) (image : Image) (w : ℕ) → is_closed_gate (image at) ≡ true → is_in_log at w ≡ false → settled_by at image w ≡ image w
+pub settled_by-closed : (at : ℕ) (image : Image) (w : ℕ) → is_idle_gate (image at) ≡ true → is_in_log at w ≡ false → settled_by at image w ≡ image w
 settled_by-closed at image w closed outside =
     settled_by-outside at image w outside ∙ ap (λ (i : Image). i w) (replayed-closed device_word (log_of image at) image (closed_range_of (image at) closed))
 
-pub settled_by-beside : (at : ℕ) (image : Image) → is_closed_gate (image at) ≡ true → settled_by at image ≡ beside_log at image
+pub settled_by-beside : (at : ℕ) (image : Image) → is_idle_gate (image at) ≡ true → settled_by at image ≡ beside_log at image
 settled_by-beside at image closed =
     let each : (w : ℕ) → settled_by at image w ≡ beside_log at image w = λ w. elim (cases_Bool (is_in_log at w)) [
       | inl inside ↦ settled_by-inside at image w inside ∙ sym (cond-true _ _ _ inside)

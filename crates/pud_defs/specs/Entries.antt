@@ -21,9 +21,9 @@ gate_word lo hi used = lo + hi * 2 ^ 8 + used * 2 ^ 16
 abbrev pub is_legal_gate : ℕ → Bool
 is_legal_gate v = nat_lt v (2 ^ 32) && nat_le (gate_used v) LOG_ENTRY_WORDS
 
--- the gate is one of a closed log that counts no word
-abbrev pub is_closed_gate : ℕ → Bool
-is_closed_gate v = is_legal_gate v && gate_used v == 0 && nat_le (gate_hi v) (gate_lo v + 1)
+-- the gate of a log with nothing to replay: no entry can be in its range, and it counts no word
+abbrev pub is_idle_gate : ℕ → Bool
+is_idle_gate v = is_legal_gate v && gate_used v == 0 && nat_le (gate_hi v) (gate_lo v + 1)
 
 -- the number of values, the sequence number and the order, by the second word of an entry
 abbrev pub entry_n : ℕ → ℕ

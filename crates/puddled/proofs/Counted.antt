@@ -17,7 +17,7 @@ use Rattle.puddled.specs.declared.daemon.RunFault.TheVariants as faults
 use Rattle.puddled.specs.Memory.{Memory}
 use Rattle.puddled.proofs.Turns.{turn_of, no_cut_reply}
 use Rattle.puddled.specs.Faults.Kind.{ordinary, loses, arms}
-use Rattle.puddled.specs.Faults.{start_fault, of_host, of_start, risen_by, RoseBy, CountsCuts, CountsTurns, losses_at, restart_losses, last_fault, IsEnded, IsCounted, Kind, kind_of, is_loss_kind, is_loss, CountsKind, CountsLine, CountsCommand, HasLostPower, Grows, Ends}
+use Rattle.puddled.specs.Faults.{start_fault, of_host, of_start, risen_by, RoseBy, CountsCuts, CountsTurns, cuts_at, restart_cuts, last_fault, IsEnded, IsCounted, Kind, kind_of, is_loss_kind, is_loss, CountsKind, CountsLine, CountsCommand, HasLostPower, Grows, Ends}
 
 least_by : (n : ℕ) (b : Bool) → n ≤ cond b (n + 1) n
 least_by n true = omega arith
@@ -246,16 +246,16 @@ Grows-loss pick a = record { size = refl; faults = refl; cuts = omega arith; arm
 
 -- ---- what a line's counts say
 
-rose_in_restart : (fault : Option RunFault) (n a b : ℕ) → RoseBy (losses_at fault + n) a b → RoseBy (restart_losses fault) a b
+rose_in_restart : (fault : Option RunFault) (n a b : ℕ) → RoseBy (cuts_at fault + n) a b → RoseBy (restart_cuts fault) a b
 rose_in_restart None n a b rose = let least = risen_by-least n a in let r : RoseBy n a b = RoseBy-fewer 0 n a b rose in omega arith
 rose_in_restart (Some faults.Failed) n a b rose = let least = risen_by-least n a in let r : RoseBy n a b = RoseBy-fewer 0 n a b rose in omega arith
 rose_in_restart (Some faults.NotSound) n a b rose = let least = risen_by-least (1 + n) a in omega arith
 rose_in_restart (Some faults.CutInStart) n a b rose = RoseBy-fewer (n + 1) 1 a b (subst (λ (x : ℕ). RoseBy x a b) (let e : 2 + n ≡ (n + 1) + 1 = omega arith in e) rose)
 
 ends_plain : (fault : Option RunFault) (n : ℕ) (a b : Counts) → IsCounted fault n a b → Ends fault a b
-ends_plain fault n a b c = record { before = c.before; grows = Grows-cuts (losses_at fault + n) a c.before c.lost; lost = rose_in_restart fault n a.cuts c.before.cuts c.lost.cuts; last = c.last }
+ends_plain fault n a b c = record { before = c.before; grows = Grows-cuts (cuts_at fault + n) a c.before c.lost; lost = rose_in_restart fault n a.cuts c.before.cuts c.lost.cuts; last = c.last }
 
-no_restart : (fault : Option RunFault) (a : ℕ) → (fault ≡ Some faults.CutInStart → ⊥) → RoseBy (restart_losses fault) a a
+no_restart : (fault : Option RunFault) (a : ℕ) → (fault ≡ Some faults.CutInStart → ⊥) → RoseBy (restart_cuts fault) a a
 no_restart None a never = omega arith
 no_restart (Some faults.Failed) a never = omega arith
 no_restart (Some faults.NotSound) a never = omega arith
@@ -267,7 +267,7 @@ kind_ends ordinary fault n a b c = ends_plain fault n a b c
 kind_ends (loses pick) fault n a b c =
     record {
       before = c.1.before;
-      grows = Grows-then a (after_loss_of pick a) c.1.before (Grows-loss pick a) (Grows-cuts (restart_losses fault) (after_loss_of pick a) c.1.before c.1.lost);
+      grows = Grows-then a (after_loss_of pick a) c.1.before (Grows-loss pick a) (Grows-cuts (restart_cuts fault) (after_loss_of pick a) c.1.before c.1.lost);
       lost = c.1.lost.cuts;
       last = c.1.last;
     }
@@ -292,7 +292,7 @@ Ends-then fault a b c first later =
     record {
       before = later.before;
       grows = Grows-then a b later.before first later.grows;
-      lost = let grew = risen_by-grows (restart_losses fault) a.cuts b.cuts first.cuts in let rose = later.lost in omega arith;
+      lost = let grew = risen_by-grows (restart_cuts fault) a.cuts b.cuts first.cuts in let rose = later.lost in omega arith;
       last = later.last;
     }
 
@@ -309,14 +309,14 @@ rose_plain fault n a b c =
     omega arith
 
 rose_at_least : (fault : Option RunFault) (n : ℕ) (a b : Counts) → IsCounted fault n a b → RoseBy n a.cuts b.cuts
-rose_at_least fault n a b c = RoseBy-fewer (losses_at fault) n a.cuts b.cuts (rose_plain fault (losses_at fault + n) a b c)
+rose_at_least fault n a b c = RoseBy-fewer (cuts_at fault) n a.cuts b.cuts (rose_plain fault (cuts_at fault + n) a b c)
 
 rose_by_none : (n a b : ℕ) → n ≡ 0 → a ≤ b → RoseBy n a b
 rose_by_none n a b none le = subst (λ (x : ℕ). RoseBy x a b) (sym none) le
 
 rose_in_kind : (kind : Kind) (fault : Option RunFault) (n : ℕ) (a b : Counts) → CountsKind kind fault n a b → RoseBy n a.cuts b.cuts
 rose_in_kind ordinary fault n a b c = rose_at_least fault n a b c
-rose_in_kind (loses pick) fault n a b c = rose_by_none n a.cuts b.cuts c.0 (let rose = rose_plain fault (restart_losses fault) (after_loss_of pick a) b c.1 in let least = risen_by-least (restart_losses fault) a.cuts in omega arith)
+rose_in_kind (loses pick) fault n a b c = rose_by_none n a.cuts b.cuts c.0 (let rose = rose_plain fault (restart_cuts fault) (after_loss_of pick a) b c.1 in let least = risen_by-least (restart_cuts fault) a.cuts in omega arith)
 rose_in_kind (arms step pick) fault n a b c =
     rose_by_none n a.cuts b.cuts c.0 (let later = cuts_after_fault (last_fault fault) (after_arm step pick a) in let e : b.cuts ≡ (after_fault (last_fault fault) (after_arm step pick a)).cuts = ap (λ (x : Counts). x.cuts) c.2 in omega arith)
 

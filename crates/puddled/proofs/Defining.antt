@@ -17,7 +17,7 @@ use Rattle.pud_defs.specs.declared.machine.Refusal.TheVariants.{Clash, Full}
 use Rattle.pud_defs.specs.Image.{Image}
 use Rattle.pud_defs.specs.TypeMap.{is_legal_map, is_legal_type_id}
 use Rattle.pud_defs.specs.Types.{type_record_at, type_table, first_free, map_of, with_type}
-use Rattle.pud_defs.specs.Entries.{is_closed_gate}
+use Rattle.pud_defs.specs.Entries.{is_idle_gate}
 use Rattle.pud_defs.specs.World.{World, world_of, closed}
 use Rattle.pud_defs.specs.Step.{is_other, answer_by, refusal_of, after, unless_refused, world_by}
 use Rattle.pud_defs.proofs.TypeTable.{IsLowestFree, first_free_some}
@@ -114,7 +114,7 @@ module _ (size : ℕ) (w : World) (memory : Memory) (id map r : ℕ) (old : Stat
       let one = ready.tables.each (type_record_at r) (inr (omega arith)) (omega arith) in
       one.each (image (type_record_at r)) (picked.each (type_record_at r)) ∙ is_new.lowest.free
 
-  gate : (image : Image) → Picks old.now.words image → is_closed_gate (image DAEMON_LOG) ≡ true
+  gate : (image : Image) → Picks old.now.words image → is_idle_gate (image DAEMON_LOG) ≡ true
   gate image picked = ready.settled.closed (image DAEMON_LOG) (picked.each DAEMON_LOG)
 
   half_gives : (image : Image) → Picks old.now.words image → world_of size (half_defined r map image) ≡ Some (closed w)
@@ -123,7 +123,7 @@ module _ (size : ℕ) (w : World) (memory : Memory) (id map r : ℕ) (old : Stat
   gives : (image : Image) → Picks old.now.words image → world_of size (defined r id map image) ≡ Some (record w.stored { types = with_type id map w.stored.types })
   gives image picked = world_of-defined size image (closed w) r id map (gate image picked) (ready.settled.stands image picked) within (free image picked) legal_id legal_map is_new.missing
 
-  still_closed : (new : State) → Defines r id map None old new → (v : ℕ) → Has (values (new.now.words DAEMON_LOG)) v → is_closed_gate v ≡ true
+  still_closed : (new : State) → Defines r id map None old new → (v : ℕ) → Has (values (new.now.words DAEMON_LOG)) v → is_idle_gate v ≡ true
   still_closed new d v had = elim (Changes-now (written (record_write r id map)) None old new d.persists.changes DAEMON_LOG v had) [
     | inl was ↦ ready.settled.closed v was
     | inr may ↦ absurd (not_outside r id map DAEMON_LOG v within (inl (omega arith)) may)

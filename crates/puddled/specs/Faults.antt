@@ -1,4 +1,4 @@
--- Why a start or a line ended, and how often power was lost, by what a host counts.
+-- Why a start or a line ended, and what a host counted of it.
 use Rattle.std.specs.Prelude.{◌≡◌, ◌≢◌, ◌⊎◌, ℕ, zero, suc, ◌+◌, ◌≤◌, Bool, true, false, List, [], ◌∷◌, Option, Some, None, Result, Ok, Err}
 use Rattle.pm_model.specs.declared.host.HostFault.{HostFault}
 use Rattle.pm_model.specs.declared.host.HostFault.TheVariants as hosts
@@ -45,7 +45,7 @@ risen_by (suc n) count = risen (risen_by n count)
 abbrev pub RoseBy : ℕ → ℕ → ℕ → Type 0
 RoseBy n before now = risen_by n before ≤ now
 
--- power was lost so often at least, and nothing else was counted
+-- so many cuts were counted at least, and nothing else
 pub record CountsCuts (n : ℕ) (old new : Counts) : Type 0 where
   pub others : new ≡ record old { cuts = new.cuts }
   pub cuts : RoseBy n old.cuts new.cuts
@@ -55,12 +55,12 @@ abbrev pub run_fault : {T : Type 0} → Result T RunFault → Option RunFault
 run_fault (Ok x) = None
 run_fault (Err fault) = Some fault
 
--- how often power is lost where a line ends so: once in it, and once more in the restart
-abbrev pub losses_at : Option RunFault → ℕ
-losses_at None = 0
-losses_at (Some faults.Failed) = 0
-losses_at (Some faults.CutInStart) = 2
-losses_at (Some faults.NotSound) = 1
+-- how many cuts are counted where a line ends so: one in it, and one more in the restart
+abbrev pub cuts_at : Option RunFault → ℕ
+cuts_at None = 0
+cuts_at (Some faults.Failed) = 0
+cuts_at (Some faults.CutInStart) = 2
+cuts_at (Some faults.NotSound) = 1
 
 -- the host's fault that it ends with
 abbrev pub last_fault : Option RunFault → Option HostFault
@@ -69,22 +69,22 @@ last_fault (Some faults.Failed) = Some hosts.Failed
 last_fault (Some faults.CutInStart) = None
 last_fault (Some faults.NotSound) = None
 
--- how often in the restart alone
-abbrev pub restart_losses : Option RunFault → ℕ
-restart_losses None = 0
-restart_losses (Some faults.Failed) = 0
-restart_losses (Some faults.CutInStart) = 1
-restart_losses (Some faults.NotSound) = 0
+-- how many in the restart alone
+abbrev pub restart_cuts : Option RunFault → ℕ
+restart_cuts None = 0
+restart_cuts (Some faults.Failed) = 0
+restart_cuts (Some faults.CutInStart) = 1
+restart_cuts (Some faults.NotSound) = 0
 
--- power was lost n times at least, and then it ended so
+-- n cuts were counted at least, and then it ended so
 pub record IsEnded (n : ℕ) (fault : Option RunFault) (old new : Counts) : Type 0 where
   pub before : Counts
   pub lost : CountsCuts n old before
   pub last : new ≡ after_fault (last_fault fault) before
 
--- power was lost n times at least besides what its end stands for, and then it ended so
+-- n cuts were counted at least besides those that its end stands for, and then it ended so
 abbrev pub IsCounted : Option RunFault → ℕ → Counts → Counts → Type 0
-IsCounted fault n old new = IsEnded (losses_at fault + n) fault old new
+IsCounted fault n old new = IsEnded (cuts_at fault + n) fault old new
 
 -- What a host counts of a command: nothing of its own, a loss of power at once with this pick, or a cut armed with this step and pick.
 pub data Kind : Type 0 where
@@ -111,7 +111,7 @@ is_loss command = is_loss_kind (kind_of command)
 -- the fault at its end is counted.
 abbrev pub CountsKind : Kind → Option RunFault → ℕ → Counts → Counts → Type 0
 CountsKind ordinary fault n old new = IsCounted fault n old new
-CountsKind (loses pick) fault n old new = (n ≡ 0) × IsEnded (restart_losses fault) fault (after_loss_of pick old) new
+CountsKind (loses pick) fault n old new = (n ≡ 0) × IsEnded (restart_cuts fault) fault (after_loss_of pick old) new
 CountsKind (arms step pick) fault n old new = (n ≡ 0) × (fault ≢ Some faults.CutInStart) × (new ≡ after_fault (last_fault fault) (after_arm step pick old))
 
 -- in a line of the command
@@ -152,5 +152,5 @@ pub record Grows (old new : Counts) : Type 0 where
 pub record Ends (fault : Option RunFault) (old new : Counts) : Type 0 where
   pub before : Counts
   pub grows : Grows old before
-  pub lost : RoseBy (restart_losses fault) old.cuts before.cuts
+  pub lost : RoseBy (restart_cuts fault) old.cuts before.cuts
   pub last : new ≡ after_fault (last_fault fault) before

@@ -17,7 +17,7 @@ use Rattle.pud_defs.specs.declared.layout.TheConstants.{DAEMON_LOG, FRAMES_WORD,
 use Rattle.pud_defs.specs.declared.log_words.TheConstants.{CLOSED_GATE}
 use Rattle.pud_defs.specs.Image.{Image}
 use Rattle.pud_defs.specs.Layout.{device_words}
-use Rattle.pud_defs.specs.Entries.{Entry, log_of, is_closed_gate}
+use Rattle.pud_defs.specs.Entries.{Entry, log_of, is_idle_gate}
 use Rattle.pud_defs.specs.Replay.{device_word, new_value, settled_by}
 use Rattle.pud_defs.specs.Registry.{frames_of, is_allowed, are_allowed, has_legal_log}
 use Rattle.pud_defs.specs.World.{StoredWorld, registry_world, world_of}
@@ -112,7 +112,7 @@ module _ (size : ℕ) (s : StoredWorld) (a : State) (rested : IsRested a.now.wor
         moments = moments;
         settled = λ none. record {
           stands = λ image picked. (Leaves-now (Silently (λ i. world_of size i ≡ Some s)) [] a b (said ∙ sym (append-nil a.now.said)) moments image picked).1;
-          closed = λ v has. ap is_closed_gate ((settles.closed none).each v has);
+          closed = λ v has. ap is_idle_gate ((settles.closed none).each v has);
         };
         rested = λ none. rested_then b (subst (λ (f : Option HostFault). SettlesLog DAEMON_LOG f a b) none settles);
       }
