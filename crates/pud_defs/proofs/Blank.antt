@@ -12,7 +12,8 @@ use Rattle.pud_defs.specs.Spaces.{space_record_at}
 use Rattle.pud_defs.proofs.Replay.{beside_log-outside, outside_log}
 use Rattle.pud_defs.proofs.Spaces.{are_legal_spaces-none, are_closed_logs-none}
 use Rattle.pud_defs.proofs.Parts.{Part, Holds, StandsFor}
-use Rattle.pud_defs.proofs.Parts.Part.{Header, Types, Pools, Spaces, Puddles}
+use Rattle.pud_defs.proofs.Parts.Part.{Header, Types, Pools, Spaces}
+use Rattle.pud_defs.proofs.NoPools.{empty_tables}
 use Rattle.pud_defs.proofs.Worlds.{registry_world_standing, world_of-closed}
 
 -- records whose id words are 0 are free
@@ -40,12 +41,11 @@ standing_blank size F machine image legal room h =
         number_high = leb-true _ _ refl;
       }
       | Types ↦ record { types = ap by_id none; legal = ap are_legal_types none }
-      | Pools ↦ record { each = λ k from below. h.rest k (omega arith) (omega arith) }
+      | Pools ↦ empty_tables F 1 image (λ k low high. h.rest k (omega arith) (omega arith)) (λ k low high. h.rest k (omega arith) (omega arith))
       | Spaces ↦ record {
         spaces = are_legal_spaces-none image (λ c below. h.rest (space_record_at c) (omega arith) (omega arith));
         logs = are_closed_logs-none image F (λ c below. h.rest (space_record_at c) (omega arith) (omega arith));
       }
-      | Puddles ↦ record { each = λ k from below. h.rest k (omega arith) (omega arith) }
     ] in
     record { holds = held }
 

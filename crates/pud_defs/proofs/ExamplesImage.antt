@@ -31,7 +31,7 @@ blank_is_the_blank_world : world_of 42528 blank ≡ Some (blank_world 4 7)
 unfolding opened
 blank_is_the_blank_world = refl
 
-two_types_stand : world_of 42528 two_types ≡ Some (record { frames = 4; machine = 7; next_number = 1; types = (1, 8589934594) ∷ (2, 129385889793) ∷ [] })
+two_types_stand : world_of 42528 two_types ≡ Some (record { frames = 4; machine = 7; next_number = 1; types = (1, 8589934594) ∷ (2, 129385889793) ∷ []; pools = [] })
 unfolding opened
 two_types_stand = refl
 
@@ -53,7 +53,7 @@ larger_device : world_of 50000 blank ≡ Some (blank_world 4 7)
 unfolding opened
 larger_device = refl
 
-words_not_read : world_of 42528 (written 5 1 (written 63 1 (written 65 1 (written 1087 1 (written 1089 1 (written 1568 1 blank)))))) ≡ Some (blank_world 4 7)
+words_not_read : world_of 42528 (written 5 1 (written 63 1 (written 65 1 (written 1087 1 (written 1089 1 (written 1221 1 (written 1567 1 (written 1568 1 blank)))))))) ≡ Some (blank_world 4 7)
 unfolding opened
 words_not_read = refl
 
@@ -123,9 +123,9 @@ pool_there : is_sound 42528 (written 1216 97 blank) ≡ false
 unfolding opened
 pool_there = refl
 
-last_puddle_word : is_sound 42528 (written 1567 1 blank) ≡ false
+puddle_of_no_pool : is_sound 42528 (written 1560 1 blank) ≡ false
 unfolding opened
-last_puddle_word = refl
+puddle_of_no_pool = refl
 
 client_flag_2 : is_sound 42528 (written 1472 2 blank) ≡ false
 unfolding opened
@@ -154,7 +154,7 @@ abbrev pub logged_at : ℕ → Image
 logged_at place = written 64 (gate_word 2 4 4) (written 72 place (written 73 (entry_word 2 3 1) (written 74 1 (written 75 8589934594 blank))))
 
 -- a batch under way counts
-batch_under_way : world_of 42528 (logged_at 1088) ≡ Some (record { frames = 4; machine = 7; next_number = 1; types = (1, 8589934594) ∷ [] })
+batch_under_way : world_of 42528 (logged_at 1088) ≡ Some (record { frames = 4; machine = 7; next_number = 1; types = (1, 8589934594) ∷ []; pools = [] })
 unfolding opened
 batch_under_way = refl
 

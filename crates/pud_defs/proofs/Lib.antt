@@ -4,10 +4,11 @@ pub mod TypeLists
 pub mod TypeTable
 pub mod Entries
 pub mod Replay
-pub mod Zeroes
 pub mod Spaces
 pub mod Logged
+pub mod SameTables
 pub mod Parts
+pub mod NoPools
 pub mod Worlds
 pub mod ClosedLogs
 pub mod Definitions

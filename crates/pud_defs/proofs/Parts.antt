@@ -6,17 +6,19 @@ use Rattle.pud_defs.specs.Layout.{tables_end, frames_at, device_words}
 use Rattle.pud_defs.specs.Image.{Image}
 use Rattle.pud_defs.specs.Types.{type_table, types_of, by_id, are_legal_types}
 use Rattle.pud_defs.specs.Spaces.{are_legal_spaces, are_closed_logs}
+use Rattle.pud_defs.specs.Tables.{Pool, tables_of, pools_of}
+use Rattle.pud_defs.specs.SoundTables.{are_sound_tables}
 use Rattle.pud_defs.specs.World.{StoredWorld}
 use Rattle.pud_defs.proofs.Spaces.{are_legal_spaces-same, are_closed_logs-same}
 use Rattle.pud_defs.proofs.TypeTable.{type_records_same}
+use Rattle.pud_defs.proofs.SameTables.{tables_of-same}
 
--- the words that describe the device; the types; the pools; the log spaces, with the clients' logs; the puddles
+-- the words that describe the device; the types; the pools, with their puddles; the log spaces, with the clients' logs
 pub data Part : Type 0 where
   Header : Part
   Types : Part
   Pools : Part
   Spaces : Part
-  Puddles : Part
 
 -- the word lies from one on and before another
 pub record IsWithin (from end k : ℕ) : Type 0 where
@@ -27,9 +29,8 @@ pub record IsWithin (from end k : ℕ) : Type 0 where
 abbrev pub IsReadBy : ℕ → Part → ℕ → Type 0
 IsReadBy F Header k = IsWithin 0 DAEMON_LOG k
 IsReadBy F Types k = IsWithin TYPE_TABLE POOL_TABLE k
-IsReadBy F Pools k = IsWithin POOL_TABLE SPACE_TABLE k
+IsReadBy F Pools k = IsWithin POOL_TABLE SPACE_TABLE k ⊎ IsWithin PUDDLE_TABLE (tables_end F) k
 IsReadBy F Spaces k = IsWithin SPACE_TABLE PUDDLE_TABLE k ⊎ IsWithin (tables_end F) (frames_at F) k
-IsReadBy F Puddles k = IsWithin PUDDLE_TABLE (tables_end F) k
 
 pub record HasHeader (size F id number : ℕ) (image : Image) : Type 0 where
   pub magic : image MAGIC_WORD ≡ DEVICE_MAGIC
@@ -51,20 +52,16 @@ pub record HasSpaces (F : ℕ) (image : Image) : Type 0 where
   pub spaces : are_legal_spaces image ≡ true
   pub logs : are_closed_logs image F ≡ true
 
--- no record of a table is used: its words are 0
-pub record IsEmpty (from end : ℕ) (image : Image) : Type 0 where
-  pub each : (k : ℕ) → from ≤ k → k < end → image k ≡ 0
+pub record HasPools (F number : ℕ) (pools : List (List ℕ × Pool)) (image : Image) : Type 0 where
+  pub pools : pools_of (tables_of F image) ≡ pools
+  pub sound : are_sound_tables number (tables_of F image) ≡ true
 
 -- what the part holds of a world, on a device of so many words
 abbrev pub Holds : Part → ℕ → StoredWorld → Image → Type 0
 Holds Header size s image = HasHeader size s.frames s.machine s.next_number image
 Holds Types size s image = HasTypes s.types image
-Holds Pools size s image = IsEmpty POOL_TABLE SPACE_TABLE image
+Holds Pools size s image = HasPools s.frames s.next_number s.pools image
 Holds Spaces size s image = HasSpaces s.frames image
-Holds Puddles size s image = IsEmpty PUDDLE_TABLE (tables_end s.frames) image
-
-IsEmpty-same : (from end : ℕ) (i j : Image) → ((k : ℕ) → IsWithin from end k → j k ≡ i k) → IsEmpty from end i → IsEmpty from end j
-IsEmpty-same from end i j same h = record { each = λ k low high. same k (record { low = low; high = high }) ∙ h.each k low high }
 
 -- the same words, the same part
 pub Holds-same : (p : Part) (size : ℕ) (s : StoredWorld) (i j : Image) → ((k : ℕ) → IsReadBy s.frames p k → j k ≡ i k) → Holds p size s i → Holds p size s j
@@ -85,12 +82,14 @@ Holds-same Header size s i j same h =
 Holds-same Types size s i j same h =
     let table : type_table j ≡ type_table i = type_records_same j i 0 TYPE_RECORDS (λ k low high. same k (record { low = omega arith; high = omega arith })) in
     record { types = ap by_id table ∙ h.types; legal = ap are_legal_types table ∙ h.legal }
-Holds-same Pools size s i j same h = IsEmpty-same POOL_TABLE SPACE_TABLE i j same h
+Holds-same Pools size s i j same h =
+    let tables : tables_of s.frames j ≡ tables_of s.frames i =
+        tables_of-same s.frames j i (λ k low high. same k (inl (record { low = low; high = high }))) (λ k low high. same k (inr (record { low = low; high = high }))) in
+    record { pools = ap pools_of tables ∙ h.pools; sound = ap (are_sound_tables s.next_number) tables ∙ h.sound }
 Holds-same Spaces size s i j same h = record {
   spaces = are_legal_spaces-same j i (λ k low high. same k (inl (record { low = low; high = high }))) ∙ h.spaces;
   logs = are_closed_logs-same j i s.frames (λ k low high. same k (inl (record { low = low; high = high }))) (λ k low high. same k (inr (record { low = low; high = high }))) ∙ h.logs;
 }
-Holds-same Puddles size s i j same h = IsEmpty-same PUDDLE_TABLE (tables_end s.frames) i j same h
 
 -- each part is read from words beside the daemon log and before the frames
 pub record IsOfParts (F k : ℕ) : Type 0 where
@@ -100,10 +99,10 @@ pub record IsOfParts (F k : ℕ) : Type 0 where
 pub part_place : (F : ℕ) (p : Part) (k : ℕ) → IsReadBy F p k → IsOfParts F k
 part_place F Header k of = let high = of.high in record { beside = inl high; before = omega arith }
 part_place F Types k of = let low = of.low in let high = of.high in record { beside = inr low; before = omega arith }
-part_place F Pools k of = let low = of.low in let high = of.high in record { beside = inr (omega arith); before = omega arith }
+part_place F Pools k (inl of) = let low = of.low in let high = of.high in record { beside = inr (omega arith); before = omega arith }
+part_place F Pools k (inr of) = let low = of.low in let high = of.high in record { beside = inr (omega arith); before = omega arith }
 part_place F Spaces k (inl of) = let low = of.low in let high = of.high in record { beside = inr (omega arith); before = omega arith }
 part_place F Spaces k (inr of) = let low = of.low in let high = of.high in record { beside = inr (omega arith); before = high }
-part_place F Puddles k of = let low = of.low in let high = of.high in record { beside = inr (omega arith); before = omega arith }
 
 -- An image with nothing to replay stands for this world, on a device of so many words.
 pub record StandsFor (size : ℕ) (image : Image) (s : StoredWorld) : Type 0 where
@@ -125,6 +124,10 @@ module _ (size : ℕ) (i j : Image) (s : StoredWorld) (ts : List (ℕ × ℕ)) (
       Holds-same Spaces size s i j
       (λ k of. same k (λ low high. ⊎_elim (λ table. let from = table.low in omega arith) (λ logs. let from = logs.low in omega arith) of))
       (h.holds Spaces)
+  with_types Pools =
+      Holds-same Pools size s i j
+      (λ k of. same k (λ low high. ⊎_elim (λ pools. let from = pools.low in omega arith) (λ puddles. let from = puddles.low in omega arith) of))
+      (h.holds Pools)
   with_types p = Holds-same p size s i j (λ k of. same k (λ low high. let from = of.low in let to = of.high in omega arith)) (h.holds p)
 
   pub standing_with_types : StandsFor size j (record s { types = ts })
@@ -134,6 +137,12 @@ module _ (size : ℕ) (i j : Image) (s : StoredWorld) (ts : List (ℕ × ℕ)) (
 module _ (size : ℕ) (i j : Image) (s : StoredWorld) (h : StandsFor size i s) (same : (k : ℕ) → k < tables_end s.frames → (SPACE_TABLE ≤ k → k < PUDDLE_TABLE → ⊥) → j k ≡ i k) (now : HasSpaces s.frames j) where
   with_spaces : (p : Part) → Holds p size s j
   with_spaces Spaces = now
+  with_spaces Pools =
+      Holds-same Pools size s i j
+      (λ k of. ⊎_elim
+        (λ pools. let from = pools.low in let to = pools.high in same k (omega arith) (λ low high. omega arith))
+        (λ puddles. let from = puddles.low in let to = puddles.high in same k to (λ low high. omega arith)) of)
+      (h.holds Pools)
   with_spaces p =
       Holds-same p size s i j
       (λ k of. let from = of.low in let to = of.high in same k (omega arith) (λ low high. omega arith))

@@ -7,7 +7,9 @@ use Rattle.pud_defs.specs.declared.layout.TheConstants.{DEVICE_MAGIC, MIN_FRAMES
 use Rattle.pud_defs.specs.Layout.{tables_end, device_words}
 use Rattle.pud_defs.specs.Image.{Image, IsSameBelow}
 use Rattle.pud_defs.specs.Types.{type_table, map_of, first_free}
-use Rattle.pud_defs.specs.Registry.{frames_of, is_sound, has_magic, has_version, has_room, has_legal_number, has_legal_types, has_no_pools, has_no_puddles, has_legal_spaces, has_closed_logs, is_registry, has_legal_log, are_allowed}
+use Rattle.pud_defs.specs.Registry.{frames_of, is_sound, has_magic, has_version, has_room, has_legal_number, has_legal_types, has_sound_tables, has_legal_spaces, has_closed_logs, is_registry, has_legal_log, are_allowed}
+use Rattle.pud_defs.specs.Tables.{tables_of, pools_of}
+use Rattle.pud_defs.specs.SoundTables.{are_sound_tables}
 use Rattle.pud_defs.specs.World.{StoredWorld, stored_by, registry_world, world_of}
 use Rattle.pud_defs.specs.Entries.{is_idle_gate, log_of}
 use Rattle.pud_defs.specs.Replay.{settled_by, beside_log}
@@ -17,9 +19,8 @@ use Rattle.pud_defs.proofs.Spaces.{are_legal_spaces-same}
 use Rattle.pud_defs.proofs.Logged.{settled_by-unlogged}
 use Rattle.pud_defs.proofs.TypeLists.{is_sorted-by_id, map_of-by_id, length-by_id}
 use Rattle.pud_defs.proofs.TypeTable.{length-type_records, length-type_records_full, first_free_some}
-use Rattle.pud_defs.proofs.Zeroes.{zero_at, are_zero_from}
 use Rattle.pud_defs.proofs.Parts.{Part, Holds, StandsFor, standing_same, standing_with_spaces}
-use Rattle.pud_defs.proofs.Parts.Part.{Header, Types, Pools, Spaces, Puddles}
+use Rattle.pud_defs.proofs.Parts.Part.{Header, Types, Pools, Spaces}
 
 none_from : {A : Type 0} (o : Option A) → ((x : A) → o ≡ Some x → ⊥) → o ≡ None
 none_from None h = refl
@@ -36,20 +37,22 @@ sound_from size image s h =
     let number = header.next_number in
     let number_low : 1 ≤ image NEXT_NUMBER_WORD = let least = header.number_low in omega arith in
     let number_high : image NEXT_NUMBER_WORD ≤ NUMBER_LIMIT = let most = header.number_high in omega arith in
-    and_from _ _ (and_from _ _ (and_from _ _ (and_from _ _ (and_from _ _ (and_from _ _ (and_from _ _ (and_from _ _
+    let sound : has_sound_tables image ≡ true = (λ p. are_sound_tables (number p) (tables_of (frames p) image)) ∙ (h.holds Pools).sound in
+    and_from _ _ (and_from _ _ (and_from _ _ (and_from _ _ (and_from _ _ (and_from _ _ (and_from _ _
     (eq-eqb _ _ header.magic)
     (eq-eqb _ _ header.version))
     (and_from _ _ (and_from _ _ (le-leb _ _ low) (le-leb _ _ high)) (le-leb _ _ room)))
     (and_from _ _ (le-leb _ _ number_low) (le-leb _ _ number_high)))
     (h.holds Types).legal)
-    (are_zero_from image POOL_TABLE (SPACE_TABLE - POOL_TABLE) (λ k from below. (h.holds Pools).each k from (omega arith))))
-    (are_zero_from image PUDDLE_TABLE (tables_end (frames_of image) - PUDDLE_TABLE) (λ k from below. (h.holds Puddles).each k from (omega arith))))
+    sound)
     (h.holds Spaces).spaces)
     (ap (are_closed_logs image) frames ∙ (h.holds Spaces).logs)
 
 stored_from : (size : ℕ) (image : Image) (s : StoredWorld) → StandsFor size image s → stored_by image ≡ s
 unfolding stored_by
-stored_from size image s h = λ i. record { frames = (h.holds Header).frames i; machine = (h.holds Header).machine i; next_number = (h.holds Header).next_number i; types = (h.holds Types).types i }
+stored_from size image s h =
+    let pools : pools_of (tables_of (frames_of image) image) ≡ s.pools = ap (λ (F : ℕ). pools_of (tables_of F image)) (h.holds Header).frames ∙ (h.holds Pools).pools in
+    λ i. record { frames = (h.holds Header).frames i; machine = (h.holds Header).machine i; next_number = (h.holds Header).next_number i; types = (h.holds Types).types i; pools = pools i }
 
 pub registry_world_standing : (size : ℕ) (image : Image) (s : StoredWorld) → StandsFor size image s → registry_world size image ≡ Some s
 unfolding registry_world
@@ -58,10 +61,9 @@ registry_world_standing size image s h = cond-true (is_registry size image) (Som
 standing_by : (size : ℕ) (image : Image) → is_registry size image ≡ true → StandsFor size image (stored_by image)
 unfolding is_registry stored_by
 standing_by size image sound =
-    let logs = and_parts (has_magic image && has_version image && has_room size image && has_legal_number image && has_legal_types image && has_no_pools image && has_no_puddles image && has_legal_spaces image) (has_closed_logs image) sound in
-    let spaces = and_parts (has_magic image && has_version image && has_room size image && has_legal_number image && has_legal_types image && has_no_pools image && has_no_puddles image) (has_legal_spaces image) logs.0 in
-    let puddles = and_parts (has_magic image && has_version image && has_room size image && has_legal_number image && has_legal_types image && has_no_pools image) (has_no_puddles image) spaces.0 in
-    let pools = and_parts (has_magic image && has_version image && has_room size image && has_legal_number image && has_legal_types image) (has_no_pools image) puddles.0 in
+    let logs = and_parts (has_magic image && has_version image && has_room size image && has_legal_number image && has_legal_types image && has_sound_tables image && has_legal_spaces image) (has_closed_logs image) sound in
+    let spaces = and_parts (has_magic image && has_version image && has_room size image && has_legal_number image && has_legal_types image && has_sound_tables image) (has_legal_spaces image) logs.0 in
+    let pools = and_parts (has_magic image && has_version image && has_room size image && has_legal_number image && has_legal_types image) (has_sound_tables image) spaces.0 in
     let types = and_parts (has_magic image && has_version image && has_room size image && has_legal_number image) (has_legal_types image) pools.0 in
     let number = and_parts (has_magic image && has_version image && has_room size image) (has_legal_number image) types.0 in
     let room = and_parts (has_magic image && has_version image) (has_room size image) number.0 in
@@ -83,9 +85,8 @@ standing_by size image sound =
         number_high = leb-true _ _ numbers.1;
       }
       | Types ↦ record { types = refl; legal = types.1 }
-      | Pools ↦ record { each = λ k from below. zero_at image POOL_TABLE (SPACE_TABLE - POOL_TABLE) pools.1 k from (omega arith) }
+      | Pools ↦ record { pools = refl; sound = pools.1 }
       | Spaces ↦ record { spaces = spaces.1; logs = logs.1 }
-      | Puddles ↦ record { each = λ k from below. zero_at image PUDDLE_TABLE (tables_end (frames_of image) - PUDDLE_TABLE) puddles.1 k from (omega arith) }
     ] in
     record { holds = held }
 

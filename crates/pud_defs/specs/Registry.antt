@@ -1,13 +1,15 @@
 -- When an image is a sound registry.
-use Rattle.std.specs.Prelude.{ℕ, zero, suc, ◌+◌, ◌-◌, Bool, true, false, not, ◌&&◌, ◌||◌, nat_le, ◌==◌, List, length, Option, Some, None}
+use Rattle.std.specs.Prelude.{ℕ, ◌+◌, Bool, true, false, not, ◌&&◌, ◌||◌, nat_le, ◌==◌, List, length, Option, Some, None}
 use Rattle.std.specs.List.{list_all}
-use Rattle.pud_defs.specs.declared.layout.TheConstants.{DEVICE_MAGIC, VERSION, MAGIC_WORD, VERSION_WORD, FRAMES_WORD, NEXT_NUMBER_WORD, DAEMON_LOG, TYPE_TABLE, POOL_TABLE, SPACE_TABLE, PUDDLE_TABLE, NUMBER_LIMIT}
+use Rattle.pud_defs.specs.declared.layout.TheConstants.{DEVICE_MAGIC, VERSION, MAGIC_WORD, VERSION_WORD, FRAMES_WORD, NEXT_NUMBER_WORD, DAEMON_LOG, TYPE_TABLE, NUMBER_LIMIT}
 use Rattle.pud_defs.specs.Image.{Image}
 use Rattle.pud_defs.specs.Layout.{tables_end, frames_at, device_words, is_legal_frame_count}
 use Rattle.pud_defs.specs.Entries.{Entry, Log, log_of}
 use Rattle.pud_defs.specs.Replay.{is_in_range, settled_by}
 use Rattle.pud_defs.specs.Spaces.{are_legal_spaces, are_closed_logs}
 use Rattle.pud_defs.specs.Types.{type_table, are_legal_types}
+use Rattle.pud_defs.specs.Tables.{tables_of}
+use Rattle.pud_defs.specs.SoundTables.{are_sound_tables}
 
 abbrev pub frames_of : Image → ℕ
 frames_of image = image FRAMES_WORD
@@ -33,17 +35,9 @@ has_legal_number image = is_number (image NEXT_NUMBER_WORD)
 abbrev pub has_legal_types : Image → Bool
 has_legal_types image = are_legal_types (type_table image)
 
--- so many words are 0, from a word on
-unfoldable pub are_zero : Image → ℕ → ℕ → Bool
-are_zero image at zero = true
-are_zero image at (suc count) = image at == 0 && are_zero image (at + 1) count
-
--- no pool and no puddle is there: the words of these tables are 0
-abbrev pub has_no_pools : Image → Bool
-has_no_pools image = are_zero image POOL_TABLE (SPACE_TABLE - POOL_TABLE)
-
-abbrev pub has_no_puddles : Image → Bool
-has_no_puddles image = are_zero image PUDDLE_TABLE (tables_end (frames_of image) - PUDDLE_TABLE)
+-- the pools and puddles are sound, by the next UUID number
+abbrev pub has_sound_tables : Image → Bool
+has_sound_tables image = are_sound_tables (image NEXT_NUMBER_WORD) (tables_of (frames_of image) image)
 
 abbrev pub has_legal_spaces : Image → Bool
 has_legal_spaces image = are_legal_spaces image
@@ -56,7 +50,7 @@ has_closed_logs image = are_closed_logs image (frames_of image)
 unfoldable pub is_registry : ℕ → Image → Bool
 is_registry size image =
     has_magic image && has_version image && has_room size image && has_legal_number image && has_legal_types image
-    && has_no_pools image && has_no_puddles image && has_legal_spaces image && has_closed_logs image
+    && has_sound_tables image && has_legal_spaces image && has_closed_logs image
 
 -- so many words from a word on lie wholly where the daemon log may write: the next number, the tables from that of the types on, the frames
 abbrev pub may_be_logged : ℕ → ℕ → ℕ → Bool

@@ -5,20 +5,22 @@ use Rattle.pud_defs.specs.Layout.{frames_at}
 use Rattle.pud_defs.specs.Image.{Image}
 use Rattle.pud_defs.specs.Replay.{settled_by}
 use Rattle.pud_defs.specs.Types.{types_of}
+use Rattle.pud_defs.specs.Tables.{Pool, tables_of, pools_of}
 use Rattle.pud_defs.specs.Spaces.{Owner}
 use Rattle.pud_defs.specs.Registry.{frames_of, has_legal_log, is_registry}
 
--- What a device stands for: its number of frames, its machine id, the next UUID number, and the map of each
--- defined type, by ascending ids.
+-- What a device stands for: its number of frames, its machine id, the next UUID number, the map of each defined type by
+-- ascending ids, and the pools by ascending names.
 pub record StoredWorld : Type 0 where
   pub frames : ℕ
   pub machine : ℕ
   pub next_number : ℕ
   pub types : List (ℕ × ℕ)
+  pub pools : List (List ℕ × Pool)
 
 -- what the words of an image with nothing to replay stand for, where it is sound
 unfoldable pub stored_by : Image → StoredWorld
-stored_by image = record { frames = frames_of image; machine = image MACHINE_WORD; next_number = image NEXT_NUMBER_WORD; types = types_of image }
+stored_by image = record { frames = frames_of image; machine = image MACHINE_WORD; next_number = image NEXT_NUMBER_WORD; types = types_of image; pools = pools_of (tables_of (frames_of image) image) }
 
 -- what an image with nothing to replay stands for, on a device of so many words: nothing exactly where it is no sound registry
 unfoldable pub registry_world : ℕ → Image → Option StoredWorld
@@ -49,7 +51,7 @@ restart w = record { stored = closed w; clients = no_clients; shelf = w.shelf }
 
 -- the world of a device that was just formatted
 abbrev pub blank_world : ℕ → ℕ → StoredWorld
-blank_world F machine = record { frames = F; machine = machine; next_number = 1; types = [] }
+blank_world F machine = record { frames = F; machine = machine; next_number = 1; types = []; pools = [] }
 
 -- an image of such a device: behind the five words that describe it all words are 0 up to the frames
 pub record IsBlank (F id : ℕ) (image : Image) : Type 0 where

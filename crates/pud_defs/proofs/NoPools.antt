@@ -1,0 +1,57 @@
+-- Tables without a used record are sound, and stand for no pool.
+use Rattle.std.proofs.Common.{◌≡◌, ℕ, zero, suc, ◌+◌, ◌<◌, ◌≤◌, Bool, true, nat_lt, cond, List, [], Option, None, nat_cmp, refl, ap, ◌∙◌, sym, arith}
+use Rattle.std.proofs.lemmas.Bool.{cond-true, cond-false, cases_Bool, and_from}
+use Rattle.std.specs.declared.cmp.Ordering.{Ordering}
+use Rattle.pud_defs.specs.declared.layout.TheConstants.{POOL_TABLE, SPACE_TABLE, PUDDLE_TABLE}
+use Rattle.pud_defs.specs.declared.records.TheConstants.{POOL_RECORDS}
+use Rattle.pud_defs.specs.Layout.{tables_end}
+use Rattle.pud_defs.specs.Image.{Image}
+use Rattle.pud_defs.specs.Spaces.{all_below}
+use Rattle.pud_defs.specs.Keyed.{keyed, are_distinct}
+use Rattle.pud_defs.specs.Pools.{pool_at, pool_by}
+use Rattle.pud_defs.specs.Puddles.{puddle_at, puddle_by}
+use Rattle.pud_defs.specs.Tables.{Tables, tables_of, pools_of, puddles_of}
+use Rattle.pud_defs.specs.SoundTables.{are_sound_tables, has_legal_pools, has_distinct_names, has_legal_puddles, has_distinct_bases, has_distinct_old_bases, has_distinct_ordinals, has_counted_puddles}
+use Rattle.pud_defs.proofs.Spaces.{all_below-from}
+use Rattle.pud_defs.proofs.SameTables.{tables_of-same}
+use Rattle.pud_defs.proofs.Parts.{HasPools}
+
+-- tables of so many frames in which no record is used
+abbrev pub no_records : ℕ → Tables
+no_records F = record { frames = F; pools = λ slot. None; puddles = λ frame. None }
+
+none_either : {A : Type 0} (b : Bool) → cond b (None {A}) None ≡ None
+none_either true = refl
+none_either false = refl
+
+all_zero : (F : ℕ) → tables_of F (λ k. 0) ≡ no_records F
+unfolding tables_of pool_at puddle_at pool_by puddle_by
+all_zero F = λ p. record { frames = F; pools = λ slot. none_either (nat_lt slot POOL_RECORDS) p; puddles = λ frame. none_either (nat_lt frame F) p }
+
+-- no place is used
+distinct_none : {K X : Type 0} (R : K → K → Ordering) (from count : ℕ) → are_distinct {X = X} R (λ place. None) from count ≡ true
+unfolding are_distinct
+distinct_none R from zero = refl
+distinct_none R from (suc count) = distinct_none R (from + 1) count
+
+sound_none : (number F : ℕ) → are_sound_tables number (no_records F) ≡ true
+unfolding are_sound_tables has_legal_pools has_distinct_names has_legal_puddles has_distinct_bases has_distinct_old_bases has_distinct_ordinals has_counted_puddles
+sound_none number F =
+    and_from _ _ (and_from _ _ (and_from _ _ (and_from _ _ (and_from _ _ (and_from _ _
+    (all_below-from POOL_RECORDS _ (λ slot below. refl))
+    (distinct_none _ 0 POOL_RECORDS))
+    (all_below-from F _ (λ frame below. refl)))
+    (distinct_none nat_cmp 0 F))
+    (all_below-from POOL_RECORDS _ (λ slot below. distinct_none nat_cmp 0 F)))
+    (all_below-from POOL_RECORDS _ (λ slot below. distinct_none nat_cmp 0 F)))
+    (all_below-from POOL_RECORDS _ (λ slot below. refl))
+
+no_pools : (F : ℕ) → pools_of (no_records F) ≡ []
+unfolding pools_of keyed
+no_pools F = refl
+
+-- an image whose words of the two tables are 0
+pub empty_tables : (F number : ℕ) (image : Image) → ((k : ℕ) → POOL_TABLE ≤ k → k < SPACE_TABLE → image k ≡ 0) → ((k : ℕ) → PUDDLE_TABLE ≤ k → k < tables_end F → image k ≡ 0) → HasPools F number [] image
+empty_tables F number image pools puddles =
+    let none : tables_of F image ≡ no_records F = tables_of-same F image (λ k. 0) pools puddles ∙ all_zero F in
+    record { pools = ap pools_of none ∙ no_pools F; sound = ap (are_sound_tables number) none ∙ sound_none number F }
