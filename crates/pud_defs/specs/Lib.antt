@@ -4,6 +4,15 @@ pub mod TypeMap
 pub mod Entries
 pub mod Replay
 pub mod Spaces
+pub mod Keyed
+pub mod Bases
+pub mod Frames
+pub mod Modes
+pub mod Names
+pub mod Pools
+pub mod Puddles
+pub mod Tables
+pub mod SoundTables
 pub mod Types
 pub mod Registry
 pub mod World

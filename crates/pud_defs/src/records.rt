@@ -1,0 +1,173 @@
+//! The records of pools and puddles, and their packed words.
+//!
+//! An owner word has the uid in bits 0 to 31 and the gid in bits 32 to 63. A member word has the pool's slot plus 1 in
+//! bits 0 to 31, 0 in a free record, and the ordinal in bits 32 to 63. The readers answer for every word, legal or not.
+
+ghost use Rattle.std.specs.Prelude.{◌≡◌, ◌<◌, ◌^◌};
+ghost use Rattle.pud_defs.specs.Modes.{is_legal_mode};
+ghost use Rattle.pud_defs.specs.Pools.{owner_uid, owner_gid, owner_word};
+ghost use Rattle.pud_defs.specs.Puddles.{member_pool, member_ordinal, member_word};
+
+/// How many records the pool table has.
+pub const POOL_RECORDS: u32 = 32;
+
+/// How many words a pool record has.
+pub const POOL_RECORD_WORDS: u32 = 8;
+
+/// How many bytes a name has. A shorter one is filled with zeros.
+pub const NAME_BYTES: usize = 16;
+
+/// How many words of a pool record hold its name, from the first on. The record is free where the first is 0.
+pub const NAME_WORDS: u32 = 2;
+
+/// The word of a pool record that holds the pool's owner and group.
+pub const POOL_OWNER_WORD: u32 = 2;
+
+/// The word of a pool record that holds the pool's mode.
+pub const POOL_MODE_WORD: u32 = 3;
+
+/// The word of a pool record that holds the pool's UUID number.
+pub const POOL_NUMBER_WORD: u32 = 4;
+
+/// The word of a puddle record that tells whose puddle it is, 0 where the record is free.
+pub const PUDDLE_MEMBER_WORD: u32 = 0;
+
+/// The word of a puddle record that holds the puddle's UUID number.
+pub const PUDDLE_NUMBER_WORD: u32 = 1;
+
+/// The word of a puddle record that holds the puddle's base.
+pub const PUDDLE_BASE_WORD: u32 = 2;
+
+/// The word of a puddle record that holds the puddle's old base.
+pub const PUDDLE_OLD_BASE_WORD: u32 = 3;
+
+/// The word of a puddle record that holds the puddle's frontier.
+pub const PUDDLE_FRONTIER_WORD: u32 = 4;
+
+/// How many words of a pool record are read, and how many of a puddle record, from the first on.
+pub const RECORD_WORDS_READ: u32 = 5;
+
+/// The most puddles that a pool has.
+pub const MAX_PUDDLES: u32 = 16;
+
+/// The largest mode: each digit is 6.
+pub const MAX_MODE: u32 = 0o666;
+
+/// A name: 1 to 16 bytes, and zeros behind them.
+pub type Name = [u8; NAME_BYTES];
+
+/// What a record says of a pool.
+#[derive(Clone, Copy, Debug, PartialEq, Eq)]
+pub struct PoolRec {
+    /// The name, 16 bytes filled with zeros.
+    pub name: Name,
+    /// The uid of the owner, 0 to 65,535 in a legal record.
+    pub uid: u32,
+    /// The gid of the group, 0 to 65,535 in a legal record.
+    pub gid: u32,
+    /// The mode, three octal digits out of 0, 2, 4, 6 for owner, group and others in a legal record.
+    pub mode: u32,
+    /// The UUID number, at least 1 and below the next one in a legal record.
+    pub number: u64,
+}
+
+/// What a record says of a puddle, beside whose it is.
+#[derive(Clone, Copy, Debug, PartialEq, Eq)]
+pub struct Puddle {
+    /// The UUID number, at least 1 and below the next one in a legal record.
+    pub number: u64,
+    /// The first address of the puddle's range.
+    pub base: u64,
+    /// The base over which those pointers stand that are not rewritten yet.
+    pub old_base: u64,
+    /// How many steps of the puddle are rewritten, 0 to 63 in a legal record.
+    pub frontier: u64,
+}
+
+/// What a record says of a puddle, and whose it is.
+#[derive(Clone, Copy, Debug, PartialEq, Eq)]
+pub struct PuddleRec {
+    /// The slot of the pool in the pool table, 0 to 31.
+    pub pool: u32,
+    /// The place of the puddle in its pool, 0 to 15.
+    pub ordinal: u32,
+    /// The UUID number, at least 1 and below the next one in a legal record.
+    pub number: u64,
+    /// The first address of the puddle's range.
+    pub base: u64,
+    /// The base over which those pointers stand that are not rewritten yet.
+    pub old_base: u64,
+    /// How many steps of the puddle are rewritten, 0 to 63 in a legal record.
+    pub frontier: u32,
+}
+
+/// A slot of a puddle, by the puddle's frame and by its ordinal.
+#[derive(Clone, Copy, Debug, PartialEq, Eq)]
+pub struct Slot {
+    /// The number of the puddle's frame.
+    pub frame: u32,
+    /// The place of the puddle in its pool, 0 to 15.
+    pub ordinal: u32,
+    /// The number of the slot in the puddle, 0 to 61.
+    pub slot: u32,
+}
+
+/// A change of one record, which is to be a part of a batch: so many of these values, from this word of the device on.
+#[derive(Clone, Copy, Debug, PartialEq, Eq)]
+pub struct Put {
+    /// The number of the first word.
+    pub w: u32,
+    /// How many words are written, 1 to 8.
+    pub n: usize,
+    /// The values of these words, and zeros behind them.
+    pub vals: [u64; 8],
+}
+
+/// The uid in an owner word.
+pub fn owner_uid(v: u64) -> u32
+    ensures { result ≡ owner_uid v }
+{
+    (v % (1 << 32)) as u32
+}
+
+/// The gid in an owner word.
+pub fn owner_gid(v: u64) -> u32
+    ensures { result ≡ owner_gid v }
+{
+    (v >> 32) as u32
+}
+
+/// The owner word of this uid and gid.
+pub fn owner_word(uid: u32, gid: u32) -> u64
+    ensures { result ≡ owner_word uid gid }
+{
+    u64::from(uid) + (u64::from(gid) << 32)
+}
+
+/// The pool's slot plus 1 in a member word.
+pub fn member_pool(v: u64) -> u32
+    ensures { result ≡ member_pool v }
+{
+    (v % (1 << 32)) as u32
+}
+
+/// The ordinal in a member word.
+pub fn member_ordinal(v: u64) -> u32
+    ensures { result ≡ member_ordinal v }
+{
+    (v >> 32) as u32
+}
+
+/// The member word of this ordinal of a pool, which is given by its slot plus 1.
+pub fn member_word(pool: u32, ordinal: u32) -> u64
+    ensures { result ≡ member_word pool ordinal }
+{
+    u64::from(pool) + (u64::from(ordinal) << 32)
+}
+
+/// Whether the value is a mode: three octal digits out of 0, 2, 4, 6.
+pub fn is_legal_mode(v: u64) -> bool
+    ensures { result ≡ is_legal_mode v }
+{
+    v <= u64::from(MAX_MODE) && v % 2 == 0 && v / 8 % 2 == 0 && v / 64 % 2 == 0
+}

@@ -1,0 +1,97 @@
+//! The global space of addresses, and the frames that lie behind its ranges.
+//!
+//! Each puddle has a range of 16,384 addresses of the space and a frame of 2,048 words on the device. Word k of the frame
+//! has the eight addresses from `base + 8 * k` on.
+
+ghost use Rattle.std.specs.Prelude.{◌≡◌, ◌<◌, ◌≤◌};
+ghost use Rattle.pud_defs.specs.Bases.{is_legal_base, base_at};
+ghost use Rattle.pud_defs.specs.Frames.{frame_at, slot_at};
+
+use crate::layout::{FRAME_WORDS, MAX_FRAMES, frames_at};
+
+/// The first address of the space, 2^44.
+pub const SPACE_START: u64 = 0x1000_0000_0000;
+
+/// How many addresses the space has, 2^40.
+pub const SPACE_BYTES: u64 = 0x100_0000_0000;
+
+/// How many addresses a puddle's range has. A range begins at a multiple of it.
+pub const RANGE_BYTES: u64 = 16_384;
+
+/// How many ranges the space has, 2^26: each begins at a legal base.
+pub const RANGES: u32 = 0x400_0000;
+
+/// How many addresses a word has.
+pub const WORD_BYTES: u32 = 8;
+
+/// The value of word 0 of a puddle's frame: the eight bytes `PUDDLE01`, lowest first.
+pub const FRAME_MAGIC: u64 = 0x3130_454c_4444_5550;
+
+/// The word of a frame that holds the frame magic.
+pub const FRAME_MAGIC_WORD: u32 = 0;
+
+/// The word of a frame that holds the puddle's UUID number.
+pub const FRAME_NUMBER_WORD: u32 = 1;
+
+/// The word of a frame that holds the puddle's ordinal.
+pub const FRAME_ORDINAL_WORD: u32 = 2;
+
+/// The word of the frame of ordinal 0 that holds the pool's next serial.
+pub const NEXT_SERIAL_WORD: u32 = 3;
+
+/// The word of the frame of ordinal 0 that holds the pool's root pointer.
+pub const ROOT_WORD: u32 = 4;
+
+/// How many words of a frame stand before its slots.
+pub const FRAME_HEADER_WORDS: u32 = 64;
+
+/// How many words a slot has.
+pub const SLOT_WORDS: u32 = 32;
+
+/// How many slots a frame has.
+pub const FRAME_SLOTS: u32 = 62;
+
+/// The word of a slot that holds the serial of its object, 0 where the slot is free.
+pub const SLOT_SERIAL_WORD: u32 = 0;
+
+/// The word of a slot that holds the type id of its object.
+pub const SLOT_TYPE_WORD: u32 = 1;
+
+/// The word of a slot that holds field 0 of its object; the other fields stand behind it.
+pub const SLOT_FIELDS_WORD: u32 = 2;
+
+/// The largest frontier, that of a puddle whose pointers all stand over the pool's bases: the header's step and one for
+/// each slot.
+pub const LAST_FRONTIER: u32 = 63;
+
+/// The first word of a frame on a device of so many frames.
+pub const fn frame_at(frames: u32, frame: u32) -> u32
+    requires few_frames { frames ≤ MAX_FRAMES }
+    requires known { frame < frames }
+    ensures { result ≡ frame_at frames frame }
+{
+    frames_at(frames) + FRAME_WORDS * frame
+}
+
+/// The word of a frame at which this slot begins.
+pub const fn slot_at(slot: u32) -> u32
+    requires { slot < FRAME_SLOTS }
+    ensures { result ≡ slot_at slot }
+{
+    FRAME_HEADER_WORDS + SLOT_WORDS * slot
+}
+
+/// Whether the value is the first address of a range of the space.
+pub fn is_legal_base(v: u64) -> bool
+    ensures { result ≡ is_legal_base v }
+{
+    v >= SPACE_START && v < SPACE_START + SPACE_BYTES && v % RANGE_BYTES == 0
+}
+
+/// The first address of range `k` of the space, in ascending order.
+pub fn base_at(k: u32) -> u64
+    requires { k < RANGES }
+    ensures { result ≡ base_at k }
+{
+    SPACE_START + RANGE_BYTES * u64::from(k)
+}
