@@ -1,5 +1,5 @@
 -- Tables without a used record are sound, and stand for no pool.
-use Rattle.std.proofs.Common.{◌≡◌, ℕ, zero, suc, ◌+◌, ◌<◌, ◌≤◌, Bool, true, nat_lt, cond, List, [], Option, None, nat_cmp, refl, ap, ◌∙◌, sym, arith}
+use Rattle.std.proofs.Common.{◌≡◌, ℕ, zero, suc, ◌+◌, ◌<◌, ◌≤◌, Bool, true, false, nat_lt, cond, List, [], Option, None, nat_cmp, refl, ap, ◌∙◌, sym, arith}
 use Rattle.std.proofs.lemmas.Bool.{cond-true, cond-false, cases_Bool, and_from}
 use Rattle.std.specs.declared.cmp.Ordering.{Ordering}
 use Rattle.pud_defs.specs.declared.layout.TheConstants.{POOL_TABLE, SPACE_TABLE, PUDDLE_TABLE}
@@ -20,7 +20,7 @@ use Rattle.pud_defs.proofs.Parts.{HasPools}
 abbrev pub no_records : ℕ → Tables
 no_records F = record { frames = F; pools = λ slot. None; puddles = λ frame. None }
 
-none_either : {A : Type 0} (b : Bool) → cond b (None {A}) None ≡ None
+none_either : {A : Type 0} (b : Bool) → let no : Option A = None in cond b no no ≡ no
 none_either true = refl
 none_either false = refl
 
@@ -29,21 +29,21 @@ unfolding tables_of pool_at puddle_at pool_by puddle_by
 all_zero F = λ p. record { frames = F; pools = λ slot. none_either (nat_lt slot POOL_RECORDS) p; puddles = λ frame. none_either (nat_lt frame F) p }
 
 -- no place is used
-distinct_none : {K X : Type 0} (R : K → K → Ordering) (from count : ℕ) → are_distinct {X = X} R (λ place. None) from count ≡ true
+distinct_none : {K : Type 0} (X : Type 0) (R : K → K → Ordering) (from count : ℕ) → are_distinct {X = X} R (λ place. None) from count ≡ true
 unfolding are_distinct
-distinct_none R from zero = refl
-distinct_none R from (suc count) = distinct_none R (from + 1) count
+distinct_none X R from zero = refl
+distinct_none X R from (suc count) = distinct_none X R (from + 1) count
 
 sound_none : (number F : ℕ) → are_sound_tables number (no_records F) ≡ true
 unfolding are_sound_tables has_legal_pools has_distinct_names has_legal_puddles has_distinct_bases has_distinct_old_bases has_distinct_ordinals has_counted_puddles
 sound_none number F =
     and_from _ _ (and_from _ _ (and_from _ _ (and_from _ _ (and_from _ _ (and_from _ _
     (all_below-from POOL_RECORDS _ (λ slot below. refl))
-    (distinct_none _ 0 POOL_RECORDS))
+    (distinct_none _ _ 0 POOL_RECORDS))
     (all_below-from F _ (λ frame below. refl)))
-    (distinct_none nat_cmp 0 F))
-    (all_below-from POOL_RECORDS _ (λ slot below. distinct_none nat_cmp 0 F)))
-    (all_below-from POOL_RECORDS _ (λ slot below. distinct_none nat_cmp 0 F)))
+    (distinct_none _ nat_cmp 0 F))
+    (all_below-from POOL_RECORDS _ (λ slot below. distinct_none _ nat_cmp 0 F)))
+    (all_below-from POOL_RECORDS _ (λ slot below. distinct_none _ nat_cmp 0 F)))
     (all_below-from POOL_RECORDS _ (λ slot below. refl))
 
 no_pools : (F : ℕ) → pools_of (no_records F) ≡ []

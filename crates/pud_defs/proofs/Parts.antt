@@ -52,8 +52,8 @@ pub record HasSpaces (F : ℕ) (image : Image) : Type 0 where
   pub spaces : are_legal_spaces image ≡ true
   pub logs : are_closed_logs image F ≡ true
 
-pub record HasPools (F number : ℕ) (pools : List (List ℕ × Pool)) (image : Image) : Type 0 where
-  pub pools : pools_of (tables_of F image) ≡ pools
+pub record HasPools (F number : ℕ) (ps : List (List ℕ × Pool)) (image : Image) : Type 0 where
+  pub pools : pools_of (tables_of F image) ≡ ps
   pub sound : are_sound_tables number (tables_of F image) ≡ true
 
 -- what the part holds of a world, on a device of so many words
@@ -84,7 +84,7 @@ Holds-same Types size s i j same h =
     record { types = ap by_id table ∙ h.types; legal = ap are_legal_types table ∙ h.legal }
 Holds-same Pools size s i j same h =
     let tables : tables_of s.frames j ≡ tables_of s.frames i =
-        tables_of-same s.frames j i (λ k low high. same k (inl (record { low = low; high = high }))) (λ k low high. same k (inr (record { low = low; high = high }))) in
+    tables_of-same s.frames j i (λ k low high. same k (inl (record { low = low; high = high }))) (λ k low high. same k (inr (record { low = low; high = high }))) in
     record { pools = ap pools_of tables ∙ h.pools; sound = ap (are_sound_tables s.next_number) tables ∙ h.sound }
 Holds-same Spaces size s i j same h = record {
   spaces = are_legal_spaces-same j i (λ k low high. same k (inl (record { low = low; high = high }))) ∙ h.spaces;
@@ -140,8 +140,8 @@ module _ (size : ℕ) (i j : Image) (s : StoredWorld) (h : StandsFor size i s) (
   with_spaces Pools =
       Holds-same Pools size s i j
       (λ k of. ⊎_elim
-        (λ pools. let from = pools.low in let to = pools.high in same k (omega arith) (λ low high. omega arith))
-        (λ puddles. let from = puddles.low in let to = puddles.high in same k to (λ low high. omega arith)) of)
+      (λ pools. let from = pools.low in let to = pools.high in same k (omega arith) (λ low high. omega arith))
+      (λ puddles. let from = puddles.low in let to = puddles.high in same k to (λ low high. omega arith)) of)
       (h.holds Pools)
   with_spaces p =
       Holds-same p size s i j

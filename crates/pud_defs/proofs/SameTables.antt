@@ -1,5 +1,5 @@
 -- Images that agree on the words of the pool table and the puddle table have the same tables.
-use Rattle.std.proofs.Common.{◌≡◌, inl, inr, ℕ, ◌<◌, ◌≤◌, nat_lt, cond, None, ◌∙◌, sym, arith}
+use Rattle.std.proofs.Common.{◌≡◌, inl, inr, ℕ, ◌+◌, ◌<◌, ◌≤◌, nat_lt, cond, None, ◌∙◌, sym, arith}
 use Rattle.std.proofs.lemmas.Bool.{cond-true, cond-false, cases_Bool}
 use borrow.Author.Tests.{ltb-true}
 use Rattle.pud_defs.specs.declared.layout.TheConstants.{POOL_TABLE, SPACE_TABLE, PUDDLE_TABLE}
