@@ -11,7 +11,7 @@ use Rattle.pud_defs.specs.Layout.{tables_end, frames_at, device_words, is_legal_
 use Rattle.pud_defs.specs.Replay.{settled_by}
 use Rattle.pud_defs.specs.Spaces.{has_closed_logs}
 use Rattle.pud_defs.specs.World.{stored_by}
-use Rattle.pud_defs.specs.Registry.{frames_of, has_magic, has_version, has_room, has_legal_number, has_legal_types, has_no_pools, has_no_puddles, has_legal_spaces, is_registry, may_be_logged, is_allowed, are_allowed, has_legal_log, is_sound}
+use Rattle.pud_defs.specs.Registry.{frames_of, has_magic, has_version, has_room, has_legal_number, has_legal_types, has_sound_tables, has_legal_spaces, is_registry, may_be_logged, is_allowed, are_allowed, has_legal_log, is_sound}
 use Rattle.pud_defs.specs.Registry as registry
 use Rattle.pud_defs.proofs.Logged.{settled_by-unlogged, settled_by-client_logs}
 use Rattle.pud_defs.proofs.Spaces.{has_closed_logs-same}
@@ -20,7 +20,7 @@ use Rattle.pud_defs.proofs.Worlds.{standing_of_world, world_of-sound}
 use Rattle.log_entry.specs.Ranges.{HasRange}
 use Rattle.registry.specs.declared.overlay.Overlay.{Overlay}
 use Rattle.registry.specs.Overlaying.{IsOverlay}
-use Rattle.registry.specs.Judging.{frames_described, has_sound_tables, has_sound_spaces}
+use Rattle.registry.specs.Judging.{frames_described, has_sound_records, has_sound_spaces}
 
 -- ---- a legal log
 
@@ -87,7 +87,7 @@ described_raw size image legal =
 undescribed : (size : ℕ) (image : Image) → described size image ≡ false → is_registry size image ≡ false
 unfolding is_registry described
 undescribed size image fails =
-    ap (λ (b : Bool). b && has_legal_number image && has_legal_types image && has_no_pools image && has_no_puddles image && has_legal_spaces image && registry.has_closed_logs image) fails
+    ap (λ (b : Bool). b && has_legal_number image && has_legal_types image && has_sound_tables image && has_legal_spaces image && registry.has_closed_logs image) fails
 
 pub unsound_header : (size : ℕ) (image : Image) → frames_described size image ≡ None → is_sound size image ≡ false
 unfolding is_sound described
@@ -117,18 +117,18 @@ unsound_small size image small = elim (cases_Bool (is_sound size image)) [
   | inr unsound ↦ unsound
 ]
 
-regrouped : (number types pools puddles spaces logs : Bool) → (number && types && pools && puddles && (spaces && logs)) ≡ (number && types && pools && puddles && spaces && logs)
-regrouped number types pools puddles spaces logs = elim (number && types && pools && puddles) as (λ b. (b && (spaces && logs)) ≡ (b && spaces && logs)) [ true ↦ refl | false ↦ refl ]
+regrouped : (number types tables spaces logs : Bool) → (number && types && tables && (spaces && logs)) ≡ (number && types && tables && spaces && logs)
+regrouped number types tables spaces logs = elim (number && types && tables) as (λ b. (b && (spaces && logs)) ≡ (b && spaces && logs)) [ true ↦ refl | false ↦ refl ]
 
 -- so many frames are described: what the image says, in the words of the two halves that are left
 pub registry_parts : (size : ℕ) (image : Image) (F : ℕ) → has_legal_log image ≡ true → frames_described size image ≡ Some F
-    → (has_sound_tables (settled_by DAEMON_LOG image) F && has_sound_spaces (settled_by DAEMON_LOG image) F) ≡ is_registry size (settled_by DAEMON_LOG image)
+    → (has_sound_records (settled_by DAEMON_LOG image) F && has_sound_spaces (settled_by DAEMON_LOG image) F) ≡ is_registry size (settled_by DAEMON_LOG image)
 unfolding is_registry described
 registry_parts size image F legal some =
     let settled = settled_by DAEMON_LOG image in
     let parts = cond_some (described size image) (frames_of image) F some in
     let frames : F ≡ frames_of settled = sym parts.1 ∙ sym (settled_by-unlogged image FRAMES_WORD legal (omega arith)) in
     let header : described size settled ≡ true = described_raw size image legal ∙ parts.0 in
-    ap (λ (n : ℕ). has_sound_tables settled n && has_sound_spaces settled n) frames
-    ∙ regrouped (has_legal_number settled) (has_legal_types settled) (has_no_pools settled) (has_no_puddles settled) (has_legal_spaces settled) (registry.has_closed_logs settled)
-    ∙ ap (λ (b : Bool). b && has_legal_number settled && has_legal_types settled && has_no_pools settled && has_no_puddles settled && has_legal_spaces settled && registry.has_closed_logs settled) (sym header)
+    ap (λ (n : ℕ). has_sound_records settled n && has_sound_spaces settled n) frames
+    ∙ regrouped (has_legal_number settled) (has_legal_types settled) (has_sound_tables settled) (has_legal_spaces settled) (registry.has_closed_logs settled)
+    ∙ ap (λ (b : Bool). b && has_legal_number settled && has_legal_types settled && has_sound_tables settled && has_legal_spaces settled && registry.has_closed_logs settled) (sym header)

@@ -1,12 +1,14 @@
 -- The parts of a sound registry, in the order in which they are read.
 use Rattle.std.specs.Prelude.{ℕ, ◌-◌, ◌≤◌, ◌==◌, nat_le, Bool, not, ◌&&◌, ◌||◌, cond, List, Option, Some, None}
-use Rattle.pud_defs.specs.declared.layout.TheConstants.{DEVICE_MAGIC, VERSION, MAGIC_WORD, VERSION_WORD, FRAMES_WORD, MIN_FRAMES, MAX_FRAMES, TYPE_RECORDS, PUDDLE_TABLE}
+use Rattle.pud_defs.specs.declared.layout.TheConstants.{DEVICE_MAGIC, VERSION, MAGIC_WORD, VERSION_WORD, FRAMES_WORD, MIN_FRAMES, MAX_FRAMES, NEXT_NUMBER_WORD, TYPE_RECORDS}
 use Rattle.pud_defs.specs.Image.{Image}
 use Rattle.pud_defs.specs.TypeMap.{is_legal_map, is_legal_type_id}
 use Rattle.pud_defs.specs.Types.{type_records}
-use Rattle.pud_defs.specs.Layout.{tables_end, device_words, is_legal_frame_count}
+use Rattle.pud_defs.specs.Layout.{device_words, is_legal_frame_count}
 use Rattle.pud_defs.specs.Spaces.{space_record_at, has_closed_logs, are_legal_spaces, are_closed_logs}
-use Rattle.pud_defs.specs.Registry.{are_zero, has_legal_number, has_legal_types, has_no_pools}
+use Rattle.pud_defs.specs.Tables.{tables_of}
+use Rattle.pud_defs.specs.SoundTables.{are_sound_tables}
+use Rattle.pud_defs.specs.Registry.{has_legal_number, has_legal_types}
 
 -- the number of frames, by the size of the device and the words 0, 1 and 3, where these are sound
 abbrev pub frames_by : (size magic version frames : ℕ) → Option ℕ
@@ -35,9 +37,9 @@ with_one_more id map again legal = cond (id == 0) legal (is_legal_type_id id && 
 abbrev pub is_closed_space : Image → ℕ → ℕ → Bool
 is_closed_space image F client = image (space_record_at client) == 0 || has_closed_logs image F client
 
--- the next number and the tables before the clients' are sound, and no puddle is there, on a device of so many frames
-abbrev pub has_sound_tables : Image → ℕ → Bool
-has_sound_tables image F = has_legal_number image && has_legal_types image && has_no_pools image && are_zero image PUDDLE_TABLE (tables_end F - PUDDLE_TABLE)
+-- the next number, the types, and the pools with their puddles are sound, on a device of so many frames
+abbrev pub has_sound_records : Image → ℕ → Bool
+has_sound_records image F = has_legal_number image && has_legal_types image && are_sound_tables (image NEXT_NUMBER_WORD) (tables_of F image)
 
 -- the clients' table is sound, and each log that is registered is closed
 abbrev pub has_sound_spaces : Image → ℕ → Bool

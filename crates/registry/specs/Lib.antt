@@ -1,3 +1,5 @@
 pub mod Overlaying
 pub mod Judging
 pub mod Registry
+pub mod Tables
+pub mod Named

@@ -13,6 +13,8 @@ ghost use Rattle.registry.specs.Registry.{load_fault, AppliesLog};
 
 mod overlay;
 mod soundness;
+mod names;
+mod tables;
 
 use log_replay::settle_log;
 use pm_model::{Host, HostFault};

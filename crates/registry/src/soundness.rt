@@ -9,18 +9,23 @@ ghost use Rattle.pud_defs.specs.Layout.{device_words};
 ghost use Rattle.pud_defs.specs.Entries.{Entry as LoggedEntry, Log, log_of, entries_of};
 ghost use Rattle.pud_defs.specs.Replay.{settled_by};
 ghost use Rattle.pud_defs.specs.Spaces.{is_space, is_legal_space, has_closed_logs, are_legal_spaces, are_closed_logs};
-ghost use Rattle.pud_defs.specs.Registry.{frames_of, are_zero, is_number, has_legal_number, has_legal_types, may_be_logged, is_allowed, has_legal_log, is_registry, is_sound};
+ghost use Rattle.pud_defs.specs.Tables.{tables_of};
+ghost use Rattle.pud_defs.specs.SoundTables.{are_sound_tables};
+ghost use Rattle.pud_defs.specs.Registry.{frames_of, is_number, has_legal_types, may_be_logged, is_allowed, has_legal_log, is_registry, is_sound};
 ghost use Rattle.log_entry.specs.Reading.{entry_from};
 ghost use Rattle.log_entry.specs.Ranges.{HasRange};
 ghost use Rattle.registry.specs.Overlaying.{IsOverlay};
-ghost use Rattle.registry.specs.Judging.{IsRoomFor, frames_by, frames_described, with_one_more, is_closed_space, has_sound_tables, has_sound_spaces};
+ghost use Rattle.registry.specs.Judging.{IsRoomFor, frames_by, frames_described, with_one_more, is_closed_space, has_sound_records, has_sound_spaces};
 
+use crate::distinct::are_distinct_puddles;
+use crate::names::has_distinct_names;
 use crate::overlay::Overlay;
+use crate::tables::{has_legal_pools, has_legal_puddles};
 use log_entry::{Entry, EntryReader, is_closed_log, well_formed};
 use pm_model::{Host, HostFault};
 use pud_defs::layout::{
     CLIENT_LOGS, CLIENTS, DAEMON_LOG, DEVICE_MAGIC, FRAMES_WORD, LOG_WORDS, MAGIC_WORD, MAX_FRAMES,
-    MAX_OWNER_ID, MIN_FRAMES, NEXT_NUMBER_WORD, NUMBER_LIMIT, POOL_TABLE, PUDDLE_TABLE,
+    MAX_OWNER_ID, MIN_FRAMES, NEXT_NUMBER_WORD, NUMBER_LIMIT,
     SPACE_RECORD_WORDS, SPACE_TABLE, TYPE_RECORD_WORDS, TYPE_RECORDS, TYPE_TABLE, VERSION,
     VERSION_WORD, device_words, frames_at, log_at, tables_end,
 };
@@ -123,31 +128,6 @@ fn has_legal_log<H: Host>(h: &mut H, overlay: &Overlay, frames: u32) -> Result<b
     are_allowed(h, overlay, frames)
 }
 
-/// Whether the words `from` to `to - 1`, which stand behind the daemon log, are 0. It reads no further than the first that
-/// is not.
-fn is_zero_range<H: Host>(
-    h: &mut H,
-    overlay: &Overlay,
-    from: u32,
-    to: u32,
-) -> Result<bool, HostFault>
-    requires log { DAEMON_LOG + LOG_WORDS ≤ (H.counts h.old).size }
-    requires behind { DAEMON_LOG + LOG_WORDS ≤ from }
-    requires within { to ≤ (H.counts h.old).size }
-    ensures zero { H.tells → (image : Image) → reads (H.state h.old).now.words ≡ image → IsOverlay overlay.now image
-        → IfOk result (λ zero. zero ≡ are_zero (settled_by DAEMON_LOG image) from (to - from)) }
-    ensures stays { H.tells → H.state h.new ≡ H.state h.old }
-    ensures cause { H.counts h.new ≡ after_fault (fault_of result) (H.counts h.old) }
-    ensures never_cut { fault_of result ≢ Option.Some HostFault.Cut }
-{
-    for at in from..to {
-        if overlay.word(h, at)? != 0 {
-            return Ok(false);
-        }
-    }
-    Ok(true)
-}
-
 /// Whether these records are legal with one more in front: a free one, or a used one that is legal and whose id is none
 /// of theirs.
 fn is_legal_with(id: u64, map: u64, ids: &[u64], legal: bool) -> bool
@@ -182,18 +162,6 @@ fn has_legal_types<H: Host>(h: &mut H, overlay: &Overlay) -> Result<bool, HostFa
 }
 
 /// Whether the next UUID number is from 1 to 2^63.
-fn has_legal_number<H: Host>(h: &mut H, overlay: &Overlay) -> Result<bool, HostFault>
-    requires { DAEMON_LOG + LOG_WORDS ≤ (H.counts h.old).size }
-    ensures legal { H.tells → (image : Image) → reads (H.state h.old).now.words ≡ image → IsOverlay overlay.now image
-        → IfOk result (λ legal. legal ≡ has_legal_number (settled_by DAEMON_LOG image)) }
-    ensures stays { H.tells → H.state h.new ≡ H.state h.old }
-    ensures cause { H.counts h.new ≡ after_fault (fault_of result) (H.counts h.old) }
-    ensures never_cut { fault_of result ≢ Option.Some HostFault.Cut }
-{
-    let number = overlay.word(h, NEXT_NUMBER_WORD)?;
-    Ok(is_number(number))
-}
-
 fn is_number(number: u64) -> bool
     ensures { result ≡ is_number number }
 {
@@ -300,27 +268,55 @@ fn are_closed_logs<H: Host>(h: &mut H, overlay: &Overlay, frames: u32) -> Result
     Ok(true)
 }
 
-fn are_all(number: bool, types: bool, pools: bool, puddles: bool) -> bool
-    ensures { result ≡ (number && types && pools && puddles) }
+fn are_all(first: bool, second: bool, third: bool) -> bool
+    ensures { result ≡ (first && second && third) }
 {
-    number && types && pools && puddles
+    first && second && third
 }
 
-/// Whether the next number and the types are legal, and no pool and no puddle is there.
-fn has_sound_tables<H: Host>(h: &mut H, overlay: &Overlay, frames: u32) -> Result<bool, HostFault>
+/// Whether the pool table and the puddle table are sound, where this UUID number is the next: each record by itself first,
+/// and then what tells the puddles apart.
+fn are_sound_tables<H: Host>(
+    h: &mut H,
+    overlay: &Overlay,
+    next: u64,
+    frames: u32,
+) -> Result<bool, HostFault>
     requires few { frames ≤ MAX_FRAMES }
     requires room { device_words frames ≤ (H.counts h.old).size }
     ensures sound { H.tells → (image : Image) → reads (H.state h.old).now.words ≡ image → IsOverlay overlay.now image
-        → IfOk result (λ sound. sound ≡ has_sound_tables (settled_by DAEMON_LOG image) frames) }
+        → IfOk result (λ sound. sound ≡ are_sound_tables next (tables_of frames (settled_by DAEMON_LOG image))) }
     ensures stays { H.tells → H.state h.new ≡ H.state h.old }
     ensures cause { H.counts h.new ≡ after_fault (fault_of result) (H.counts h.old) }
     ensures never_cut { fault_of result ≢ Option.Some HostFault.Cut }
 {
-    let number = has_legal_number(h, overlay)?;
+    let pools = has_legal_pools(h, overlay, next)?;
+    let names = has_distinct_names(h, overlay)?;
+    let puddles = has_legal_puddles(h, overlay, next, frames)?;
+    if !are_all(pools, names, puddles) {
+        return Ok(false);
+    }
+    are_distinct_puddles(h, overlay, frames)
+}
+
+/// Whether the next number and the types are legal, and the pool table and the puddle table are sound.
+fn has_sound_records<H: Host>(
+    h: &mut H,
+    overlay: &Overlay,
+    frames: u32,
+) -> Result<bool, HostFault>
+    requires few { frames ≤ MAX_FRAMES }
+    requires room { device_words frames ≤ (H.counts h.old).size }
+    ensures sound { H.tells → (image : Image) → reads (H.state h.old).now.words ≡ image → IsOverlay overlay.now image
+        → IfOk result (λ sound. sound ≡ has_sound_records (settled_by DAEMON_LOG image) frames) }
+    ensures stays { H.tells → H.state h.new ≡ H.state h.old }
+    ensures cause { H.counts h.new ≡ after_fault (fault_of result) (H.counts h.old) }
+    ensures never_cut { fault_of result ≢ Option.Some HostFault.Cut }
+{
+    let next = overlay.word(h, NEXT_NUMBER_WORD)?;
     let types = has_legal_types(h, overlay)?;
-    let pools = is_zero_range(h, overlay, POOL_TABLE, SPACE_TABLE)?;
-    let puddles = is_zero_range(h, overlay, PUDDLE_TABLE, tables_end(frames))?;
-    Ok(are_all(number, types, pools, puddles))
+    let tables = are_sound_tables(h, overlay, next, frames)?;
+    Ok(are_all(is_number(next), types, tables))
 }
 
 fn are_both(spaces: bool, logs: bool) -> bool
@@ -354,7 +350,7 @@ fn is_registry<H: Host>(h: &mut H, overlay: &Overlay, frames: u32) -> Result<boo
     ensures cause { H.counts h.new ≡ after_fault (fault_of result) (H.counts h.old) }
     ensures never_cut { fault_of result ≢ Option.Some HostFault.Cut }
 {
-    let tables = has_sound_tables(h, overlay, frames)?;
+    let tables = has_sound_records(h, overlay, frames)?;
     let spaces = has_sound_spaces(h, overlay, frames)?;
     Ok(are_both(tables, spaces))
 }

@@ -6,7 +6,7 @@ use Rattle.registry.proofs.soundness.is_registry.Goals as goal
 
 pub returns-clause-sound : goal.returns-clause-sound
 returns-clause-sound g c = λ t image same over legal size described.
-    let behind = ap (λ (s : State). reads s.now.words) (c.has_sound_tables.ensures.stays t) ∙ same in
+    let behind = ap (λ (s : State). reads s.now.words) (c.has_sound_records.ensures.stays t) ∙ same in
     let tables = c.in_ok-tables.ensures.sound t image same over in
     let spaces = c.in_ok-spaces.ensures.sound t image behind over legal (frames_are size image c.args.frames described) in
     c.are_both.ensures ∙ (λ p. tables p && spaces p) ∙ registry_parts size image c.args.frames legal described
