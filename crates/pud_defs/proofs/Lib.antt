@@ -1,4 +1,7 @@
 pub mod Words
+pub mod Keyed
+pub mod KeyedTypes
+pub mod TablesOf
 pub mod Images
 pub mod TypeLists
 pub mod TypeTable
