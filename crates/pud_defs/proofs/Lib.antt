@@ -9,7 +9,6 @@ pub mod Entries
 pub mod Replay
 pub mod Spaces
 pub mod Logged
-pub mod SameTables
 pub mod Parts
 pub mod NoPools
 pub mod Worlds

@@ -13,7 +13,7 @@ use Rattle.pud_defs.specs.Puddles.{puddle_at, puddle_by}
 use Rattle.pud_defs.specs.Tables.{Tables, tables_of, pools_of, puddles_of}
 use Rattle.pud_defs.specs.SoundTables.{are_sound_tables, has_legal_pools, has_distinct_names, has_legal_puddles, has_distinct_bases, has_distinct_old_bases, has_distinct_ordinals, has_counted_puddles}
 use Rattle.pud_defs.proofs.Spaces.{all_below-from}
-use Rattle.pud_defs.proofs.SameTables.{tables_of-same}
+use Rattle.pud_defs.proofs.TablesOf.{tables_of-same}
 use Rattle.pud_defs.proofs.Parts.{HasPools}
 
 -- tables of so many frames in which no record is used

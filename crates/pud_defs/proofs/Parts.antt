@@ -11,7 +11,7 @@ use Rattle.pud_defs.specs.SoundTables.{are_sound_tables}
 use Rattle.pud_defs.specs.World.{StoredWorld}
 use Rattle.pud_defs.proofs.Spaces.{are_legal_spaces-same, are_closed_logs-same}
 use Rattle.pud_defs.proofs.TypeTable.{type_records_same}
-use Rattle.pud_defs.proofs.SameTables.{tables_of-same}
+use Rattle.pud_defs.proofs.TablesOf.{tables_of-same}
 
 -- the words that describe the device; the types; the pools, with their puddles; the log spaces, with the clients' logs
 pub data Part : Type 0 where
