@@ -194,7 +194,7 @@ impl LogRange {
     }
 
     /// Whether no entry can count.
-    pub fn is_closed(&self) -> bool
+    pub fn counts_none(&self) -> bool
         ensures { result ≡ nat_le self.now.hi (self.now.lo + 1) }
     {
         self.hi.saturating_sub(self.lo) <= 1

@@ -112,7 +112,7 @@ module _ (size : ℕ) (s : StoredWorld) (a : State) (rested : IsRested a.now.wor
         moments = moments;
         settled = λ none. record {
           stands = λ image picked. (Leaves-now (Silently (λ i. world_of size i ≡ Some s)) [] a b (said ∙ sym (append-nil a.now.said)) moments image picked).1;
-          closed = λ v has. ap is_idle_gate ((settles.closed none).each v has);
+          idle = λ v has. ap is_idle_gate ((settles.closed none).each v has);
         };
         rested = λ none. rested_then b (subst (λ (f : Option HostFault). SettlesLog DAEMON_LOG f a b) none settles);
       }
@@ -145,7 +145,7 @@ AppliesLog-failed size s fault a b rested world not_cut same =
 
 -- what is read of it then is what the world tells
 pub reads_so : (size : ℕ) (s : StoredWorld) (b : State) (w : ℕ) → IsSettled size s b.now.words → w < DAEMON_LOG → settled_by DAEMON_LOG (reads b.now.words) w ≡ reads b.now.words w
-reads_so size s b w settled low = settled_by-closed DAEMON_LOG (reads b.now.words) w (settled.closed (reads b.now.words DAEMON_LOG) (inl refl)) (outside_log DAEMON_LOG w (inl low))
+reads_so size s b w settled low = settled_by-closed DAEMON_LOG (reads b.now.words) w (settled.idle (reads b.now.words DAEMON_LOG) (inl refl)) (outside_log DAEMON_LOG w (inl low))
 
 pub machine_read : (size : ℕ) (s : StoredWorld) (b : State) → IsSettled size s b.now.words → reads b.now.words MACHINE_WORD ≡ s.machine
 machine_read size s b settled =
