@@ -16,6 +16,7 @@ ghost use Rattle.log_entry.specs.Reading.{Reading, entry_next, entries_left, ent
 ghost use Rattle.log_entry.specs.Ranges.{HasRange};
 
 mod closed;
+pub mod laws;
 
 pub use closed::is_closed_log;
 use pm_model::{Host, HostFault};
