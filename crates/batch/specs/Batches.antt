@@ -44,6 +44,10 @@ pub record IsBuffer (used : ℕ) (words : List ℕ) : Type 0 where
   pub count : used ≡ words_of (entries_spelled used words)
   pub batched : AreBatched (entries_spelled used words)
 
+-- the log whose gate is this word counts nothing in each image
+pub record HasIdleGate (at : ℕ) (words : Words) : Type 0 where
+  pub each : (v : ℕ) → Has (values (words at)) v → IsTrue (is_idle_gate v)
+
 -- The log whose gate is this word counts nothing in each image, and the words of the batch lie in the device, apart from it.
 pub record IsFree (size at : ℕ) (es : List Entry) (words : Words) : Type 0 where
   pub idle : (v : ℕ) → Has (values (words at)) v → IsTrue (is_idle_gate v)
