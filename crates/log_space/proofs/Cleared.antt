@@ -6,7 +6,7 @@ use Rattle.std.proofs.lemmas.Bool.{and_from, cases_eq}
 use Rattle.std.proofs.lemmas.List.Sums.{sum_by-append}
 use Rattle.std.proofs.lemmas.List.Folds.{list_all-append}
 use Rattle.pm_model.specs.declared.host.HostFault.{HostFault}
-use Rattle.pm_model.specs.Words.{Words, Picks}
+use Rattle.pm_model.specs.Words.{Words}
 use Rattle.pm_model.specs.Moments.{State}
 use Rattle.pm_model.specs.Changes.{Silently}
 use Rattle.pm_model.proofs.Leaves.{Leaves-weaker}
@@ -26,7 +26,6 @@ use Rattle.batch.specs.Batches.{batch_entry, words_of, batch_write, committed, I
 use Rattle.batch.specs.Worlds.{IsSettled, with_batch, MovesBy, IsBetween, Moves}
 use Rattle.batch.proofs.Writes.{batch_write-append, batch_write-single}
 use Rattle.batch.proofs.Worlds.{stands_still}
-use Rattle.log_space.specs.Records.{owners}
 use Rattle.log_space.specs.Clearing.{clearing, HasNoOwners, MayBeEmptied, Empties, Clears}
 
 -- ---- the batch
