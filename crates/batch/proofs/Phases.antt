@@ -149,13 +149,15 @@ module _ (size at : ℕ) (es : List Entry) (words : List ℕ) (s a : State) (fre
             let small : length words < 2 ^ 16 = omega arith in
             let used : gate_used (reads b.now.words at) ≡ length words = ap gate_used gate_reads ∙ gate_used-of COMMITTING_LO COMMITTING_HI (length words) (omega arith) (omega arith) small in
             record {
-              replayable = record {
+              durable_log = record {
                 gate = HasOnly-own (b.now.words at) (gate_word COMMITTING_LO COMMITTING_HI (length words)) (gate_value none);
                 counted = λ k low high.
                     let j = k - (at + LOG_HEADER_WORDS) in
                     let below : j < length words = omega arith in
                     let place : k ≡ at + LOG_HEADER_WORDS + j = omega arith in
                     HasOnly-own (b.now.words k) (get_or words j 0) (entry_value k (get_or words j 0) (placed_at (at + LOG_HEADER_WORDS) j k words place below));
+              };
+              replayable = record {
                 spells = ap (λ (l : Log). l.entries) (reads_log none);
                 apart = λ k d below counts. free.apart k d below;
               };
@@ -186,8 +188,9 @@ Commits-prepare size at es fault s b p =
     record { changes = p.changes; moments = p.moments; durable = λ e. absurd (let it : None ≡ Some fault = sym e in cc); closed = λ e. absurd (let it : None ≡ Some fault = sym e in cc) }
 
 -- the log that is replayed and closed behind them gives what the batch writes
-pub Commits-settle : (size at : ℕ) (es : List Entry) (fault : Option HostFault) (s b d : State) → AreBatched es → Prepares size at es None s b → SettlesLog at fault b d → Commits at es fault s d
-Commits-settle size at es fault s b d batched p f =
+pub Commits-settle : (size at : ℕ) (es : List Entry) (fault : Option HostFault) (s b d : State) → AreBatched es → Prepares size at es None s b → SettlesLog at fault b d
+    → Leaves (Silently (SettlesSame b.now.words at (log_of (reads b.now.words) at))) b d → Commits at es fault s d
+Commits-settle size at es fault s b d batched p f left =
     let P = Silently (IsBatched s.now.words at es) in
     let log = log_of (reads b.now.words) at in
     let prepared = p.prepared refl in
@@ -203,7 +206,7 @@ Commits-settle size at es fault s b d batched p f =
       settled = inr (q.1.same ∙ whole.settled);
       log = left;
     } in
-    (q.0, at_all)) f.moments in
+    (q.0, at_all)) left in
     record {
       changes = Changes-then (ByBatch at es) fault s b d p.changes
           (Changes-wider (ByLog at (new_value device_word log)) (ByBatch at es) fault b d

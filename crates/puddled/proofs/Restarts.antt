@@ -11,11 +11,9 @@ use Rattle.pm_model.proofs.Changes.{Changes-said}
 use Rattle.pm_model.proofs.Leaves.{Leaves-then}
 use Rattle.pud_defs.specs.declared.layout.TheConstants.{DAEMON_LOG, CLIENTS}
 use Rattle.pud_defs.specs.Image.{Image}
-use Rattle.pud_defs.specs.Entries.{log_of}
-use Rattle.pud_defs.specs.Replay.{device_word, new_value}
 use Rattle.pud_defs.specs.Spaces.{space_record_at, owner_by}
 use Rattle.pud_defs.specs.World.{World, StoredWorld, no_clients, world_of, closed, restart}
-use Rattle.log_replay.specs.Replaying.{Anything, ByLog}
+use Rattle.log_replay.specs.Replaying.{Anything}
 use Rattle.batch.specs.Batches.{ByBatch}
 use Rattle.batch.proofs.Tables.{HasDurableTables-rested, HasDurableTables-committed}
 use Rattle.registry.specs.declared.Geo.{Geo}
@@ -41,14 +39,15 @@ pub KeepsRest-then : (a b c : State) → KeepsRest a b → KeepsRest b c → Kee
 KeepsRest-then a b c p q = record { script = q.script ∙ p.script; shelf = q.shelf ∙ p.shelf }
 
 -- the daemon log was to be applied, and was not
-Recovers-applies : (size : ℕ) (w : World) (fault : HostFault) (a b : State) → AppliesLog size (closed w) (Some fault) a b → Recovers size w (Err (starts.Host fault)) a b
-Recovers-applies size w fault a b p =
+Recovers-applies : (size : ℕ) (w : World) (fault : HostFault) (a b : State) → AppliesLog size (closed w) (Some fault) a b → Changes Anything (Some fault) a b
+    → Recovers size w (Err (starts.Host fault)) a b
+Recovers-applies size w fault a b p any =
     record {
       moments = p.moments;
-      quiet = Changes-said (ByLog DAEMON_LOG (new_value device_word (log_of (reads a.now.words) DAEMON_LOG))) (Some fault) a b p.changes;
+      quiet = Changes-said Anything (Some fault) a b any;
       ready = tt;
-      script = p.changes.script;
-      shelf = p.changes.shelf;
+      script = any.script;
+      shelf = any.shelf;
     }
 
 -- a record that is free has no owner
@@ -56,37 +55,38 @@ nobody : (used uid gid : ℕ) → used ≡ 0 → owner_by used uid gid ≡ None
 nobody used uid gid free = ap (λ (v : ℕ). owner_by v uid gid) free
 
 -- it was applied, and then the log-space table was to be emptied
-module _ (size : ℕ) (w : World) (fault : Option HostFault) (a b c : State) (shelf : a.shelf ≡ w.shelf) (p : AppliesLog size (closed w) None a b) (q : Clears size (closed w) fault b c) where
+module _ (size : ℕ) (w : World) (fault : Option HostFault) (a b c : State) (shelf : a.shelf ≡ w.shelf) (p : AppliesLog size (closed w) None a b) (any : Changes Anything None a b)
+    (q : Clears size (closed w) fault b c) where
   ready_cleared : (memory : Memory) → memory.frames ≡ w.stored.frames → fault ≡ None → IsReady size (restart w) memory c
   ready_cleared memory frames none = record {
     settled = q.settled none;
     tables = HasDurableTables-committed w.stored.frames (clearing CLIENTS) fault b c q.changes (q.durable none) (HasDurableTables-rested w.stored.frames b.now.words (p.rested refl));
     clients = λ client low. nobody _ _ _ (HasOnly-newest (c.now.words (space_record_at client)) 0 (q.cleared none client low));
     frames = frames;
-    shelf = q.changes.shelf ∙ p.changes.shelf ∙ shelf;
+    shelf = q.changes.shelf ∙ any.shelf ∙ shelf;
   }
 
   pub Recovers-clears : (result : Result Memory StartFault) → IfOk result (λ memory. IsReady size (restart w) memory c) → Recovers size w result a c
   Recovers-clears result ready =
       let P = Silently (λ (image : Image). world_of size image ≡ Some (closed w)) in
-      let said = Changes-said (ByLog DAEMON_LOG (new_value device_word (log_of (reads a.now.words) DAEMON_LOG))) None a b p.changes in
+      let said = Changes-said Anything None a b any in
       record {
         moments = Leaves-then P P P [] a b c (said ∙ sym (append-nil a.now.said)) (λ front image m. m) (λ more image m. m) p.moments q.moments;
         quiet = Changes-said (ByBatch DAEMON_LOG (clearing CLIENTS)) fault b c q.changes ∙ said;
         ready = ready;
-        script = q.changes.script ∙ p.changes.script;
-        shelf = q.changes.shelf ∙ p.changes.shelf;
+        script = q.changes.script ∙ any.script;
+        shelf = q.changes.shelf ∙ any.shelf;
       }
 
 -- and it was
-pub Recovers-done : (size : ℕ) (w : World) (memory : Memory) (a b c : State) → a.shelf ≡ w.shelf → AppliesLog size (closed w) None a b → Clears size (closed w) None b c → memory.frames ≡ w.stored.frames
+pub Recovers-done : (size : ℕ) (w : World) (memory : Memory) (a b c : State) → a.shelf ≡ w.shelf → AppliesLog size (closed w) None a b → Changes Anything None a b → Clears size (closed w) None b c → memory.frames ≡ w.stored.frames
     → Recovers size w (Ok memory) a c
-Recovers-done size w memory a b c shelf p q frames = Recovers-clears size w None a b c shelf p q (Ok memory) (ready_cleared size w None a b c shelf p q memory frames refl)
+Recovers-done size w memory a b c shelf p any q frames = Recovers-clears size w None a b c shelf p any q (Ok memory) (ready_cleared size w None a b c shelf p any q memory frames refl)
 
 -- or a fault came
-pub Recovers-uncleared : (size : ℕ) (w : World) (fault : HostFault) (a b c : State) → a.shelf ≡ w.shelf → AppliesLog size (closed w) None a b → Clears size (closed w) (Some fault) b c
+pub Recovers-uncleared : (size : ℕ) (w : World) (fault : HostFault) (a b c : State) → a.shelf ≡ w.shelf → AppliesLog size (closed w) None a b → Changes Anything None a b → Clears size (closed w) (Some fault) b c
     → Recovers size w (Err (starts.Host fault)) a c
-Recovers-uncleared size w fault a b c shelf p q = Recovers-clears size w (Some fault) a b c shelf p q (Err (starts.Host fault)) tt
+Recovers-uncleared size w fault a b c shelf p any q = Recovers-clears size w (Some fault) a b c shelf p any q (Err (starts.Host fault)) tt
 
 -- what was recovered reads as the world
 stands_recovered : (size : ℕ) (w : World) (result : Result Memory StartFault) (a b : State) → IsOk result → Recovers size w result a b → world_of size (reads b.now.words) ≡ Some (closed w)
@@ -108,9 +108,9 @@ sound_recovered size result a b ok sound recovers = sound_then size result a b (
 
 -- a load that failed on a device that stands for a world
 pub Recovers-load : (size : ℕ) (w : World) (fault : LoadFault) (a b : State) → (fault ≡ loads.NotSound → ⊥) → AppliesLog size (closed w) (load_fault {T = Geo} (Err fault)) a b
-    → Recovers size w (Err (of_load fault)) a b
-Recovers-load size w loads.NotSound a b sound p = absurd (sound refl)
-Recovers-load size w (loads.Host fault) a b sound p = Recovers-applies size w fault a b p
+    → Changes Anything (load_fault {T = Geo} (Err fault)) a b → Recovers size w (Err (of_load fault)) a b
+Recovers-load size w loads.NotSound a b sound p any = absurd (sound refl)
+Recovers-load size w (loads.Host fault) a b sound p any = Recovers-applies size w fault a b p any
 
 -- it is not refused
 pub sound_load : (size : ℕ) (w : World) (fault : LoadFault) (a : State) → world_of size (reads a.now.words) ≡ Some (closed w)
