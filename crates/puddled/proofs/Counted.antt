@@ -32,7 +32,7 @@ grows_by n m top true false e f le = let below = ltb-true n top e in let above =
 grows_by n m top false true e f le = omega arith
 grows_by n m top false false e f le = le
 
-risen_grows : (n m : ℕ) → n ≤ m → risen n ≤ risen m
+pub risen_grows : (n m : ℕ) → n ≤ m → risen n ≤ risen m
 risen_grows n m le = grows_by n m (2 ^ 64 - 1) (ltb n (2 ^ 64 - 1)) (ltb m (2 ^ 64 - 1)) refl refl le
 
 risen_by-grows : (k n m : ℕ) → n ≤ m → risen_by k n ≤ risen_by k m
