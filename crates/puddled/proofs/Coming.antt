@@ -127,7 +127,7 @@ module _ (size : ℕ) (w : World) (memory : Memory) (slot : ℕ) (known : slot <
     -- nothing was done
     pub ClosesFirst-idle : (a b : State) → IsReady size w memory a → b ≡ a → ClosesFirst w.stored.frames slot a b
     ClosesFirst-idle a b ready same =
-        Leaves-still _ a b (λ image picked. inl (used_still image (used_before a ready image picked) (ready.settled.closed (image DAEMON_LOG) (picked.each DAEMON_LOG)))) same
+        Leaves-still _ a b (λ image picked. inl (used_still image (used_before a ready image picked) (ready.settled.idle (image DAEMON_LOG) (picked.each DAEMON_LOG)))) same
 
     -- nothing was done before
     pub ClosesFirst-behind : (a b c : State) → IsReady size w memory a → b ≡ a → (IsReady size w memory b → ClosesFirst w.stored.frames slot b c) → ClosesFirst w.stored.frames slot a c
@@ -144,7 +144,7 @@ module _ (size : ℕ) (w : World) (memory : Memory) (slot : ℕ) (known : slot <
         (λ before image picked from.
         let record_word = below_gates before image (space_record_at slot) from (omega arith) in
         let gate_word = below_gates before image DAEMON_LOG from (omega arith) in
-        inl (used_still image (record_word ∙ used_before a ready before picked) (ap is_idle_gate gate_word ∙ ready.settled.closed (before DAEMON_LOG) (picked.each DAEMON_LOG)))) p.changes)
+        inl (used_still image (record_word ∙ used_before a ready before picked) (ap is_idle_gate gate_word ∙ ready.settled.idle (before DAEMON_LOG) (picked.each DAEMON_LOG)))) p.changes)
 
     -- a batch that writes the record leaves the logs
     closed_outside : (words : Words) (image : Image) → HasClosedLogs w.stored.frames slot words → MayHaveOwner size (closed w) slot None (record_batch slot (0 ∷ [])) words image
