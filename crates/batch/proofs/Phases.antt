@@ -21,9 +21,9 @@ use Rattle.pud_defs.proofs.Replay.{not_inside}
 use Rattle.log_replay.specs.Replaying.{ByLog, SettlesSame, SettlesLog}
 use Rattle.log_replay.proofs.Closing.{gate_apart}
 use Rattle.batch.specs.Batches.{batch_write, committed, AreBatched, IsFree, ByBatch, IsBatched, IsBatchedWholly, IsUntouched, Prepares, Commits}
-use Rattle.batch.proofs.Writes.{new_value-committed, settled_by-closed_same, settled_by-committed}
+use Rattle.batch.proofs.Writes.{new_value-committed, settled_by-idle_same, settled_by-committed}
 
--- ---- the entries are made durable behind a closed gate
+-- ---- the entries are made durable behind an idle gate
 
 module _ (size at : ℕ) (es : List Entry) (words : List ℕ) (s : State) (free : IsFree size at es s.now.words) (fits : length words ≤ LOG_ENTRY_WORDS) where
   entries_apart : (k v : ℕ) → written (placed (at + LOG_HEADER_WORDS) words) k v → (at < k) × IsInLog at k
@@ -38,18 +38,18 @@ module _ (size at : ℕ) (es : List Entry) (words : List ℕ) (s : State) (free 
         | inr new ↦ absurd (not_inside at k out (entries_apart k (image k) new).1)
       ] in
       let gate : image at ≡ before at = elim (from.each at) [ inl same ↦ same | inr new ↦ absurd (let low = (entries_apart at (image at) new).0 in omega arith) ] in
-      let closed = free.closed (before at) (picked.each at) in
+      let idle = free.idle (before at) (picked.each at) in
       record {
         before = before;
         picked = picked;
         outside = outside;
-        same = settled_by-closed_same at image before (ap is_idle_gate gate ∙ closed) closed outside;
-        closed = ap is_idle_gate gate ∙ closed;
+        same = settled_by-idle_same at image before (ap is_idle_gate gate ∙ idle) idle outside;
+        idle = ap is_idle_gate gate ∙ idle;
       }) changes
 
-  pub gate_closed_still : (fault : Option HostFault) (a : State) → Changes (written (placed (at + LOG_HEADER_WORDS) words)) fault s a → (v : ℕ) → Has (values (a.now.words at)) v → is_idle_gate v ≡ true
-  gate_closed_still fault a changes v has = elim (Changes-now (written (placed (at + LOG_HEADER_WORDS) words)) fault s a changes at v has) [
-    | inl was ↦ free.closed v was
+  pub gate_idle_still : (fault : Option HostFault) (a : State) → Changes (written (placed (at + LOG_HEADER_WORDS) words)) fault s a → (v : ℕ) → Has (values (a.now.words at)) v → is_idle_gate v ≡ true
+  gate_idle_still fault a changes v has = elim (Changes-now (written (placed (at + LOG_HEADER_WORDS) words)) fault s a changes at v has) [
+    | inl was ↦ free.idle v was
     | inr new ↦ absurd (let low = (entries_apart at v new).0 in omega arith)
   ]
 
@@ -88,13 +88,13 @@ module _ (size at : ℕ) (es : List Entry) (words : List ℕ) (s a : State) (fre
   wholly before image picked so_far gate others =
       let holds : (j : ℕ) → j < length words → image (at + LOG_HEADER_WORDS + j) ≡ get_or words j 0 = λ j below. others (at + LOG_HEADER_WORDS + j) (λ e. absurd (omega arith)) ∙ entries_there before picked j below in
       let log = committed_log image at words es gate fits holds spell in
-      let closed = gate_closed_still size at es words s free fits None a first.changes (before at) (picked.each at) in
+      let idle = gate_idle_still size at es words s free fits None a first.changes (before at) (picked.each at) in
       record {
         before = so_far.before;
         picked = so_far.picked;
         outside = λ k out none. others k (gate_apart at k out) ∙ so_far.outside k out;
         log = log;
-        settled = settled_by-committed size at es image before batched free.apart log closed (λ w out. others w (gate_apart at w out))
+        settled = settled_by-committed size at es image before batched free.apart log idle (λ w out. others w (gate_apart at w out))
             ∙ ap (overwritten (batch_write es)) so_far.same;
       }
 
@@ -114,7 +114,7 @@ module _ (size at : ℕ) (es : List Entry) (words : List ℕ) (s a : State) (fre
           picked = so_far.picked;
           outside = λ k out none. ap (λ (i : Image). i k) same ∙ so_far.outside k out;
           settled = inl (ap (settled_by at) same ∙ so_far.same);
-          log = inl (ap (λ (i : Image). is_idle_gate (i at)) same ∙ so_far.closed);
+          log = inl (ap (λ (i : Image). is_idle_gate (i at)) same ∙ so_far.idle);
         }
         | inr moved ↦
             let w = wholly before image picked so_far moved.there moved.others in
@@ -134,7 +134,7 @@ module _ (size at : ℕ) (es : List Entry) (words : List ℕ) (s a : State) (fre
       HasOnly-kept (written gate_write) fault a b k v second.changes
       (λ x new. others k (λ e. absurd (let low = (placed_within (at + LOG_HEADER_WORDS) k v words is).0 in omega arith)) x new) (first.durable refl k v is) in
       let early = Leaves-weaker (Silently (IsUntouched s.now.words at)) P s a
-      (λ bytes image p. (p.0, record { before = p.1.before; picked = p.1.picked; outside = λ k out none. p.1.outside k out; settled = inl p.1.same; log = inl p.1.closed }))
+      (λ bytes image p. (p.0, record { before = p.1.before; picked = p.1.picked; outside = λ k out none. p.1.outside k out; settled = inl p.1.same; log = inl p.1.idle }))
       (entries_left size at es words s free fits None a first.changes) in
       let reads_log : fault ≡ None → log_of (reads b.now.words) at ≡ committed es = λ none.
       committed_log (reads b.now.words) at words es (HasOnly-newest (b.now.words at) (gate_word COMMITTING_LO COMMITTING_HI (length words)) (gate_value none)) fits
@@ -149,13 +149,15 @@ module _ (size at : ℕ) (es : List Entry) (words : List ℕ) (s a : State) (fre
             let small : length words < 2 ^ 16 = omega arith in
             let used : gate_used (reads b.now.words at) ≡ length words = ap gate_used gate_reads ∙ gate_used-of COMMITTING_LO COMMITTING_HI (length words) (omega arith) (omega arith) small in
             record {
-              replayable = record {
+              durable_log = record {
                 gate = HasOnly-own (b.now.words at) (gate_word COMMITTING_LO COMMITTING_HI (length words)) (gate_value none);
                 counted = λ k low high.
                     let j = k - (at + LOG_HEADER_WORDS) in
                     let below : j < length words = omega arith in
                     let place : k ≡ at + LOG_HEADER_WORDS + j = omega arith in
                     HasOnly-own (b.now.words k) (get_or words j 0) (entry_value k (get_or words j 0) (placed_at (at + LOG_HEADER_WORDS) j k words place below));
+              };
+              replayable = record {
                 spells = ap (λ (l : Log). l.entries) (reads_log none);
                 apart = λ k d below counts. free.apart k d below;
               };
@@ -173,7 +175,7 @@ Prepares-entries size at es words fault s a free fits first =
     record {
       changes = entries_change size at es words s free fits (Some fault) a first.changes;
       moments = Leaves-weaker (Silently (IsUntouched s.now.words at)) (Silently (IsBatched s.now.words at es)) s a
-          (λ bytes image p. (p.0, record { before = p.1.before; picked = p.1.picked; outside = λ k out none. p.1.outside k out; settled = inl p.1.same; log = inl p.1.closed }))
+          (λ bytes image p. (p.0, record { before = p.1.before; picked = p.1.picked; outside = λ k out none. p.1.outside k out; settled = inl p.1.same; log = inl p.1.idle }))
           (entries_left size at es words s free fits (Some fault) a first.changes);
       prepared = λ e. absurd (let it : None ≡ Some fault = sym e in cc);
       done = λ e. absurd (let it : None ≡ Some fault = sym e in cc);
@@ -186,8 +188,9 @@ Commits-prepare size at es fault s b p =
     record { changes = p.changes; moments = p.moments; durable = λ e. absurd (let it : None ≡ Some fault = sym e in cc); closed = λ e. absurd (let it : None ≡ Some fault = sym e in cc) }
 
 -- the log that is replayed and closed behind them gives what the batch writes
-pub Commits-settle : (size at : ℕ) (es : List Entry) (fault : Option HostFault) (s b d : State) → AreBatched es → Prepares size at es None s b → SettlesLog at fault b d → Commits at es fault s d
-Commits-settle size at es fault s b d batched p f =
+pub Commits-settle : (size at : ℕ) (es : List Entry) (fault : Option HostFault) (s b d : State) → AreBatched es → Prepares size at es None s b → SettlesLog at fault b d
+    → Leaves (Silently (SettlesSame b.now.words at (log_of (reads b.now.words) at))) b d → Commits at es fault s d
+Commits-settle size at es fault s b d batched p f left =
     let P = Silently (IsBatched s.now.words at es) in
     let log = log_of (reads b.now.words) at in
     let prepared = p.prepared refl in
@@ -195,7 +198,7 @@ Commits-settle size at es fault s b d batched p f =
     let late = Leaves-weaker (Silently (SettlesSame b.now.words at log)) P b d
     (λ bytes image q.
     let whole = p.done refl q.1.before q.1.picked in
-    let left : (is_idle_gate (image at) ≡ true) ⊎ (log_of image at ≡ committed es) = elim q.1.gate [ inl same ↦ inr (same ∙ prepared.log) | inr closed ↦ inl closed ] in
+    let left : (is_idle_gate (image at) ≡ true) ⊎ (log_of image at ≡ committed es) = elim q.1.gate [ inl same ↦ inr (same ∙ prepared.log) | inr idle ↦ inl idle ] in
     let at_all : IsBatched s.now.words at es image = record {
       before = whole.before;
       picked = whole.picked;
@@ -203,7 +206,7 @@ Commits-settle size at es fault s b d batched p f =
       settled = inr (q.1.same ∙ whole.settled);
       log = left;
     } in
-    (q.0, at_all)) f.moments in
+    (q.0, at_all)) left in
     record {
       changes = Changes-then (ByBatch at es) fault s b d p.changes
           (Changes-wider (ByLog at (new_value device_word log)) (ByBatch at es) fault b d

@@ -50,7 +50,7 @@ module _ (size : ℕ) (s next : StoredWorld) (es : List Entry) (a : State) (batc
   apart = all_apart s.frames size es es ((standing_of_world size (reads a.now.words) s (settled.stands (reads a.now.words) (Picks-reads a.now.words))).holds Header).room batched m.allowed
 
   pub IsFree-moves : IsFree size DAEMON_LOG es a.now.words
-  IsFree-moves = record { closed = settled.closed; apart = apart }
+  IsFree-moves = record { idle = settled.idle; apart = apart }
 
   not_written : (w : ℕ) → IsUnlogged s.frames w → batch_write es w ≡ None
   not_written w none = sym (new_value-committed es w batched) ∙ new_value-allowed s.frames w (committed es) es refl m.allowed none
@@ -64,7 +64,7 @@ module _ (size : ℕ) (s next : StoredWorld) (es : List Entry) (a : State) (batc
 
   legal : (image : Image) → IsBatched a.now.words DAEMON_LOG es image → has_legal_log image ≡ true
   legal image b = elim b.log [
-    | inl closed ↦ legal_log_closed image closed
+    | inl idle ↦ legal_log_closed image idle
     | inr log ↦ has_legal_log-of image s.frames (committed es) (frames_stay image b) log m.allowed
   ]
 
@@ -131,7 +131,7 @@ module _ (size : ℕ) (s next : StoredWorld) (es : List Entry) (a : State) (batc
         moments = Leaves-weaker (Silently (IsBatched a.now.words DAEMON_LOG es)) (Silently (IsBetween size s next es a.now.words)) a b (λ bytes image p. (p.0, between image p.1)) c.moments;
         settled = λ none. record {
           stands = λ image picked. next_stands b (whole none) image picked;
-          closed = λ v has. ap is_idle_gate ((c.closed none).each v has);
+          idle = λ v has. ap is_idle_gate ((c.closed none).each v has);
         };
         done = λ none image picked. HasBatch-commits b (whole none) image picked;
       }

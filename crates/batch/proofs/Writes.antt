@@ -66,14 +66,14 @@ batch_write-apart (e ∷ es) size at k apart inside =
     ap₂ option_or (batch_write-apart es size at k (All-tail (NamesApart device_word size at) e es apart) inside)
     (value_from-apart size at k device_word e (All-head (NamesApart device_word size at) e es apart) inside)
 
--- ---- a closed log
+-- ---- a log that counts nothing
 
--- images with a closed log that are the same beside it settle the same
-pub settled_by-closed_same : (at : ℕ) (i j : Image) → is_idle_gate (i at) ≡ true → is_idle_gate (j at) ≡ true → ((w : ℕ) → is_in_log at w ≡ false → i w ≡ j w) → settled_by at i ≡ settled_by at j
-settled_by-closed_same at i j closed_i closed_j same =
+-- images whose log counts nothing, and that are the same beside it, settle the same
+pub settled_by-idle_same : (at : ℕ) (i j : Image) → is_idle_gate (i at) ≡ true → is_idle_gate (j at) ≡ true → ((w : ℕ) → is_in_log at w ≡ false → i w ≡ j w) → settled_by at i ≡ settled_by at j
+settled_by-idle_same at i j idle_i idle_j same =
     let each : (w : ℕ) → settled_by at i w ≡ settled_by at j w = λ w. elim (cases_Bool (is_in_log at w)) [
       | inl inside ↦ settled_by-inside at i w inside ∙ sym (settled_by-inside at j w inside)
-      | inr outside ↦ settled_by-closed at i w closed_i outside ∙ same w outside ∙ sym (settled_by-closed at j w closed_j outside)
+      | inr outside ↦ settled_by-closed at i w idle_i outside ∙ same w outside ∙ sym (settled_by-closed at j w idle_j outside)
     ] in
     λ p w. each w p
 
@@ -82,7 +82,7 @@ settled_by-closed_same at i j closed_i closed_j same =
 -- with it replayed the batch's words are over those of the image
 pub settled_by-committed : (size at : ℕ) (es : List Entry) (i j : Image) → AreBatched es → All (NamesApart device_word size at) es → log_of i at ≡ committed es → is_idle_gate (j at) ≡ true
     → ((w : ℕ) → is_in_log at w ≡ false → i w ≡ j w) → settled_by at i ≡ overwritten (batch_write es) (settled_by at j)
-settled_by-committed size at es i j batched apart log closed same =
+settled_by-committed size at es i j batched apart log idle same =
     let write = batch_write es in
     let each : (w : ℕ) → settled_by at i w ≡ overwritten write (settled_by at j) w = λ w. elim (cases_Bool (is_in_log at w)) [
       | inl inside ↦
@@ -91,6 +91,6 @@ settled_by-committed size at es i j batched apart log closed same =
       | inr outside ↦
           settled_by-outside at i w outside
           ∙ ap (λ (l : Log). replayed device_word l i w) log
-          ∙ ap₂ unwrap_or (new_value-committed es w batched) (same w outside ∙ sym (settled_by-closed at j w closed outside))
+          ∙ ap₂ unwrap_or (new_value-committed es w batched) (same w outside ∙ sym (settled_by-closed at j w idle outside))
     ] in
     λ p w. each w p

@@ -10,7 +10,7 @@ use Rattle.pud_defs.specs.declared.log_words.TheConstants.{REDO_SEQ, REDO_ORDER,
 use Rattle.pud_defs.specs.Image.{Image}
 use Rattle.pud_defs.specs.Entries.{Entry, Log, log_of, is_idle_gate, entries_in}
 use Rattle.pud_defs.specs.Replay.{device_word, value_at, entries_or_none, overwritten, IsInLog, is_in_log, settled_by}
-use Rattle.log_replay.specs.Replaying.{NamesApart, IsNamed, IsReplayable}
+use Rattle.log_replay.specs.Replaying.{NamesApart, IsNamed, IsReplayable, HasDurableLog}
 
 -- these values, for the words from w on
 abbrev pub batch_entry : ℕ → List ℕ → Entry
@@ -44,9 +44,13 @@ pub record IsBuffer (used : ℕ) (words : List ℕ) : Type 0 where
   pub count : used ≡ words_of (entries_spelled used words)
   pub batched : AreBatched (entries_spelled used words)
 
--- The log whose gate is this word is closed in each image, and the words of the batch lie in the device, apart from it.
+-- the log whose gate is this word counts nothing in each image
+pub record HasIdleGate (at : ℕ) (words : Words) : Type 0 where
+  pub each : (v : ℕ) → Has (values (words at)) v → IsTrue (is_idle_gate v)
+
+-- The log whose gate is this word counts nothing in each image, and the words of the batch lie in the device, apart from it.
 pub record IsFree (size at : ℕ) (es : List Entry) (words : Words) : Type 0 where
-  pub closed : (v : ℕ) → Has (values (words at)) v → IsTrue (is_idle_gate v)
+  pub idle : (v : ℕ) → Has (values (words at)) v → IsTrue (is_idle_gate v)
   pub apart : All (NamesApart device_word size at) es
 
 -- the log that was made durable and whose range counts these entries
@@ -58,7 +62,7 @@ abbrev pub ByBatch : ℕ → List Entry → Footprint
 ByBatch at es k v = IsInLog at k ⊎ IsNamed (batch_write es) k
 
 -- An image that is one of these words but in the log and in words of the batch. With the log replayed it is as it was, or has all of the
--- batch's words. The log is closed and counts no word, or its range counts the entries of the batch.
+-- batch's words. The log counts nothing, or its range counts the entries of the batch.
 pub record IsBatched (words : Words) (at : ℕ) (es : List Entry) (image : Image) : Type 0 where
   pub before : Image
   pub picked : Picks words before
@@ -66,17 +70,18 @@ pub record IsBatched (words : Words) (at : ℕ) (es : List Entry) (image : Image
   pub settled : (settled_by at image ≡ settled_by at before) ⊎ (settled_by at image ≡ overwritten (batch_write es) (settled_by at before))
   pub log : (is_idle_gate (image at) ≡ true) ⊎ (log_of image at ≡ committed es)
 
--- An image that is one of these words but in the log, which is closed, and that with the log replayed is the same.
+-- An image that is one of these words but in the log, which counts nothing, and that with the log replayed is the same.
 pub record IsUntouched (words : Words) (at : ℕ) (image : Image) : Type 0 where
   pub before : Image
   pub picked : Picks words before
   pub outside : (k : ℕ) → is_in_log at k ≡ false → image k ≡ before k
   pub same : settled_by at image ≡ settled_by at before
-  pub closed : is_idle_gate (image at) ≡ true
+  pub idle : is_idle_gate (image at) ≡ true
 
 -- the log has one value in each word that is read of it, and its range counts the entries of the batch
 pub record IsPrepared (size at : ℕ) (es : List Entry) (words : Words) : Type 0 where
-  pub replayable : IsReplayable device_word size at es words
+  pub replayable : IsReplayable device_word size at es (reads words)
+  pub durable_log : HasDurableLog at words
   pub log : log_of (reads words) at ≡ committed es
 
 -- an image of these words with the log replayed has all of the batch's words

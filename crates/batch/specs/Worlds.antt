@@ -13,10 +13,10 @@ use Rattle.pud_defs.specs.Registry.{is_allowed}
 use Rattle.pud_defs.specs.World.{StoredWorld, registry_world, world_of}
 use Rattle.batch.specs.Batches.{batch_write, committed, IsBatched, Commits}
 
--- Each image that may be left stands for this world, and the daemon log is closed in it and counts no word.
+-- Each image that may be left stands for this world, and the daemon log counts nothing in it.
 pub record IsSettled (size : ℕ) (s : StoredWorld) (words : Words) : Type 0 where
   pub stands : (image : Image) → Picks words image → world_of size image ≡ Some s
-  pub closed : (v : ℕ) → Has (values (words DAEMON_LOG)) v → is_idle_gate v ≡ true
+  pub idle : (v : ℕ) → Has (values (words DAEMON_LOG)) v → is_idle_gate v ≡ true
 
 -- the image with the daemon log replayed, and the words of these entries over it
 abbrev pub with_batch : List Entry → Image → Image

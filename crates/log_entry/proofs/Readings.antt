@@ -1,12 +1,12 @@
 -- The entry that comes next in a log, by the words that are read.
-use Rattle.std.proofs.Common.{◌≡◌, inl, inr, ℕ, suc, ◌+◌, ◌-◌, ◌<◌, ◌≤◌, ◌&&◌, true, false, cond, leb, ◌∷◌, Some, None, refl, sym, ap, ap₂, ◌∙◌, arith}
+use Rattle.std.proofs.Common.{◌≡◌, inl, inr, ℕ, suc, ◌+◌, ◌-◌, ◌<◌, ◌≤◌, ◌&&◌, true, false, cond, leb, List, ◌∷◌, ◌++◌, length, Some, None, refl, sym, ap, ap₂, ◌∙◌, arith}
 use Rattle.std.proofs.lemmas.Bool.{le-leb, lt-leb, leb-true, cond-true, cond-false, and_parts}
 use Rattle.std.proofs.lemmas.Bool.Decides.{leb_tells}
 use Rattle.pud_defs.specs.declared.layout.TheConstants.{LOG_HEADER_WORDS, LOG_ENTRY_WORDS, ENTRY_HEADER_WORDS}
 use Rattle.pud_defs.specs.Image.{Image}
-use Rattle.pud_defs.specs.Entries.{gate_used, entry_n, entry_seq, entry_order, is_legal_entry_word, entry_by, first_entry, words_from}
-use Rattle.pud_defs.proofs.Entries.{words_from-length, words_from-step, words_from-take, first_entry-few}
-use Rattle.log_entry.specs.Reading.{Reading, words_left, entry_next, entry_from}
+use Rattle.pud_defs.specs.Entries.{Entry, IsLegalEntry, gate_used, entry_n, entry_seq, entry_order, is_legal_entry_word, entry_by, first_entry, words_from}
+use Rattle.pud_defs.proofs.Entries.{words_from-length, words_from-step, words_from-add, words_from-take, first_entry-few, first_entry-spelled}
+use Rattle.log_entry.specs.Reading.{Reading, words_left, entry_next, entry_from, StandsNext}
 
 -- the first two of so many words
 two_words : (image : Image) (at n : ℕ) → 2 ≤ n → words_from image at n ≡ image at ∷ image (at + 1) ∷ words_from image (at + 2) (n - 2)
@@ -74,3 +74,16 @@ next-found image r used at word address n seq order h passes address_is n_is seq
       order = sym order_is p;
       vals = (words_from-take image (at + 2) left (entry_n word) fits ∙ ap (words_from image (at + 2)) (sym n_is)) p;
     }))
+
+-- ---- an entry that was spelled is read back
+
+pub next-spelled : (image : Image) (r : Reading) (e : Entry) → IsLegalEntry e → StandsNext image r e → entry_next image r ≡ Some e
+next-spelled image r e legal stands =
+    let left = gate_used (image r.log_at) - r.passed in
+    let at = r.log_at + LOG_HEADER_WORDS + r.passed in
+    let n = length e.vals + ENTRY_HEADER_WORDS in
+    let counted = stands.counted in
+    let split : left ≡ n + (left - n) = omega arith in
+    next-by image r stands.within
+    ∙ ap first_entry (ap (words_from image at) split ∙ words_from-add image at n (left - n) ∙ ap (λ (ws : List ℕ). ws ++ words_from image (at + n) (left - n)) stands.words)
+    ∙ first_entry-spelled e (words_from image (at + n) (left - n)) legal

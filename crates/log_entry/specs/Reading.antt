@@ -1,8 +1,8 @@
 -- How far a log was read, which entry comes next, and what is left.
-use Rattle.std.specs.Prelude.{◌≡◌, ℕ, ◌+◌, ◌-◌, ◌≤◌, ◌&&◌, nat_le, cond, List, [], ◌∷◌, Option, Some, None, option_map}
+use Rattle.std.specs.Prelude.{◌≡◌, ℕ, ◌+◌, ◌-◌, ◌≤◌, ◌&&◌, nat_le, cond, List, [], ◌∷◌, length, Option, Some, None, option_map}
 use Rattle.pud_defs.specs.declared.layout.TheConstants.{LOG_HEADER_WORDS, LOG_ENTRY_WORDS, ENTRY_HEADER_WORDS, MAX_ENTRY_VALUES}
 use Rattle.pud_defs.specs.Image.{Image}
-use Rattle.pud_defs.specs.Entries.{Entry, gate_used, is_legal_gate, words_from, first_entry, entries_in}
+use Rattle.pud_defs.specs.Entries.{Entry, gate_used, is_legal_gate, spelled, words_from, first_entry, entries_in}
 use Rattle.log_entry.specs.declared.Entry.{Entry as Found}
 
 -- the word of the log's gate, and how many entry words were read
@@ -17,6 +17,12 @@ words_left image r = words_from image (r.log_at + LOG_HEADER_WORDS + r.passed) (
 -- the entry that comes next: none where the gate counts more words than a log has
 abbrev pub entry_next : Image → Reading → Option Entry
 entry_next image r = cond (nat_le (gate_used (image r.log_at)) LOG_ENTRY_WORDS) (first_entry (words_left image r)) None
+
+-- The words that spell the entry stand behind those that were read, and the gate counts them, and no more words than a log has.
+pub record StandsNext (image : Image) (r : Reading) (e : Entry) : Type 0 where
+  pub words : words_from image (r.log_at + LOG_HEADER_WORDS + r.passed) (length e.vals + ENTRY_HEADER_WORDS) ≡ spelled e
+  pub counted : r.passed + (length e.vals + ENTRY_HEADER_WORDS) ≤ gate_used (image r.log_at)
+  pub within : gate_used (image r.log_at) ≤ LOG_ENTRY_WORDS
 
 -- the entries that are left to read, where the gate is legal and the words left spell entries wholly
 unfoldable pub entries_left : Image → Reading → Option (List Entry)

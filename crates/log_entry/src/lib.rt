@@ -16,6 +16,7 @@ ghost use Rattle.log_entry.specs.Reading.{Reading, entry_next, entries_left, ent
 ghost use Rattle.log_entry.specs.Ranges.{HasRange};
 
 mod closed;
+pub mod laws;
 
 pub use closed::is_closed_log;
 use pm_model::{Host, HostFault};
@@ -194,7 +195,7 @@ impl LogRange {
     }
 
     /// Whether no entry can count.
-    pub fn is_closed(&self) -> bool
+    pub fn counts_none(&self) -> bool
         ensures { result ≡ nat_le self.now.hi (self.now.lo + 1) }
     {
         self.hi.saturating_sub(self.lo) <= 1

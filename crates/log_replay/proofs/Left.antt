@@ -1,16 +1,15 @@
 -- Entries that are left to read, while words apart from their log are overwritten.
-use Rattle.std.proofs.Common.{◌≡◌, ◌⊎◌, inl, inr, ⊎_elim, ℕ, ◌+◌, ◌<◌, ◌≤◌, ◌&&◌, eqb, List, [], ◌∷◌, length, Option, Some, None, IsTrue, refl, sym, ap, ap₂, subst, ◌∙◌, arith}
+use Rattle.std.proofs.Common.{◌≡◌, inl, inr, ⊎_elim, ℕ, ◌&&◌, eqb, List, [], ◌∷◌, Option, Some, None, IsTrue, sym, ap, ap₂, subst, ◌∙◌, arith}
 use Rattle.std.specs.Option.{option_or}
 use Rattle.std.proofs.lemmas.Bool.{and_parts, cond-true, cond-false, cases_Bool}
 use Rattle.std.proofs.lemmas.List.Elements.{All-head, All-tail}
 use Rattle.pm_model.specs.Words.{reads}
 use Rattle.pm_model.specs.Moments.{State}
 use Rattle.pm_model.specs.Changes.{Write, Changes}
-use Rattle.pud_defs.specs.declared.layout.TheConstants.{LOG_WORDS, LOG_HEADER_WORDS, LOG_ENTRY_WORDS}
 use Rattle.pud_defs.specs.declared.log_words.TheConstants.{UNDO_ORDER, REDO_ORDER}
 use Rattle.pud_defs.specs.Image.{Image}
 use Rattle.pud_defs.specs.Entries.{Entry, Log}
-use Rattle.pud_defs.specs.Replay.{Place, is_in_range, value_at, value_from, given_by, undone, redone, over, IsInLog}
+use Rattle.pud_defs.specs.Replay.{Place, is_in_range, value_from, given_by, undone, redone, over, IsInLog}
 use Rattle.pud_defs.proofs.Entries.{words_from-same}
 use Rattle.pud_defs.proofs.Replay.{value_at-apart, undone-first, undone-none, redone-first, redone-none}
 use Rattle.log_entry.specs.declared.Entry.{Entry as Found}

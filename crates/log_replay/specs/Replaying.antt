@@ -28,13 +28,15 @@ pub record NamesApart (place : Place) (size at : ℕ) (e : Entry) : Type 0 where
 abbrev pub AreApart : Place → ℕ → ℕ → Log → List Entry → Type 0
 AreApart place size at log es = All (λ e. IsTrue (is_in_range log e) → NamesApart place size at e) es
 
--- The log whose gate is this word is well formed, with these entries, each word that is read of it has one value, and its entries in range
--- name words apart.
-pub record IsReplayable (place : Place) (size at : ℕ) (es : List Entry) (words : Words) : Type 0 where
+-- As the image spells it, the log whose gate is this word is well formed, with these entries, and those in range name words apart.
+pub record IsReplayable (place : Place) (size at : ℕ) (es : List Entry) (image : Image) : Type 0 where
+  pub spells : entries_of image at ≡ Some es
+  pub apart : AreApart place size at (log_of image at) es
+
+-- each word that is read of the log whose gate is this word has one value
+pub record HasDurableLog (at : ℕ) (words : Words) : Type 0 where
   pub gate : HasOnly (words at) (reads words at)
   pub counted : (k : ℕ) → at + LOG_HEADER_WORDS ≤ k → k < at + LOG_HEADER_WORDS + gate_used (reads words at) → HasOnly (words k) (reads words k)
-  pub spells : entries_of (reads words) at ≡ Some es
-  pub apart : AreApart place size at (log_of (reads words) at) es
 
 -- these entries are left to read, and those in range name words apart
 pub record IsLeft (place : Place) (size : ℕ) (log : Log) (r : Reading) (es : List Entry) (image : Image) : Type 0 where
@@ -68,14 +70,18 @@ pub record ReplaysSame (place : Place) (at : ℕ) (words : Words) (image : Image
   pub log : log_of image at ≡ log_of before at
   pub same : replayed place (log_of image at) image ≡ replayed place (log_of before at) before
 
--- The log is replayed: words that it names in range are overwritten, and no other; at each moment each image replays to the same, and at the
--- end the log can be replayed again. At Ok each word named has its new value and no other, and the device reads as the replayed image.
-pub record Replays (place : Place) (size at : ℕ) (es : List Entry) (fault : Option HostFault) (old new : State) : Type 0 where
+-- The log is replayed: words that it names in range are overwritten, and no other. At Ok each has its new value and no other, and the device
+-- reads as the replayed image.
+pub record Replays (place : Place) (at : ℕ) (fault : Option HostFault) (old new : State) : Type 0 where
   pub changes : Changes (Named (new_value place (log_of (reads old.now.words) at))) fault old new
-  pub moments : Leaves (Silently (ReplaysSame place at old.now.words)) old new
-  pub again : IsReplayable place size at es new.now.words
   pub durable : fault ≡ None → (k v : ℕ) → new_value place (log_of (reads old.now.words) at) k ≡ Some v → HasOnly (new.now.words k) v
   pub reads_so : fault ≡ None → reads new.now.words ≡ replayed place (log_of (reads old.now.words) at) (reads old.now.words)
+
+-- At each moment each image replays to the same, and at the end, also behind a fault, the log can be replayed again.
+pub record ReplaysAgain (place : Place) (size at : ℕ) (es : List Entry) (old new : State) : Type 0 where
+  pub moments : Leaves (Silently (ReplaysSame place at old.now.words)) old new
+  pub replayable : IsReplayable place size at es (reads new.now.words)
+  pub durable_log : HasDurableLog at new.now.words
 
 -- any value may come to the gate, which is this word, and to the words that are written
 abbrev pub ByLog : ℕ → Write → Footprint
@@ -90,10 +96,10 @@ pub record SettlesSame (words : Words) (at : ℕ) (log : Log) (image : Image) : 
   pub same : settled_by at image ≡ settled_by at before
   pub gate : (log_of image at ≡ log) ⊎ (is_idle_gate (image at) ≡ true)
 
--- The log of device words is replayed and then closed: with it replayed each image stays as it was. At Ok each word that it names has its new
--- value and no other, and the log is closed.
+-- The log of device words is replayed and then closed: words that it names in range are overwritten, and its gate, and no other. At Ok each
+-- word named has its new value and no other, the log is closed, and but for its gate the device reads as the replayed image.
 pub record SettlesLog (at : ℕ) (fault : Option HostFault) (old new : State) : Type 0 where
   pub changes : Changes (ByLog at (new_value device_word (log_of (reads old.now.words) at))) fault old new
-  pub moments : Leaves (Silently (SettlesSame old.now.words at (log_of (reads old.now.words) at))) old new
   pub durable : fault ≡ None → (k v : ℕ) → new_value device_word (log_of (reads old.now.words) at) k ≡ Some v → HasOnly (new.now.words k) v
   pub closed : fault ≡ None → HasOnly (new.now.words at) CLOSED_GATE
+  pub reads_so : fault ≡ None → (k : ℕ) → (k ≡ at → ⊥) → reads new.now.words k ≡ replayed device_word (log_of (reads old.now.words) at) (reads old.now.words) k

@@ -7,14 +7,14 @@
 ghost use Rattle.std.specs.Prelude.{◌≡◌, ◌≢◌, ◌+◌, ◌-◌, ◌<◌, ◌≤◌, ◌^◌, ℕ, List, Option, IfOk, IfSome, IsTrue, length, take};
 ghost use Rattle.pm_model.specs.Words.{reads};
 ghost use Rattle.pm_model.specs.Counts.{after_fault, fault_of};
-ghost use Rattle.pm_model.specs.Changes.{placed, Changes, Writes};
+ghost use Rattle.pm_model.specs.Changes.{placed, Changes, Writes, Leaves, Silently};
 ghost use Rattle.pud_defs.specs.declared.layout.TheConstants.{LOG_WORDS, LOG_ENTRY_WORDS, MAX_ENTRY_VALUES};
 ghost use Rattle.pud_defs.specs.declared.log_words.TheConstants.{UNDO_ORDER, REDO_ORDER};
 ghost use Rattle.pud_defs.specs.Entries.{Entry as LoggedEntry, Log, log_of, words_from};
 ghost use Rattle.pud_defs.specs.Replay.{device_word, is_in_range, given_by, undone, redone, new_value};
 ghost use Rattle.log_entry.specs.Reading.{entry_from};
 ghost use Rattle.log_entry.specs.Ranges.{HasRange};
-ghost use Rattle.log_replay.specs.Replaying.{Anything, place_of, NamesApart, IsLeft, IsReplayable, Applies, Replays, SettlesLog};
+ghost use Rattle.log_replay.specs.Replaying.{Anything, place_of, NamesApart, IsLeft, IsReplayable, HasDurableLog, Applies, Replays, ReplaysAgain, SettlesSame, SettlesLog};
 
 use log_entry::{Entry, EntryReader, LogRange};
 use pm_model::{Host, HostFault};
@@ -133,7 +133,7 @@ impl Replay {
 /// Overwrites the words that the log names, and marks them.
 fn overwrite<H: Host>(h: &mut H, log_at: u32, to: Target) -> Result<(), HostFault>
     requires { log_at + LOG_WORDS ≤ (H.counts h.old).size }
-    ensures overwrites { H.tells → (size : ℕ) → size ≡ (H.counts h.old).size → (es : List LoggedEntry) → IsReplayable (place_of to) size log_at es (H.state h.old).now.words
+    ensures overwrites { H.tells → (size : ℕ) → size ≡ (H.counts h.old).size → (es : List LoggedEntry) → IsReplayable (place_of to) size log_at es (reads (H.state h.old).now.words)
         → Applies (new_value (place_of to) (log_of (reads (H.state h.old).now.words) log_at)) (fault_of result) (H.state h.old) (H.state h.new) }
     ensures any { H.tells → Changes Anything (fault_of result) (H.state h.old) (H.state h.new) }
     ensures cause { H.counts h.new ≡ after_fault (fault_of result) (H.counts h.old) }
@@ -147,15 +147,17 @@ fn overwrite<H: Host>(h: &mut H, log_at: u32, to: Target) -> Result<(), HostFaul
 }
 
 /// Replays the log whose gate is word `log_at`: at `Ok` each word that an entry in range names has the value that the
-/// replay gives it, and no other.
+/// replay gives it, and no other, and what is read is the replayed image. No other word changes.
 ///
-/// The log lies in the device. Where it is well formed, each word that is read of it has one value, and its entries in
-/// range name words of the device apart from it, each image left meanwhile replays to the same, also where the replay is
-/// cut off; it can be done again then. The only errors are the host's own.
+/// The log lies in the device; it is well formed, and its entries in range name words of the device apart from it. Where
+/// each word that is read of it has one value, each image left meanwhile replays to the same, also where the replay is cut
+/// off; it can be done again then. The only errors are the host's own.
 pub fn replay_range<H: Host>(h: &mut H, log_at: u32, to: Target) -> Result<(), HostFault>
     requires { log_at + LOG_WORDS ≤ (H.counts h.old).size }
-    ensures replays { H.tells → (size : ℕ) → size ≡ (H.counts h.old).size → (es : List LoggedEntry) → IsReplayable (place_of to) size log_at es (H.state h.old).now.words
-        → Replays (place_of to) size log_at es (fault_of result) (H.state h.old) (H.state h.new) }
+    ensures replays { H.tells → (size : ℕ) → size ≡ (H.counts h.old).size → (es : List LoggedEntry) → IsReplayable (place_of to) size log_at es (reads (H.state h.old).now.words)
+        → Replays (place_of to) log_at (fault_of result) (H.state h.old) (H.state h.new) }
+    ensures again { H.tells → (size : ℕ) → size ≡ (H.counts h.old).size → (es : List LoggedEntry) → IsReplayable (place_of to) size log_at es (reads (H.state h.old).now.words)
+        → HasDurableLog log_at (H.state h.old).now.words → ReplaysAgain (place_of to) size log_at es (H.state h.old) (H.state h.new) }
     ensures any { H.tells → Changes Anything (fault_of result) (H.state h.old) (H.state h.new) }
     ensures cause { H.counts h.new ≡ after_fault (fault_of result) (H.counts h.old) }
 {
@@ -163,15 +165,18 @@ pub fn replay_range<H: Host>(h: &mut H, log_at: u32, to: Target) -> Result<(), H
     h.fence()
 }
 
-/// Replays the log of device words whose gate is word `log_at`, and then closes it. With the log replayed each image left
-/// meanwhile is as it was. At `Ok` the words that it names have their new values and no others, and the log is closed.
+/// Replays the log of device words whose gate is word `log_at`, and then closes it. At `Ok` the words that an entry in range
+/// names have their new values and no others, and the log is closed. No other word changes, and of the log only its gate.
 ///
-/// The log lies in the device; where it may be replayed ([`replay_range`]) and its own words stay apart. The only errors
-/// are the host's own.
+/// The log lies in the device; it may be replayed ([`replay_range`]). Where each word that is read of it has one value,
+/// each image left meanwhile is, with the log replayed, as it was. The only errors are the host's own.
 pub fn settle_log<H: Host>(h: &mut H, log_at: u32) -> Result<(), HostFault>
     requires { log_at + LOG_WORDS ≤ (H.counts h.old).size }
-    ensures settles { H.tells → (size : ℕ) → size ≡ (H.counts h.old).size → (es : List LoggedEntry) → IsReplayable device_word size log_at es (H.state h.old).now.words
+    ensures settles { H.tells → (size : ℕ) → size ≡ (H.counts h.old).size → (es : List LoggedEntry) → IsReplayable device_word size log_at es (reads (H.state h.old).now.words)
         → SettlesLog log_at (fault_of result) (H.state h.old) (H.state h.new) }
+    ensures moments { H.tells → (size : ℕ) → size ≡ (H.counts h.old).size → (es : List LoggedEntry) → IsReplayable device_word size log_at es (reads (H.state h.old).now.words)
+        → HasDurableLog log_at (H.state h.old).now.words
+        → Leaves (Silently (SettlesSame (H.state h.old).now.words log_at (log_of (reads (H.state h.old).now.words) log_at))) (H.state h.old) (H.state h.new) }
     ensures any { H.tells → Changes Anything (fault_of result) (H.state h.old) (H.state h.new) }
     ensures cause { H.counts h.new ≡ after_fault (fault_of result) (H.counts h.old) }
 {

@@ -12,21 +12,21 @@ use Rattle.pm_model.specs.Changes.{Silently}
 use Rattle.pm_model.proofs.Leaves.{Leaves-weaker}
 use Rattle.pud_defs.specs.declared.layout.TheConstants.{DAEMON_LOG, SPACE_TABLE, PUDDLE_TABLE, CLIENTS}
 use Rattle.pud_defs.specs.Image.{Image}
-use Rattle.pud_defs.specs.Entries.{Entry, Log}
+use Rattle.pud_defs.specs.Entries.{Entry, Log, is_idle_gate}
 use Rattle.pud_defs.specs.Replay.{value_at, overwritten, settled_by}
 use Rattle.pud_defs.specs.Registry.{is_allowed}
-use Rattle.pud_defs.specs.Spaces.{space_record_at}
+use Rattle.pud_defs.specs.Spaces.{space_record_at, owner_by, owner_of}
 use Rattle.pud_defs.specs.World.{StoredWorld, world_of}
-use Rattle.pud_defs.proofs.Replay.{overwritten-stays, overwritten-there, value_at-there, value_at-apart}
+use Rattle.pud_defs.proofs.Replay.{overwritten-stays, overwritten-there, value_at-there, value_at-apart, settled_by-closed, outside_log}
 use Rattle.pud_defs.proofs.Logged.{may_be_logged-table, is_allowed-there}
 use Rattle.pud_defs.proofs.Spaces.{are_legal_spaces-none, are_closed_logs-none}
 use Rattle.pud_defs.proofs.Parts.{StandsFor, standing_spaces}
 use Rattle.pud_defs.proofs.Worlds.{standing_of_world, registry_world_standing}
-use Rattle.batch.specs.Batches.{batch_entry, words_of, batch_write, committed}
+use Rattle.batch.specs.Batches.{batch_entry, words_of, batch_write, committed, IsBatched, Commits}
 use Rattle.batch.specs.Worlds.{IsSettled, with_batch, MovesBy, IsBetween, Moves}
 use Rattle.batch.proofs.Writes.{batch_write-append, batch_write-single}
 use Rattle.batch.proofs.Worlds.{stands_still}
-use Rattle.log_space.specs.Clearing.{clearing, Clears}
+use Rattle.log_space.specs.Clearing.{clearing, HasNoOwners, MayBeEmptied, Empties, Clears}
 
 -- ---- the batch
 
@@ -85,6 +85,37 @@ clearing-allowed F (suc n) log few =
     list_all-append (is_allowed F log) (clearing n) (e ∷ [])
     ∙ and_from (list_all (is_allowed F log) (clearing n)) (list_all (is_allowed F log) (e ∷ [])) (clearing-allowed F n log (omega arith))
     (and_from (is_allowed F log e) true (is_allowed-there F log e (may_be_logged-table F (space_record_at n) 1 (omega arith) (omega arith))) refl)
+
+-- ---- the table is emptied wholly or not at all
+
+-- an image whose records are free has no owner
+no_owners : (image : Image) → ((c : ℕ) → c < CLIENTS → image (space_record_at c) ≡ 0) → HasNoOwners (owner_of image)
+no_owners image free = record { each = λ c below. ap (λ (used : ℕ). owner_by used (image (space_record_at c + 1)) (image (space_record_at c + 2))) (free c below) }
+
+may_be_emptied : (words : Words) (image : Image) → IsBatched words DAEMON_LOG (clearing CLIENTS) image → MayBeEmptied words image
+may_be_emptied words image b =
+    let write = batch_write (clearing CLIENTS) in
+    record {
+      before = b.before;
+      picked = b.picked;
+      outside = b.outside;
+      table = elim b.settled [
+        | inl same ↦ inl (ap owner_of same)
+        | inr all ↦ inr (no_owners (settled_by DAEMON_LOG image) (λ c below.
+            ap (λ (i : Image). i (space_record_at c)) all ∙ overwritten-there write (settled_by DAEMON_LOG b.before) (space_record_at c) 0 (clearing-there CLIENTS c below)))
+      ];
+    }
+
+pub Empties-commits : (fault : Option HostFault) (a b : State) → Commits DAEMON_LOG (clearing CLIENTS) fault a b → Empties fault a b
+Empties-commits fault a b c = record {
+  commits = c;
+  moments = Leaves-weaker (Silently (IsBatched a.now.words DAEMON_LOG (clearing CLIENTS))) (Silently (MayBeEmptied a.now.words)) a b
+      (λ bytes image p. (p.0, may_be_emptied a.now.words image p.1)) c.moments;
+  done = λ none image picked. no_owners (settled_by DAEMON_LOG image) (λ client below.
+      let at = space_record_at client in
+      settled_by-closed DAEMON_LOG image at (ap is_idle_gate ((c.closed none).each (image DAEMON_LOG) (picked.each DAEMON_LOG))) (outside_log DAEMON_LOG at (inr (omega arith)))
+      ∙ (c.durable none at 0 (clearing-there CLIENTS client below)).each (image at) (picked.each at));
+}
 
 -- ---- the world stays
 

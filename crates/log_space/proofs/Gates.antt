@@ -97,7 +97,7 @@ pub Closes-gates : (size : ℕ) (s : StoredWorld) (slot : ℕ) (fault : Option H
 Closes-gates size s slot fault a b settled p =
     let moments = Leaves-changes (λ (image : Image). world_of size image ≡ Some s) (ByClosing s.frames slot) fault a b
     (λ before image picked from.
-    world_of-anew size slot before image s (settled.closed (before DAEMON_LOG) (picked.each DAEMON_LOG)) (settled.stands before picked) (closed_anew s.frames slot before image from))
+    world_of-anew size slot before image s (settled.idle (before DAEMON_LOG) (picked.each DAEMON_LOG)) (settled.stands before picked) (closed_anew s.frames slot before image from))
     p.changes in
     record {
       changes = p.changes;
@@ -105,8 +105,8 @@ Closes-gates size s slot fault a b settled p =
       settled = λ none. record {
         stands = λ image picked.
             (Leaves-now (Silently (λ (i : Image). world_of size i ≡ Some s)) [] a b (Changes-said (ByClosing s.frames slot) fault a b p.changes ∙ sym (append-nil a.now.said)) moments image picked).1;
-        closed = λ v had. elim (Changes-now (ByClosing s.frames slot) fault a b p.changes DAEMON_LOG v had) [
-          | inl was ↦ settled.closed v was
+        idle = λ v had. elim (Changes-now (ByClosing s.frames slot) fault a b p.changes DAEMON_LOG v had) [
+          | inl was ↦ settled.idle v was
           | inr gate ↦ absurd (let is = gate.0.is in omega arith)
         ];
       };

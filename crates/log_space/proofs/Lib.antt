@@ -1,4 +1,5 @@
 pub mod Tables
+pub mod Apart
 pub mod Writing
 pub mod Cleared
 pub mod FirstFrom

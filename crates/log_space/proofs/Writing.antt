@@ -145,7 +145,7 @@ GivesOwner-registration size s slot uid gid words settled known uid_fits gid_fit
   closed = λ image picked.
       let old = settled_by DAEMON_LOG image in
       let new = overwritten (batch_write (registration slot uid gid)) old in
-      let gate : is_idle_gate (image DAEMON_LOG) ≡ true = settled.closed (image DAEMON_LOG) (picked.each DAEMON_LOG) in
+      let gate : is_idle_gate (image DAEMON_LOG) ≡ true = settled.idle (image DAEMON_LOG) (picked.each DAEMON_LOG) in
       let same : has_closed_logs old s.frames slot ≡ has_closed_logs image s.frames slot =
       has_closed_logs-same old image s.frames slot known (λ k low high. settled_by-closed DAEMON_LOG image k gate (outside_log DAEMON_LOG k (inr (omega arith)))) in
       or_right (eqb (new (space_record_at slot)) 0) (has_closed_logs new s.frames slot)

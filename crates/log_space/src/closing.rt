@@ -45,12 +45,14 @@ fn close_gates<H: Host>(h: &mut H, frames: u32, slot: u32) -> Result<(), HostFau
 /// Closes the four logs of client `slot` durably, with one fence, whatever they held, on a device of so many frames. Nothing
 /// of them is replayed.
 ///
-/// The device has the words that so many frames need. Where each image stands for a world and the daemon log is closed in it
-/// with nothing that counts, each image left meanwhile stands for that world too. The only errors are the host's own.
+/// The device has the words that so many frames need. Whatever it holds, the four gates alone are written, and at `Ok` each has
+/// the one value of a closed log's. Where each image stands for a world, and the daemon log counts nothing in it, each image
+/// left meanwhile stands for that world too. The only errors are the host's own.
 pub fn close_logs<H: Host>(h: &mut H, frames: u32, slot: u32) -> Result<(), HostFault>
     requires few { frames ≤ MAX_FRAMES }
     requires room { device_words frames ≤ (H.counts h.old).size }
     requires known { slot < CLIENTS }
+    ensures gates { H.tells → ClosesGates frames slot (fault_of result) (H.state h.old) (H.state h.new) }
     ensures closes { H.tells → (size : ℕ) → size ≡ (H.counts h.old).size → (s : StoredWorld) → frames ≡ s.frames → IsSettled size s (H.state h.old).now.words
         → Closes size s slot (fault_of result) (H.state h.old) (H.state h.new) }
     ensures any { H.tells → Changes Anything (fault_of result) (H.state h.old) (H.state h.new) }

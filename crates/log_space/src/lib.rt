@@ -8,14 +8,15 @@ ghost use Rattle.std.specs.Prelude.{◌≡◌, ◌≢◌, ◌<◌, ◌≤◌, �
 ghost use Rattle.pm_model.specs.Words.{reads};
 ghost use Rattle.pm_model.specs.Counts.{after_fault, fault_of};
 ghost use Rattle.pm_model.specs.Changes.{Changes};
-ghost use Rattle.pud_defs.specs.declared.layout.TheConstants.{PUDDLE_TABLE, SPACE_RECORD_WORDS, CLIENTS, MAX_FRAMES, MAX_OWNER_ID};
+ghost use Rattle.pud_defs.specs.declared.layout.TheConstants.{DAEMON_LOG, PUDDLE_TABLE, SPACE_RECORD_WORDS, CLIENTS, MAX_FRAMES, MAX_OWNER_ID};
 ghost use Rattle.pud_defs.specs.Layout.{device_words};
 ghost use Rattle.pud_defs.specs.Spaces.{owner_of};
 ghost use Rattle.pud_defs.specs.World.{StoredWorld};
 ghost use Rattle.log_replay.specs.Replaying.{Anything};
+ghost use Rattle.batch.specs.Batches.{HasIdleGate, Commits};
 ghost use Rattle.batch.specs.Worlds.{IsSettled, MovesBy, Moves};
-ghost use Rattle.log_space.specs.Records.{record_batch, HasClosedLogs, Registers, Unregisters};
-ghost use Rattle.log_space.specs.Clearing.{Clears};
+ghost use Rattle.log_space.specs.Records.{record_batch, registration, unregistration, HasClosedLogs, Registers, Unregisters};
+ghost use Rattle.log_space.specs.Clearing.{clearing, Clears, Empties};
 ghost use Rattle.log_space.specs.FreeLogs.{first_closed, IsLogOf};
 
 mod closing;
@@ -24,7 +25,7 @@ use batch::Batch;
 pub use closing::close_logs;
 use log_entry::is_closed_log;
 use pm_model::{Host, HostFault};
-use pud_defs::layout::{CLIENT_LOGS, CLIENTS, SPACE_RECORD_WORDS, SPACE_TABLE, log_at};
+use pud_defs::layout::{CLIENT_LOGS, CLIENTS, LogNo, SPACE_RECORD_WORDS, SPACE_TABLE, log_at};
 
 /// Gives the first words of the record of client `slot` these values, all or none.
 fn write_record<H: Host>(h: &mut H, slot: u32, vals: &[u64]) -> Result<(), HostFault>
@@ -32,6 +33,7 @@ fn write_record<H: Host>(h: &mut H, slot: u32, vals: &[u64]) -> Result<(), HostF
     requires known { slot < CLIENTS }
     requires some { 1 ≤ length vals.now }
     requires no_more { length vals.now ≤ SPACE_RECORD_WORDS }
+    ensures commits { H.tells → HasIdleGate DAEMON_LOG (H.state h.old).now.words → Commits DAEMON_LOG (record_batch slot vals.now) (fault_of result) (H.state h.old) (H.state h.new) }
     ensures moves { H.tells → (size : ℕ) → size ≡ (H.counts h.old).size → (s next : StoredWorld) → IsSettled size s (H.state h.old).now.words
         → MovesBy size s next (record_batch slot vals.now) (H.state h.old).now.words → Moves size s next (record_batch slot vals.now) (fault_of result) (H.state h.old) (H.state h.new) }
     ensures any { H.tells → Changes Anything (fault_of result) (H.state h.old) (H.state h.new) }
@@ -44,14 +46,16 @@ fn write_record<H: Host>(h: &mut H, slot: u32, vals: &[u64]) -> Result<(), HostF
 
 /// Registers the logs of client `slot` for the owner `uid`, `gid`, by one batch.
 ///
-/// The device has the log-space table. Where each image stands for a world, the daemon log is closed in it with nothing
-/// that counts, and the client's logs are closed in it, each image left meanwhile stands for that world, with the record
-/// as it was or registered. The only errors are the host's own.
+/// The device has the log-space table. Where the daemon log counts nothing in each image, each image left meanwhile has,
+/// with that log replayed, all of the record's new words or all of the old; at `Ok` they are new and durable, and the
+/// daemon log is closed. Where each image stands for a world too, and the client's logs are closed in it, each image left
+/// meanwhile stands for that world, with the record as it was or registered. The only errors are the host's own.
 pub fn register<H: Host>(h: &mut H, slot: u32, uid: u32, gid: u32) -> Result<(), HostFault>
     requires table { PUDDLE_TABLE ≤ (H.counts h.old).size }
     requires known { slot < CLIENTS }
     requires uid_fits { uid ≤ MAX_OWNER_ID }
     requires gid_fits { gid ≤ MAX_OWNER_ID }
+    ensures commits { H.tells → HasIdleGate DAEMON_LOG (H.state h.old).now.words → Commits DAEMON_LOG (registration slot uid gid) (fault_of result) (H.state h.old) (H.state h.new) }
     ensures registers { H.tells → (size : ℕ) → size ≡ (H.counts h.old).size → (s : StoredWorld) → IsSettled size s (H.state h.old).now.words
         → HasClosedLogs s.frames slot (H.state h.old).now.words → Registers size s slot uid gid (fault_of result) (H.state h.old) (H.state h.new) }
     ensures any { H.tells → Changes Anything (fault_of result) (H.state h.old) (H.state h.new) }
@@ -62,12 +66,14 @@ pub fn register<H: Host>(h: &mut H, slot: u32, uid: u32, gid: u32) -> Result<(),
 
 /// Frees the record of client `slot`, by one batch: its logs are registered no more.
 ///
-/// The device has the log-space table. Where each image stands for a world and the daemon log is closed in it with nothing
-/// that counts, each image left meanwhile stands for that world, with the record as it was or free. The only errors are
-/// the host's own.
+/// The device has the log-space table. Where the daemon log counts nothing in each image, each image left meanwhile has,
+/// with that log replayed, the record's first word new or old; at `Ok` it is new and durable, and the daemon log is closed.
+/// Where each image stands for a world too, each image left meanwhile stands for that world, with the record as it was or
+/// free. The only errors are the host's own.
 pub fn unregister<H: Host>(h: &mut H, slot: u32) -> Result<(), HostFault>
     requires table { PUDDLE_TABLE ≤ (H.counts h.old).size }
     requires known { slot < CLIENTS }
+    ensures commits { H.tells → HasIdleGate DAEMON_LOG (H.state h.old).now.words → Commits DAEMON_LOG (unregistration slot) (fault_of result) (H.state h.old) (H.state h.new) }
     ensures unregisters { H.tells → (size : ℕ) → size ≡ (H.counts h.old).size → (s : StoredWorld) → IsSettled size s (H.state h.old).now.words
         → Unregisters size s slot (fault_of result) (H.state h.old) (H.state h.new) }
     ensures any { H.tells → Changes Anything (fault_of result) (H.state h.old) (H.state h.new) }
@@ -76,22 +82,33 @@ pub fn unregister<H: Host>(h: &mut H, slot: u32) -> Result<(), HostFault>
     write_record(h, slot, &[0])
 }
 
+/// The batch that empties the records of the clients below `count`.
+fn clearing(count: u32) -> Batch
+    requires { count ≤ CLIENTS }
+    ensures { result ≡ clearing count }
+{
+    let mut batch = Batch::new();
+    for client in 0..count {
+        let _fits = batch.add(SPACE_TABLE + SPACE_RECORD_WORDS * client, &[0]);
+    }
+    batch
+}
+
 /// Empties the log-space table by one batch: no client's logs are registered any more.
 ///
-/// The device has that table. Where each image stands for a world and the daemon log is closed in it with nothing that
-/// counts, each image left meanwhile stands for that world. The only errors are the host's own.
+/// The device has that table. Where the daemon log counts nothing in each image, each image left meanwhile has, with that
+/// log replayed, the table wholly as it was or wholly empty; at `Ok` it is empty in each image, durably, and the daemon
+/// log is closed. Where each image stands for a world too, each image left meanwhile stands for that world. The only
+/// errors are the host's own.
 pub fn clear_spaces<H: Host>(h: &mut H) -> Result<(), HostFault>
     requires { PUDDLE_TABLE ≤ (H.counts h.old).size }
+    ensures empties { H.tells → HasIdleGate DAEMON_LOG (H.state h.old).now.words → Empties (fault_of result) (H.state h.old) (H.state h.new) }
     ensures clears { H.tells → (size : ℕ) → size ≡ (H.counts h.old).size → (s : StoredWorld) → IsSettled size s (H.state h.old).now.words
         → Clears size s (fault_of result) (H.state h.old) (H.state h.new) }
     ensures any { H.tells → Changes Anything (fault_of result) (H.state h.old) (H.state h.new) }
     ensures cause { H.counts h.new ≡ after_fault (fault_of result) (H.counts h.old) }
 {
-    let mut batch = Batch::new();
-    for client in 0..CLIENTS {
-        let _fits = batch.add(SPACE_TABLE + SPACE_RECORD_WORDS * client, &[0]);
-    }
-    batch.commit(h)
+    clearing(CLIENTS).commit(h)
 }
 
 /// Whether the logs of client `slot` are registered. The device has the log-space table, and where the daemon log names words
@@ -107,11 +124,11 @@ pub fn is_registered<H: Host>(h: &mut H, slot: u32) -> Result<bool, HostFault>
     Ok(h.load(SPACE_TABLE + SPACE_RECORD_WORDS * slot)? == 1)
 }
 
-/// The lowest of the logs of client `slot` that is closed, as `4 * slot + k` for its log `k`, or None where none is, on a
-/// device of so many frames.
+/// The number of the lowest of the logs of client `slot` that is closed. None comes exactly where none of the four is.
 ///
-/// The device has the words that so many frames need. Nothing changes, and the only errors are the host's own.
-pub fn free_log<H: Host>(h: &mut H, frames: u32, slot: u32) -> Result<Option<u32>, HostFault>
+/// The device has so many frames and the words that they need; the rest of it may hold anything. Nothing changes, and the
+/// only errors are the host's own.
+pub fn free_log<H: Host>(h: &mut H, frames: u32, slot: u32) -> Result<Option<LogNo>, HostFault>
     requires few { frames ≤ MAX_FRAMES }
     requires room { device_words frames ≤ (H.counts h.old).size }
     requires known { slot < CLIENTS }

@@ -3,6 +3,9 @@
 ghost use Rattle.std.specs.Prelude.{◌≡◌, ◌<◌, ◌≤◌};
 ghost use Rattle.pud_defs.specs.Layout.{tables_end, log_at, frames_at, device_words};
 
+/// The number of a log among the 32 of a device, 0 to 31: log `k` of client `c` has the number `4 * c + k`.
+pub type LogNo = u32;
+
 /// The value of word 0 of a formatted device: the eight bytes `PUDDEV01`, lowest first.
 pub const DEVICE_MAGIC: u64 = 0x3130_5645_4444_5550;
 

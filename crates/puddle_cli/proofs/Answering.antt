@@ -1,17 +1,17 @@
 -- A script is answered line by line.
-use Rattle.std.proofs.Common.{◌≡◌, ℕ, zero, suc, ◌+◌, ◌<◌, ◌≤◌, Bool, true, false, List, [], ◌∷◌, ◌++◌, length, map, take, Option, Some, None, Result, inl, inr, refl, sym, ap, subst, ◌∙◌, arith, append_assoc, length-append}
+use Rattle.std.proofs.Common.{◌≡◌, ℕ, zero, suc, ◌+◌, ◌<◌, ◌≤◌, Bool, true, false, List, [], ◌∷◌, ◌++◌, length, map, take, Option, Some, None, Result, inl, inr, ⊎_elim, refl, sym, ap, subst, ◌∙◌, arith, append_assoc, length-append}
 use Rattle.std.proofs.lemmas.List.{append-nil, map-append}
 use Rattle.pm_model.specs.declared.host.HostFault.{HostFault}
 use Rattle.pm_model.specs.declared.host.HostFault.TheVariants as hosts
 use Rattle.pm_model.specs.Counts.{Counts, after_fault}
-use Rattle.pm_model.specs.Words.{Image}
+use Rattle.pm_model.specs.Words.{Image, reads}
 use Rattle.pm_model.specs.Moments.{State, with_script}
 use Rattle.pm_model.specs.Calls.{TakesByte}
 use Rattle.pm_model.specs.Changes.{Leaves}
 use Rattle.pm_model.proofs.Leaves.{Leaves-then, Leaves-still}
 use Rattle.pud_defs.specs.declared.layout.TheConstants.{SCRIPT_LIMIT}
 use Rattle.pud_defs.specs.declared.machine.Command.{Command}
-use Rattle.pud_defs.specs.World.{World}
+use Rattle.pud_defs.specs.World.{World, world_of}
 use Rattle.pud_defs.specs.Grammar.{command_of}
 use Rattle.pud_defs.specs.Step.{answer_by, world_by}
 use Rattle.pud_defs.specs.Run.{Turn, IsTurn, cuts_of, IsRun, last_world, newlines, open_rest, lines_taken, lines_among}
@@ -26,11 +26,11 @@ use Rattle.pud_defs.proofs.Said.{replies_text-append}
 use Rattle.pud_defs.proofs.Stands.{StandsAfter-more, StandsWith-later}
 use Rattle.puddled.specs.declared.daemon.RunFault.{RunFault}
 use Rattle.puddled.specs.declared.daemon.RunFault.TheVariants.{NotSound}
-use Rattle.puddled.specs.Faults.{of_host, run_fault, CountsLine, CountsTurns}
-use Rattle.puddled.proofs.Counted.{none_is_sound, CountsTurns-one, CountsTurns-append}
+use Rattle.puddled.specs.Faults.{of_host, run_fault, CountsLine, CountsTurns, Grows}
+use Rattle.puddled.proofs.Counted.{risen_grows, none_is_sound, lost_in_line, CountsTurns-one, CountsTurns-append}
 use Rattle.puddled.specs.Memory.{Memory}
 use Rattle.puddled.specs.Daemon.{KeepsLine, IsReady, SaysPart, Answers}
-use Rattle.puddle_cli.specs.Serving.{KeepsScript, Takes, TakesAtMost, TakesAll, CountsPending, AnswersLine, Serves, Answered}
+use Rattle.puddle_cli.specs.Serving.{KeepsScript, IsUnsoundBehindLoss, Takes, TakesAtMost, TakesAll, CountsPending, AnswersLine, Serves, Answered}
 
 nothing_from_take : (line : List ℕ) → take 129 line ≡ [] → line ≡ []
 nothing_from_take [] e = refl
@@ -366,6 +366,23 @@ TakesAll-end count start now below none_left t =
 pub TakesAtMost-behind : (most : ℕ) (start mid now : State) → mid.script ≡ start.script → mid.shelf ≡ start.shelf → TakesAtMost most mid now → TakesAtMost most start now
 TakesAtMost-behind most start mid now script shelf t =
     record { taken = t.taken; counted = t.counted; script = sym script ∙ t.script; files = KeepsUnwritable-then start.shelf mid.shelf now.shelf (KeepsUnwritable-still start.shelf mid.shelf shelf) t.files }
+
+-- ---- a device that is not sound, whatever it held
+
+pub unsound_line : (command : Option Command) (fault : RunFault) (before after : Counts) (now : State) → CountsLine command (Some fault) 0 before after
+    → (fault ≡ NotSound → world_of before.size (reads now.now.words) ≡ None) → fault ≡ NotSound → IsUnsoundBehindLoss before after now
+unsound_line command fault before after now counted unsound is =
+    record { lost = lost_in_line command 0 before after (subst (λ (f : RunFault). CountsLine command (Some f) 0 before after) is counted); unsound = unsound is }
+
+-- behind lines that went on
+pub unsound_behind : (a b c : Counts) (now : State) → Grows a b → IsUnsoundBehindLoss b c now → IsUnsoundBehindLoss a c now
+unsound_behind a b c now grew u = record {
+  lost = ⊎_elim
+      (λ cuts. inl (let more = risen_grows a.cuts b.cuts grew.cuts in omega arith))
+      (λ losses. inr (let more = risen_grows a.losses b.losses grew.losses in omega arith))
+      u.lost;
+  unsound = subst (λ (n : ℕ). world_of n (reads now.now.words) ≡ None) grew.size u.unsound;
+}
 
 -- what the loop over the script rests on
 pub ruleset taking = (KeepsScript-still, KeepsScript-line, Takes-start, Takes-same, Takes-kept, TakesAtMost-takes, TakesAll-end)

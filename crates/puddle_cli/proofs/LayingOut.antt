@@ -18,7 +18,7 @@ use Rattle.pud_defs.specs.Registry.{has_magic}
 use Rattle.pud_defs.specs.World.{IsBlank}
 use Rattle.pud_defs.proofs.Images.{written_there, written_other}
 use Rattle.type_maps.proofs.OneWord.{image_of_one, image_after_one}
-use Rattle.puddle_cli.specs.Formatting.{HasNoMagic, BelowFrames, LaysOut}
+use Rattle.puddle_cli.specs.Formatting.{HasNoMagic, BelowFrames, IsLaidOut, LaysOut}
 
 -- the words that describe the device, from word 1 on
 abbrev pub header : ℕ → ℕ → List ℕ
@@ -61,15 +61,7 @@ module _ (F id : ℕ) where
       ]))) p.changes
 
   -- all words are in place but the magic
-  pub record IsReadyForMagic (words : Words) : Type 0 where
-    pub magic : HasOnly (words MAGIC_WORD) 0
-    pub version : HasOnly (words VERSION_WORD) VERSION
-    pub machine : HasOnly (words MACHINE_WORD) id
-    pub frames : HasOnly (words FRAMES_WORD) F
-    pub number : HasOnly (words NEXT_NUMBER_WORD) 1
-    pub rest : (k : ℕ) → NEXT_NUMBER_WORD < k → k < frames_at F → HasOnly (words k) 0
-
-  described : (s t u : State) → Persists (zeroed 0 (frames_at F)) None s t → Persists (placed VERSION_WORD (header F id)) None t u → IsReadyForMagic u.now.words
+  described : (s t u : State) → Persists (zeroed 0 (frames_at F)) None s t → Persists (placed VERSION_WORD (header F id)) None t u → IsLaidOut 0 F id u.now.words
   described s t u first second =
       let zero = zeroed_words s t first in
       let kept : (k : ℕ) → (k ≡ 0) ⊎ (4 < k) → k < frames_at F → HasOnly (u.now.words k) 0 = λ k outside below.
@@ -84,7 +76,7 @@ module _ (F id : ℕ) where
       }
 
   -- with the magic the device is blank
-  blank_with_magic : (words : Words) (before : Image) → IsReadyForMagic words → Picks words before → IsBlank F id (written MAGIC_WORD DEVICE_MAGIC before)
+  blank_with_magic : (words : Words) (before : Image) → IsLaidOut 0 F id words → Picks words before → IsBlank F id (written MAGIC_WORD DEVICE_MAGIC before)
   blank_with_magic words before ready picked =
       record {
         magic = written_there MAGIC_WORD DEVICE_MAGIC before;
@@ -96,7 +88,7 @@ module _ (F id : ℕ) where
       }
 
   -- while the magic is written
-  finishing : (fault : Option HostFault) (s t : State) → IsReadyForMagic s.now.words → Persists (only MAGIC_WORD DEVICE_MAGIC) fault s t → Leaves (Silently (IsOnTheWay F id)) s t
+  finishing : (fault : Option HostFault) (s t : State) → IsLaidOut 0 F id s.now.words → Persists (only MAGIC_WORD DEVICE_MAGIC) fault s t → Leaves (Silently (IsOnTheWay F id)) s t
   finishing fault s t ready p =
       Leaves-changes (IsOnTheWay F id) (may_be_written (only MAGIC_WORD DEVICE_MAGIC)) fault s t
       (λ before image picked from. elim (image_of_one MAGIC_WORD DEVICE_MAGIC before image from) [
@@ -118,7 +110,7 @@ module _ (F id : ℕ) where
       Leaves-then (Silently P) (Silently P) (Silently P) [] a b c (Changes-said may None a b changes ∙ sym (append-nil a.now.said)) (λ front image h. h) (λ more image h. h) p q
 
   -- a word below the frames that the magic is not written to has one value
-  below_frames : (u v : State) → IsReadyForMagic u.now.words → ((k : ℕ) → (k ≡ MAGIC_WORD → ⊥) → (x : ℕ) → HasOnly (u.now.words k) x → HasOnly (v.now.words k) (v.now.words k).newest)
+  below_frames : (u v : State) → IsLaidOut 0 F id u.now.words → ((k : ℕ) → (k ≡ MAGIC_WORD → ⊥) → (x : ℕ) → HasOnly (u.now.words k) x → HasOnly (v.now.words k) (v.now.words k).newest)
       → (k : ℕ) → (k ≡ MAGIC_WORD → ⊥) → k < frames_at F → HasOnly (v.now.words k) (v.now.words k).newest
   below_frames u v ready still k apart below = ⊎_elim
       (λ behind. still k apart 0 (ready.rest k behind below))
@@ -143,6 +135,7 @@ module _ (F id : ℕ) where
       record {
         changes = Changes-wider _ _ (Some fault) s t zeroed_below p.changes;
         moments = λ none. zeroing (Some fault) s t p none;
+        laid = λ e. absurd (faulty fault e);
         blank = λ e. absurd (faulty fault e);
         rested = λ e. absurd (faulty fault e);
       }
@@ -153,6 +146,7 @@ module _ (F id : ℕ) where
       record {
         changes = Changes-then _ (Some fault) s t u (Changes-wider _ _ None s t zeroed_below first.changes) (Changes-wider _ _ (Some fault) t u header_below second.changes);
         moments = λ none. silent (IsOnTheWay F id) _ s t u first.changes (zeroing None s t first none) (describing (Some fault) t u (zeroed_words s t first MAGIC_WORD (omega arith)) second);
+        laid = λ e. absurd (faulty fault e);
         blank = λ e. absurd (faulty fault e);
         rested = λ e. absurd (faulty fault e);
       }
@@ -164,13 +158,23 @@ module _ (F id : ℕ) where
       let two = Changes-then _ None s t u (Changes-wider _ _ None s t zeroed_below first.changes) (Changes-wider _ _ None t u header_below second.changes) in
       let ready = described s t u first second in
       let changes = Changes-then _ fault s u v two (Changes-wider _ _ fault u v magic_below third.changes) in
+      let other : (k x : ℕ) → (k ≡ MAGIC_WORD → ⊥) → HasOnly (u.now.words k) x → HasOnly (v.now.words k) x = λ k x apart one.
+      HasOnly-kept _ fault u v k x third.changes (λ y may. apart (only_at MAGIC_WORD DEVICE_MAGIC k y may)) one in
       let still : (k : ℕ) → (k ≡ MAGIC_WORD → ⊥) → (x : ℕ) → HasOnly (u.now.words k) x → HasOnly (v.now.words k) (v.now.words k).newest = λ k apart x one.
-      HasOnly-own (v.now.words k) x (HasOnly-kept _ fault u v k x third.changes (λ y may. apart (only_at MAGIC_WORD DEVICE_MAGIC k y may)) one) in
+      HasOnly-own (v.now.words k) x (other k x apart one) in
       record {
         changes = changes;
         moments = λ none. silent (IsOnTheWay F id) _ s u v two
             (silent (IsOnTheWay F id) _ s t u first.changes (zeroing None s t first none) (describing None t u (zeroed_words s t first MAGIC_WORD (omega arith)) second))
             (finishing fault u v ready third);
+        laid = λ e. record {
+          magic = third.durable e MAGIC_WORD DEVICE_MAGIC refl;
+          version = other VERSION_WORD VERSION (λ no. absurd (omega arith)) ready.version;
+          machine = other MACHINE_WORD id (λ no. absurd (omega arith)) ready.machine;
+          frames = other FRAMES_WORD F (λ no. absurd (omega arith)) ready.frames;
+          number = other NEXT_NUMBER_WORD 1 (λ no. absurd (omega arith)) ready.number;
+          rest = λ k behind below. other k 0 (λ no. absurd (omega arith)) (ready.rest k behind below);
+        };
         blank = λ e image picked.
             let w = image_after_one MAGIC_WORD DEVICE_MAGIC u v image (subst (λ (f : Option HostFault). Persists (only MAGIC_WORD DEVICE_MAGIC) f u v) e third) picked in
             subst (λ (f : Image). IsBlank F id f) (sym w.is) (blank_with_magic u.now.words w.before ready w.picked);

@@ -15,21 +15,21 @@ use Rattle.pud_defs.specs.World.{World, StoredWorld, no_clients, world_of, close
 use Rattle.pud_defs.specs.Run.{Turn, cuts_of, last_world, newlines}
 use Rattle.pud_defs.specs.Texts.{start_text, replies_text}
 use Rattle.pud_defs.specs.Stands.{StandsWith, StandsBehindStart}
-use Rattle.pud_defs.proofs.Changing.{KeepsFiles-still, KeepsFiles-none, no_file_in, shelf_of_turns}
+use Rattle.pud_defs.proofs.Changing.{KeepsFiles-still, KeepsUnwritable-still, KeepsUnwritable-then, KeepsUnwritable-none}
 use Rattle.pud_defs.proofs.Lines.{newlines-append, newlines_part, lines_taken-nothing}
 use Rattle.pud_defs.proofs.Said.{newlines-start_text}
 use Rattle.puddled.specs.declared.daemon.RunFault.{RunFault}
 use Rattle.puddled.specs.declared.daemon.RunFault.TheVariants as faults
 use Rattle.puddled.specs.Faults.{RoseBy, last_fault, is_loss, CountsTurns}
-use Rattle.puddled.proofs.Counted.{risen_by-least, RoseBy-then, CountsTurns-cuts, rose_in_line, lost_in_line, lost_in_restart, cuts_after_fault}
+use Rattle.puddled.proofs.Counted.{risen_by-least, RoseBy-then, CountsTurns-cuts, rose_in_line, two_cuts_in_line, cut_in_restart, cuts_after_fault}
 use Rattle.puddled.specs.declared.daemon.StartFault.{StartFault}
 use Rattle.puddled.specs.declared.daemon.StartFault.TheVariants as starts
 use Rattle.puddled.specs.Memory.{Memory}
-use Rattle.puddled.specs.Daemon.{IsReady, Starts}
+use Rattle.puddled.specs.Daemon.{KeepsRest, IsReady, Starts}
 use Rattle.puddle_cli.specs.declared.status.TheConstants.{DONE, POWER_LOST, TOO_LONG}
 use Rattle.puddle_cli.specs.Status.{status_fault, run_fault_at, status_at, IsStatusOfMode}
-use Rattle.puddle_cli.specs.Serving.{CountsPending, file_under_way, Answered, AnsweredBy}
-use Rattle.puddle_cli.specs.Headline.{Headline}
+use Rattle.puddle_cli.specs.Serving.{TakesBy, CountsPending, Answered, AnsweredBy}
+use Rattle.puddle_cli.specs.Headline.{TakesScript, Headline}
 use Rattle.puddle_cli.proofs.Statuses.{not_whole_of, fault_at_status, not_whole_at}
 
 -- ---- the counts of all lines, and of what ended the run
@@ -44,9 +44,9 @@ rose_pending (t ∷ turns) fault a b c =
     let least = risen_by-least (cuts_of (t ∷ [])) a.cuts in
     omega arith
 
-lost_pending : (pending : List Turn) (a b : Counts) → CountsPending pending (Some faults.CutInStart) a b → RoseBy 1 a.cuts b.cuts
-lost_pending [] a b c = absurd (c.0 refl)
-lost_pending (t ∷ turns) a b c = lost_in_restart (command_of t.line) (cuts_of (t ∷ [])) a b c
+cut_pending : (pending : List Turn) (a b : Counts) → CountsPending pending (Some faults.CutInStart) a b → RoseBy 1 a.cuts b.cuts
+cut_pending [] a b c = absurd (c.0 refl)
+cut_pending (t ∷ turns) a b c = cut_in_restart (command_of t.line) (cuts_of (t ∷ [])) a b c
 
 module _ (answered pending : List Turn) (fault : Option RunFault) (before mid after : Counts) (turns : CountsTurns answered before mid) (last : CountsPending pending fault mid after) where
   rose_in_all : RoseBy (cuts_of answered) before.cuts after.cuts
@@ -58,12 +58,12 @@ module _ (answered pending : List Turn) (fault : Option RunFault) (before mid af
   rose_at_end : fault ≡ Some faults.CutInStart → RoseBy (1 + cuts_of answered) before.cuts after.cuts
   rose_at_end lost =
       RoseBy-then (cuts_of answered) 1 before.cuts mid.cuts after.cuts (CountsTurns-cuts answered before mid turns)
-      (lost_pending pending mid after (subst (λ (f : Option RunFault). CountsPending pending f mid after) lost last))
+      (cut_pending pending mid after (subst (λ (f : Option RunFault). CountsPending pending f mid after) lost last))
 
   rose_twice_at_end : fault ≡ Some faults.CutInStart → (t : Turn) → pending ≡ t ∷ [] → is_loss (command_of t.line) ≡ false → RoseBy (2 + cuts_of answered) before.cuts after.cuts
   rose_twice_at_end lost t is other =
       RoseBy-then (cuts_of answered) 2 before.cuts mid.cuts after.cuts (CountsTurns-cuts answered before mid turns)
-      (lost_in_line (command_of t.line) (cuts_of (t ∷ [])) mid after other
+      (two_cuts_in_line (command_of t.line) (cuts_of (t ∷ [])) mid after other
       (subst (λ (p : List Turn). CountsPending p (Some faults.CutInStart) mid after) is (subst (λ (f : Option RunFault). CountsPending pending f mid after) lost last)))
 
 -- a rested device whose words stand for the world is one to start on
@@ -228,12 +228,58 @@ module _ (size : ℕ) (begun after : Counts) (memory : Memory) (start mid now : 
       let w : World = record { stored = s; clients = no_clients; shelf = start.shelf } in
       (answers w (begins w stands refl).ready).1.sound unsound
 
--- no line of today writes a file
-no_file_under_way : (pending : List Turn) → file_under_way pending ≡ None
-no_file_under_way [] = refl
-no_file_under_way (t ∷ turns) = no_file_in (command_of t.line)
+-- ---- the bytes taken, whatever the device holds
 
--- so the shelf stays
-pub shelf_stays : (size : ℕ) (w : World) (status : ℕ) (before after : Counts) (start end : State) → Headline size w status before after start end → end.shelf ≡ w.shelf
-shelf_stays size w status before after start end h =
-    KeepsFiles-none (file_under_way h.run.pending) (last_world w h.run.answered).shelf end.shelf (no_file_under_way h.run.pending) h.exit.files ∙ shelf_of_turns w h.run.answered h.run.pending h.run.is_run
+-- before the start was said whole nothing is taken
+pub TakesScript-unstarted : (status : ℕ) (start end : State) → KeepsRest start end → (run_fault_at status ≡ None → ⊥) → TakesScript status start end
+TakesScript-unstarted status start end kept faulty = record {
+  taken = [];
+  script = sym kept.script;
+  within = omega arith;
+  done = λ is. absurd (faulty (ap run_fault_at is));
+  too_long = λ is. absurd (faulty (ap run_fault_at is));
+  exact = λ none. absurd (faulty none);
+  files = KeepsUnwritable-still start.shelf end.shelf kept.shelf;
+  shelf = kept.shelf;
+}
+
+-- behind it what the loop over the script took
+pub TakesScript-served : (served : Result Bool RunFault) (start mid end : State) → KeepsRest start mid → TakesBy served mid end → TakesScript (status_by served) start end
+TakesScript-served (Ok true) start mid end kept t =
+    let files = KeepsUnwritable-then start.shelf mid.shelf end.shelf (KeepsUnwritable-still start.shelf mid.shelf kept.shelf) t.files in
+    let below = t.below in
+    record {
+      taken = t.taken;
+      script = sym kept.script ∙ t.script;
+      within = omega arith;
+      done = λ _. (t.none_left, t.below);
+      too_long = λ is. absurd (let no : DONE ≡ TOO_LONG = is in cc);
+      exact = λ _. (λ is. absurd (let no : DONE ≡ TOO_LONG = is in cc), λ all. absurd (omega arith));
+      files = files;
+      shelf = KeepsUnwritable-none start.shelf end.shelf files;
+    }
+TakesScript-served (Ok false) start mid end kept t =
+    let files = KeepsUnwritable-then start.shelf mid.shelf end.shelf (KeepsUnwritable-still start.shelf mid.shelf kept.shelf) t.files in
+    let counted = t.counted in
+    record {
+      taken = t.taken;
+      script = sym kept.script ∙ t.script;
+      within = omega arith;
+      done = λ is. absurd (let no : TOO_LONG ≡ DONE = is in cc);
+      too_long = λ _. t.counted;
+      exact = λ _. (λ _. t.counted, λ _. refl);
+      files = files;
+      shelf = KeepsUnwritable-none start.shelf end.shelf files;
+    }
+TakesScript-served (Err fault) start mid end kept t =
+    let files = KeepsUnwritable-then start.shelf mid.shelf end.shelf (KeepsUnwritable-still start.shelf mid.shelf kept.shelf) t.files in
+    record {
+      taken = t.taken;
+      script = sym kept.script ∙ t.script;
+      within = t.counted;
+      done = λ is. absurd (not_whole_at fault DONE refl is);
+      too_long = λ is. absurd (not_whole_at fault TOO_LONG refl is);
+      exact = λ none. absurd (not_whole_at fault (status_at fault) none refl);
+      files = files;
+      shelf = KeepsUnwritable-none start.shelf end.shelf files;
+    }

@@ -65,7 +65,7 @@ module _ (old new : Counts) where
   Causes-run faults.Failed c = Causes-failed c.before c.grows c.last
   Causes-run faults.CutInStart c =
       let cuts : new.cuts ≡ c.before.cuts = ap (λ (x : Counts). x.cuts) c.last in
-      let rose = c.lost in
+      let rose = c.cuts in
       Causes-grows POWER_LOST (λ f. let no : POWER_LOST ≡ DEVICE_FAULT = f in cc) (λ _. omega arith) (subst (λ (x : Counts). Grows old x) (sym c.last) c.grows)
   Causes-run faults.NotSound c =
       Causes-grows NOT_USABLE (λ f. let no : NOT_USABLE ≡ DEVICE_FAULT = f in cc) (λ f. absurd (let no : NOT_USABLE ≡ POWER_LOST = f in cc)) (subst (λ (x : Counts). Grows old x) (sym c.last) c.grows)
@@ -114,3 +114,12 @@ not_whole_of status fault (inr (inl refused)) is none = absurd (let it : None �
 not_whole_of status fault (inr (inr (inl failed))) is none = absurd (let it : Some faults.Failed ≡ None = ap run_fault_at (sym failed) ∙ none in cc)
 not_whole_of status fault (inr (inr (inr (inl cut)))) is none = absurd (let it : Some faults.CutInStart ≡ None = ap run_fault_at (sym cut) ∙ none in cc)
 not_whole_of status fault (inr (inr (inr (inr long)))) is none = absurd (let it : None ≡ Some fault = ap status_fault (sym long) ∙ is in cc)
+
+-- a host's fault is not told as a device that is not usable
+pub fault_is_usable : (status : ℕ) (fault : HostFault) → status_fault status ≡ Some fault → status ≡ NOT_USABLE → ⊥
+fault_is_usable status fault is unusable = let no : None ≡ Some fault = ap status_fault (sym unusable) ∙ is in cc
+
+pub unsound_by : (fault : RunFault) → status_at fault ≡ NOT_USABLE → fault ≡ faults.NotSound
+unsound_by faults.Failed is = absurd (let no : DEVICE_FAULT ≡ NOT_USABLE = is in cc)
+unsound_by faults.CutInStart is = absurd (let no : POWER_LOST ≡ NOT_USABLE = is in cc)
+unsound_by faults.NotSound is = refl

@@ -1,16 +1,18 @@
 -- What formatting leaves and says, at every moment.
-use Rattle.std.specs.Prelude.{◌≡◌, ◌≢◌, ◌⊎◌, ℕ, ◌<◌, Bool, false, ◌||◌, nat_lt, List, [], Option, Some, None}
+use Rattle.std.specs.Prelude.{◌≡◌, ◌≢◌, ◌⊎◌, ℕ, ◌<◌, ◌≤◌, Bool, false, ◌||◌, nat_lt, List, [], Option, Some, None}
 use Rattle.pm_model.specs.declared.host.HostFault.{HostFault}
-use Rattle.pm_model.specs.Words.{Has, values, Words, Picks, IsRested, reads}
+use Rattle.pm_model.specs.declared.host.HostFault.TheVariants.{Cut}
+use Rattle.pm_model.specs.Words.{Has, values, Words, Picks, HasOnly, IsRested, reads}
 use Rattle.pm_model.specs.Moments.{State, MayLeave}
-use Rattle.pm_model.specs.Changes.{Changes, Leaves, Silently}
-use Rattle.pud_defs.specs.declared.layout.TheConstants.{DEVICE_MAGIC, MAGIC_WORD}
+use Rattle.pm_model.specs.Changes.{IsKept, Changes, Leaves, Silently}
+use Rattle.pud_defs.specs.declared.layout.TheConstants.{DEVICE_MAGIC, VERSION, MAGIC_WORD, VERSION_WORD, MACHINE_WORD, FRAMES_WORD, NEXT_NUMBER_WORD}
 use Rattle.pud_defs.specs.Layout.{frames_at, device_words}
 use Rattle.pud_defs.specs.Image.{Image}
 use Rattle.pud_defs.specs.Registry.{has_magic}
 use Rattle.pud_defs.specs.World.{world_of, blank_world, IsBlank}
 use Rattle.pud_defs.specs.Texts.{formatted_text}
 use Rattle.puddled.specs.Daemon.{SaysPart}
+use Rattle.puddle_cli.specs.declared.format.TheConstants.{FIRST_NUMBER}
 
 -- formatting is refused: the device is formatted already, or has too few words
 abbrev pub is_refused : (size F : ℕ) → Image → Bool
@@ -24,22 +26,44 @@ pub record HasNoMagic (words : Words) : Type 0 where
 abbrev pub BelowFrames : ℕ → ℕ → ℕ → Type 0
 BelowFrames F k v = k < frames_at F
 
+-- Each word below the frames has one value and no other: word 0 this one, the words behind it what describes the device, all others 0.
+pub record IsLaidOut (first F id : ℕ) (words : Words) : Type 0 where
+  pub magic : HasOnly (words MAGIC_WORD) first
+  pub version : HasOnly (words VERSION_WORD) VERSION
+  pub machine : HasOnly (words MACHINE_WORD) id
+  pub frames : HasOnly (words FRAMES_WORD) F
+  pub number : HasOnly (words NEXT_NUMBER_WORD) FIRST_NUMBER
+  pub rest : (k : ℕ) → NEXT_NUMBER_WORD < k → k < frames_at F → HasOnly (words k) 0
+
+-- each word of the image from the frames on is one of these words' values
+pub record HasFramesOf (F : ℕ) (words : Words) (image : Image) : Type 0 where
+  pub each : (k : ℕ) → frames_at F ≤ k → Has (values (words k)) (image k)
+
+-- No word from the frames on gets a value, at any moment; where power was not lost each is as it was.
+pub record KeepsFrames (F : ℕ) (fault : Option HostFault) (old new : State) : Type 0 where
+  pub within : (said : List ℕ) (image : Image) → MayLeave old new said image → HasFramesOf F old.now.words image
+  pub kept : fault ≢ Some Cut → (k : ℕ) → frames_at F ≤ k → IsKept (old.now.words k) (new.now.words k)
+
 -- The words below the frames are laid out. Where no value of word 0 was the magic, each image left at any moment is without it, or is that of
--- the blank device; without a fault each image left is that of the blank device, and a rested device stays rested.
+-- the blank device; without a fault each word below the frames has its one value, each image left is that of the blank device, and a rested
+-- device stays rested.
 pub record LaysOut (F id : ℕ) (fault : Option HostFault) (old new : State) : Type 0 where
   pub changes : Changes (BelowFrames F) fault old new
   pub moments : HasNoMagic old.now.words → Leaves (Silently (λ image. (has_magic image ≡ false) ⊎ IsBlank F id image)) old new
+  pub laid : fault ≡ None → IsLaidOut DEVICE_MAGIC F id new.now.words
   pub blank : fault ≡ None → (image : Image) → Picks new.now.words image → IsBlank F id image
   pub rested : fault ≡ None → IsRested old.now.words → IsRested new.now.words
 
 -- A device was formatted. Where it was rested and without the magic, each image left at any moment is not sound or stands for the empty world;
--- on a rested device, once a byte was said, each image left stands for it. Without a fault the text is whole, what the device reads stands for
--- the empty world, and a rested device stays rested.
+-- on a rested device, once a byte was said, each image left stands for it. No word from the frames on gets a value. Without a fault the text is
+-- whole, each word below the frames has its one value, what the device reads stands for the empty world, and a rested device stays rested.
 pub record Formats (size F id : ℕ) (fault : Option HostFault) (old new : State) : Type 0 where
   pub says : SaysPart formatted_text fault old new
   pub moments : IsRested old.now.words → has_magic (reads old.now.words) ≡ false → (said : List ℕ) (image : Image) → MayLeave old new said image
       → (world_of size image ≡ None) ⊎ (world_of size image ≡ Some (blank_world F id))
   pub acknowledged : IsRested old.now.words → (said : List ℕ) (image : Image) → MayLeave old new said image → (said ≡ []) ⊎ (world_of size image ≡ Some (blank_world F id))
+  pub frames : KeepsFrames F fault old new
+  pub laid : fault ≡ None → IsLaidOut DEVICE_MAGIC F id new.now.words
   pub world : fault ≡ None → world_of size (reads new.now.words) ≡ Some (blank_world F id)
   pub rested : fault ≡ None → IsRested old.now.words → IsRested new.now.words
   pub script : new.script ≡ old.script

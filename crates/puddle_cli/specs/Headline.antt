@@ -1,5 +1,5 @@
 -- What the program says and leaves over a script, for one and the same run of the machine.
-use Rattle.std.specs.Prelude.{◌≡◌, ℕ, ◌+◌, ◌<◌, ◌≤◌, Bool, true, false, List, [], ◌∷◌, ◌++◌, length, map, Some, None}
+use Rattle.std.specs.Prelude.{◌≡◌, ◌↔◌, ℕ, ◌+◌, ◌<◌, ◌≤◌, Bool, true, false, List, [], ◌∷◌, ◌++◌, length, map, Some, None}
 use Rattle.pm_model.specs.Words.{Picks}
 use Rattle.pm_model.specs.Counts.{Counts, after_fault}
 use Rattle.pm_model.specs.Moments.{State, MayLeave}
@@ -17,14 +17,17 @@ use Rattle.puddled.specs.Faults.{RoseBy, is_loss, CountsTurns}
 use Rattle.puddle_cli.specs.Status.{status_fault, run_fault_at}
 use Rattle.puddle_cli.specs.Serving.{CountsPending, file_under_way}
 
--- Bytes of the script were taken: all of them at status 0, and 2^20 at status 7. Each file that no line may write is as it was.
+-- Bytes of the script were taken: all of them, and fewer than 2^20, at status 0; 2^20 at status 7, and of a run that could go on to its end only
+-- there. Each file that no line may write is as it was; no line of today may write one, so the shelf is.
 pub record TakesScript (status : ℕ) (start end : State) : Type 0 where
   pub taken : List ℕ
   pub script : start.script ≡ taken ++ end.script
   pub within : length taken ≤ SCRIPT_LIMIT
   pub done : status ≡ DONE → (end.script ≡ []) × (length taken < SCRIPT_LIMIT)
   pub too_long : status ≡ TOO_LONG → length taken ≡ SCRIPT_LIMIT
+  pub exact : run_fault_at status ≡ None → (status ≡ TOO_LONG) ↔ (length taken ≡ SCRIPT_LIMIT)
   pub files : KeepsUnwritable start.shelf end.shelf
+  pub shelf : end.shelf ≡ start.shelf
 
 -- One run of the machine over a script: whether the start was said whole, before which nothing is taken; the bytes taken, whether their end was
 -- read, and the lines that they are, some of them answered and at most one without a whole reply.
@@ -69,7 +72,7 @@ pub record RunMoments (size : ℕ) (w : World) (start end : State) (run : Script
 
 -- What was counted in a run. Within the start it is the host's one fault. Behind it each line answered is counted by its command and its reply:
 -- only there a cut is armed, or power lost at once, and no such line is answered `cut`; and the line under way is counted by its command and by
--- how it ended. Power was lost in each line whose reply is `cut`, at status 6 once more, and twice more where a line that asks for no power loss
+-- how it ended. A cut is counted for each line whose reply is `cut`, at status 6 one more, and two more where a line that asks for no power loss
 -- was left without a reply.
 pub record RunCounts (w : World) (status : ℕ) (before after : Counts) (start end : State) (run : ScriptRun w start end) : Type 0 where
   pub mid : Counts

@@ -1,10 +1,11 @@
 -- How far a script was answered.
-use Rattle.std.specs.Prelude.{◌≡◌, ◌≢◌, ℕ, ◌+◌, ◌<◌, ◌≤◌, Bool, true, false, List, [], ◌∷◌, ◌++◌, length, map, take, Option, Some, None, Result, Ok, Err}
-use Rattle.pm_model.specs.Counts.{Counts, after_fault}
+use Rattle.std.specs.Prelude.{◌≡◌, ◌≢◌, ◌⊎◌, ℕ, ◌+◌, ◌<◌, ◌≤◌, Bool, true, false, List, [], ◌∷◌, ◌++◌, length, map, take, Option, Some, None, Result, Ok, Err}
+use Rattle.pm_model.specs.Words.{reads}
+use Rattle.pm_model.specs.Counts.{Counts, Rose, after_fault}
 use Rattle.pm_model.specs.Moments.{State}
 use Rattle.pm_model.specs.Changes.{Leaves}
 use Rattle.pud_defs.specs.declared.layout.TheConstants.{SCRIPT_LIMIT}
-use Rattle.pud_defs.specs.World.{World}
+use Rattle.pud_defs.specs.World.{World, world_of}
 use Rattle.pud_defs.specs.Grammar.{command_of}
 use Rattle.pud_defs.specs.Changing.{file_in, KeepsFiles, KeepsUnwritable}
 use Rattle.pud_defs.specs.Run.{Turn, cuts_of, IsRun, last_world, open_rest, lines_taken, lines_among}
@@ -21,6 +22,11 @@ use Rattle.puddle_cli.specs.declared.piece.TheConstants.{KEPT}
 pub record KeepsScript (old new : State) : Type 0 where
   pub script : new.script ≡ old.script
   pub files : KeepsUnwritable old.shelf new.shelf
+
+-- power was lost meanwhile, as counted or at once, and what the device then reads is not sound
+pub record IsUnsoundBehindLoss (before after : Counts) (now : State) : Type 0 where
+  pub lost : Rose before.cuts after.cuts ⊎ Rose before.losses after.losses
+  pub unsound : world_of before.size (reads now.now.words) ≡ None
 
 -- so many bytes of the script were taken
 pub record Takes (count : ℕ) (start now : State) : Type 0 where

@@ -1,5 +1,5 @@
 //! A script is run: the daemon starts, and each line is answered as it is read.
-ghost use Rattle.std.specs.Prelude.{◌≡◌, ◌≢◌, ◌⊎◌, ◌↔◌, ◌+◌, ◌≤◌, ℕ, List, [], take, true, false, IfOk, IfErr, OnOk, Option};
+ghost use Rattle.std.specs.Prelude.{◌≡◌, ◌≢◌, ◌⊎◌, ◌↔◌, ◌+◌, ◌≤◌, ℕ, List, [], take, true, false, IfOk, IfErr, OnOk, Option, Result};
 ghost use Rattle.pm_model.specs.Words.{IsRested, reads};
 ghost use Rattle.pm_model.specs.Moments.{State};
 ghost use Rattle.pm_model.specs.Counts.{Counts, Rose};
@@ -9,7 +9,7 @@ ghost use Rattle.puddled.specs.Faults.{run_fault, Ends};
 ghost use Rattle.puddled.specs.Daemon.{IsReady};
 ghost use Rattle.puddle_cli.specs.declared.piece.TheConstants.{KEPT};
 ghost use Rattle.puddle_cli.specs.Status.{status_fault, IsStatusOfMode, Causes};
-ghost use Rattle.puddle_cli.specs.Serving.{KeepsScript, Takes, TakesOne, TakesBy, AnswersLine, Serves, Answered, AnsweredBy};
+ghost use Rattle.puddle_cli.specs.Serving.{KeepsScript, IsUnsoundBehindLoss, Takes, TakesOne, TakesBy, AnswersLine, Serves, Answered, AnsweredBy};
 ghost use Rattle.puddle_cli.specs.Headline.{TakesScript, Headline};
 
 use crate::piece::Piece;
@@ -31,6 +31,7 @@ fn answer<H: Host>(
         → (line : List ℕ) → piece.old ≡ take KEPT line
         → AnswersLine size w line (run_fault result) daemon.new (H.counts h.old) (H.counts h.new) (H.state h.old) (H.state h.new) }
     ensures piece { OnOk result (piece.new ≡ []) }
+    ensures not_sound { H.tells → result ≡ Result.Err RunFault.NotSound → IsUnsoundBehindLoss (H.counts h.old) (H.counts h.new) (H.state h.new) }
     ensures room { device_words daemon.new.frames ≤ (H.counts h.old).size }
     ensures rest { H.tells → KeepsScript (H.state h.old) (H.state h.new) }
     ensures cause { Ends (run_fault result) (H.counts h.old) (H.counts h.new) }
@@ -60,6 +61,7 @@ fn serve_byte<H: Host>(
         → IfErr result (λ fault. Answered size w false (Option.Some fault) before (H.counts h.new) start (H.state h.new)) }
     ensures takes { H.tells → (count : ℕ) → (start : State) → Takes count start (H.state h.old)
         → TakesOne result count start (H.state h.new) }
+    ensures not_sound { H.tells → result ≡ Result.Err RunFault.NotSound → IsUnsoundBehindLoss (H.counts h.old) (H.counts h.new) (H.state h.new) }
     ensures room { device_words daemon.new.frames ≤ (H.counts h.old).size }
     ensures cause { Ends (run_fault result) (H.counts h.old) (H.counts h.new) }
 {
@@ -82,6 +84,7 @@ fn serve<H: Host>(alloc: Global, daemon: Daemon, h: &mut H) -> Result<bool, RunF
     ensures answered { H.tells → (size : ℕ) → size ≡ (H.counts h.old).size → (w : World) → IsReady size w daemon (H.state h.old)
         → AnsweredBy size w result (H.counts h.old) (H.counts h.new) (H.state h.old) (H.state h.new) }
     ensures takes { H.tells → TakesBy result (H.state h.old) (H.state h.new) }
+    ensures not_sound { H.tells → result ≡ Result.Err RunFault.NotSound → IsUnsoundBehindLoss (H.counts h.old) (H.counts h.new) (H.state h.new) }
     ensures cause { Ends (run_fault result) (H.counts h.old) (H.counts h.new) }
 {
     let mut daemon = daemon;
@@ -102,6 +105,8 @@ pub fn run<H: Host>(alloc: Global, h: &mut H) -> u8
     ensures status { IsStatusOfMode result }
     ensures not_usable { H.tells → IsRested (H.state h.old).now.words → status_fault result ≡ Option.None
         → (result ≡ NOT_USABLE) ↔ (world_of (H.counts h.old).size (reads (H.state h.old).now.words) ≡ Option.None) }
+    ensures not_sound { H.tells → result ≡ NOT_USABLE
+        → (world_of (H.counts h.old).size (reads (H.state h.old).now.words) ≡ Option.None) ⊎ IsUnsoundBehindLoss (H.counts h.old) (H.counts h.new) (H.state h.new) }
     ensures unchanged { H.tells → IsRested (H.state h.old).now.words → result ≡ NOT_USABLE → H.state h.new ≡ H.state h.old }
     ensures completes { H.tells → IsRested (H.state h.old).now.words → world_of (H.counts h.old).size (reads (H.state h.old).now.words) ≢ Option.None
         → (Rose (H.counts h.old).faults (H.counts h.new).faults → ⊥) → (Rose (H.counts h.old).cuts (H.counts h.new).cuts → ⊥)

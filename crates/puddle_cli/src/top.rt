@@ -14,10 +14,12 @@ use std::alloc::Global;
 /// Does what the words ask for, the program's name first, on the host's device and streams, and gives the status that
 /// the program ends with.
 ///
-/// The status is 0 where the mode is done or the script was read to its end, 2 exactly where the words are no mode, 5 only
-/// where the host failed, 6 only where power was lost, and 7 exactly where 2^20 bytes of script were taken without an end.
+/// The status is 0 where the mode is done, or the script's end was read before 2^20 of its bytes were taken; 2 exactly where
+/// the words are no mode; 5 only where the host failed; 6 only where power was lost; and 7 where 2^20 bytes of script were
+/// taken before its end was read, and the run could go on to there: exactly then, of the runs that end with 0 or 7.
 /// It is 4 where the device is not usable, and no call failed first: for `format` exactly there, and for `run` exactly there
-/// on a device that was rested at entry, where each word has one value. At 2 nothing was said and no word changed; so at 4
+/// on a device that was rested at entry, where each word has one value. On any device `run` gives 4 only where it reads as
+/// not sound at entry, or where power was lost and it reads so at the end. At 2 nothing was said and no word changed; so at 4
 /// for `format`, and for `run` on a device that was rested at entry.
 pub fn puddle_main<H: Host>(alloc: Global, words: &[String], host: &mut H) -> u8
     // The words, and nothing else, decide status 2.

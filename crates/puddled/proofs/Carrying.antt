@@ -1,12 +1,12 @@
 -- What each command owes, from what its own call ensures.
-use Rattle.std.proofs.Common.{◌≡◌, ℕ, List, Option, Some, None, Result, Ok, Err, refl, sym, ap, subst, ◌∙◌}
-use Rattle.std.specs.Prelude.{IfOk}
+use Rattle.std.proofs.Common.{◌≡◌, ℕ, true, List, Option, Some, None, Result, Ok, Err, refl, sym, ap, subst, ◌∙◌}
+use Rattle.std.specs.Prelude.{IfOk, is_some}
 use Rattle.pm_model.specs.declared.host.HostFault.{HostFault}
 use Rattle.pm_model.specs.declared.host.HostFault.TheVariants as hosts
 use Rattle.pm_model.specs.Counts.{Counts, after_fault, after_arm, after_loss_of, fault_of}
 use Rattle.pm_model.specs.Moments.{State}
 use Rattle.pud_defs.specs.declared.machine.Command.{Command}
-use Rattle.pud_defs.specs.declared.machine.Command.TheVariants.{Cut, Arm}
+use Rattle.pud_defs.specs.declared.machine.Command.TheVariants.{Leave, Cut, Arm}
 use Rattle.pud_defs.specs.declared.machine.Reply.{Reply}
 use Rattle.pud_defs.specs.declared.machine.Reply.TheVariants as replies
 use Rattle.pud_defs.specs.declared.machine.Refusal.TheVariants as refusals
@@ -19,7 +19,7 @@ use Rattle.pud_defs.proofs.Steps.{answer_is_ok, done_world}
 use Rattle.puddled.specs.Faults.{Kind, kind_of, CountsCommand}
 use Rattle.puddled.specs.Faults.Kind.{ordinary, loses, arms}
 use Rattle.puddled.specs.Memory.{Memory}
-use Rattle.puddled.specs.Daemon.{KeepsRest, KeepsLine, IsReady, Applies, CarriesOut}
+use Rattle.puddled.specs.Daemon.{KeepsRest, KeepsLine, IsReady, Applies, ClosesFirst, ClosesLogs, CarriesOut}
 use Rattle.puddled.proofs.Applying.{Applies-idle}
 
 -- what keeps the shelf keeps each file
@@ -59,17 +59,33 @@ restart_line w (Some (Cut p)) pick is = record { answered = answer_is_ok w (Cut 
 restart_line w (Some (Arm step p)) pick is = absurd (let no : arms step p ≡ loses pick = is in cc)
 restart_line w command pick is = absurd (let no : ordinary ≡ loses pick = is in cc)
 
+-- ---- a client that goes
+
+-- its own call closes its logs first
+pub ClosesLogs-leave : (w : World) (client : ℕ) (old new : State) → (true ≡ is_some (w.clients client) → ClosesFirst w.stored.frames client old new) → ClosesLogs w (Some (Leave client)) old new
+ClosesLogs-leave w client old new closes = record {
+  first = λ other is present.
+      let same : client ≡ other = cc in
+      subst (λ (n : ℕ). ClosesFirst w.stored.frames n old new) same (closes (subst (λ (n : ℕ). true ≡ is_some (w.clients n)) (sym same) present));
+}
+
+-- no other command lets one go
+pub ClosesLogs-other : (w : World) (command : Option Command) (old new : State) → ((client : ℕ) → command ≡ Some (Leave client) → ⊥) → ClosesLogs w command old new
+ClosesLogs-other w command old new other = record { first = λ client is present. absurd (other client is) }
+
 -- ---- each command
 
 module _ (size : ℕ) (w : World) (memory : Memory) (before after : Counts) (old new : State) where
   -- one that counts nothing of its own, and writes no file
   pub CarriesOut-plain : (c : Command) (done : Result Reply HostFault) → kind_of (Some c) ≡ ordinary → file_of c ≡ None → IfOk done (λ reply. of_reply reply ≡ answer_by w (Some c))
-      → Applies size w (world_by w (Some c)) memory (fault_of done) old new → KeepsRest old new → after ≡ after_fault (fault_of done) before → CarriesOut size w memory (Some c) done before after old new
-  CarriesOut-plain c done plain none replied applies rest cause = record {
+      → Applies size w (world_by w (Some c)) memory (fault_of done) old new → ClosesLogs w (Some c) old new → KeepsRest old new → after ≡ after_fault (fault_of done) before
+      → CarriesOut size w memory (Some c) done before after old new
+  CarriesOut-plain c done plain none replied applies closes rest cause = record {
     replied = replied;
     applies = applies;
     files = KeepsFiles-still (file_of c) old.shelf new.shelf rest.shelf;
     no_file = λ _. none;
+    closes = closes;
     counted = subst (λ (k : Kind). CountsCommand k (fault_of done) before after) (sym plain) cause;
   }
 
@@ -81,10 +97,11 @@ module _ (size : ℕ) (w : World) (memory : Memory) (before after : Counts) (old
     applies = subst (λ (v : World). Applies size w v memory (Some hosts.Cut) old new) (sym (world_of_cut w pick)) applies;
     files = KeepsFiles-still None old.shelf new.shelf rest.shelf;
     no_file = λ _. refl;
+    closes = ClosesLogs-other w (Some (Cut pick)) old new (λ client is. cc);
     counted = (refl, cause);
   })
 
-  -- a power loss was armed
+  -- a cut was armed
   pub CarriesOut-armed : (step pick : ℕ) (done : Result Reply HostFault) → done ≡ Ok replies.Ok → IsReady size w memory old → new ≡ old
       → after ≡ after_arm step pick before → CarriesOut size w memory (Some (Arm step pick)) done before after old new
   CarriesOut-armed step pick done is ready same cause = subst (λ (r : Result Reply HostFault). CarriesOut size w memory (Some (Arm step pick)) r before after old new) (sym is) (record {
@@ -92,6 +109,7 @@ module _ (size : ℕ) (w : World) (memory : Memory) (before after : Counts) (old
     applies = subst (λ (v : World). Applies size w v memory None old new) (sym (world_of_arm w step pick)) (Applies-idle size w memory old new ready same);
     files = KeepsFiles-still None old.shelf new.shelf (ap (λ (s : State). s.shelf) same);
     no_file = λ _. refl;
+    closes = ClosesLogs-other w (Some (Arm step pick)) old new (λ client is. cc);
     counted = (refl, cause);
   })
 
@@ -102,5 +120,6 @@ module _ (size : ℕ) (w : World) (memory : Memory) (before after : Counts) (old
     applies = Applies-idle size w memory old new ready same;
     files = KeepsFiles-still None old.shelf new.shelf (ap (λ (s : State). s.shelf) same);
     no_file = λ _. refl;
+    closes = ClosesLogs-other w None old new (λ client is. cc);
     counted = cause;
   }

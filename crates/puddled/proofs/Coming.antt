@@ -4,20 +4,21 @@ use Rattle.std.specs.Prelude.{is_some}
 use Rattle.std.proofs.lemmas.List.{append-nil}
 use Rattle.std.proofs.lemmas.Bool.{eqb-true}
 use Rattle.pm_model.specs.declared.host.HostFault.{HostFault}
-use Rattle.pm_model.specs.Words.{Words, HasOnly, reads}
+use Rattle.pm_model.specs.Words.{Words, Picks, HasOnly, reads}
 use Rattle.pm_model.specs.Moments.{State}
-use Rattle.pm_model.specs.Changes.{Silently}
+use Rattle.pm_model.specs.Changes.{Silently, IsFrom}
 use Rattle.pm_model.proofs.Changes.{Changes-said}
 use Rattle.pm_model.proofs.Leaves.{Leaves-changes, Leaves-weaker, Leaves-then, Leaves-still}
 use Rattle.pud_defs.specs.declared.layout.TheConstants.{DAEMON_LOG, CLIENTS}
 use Rattle.pud_defs.specs.Layout.{tables_end}
 use Rattle.pud_defs.specs.Image.{Image}
-use Rattle.pud_defs.specs.Entries.{Entry}
+use Rattle.pud_defs.specs.Entries.{Entry, is_idle_gate}
 use Rattle.pud_defs.specs.Spaces.{Owner, space_record_at, owner_by, owner_of, has_closed_logs, owner, with_owner}
 use Rattle.pud_defs.specs.World.{World, world_of, closed}
 use Rattle.pud_defs.specs.declared.machine.Command.TheVariants.{Client, Leave}
 use Rattle.pud_defs.specs.declared.machine.Refusal.TheVariants as refusals
 use Rattle.pud_defs.specs.Step.{refusal_of, after}
+use Rattle.pud_defs.proofs.Replay.{settled_by-closed, outside_log}
 use Rattle.pud_defs.proofs.Spaces.{used_is_some, owner_of-same, has_closed_logs-same}
 use Rattle.pud_defs.proofs.Steps.{client-taken, client-new, leave-absent, leave-present}
 use Rattle.batch.specs.Batches.{ByBatch}
@@ -26,7 +27,7 @@ use Rattle.batch.proofs.Tables.{reads_kept, HasDurableTables-kept, HasDurableTab
 use Rattle.log_space.specs.Records.{record_batch, registration, unregistration, HasClosedLogs, MayHaveOwner, ChangesOwner, Registers, Unregisters}
 use Rattle.log_space.specs.Closed.{ByClosing, Closes}
 use Rattle.puddled.specs.Memory.{Memory}
-use Rattle.puddled.specs.Daemon.{IsReady, Applies, ClosesFirst}
+use Rattle.puddled.specs.Daemon.{IsReady, Applies, IsUsedStill, IsClosedIfFree, ClosesFirst}
 
 -- ---- what is read of the log-space table
 
@@ -115,27 +116,35 @@ module _ (size : ℕ) (w : World) (memory : Memory) (slot : ℕ) (known : slot <
 
   -- ---- a client that goes
 
-  abbrev keeps_closed : Image → Type 0
-  keeps_closed image = (image (space_record_at slot) ≡ 1) ⊎ (has_closed_logs image w.stored.frames slot ≡ true)
+  -- a record that is used is so still where the daemon log is closed
+  used_still : (image : Image) → image (space_record_at slot) ≡ 1 → is_idle_gate (image DAEMON_LOG) ≡ true → IsUsedStill slot image
+  used_still image used gate = record { now = used; replayed = settled_by-closed DAEMON_LOG image (space_record_at slot) gate (outside_log DAEMON_LOG (space_record_at slot) (inr (omega arith))) ∙ used }
 
   module _ (present : true ≡ is_some (w.clients slot)) where
+    used_before : (a : State) → IsReady size w memory a → (image : Image) → Picks a.now.words image → image (space_record_at slot) ≡ 1
+    used_before a ready image picked = (space_used size w memory a slot known ready present).each (image (space_record_at slot)) (picked.each (space_record_at slot))
+
     -- nothing was done
     pub ClosesFirst-idle : (a b : State) → IsReady size w memory a → b ≡ a → ClosesFirst w.stored.frames slot a b
     ClosesFirst-idle a b ready same =
-        Leaves-still _ a b (λ image picked. (refl, inl ((space_used size w memory a slot known ready present).each (image (space_record_at slot)) (picked.each (space_record_at slot))))) same
+        Leaves-still _ a b (λ image picked. inl (used_still image (used_before a ready image picked) (ready.settled.idle (image DAEMON_LOG) (picked.each DAEMON_LOG)))) same
 
     -- nothing was done before
     pub ClosesFirst-behind : (a b c : State) → IsReady size w memory a → b ≡ a → (IsReady size w memory b → ClosesFirst w.stored.frames slot b c) → ClosesFirst w.stored.frames slot a c
     ClosesFirst-behind a b c ready same closes = subst (λ (s : State). ClosesFirst w.stored.frames slot s c) same (closes (subst (λ (s : State). IsReady size w memory s) (sym same) ready))
 
+    below_gates : (before image : Image) (k : ℕ) → IsFrom (ByClosing w.stored.frames slot) before image → k < tables_end w.stored.frames → image k ≡ before k
+    below_gates before image k from below = ⊎_elim (λ same. same) (λ gate. absurd (no_gate w.stored.frames slot k (image k) below gate)) (from.each k)
+
     -- the logs were to be closed
     pub ClosesFirst-closing : (fault : Option HostFault) (a b : State) → IsReady size w memory a → Closes size (closed w) slot fault a b → ClosesFirst w.stored.frames slot a b
     ClosesFirst-closing fault a b ready p =
-        Leaves-changes keeps_closed (ByClosing w.stored.frames slot) fault a b
-        (λ before image picked from. inl (⊎_elim
-        (λ same. same ∙ (space_used size w memory a slot known ready present).each (before (space_record_at slot)) (picked.each (space_record_at slot)))
-        (λ gate. absurd (no_gate w.stored.frames slot (space_record_at slot) (image (space_record_at slot)) (omega arith) gate))
-        (from.each (space_record_at slot)))) p.changes
+        Leaves-weaker _ _ a b (λ bytes image m. m.1)
+        (Leaves-changes (IsClosedIfFree w.stored.frames slot) (ByClosing w.stored.frames slot) fault a b
+        (λ before image picked from.
+        let record_word = below_gates before image (space_record_at slot) from (omega arith) in
+        let gate_word = below_gates before image DAEMON_LOG from (omega arith) in
+        inl (used_still image (record_word ∙ used_before a ready before picked) (ap is_idle_gate gate_word ∙ ready.settled.idle (before DAEMON_LOG) (picked.each DAEMON_LOG)))) p.changes)
 
     -- a batch that writes the record leaves the logs
     closed_outside : (words : Words) (image : Image) → HasClosedLogs w.stored.frames slot words → MayHaveOwner size (closed w) slot None (record_batch slot (0 ∷ [])) words image
@@ -149,11 +158,11 @@ module _ (size : ℕ) (w : World) (memory : Memory) (slot : ℕ) (known : slot <
     pub ClosesFirst-freed : (fault : Option HostFault) (a b c : State) → IsReady size w memory a → Closes size (closed w) slot None a b
         → ChangesOwner size (closed w) slot None (record_batch slot (0 ∷ [])) fault b c → ClosesFirst w.stored.frames slot a c
     ClosesFirst-freed fault a b c ready p q =
-        let P = Silently keeps_closed in
+        let P : List ℕ → Image → Type 0 = λ bytes image. IsClosedIfFree w.stored.frames slot image in
         let said = Changes-said (ByClosing w.stored.frames slot) None a b p.changes in
         Leaves-then P P P [] a b c (said ∙ sym (append-nil a.now.said)) (λ front image m. m) (λ more image m. m)
         (ClosesFirst-closing None a b ready p)
-        (Leaves-weaker _ P b c (λ bytes image m. (m.0, inr (closed_outside b.now.words image (p.closed refl) m.1))) q.moments)
+        (Leaves-weaker _ P b c (λ bytes image m. inr (closed_outside b.now.words image (p.closed refl) m.1)) q.moments)
 
 -- ---- refusals, by whether the client is present
 

@@ -1,11 +1,11 @@
--- How often power was lost, over one call after another.
-use Rattle.std.proofs.Common.{◌≡◌, inl, inr, ℕ, zero, suc, ◌+◌, ◌-◌, ◌^◌, ◌≤◌, ltb, ltb-true, zero-add, Bool, true, false, cond, List, [], ◌∷◌, ◌++◌, Option, Some, None, Err, refl, sym, ap, subst, ◌∙◌, arith}
+-- How many cuts are counted, over one call after another.
+use Rattle.std.proofs.Common.{◌≡◌, ◌⊎◌, inl, inr, ℕ, zero, suc, ◌+◌, ◌-◌, ◌^◌, ◌≤◌, ltb, ltb-true, zero-add, Bool, true, false, cond, List, [], ◌∷◌, ◌++◌, Option, Some, None, Err, refl, sym, ap, subst, ◌∙◌, arith}
 use Rattle.std.proofs.lemmas.List.Sums.{sum_by-append}
 use Rattle.std.proofs.Math.Nat.{suc-add}
 use Rattle.std.proofs.lemmas.Bool.{ltb-false}
 use Rattle.pm_model.specs.declared.host.HostFault.{HostFault}
 use Rattle.pm_model.specs.declared.host.HostFault.TheVariants as hosts
-use Rattle.pm_model.specs.Counts.{Counts, risen, after_fault, after_arm, after_loss_of}
+use Rattle.pm_model.specs.Counts.{Counts, Rose, risen, after_fault, after_arm, after_loss_of}
 use Rattle.pud_defs.specs.World.{World}
 use Rattle.pud_defs.specs.declared.machine.Command.{Command}
 use Rattle.pud_defs.specs.Grammar.{command_of}
@@ -32,7 +32,7 @@ grows_by n m top true false e f le = let below = ltb-true n top e in let above =
 grows_by n m top false true e f le = omega arith
 grows_by n m top false false e f le = le
 
-risen_grows : (n m : ℕ) → n ≤ m → risen n ≤ risen m
+pub risen_grows : (n m : ℕ) → n ≤ m → risen n ≤ risen m
 risen_grows n m le = grows_by n m (2 ^ 64 - 1) (ltb n (2 ^ 64 - 1)) (ltb m (2 ^ 64 - 1)) refl refl le
 
 risen_by-grows : (k n m : ℕ) → n ≤ m → risen_by k n ≤ risen_by k m
@@ -64,7 +64,7 @@ CountsCuts-then k l a b c first later =
 pub CountsCuts-still : (a b : Counts) → b ≡ a → CountsCuts 0 a b
 CountsCuts-still a b same = subst (λ (x : Counts). CountsCuts 0 a x) (sym same) (record { others = refl; cuts = omega arith })
 
--- a power loss, and one more that is not told
+-- some cuts, of more that were counted
 pub CountsCuts-fewer : (k l : ℕ) (a b : Counts) → CountsCuts (l + k) a b → CountsCuts k a b
 CountsCuts-fewer k l a b c =
     let e = risen_by-more k l a.cuts in
@@ -72,42 +72,42 @@ CountsCuts-fewer k l a b c =
     let had = c.cuts in
     record { others = c.others; cuts = omega arith }
 
--- a line that was carried out adds no loss to what is counted
+-- a line that was carried out adds no cut to what is counted
 pub counted_step : (w : World) (line : List ℕ) (fault : Option RunFault) (before after : Counts) → CountsLine (command_of line) fault 0 before after
     → CountsLine (command_of line) fault (cuts_of (turn_of w line ∷ [])) before after
 counted_step w line fault before after c = subst (λ (n : ℕ). CountsLine (command_of line) fault n before after) (sym (no_cut_reply w line)) c
 
 pub counted_nothing : (before after : Counts) → after ≡ before → IsCounted None 0 before after
-counted_nothing before after same = record { before = after; lost = CountsCuts-still before after same; last = refl }
+counted_nothing before after same = record { before = after; cuts = CountsCuts-still before after same; last = refl }
 
--- power was lost once
+-- one cut was counted
 pub CountsCuts-one : (before after : Counts) → after ≡ after_fault (Some hosts.Cut) before → CountsCuts 1 before after
 CountsCuts-one before after lost = subst (λ (x : Counts). CountsCuts 1 before x) (sym lost) (record { others = refl; cuts = omega arith })
 
--- the restart behind a power loss went well, or did not
+-- the restart behind a cut went well, or did not
 pub counted_cut : (before mid after : Counts) → mid ≡ after_fault (Some hosts.Cut) before → after ≡ mid → IsCounted None 1 before after
-counted_cut before mid after lost same = record { before = after; lost = subst (λ (x : Counts). CountsCuts 1 before x) (sym same) (CountsCuts-one before mid lost); last = refl }
+counted_cut before mid after lost same = record { before = after; cuts = subst (λ (x : Counts). CountsCuts 1 before x) (sym same) (CountsCuts-one before mid lost); last = refl }
 
 pub counted_restart : (fault : StartFault) (before mid after : Counts) → mid ≡ after_fault (Some hosts.Cut) before → after ≡ after_fault (start_fault {T = Memory} (Err fault)) mid
     → IsCounted (Some (of_start fault)) 0 before after
-counted_restart starts.NotSound before mid after lost last = record { before = mid; lost = CountsCuts-one before mid lost; last = last }
+counted_restart starts.NotSound before mid after lost last = record { before = mid; cuts = CountsCuts-one before mid lost; last = last }
 counted_restart (starts.Host hosts.Failed) before mid after lost last =
-    record { before = mid; lost = CountsCuts-fewer 0 1 before mid (CountsCuts-one before mid lost); last = last }
+    record { before = mid; cuts = CountsCuts-fewer 0 1 before mid (CountsCuts-one before mid lost); last = last }
 counted_restart (starts.Host hosts.Cut) before mid after lost last =
-    record { before = after; lost = CountsCuts-then 1 1 before mid after (CountsCuts-one before mid lost) (CountsCuts-one mid after last); last = refl }
+    record { before = after; cuts = CountsCuts-then 1 1 before mid after (CountsCuts-one before mid lost) (CountsCuts-one mid after last); last = refl }
 
 -- the host failed as it carried out the line, or as it said the reply
 pub counted_failed : (before after : Counts) → after ≡ after_fault (Some hosts.Failed) before → IsCounted (Some faults.Failed) 0 before after
-counted_failed before after last = record { before = before; lost = CountsCuts-still before before refl; last = last }
+counted_failed before after last = record { before = before; cuts = CountsCuts-still before before refl; last = last }
 
 ended_failed : (n : ℕ) (before between after : Counts) → IsEnded n None before between → after ≡ after_fault (Some hosts.Failed) between → IsEnded n (Some faults.Failed) before after
-ended_failed n before between after c last = record { before = c.before; lost = c.lost; last = last ∙ ap (λ (x : Counts). after_fault (Some hosts.Failed) x) c.last }
+ended_failed n before between after c last = record { before = c.before; cuts = c.cuts; last = last ∙ ap (λ (x : Counts). after_fault (Some hosts.Failed) x) c.last }
 
 kind_failed : (kind : Kind) (n : ℕ) (before between after : Counts) → CountsKind kind None n before between → after ≡ after_fault (Some hosts.Failed) between
     → CountsKind kind (Some faults.Failed) n before after
 kind_failed ordinary n before between after c last = ended_failed (0 + n) before between after c last
 kind_failed (loses pick) n before between after c last = (c.0, ended_failed 0 (after_loss_of pick before) between after c.1 last)
-kind_failed (arms step pick) n before between after c last = (c.0, λ e. cc, last ∙ ap (λ (x : Counts). after_fault (Some hosts.Failed) x) c.2)
+kind_failed (arms step pick) n before between after c last = (c.0, refl, last ∙ ap (λ (x : Counts). after_fault (Some hosts.Failed) x) c.2)
 
 pub counted_say : (command : Option Command) (fault : HostFault) (n : ℕ) (before between after : Counts) → CountsLine command None n before between → after ≡ after_fault (Some fault) between
     → (Some fault ≡ Some hosts.Cut → ⊥) → CountsLine command (Some (of_host fault)) n before after
@@ -136,9 +136,9 @@ counted_same command fault n before between after c same = subst (λ (x : Counts
 -- power lost at once, and the restart behind it
 counted_loss : (pick : ℕ) (fault : StartFault) (before after : Counts) → after ≡ after_fault (start_fault {T = Memory} (Err fault)) (after_loss_of pick before)
     → CountsKind (loses pick) (Some (of_start fault)) 0 before after
-counted_loss pick starts.NotSound before after last = (refl, record { before = after_loss_of pick before; lost = CountsCuts-still _ _ refl; last = last })
-counted_loss pick (starts.Host hosts.Failed) before after last = (refl, record { before = after_loss_of pick before; lost = CountsCuts-still _ _ refl; last = last })
-counted_loss pick (starts.Host hosts.Cut) before after last = (refl, record { before = after; lost = CountsCuts-one (after_loss_of pick before) after last; last = refl })
+counted_loss pick starts.NotSound before after last = (refl, record { before = after_loss_of pick before; cuts = CountsCuts-still _ _ refl; last = last })
+counted_loss pick (starts.Host hosts.Failed) before after last = (refl, record { before = after_loss_of pick before; cuts = CountsCuts-still _ _ refl; last = last })
+counted_loss pick (starts.Host hosts.Cut) before after last = (refl, record { before = after; cuts = CountsCuts-one (after_loss_of pick before) after last; last = refl })
 
 -- ---- a command, and what goes on behind it
 
@@ -146,7 +146,7 @@ counted_loss pick (starts.Host hosts.Cut) before after last = (refl, record { be
 pub kind_done : (kind : Kind) (before after : Counts) → CountsCommand kind None before after → CountsKind kind None 0 before after
 kind_done ordinary before after c = counted_nothing before after c
 kind_done (loses pick) before after c = absurd (let no : None ≡ Some hosts.Cut = c.0 in cc)
-kind_done (arms step pick) before after c = (refl, (λ no. cc), c.1)
+kind_done (arms step pick) before after c = (refl, refl, c.1)
 
 -- the host failed in it
 pub kind_faulty : (kind : Kind) (before after : Counts) → CountsCommand kind (Some hosts.Failed) before after → CountsKind kind (Some faults.Failed) 0 before after
@@ -158,7 +158,7 @@ kind_faulty (arms step pick) before after c = absurd (let no : Some hosts.Failed
 pub kind_restarted : (kind : Kind) (before mid after : Counts) → CountsCommand kind (Some hosts.Cut) before mid → after ≡ mid → CountsKind kind None 0 before after
 kind_restarted ordinary before mid after c same =
     let counted = counted_cut before mid after c same in
-    record { before = counted.before; lost = CountsCuts-fewer 0 1 before counted.before counted.lost; last = counted.last }
+    record { before = counted.before; cuts = CountsCuts-fewer 0 1 before counted.before counted.cuts; last = counted.last }
 kind_restarted (loses pick) before mid after c same = (refl, counted_nothing (after_loss_of pick before) after (same ∙ c.1))
 kind_restarted (arms step pick) before mid after c same = absurd (let no : Some hosts.Cut ≡ None = c.0 in cc)
 
@@ -169,16 +169,16 @@ kind_unstarted ordinary fault before mid after c last = counted_restart fault be
 kind_unstarted (loses pick) fault before mid after c last = counted_loss pick fault before after (last ∙ ap (λ (x : Counts). after_fault (start_fault {T = Memory} (Err fault)) x) c.1)
 kind_unstarted (arms step pick) fault before mid after c last = absurd (let no : Some hosts.Cut ≡ None = c.0 in cc)
 
--- where no power was lost, none is counted
-pub no_loss_in : (kind : Kind) (before after : Counts) → CountsCommand kind None before after → HasLostPower before after → ⊥
-no_loss_in ordinary before after c (inl moved) = moved (ap (λ (x : Counts). x.cuts) c)
-no_loss_in ordinary before after c (inr moved) = moved (ap (λ (x : Counts). x.losses) c)
-no_loss_in (loses pick) before after c moved = absurd (let no : None ≡ Some hosts.Cut = c.0 in cc)
-no_loss_in (arms step pick) before after c (inl moved) = moved (ap (λ (x : Counts). x.cuts) c.1)
-no_loss_in (arms step pick) before after c (inr moved) = moved (ap (λ (x : Counts). x.losses) c.1)
+-- where no power was lost, neither count moved
+pub no_power_lost : (kind : Kind) (before after : Counts) → CountsCommand kind None before after → HasLostPower before after → ⊥
+no_power_lost ordinary before after c (inl moved) = moved (ap (λ (x : Counts). x.cuts) c)
+no_power_lost ordinary before after c (inr moved) = moved (ap (λ (x : Counts). x.losses) c)
+no_power_lost (loses pick) before after c moved = absurd (let no : None ≡ Some hosts.Cut = c.0 in cc)
+no_power_lost (arms step pick) before after c (inl moved) = moved (ap (λ (x : Counts). x.cuts) c.1)
+no_power_lost (arms step pick) before after c (inr moved) = moved (ap (λ (x : Counts). x.losses) c.1)
 
-pub no_loss_still : (before after : Counts) → after ≡ before → HasLostPower before after → ⊥
-no_loss_still before after same moved = no_loss_in ordinary before after same moved
+pub no_power_lost_still : (before after : Counts) → after ≡ before → HasLostPower before after → ⊥
+no_power_lost_still before after same moved = no_power_lost ordinary before after same moved
 
 -- ---- over turns
 
@@ -253,13 +253,13 @@ rose_in_restart (Some faults.NotSound) n a b rose = let least = risen_by-least (
 rose_in_restart (Some faults.CutInStart) n a b rose = RoseBy-fewer (n + 1) 1 a b (subst (λ (x : ℕ). RoseBy x a b) (let e : 2 + n ≡ (n + 1) + 1 = omega arith in e) rose)
 
 ends_plain : (fault : Option RunFault) (n : ℕ) (a b : Counts) → IsCounted fault n a b → Ends fault a b
-ends_plain fault n a b c = record { before = c.before; grows = Grows-cuts (cuts_at fault + n) a c.before c.lost; lost = rose_in_restart fault n a.cuts c.before.cuts c.lost.cuts; last = c.last }
+ends_plain fault n a b c = record { before = c.before; grows = Grows-cuts (cuts_at fault + n) a c.before c.cuts; cuts = rose_in_restart fault n a.cuts c.before.cuts c.cuts.cuts; last = c.last }
 
-no_restart : (fault : Option RunFault) (a : ℕ) → (fault ≡ Some faults.CutInStart → ⊥) → RoseBy (restart_cuts fault) a a
-no_restart None a never = omega arith
-no_restart (Some faults.Failed) a never = omega arith
-no_restart (Some faults.NotSound) a never = omega arith
-no_restart (Some faults.CutInStart) a never = absurd (never refl)
+no_restart : (fault : Option RunFault) (a : ℕ) → cuts_at fault ≡ 0 → RoseBy (restart_cuts fault) a a
+no_restart None a none = omega arith
+no_restart (Some faults.Failed) a none = omega arith
+no_restart (Some faults.NotSound) a none = omega arith
+no_restart (Some faults.CutInStart) a none = absurd (let no : 2 ≡ 0 = none in omega arith)
 
 -- whatever the line is
 kind_ends : (kind : Kind) (fault : Option RunFault) (n : ℕ) (a b : Counts) → CountsKind kind fault n a b → Ends fault a b
@@ -267,11 +267,11 @@ kind_ends ordinary fault n a b c = ends_plain fault n a b c
 kind_ends (loses pick) fault n a b c =
     record {
       before = c.1.before;
-      grows = Grows-then a (after_loss_of pick a) c.1.before (Grows-loss pick a) (Grows-cuts (restart_cuts fault) (after_loss_of pick a) c.1.before c.1.lost);
-      lost = c.1.lost.cuts;
+      grows = Grows-then a (after_loss_of pick a) c.1.before (Grows-loss pick a) (Grows-cuts (restart_cuts fault) (after_loss_of pick a) c.1.before c.1.cuts);
+      cuts = c.1.cuts.cuts;
       last = c.1.last;
     }
-kind_ends (arms step pick) fault n a b c = record { before = after_arm step pick a; grows = Grows-arm step pick a; lost = no_restart fault a.cuts c.1; last = c.2 }
+kind_ends (arms step pick) fault n a b c = record { before = after_arm step pick a; grows = Grows-arm step pick a; cuts = no_restart fault a.cuts c.1; last = c.2 }
 
 pub counted_ends : (command : Option Command) (fault : Option RunFault) (n : ℕ) (a b : Counts) → CountsLine command fault n a b → Ends fault a b
 counted_ends command fault n a b c = kind_ends (kind_of command) fault n a b c
@@ -280,10 +280,10 @@ pub Ends-none : (a b : Counts) → Ends None a b → Grows a b
 Ends-none a b e = subst (λ (x : Counts). Grows a x) (sym e.last) e.grows
 
 pub Ends-nothing : (a b : Counts) → b ≡ a → Ends None a b
-Ends-nothing a b same = record { before = a; grows = Grows-still a a refl; lost = omega arith; last = same }
+Ends-nothing a b same = record { before = a; grows = Grows-still a a refl; cuts = omega arith; last = same }
 
 pub Ends-host : (fault : HostFault) (a b : Counts) → b ≡ after_fault (Some fault) a → (Some fault ≡ Some hosts.Cut → ⊥) → Ends (Some (of_host fault)) a b
-Ends-host hosts.Failed a b last never_cut = record { before = a; grows = Grows-still a a refl; lost = omega arith; last = last }
+Ends-host hosts.Failed a b last never_cut = record { before = a; grows = Grows-still a a refl; cuts = omega arith; last = last }
 Ends-host hosts.Cut a b last never_cut = absurd (never_cut refl)
 
 -- lines went on, and then it ended so
@@ -292,7 +292,7 @@ Ends-then fault a b c first later =
     record {
       before = later.before;
       grows = Grows-then a b later.before first later.grows;
-      lost = let grew = risen_by-grows (restart_cuts fault) a.cuts b.cuts first.cuts in let rose = later.lost in omega arith;
+      cuts = let grew = risen_by-grows (restart_cuts fault) a.cuts b.cuts first.cuts in let rose = later.cuts in omega arith;
       last = later.last;
     }
 
@@ -300,11 +300,11 @@ Ends-then fault a b c first later =
 pub size_of_ends : (fault : Option RunFault) (a b : Counts) → Ends fault a b → b.size ≡ a.size
 size_of_ends fault a b c = ap (λ (x : Counts). x.size) c.last ∙ size_after_fault (last_fault fault) c.before ∙ c.grows.size
 
--- the count of cuts rose by the losses told, and by those that the end stands for
+-- the count of cuts rose by the cuts told, and by those that the end stands for
 rose_plain : (fault : Option RunFault) (n : ℕ) (a b : Counts) → IsEnded n fault a b → RoseBy n a.cuts b.cuts
 rose_plain fault n a b c =
     let later = cuts_after_fault (last_fault fault) c.before in
-    let rose = c.lost.cuts in
+    let rose = c.cuts.cuts in
     let e : b.cuts ≡ (after_fault (last_fault fault) c.before).cuts = ap (λ (x : Counts). x.cuts) c.last in
     omega arith
 
@@ -320,7 +320,7 @@ rose_in_kind (loses pick) fault n a b c = rose_by_none n a.cuts b.cuts c.0 (let 
 rose_in_kind (arms step pick) fault n a b c =
     rose_by_none n a.cuts b.cuts c.0 (let later = cuts_after_fault (last_fault fault) (after_arm step pick a) in let e : b.cuts ≡ (after_fault (last_fault fault) (after_arm step pick a)).cuts = ap (λ (x : Counts). x.cuts) c.2 in omega arith)
 
--- power was lost as often at least as the reply is `cut`
+-- as many cuts are counted at least as the replies are `cut`
 pub rose_in_line : (command : Option Command) (fault : Option RunFault) (n : ℕ) (a b : Counts) → CountsLine command fault n a b → RoseBy n a.cuts b.cuts
 rose_in_line command fault n a b c = rose_in_kind (kind_of command) fault n a b c
 
@@ -328,26 +328,41 @@ two_at_least : (n : ℕ) (a b : Counts) → IsCounted (Some faults.CutInStart) n
 two_at_least n a b c =
     RoseBy-fewer n 2 a.cuts b.cuts (subst (λ (x : ℕ). RoseBy x a.cuts b.cuts) (let e : 2 + n ≡ n + 2 = omega arith in e) (rose_plain (Some faults.CutInStart) (2 + n) a b c))
 
-lost_in_kind : (kind : Kind) (n : ℕ) (a b : Counts) → is_loss_kind kind ≡ false → CountsKind kind (Some faults.CutInStart) n a b → RoseBy 2 a.cuts b.cuts
-lost_in_kind ordinary n a b other c = two_at_least n a b c
-lost_in_kind (loses pick) n a b other c = absurd (let no : true ≡ false = other in cc)
-lost_in_kind (arms step pick) n a b other c = absurd (c.1 refl)
+two_cuts_in_kind : (kind : Kind) (n : ℕ) (a b : Counts) → is_loss_kind kind ≡ false → CountsKind kind (Some faults.CutInStart) n a b → RoseBy 2 a.cuts b.cuts
+two_cuts_in_kind ordinary n a b other c = two_at_least n a b c
+two_cuts_in_kind (loses pick) n a b other c = absurd (let no : true ≡ false = other in cc)
+two_cuts_in_kind (arms step pick) n a b other c = absurd (let no : 2 ≡ 0 = c.1 in omega arith)
 
--- in the restart it was lost once more, but for a line in which it was lost at once
-pub lost_in_line : (command : Option Command) (n : ℕ) (a b : Counts) → is_loss command ≡ false → CountsLine command (Some faults.CutInStart) n a b → RoseBy 2 a.cuts b.cuts
-lost_in_line command n a b other c = lost_in_kind (kind_of command) n a b other c
+-- where the restart ends in a cut two are counted, but for a line in which power was lost at once
+pub two_cuts_in_line : (command : Option Command) (n : ℕ) (a b : Counts) → is_loss command ≡ false → CountsLine command (Some faults.CutInStart) n a b → RoseBy 2 a.cuts b.cuts
+two_cuts_in_line command n a b other c = two_cuts_in_kind (kind_of command) n a b other c
 
-lost_in_restart_of : (kind : Kind) (n : ℕ) (a b : Counts) → CountsKind kind (Some faults.CutInStart) n a b → RoseBy 1 a.cuts b.cuts
-lost_in_restart_of ordinary n a b c = RoseBy-fewer 1 1 a.cuts b.cuts (two_at_least n a b c)
-lost_in_restart_of (loses pick) n a b c = rose_plain (Some faults.CutInStart) 1 (after_loss_of pick a) b c.1
-lost_in_restart_of (arms step pick) n a b c = absurd (c.1 refl)
+cut_in_restart_of : (kind : Kind) (n : ℕ) (a b : Counts) → CountsKind kind (Some faults.CutInStart) n a b → RoseBy 1 a.cuts b.cuts
+cut_in_restart_of ordinary n a b c = RoseBy-fewer 1 1 a.cuts b.cuts (two_at_least n a b c)
+cut_in_restart_of (loses pick) n a b c = rose_plain (Some faults.CutInStart) 1 (after_loss_of pick a) b c.1
+cut_in_restart_of (arms step pick) n a b c = absurd (let no : 2 ≡ 0 = c.1 in omega arith)
 
-pub lost_in_restart : (command : Option Command) (n : ℕ) (a b : Counts) → CountsLine command (Some faults.CutInStart) n a b → RoseBy 1 a.cuts b.cuts
-lost_in_restart command n a b c = lost_in_restart_of (kind_of command) n a b c
+pub cut_in_restart : (command : Option Command) (n : ℕ) (a b : Counts) → CountsLine command (Some faults.CutInStart) n a b → RoseBy 1 a.cuts b.cuts
+cut_in_restart command n a b c = cut_in_restart_of (kind_of command) n a b c
 
--- power was lost as often at least as a reply is `cut`
+-- as many cuts are counted at least as replies are `cut`
 pub CountsTurns-cuts : (turns : List Turn) (a b : Counts) → CountsTurns turns a b → RoseBy (cuts_of turns) a.cuts b.cuts
 CountsTurns-cuts [] a b c = let e : b.cuts ≡ a.cuts = ap (λ (x : Counts). x.cuts) c in omega arith
 CountsTurns-cuts (t ∷ turns) a b c =
     subst (λ (n : ℕ). RoseBy n a.cuts b.cuts) (sym (cuts_of-cons t turns))
     (RoseBy-then (cuts_of (t ∷ [])) (cuts_of turns) a.cuts c.0.cuts b.cuts (rose_in_line (command_of t.line) None (cuts_of (t ∷ [])) a c.0 c.1) (CountsTurns-cuts turns c.0 b c.2))
+
+-- ---- a device that is not sound behind a power loss
+
+lost_before : (kind : Kind) (n : ℕ) (a b : Counts) → CountsKind kind (Some faults.NotSound) n a b → Rose a.cuts b.cuts ⊎ Rose a.losses b.losses
+lost_before ordinary n a b c =
+    inl (RoseBy-fewer n 1 a.cuts b.cuts (subst (λ (x : ℕ). RoseBy x a.cuts b.cuts) (let e : 1 + n ≡ n + 1 = omega arith in e) (rose_plain (Some faults.NotSound) (1 + n) a b c)))
+lost_before (loses pick) n a b c =
+    let others = ap (λ (x : Counts). x.losses) c.1.cuts.others in
+    let last = ap (λ (x : Counts). x.losses) c.1.last in
+    inr (omega arith)
+lost_before (arms step pick) n a b c = absurd (let no : 1 ≡ 0 = c.1 in omega arith)
+
+-- power was lost in the line before, as counted or at once
+pub lost_in_line : (command : Option Command) (n : ℕ) (a b : Counts) → CountsLine command (Some faults.NotSound) n a b → Rose a.cuts b.cuts ⊎ Rose a.losses b.losses
+lost_in_line command n a b c = lost_before (kind_of command) n a b c

@@ -89,7 +89,7 @@ closed_after w id map = refl
 standing : (size : ℕ) (w : World) (memory : Memory) (s : State) → IsReady size w memory s → StandsFor size (reads s.now.words) (closed w)
 standing size w memory s ready =
     standing_beside size (reads s.now.words) (closed w)
-    (standing_closed size (reads s.now.words) (closed w) (ready.settled.closed (reads s.now.words DAEMON_LOG) (inl refl)) (ready.settled.stands (reads s.now.words) (Picks-reads s.now.words)))
+    (standing_closed size (reads s.now.words) (closed w) (ready.settled.idle (reads s.now.words DAEMON_LOG) (inl refl)) (ready.settled.stands (reads s.now.words) (Picks-reads s.now.words)))
 
 -- a definition writes no word outside the type table
 not_outside : (r id map k v : ℕ) → r < TYPE_RECORDS → (k < TYPE_TABLE) ⊎ (POOL_TABLE ≤ k) → written (record_write r id map) k v → ⊥
@@ -115,7 +115,7 @@ module _ (size : ℕ) (w : World) (memory : Memory) (id map r : ℕ) (old : Stat
       one.each (image (type_record_at r)) (picked.each (type_record_at r)) ∙ is_new.lowest.free
 
   gate : (image : Image) → Picks old.now.words image → is_idle_gate (image DAEMON_LOG) ≡ true
-  gate image picked = ready.settled.closed (image DAEMON_LOG) (picked.each DAEMON_LOG)
+  gate image picked = ready.settled.idle (image DAEMON_LOG) (picked.each DAEMON_LOG)
 
   half_gives : (image : Image) → Picks old.now.words image → world_of size (half_defined r map image) ≡ Some (closed w)
   half_gives image picked = world_of-map_written size image (closed w) r map (gate image picked) (ready.settled.stands image picked) within (free image picked)
@@ -125,14 +125,14 @@ module _ (size : ℕ) (w : World) (memory : Memory) (id map r : ℕ) (old : Stat
 
   still_closed : (new : State) → Defines r id map None old new → (v : ℕ) → Has (values (new.now.words DAEMON_LOG)) v → is_idle_gate v ≡ true
   still_closed new d v had = elim (Changes-now (written (record_write r id map)) None old new d.persists.changes DAEMON_LOG v had) [
-    | inl was ↦ ready.settled.closed v was
+    | inl was ↦ ready.settled.idle v was
     | inr may ↦ absurd (not_outside r id map DAEMON_LOG v within (inl (omega arith)) may)
   ]
 
   ready_defined : (new : State) → Defines r id map None old new → IsReady size (after w (Define id map)) memory new
   unfolding after
   ready_defined new d = record {
-    settled = record { stands = λ image picked. let h = d.done refl image picked in ap (world_of size) h.is ∙ gives h.before h.picked; closed = still_closed new d };
+    settled = record { stands = λ image picked. let h = d.done refl image picked in ap (world_of size) h.is ∙ gives h.before h.picked; idle = still_closed new d };
     tables = HasDurableTables-persisted w.stored.frames (record_write r id map) old new d.persists ready.tables;
     clients = λ client low.
         owner_of-same (reads new.now.words) (reads old.now.words) client low

@@ -7,7 +7,7 @@ use Rattle.pm_model.specs.Words.{Words, reads}
 use Rattle.pm_model.specs.Moments.{State}
 use Rattle.pm_model.specs.Calls.{Says}
 use Rattle.pm_model.specs.Changes.{Leaves, Silently}
-use Rattle.pm_model.proofs.Leaves.{Leaves-then, Leaves-weaker, Leaves-says, IsPrefix}
+use Rattle.pm_model.proofs.Leaves.{Leaves-then, Leaves-weaker, Leaves-now, Leaves-says, IsPrefix}
 use Rattle.pm_model.proofs.Said.{words-all_said, said-all_said, script-all_said, shelf-all_said}
 use Rattle.pud_defs.specs.declared.machine.Reply.{Reply}
 use Rattle.pud_defs.specs.Spaces.{owner_of}
@@ -29,7 +29,7 @@ use Rattle.puddled.specs.Memory.{Memory}
 use Rattle.puddled.specs.declared.daemon.StartFault.{StartFault}
 use Rattle.puddled.specs.declared.daemon.StartFault.TheVariants as starts
 use Rattle.puddled.specs.Faults.{start_fault, run_fault, CountsLine}
-use Rattle.puddled.specs.Daemon.{KeepsRest, KeepsLine, IsReady, IsPart, SaysPart, Recovers, Settles, Starts, spoken, Answers}
+use Rattle.puddled.specs.Daemon.{KeepsRest, KeepsLine, IsReady, IsPart, SaysPart, IsClosedIfFree, ClosesLogs, Recovers, Settles, Starts, spoken, Answers}
 use Rattle.puddled.proofs.Settling.{Between}
 use Rattle.puddled.proofs.Carrying.{KeepsLine-then}
 
@@ -124,6 +124,7 @@ Answers-fault size w memory line aloud fault before after old new s =
       ok = tt;
       moments = silent_moments size w s.turn old new s.moments;
       says = record { bytes = []; rest = spoken aloud s.turn.answer; part = refl; said = s.quiet ∙ sym (append-nil old.now.said); whole = λ no. absurd (cc) };
+      closes = s.closes;
       ready = s.ready;
       counted = s.counted;
       sound = s.sound;
@@ -141,6 +142,7 @@ Answers-unsaid size w memory line reply ok before after old new s is =
       ok = is ∙ ap begins_with_ok (sym s.replied);
       moments = silent_moments size w s.turn old new s.moments;
       says = record { bytes = []; rest = []; part = refl; said = s.quiet ∙ sym (append-nil old.now.said); whole = λ _. refl };
+      closes = s.closes;
       ready = s.ready;
       counted = s.counted;
       sound = λ no. cc;
@@ -179,6 +181,17 @@ module _ (size : ℕ) (w : World) (memory : Memory) (line : List ℕ) (reply : R
       (Leaves-says (answer_text t.answer) fault (StandsWith size w (t ∷ [])) mid new
       (λ front image prefix picked. stands_by_count size w t (newlines front) image s.is_turn (front_of_answer t.answer front prefix) (ready.settled.stands image picked)) says)
 
+  -- what is said leaves the words
+  closes_said : (text : List ℕ) (fault : Option HostFault) → Says text fault mid new → ClosesLogs w (command_of line) old new
+  closes_said text fault says = record {
+    first = λ client is present.
+        let P : List ℕ → Image → Type 0 = λ bytes image. IsClosedIfFree w.stored.frames client image in
+        let said = s.quiet ∙ sym (append-nil old.now.said) in
+        let settled = s.closes.first client is present in
+        Leaves-then P P P [] old mid new said (λ front image m. m) (λ more image m. m) settled
+        (Leaves-says text fault P mid new (λ front image prefix picked. Leaves-now P [] old mid said settled image picked) says);
+  }
+
   text_is : (fault : Option HostFault) → Says (reply_text reply) fault mid new → Says (answer_text s.turn.answer) fault mid new
   text_is fault says = subst (λ (a : Answer). Says (answer_text a) fault mid new) (sym s.replied) says
 
@@ -195,6 +208,7 @@ module _ (size : ℕ) (w : World) (memory : Memory) (line : List ℕ) (reply : R
         ok = subst (λ (a : Answer). IfOk result (λ ok. ok ≡ begins_with_ok a)) (sym s.replied) is;
         moments = said_moments fault says;
         says = record { bytes = part.bytes; rest = part.rest; part = part.part; said = part.said ∙ ap (λ (l : List ℕ). l ++ part.bytes) s.quiet; whole = λ n. part.whole (none n) };
+        closes = closes_said (answer_text s.turn.answer) fault says;
         ready = λ n. IsReady-said size s.turn.next memory mid new (words_said _ fault mid new says) (shelf_said _ fault mid new says) (s.ready refl);
         counted = counts;
         sound = sound;

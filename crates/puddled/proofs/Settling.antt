@@ -1,5 +1,5 @@
 -- A line without a word: its command carried out, and what goes on behind it.
-use Rattle.std.proofs.Common.{◌≡◌, ◌≢◌, ◌⊎◌, inl, inr, ℕ, List, [], Some, None, Result, Ok, Err, refl, sym, ap, subst, ◌∙◌}
+use Rattle.std.proofs.Common.{◌≡◌, ◌≢◌, ◌⊎◌, inl, inr, ℕ, ◌<◌, ◌≤◌, true, ◌||◌, eqb, List, [], Option, Some, None, Result, Ok, Err, refl, sym, ap, subst, ◌∙◌}
 use Rattle.std.proofs.lemmas.List.{append-nil}
 use Rattle.pm_model.specs.declared.host.HostFault.{HostFault}
 use Rattle.pm_model.specs.declared.host.HostFault.TheVariants as hosts
@@ -12,18 +12,31 @@ use Rattle.pm_model.proofs.Leaves.{Leaves-then, Leaves-now}
 use Rattle.pud_defs.specs.declared.machine.Reply.{Reply}
 use Rattle.pud_defs.specs.declared.machine.Reply.TheVariants as replies
 use Rattle.pud_defs.specs.Image.{Image}
-use Rattle.pud_defs.specs.World.{World, world_of, closed, restart}
+use Rattle.pud_defs.specs.declared.machine.Command.{Command}
+use Rattle.pud_defs.specs.declared.machine.Command.TheVariants.{Leave}
+use Rattle.pud_defs.specs.declared.machine.Refusal.{Refusal}
+use Rattle.pud_defs.specs.declared.layout.TheConstants.{DAEMON_LOG, CLIENTS}
+use Rattle.pud_defs.specs.Layout.{tables_end, frames_at}
+use Rattle.pud_defs.specs.Replay.{settled_by}
+use Rattle.pud_defs.specs.Spaces.{space_record_at, has_closed_logs}
+use Rattle.pud_defs.specs.World.{World, StoredWorld, world_of, closed, restart}
 use Rattle.pud_defs.specs.Grammar.{command_of}
-use Rattle.pud_defs.specs.Step.{step_world}
-use Rattle.pud_defs.specs.Changing.{file_in}
-use Rattle.pud_defs.proofs.Changing.{shelf_by, KeepsFiles-none}
+use Rattle.pud_defs.specs.Step.{refusal_of, after, unless_refused, world_by, step_world}
+use Rattle.pud_defs.specs.Changing.{Part, part_of, with_part, file_in}
+use Rattle.pud_defs.specs.Changing.Part.{types, clients, nothing}
+use Rattle.pud_defs.proofs.Parts.Part.{Spaces}
+use Rattle.pud_defs.proofs.Changing.{after-part, shelf_by, KeepsFiles-none}
+use Rattle.pud_defs.proofs.Commands.{command_of-legal}
+use Rattle.pud_defs.proofs.Logged.{settled_by-client_logs}
+use Rattle.pud_defs.proofs.Spaces.{all_below-each, has_closed_logs-same}
+use Rattle.pud_defs.proofs.Worlds.{standing_of_world, legal_log_of_world, frames_of_world}
 use Rattle.puddled.specs.declared.daemon.StartFault.{StartFault}
 use Rattle.puddled.specs.declared.daemon.StartFault.TheVariants as starts
 use Rattle.puddled.specs.declared.daemon.RunFault.TheVariants as faults
 use Rattle.puddled.specs.Faults.{start_fault, of_host, of_start, Kind, kind_of, CountsKind, CountsCommand, CountsLine, behind_loss}
 use Rattle.puddled.specs.Faults.Kind.{ordinary, loses, arms}
 use Rattle.puddled.specs.Memory.{Memory}
-use Rattle.puddled.specs.Daemon.{IsReady, CarriesOut, Recovers, Settles}
+use Rattle.puddled.specs.Daemon.{IsReady, IsClosedIfFree, ClosesLogs, CarriesOut, HasLogsOf, Recovers, Settles}
 use Rattle.puddled.proofs.Turns.{turn_of, is_turn_of, cut_turn, is_cut_turn}
 use Rattle.puddled.proofs.Counted.{counted_step, counted_cut, counted_nothing, kind_done, kind_faulty, kind_unstarted, host_is_sound}
 use Rattle.puddled.proofs.Carrying.{restart_line}
@@ -48,6 +61,7 @@ module _ (size : ℕ) (w : World) (memory : Memory) (line : List ℕ) (before be
         replied = sym k.replied;
         moments = k.applies.moments;
         quiet = k.applies.quiet;
+        closes = k.closes;
         ready = λ _. k.applies.ready refl;
         counted = counted_step w line None before between (kind_done (kind_of (command_of line)) before between k.counted);
         sound = λ no. cc;
@@ -64,11 +78,42 @@ module _ (size : ℕ) (w : World) (memory : Memory) (line : List ℕ) (before be
         replied = tt;
         moments = k.applies.moments;
         quiet = k.applies.quiet;
+        closes = k.closes;
         ready = λ no. absurd (cc);
         counted = counted_step w line (Some faults.Failed) before between (kind_faulty (kind_of (command_of line)) before between k.counted);
         sound = λ no. cc;
         script = k.applies.script;
       }
+
+-- ---- what a power loss leaves
+
+frames_of_part : (p : Part) (v w : World) → (with_part p v w).stored.frames ≡ w.stored.frames
+frames_of_part types v w = refl
+frames_of_part clients v w = refl
+frames_of_part nothing v w = refl
+
+frames_unless : (r : Option Refusal) (before later : World) → later.stored.frames ≡ before.stored.frames → (unless_refused r before later).stored.frames ≡ before.stored.frames
+frames_unless None before later same = same
+frames_unless (Some r) before later same = refl
+
+-- no command changes the number of frames
+frames_by : (w : World) (c : Option Command) → (world_by w c).stored.frames ≡ w.stored.frames
+frames_by w None = refl
+frames_by w (Some c) = frames_unless (refusal_of w c) w (after w c) (ap (λ (x : World). x.stored.frames) (after-part w c) ∙ frames_of_part (part_of c) (after w c) w)
+
+-- In a sound image the logs of a client are closed whose record is used still, or whose logs are closed first.
+closed_at_loss : (size F client : ℕ) (image : Image) (s : StoredWorld) → client < CLIENTS → world_of size image ≡ Some s → s.frames ≡ F → IsClosedIfFree F client image → has_closed_logs image F client ≡ true
+closed_at_loss size F client image s known world same (inr shut) = shut
+closed_at_loss size F client image s known world same (inl used) =
+    let later = settled_by DAEMON_LOG image in
+    let spaces = (standing_of_world size image s world).holds Spaces in
+    let each = all_below-each CLIENTS (λ c. eqb (later (space_record_at c)) 0 || has_closed_logs later s.frames c) spaces.logs client known in
+    let shut : has_closed_logs later s.frames client ≡ true = sym (ap (λ (v : ℕ). eqb v 0 || has_closed_logs later s.frames client) used.replayed) ∙ each in
+    let frames = frames_of_world size image s world in
+    let legal = legal_log_of_world size image s world in
+    let raw = has_closed_logs-same image later s.frames client known
+    (λ k low high. sym (settled_by-client_logs image k legal (subst (λ (n : ℕ). tables_end n ≤ k) (sym frames) low) (subst (λ (n : ℕ). k < frames_at n) (sym frames) high))) in
+    subst (λ (n : ℕ). has_closed_logs image n client ≡ true) same (raw ∙ shut)
 
 -- After a power loss the device reads as one of the two worlds, and the daemon recovers that one.
 record Found (size : ℕ) (w : World) (line : List ℕ) (mid : State) : Type 0 where
@@ -77,6 +122,7 @@ record Found (size : ℕ) (w : World) (line : List ℕ) (mid : State) : Type 0 w
   stands : world_of size (reads mid.now.words) ≡ Some (closed next)
   shelf : mid.shelf ≡ next.shelf
   again : restart next ≡ next
+  frames : next.stored.frames ≡ w.stored.frames
 
 module _ (size : ℕ) (w : World) (memory : Memory) (line : List ℕ) (before between : Counts) (old mid : State)
     (k : CarriesOut size w memory (command_of line) (Err hosts.Cut) before between old mid) (was : old.shelf ≡ w.shelf) where
@@ -92,8 +138,8 @@ module _ (size : ℕ) (w : World) (memory : Memory) (line : List ℕ) (before be
 
   found : Found size w line mid
   found = elim read_image [
-    | inl first ↦ record { next = restart w; which = inl refl; stands = first; shelf = kept; again = refl }
-    | inr later ↦ record { next = restart (step_world w line); which = inr refl; stands = later; shelf = kept ∙ sym given; again = refl }
+    | inl first ↦ record { next = restart w; which = inl refl; stands = first; shelf = kept; again = refl; frames = refl }
+    | inr later ↦ record { next = restart (step_world w line); which = inr refl; stands = later; shelf = kept ∙ sym given; again = refl; frames = frames_by w (command_of line) }
   ]
 
   -- the restart finds a sound device
@@ -110,6 +156,10 @@ module _ (size : ℕ) (w : World) (memory : Memory) (line : List ℕ) (before be
   pub found_shelf : mid.shelf ≡ found_world.shelf
   unfolding found_world
   found_shelf = found.shelf
+
+  found_frames : found_world.stored.frames ≡ w.stored.frames
+  unfolding found_world
+  found_frames = found.frames
 
   -- it was restarted already
   found_again : restart found_world ≡ found_world
@@ -140,6 +190,22 @@ module _ (size : ℕ) (w : World) (memory : Memory) (line : List ℕ) (before be
       Leaves-then P (Silently (λ image. world_of size image ≡ Some (closed found_world))) P [] old mid new (k.applies.quiet ∙ sym (append-nil old.now.said))
       (λ front image m. m) (λ more image m. (m.0, stands_between image m.1)) k.applies.moments r.moments
 
+  -- a client that went had its logs closed as power was lost, and the restart leaves them so
+  closes_behind : (result : Result Memory StartFault) (new : State) → Recovers size found_world result mid new → ClosesLogs w (command_of line) old new
+  closes_behind result new r = record {
+    first = λ client is present.
+        let F = w.stored.frames in
+        let P : List ℕ → Image → Type 0 = λ bytes image. IsClosedIfFree F client image in
+        let said = k.applies.quiet ∙ sym (append-nil old.now.said) in
+        let first = k.closes.first client is present in
+        let known = command_of-legal line (Leave client) is in
+        let at_loss = Leaves-now P [] old mid said first (reads mid.now.words) (Picks-reads mid.now.words) in
+        let shut = closed_at_loss size F client (reads mid.now.words) (closed found_world) known found_stands found_frames at_loss in
+        let logs = subst (λ (n : ℕ). Leaves (λ bytes image. HasLogsOf n (reads mid.now.words) image) mid new) found_frames r.logs in
+        Leaves-then P (λ bytes image. HasLogsOf F (reads mid.now.words) image) P [] old mid new said (λ front image m. m)
+        (λ more image m. inr (has_closed_logs-same image (reads mid.now.words) F client known (λ n low high. m.each n low high) ∙ shut)) first logs;
+  }
+
   module _ (now : Memory) (after : Counts) (new : State) where
     -- the daemon started again behind a line that was cut off
     Settles-cut : kind_of (command_of line) ≡ ordinary → Recovers size found_world (Ok now) mid new → after ≡ between → Settles size w line (Ok replies.Cut) now before after old new
@@ -152,6 +218,7 @@ module _ (size : ℕ) (w : World) (memory : Memory) (line : List ℕ) (before be
           replied = refl;
           moments = both_moments (Ok now) new r;
           quiet = r.quiet ∙ k.applies.quiet;
+          closes = closes_behind (Ok now) new r;
           ready = λ _. subst (λ (v : World). IsReady size v now new) found_again r.ready;
           counted = subst (λ (x : Kind). CountsKind x None 1 before after) (sym is) (counted_cut before between after lost same);
           sound = λ no. cc;
@@ -171,6 +238,7 @@ module _ (size : ℕ) (w : World) (memory : Memory) (line : List ℕ) (before be
           replied = it.answered;
           moments = both_moments (Ok now) new r;
           quiet = r.quiet ∙ k.applies.quiet;
+          closes = closes_behind (Ok now) new r;
           ready = λ _. subst (λ (v : World). IsReady size v now new) (found_again ∙ lost_world it.given) r.ready;
           counted = counted_step w line None before after counts;
           sound = λ no. cc;
@@ -195,6 +263,7 @@ module _ (size : ℕ) (w : World) (memory : Memory) (line : List ℕ) (before be
           replied = tt;
           moments = both_moments (Err (starts.Host fault)) new r;
           quiet = r.quiet ∙ k.applies.quiet;
+          closes = closes_behind (Err (starts.Host fault)) new r;
           ready = λ no. absurd (cc);
           counted = counted_step w line (Some (of_host fault)) before after counts;
           sound = host_is_sound fault;

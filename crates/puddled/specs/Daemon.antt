@@ -1,5 +1,5 @@
 -- What the daemon's start and one line do, at every moment.
-use Rattle.std.specs.Prelude.{◌≡◌, ◌≢◌, ◌<◌, ◌⊎◌, ℕ, Bool, true, cond, List, [], ◌∷◌, ◌++◌, Option, Some, None, Result, IfOk}
+use Rattle.std.specs.Prelude.{◌≡◌, ◌≢◌, ◌<◌, ◌≤◌, ◌⊎◌, ℕ, Bool, true, cond, List, [], ◌∷◌, ◌++◌, Option, Some, None, is_some, Result, IfOk}
 use Rattle.pm_model.specs.declared.host.HostFault.{HostFault}
 use Rattle.pm_model.specs.declared.host.HostFault.TheVariants as hosts
 use Rattle.pm_model.specs.Words.{reads, IsRested}
@@ -9,10 +9,14 @@ use Rattle.pm_model.specs.Changes.{Leaves, Silently}
 use Rattle.pud_defs.specs.declared.machine.Reply.{Reply}
 use Rattle.pud_defs.specs.Step.{Answer, answer_by, world_by}
 use Rattle.pud_defs.specs.Step.Answer.{of_reply}
-use Rattle.pud_defs.specs.declared.layout.TheConstants.{CLIENTS}
+use Rattle.pud_defs.specs.declared.layout.TheConstants.{DAEMON_LOG, CLIENTS}
+use Rattle.pud_defs.specs.Layout.{tables_end, frames_at}
+use Rattle.pud_defs.specs.Image.{Image}
+use Rattle.pud_defs.specs.Replay.{settled_by}
 use Rattle.pud_defs.specs.Spaces.{space_record_at, owner_of, has_closed_logs}
 use Rattle.pud_defs.specs.World.{World, world_of, closed, restart}
 use Rattle.pud_defs.specs.declared.machine.Command.{Command}
+use Rattle.pud_defs.specs.declared.machine.Command.TheVariants.{Leave}
 use Rattle.pud_defs.specs.Grammar.{command_of}
 use Rattle.pud_defs.specs.Changing.{file_in, KeepsFiles}
 use Rattle.pud_defs.specs.Run.{Turn, IsTurn, cuts_of}
@@ -68,21 +72,36 @@ pub record Applies (size : ℕ) (w next : World) (memory : Memory) (fault : Opti
   pub rests : fault ≡ Some hosts.Cut → IsRested new.now.words
   pub script : new.script ≡ old.script
 
+-- The client's record of the log-space table is used, also once the daemon log is replayed.
+pub record IsUsedStill (client : ℕ) (image : Image) : Type 0 where
+  pub now : image (space_record_at client) ≡ 1
+  pub replayed : settled_by DAEMON_LOG image (space_record_at client) ≡ 1
+
+-- the client's record is used still, or each of its logs is closed
+abbrev pub IsClosedIfFree : ℕ → ℕ → Image → Type 0
+IsClosedIfFree F client image = IsUsedStill client image ⊎ (has_closed_logs image F client ≡ true)
+
+-- Each image left at any moment has each of the client's logs closed, unless its record is used still.
+abbrev pub ClosesFirst : ℕ → ℕ → State → State → Type 0
+ClosesFirst F client old new = Leaves (λ bytes image. IsClosedIfFree F client image) old new
+
+-- Where the command lets a client go that is present, its logs are closed before its record is free.
+pub record ClosesLogs (w : World) (command : Option Command) (old new : State) : Type 0 where
+  pub first : (client : ℕ) → command ≡ Some (Leave client) → true ≡ is_some (w.clients client) → ClosesFirst w.stored.frames client old new
+
 -- What each command owes, before the daemon goes on behind it: it was carried out, or refused, and the reply is the machine's; only a file that
--- it names was written, and it names none where power was lost; it was counted by its kind.
+-- it names was written, and it names none where power was lost; a client that goes has its logs closed first; it was counted by its kind.
 pub record CarriesOut (size : ℕ) (w : World) (memory : Memory) (command : Option Command) (done : Result Reply HostFault) (before after : Counts) (old new : State) : Type 0 where
   pub replied : IfOk done (λ reply. of_reply reply ≡ answer_by w command)
   pub applies : Applies size w (world_by w command) memory (fault_of done) old new
   pub files : KeepsFiles (file_in command) old.shelf new.shelf
   pub no_file : fault_of done ≡ Some hosts.Cut → file_in command ≡ None
+  pub closes : ClosesLogs w command old new
   pub counted : CountsCommand (kind_of command) (fault_of done) before after
-
--- Each image left at any moment has the client's record of the log-space table used still, or has each of its logs closed.
-abbrev pub ClosesFirst : ℕ → ℕ → State → State → Type 0
-ClosesFirst F client old new = Leaves (Silently (λ image. (image (space_record_at client) ≡ 1) ⊎ (has_closed_logs image F client ≡ true))) old new
 
 -- A line was carried out, or refused, or cut off and the daemon started again, all without a word: at every moment the images stand for the
 -- world before it or the one that it gives, and without a fault the daemon is ready, with this memory, in the world from which the run goes on.
+-- A client that goes has its logs closed first.
 pub record Settles (size : ℕ) (w : World) (line : List ℕ) (result : Result Reply RunFault) (memory : Memory) (before after : Counts) (old new : State) : Type 0 where
   pub turn : Turn
   pub of_line : turn.line ≡ line
@@ -90,15 +109,21 @@ pub record Settles (size : ℕ) (w : World) (line : List ℕ) (result : Result R
   pub replied : IfOk result (λ reply. turn.answer ≡ of_reply reply)
   pub moments : Leaves (Silently (λ image. (world_of size image ≡ Some (closed w)) ⊎ (world_of size image ≡ Some (closed turn.under)))) old new
   pub quiet : new.now.said ≡ old.now.said
+  pub closes : ClosesLogs w (command_of line) old new
   pub ready : run_fault result ≡ None → IsReady size turn.next memory new
   pub counted : CountsLine (command_of line) (run_fault result) (cuts_of (turn ∷ [])) before after
   pub sound : run_fault result ≢ Some faults.NotSound
   pub script : new.script ≡ old.script
 
--- The daemon recovered what a rested device stands for, without a word: at each moment each image stands for the world, and without a fault
--- the daemon is ready in it.
+-- the words of the clients' logs, on a device of so many frames, are those of another image
+pub record HasLogsOf (F : ℕ) (other image : Image) : Type 0 where
+  pub each : (k : ℕ) → tables_end F ≤ k → k < frames_at F → image k ≡ other k
+
+-- The daemon recovered what a rested device stands for, without a word: at each moment each image stands for the world, and has the words of
+-- the clients' logs as they were read; without a fault the daemon is ready in it.
 pub record Recovers (size : ℕ) (w : World) (result : Result Memory StartFault) (old new : State) : Type 0 where
   pub moments : Leaves (Silently (λ image. world_of size image ≡ Some (closed w))) old new
+  pub logs : Leaves (λ bytes image. HasLogsOf w.stored.frames (reads old.now.words) image) old new
   pub quiet : new.now.said ≡ old.now.said
   pub ready : IfOk result (λ memory. IsReady size (restart w) memory new)
   pub script : new.script ≡ old.script
@@ -118,8 +143,8 @@ abbrev pub spoken : Bool → Answer → List ℕ
 spoken aloud answer = cond aloud (answer_text answer) []
 
 -- One line is one turn of the machine: at every moment the images stand for the world before it or the one that it gives, with its reply said
--- only once that one is durable; without a fault the reply is whole and the daemon, with this memory, ready for the next line. Where the reply is `cut` power
--- was lost.
+-- only once that one is durable; without a fault the reply is whole and the daemon, with this memory, ready for the next line. A client that
+-- goes has its logs closed first. Where the reply is `cut` power was lost.
 pub record Answers (size : ℕ) (w : World) (line : List ℕ) (aloud : Bool) (result : Result Bool RunFault) (memory : Memory) (before after : Counts) (old new : State) : Type 0 where
   pub turn : Turn
   pub of_line : turn.line ≡ line
@@ -127,6 +152,7 @@ pub record Answers (size : ℕ) (w : World) (line : List ℕ) (aloud : Bool) (re
   pub ok : IfOk result (λ ok. ok ≡ begins_with_ok turn.answer)
   pub moments : Leaves (StandsWith size w (turn ∷ [])) old new
   pub says : SaysPart (spoken aloud turn.answer) (run_fault result) old new
+  pub closes : ClosesLogs w (command_of line) old new
   pub ready : run_fault result ≡ None → IsReady size turn.next memory new
   pub counted : CountsLine (command_of line) (run_fault result) (cuts_of (turn ∷ [])) before after
   pub sound : run_fault result ≢ Some faults.NotSound

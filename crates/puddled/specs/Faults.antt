@@ -79,7 +79,7 @@ restart_cuts (Some faults.NotSound) = 0
 -- n cuts were counted at least, and then it ended so
 pub record IsEnded (n : ℕ) (fault : Option RunFault) (old new : Counts) : Type 0 where
   pub before : Counts
-  pub lost : CountsCuts n old before
+  pub cuts : CountsCuts n old before
   pub last : new ≡ after_fault (last_fault fault) before
 
 -- n cuts were counted at least besides those that its end stands for, and then it ended so
@@ -112,7 +112,7 @@ is_loss command = is_loss_kind (kind_of command)
 abbrev pub CountsKind : Kind → Option RunFault → ℕ → Counts → Counts → Type 0
 CountsKind ordinary fault n old new = IsCounted fault n old new
 CountsKind (loses pick) fault n old new = (n ≡ 0) × IsEnded (restart_cuts fault) fault (after_loss_of pick old) new
-CountsKind (arms step pick) fault n old new = (n ≡ 0) × (fault ≢ Some faults.CutInStart) × (new ≡ after_fault (last_fault fault) (after_arm step pick old))
+CountsKind (arms step pick) fault n old new = (n ≡ 0) × (cuts_at fault ≡ 0) × (new ≡ after_fault (last_fault fault) (after_arm step pick old))
 
 -- in a line of the command
 abbrev pub CountsLine : Option Command → Option RunFault → ℕ → Counts → Counts → Type 0
@@ -148,9 +148,9 @@ pub record Grows (old new : Counts) : Type 0 where
   pub arms : old.arms ≤ new.arms
   pub losses : old.losses ≤ new.losses
 
--- lines went on, power was lost in the restart at `CutInStart`, and then it ended so
+-- lines went on, a cut was counted in the restart at `CutInStart`, and then it ended so
 pub record Ends (fault : Option RunFault) (old new : Counts) : Type 0 where
   pub before : Counts
   pub grows : Grows old before
-  pub lost : RoseBy (restart_cuts fault) old.cuts before.cuts
+  pub cuts : RoseBy (restart_cuts fault) old.cuts before.cuts
   pub last : new ≡ after_fault (last_fault fault) before

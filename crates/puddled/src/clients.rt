@@ -68,7 +68,7 @@ fn dismiss<H: Host>(h: &mut H, frames: u32, client: u32) -> Result<(), HostFault
     requires room { device_words frames ≤ (H.counts h.old).size }
     ensures applies { H.tells → (size : ℕ) → size ≡ (H.counts h.old).size → (w : World) → (memory : Memory) → memory.frames ≡ frames → IsReady size w memory (H.state h.old)
         → Applies size w (after w (commands.Leave client)) memory (fault_of result) (H.state h.old) (H.state h.new) }
-    // Its logs are closed in each image in which its record may be free.
+    // Its logs are closed in each image in which its record is free, or is with the daemon log replayed.
     ensures closes_first { H.tells → (size : ℕ) → size ≡ (H.counts h.old).size → (w : World) → (memory : Memory) → memory.frames ≡ frames → IsReady size w memory (H.state h.old)
         → true ≡ is_some (w.clients client) → ClosesFirst w.stored.frames client (H.state h.old) (H.state h.new) }
     ensures rest { H.tells → KeepsRest (H.state h.old) (H.state h.new) }
@@ -89,7 +89,7 @@ pub fn leave<H: Host>(h: &mut H, frames: u32, client: u32) -> Result<Reply, Host
         → IfOk result (λ reply. of_reply reply ≡ answer_by w (Option.Some (commands.Leave client))) }
     ensures applies { H.tells → (size : ℕ) → size ≡ (H.counts h.old).size → (w : World) → (memory : Memory) → memory.frames ≡ frames → IsReady size w memory (H.state h.old)
         → Applies size w (world_by w (Option.Some (commands.Leave client))) memory (fault_of result) (H.state h.old) (H.state h.new) }
-    // Its logs are closed in each image in which its record may be free.
+    // Its logs are closed in each image in which its record is free, or is with the daemon log replayed.
     ensures closes_first { H.tells → (size : ℕ) → size ≡ (H.counts h.old).size → (w : World) → (memory : Memory) → memory.frames ≡ frames → IsReady size w memory (H.state h.old)
         → true ≡ is_some (w.clients client) → ClosesFirst w.stored.frames client (H.state h.old) (H.state h.new) }
     ensures rest { H.tells → KeepsRest (H.state h.old) (H.state h.new) }

@@ -1,8 +1,8 @@
--- The daemon log of a rested device applied: each image left stands for the same world.
-use Rattle.std.proofs.Common.{◌≡◌, inl, inr, ℕ, ◌<◌, ◌≤◌, true, List, get_or, Option, Some, None, refl, sym, ap, subst, ◌∙◌, arith}
+-- The daemon log of a device applied: what is read then stands for the same world, and on a rested device so does each image left.
+use Rattle.std.proofs.Common.{◌≡◌, inl, inr, ℕ, ◌<◌, ◌≤◌, true, false, List, get_or, Option, Some, None, refl, sym, ap, subst, ◌∙◌, arith}
 use Rattle.std.specs.Prelude.{[]}
 use Rattle.std.specs.List.{list_all}
-use Rattle.std.proofs.lemmas.Bool.{cases_eq}
+use Rattle.std.proofs.lemmas.Bool.{cases_eq, cases_Bool}
 use Rattle.std.proofs.lemmas.List.{append-nil}
 use Rattle.std.proofs.lemmas.List.Sums.{AllPass-from_list_all}
 use Rattle.pm_model.specs.declared.host.HostFault.{HostFault}
@@ -10,7 +10,7 @@ use Rattle.pm_model.specs.declared.host.HostFault.TheVariants.{Cut}
 use Rattle.pm_model.specs.Words.{reads, HasOnly, IsRested}
 use Rattle.pm_model.specs.Moments.{State}
 use Rattle.pm_model.specs.Changes.{Leaves, Silently}
-use Rattle.pm_model.proofs.Words.{HasOnly-own, Picks-reads, reads_only}
+use Rattle.pm_model.proofs.Words.{HasOnly-own, HasOnly-newest, reads_only}
 use Rattle.pm_model.proofs.Changes.{Changes-said, Changes-still, Changes-then, HasOnly-kept}
 use Rattle.pm_model.proofs.Leaves.{Leaves-weaker, Leaves-still, Leaves-now}
 use Rattle.pud_defs.specs.declared.layout.TheConstants.{DAEMON_LOG, FRAMES_WORD, MACHINE_WORD}
@@ -18,48 +18,47 @@ use Rattle.pud_defs.specs.declared.log_words.TheConstants.{CLOSED_GATE}
 use Rattle.pud_defs.specs.Image.{Image}
 use Rattle.pud_defs.specs.Layout.{device_words}
 use Rattle.pud_defs.specs.Entries.{Entry, log_of, is_idle_gate}
-use Rattle.pud_defs.specs.Replay.{device_word, new_value, settled_by}
-use Rattle.pud_defs.specs.Registry.{frames_of, is_allowed, are_allowed, has_legal_log}
-use Rattle.pud_defs.specs.World.{StoredWorld, registry_world, world_of}
-use Rattle.pud_defs.proofs.Replay.{outside_log, settled_by-closed}
+use Rattle.pud_defs.specs.Replay.{device_word, new_value, is_in_log, settled_by}
+use Rattle.pud_defs.specs.Registry.{frames_of, is_allowed, are_allowed, has_legal_log, is_sound}
+use Rattle.pud_defs.specs.World.{StoredWorld, stored_by, registry_world, world_of}
+use Rattle.pud_defs.proofs.Replay.{outside_log, settled_by-inside, settled_by-outside, settled_by-closed}
 use Rattle.pud_defs.proofs.Logged.{legal_entries, allowed_in_range, has_legal_log-of, new_value-unlogged}
 use Rattle.pud_defs.proofs.Parts.Part.{Header}
-use Rattle.pud_defs.proofs.Worlds.{standing_of_world, legal_log_of_world, legal_log_closed, frames_of_world, world_of_legal}
-use Rattle.log_replay.specs.Replaying.{IsReplayable, ByLog, SettlesSame, SettlesLog}
+use Rattle.pud_defs.proofs.Worlds.{standing_of_world, legal_log_of_world, legal_log_closed, frames_of_world, world_of_legal, world_of-sound}
+use Rattle.log_replay.specs.Replaying.{IsReplayable, HasDurableLog, ByLog, SettlesSame, SettlesLog}
+use Rattle.log_replay.proofs.Closing.{gate_apart}
 use Rattle.batch.specs.Worlds.{IsSettled}
 use Rattle.batch.proofs.Worlds.{names_apart}
 use Rattle.registry.specs.Registry.{AppliesLog}
 
--- ---- a sound rested device: its daemon log may be replayed
+-- ---- a sound device: its daemon log may be replayed
 
-module _ (size : ℕ) (s : StoredWorld) (a : State) (rested : IsRested a.now.words) (world : world_of size (reads a.now.words) ≡ Some s) where
-  legal : has_legal_log (reads a.now.words) ≡ true
-  legal = legal_log_of_world size (reads a.now.words) s world
+module _ (size : ℕ) (s : StoredWorld) (image : Image) (world : world_of size image ≡ Some s) where
+  legal : has_legal_log image ≡ true
+  legal = legal_log_of_world size image s world
 
-  frames_fit : device_words (frames_of (reads a.now.words)) ≤ size
+  frames_fit : device_words (frames_of image) ≤ size
   frames_fit =
-      let frames : frames_of (reads a.now.words) ≡ s.frames = frames_of_world size (reads a.now.words) s world in
-      let room = ((standing_of_world size (reads a.now.words) s world).holds Header).room in
+      let frames : frames_of image ≡ s.frames = frames_of_world size image s world in
+      let room = ((standing_of_world size image s world).holds Header).room in
       omega arith
 
-  pub entries : List Entry
-  entries = (legal_entries (reads a.now.words) legal).entries
+  entries : List Entry
+  entries = (legal_entries image legal).entries
 
-  spelled : (log_of (reads a.now.words) DAEMON_LOG).entries ≡ Some entries
+  spelled : (log_of image DAEMON_LOG).entries ≡ Some entries
   unfolding entries
-  spelled = (legal_entries (reads a.now.words) legal).are
+  spelled = (legal_entries image legal).are
 
-  allowed : list_all (is_allowed (frames_of (reads a.now.words)) (log_of (reads a.now.words) DAEMON_LOG)) entries ≡ true
+  allowed : list_all (is_allowed (frames_of image) (log_of image DAEMON_LOG)) entries ≡ true
   unfolding entries
-  allowed = (legal_entries (reads a.now.words) legal).allowed
+  allowed = (legal_entries image legal).allowed
 
-  pub replayable : IsReplayable device_word size DAEMON_LOG entries a.now.words
+  replayable : IsReplayable device_word size DAEMON_LOG entries image
   replayable =
-      let F = frames_of (reads a.now.words) in
-      let log = log_of (reads a.now.words) DAEMON_LOG in
+      let F = frames_of image in
+      let log = log_of image DAEMON_LOG in
       record {
-        gate = rested.each DAEMON_LOG;
-        counted = λ k low high. rested.each k;
         spells = spelled;
         apart = λ k d below within.
             let e = get_or entries k d in
@@ -67,20 +66,94 @@ module _ (size : ℕ) (s : StoredWorld) (a : State) (rested : IsRested a.now.wor
             names_apart F size e frames_fit (allowed_in_range F log e passes within);
       }
 
+-- the call that settles it was behind one that changed nothing
+pub settles_sound : (size : ℕ) (fault : Option HostFault) (a b c : State) → b ≡ a → is_sound size (reads a.now.words) ≡ true
+    → ((es : List Entry) → IsReplayable device_word size DAEMON_LOG es (reads b.now.words) → SettlesLog DAEMON_LOG fault b c) → SettlesLog DAEMON_LOG fault a c
+settles_sound size fault a b c same sound settles =
+    let image = reads b.now.words in
+    let world = world_of-sound size image (ap (λ (x : State). is_sound size (reads x.now.words)) same ∙ sound) in
+    let s = stored_by (settled_by DAEMON_LOG image) in
+    subst (λ (x : State). SettlesLog DAEMON_LOG fault x c) same (settles (entries size s image world) (replayable size s image world))
+
+-- nothing was done, since a read failed
+pub SettlesLog-failed : (fault : HostFault) (a b : State) → (Some fault ≡ Some Cut → ⊥) → b ≡ a → SettlesLog DAEMON_LOG (Some fault) a b
+SettlesLog-failed fault a b not_cut same =
+    record {
+      changes = Changes-still (ByLog DAEMON_LOG (new_value device_word (log_of (reads a.now.words) DAEMON_LOG))) (Some fault) a b not_cut same;
+      durable = λ none. absurd (let it : None ≡ Some fault = sym none in cc);
+      closed = λ none. absurd (let it : None ≡ Some fault = sym none in cc);
+      reads_so = λ none. absurd (let it : None ≡ Some fault = sym none in cc);
+    }
+
+-- it was settled, and then a read failed
+pub SettlesLog-unread : (fault : HostFault) (a b c : State) → SettlesLog DAEMON_LOG None a b → (Some fault ≡ Some Cut → ⊥) → c ≡ b → SettlesLog DAEMON_LOG (Some fault) a c
+SettlesLog-unread fault a b c settles not_cut same =
+    let may = ByLog DAEMON_LOG (new_value device_word (log_of (reads a.now.words) DAEMON_LOG)) in
+    record {
+      changes = Changes-then may (Some fault) a b c settles.changes (Changes-still may (Some fault) b c not_cut same);
+      durable = λ none. absurd (let it : None ≡ Some fault = sym none in cc);
+      closed = λ none. absurd (let it : None ≡ Some fault = sym none in cc);
+      reads_so = λ none. absurd (let it : None ≡ Some fault = sym none in cc);
+    }
+
+-- ---- what is read then
+
+-- a word that is none of the log's reads as the log makes it
+pub reads_settled : (a b : State) → SettlesLog DAEMON_LOG None a b → (w : ℕ) → is_in_log DAEMON_LOG w ≡ false → reads b.now.words w ≡ settled_by DAEMON_LOG (reads a.now.words) w
+reads_settled a b settles w out = settles.reads_so refl w (gate_apart DAEMON_LOG w out) ∙ sym (settled_by-outside DAEMON_LOG (reads a.now.words) w out)
+
+gate_closed : (a b : State) → SettlesLog DAEMON_LOG None a b → is_idle_gate (reads b.now.words DAEMON_LOG) ≡ true
+gate_closed a b settles = ap is_idle_gate (HasOnly-newest (b.now.words DAEMON_LOG) CLOSED_GATE (settles.closed refl))
+
+settled_then : (a b : State) → SettlesLog DAEMON_LOG None a b → (w : ℕ) → settled_by DAEMON_LOG (reads b.now.words) w ≡ settled_by DAEMON_LOG (reads a.now.words) w
+settled_then a b settles w = elim (cases_Bool (is_in_log DAEMON_LOG w)) [
+  | inl inside ↦ settled_by-inside DAEMON_LOG (reads b.now.words) w inside ∙ sym (settled_by-inside DAEMON_LOG (reads a.now.words) w inside)
+  | inr out ↦ settled_by-closed DAEMON_LOG (reads b.now.words) w (gate_closed a b settles) out ∙ reads_settled a b settles w out
+]
+
+-- it stands for what it stood for
+stands_then : (size : ℕ) (a b : State) (o : Option StoredWorld) → world_of size (reads a.now.words) ≡ o → (o ≡ None → ⊥) → SettlesLog DAEMON_LOG None a b
+    → world_of size (reads b.now.words) ≡ world_of size (reads a.now.words)
+stands_then size a b None none sound settles = absurd (sound refl)
+stands_then size a b (Some s) world sound settles =
+    let before = reads a.now.words in
+    let now = reads b.now.words in
+    world_of_legal size now (legal_log_closed now (gate_closed a b settles))
+    ∙ ap (registry_world size) (λ i w. settled_then a b settles w i)
+    ∙ sym (world_of_legal size before (legal_log_of_world size before s world))
+
+-- also where it was only read behind that
+pub stands_read : (size : ℕ) (a b c : State) → (world_of size (reads a.now.words) ≡ None → ⊥) → SettlesLog DAEMON_LOG None a b → c ≡ b → world_of size (reads c.now.words) ≡ world_of size (reads a.now.words)
+stands_read size a b c sound settles same =
+    ap (λ (x : State). world_of size (reads x.now.words)) same ∙ stands_then size a b (world_of size (reads a.now.words)) refl sound settles
+
+-- so its machine id is that of the world
+pub machine_then : (size : ℕ) (s : StoredWorld) (a b : State) → world_of size (reads a.now.words) ≡ Some s → SettlesLog DAEMON_LOG None a b → reads b.now.words MACHINE_WORD ≡ s.machine
+machine_then size s a b world settles =
+    reads_settled a b settles MACHINE_WORD (outside_log DAEMON_LOG MACHINE_WORD (inl (omega arith))) ∙ ((standing_of_world size (reads a.now.words) s world).holds Header).machine
+
+-- ---- on a rested device, what is left at each moment
+
+module _ (size : ℕ) (s : StoredWorld) (a : State) (rested : IsRested a.now.words) (world : world_of size (reads a.now.words) ≡ Some s) where
+  durable_log : HasDurableLog DAEMON_LOG a.now.words
+  durable_log = record { gate = rested.each DAEMON_LOG; counted = λ k low high. rested.each k }
+
   -- an image whose log is as it was, or closed, and that settles the same stands for the same world
   stands_still : (image : Image) → SettlesSame a.now.words DAEMON_LOG (log_of (reads a.now.words) DAEMON_LOG) image → world_of size image ≡ Some s
   stands_still image p =
-      let log = log_of (reads a.now.words) DAEMON_LOG in
-      let before : p.before ≡ reads a.now.words = reads_only a.now.words p.before rested p.picked in
-      let frames : image FRAMES_WORD ≡ reads a.now.words FRAMES_WORD =
-      p.outside FRAMES_WORD (outside_log DAEMON_LOG FRAMES_WORD (inl (omega arith))) (new_value-unlogged (reads a.now.words) FRAMES_WORD legal (omega arith)) ∙ ap (λ (i : Image). i FRAMES_WORD) before in
+      let i = reads a.now.words in
+      let log = log_of i DAEMON_LOG in
+      let legal_log = legal size s i world in
+      let before : p.before ≡ i = reads_only a.now.words p.before rested p.picked in
+      let frames : image FRAMES_WORD ≡ i FRAMES_WORD =
+      p.outside FRAMES_WORD (outside_log DAEMON_LOG FRAMES_WORD (inl (omega arith))) (new_value-unlogged i FRAMES_WORD legal_log (omega arith)) ∙ ap (λ (x : Image). x FRAMES_WORD) before in
       let legal_now : has_legal_log image ≡ true = elim p.gate [
-        | inl same ↦ has_legal_log-of image (frames_of (reads a.now.words)) log frames same (ap (are_allowed (frames_of (reads a.now.words)) log) spelled ∙ allowed)
+        | inl same ↦ has_legal_log-of image (frames_of i) log frames same (ap (are_allowed (frames_of i) log) (spelled size s i world) ∙ allowed size s i world)
         | inr closed ↦ legal_log_closed image closed
       ] in
       world_of_legal size image legal_now
       ∙ ap (registry_world size) (p.same ∙ ap (settled_by DAEMON_LOG) before)
-      ∙ sym (world_of_legal size (reads a.now.words) legal)
+      ∙ sym (world_of_legal size i legal_log)
       ∙ world
 
   one_value : (b : State) → SettlesLog DAEMON_LOG None a b → (k : ℕ) (o : Option ℕ) → new_value device_word (log_of (reads a.now.words) DAEMON_LOG) k ≡ o → (k ≡ DAEMON_LOG → ⊥) → HasOnly (b.now.words k) (reads b.now.words k)
@@ -102,58 +175,52 @@ module _ (size : ℕ) (s : StoredWorld) (a : State) (rested : IsRested a.now.wor
         ];
       }
 
-  pub AppliesLog-settles : (fault : Option HostFault) (b : State) → SettlesLog DAEMON_LOG fault a b → AppliesLog size s fault a b
-  AppliesLog-settles fault b settles =
+  AppliesLog-settles : (fault : Option HostFault) (b : State) → SettlesLog DAEMON_LOG fault a b
+      → Leaves (Silently (SettlesSame a.now.words DAEMON_LOG (log_of (reads a.now.words) DAEMON_LOG))) a b → AppliesLog size s fault a b
+  AppliesLog-settles fault b settles left =
       let moments = Leaves-weaker (Silently (SettlesSame a.now.words DAEMON_LOG (log_of (reads a.now.words) DAEMON_LOG))) (Silently (λ image. world_of size image ≡ Some s)) a b
-      (λ bytes image p. (p.0, stands_still image p.1)) settles.moments in
+      (λ bytes image p. (p.0, stands_still image p.1)) left in
       let said = Changes-said (ByLog DAEMON_LOG (new_value device_word (log_of (reads a.now.words) DAEMON_LOG))) fault a b settles.changes in
       record {
-        changes = settles.changes;
         moments = moments;
         settled = λ none. record {
           stands = λ image picked. (Leaves-now (Silently (λ i. world_of size i ≡ Some s)) [] a b (said ∙ sym (append-nil a.now.said)) moments image picked).1;
-          closed = λ v has. ap is_idle_gate ((settles.closed none).each v has);
+          idle = λ v has. ap is_idle_gate ((settles.closed none).each v has);
         };
         rested = λ none. rested_then b (subst (λ (f : Option HostFault). SettlesLog DAEMON_LOG f a b) none settles);
       }
 
+-- the call that settles it was behind one that changed nothing
+pub AppliesLog-sound : (size : ℕ) (s : StoredWorld) (fault : Option HostFault) (a b c : State) → b ≡ a → IsRested a.now.words → world_of size (reads a.now.words) ≡ Some s
+    → ((es : List Entry) → IsReplayable device_word size DAEMON_LOG es (reads b.now.words) → SettlesLog DAEMON_LOG fault b c)
+    → ((es : List Entry) → IsReplayable device_word size DAEMON_LOG es (reads b.now.words) → HasDurableLog DAEMON_LOG b.now.words
+    → Leaves (Silently (SettlesSame b.now.words DAEMON_LOG (log_of (reads b.now.words) DAEMON_LOG))) b c)
+    → AppliesLog size s fault a c
+AppliesLog-sound size s fault a b c same rested world settles left =
+    let rested_b : IsRested b.now.words = subst (λ (x : State). IsRested x.now.words) (sym same) rested in
+    let world_b : world_of size (reads b.now.words) ≡ Some s = ap (λ (x : State). world_of size (reads x.now.words)) same ∙ world in
+    let es = entries size s (reads b.now.words) world_b in
+    let r = replayable size s (reads b.now.words) world_b in
+    subst (λ (x : State). AppliesLog size s fault x c) same
+    (AppliesLog-settles size s b rested_b world_b fault c (settles es r) (left es r (durable_log size s b rested_b world_b)))
+
 -- ---- and then the device was only read
 
 -- the daemon log was applied, and then nothing changed, also where a read failed
-pub AppliesLog-kept : (size : ℕ) (s : StoredWorld) (fault : Option HostFault) (a b c : State) → AppliesLog size s None a b → (fault ≡ Some Cut → ⊥) → c ≡ b → AppliesLog size s fault a c
-AppliesLog-kept size s fault a b c applied not_cut same =
-    let may = ByLog DAEMON_LOG (new_value device_word (log_of (reads a.now.words) DAEMON_LOG)) in
+pub AppliesLog-kept : (size : ℕ) (s : StoredWorld) (fault : Option HostFault) (a b c : State) → AppliesLog size s None a b → c ≡ b → AppliesLog size s fault a c
+AppliesLog-kept size s fault a b c applied same =
     record {
-      changes = Changes-then may fault a b c applied.changes (Changes-still may fault b c not_cut same);
       moments = subst (λ (x : State). Leaves (Silently (λ image. world_of size image ≡ Some s)) a x) (sym same) applied.moments;
       settled = λ none. subst (λ (x : State). IsSettled size s x.now.words) (sym same) (applied.settled refl);
       rested = λ none. subst (λ (x : State). IsRested x.now.words) (sym same) (applied.rested refl);
     }
 
 -- nothing was done, since a read failed
-pub AppliesLog-failed : (size : ℕ) (s : StoredWorld) (fault : HostFault) (a b : State) → IsRested a.now.words → world_of size (reads a.now.words) ≡ Some s → (Some fault ≡ Some Cut → ⊥) → b ≡ a
-    → AppliesLog size s (Some fault) a b
-AppliesLog-failed size s fault a b rested world not_cut same =
-    let may = ByLog DAEMON_LOG (new_value device_word (log_of (reads a.now.words) DAEMON_LOG)) in
+pub AppliesLog-failed : (size : ℕ) (s : StoredWorld) (fault : HostFault) (a b : State) → IsRested a.now.words → world_of size (reads a.now.words) ≡ Some s → b ≡ a → AppliesLog size s (Some fault) a b
+AppliesLog-failed size s fault a b rested world same =
     record {
-      changes = Changes-still may (Some fault) a b not_cut same;
       moments = Leaves-still (Silently (λ image. world_of size image ≡ Some s)) a b
           (λ image picked. (refl, ap (world_of size) (reads_only a.now.words image rested picked) ∙ world)) same;
       settled = λ none. absurd (let it : None ≡ Some fault = sym none in cc);
       rested = λ none. absurd (let it : None ≡ Some fault = sym none in cc);
     }
-
--- what is read of it then is what the world tells
-pub reads_so : (size : ℕ) (s : StoredWorld) (b : State) (w : ℕ) → IsSettled size s b.now.words → w < DAEMON_LOG → settled_by DAEMON_LOG (reads b.now.words) w ≡ reads b.now.words w
-reads_so size s b w settled low = settled_by-closed DAEMON_LOG (reads b.now.words) w (settled.closed (reads b.now.words DAEMON_LOG) (inl refl)) (outside_log DAEMON_LOG w (inl low))
-
-pub machine_read : (size : ℕ) (s : StoredWorld) (b : State) → IsSettled size s b.now.words → reads b.now.words MACHINE_WORD ≡ s.machine
-machine_read size s b settled =
-    sym (reads_so size s b MACHINE_WORD settled (omega arith)) ∙ ((standing_of_world size (reads b.now.words) s (settled.stands (reads b.now.words) (Picks-reads b.now.words))).holds Header).machine
-
--- behind a call that changed nothing
-pub AppliesLog-behind : (size : ℕ) (s : StoredWorld) (fault : Option HostFault) (a b c : State) → b ≡ a
-    → (IsRested b.now.words → world_of size (reads b.now.words) ≡ Some s → AppliesLog size s fault b c) → IsRested a.now.words → world_of size (reads a.now.words) ≡ Some s → AppliesLog size s fault a c
-AppliesLog-behind size s fault a b c same applies rested world =
-    subst (λ (x : State). AppliesLog size s fault x c) same
-    (applies (subst (λ (x : State). IsRested x.now.words) (sym same) rested) (ap (λ (x : State). world_of size (reads x.now.words)) same ∙ world))

@@ -19,10 +19,9 @@ load_fault (Ok x) = None
 load_fault (Err faults.NotSound) = None
 load_fault (Err (faults.Host fault)) = Some fault
 
--- The daemon log was applied and closed on a rested device: at each moment each image stands for the world; without a fault the device is
--- rested again, and the log closed.
+-- The daemon log was applied and closed on a rested device: at each moment each image stands for the world; without a fault each image at
+-- the end does, and the device is rested again.
 pub record AppliesLog (size : ℕ) (s : StoredWorld) (fault : Option HostFault) (old new : State) : Type 0 where
-  pub changes : Changes (ByLog DAEMON_LOG (new_value device_word (log_of (reads old.now.words) DAEMON_LOG))) fault old new
   pub moments : Leaves (Silently (λ image. world_of size image ≡ Some s)) old new
   pub settled : fault ≡ None → IsSettled size s new.now.words
   pub rested : fault ≡ None → IsRested new.now.words

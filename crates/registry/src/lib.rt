@@ -1,12 +1,13 @@
 //! The registry of a device: judged, and brought up to date by its daemon log.
 #![tactic(auto)]
 
-ghost use Rattle.std.specs.Prelude.{◌≡◌, ◌↔◌, ◌+◌, ◌≤◌, ℕ, Option, Result, IfOk};
+ghost use Rattle.std.specs.Prelude.{◌≡◌, ◌≢◌, ◌↔◌, ℕ, Option, Result, IfOk};
 ghost use Rattle.pm_model.specs.Words.{IsRested, reads};
-ghost use Rattle.pm_model.specs.Counts.{after_fault, fault_of};
+ghost use Rattle.pm_model.specs.Counts.{after_fault};
 ghost use Rattle.pm_model.specs.Changes.{Changes};
-ghost use Rattle.log_replay.specs.Replaying.{Anything};
-ghost use Rattle.pud_defs.specs.declared.layout.TheConstants.{DAEMON_LOG, LOG_WORDS};
+ghost use Rattle.log_replay.specs.Replaying.{Anything, SettlesLog};
+ghost use Rattle.pud_defs.specs.declared.layout.TheConstants.{DAEMON_LOG};
+ghost use Rattle.pud_defs.specs.Registry.{frames_of};
 ghost use Rattle.pud_defs.specs.World.{StoredWorld, world_of};
 ghost use Rattle.registry.specs.Judging.{IsRoomFor};
 ghost use Rattle.registry.specs.Registry.{load_fault, AppliesLog};
@@ -54,34 +55,45 @@ impl From<HostFault> for LoadFault {
 /// Judges the device, and brings it up to date: its daemon log is applied and closed, durably at `Ok`.
 ///
 /// `NotSound` comes exactly where the device is not a sound registry once that log is replayed, where the host does not
-/// fail first; then nothing changed. On a device that is rested each image left meanwhile stands for what the device did.
+/// fail first; then nothing changed. Otherwise no word changes but those that entries in range name and the gate. At `Ok`
+/// what is read stands for what it stood for, and the answer is of that. On a device that is rested each image left meanwhile
+/// stands for it too.
 pub fn load_sound<H: Host>(h: &mut H) -> Result<Geo, LoadFault>
     ensures not_sound { H.tells → load_fault result ≡ Option.None
         → (result ≡ Result.Err LoadFault.NotSound) ↔ (world_of (H.counts h.old).size (reads (H.state h.old).now.words) ≡ Option.None) }
     ensures unchanged { H.tells → result ≡ Result.Err LoadFault.NotSound → H.state h.new ≡ H.state h.old }
     ensures room { IfOk result (λ geo. IsRoomFor (H.counts h.old).size geo.frames) }
+    ensures settles { H.tells → result ≢ Result.Err LoadFault.NotSound → SettlesLog DAEMON_LOG (load_fault result) (H.state h.old) (H.state h.new) }
+    ensures stands { H.tells → (size : ℕ) → size ≡ (H.counts h.old).size
+        → IfOk result (λ geo. world_of size (reads (H.state h.new).now.words) ≡ world_of size (reads (H.state h.old).now.words)) }
+    ensures geo { H.tells → (size : ℕ) → size ≡ (H.counts h.old).size → (s : StoredWorld) → world_of size (reads (H.state h.old).now.words) ≡ Option.Some s
+        → IfOk result (λ geo. (geo.frames ≡ s.frames) × (geo.id ≡ s.machine)) }
     ensures applies { H.tells → (size : ℕ) → size ≡ (H.counts h.old).size → (s : StoredWorld) → IsRested (H.state h.old).now.words
         → world_of size (reads (H.state h.old).now.words) ≡ Option.Some s → AppliesLog size s (load_fault result) (H.state h.old) (H.state h.new) }
-    ensures geo { H.tells → (size : ℕ) → size ≡ (H.counts h.old).size → (s : StoredWorld) → IsRested (H.state h.old).now.words
-        → world_of size (reads (H.state h.old).now.words) ≡ Option.Some s → IfOk result (λ geo. (geo.frames ≡ s.frames) × (geo.id ≡ s.machine)) }
+    ensures any { H.tells → Changes Anything (load_fault result) (H.state h.old) (H.state h.new) }
+    ensures cause { H.counts h.new ≡ after_fault (load_fault result) (H.counts h.old) }
+{
+    let frames = apply_sound(h)?;
+    let id = h.load(MACHINE_WORD)?;
+    Ok(Geo { frames, id })
+}
+
+/// Judges the device, and then applies what its daemon log names, and closes it. The answer is the number of its frames.
+fn apply_sound<H: Host>(h: &mut H) -> Result<u32, LoadFault>
+    ensures not_sound { H.tells → load_fault result ≡ Option.None
+        → (result ≡ Result.Err LoadFault.NotSound) ↔ (world_of (H.counts h.old).size (reads (H.state h.old).now.words) ≡ Option.None) }
+    ensures unchanged { H.tells → result ≡ Result.Err LoadFault.NotSound → H.state h.new ≡ H.state h.old }
+    ensures room { IfOk result (IsRoomFor (H.counts h.old).size) }
+    ensures frames { H.tells → IfOk result (λ frames. frames ≡ frames_of (reads (H.state h.old).now.words)) }
+    ensures settles { H.tells → result ≢ Result.Err LoadFault.NotSound → SettlesLog DAEMON_LOG (load_fault result) (H.state h.old) (H.state h.new) }
+    ensures applies { H.tells → (size : ℕ) → size ≡ (H.counts h.old).size → (s : StoredWorld) → IsRested (H.state h.old).now.words
+        → world_of size (reads (H.state h.old).now.words) ≡ Option.Some s → AppliesLog size s (load_fault result) (H.state h.old) (H.state h.new) }
     ensures any { H.tells → Changes Anything (load_fault result) (H.state h.old) (H.state h.new) }
     ensures cause { H.counts h.new ≡ after_fault (load_fault result) (H.counts h.old) }
 {
     let Some(frames) = sound_frames(h)? else {
         return Err(LoadFault::NotSound);
     };
-    apply_log(h)?;
-    let id = h.load(MACHINE_WORD)?;
-    Ok(Geo { frames, id })
-}
-
-/// Applies what the daemon log names, and closes it.
-fn apply_log<H: Host>(h: &mut H) -> Result<(), HostFault>
-    requires { DAEMON_LOG + LOG_WORDS ≤ (H.counts h.old).size }
-    ensures applies { H.tells → (size : ℕ) → size ≡ (H.counts h.old).size → (s : StoredWorld) → IsRested (H.state h.old).now.words
-        → world_of size (reads (H.state h.old).now.words) ≡ Option.Some s → AppliesLog size s (fault_of result) (H.state h.old) (H.state h.new) }
-    ensures any { H.tells → Changes Anything (fault_of result) (H.state h.old) (H.state h.new) }
-    ensures cause { H.counts h.new ≡ after_fault (fault_of result) (H.counts h.old) }
-{
-    settle_log(h, DAEMON_LOG)
+    settle_log(h, DAEMON_LOG)?;
+    Ok(frames)
 }

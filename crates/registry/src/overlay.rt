@@ -121,7 +121,7 @@ impl Overlay {
         ensures never_cut { fault_of result ≢ Option.Some HostFault.Cut }
     {
         let before = h.load(w)?;
-        if self.range.is_closed() {
+        if self.range.counts_none() {
             return Ok(before);
         }
         let given = self.given(h, w)?;

@@ -13,8 +13,10 @@ returns-in_err-prepare-clause-commits g c =
 pub returns-clause-commits : goal.returns-clause-commits
 returns-clause-commits g c = λ t size same es spell batched free.
     let prepared = c.in_ok-prepare.ensures.prepares t size same es spell batched free in
-    Commits-settle size c.args.at es (fault_of c.settle_log.result) _ _ _ batched prepared
-    (c.settle_log.ensures.settles t size (same ∙ sym (ap (λ (n : Counts). n.size) c.in_ok-prepare.ensures.cause)) es (prepared.prepared refl).replayable)
+    let log = prepared.prepared refl in
+    let after = same ∙ sym (ap (λ (n : Counts). n.size) c.in_ok-prepare.ensures.cause) in
+    Commits-settle size c.args.at es (fault_of c.settle_log.result) _ _ _ batched prepared (c.settle_log.ensures.settles t size after es log.replayable)
+    (c.settle_log.ensures.moments t size after es log.replayable log.durable_log)
 
 pub returns-clause-any : goal.returns-clause-any
 returns-clause-any g c = λ t. any_then (fault_of c.settle_log.result) _ _ _ (c.in_ok-prepare.ensures.any t) (c.settle_log.ensures.any t)

@@ -1,4 +1,4 @@
-use Rattle.std.proofs.Common.{◌≡◌, None, refl, sym, subst}
+use Rattle.std.proofs.Common.{None, refl, sym, subst}
 use Rattle.std.proofs.lemmas.Result.{err_from_is_err_and}
 use Rattle.pm_model.specs.Words.{reads}
 use Rattle.pm_model.specs.Counts.{fault_of}
@@ -25,8 +25,8 @@ returns-in_err-undo-clause-overwrites g c =
     let log = log_of (reads s.now.words) c.args.log_at in
     let still = c.in_ok-range.ensures.stays t in
     let range = c.in_ok-range.ensures.range t _ refl in
-    let left = subst (λ (x : State). IsLeft place size log c.new-newest_first.result es (reads x.now.words)) (sym still) (all_left place size c.args.log_at es s.now.words c.new-newest_first.result c.new-newest_first.ensures r) in
-    Applies-cut_short (undone place log es) (redone place log es) (new_value place log) _ s _ _ still (new_value-parts place size c.args.log_at es s.now.words r)
+    let left = subst (λ (x : State). IsLeft place size log c.new-newest_first.result es (reads x.now.words)) (sym still) (all_left place size c.args.log_at es (reads s.now.words) c.new-newest_first.result c.new-newest_first.ensures r) in
+    Applies-cut_short (undone place log es) (redone place log es) (new_value place log) _ s _ _ still (new_value-parts place size c.args.log_at es (reads s.now.words) r)
     (c.in_err-undo.ensures.undoes t size (size_then size _ _ same c.in_ok-range.ensures.cause) log es range left))
 
 pub returns-clause-overwrites : goal.returns-clause-overwrites
@@ -39,11 +39,11 @@ returns-clause-overwrites g c = λ t size same es r.
     let range = c.in_ok-range.ensures.range t _ refl in
     let after_of = size_then size _ _ same c.in_ok-range.ensures.cause in
     let after_undo = size_then size _ _ after_of c.in_ok-undo.ensures.cause in
-    let left = subst (λ (x : State). IsLeft place size log c.new-newest_first.result es (reads x.now.words)) (sym still) (all_left place size c.args.log_at es s.now.words c.new-newest_first.result c.new-newest_first.ensures r) in
-    let again = subst (λ (x : State). IsLeft place size log c.new-oldest_first.result es (reads x.now.words)) (sym still) (all_left place size c.args.log_at es s.now.words c.new-oldest_first.result c.new-oldest_first.ensures r) in
+    let left = subst (λ (x : State). IsLeft place size log c.new-newest_first.result es (reads x.now.words)) (sym still) (all_left place size c.args.log_at es (reads s.now.words) c.new-newest_first.result c.new-newest_first.ensures r) in
+    let again = subst (λ (x : State). IsLeft place size log c.new-oldest_first.result es (reads x.now.words)) (sym still) (all_left place size c.args.log_at es (reads s.now.words) c.new-oldest_first.result c.new-oldest_first.ensures r) in
     let first = c.in_ok-undo.ensures.undoes t size after_of log es range left in
     let then = IsLeft-kept place size log c.new-oldest_first.result es (undone place log es) t1 _ first.changes (undone-apart place size _ log es again.apart) again in
-    Applies-joined (undone place log es) (redone place log es) (new_value place log) (fault_of c.redo.result) s t1 _ _ still (new_value-parts place size c.args.log_at es s.now.words r) first
+    Applies-joined (undone place log es) (redone place log es) (new_value place log) (fault_of c.redo.result) s t1 _ _ still (new_value-parts place size c.args.log_at es (reads s.now.words) r) first
     (c.redo.ensures.redoes t size after_undo log es range then)
 
 pub returns-clause-any : goal.returns-clause-any

@@ -1,10 +1,19 @@
 use Rattle.std.proofs.Common.{◌≡◌, ℕ, List, [], ◌∷◌, Some, ap₂, subst}
 use Rattle.pm_model.specs.Counts.{fault_of}
+use Rattle.pud_defs.specs.declared.layout.TheConstants.{DAEMON_LOG}
+use Rattle.batch.specs.Batches.{Commits}
 use Rattle.batch.specs.Worlds.{MovesBy, Moves}
 use Rattle.pud_defs.specs.Spaces.{owner}
 use Rattle.log_space.specs.Records.{record_batch}
 use Rattle.log_space.proofs.Writing.{GivesOwner-registration, MovesBy-record, Registers-moves}
 use Rattle.log_space.proofs.register.Goals as goal
+
+pub returns-clause-commits : goal.returns-clause-commits
+returns-clause-commits g c = λ t idle.
+    let a = g.H.Host.state c.args.h.now in
+    let b = g.H.Host.state c.write_record.new.h in
+    let whole : 1 ∷ c.from.result ∷ c.from-2.result ∷ [] ≡ 1 ∷ c.args.uid ∷ c.args.gid ∷ [] = ap₂ (λ (x y : ℕ). 1 ∷ x ∷ y ∷ []) c.from.ensures c.from-2.ensures in
+    subst (λ (vs : List ℕ). Commits DAEMON_LOG (record_batch c.args.slot vs) (fault_of c.write_record.result) a b) whole (c.write_record.ensures.commits t idle)
 
 pub returns-clause-registers : goal.returns-clause-registers
 returns-clause-registers g c = λ t size same s settled logs.

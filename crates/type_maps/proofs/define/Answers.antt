@@ -22,3 +22,6 @@ returns-in_ok-write_record-in-Free-clause-refusal g c = λ t none. sym (free_acc
 pub returns-then-defined-map-clause-refusal : goal.returns-then-defined-map-clause-refusal
 returns-then-defined-map-clause-refusal g c = λ t none.
     sym (same_accepts (reads (g.H.Host.state c.args.h.now).now.words) c.args.id c.args.map _ (sym (c.in_ok-defined.ensures.place t) ∙ c.in-Defined.is) (let same = c.if-defined-map.true in omega arith))
+
+pub returns-else-defined-map-clause-idle : goal.returns-else-defined-map-clause-idle
+returns-else-defined-map-clause-idle g c = λ t none. c.look_up.ensures.stays t

@@ -3,7 +3,7 @@ use Rattle.std.proofs.lemmas.Slice.{take-put_mid}
 use borrow.Rule.Slice.PartMut.{put_mid}
 use Rattle.pud_defs.specs.declared.layout.TheConstants.{MAX_ENTRY_VALUES, LOG_ENTRY_WORDS}
 use Rattle.pud_defs.specs.Entries.{Entry, spelled}
-use Rattle.batch.specs.Batches.{batch_entry, IsBuffer}
+use Rattle.batch.specs.Batches.{batch_entry, words_of, IsBuffer}
 use Rattle.batch.proofs.Buffers.{HasMore, has_more}
 use Rattle.batch.proofs.Batch.add.Goals as goal
 
@@ -25,6 +25,11 @@ invariant_of-self c =
     (grown c.self.inside.used c.args.w (c.self.inside.used + c.encode-n.result - c.self.inside.used) c.args.vals.now c.self.inside.words c.copy_from_slice.new.self
     c.self.invariant c.requires.some c.requires.no_more c.self.told (omega arith)
     (copied_is c.args.w c.from.result c.encode-n.result c.args.vals.now c.encode-n.new.out c.copy_from_slice.new.self c.copy_from_slice.ensures.after c.encode-n.ensures.spells c.from.ensures)).buffer
+
+pub returns-then-self-more-gt-LOG_ENTRY_WORDS-clause-too_big : goal.returns-then-self-more-gt-LOG_ENTRY_WORDS-clause-too_big
+returns-then-self-more-gt-LOG_ENTRY_WORDS-clause-too_big c =
+    let used = c.self.invariant.count ∙ ap words_of c.self.view_is in
+    (λ _. omega arith, λ _. refl)
 
 pub returns-clause-added : goal.returns-clause-added
 returns-clause-added c = λ _.

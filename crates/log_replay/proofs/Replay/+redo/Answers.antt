@@ -1,10 +1,8 @@
 use Rattle.std.proofs.Common.{None, refl}
 use Rattle.std.proofs.lemmas.Result.{err_from_is_err_and}
-use Rattle.pm_model.specs.Words.{reads}
 use Rattle.pm_model.specs.Counts.{fault_of}
 use Rattle.pud_defs.specs.declared.log_words.TheConstants.{REDO_ORDER}
-use Rattle.pud_defs.specs.Replay.{given_by, redone}
-use Rattle.log_entry.specs.Reading.{entry_from}
+use Rattle.pud_defs.specs.Replay.{redone}
 use Rattle.log_replay.specs.Replaying.{place_of}
 use Rattle.log_replay.proofs.Applying.{Applies-nothing, Applies-joined, Applies-cut_short, Applies-failed_still, size_then, any_still, any_then}
 use Rattle.log_replay.proofs.Left.{is_found, redone-found, redone-end, given_by-apart, IsLeft-kept}

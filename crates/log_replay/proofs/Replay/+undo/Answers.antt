@@ -1,6 +1,5 @@
 use Rattle.std.proofs.Common.{None, refl}
 use Rattle.std.proofs.lemmas.Result.{err_from_is_err_and}
-use Rattle.pm_model.specs.Words.{reads}
 use Rattle.pm_model.specs.Counts.{fault_of}
 use Rattle.pud_defs.specs.declared.log_words.TheConstants.{UNDO_ORDER}
 use Rattle.pud_defs.specs.Replay.{given_by, undone}

@@ -9,7 +9,7 @@ use Rattle.pud_defs.proofs.Entries.{words_from-length}
 use Rattle.pud_defs.proofs.Replay.{given_by-out, given_by-other}
 use Rattle.log_entry.specs.declared.Entry.{Entry}
 use Rattle.log_entry.specs.Reading.{entry_from}
-use Rattle.log_replay.specs.Replaying.{place_of, NamesApart, Applies}
+use Rattle.log_replay.specs.Replaying.{place_of, NamesApart}
 use Rattle.log_replay.proofs.Applying.{Applies-nothing, Applies-writes, given_by-counts, GoesTo, goes_to}
 use Rattle.log_replay.proofs.Replay.apply.Goals as goal
 use Rattle.log_replay.proofs.Replay.apply.Goals.{then-entry-order-via-then-entry-order, then-entry-order-via-else-entry-order+then-not-counts}

@@ -1,8 +1,17 @@
-use Rattle.std.proofs.Common.{ap, arith}
+use Rattle.std.proofs.Common.{◌+◌, length, refl, ap, arith}
 use Rattle.std.proofs.lemmas.Result.{err_from_is_err_and}
-use Rattle.log_store.specs.Store.{OpenLog}
+use Rattle.pud_defs.specs.declared.layout.TheConstants.{ENTRY_HEADER_WORDS}
+use Rattle.log_store.specs.Store.{OpenLog, longer}
 use Rattle.log_store.proofs.Appending.{changes_in_log, Appends-failed, Appends-done}
 use Rattle.log_store.proofs.Log.append.Goals as goal
+
+pub returns-then-self-words-gt-LOG_ENTRY_WORDS-clause-too_big : goal.returns-then-self-words-gt-LOG_ENTRY_WORDS-clause-too_big
+returns-then-self-words-gt-LOG_ENTRY_WORDS-clause-too_big g c =
+    let used = ap (λ (l : OpenLog). l.used) c.self.view_is in
+    (λ _. omega arith, λ _. refl)
+
+pub returns-clause-appended : goal.returns-clause-appended
+returns-clause-appended g c = ap (longer (length c.args.vals.now + ENTRY_HEADER_WORDS)) c.self.view_is
 
 pub returns-in_err-append_fitting-clause-changes : goal.returns-in_err-append_fitting-clause-changes
 returns-in_err-append_fitting-clause-changes g c =

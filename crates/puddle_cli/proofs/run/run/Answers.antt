@@ -1,10 +1,11 @@
-use Rattle.std.proofs.Common.{Bool, true, false, Ok, Err, Some, refl, sym, ap, subst, ◌∙◌}
+use Rattle.std.proofs.Common.{◌≡◌, Bool, true, false, Ok, Err, Some, None, refl, sym, ap, subst, ◌∙◌}
 use Rattle.pm_model.specs.Counts.{Counts}
 use Rattle.pm_model.specs.Words.{reads}
+use Rattle.puddled.specs.declared.daemon.RunFault.TheVariants as faults
 use Rattle.puddled.specs.Faults.{Ends}
-use Rattle.puddle_cli.specs.Serving.{AnsweredBy}
-use Rattle.puddle_cli.proofs.Running.{Headline-in_start, Headline-served, never_unsound}
-use Rattle.puddle_cli.proofs.Statuses.{goes_on, stays_sound, usable_by}
+use Rattle.puddle_cli.specs.Serving.{TakesBy, AnsweredBy}
+use Rattle.puddle_cli.proofs.Running.{TakesScript-unstarted, TakesScript-served, Headline-in_start, Headline-served, never_unsound}
+use Rattle.puddle_cli.proofs.Statuses.{goes_on, stays_sound, usable_by, not_whole_of}
 use Rattle.puddle_cli.proofs.run.run.Goals as goal
 
 pub returns-in-Ok-true-clause-headline : goal.returns-in-Ok-true-clause-headline
@@ -59,3 +60,19 @@ returns-in-Err-clause-completes g c = λ t rested sound no_fault no_cut.
     let never = never_unsound size _ _ _ _ _ _ c.in-Err.fault (λ w stands shelf. c.in-Ok.ensures.starts t size refl w rested stands shelf) (λ w ready. c.in-Err.ensures.answered t size same w ready) in
     let ends = subst (λ (x : Counts). Ends (Some c.in-Err.fault) x (g.H.Host.counts c.serve.new.h)) c.in-Ok.ensures.cause c.in-Err.ensures.cause in
     absurd (goes_on (g.H.Host.counts c.args.h.now) (g.H.Host.counts c.serve.new.h) no_fault no_cut c.in-Err.fault ends (stays_sound size (reads (g.H.Host.state c.args.h.now).now.words) _ refl sound c.in-Err.fault never))
+
+pub returns-in-Err-NotSound-clause-takes : goal.returns-in-Err-NotSound-clause-takes
+returns-in-Err-NotSound-clause-takes g c = λ t. TakesScript-unstarted _ _ _ (c.in-Err-NotSound.ensures.rest t) (λ none. let no : Some faults.NotSound ≡ None = none in cc)
+
+pub returns-in-Err-Host-clause-takes : goal.returns-in-Err-Host-clause-takes
+returns-in-Err-Host-clause-takes g c = λ t. TakesScript-unstarted _ _ _ (c.in-Err-Host.ensures.rest t) (not_whole_of _ _ c.status_of.ensures.status c.status_of.ensures.fault)
+
+pub returns-in-Ok-true-clause-takes : goal.returns-in-Ok-true-clause-takes
+returns-in-Ok-true-clause-takes g c = λ t.
+    TakesScript-served (Ok true) _ _ _ (c.in-Ok.ensures.rest t)
+    (subst (λ (b : Bool). TakesBy (Ok b) (g.H.Host.state c.start.new.h) (g.H.Host.state c.serve.new.h)) c.in-Ok-true.field-0-test (c.in-Ok-true.ensures.takes t))
+
+pub returns-in-Ok-false-clause-takes : goal.returns-in-Ok-false-clause-takes
+returns-in-Ok-false-clause-takes g c = λ t.
+    TakesScript-served (Ok false) _ _ _ (c.in-Ok.ensures.rest t)
+    (subst (λ (b : Bool). TakesBy (Ok b) (g.H.Host.state c.start.new.h) (g.H.Host.state c.serve.new.h)) c.in-Ok-false.field-0-test (c.in-Ok-false.ensures.takes t))

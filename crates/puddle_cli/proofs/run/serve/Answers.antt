@@ -2,7 +2,7 @@ use Rattle.std.proofs.Common.{Bool, true, Result, None, refl, sym, subst, ◌∙
 use Rattle.std.proofs.lemmas.Result.{err_from_is_err_and}
 use Rattle.pud_defs.specs.Run.{last_world, open_rest}
 use Rattle.puddled.specs.declared.daemon.RunFault.{RunFault}
-use Rattle.puddled.proofs.Counted.{none_is_sound, size_of_ends, Grows-still}
+use Rattle.puddled.proofs.Counted.{none_is_sound, size_of_ends, Grows-still, Grows-then, Ends-none, Ends-then}
 use Rattle.puddle_cli.specs.Serving.{AnsweredBy}
 use Rattle.puddle_cli.proofs.Answering.{Takes-start, Serves-start, Answered-last, Answered-end, Answered-so_far}
 use Rattle.puddle_cli.proofs.run.serve.Goals as goal
@@ -34,3 +34,8 @@ returns-then-not-branch-clause-answered g c = λ t size e w ready.
 pub returns-clause-answered : goal.returns-clause-answered
 returns-clause-answered g c = λ t size e w ready.
     Answered-so_far size w _ _ _ _ _ _ _ _ refl (c.loop-taken.invariant.serves t size e w ready) None _ refl (λ lost. cc, refl) none_is_sound
+
+pub returns-in_err-answer-clause-cause : goal.returns-in_err-answer-clause-cause
+returns-in_err-answer-clause-cause g c =
+    let p = err_from_is_err_and c.from_residual-in_err-answer.result c.from_residual-in_err-answer.ensures.1 in
+    rw (p.1, p.2) (Ends-then _ _ _ _ (Grows-then _ _ _ c.loop-taken.invariant.counts (Ends-none _ _ c.in_ok-serve_byte.ensures.cause)) c.in_err-answer.ensures.cause)

@@ -11,7 +11,7 @@ use Rattle.puddled.specs.Memory.{Memory}
 use Rattle.puddled.specs.Daemon.{CarriesOut}
 use Rattle.puddled.specs.declared.daemon.StartFault.{StartFault}
 use Rattle.puddled.specs.Faults.{start_fault, kind_of, CountsCommand}
-use Rattle.puddled.proofs.Counted.{kind_done, kind_faulty, kind_restarted, kind_unstarted, no_loss_in}
+use Rattle.puddled.proofs.Counted.{kind_done, kind_faulty, kind_restarted, kind_unstarted, no_power_lost}
 use Rattle.puddled.proofs.Restarts.{sound_recovered}
 use Rattle.puddled.proofs.Settling.{Settles-done, Settles-failed, Settles-again, Settles-unstarted, restart_sound, found_world, found_stands, found_shelf}
 use Rattle.puddled.proofs.daemon.go_on.Goals as goal
@@ -49,7 +49,7 @@ returns-in-Ok-clause-cause g c = λ counted counts.
 
 pub returns-in-Ok-clause-restarted : goal.returns-in-Ok-clause-restarted
 returns-in-Ok-clause-restarted g c = λ t rested counted counts ok moved.
-    absurd (no_loss_in (kind_of (Some c.args.command)) _ _
+    absurd (no_power_lost (kind_of (Some c.args.command)) _ _
     (subst (λ (r : Result Reply HostFault). CountsCommand (kind_of (Some c.args.command)) (fault_of r) counted (g.H.Host.counts c.args.h.now)) c.in-Ok.is counts) moved)
 
 pub returns-in-Err-Failed-clause-settles : goal.returns-in-Err-Failed-clause-settles

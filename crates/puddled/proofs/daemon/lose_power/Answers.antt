@@ -9,3 +9,6 @@ returns-clause-rest g c = λ t. KeepsRest-lost _ _ (c.cut.ensures.state t)
 
 pub returns-clause-rests : goal.returns-clause-rests
 returns-clause-rests g c = λ t. (lost_at_once _ _ (c.cut.ensures.state t)).rested
+
+pub returns-clause-cause : goal.returns-clause-cause
+returns-clause-cause g c = c.cut.ensures.counted

@@ -1,9 +1,10 @@
-use Rattle.std.proofs.Common.{◌≡◌, ℕ, Option, Some, Ok, refl, sym, ap, subst, ◌∙◌}
+use Rattle.std.proofs.Common.{◌≡◌, ◌≤◌, ℕ, Option, Some, Ok, refl, sym, ap, subst, ◌∙◌}
 use Rattle.pm_model.specs.Counts.{fault_of}
 use Rattle.pm_model.specs.Words.{reads}
 use Rattle.pud_defs.specs.declared.machine.Command.{Command}
 use Rattle.pud_defs.specs.declared.machine.Reply.TheVariants as replies
 use Rattle.pud_defs.specs.declared.machine.Refusal.TheVariants as refusals
+use Rattle.pud_defs.specs.Layout.{device_words}
 use Rattle.pud_defs.specs.World.{world_of}
 use Rattle.pud_defs.specs.Grammar.{command_of}
 use Rattle.pud_defs.specs.Changing.{file_in}
@@ -44,3 +45,8 @@ returns-in-Ok-clause-rest g c = λ t.
 pub returns-in-Ok-clause-cause : goal.returns-in-Ok-clause-cause
 returns-in-Ok-clause-cause g c =
     subst (λ (o : Option Command). CountsLine o (run_fault c.go_on.result) 0 (g.H.Host.counts c.args.h.now) (g.H.Host.counts c.go_on.new.h)) c.in-Ok.ensures.command (c.go_on.ensures.cause _ c.apply-done.ensures.cause)
+
+pub returns-in-Ok-clause-room : goal.returns-in-Ok-clause-room
+returns-in-Ok-clause-room g c =
+    let same = size_of_command (kind_of (Some c.in-Ok.command)) (fault_of c.apply-done.result) _ _ c.apply-done.ensures.cause in
+    subst (λ (n : ℕ). device_words c.go_on.new.daemon.frames ≤ n) same c.go_on.ensures.room

@@ -6,3 +6,7 @@ use Rattle.script.proofs.lines.parse_line.Goals as goal
 pub returns-clause-legal : goal.returns-clause-legal
 unfolding command_of
 returns-clause-legal c = legal_of c.args.line.now c.ok_or.result (search rules)
+
+pub returns-clause-command : goal.returns-clause-command
+unfolding command_of
+returns-clause-command c = search rules

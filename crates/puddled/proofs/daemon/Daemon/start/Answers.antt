@@ -1,5 +1,6 @@
 use Rattle.std.proofs.Common.{◌≡◌, ℕ, None, Some, Ok, Err, refl, sym, ap, ◌∙◌}
 use Rattle.std.proofs.lemmas.Result.{err_from_is_err_and}
+use Rattle.pm_model.specs.Counts.{Counts, after_fault}
 use Rattle.pm_model.specs.Words.{reads}
 use Rattle.pud_defs.specs.World.{world_of, closed}
 use Rattle.pud_defs.specs.Texts.{start_text}
@@ -34,3 +35,40 @@ returns-clause-starts g c = λ t size same w rested world shelf. Starts-says siz
 
 pub returns-in_err-say-clause-rest : goal.returns-in_err-say-clause-rest
 returns-in_err-say-clause-rest g c = λ t. KeepsRest-says _ _ _ _ _ (c.in_ok-daemon.ensures.rest t) (c.in_err-say.ensures.said t)
+
+-- ---- what the order of the two calls leaves of the first one's clauses
+
+pub returns-in_err-daemon-clause-not_sound : goal.returns-in_err-daemon-clause-not_sound
+returns-in_err-daemon-clause-not_sound g c =
+    let p = err_from_is_err_and c.from_residual.result c.from_residual.ensures.1 in
+    rw (p.1, p.2) c.in_err-daemon.ensures.not_sound
+
+pub returns-clause-not_sound : goal.returns-clause-not_sound
+returns-clause-not_sound g c = c.in_ok-daemon.ensures.not_sound
+
+pub returns-in_err-daemon-clause-unchanged : goal.returns-in_err-daemon-clause-unchanged
+returns-in_err-daemon-clause-unchanged g c =
+    let p = err_from_is_err_and c.from_residual.result c.from_residual.ensures.1 in
+    rw (p.1, p.2) c.in_err-daemon.ensures.unchanged
+
+pub returns-clause-room : goal.returns-clause-room
+returns-clause-room g c = c.in_ok-daemon.ensures.room
+
+pub returns-in_err-daemon-clause-rest : goal.returns-in_err-daemon-clause-rest
+returns-in_err-daemon-clause-rest g c = c.in_err-daemon.ensures.rest
+
+pub returns-clause-rest : goal.returns-clause-rest
+returns-clause-rest g c = λ t. KeepsRest-says _ _ _ _ _ (c.in_ok-daemon.ensures.rest t) (c.in_ok-say.ensures.said t)
+
+pub returns-in_err-daemon-clause-cause : goal.returns-in_err-daemon-clause-cause
+returns-in_err-daemon-clause-cause g c =
+    let p = err_from_is_err_and c.from_residual.result c.from_residual.ensures.1 in
+    rw (p.1, p.2) c.in_err-daemon.ensures.cause
+
+pub returns-in_err-say-clause-cause : goal.returns-in_err-say-clause-cause
+returns-in_err-say-clause-cause g c =
+    let p = err_from_is_err_and c.from_residual-in_err-say.result c.from_residual-in_err-say.ensures.1 in
+    rw (p.1, p.2) (c.in_err-say.ensures.cause ∙ ap (λ (x : Counts). after_fault (Some c.in_err-say.field-0.0) x) c.in_ok-daemon.ensures.cause)
+
+pub returns-clause-cause : goal.returns-clause-cause
+returns-clause-cause g c = c.in_ok-say.ensures.cause ∙ c.in_ok-daemon.ensures.cause

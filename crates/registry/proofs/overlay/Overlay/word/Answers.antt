@@ -7,10 +7,10 @@ use Rattle.pud_defs.specs.Image.{Image}
 use Rattle.registry.proofs.Overlaid.{word_closed, word_given}
 use Rattle.registry.proofs.overlay.Overlay.word.Goals as goal
 
-pub returns-then-is_closed-clause-value : goal.returns-then-is_closed-clause-value
-returns-then-is_closed-clause-value g c = λ t image same over outside.
+pub returns-then-counts_none-clause-value : goal.returns-then-counts_none-clause-value
+returns-then-counts_none-clause-value g c = λ t image same over outside.
     let o = c.args.self.now in
-    word_closed o image c.args.w c.in_ok-before.before over outside (leb-true o.range.hi (o.range.lo + 1) (sym c.is_closed.ensures ∙ c.if-is_closed.true))
+    word_closed o image c.args.w c.in_ok-before.before over outside (leb-true o.range.hi (o.range.lo + 1) (sym c.counts_none.ensures ∙ c.if-counts_none.true))
     (c.in_ok-before.ensures.value t ∙ ap (λ (i : Image). i c.args.w) same)
 
 pub returns-clause-value : goal.returns-clause-value
