@@ -25,3 +25,4 @@ pub mod ExamplesImage
 pub mod ExamplesRun
 pub mod ExamplesLogs
 pub mod Stands
+pub mod DistinctKeys
