@@ -27,3 +27,4 @@ pub mod ExamplesImage
 pub mod ExamplesRun
 pub mod ExamplesLogs
 pub mod Stands
+pub mod DistinctKeys
