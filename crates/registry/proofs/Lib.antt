@@ -1,6 +1,1 @@
-pub mod Overlaid
-pub mod Judged
-pub mod Records
 pub mod Applied
-pub mod Tabled
-pub mod NamesApart

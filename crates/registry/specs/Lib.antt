@@ -1,5 +1,1 @@
-pub mod Overlaying
-pub mod Judging
 pub mod Registry
-pub mod Tables
-pub mod Named

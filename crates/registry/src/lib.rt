@@ -9,13 +9,8 @@ ghost use Rattle.log_replay.specs.Replaying.{Anything, SettlesLog};
 ghost use Rattle.pud_defs.specs.declared.layout.TheConstants.{DAEMON_LOG};
 ghost use Rattle.pud_defs.specs.Registry.{frames_of};
 ghost use Rattle.pud_defs.specs.World.{StoredWorld, world_of};
-ghost use Rattle.registry.specs.Judging.{IsRoomFor};
+ghost use Rattle.soundness.specs.Judging.{IsRoomFor};
 ghost use Rattle.registry.specs.Registry.{load_fault, AppliesLog};
-
-mod overlay;
-mod soundness;
-mod names;
-mod tables;
 
 use log_replay::settle_log;
 use pm_model::{Host, HostFault};

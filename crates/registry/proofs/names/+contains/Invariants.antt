@@ -1,5 +1,0 @@
-use Rattle.std.proofs.Common.{length}
-use Rattle.registry.proofs.names.+contains.Given as goal
-
-abbrev pub decreases-contains : goal.decreases-contains
-decreases-contains l = length l.names.now

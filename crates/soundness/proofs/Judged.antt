@@ -1,0 +1,134 @@
+-- The daemon log is legal, entry by entry; and soundness by its parts.
+use Rattle.std.proofs.Common.{◌≡◌, inl, inr, ℕ, ◌<◌, ◌≤◌, Bool, true, false, ◌&&◌, cond, leb, eqb, List, Option, Some, None, refl, sym, ap, subst, ◌∙◌, arith}
+use Rattle.std.specs.List.{list_all}
+use Rattle.std.specs.Prelude.{is_some}
+use Rattle.std.proofs.lemmas.Bool.{and_left, and_right, cases_Bool}
+use Rattle.std.proofs.lemmas.Option.{cond_some}
+use Rattle.pud_defs.specs.declared.layout.TheConstants.{DEVICE_MAGIC, VERSION, MAGIC_WORD, VERSION_WORD, FRAMES_WORD, MIN_FRAMES, DAEMON_LOG, CLIENTS}
+use Rattle.pud_defs.specs.Image.{Image}
+use Rattle.pud_defs.specs.Entries.{Entry, log_of, entries_of}
+use Rattle.pud_defs.specs.Layout.{tables_end, frames_at, device_words, is_legal_frame_count}
+use Rattle.pud_defs.specs.Replay.{settled_by}
+use Rattle.pud_defs.specs.Spaces.{has_closed_logs}
+use Rattle.pud_defs.specs.World.{stored_by}
+use Rattle.pud_defs.specs.Registry.{frames_of, has_magic, has_version, has_room, has_legal_number, has_legal_types, has_sound_tables, has_legal_spaces, is_registry, may_be_logged, is_allowed, are_allowed, has_legal_log, is_sound}
+use Rattle.pud_defs.specs.Registry as registry
+use Rattle.pud_defs.proofs.Logged.{settled_by-unlogged, settled_by-client_logs}
+use Rattle.pud_defs.proofs.Spaces.{has_closed_logs-same}
+use Rattle.pud_defs.proofs.Parts.Part.{Header}
+use Rattle.pud_defs.proofs.Worlds.{standing_of_world, world_of-sound}
+use Rattle.log_entry.specs.Ranges.{HasRange}
+use Rattle.soundness.specs.declared.overlay.Overlay.{Overlay}
+use Rattle.soundness.specs.Overlaying.{IsOverlay}
+use Rattle.soundness.specs.Judging.{frames_described, has_sound_records, has_sound_spaces}
+
+-- ---- a legal log
+
+some_of : (o : Option (List Entry)) → is_some o ≡ true → (es : List Entry) × (o ≡ Some es)
+some_of None e = absurd (let it : false ≡ true = e in cc)
+some_of (Some es) e = (es, refl)
+
+none_of : (o : Option (List Entry)) → is_some o ≡ false → o ≡ None
+none_of None e = refl
+none_of (Some es) e = absurd (let it : true ≡ false = e in cc)
+
+pub not_legal : (image : Image) → is_some (entries_of image DAEMON_LOG) ≡ false → has_legal_log image ≡ false
+unfolding has_legal_log
+not_legal image spoilt = ap (are_allowed (frames_of image) (log_of image DAEMON_LOG)) (none_of (entries_of image DAEMON_LOG) spoilt)
+
+-- a well formed log is legal where its entries are allowed
+pub record IsWellFormed (image : Image) : Type 0 where
+  pub entries : List Entry
+  pub are : entries_of image DAEMON_LOG ≡ Some entries
+  pub legal : list_all (is_allowed (frames_of image) (log_of image DAEMON_LOG)) entries ≡ has_legal_log image
+
+pub is_well_formed : (image : Image) → is_some (entries_of image DAEMON_LOG) ≡ true → IsWellFormed image
+unfolding has_legal_log
+is_well_formed image some =
+    let es = some_of (entries_of image DAEMON_LOG) some in
+    record { entries = es.0; are = es.1; legal = sym (ap (are_allowed (frames_of image) (log_of image DAEMON_LOG)) es.1) }
+
+pub is_overlay : (o : Overlay) (image : Image) → HasRange o.range (log_of image DAEMON_LOG) → has_legal_log image ≡ true → IsOverlay o image
+is_overlay o image range legal = elim (cases_Bool (is_some (entries_of image DAEMON_LOG))) [
+  | inl formed ↦ let es = some_of (entries_of image DAEMON_LOG) formed in record { range = range; entries = es.0; are = es.1 }
+  | inr spoilt ↦ absurd (let it : true ≡ false = sym legal ∙ not_legal image spoilt in cc)
+]
+
+-- ---- logs of clients
+
+-- the daemon log may write none of their words
+pub raw_logs : (image : Image) (F client : ℕ) → has_legal_log image ≡ true → F ≡ frames_of image → client < CLIENTS → has_closed_logs image F client ≡ has_closed_logs (settled_by DAEMON_LOG image) F client
+raw_logs image F client legal frames known =
+    has_closed_logs-same image (settled_by DAEMON_LOG image) F client known
+    (λ k low high. sym (settled_by-client_logs image k legal (subst (λ (n : ℕ). tables_end n ≤ k) frames low) (subst (λ (n : ℕ). k < frames_at n) frames high)))
+
+-- ---- soundness by its parts
+
+-- the words that describe the device are sound
+described : ℕ → Image → Bool
+described size image = has_magic image && has_version image && has_room size image
+
+not_described : (b : Bool) (n : ℕ) → cond b (Some n) None ≡ None → b ≡ false
+not_described true n e = absurd (let no : Some n ≡ None = e in cc)
+not_described false n e = refl
+
+pub frames_are : (size : ℕ) (image : Image) (F : ℕ) → frames_described size image ≡ Some F → F ≡ frames_of image
+frames_are size image F some = sym (cond_some (has_magic image && has_version image && has_room size image) (frames_of image) F some).1
+
+-- they read the same with the daemon log replayed
+described_raw : (size : ℕ) (image : Image) → has_legal_log image ≡ true → described size (settled_by DAEMON_LOG image) ≡ described size image
+unfolding described
+described_raw size image legal =
+    let magic = settled_by-unlogged image MAGIC_WORD legal (omega arith) in
+    let version = settled_by-unlogged image VERSION_WORD legal (omega arith) in
+    let frames = settled_by-unlogged image FRAMES_WORD legal (omega arith) in
+    λ p. eqb (magic p) DEVICE_MAGIC && eqb (version p) VERSION && (is_legal_frame_count (frames p) && leb (device_words (frames p)) size)
+
+undescribed : (size : ℕ) (image : Image) → described size image ≡ false → is_registry size image ≡ false
+unfolding is_registry described
+undescribed size image fails =
+    ap (λ (b : Bool). b && has_legal_number image && has_legal_types image && has_sound_tables image && has_legal_spaces image && registry.has_closed_logs image) fails
+
+pub unsound_header : (size : ℕ) (image : Image) → frames_described size image ≡ None → is_sound size image ≡ false
+unfolding is_sound described
+unsound_header size image none = elim (cases_Bool (has_legal_log image)) [
+  | inl legal ↦ and_right (has_legal_log image) (is_registry size (settled_by DAEMON_LOG image))
+      (undescribed size (settled_by DAEMON_LOG image) (described_raw size image legal ∙ not_described (described size image) (frames_of image) none))
+  | inr illegal ↦ and_left (has_legal_log image) (is_registry size (settled_by DAEMON_LOG image)) illegal
+]
+
+-- the daemon log is not legal
+pub unsound_log : (size : ℕ) (image : Image) → has_legal_log image ≡ false → is_sound size image ≡ false
+unfolding is_sound
+unsound_log size image illegal = and_left (has_legal_log image) (is_registry size (settled_by DAEMON_LOG image)) illegal
+
+pub sound_by : (size : ℕ) (image : Image) → has_legal_log image ≡ true → is_registry size (settled_by DAEMON_LOG image) ≡ is_sound size image
+unfolding is_sound
+sound_by size image legal = sym (ap (λ (b : Bool). b && is_registry size (settled_by DAEMON_LOG image)) legal)
+
+-- a device that is too small for the fewest frames is not sound
+pub unsound_small : (size : ℕ) (image : Image) → size < device_words MIN_FRAMES → is_sound size image ≡ false
+unsound_small size image small = elim (cases_Bool (is_sound size image)) [
+  | inl sound ↦
+      let h = standing_of_world size image (stored_by (settled_by DAEMON_LOG image)) (world_of-sound size image sound) in
+      let least = (h.holds Header).enough_frames in
+      let room = (h.holds Header).room in
+      absurd (omega arith)
+  | inr unsound ↦ unsound
+]
+
+regrouped : (number types tables spaces logs : Bool) → (number && types && tables && (spaces && logs)) ≡ (number && types && tables && spaces && logs)
+regrouped number types tables spaces logs = elim (number && types && tables) as (λ b. (b && (spaces && logs)) ≡ (b && spaces && logs)) [ true ↦ refl | false ↦ refl ]
+
+-- so many frames are described: what the image says, in the words of the two halves that are left
+pub registry_parts : (size : ℕ) (image : Image) (F : ℕ) → has_legal_log image ≡ true → frames_described size image ≡ Some F
+    → (has_sound_records (settled_by DAEMON_LOG image) F && has_sound_spaces (settled_by DAEMON_LOG image) F) ≡ is_registry size (settled_by DAEMON_LOG image)
+unfolding is_registry described
+registry_parts size image F legal some =
+    let settled = settled_by DAEMON_LOG image in
+    let parts = cond_some (described size image) (frames_of image) F some in
+    let frames : F ≡ frames_of settled = sym parts.1 ∙ sym (settled_by-unlogged image FRAMES_WORD legal (omega arith)) in
+    let header : described size settled ≡ true = described_raw size image legal ∙ parts.0 in
+    ap (λ (n : ℕ). has_sound_records settled n && has_sound_spaces settled n) frames
+    ∙ regrouped (has_legal_number settled) (has_legal_types settled) (has_sound_tables settled) (has_legal_spaces settled) (registry.has_closed_logs settled)
+    ∙ ap (λ (b : Bool). b && has_legal_number settled && has_legal_types settled && has_sound_tables settled && has_legal_spaces settled && registry.has_closed_logs settled) (sym header)

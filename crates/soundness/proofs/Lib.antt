@@ -1,0 +1,5 @@
+pub mod Overlaid
+pub mod Judged
+pub mod Records
+pub mod Tabled
+pub mod NamesApart

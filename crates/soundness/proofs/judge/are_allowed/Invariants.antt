@@ -1,0 +1,23 @@
+use Rattle.std.proofs.Common.{◌≡◌, ◌-◌, List, Some}
+use Rattle.std.specs.List.{list_all}
+use Rattle.pm_model.specs.Words.{reads}
+use Rattle.pud_defs.specs.declared.layout.TheConstants.{DAEMON_LOG, LOG_ENTRY_WORDS}
+use Rattle.pud_defs.specs.Image.{Image}
+use Rattle.pud_defs.specs.Entries.{Entry, log_of, entries_of}
+use Rattle.pud_defs.specs.Registry.{is_allowed}
+use Rattle.log_entry.specs.Ranges.{HasRange}
+use Rattle.log_entry.proofs.Left.{IsReading, MakesWhole}
+use Rattle.soundness.proofs.judge.are_allowed.Given as goal
+
+abbrev pub invariant-loop-entry : goal.invariant-loop-entry
+invariant-loop-entry g l = record {
+  reading : IsReading DAEMON_LOG l.reader;
+  counts : g.H.Host.counts l.h ≡ g.H.Host.counts l.initial.h;
+  stays : g.H.Host.tells → g.H.Host.state l.h ≡ g.H.Host.state l.initial.h;
+  allowed : g.H.Host.tells → (image : Image) → reads (g.H.Host.state l.initial.h).now.words ≡ image → (es : List Entry) → entries_of image DAEMON_LOG ≡ Some es
+      → HasRange l.overlay.range (log_of image DAEMON_LOG)
+      → MakesWhole {A = Unit {0}} (λ _. list_all (is_allowed l.frames (log_of image DAEMON_LOG))) image l.reader tt (list_all (is_allowed l.frames (log_of image DAEMON_LOG)) es);
+}
+
+abbrev pub decreases-loop-entry : goal.decreases-loop-entry
+decreases-loop-entry g l = LOG_ENTRY_WORDS - l.reader.passed

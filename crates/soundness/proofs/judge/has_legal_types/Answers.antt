@@ -1,0 +1,47 @@
+use Rattle.std.proofs.Common.{◌≡◌, ◌≢◌, inr, ◌+◌, ◌-◌, ◌<◌, Bool, eqb, length, take, refl, sym, ap, ◌∙◌, arith, below_more, get_or-set_other, get_or-set_same}
+use Rattle.std.specs.List.{list_any}
+use Rattle.std.proofs.Math.ListN.{length-set}
+use Rattle.pm_model.specs.Words.{reads}
+use Rattle.pm_model.specs.Moments.{State}
+use Rattle.pud_defs.specs.declared.layout.TheConstants.{DAEMON_LOG}
+use Rattle.pud_defs.specs.Image.{Image}
+use Rattle.pud_defs.specs.Replay.{settled_by}
+use Rattle.pud_defs.specs.Types.{type_record_at, are_legal_types}
+use Rattle.pud_defs.proofs.Replay.{outside_log}
+use Rattle.soundness.specs.Overlaying.{IsOverlay}
+use Rattle.soundness.specs.Judging.{with_one_more, last_records}
+use Rattle.soundness.proofs.Records.{no_records, legal_more}
+use Rattle.soundness.proofs.judge.has_legal_types.Goals as goal
+
+pub loop-done-init : goal.loop-done-init
+loop-done-init g c = record {
+  size = refl;
+  counts = refl;
+  stays = λ t. refl;
+  legal = λ t image same over. sym (no_records (settled_by DAEMON_LOG image));
+  ids = λ t image same over k below. absurd (omega arith);
+}
+
+pub loop-done-preserved : goal.loop-done-preserved
+loop-done-preserved g c =
+    let n = c.loop-done.done in
+    let ids = c.loop-done.ids in
+    let fits : n < length ids = omega arith in
+    let id : g.H.Host.tells → (image : Image) → reads (g.H.Host.state c.args.h.now).now.words ≡ image → IsOverlay c.args.overlay.now image → c.in_ok-id.id ≡ settled_by DAEMON_LOG image (type_record_at (63 - n)) =
+    λ t image same over. c.in_ok-id.ensures.value t image (ap (λ (s : State). reads s.now.words) (c.loop-done.invariant.stays t) ∙ same) over (outside_log DAEMON_LOG (type_record_at (63 - n)) (inr (omega arith))) in
+    let map : g.H.Host.tells → (image : Image) → reads (g.H.Host.state c.args.h.now).now.words ≡ image → IsOverlay c.args.overlay.now image → c.in_ok-map.map ≡ settled_by DAEMON_LOG image (type_record_at (63 - n) + 1) =
+    λ t image same over. c.in_ok-map.ensures.value t image (ap (λ (s : State). reads s.now.words) (c.word.ensures.stays t ∙ c.loop-done.invariant.stays t) ∙ same) over (outside_log DAEMON_LOG (type_record_at (63 - n) + 1) (inr (omega arith))) in
+    record {
+      size = length-set ids n c.in_ok-id.id ∙ c.loop-done.invariant.size;
+      counts = c.in_ok-map.ensures.cause ∙ c.in_ok-id.ensures.cause ∙ c.loop-done.invariant.counts;
+      stays = λ t. c.word-in-loop-done.ensures.stays t ∙ c.word.ensures.stays t ∙ c.loop-done.invariant.stays t;
+      legal = λ t image same over.
+          let settled = settled_by DAEMON_LOG image in
+          let these : with_one_more c.in_ok-id.id c.in_ok-map.map (list_any (λ y. eqb y c.in_ok-id.id) (take n ids)) c.loop-done.legal ≡ are_legal_types (last_records settled (n + 1)) =
+          ap (λ (b : Bool). with_one_more c.in_ok-id.id c.in_ok-map.map (list_any (λ y. eqb y c.in_ok-id.id) (take n ids)) b) (c.loop-done.invariant.legal t image same over)
+          ∙ legal_more settled ids n c.in_ok-id.id c.in_ok-map.map (omega arith) (omega arith) (id t image same over) (map t image same over) (c.loop-done.invariant.ids t image same over) in
+          c.is_legal_with-legal.ensures ∙ these;
+      ids = λ t image same over. below_more _ _
+          (λ k below. let apart : k ≢ n = omega arith in get_or-set_other ids n k c.in_ok-id.id 0 apart ∙ c.loop-done.invariant.ids t image same over k below)
+          (get_or-set_same ids n c.in_ok-id.id 0 fits ∙ id t image same over);
+    }

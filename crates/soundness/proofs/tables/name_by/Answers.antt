@@ -1,0 +1,10 @@
+use Rattle.std.proofs.Common.{refl}
+use Rattle.pud_defs.specs.Names.{name_by}
+use Rattle.soundness.proofs.tables.name_by.Goals as goal
+
+pub returns : goal.returns
+unfolding name_by
+returns c =
+    let low = c.copy_from_slice.ensures.after in
+    let high = c.copy_from_slice-2.ensures.after in
+    rw (low, high, c.to_le_bytes.ensures, c.to_le_bytes-2.ensures) refl

@@ -1,0 +1,4 @@
+pub mod Overlaying
+pub mod Judging
+pub mod Tables
+pub mod Named

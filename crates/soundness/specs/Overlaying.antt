@@ -1,0 +1,27 @@
+-- What an overlay is, and what the entries of its log give to a word.
+use Rattle.std.specs.Prelude.{◌≡◌, ℕ, List, Some}
+use Rattle.std.specs.Option.{option_or}
+use Rattle.pud_defs.specs.declared.layout.TheConstants.{DAEMON_LOG}
+use Rattle.pud_defs.specs.declared.log_words.TheConstants.{UNDO_ORDER, REDO_ORDER}
+use Rattle.pud_defs.specs.Image.{Image}
+use Rattle.pud_defs.specs.Entries.{Entry, Log, log_of, entries_of}
+use Rattle.pud_defs.specs.Replay.{device_word, given_by, undone, redone}
+use Rattle.log_entry.specs.Ranges.{HasRange}
+use Rattle.soundness.specs.declared.overlay.Overlay.{Overlay}
+use Rattle.soundness.specs.declared.overlay.Given.{Given}
+
+-- it has the range of the image's daemon log, which is well formed
+pub record IsOverlay (o : Overlay) (image : Image) : Type 0 where
+  pub range : HasRange o.range (log_of image DAEMON_LOG)
+  pub entries : List Entry
+  pub are : entries_of image DAEMON_LOG ≡ Some entries
+
+-- one entry more: an undo entry gives where none before it did, a redo entry in any case
+pub record GivesMore (log : Log) (e : Entry) (w : ℕ) (before after : Given) : Type 0 where
+  pub undo : after.undo ≡ option_or before.undo (given_by device_word log UNDO_ORDER e w)
+  pub redo : after.redo ≡ option_or (given_by device_word log REDO_ORDER e w) before.redo
+
+-- this is what the entries of a log give to a word
+pub record Gives (log : Log) (es : List Entry) (w : ℕ) (given : Given) : Type 0 where
+  pub undo : given.undo ≡ undone device_word log es w
+  pub redo : given.redo ≡ redone device_word log es w

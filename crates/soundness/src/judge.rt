@@ -1,0 +1,395 @@
+//! Whether a device is a sound registry once its daemon log is replayed. Nothing is replayed and nothing is written: each
+//! word is read as the replay makes it.
+ghost use Rattle.std.specs.Prelude.{◌≡◌, ◌≢◌, ◌+◌, ◌-◌, ◌<◌, ◌≤◌, ◌==◌, ℕ, true, not, ◌&&◌, ◌||◌, nat_lt, nat_le, List, Option, IfOk, IfSome, is_some};
+ghost use Rattle.std.specs.List.{list_all, list_any};
+ghost use Rattle.pm_model.specs.Words.{reads};
+ghost use Rattle.pm_model.specs.Counts.{after_fault, fault_of};
+ghost use Rattle.pud_defs.specs.Image.{Image};
+ghost use Rattle.pud_defs.specs.Layout.{device_words};
+ghost use Rattle.pud_defs.specs.Entries.{Entry as LoggedEntry, Log, log_of, entries_of};
+ghost use Rattle.pud_defs.specs.Replay.{settled_by};
+ghost use Rattle.pud_defs.specs.Spaces.{is_space, is_legal_space, has_closed_logs, are_legal_spaces, are_closed_logs};
+ghost use Rattle.pud_defs.specs.Tables.{tables_of};
+ghost use Rattle.pud_defs.specs.SoundTables.{are_sound_tables};
+ghost use Rattle.pud_defs.specs.Registry.{frames_of, is_number, has_legal_types, may_be_logged, is_allowed, has_legal_log, is_registry, is_sound};
+ghost use Rattle.log_entry.specs.Reading.{entry_from};
+ghost use Rattle.log_entry.specs.Ranges.{HasRange};
+ghost use Rattle.soundness.specs.Overlaying.{IsOverlay};
+ghost use Rattle.soundness.specs.Judging.{IsRoomFor, frames_by, frames_described, with_one_more, is_closed_space, has_sound_records, has_sound_spaces};
+
+use crate::distinct::are_distinct_puddles;
+use crate::names::has_distinct_names;
+use crate::overlay::Overlay;
+use crate::tables::{has_legal_pools, has_legal_puddles};
+use log_entry::{Entry, EntryReader, is_closed_log, well_formed};
+use pm_model::{Host, HostFault};
+use pud_defs::layout::{
+    CLIENT_LOGS, CLIENTS, DAEMON_LOG, DEVICE_MAGIC, FRAMES_WORD, LOG_WORDS, MAGIC_WORD, MAX_FRAMES,
+    MAX_OWNER_ID, MIN_FRAMES, NEXT_NUMBER_WORD, NUMBER_LIMIT,
+    SPACE_RECORD_WORDS, SPACE_TABLE, TYPE_RECORD_WORDS, TYPE_RECORDS, TYPE_TABLE, VERSION,
+    VERSION_WORD, device_words, frames_at, log_at, tables_end,
+};
+use pud_defs::type_map::{is_legal_map, is_legal_type_id};
+
+/// The number of frames, by the words that describe a device.
+fn frames_of_header(words: u32, magic: u64, version: u64, frames: u64) -> Option<u32>
+    ensures frames { result ≡ frames_by words magic version frames }
+    ensures within { IfSome result (IsRoomFor words) }
+{
+    if magic != DEVICE_MAGIC || version != VERSION {
+        return None;
+    }
+    if frames < u64::from(MIN_FRAMES) || frames > u64::from(MAX_FRAMES) {
+        return None;
+    }
+    let frames = frames as u32;
+    if words < device_words(frames) {
+        return None;
+    }
+    Some(frames)
+}
+
+/// The number of frames, where the words 0, 1 and 3 are sound and the device has the words that so many frames need. The
+/// daemon log can write none of these words.
+fn described_frames<H: Host>(h: &mut H) -> Result<Option<u32>, HostFault>
+    requires { device_words MIN_FRAMES ≤ (H.counts h.old).size }
+    ensures frames { H.tells → IfOk result (λ frames. frames ≡ frames_described (H.counts h.old).size (reads (H.state h.old).now.words)) }
+    ensures within { IfOk result (λ frames. IfSome frames (IsRoomFor (H.counts h.old).size)) }
+    ensures stays { H.tells → H.state h.new ≡ H.state h.old }
+    ensures cause { H.counts h.new ≡ after_fault (fault_of result) (H.counts h.old) }
+    ensures never_cut { fault_of result ≢ Option.Some HostFault.Cut }
+{
+    let words = h.words();
+    let magic = h.load(MAGIC_WORD)?;
+    let version = h.load(VERSION_WORD)?;
+    let frames = h.load(FRAMES_WORD)?;
+    Ok(frames_of_header(words, magic, version, frames))
+}
+
+/// Whether `n` words from word `at` on lie wholly from word `from` on and before word `to`.
+fn lie_within(at: u64, n: u32, from: u32, to: u32) -> bool
+    ensures { result ≡ (nat_le from at && nat_le (at + n) to) }
+{
+    let to = u64::from(to);
+    u64::from(from) <= at && at <= to && u64::from(n) <= to - at
+}
+
+/// Whether the daemon log may write `n` words from word `at` on, on a device of so many frames.
+fn may_be_logged(frames: u32, at: u64, n: u32) -> bool
+    requires { frames ≤ MAX_FRAMES }
+    ensures { result ≡ may_be_logged frames at n }
+{
+    let number = at == u64::from(NEXT_NUMBER_WORD) && n == 1;
+    number
+        || lie_within(at, n, TYPE_TABLE, tables_end(frames))
+        || lie_within(at, n, frames_at(frames), device_words(frames))
+}
+
+/// Whether an entry is out of range, or lies where the daemon log may write.
+fn is_allowed(overlay: &Overlay, frames: u32, entry: &Entry) -> bool
+    requires { frames ≤ MAX_FRAMES }
+    ensures { (image : Image) (log : Log) → HasRange overlay.now.range log → result ≡ is_allowed frames log (entry_from image entry.now) }
+{
+    !overlay.range.counts(entry) || may_be_logged(frames, entry.addr, entry.n)
+}
+
+/// Whether each entry of the daemon log is.
+fn are_allowed<H: Host>(h: &mut H, overlay: &Overlay, frames: u32) -> Result<bool, HostFault>
+    requires few { frames ≤ MAX_FRAMES }
+    requires log { DAEMON_LOG + LOG_WORDS ≤ (H.counts h.old).size }
+    ensures allowed { H.tells → (image : Image) → reads (H.state h.old).now.words ≡ image → (es : List LoggedEntry) → entries_of image DAEMON_LOG ≡ Option.Some es
+        → HasRange overlay.now.range (log_of image DAEMON_LOG) → IfOk result (λ allowed. allowed ≡ list_all (is_allowed frames (log_of image DAEMON_LOG)) es) }
+    ensures stays { H.tells → H.state h.new ≡ H.state h.old }
+    ensures cause { H.counts h.new ≡ after_fault (fault_of result) (H.counts h.old) }
+    ensures never_cut { fault_of result ≢ Option.Some HostFault.Cut }
+{
+    let mut reader = EntryReader::new(DAEMON_LOG);
+    while let Some(entry) = reader.next(h)? {
+        if !is_allowed(overlay, frames, &entry) {
+            return Ok(false);
+        }
+    }
+    Ok(true)
+}
+
+/// Whether the daemon log, whose range is the overlay's, is well formed and its entries in range lie where they may.
+fn has_legal_log<H: Host>(h: &mut H, overlay: &Overlay, frames: u32) -> Result<bool, HostFault>
+    requires few { frames ≤ MAX_FRAMES }
+    requires log { DAEMON_LOG + LOG_WORDS ≤ (H.counts h.old).size }
+    ensures legal { H.tells → (image : Image) → reads (H.state h.old).now.words ≡ image → HasRange overlay.now.range (log_of image DAEMON_LOG) → frames ≡ frames_of image
+        → IfOk result (λ legal. legal ≡ has_legal_log image) }
+    ensures stays { H.tells → H.state h.new ≡ H.state h.old }
+    ensures cause { H.counts h.new ≡ after_fault (fault_of result) (H.counts h.old) }
+    ensures never_cut { fault_of result ≢ Option.Some HostFault.Cut }
+{
+    if !well_formed(h, DAEMON_LOG)? {
+        return Ok(false);
+    }
+    are_allowed(h, overlay, frames)
+}
+
+/// Whether these records are legal with one more in front: a free one, or a used one that is legal and whose id is none
+/// of theirs.
+fn is_legal_with(id: u64, map: u64, ids: &[u64], legal: bool) -> bool
+    ensures { result ≡ with_one_more id map (list_any (λ y. y == id) ids.now) legal }
+{
+    if id == 0 {
+        return legal;
+    }
+    let again = ids.contains(&id);
+    is_legal_type_id(id) && is_legal_map(map) && !again && legal
+}
+
+/// Whether each used type record is legal and no id comes twice. The table is read from its last record to its first.
+fn has_legal_types<H: Host>(h: &mut H, overlay: &Overlay) -> Result<bool, HostFault>
+    requires { POOL_TABLE ≤ (H.counts h.old).size }
+    ensures legal { H.tells → (image : Image) → reads (H.state h.old).now.words ≡ image → IsOverlay overlay.now image
+        → IfOk result (λ legal. legal ≡ has_legal_types (settled_by DAEMON_LOG image)) }
+    ensures stays { H.tells → H.state h.new ≡ H.state h.old }
+    ensures cause { H.counts h.new ≡ after_fault (fault_of result) (H.counts h.old) }
+    ensures never_cut { fault_of result ≢ Option.Some HostFault.Cut }
+{
+    let mut ids = [0u64; TYPE_RECORDS as usize];
+    let mut legal = true;
+    for done in 0..TYPE_RECORDS {
+        let at = TYPE_TABLE + TYPE_RECORD_WORDS * (TYPE_RECORDS - 1 - done);
+        let id = overlay.word(h, at)?;
+        let map = overlay.word(h, at + 1)?;
+        legal = is_legal_with(id, map, &ids[..done as usize], legal);
+        ids[done as usize] = id;
+    }
+    Ok(legal)
+}
+
+/// Whether the next UUID number is from 1 to 2^63.
+fn is_number(number: u64) -> bool
+    ensures { result ≡ is_number number }
+{
+    number >= 1 && number <= NUMBER_LIMIT
+}
+
+/// Whether a log-space record of these three words is free, or is used and has a legal owner.
+fn is_space(used: u64, uid: u64, gid: u64) -> bool
+    ensures { result ≡ is_space used uid gid }
+{
+    let known = uid <= u64::from(MAX_OWNER_ID) && gid <= u64::from(MAX_OWNER_ID);
+    used == 0 || (used == 1 && known)
+}
+
+/// Whether the log-space record of a client is legal.
+fn is_legal_space<H: Host>(h: &mut H, overlay: &Overlay, client: u32) -> Result<bool, HostFault>
+    requires known { client < CLIENTS }
+    requires within { PUDDLE_TABLE ≤ (H.counts h.old).size }
+    ensures legal { H.tells → (image : Image) → reads (H.state h.old).now.words ≡ image → IsOverlay overlay.now image
+        → IfOk result (λ legal. legal ≡ is_legal_space (settled_by DAEMON_LOG image) client) }
+    ensures stays { H.tells → H.state h.new ≡ H.state h.old }
+    ensures cause { H.counts h.new ≡ after_fault (fault_of result) (H.counts h.old) }
+    ensures never_cut { fault_of result ≢ Option.Some HostFault.Cut }
+{
+    let at = SPACE_TABLE + SPACE_RECORD_WORDS * client;
+    let used = overlay.word(h, at)?;
+    let uid = overlay.word(h, at + 1)?;
+    let gid = overlay.word(h, at + 2)?;
+    Ok(is_space(used, uid, gid))
+}
+
+/// Whether each log-space record is legal.
+fn are_legal_spaces<H: Host>(h: &mut H, overlay: &Overlay) -> Result<bool, HostFault>
+    requires { PUDDLE_TABLE ≤ (H.counts h.old).size }
+    ensures legal { H.tells → (image : Image) → reads (H.state h.old).now.words ≡ image → IsOverlay overlay.now image
+        → IfOk result (λ legal. legal ≡ are_legal_spaces (settled_by DAEMON_LOG image)) }
+    ensures stays { H.tells → H.state h.new ≡ H.state h.old }
+    ensures cause { H.counts h.new ≡ after_fault (fault_of result) (H.counts h.old) }
+    ensures never_cut { fault_of result ≢ Option.Some HostFault.Cut }
+{
+    for client in 0..CLIENTS {
+        if !is_legal_space(h, overlay, client)? {
+            return Ok(false);
+        }
+    }
+    Ok(true)
+}
+
+/// Whether each log of a client is closed, on a device of so many frames. The daemon log can write none of their words.
+fn has_closed_logs<H: Host>(h: &mut H, frames: u32, client: u32) -> Result<bool, HostFault>
+    requires few { frames ≤ MAX_FRAMES }
+    requires known { client < CLIENTS }
+    requires room { device_words frames ≤ (H.counts h.old).size }
+    ensures closed { H.tells → (image : Image) → reads (H.state h.old).now.words ≡ image → IfOk result (λ closed. closed ≡ has_closed_logs image frames client) }
+    ensures stays { H.tells → H.state h.new ≡ H.state h.old }
+    ensures cause { H.counts h.new ≡ after_fault (fault_of result) (H.counts h.old) }
+    ensures never_cut { fault_of result ≢ Option.Some HostFault.Cut }
+{
+    for number in 0..CLIENT_LOGS {
+        if !is_closed_log(h, log_at(frames, client, number))? {
+            return Ok(false);
+        }
+    }
+    Ok(true)
+}
+
+/// Whether the logs of a client are closed, or not registered.
+fn is_closed_space<H: Host>(
+    h: &mut H,
+    overlay: &Overlay,
+    frames: u32,
+    client: u32,
+) -> Result<bool, HostFault>
+    requires few { frames ≤ MAX_FRAMES }
+    requires known { client < CLIENTS }
+    requires room { device_words frames ≤ (H.counts h.old).size }
+    ensures closed { H.tells → (image : Image) → reads (H.state h.old).now.words ≡ image → IsOverlay overlay.now image → has_legal_log image ≡ true → frames ≡ frames_of image
+        → IfOk result (λ closed. closed ≡ is_closed_space (settled_by DAEMON_LOG image) frames client) }
+    ensures stays { H.tells → H.state h.new ≡ H.state h.old }
+    ensures cause { H.counts h.new ≡ after_fault (fault_of result) (H.counts h.old) }
+    ensures never_cut { fault_of result ≢ Option.Some HostFault.Cut }
+{
+    if overlay.word(h, SPACE_TABLE + SPACE_RECORD_WORDS * client)? == 0 {
+        return Ok(true);
+    }
+    has_closed_logs(h, frames, client)
+}
+
+/// Whether each log that is registered is closed.
+fn are_closed_logs<H: Host>(h: &mut H, overlay: &Overlay, frames: u32) -> Result<bool, HostFault>
+    requires few { frames ≤ MAX_FRAMES }
+    requires room { device_words frames ≤ (H.counts h.old).size }
+    ensures closed { H.tells → (image : Image) → reads (H.state h.old).now.words ≡ image → IsOverlay overlay.now image → has_legal_log image ≡ true → frames ≡ frames_of image
+        → IfOk result (λ closed. closed ≡ are_closed_logs (settled_by DAEMON_LOG image) frames) }
+    ensures stays { H.tells → H.state h.new ≡ H.state h.old }
+    ensures cause { H.counts h.new ≡ after_fault (fault_of result) (H.counts h.old) }
+    ensures never_cut { fault_of result ≢ Option.Some HostFault.Cut }
+{
+    for client in 0..CLIENTS {
+        if !is_closed_space(h, overlay, frames, client)? {
+            return Ok(false);
+        }
+    }
+    Ok(true)
+}
+
+fn are_all(first: bool, second: bool, third: bool) -> bool
+    ensures { result ≡ (first && second && third) }
+{
+    first && second && third
+}
+
+/// Whether the pool table and the puddle table are sound, where this UUID number is the next: each record by itself first,
+/// and then what tells the puddles apart.
+fn are_sound_tables<H: Host>(
+    h: &mut H,
+    overlay: &Overlay,
+    next: u64,
+    frames: u32,
+) -> Result<bool, HostFault>
+    requires few { frames ≤ MAX_FRAMES }
+    requires room { device_words frames ≤ (H.counts h.old).size }
+    ensures sound { H.tells → (image : Image) → reads (H.state h.old).now.words ≡ image → IsOverlay overlay.now image
+        → IfOk result (λ sound. sound ≡ are_sound_tables next (tables_of frames (settled_by DAEMON_LOG image))) }
+    ensures stays { H.tells → H.state h.new ≡ H.state h.old }
+    ensures cause { H.counts h.new ≡ after_fault (fault_of result) (H.counts h.old) }
+    ensures never_cut { fault_of result ≢ Option.Some HostFault.Cut }
+{
+    let pools = has_legal_pools(h, overlay, next)?;
+    let names = has_distinct_names(h, overlay)?;
+    let puddles = has_legal_puddles(h, overlay, next, frames)?;
+    if !are_all(pools, names, puddles) {
+        return Ok(false);
+    }
+    are_distinct_puddles(h, overlay, frames)
+}
+
+/// Whether the next number and the types are legal, and the pool table and the puddle table are sound.
+fn has_sound_records<H: Host>(
+    h: &mut H,
+    overlay: &Overlay,
+    frames: u32,
+) -> Result<bool, HostFault>
+    requires few { frames ≤ MAX_FRAMES }
+    requires room { device_words frames ≤ (H.counts h.old).size }
+    ensures sound { H.tells → (image : Image) → reads (H.state h.old).now.words ≡ image → IsOverlay overlay.now image
+        → IfOk result (λ sound. sound ≡ has_sound_records (settled_by DAEMON_LOG image) frames) }
+    ensures stays { H.tells → H.state h.new ≡ H.state h.old }
+    ensures cause { H.counts h.new ≡ after_fault (fault_of result) (H.counts h.old) }
+    ensures never_cut { fault_of result ≢ Option.Some HostFault.Cut }
+{
+    let next = overlay.word(h, NEXT_NUMBER_WORD)?;
+    let types = has_legal_types(h, overlay)?;
+    let tables = are_sound_tables(h, overlay, next, frames)?;
+    Ok(are_all(is_number(next), types, tables))
+}
+
+fn are_both(spaces: bool, logs: bool) -> bool
+    ensures { result ≡ (spaces && logs) }
+{
+    spaces && logs
+}
+
+/// Whether the log-space records are legal, and each log that is registered is closed.
+fn has_sound_spaces<H: Host>(h: &mut H, overlay: &Overlay, frames: u32) -> Result<bool, HostFault>
+    requires few { frames ≤ MAX_FRAMES }
+    requires room { device_words frames ≤ (H.counts h.old).size }
+    ensures sound { H.tells → (image : Image) → reads (H.state h.old).now.words ≡ image → IsOverlay overlay.now image → has_legal_log image ≡ true → frames ≡ frames_of image
+        → IfOk result (λ sound. sound ≡ has_sound_spaces (settled_by DAEMON_LOG image) frames) }
+    ensures stays { H.tells → H.state h.new ≡ H.state h.old }
+    ensures cause { H.counts h.new ≡ after_fault (fault_of result) (H.counts h.old) }
+    ensures never_cut { fault_of result ≢ Option.Some HostFault.Cut }
+{
+    let spaces = are_legal_spaces(h, overlay)?;
+    let logs = are_closed_logs(h, overlay, frames)?;
+    Ok(are_both(spaces, logs))
+}
+
+/// Whether a device of so many frames, whose daemon log is legal, is a sound registry once that log is replayed.
+fn is_registry<H: Host>(h: &mut H, overlay: &Overlay, frames: u32) -> Result<bool, HostFault>
+    requires few { frames ≤ MAX_FRAMES }
+    requires room { device_words frames ≤ (H.counts h.old).size }
+    ensures sound { H.tells → (image : Image) → reads (H.state h.old).now.words ≡ image → IsOverlay overlay.now image → has_legal_log image ≡ true
+        → (size : ℕ) → frames_described size image ≡ Option.Some frames → IfOk result (λ sound. sound ≡ is_registry size (settled_by DAEMON_LOG image)) }
+    ensures stays { H.tells → H.state h.new ≡ H.state h.old }
+    ensures cause { H.counts h.new ≡ after_fault (fault_of result) (H.counts h.old) }
+    ensures never_cut { fault_of result ≢ Option.Some HostFault.Cut }
+{
+    let tables = has_sound_records(h, overlay, frames)?;
+    let spaces = has_sound_spaces(h, overlay, frames)?;
+    Ok(are_both(tables, spaces))
+}
+
+/// Whether a device that is described to have so many frames is a sound registry once its daemon log is replayed.
+fn is_sound<H: Host>(h: &mut H, frames: u32) -> Result<bool, HostFault>
+    requires few { frames ≤ MAX_FRAMES }
+    requires room { device_words frames ≤ (H.counts h.old).size }
+    ensures sound { H.tells → (image : Image) → reads (H.state h.old).now.words ≡ image → (size : ℕ) → frames_described size image ≡ Option.Some frames
+        → IfOk result (λ sound. sound ≡ is_sound size image) }
+    ensures stays { H.tells → H.state h.new ≡ H.state h.old }
+    ensures cause { H.counts h.new ≡ after_fault (fault_of result) (H.counts h.old) }
+    ensures never_cut { fault_of result ≢ Option.Some HostFault.Cut }
+{
+    let overlay = Overlay::of(h)?;
+    if !has_legal_log(h, &overlay, frames)? {
+        return Ok(false);
+    }
+    is_registry(h, &overlay, frames)
+}
+
+/// The number of frames of a device that is a sound registry once its daemon log is replayed, or None exactly where it is none.
+/// Nothing changes, and the only errors are the host's own.
+pub fn sound_frames<H: Host>(h: &mut H) -> Result<Option<u32>, HostFault>
+    ensures sound { H.tells → IfOk result (λ found. is_some found ≡ is_sound (H.counts h.old).size (reads (H.state h.old).now.words)) }
+    ensures frames { H.tells → IfOk result (λ found. IfSome found (λ frames. frames ≡ frames_of (reads (H.state h.old).now.words))) }
+    ensures room { IfOk result (λ found. IfSome found (IsRoomFor (H.counts h.old).size)) }
+    ensures stays { H.tells → H.state h.new ≡ H.state h.old }
+    ensures cause { H.counts h.new ≡ after_fault (fault_of result) (H.counts h.old) }
+    ensures never_cut { fault_of result ≢ Option.Some HostFault.Cut }
+{
+    if h.words() < device_words(MIN_FRAMES) {
+        return Ok(None);
+    }
+    let Some(frames) = described_frames(h)? else {
+        return Ok(None);
+    };
+    if !is_sound(h, frames)? {
+        return Ok(None);
+    }
+    Ok(Some(frames))
+}

@@ -1,0 +1,138 @@
+//! The words of a device as its daemon log's replay makes them. Nothing is replayed: with each word that is asked for,
+//! the entries of the log are read.
+ghost use Rattle.std.specs.Prelude.{◌≡◌, ◌≢◌, ◌+◌, ◌<◌, ◌≤◌, ◌==◌, false, cond, List, Option, IfOk, ◌&&◌, nat_lt, nat_le};
+ghost use Rattle.std.specs.Option.{option_or};
+ghost use Rattle.pm_model.specs.Words.{reads};
+ghost use Rattle.pm_model.specs.Counts.{after_fault, fault_of};
+ghost use Rattle.pud_defs.specs.declared.layout.TheConstants.{DAEMON_LOG, LOG_WORDS};
+ghost use Rattle.pud_defs.specs.declared.log_words.TheConstants.{UNDO_ORDER, REDO_ORDER};
+ghost use Rattle.pud_defs.specs.Image.{Image};
+ghost use Rattle.pud_defs.specs.Entries.{Entry as LoggedEntry, Log, log_of, entries_of};
+ghost use Rattle.pud_defs.specs.Replay.{is_in_log, settled_by};
+ghost use Rattle.log_entry.specs.Reading.{entry_from};
+ghost use Rattle.log_entry.specs.Ranges.{HasRange};
+ghost use Rattle.soundness.specs.Overlaying.{IsOverlay, GivesMore, Gives};
+
+use log_entry::{Entry, EntryReader, LogRange};
+use pm_model::{Host, HostFault};
+use pud_defs::layout::DAEMON_LOG;
+use pud_defs::log_words::{REDO_ORDER, UNDO_ORDER};
+
+/// What entries give to a word: the oldest undo entry that names it decides, and the newest redo entry.
+#[derive(Clone, Copy)]
+struct Given {
+    undo: Option<u64>,
+    redo: Option<u64>,
+}
+
+impl Given {
+    /// The same with a value behind the others, of an entry of this order.
+    fn with(self, order: u32, value: u64) -> Given
+        ensures undo { result.undo ≡ option_or self.undo (cond (order == UNDO_ORDER) (Option.Some value) Option.None) }
+        ensures redo { result.redo ≡ option_or (cond (order == REDO_ORDER) (Option.Some value) Option.None) self.redo }
+    {
+        if order == UNDO_ORDER {
+            return Given {
+                undo: self.undo.or(Some(value)),
+                redo: self.redo,
+            };
+        }
+        if order == REDO_ORDER {
+            return Given {
+                undo: self.undo,
+                redo: Some(value),
+            };
+        }
+        self
+    }
+}
+
+/// The words of a device under its daemon log.
+#[derive(Clone, Copy)]
+pub struct Overlay {
+    /// The range of the daemon log.
+    pub range: LogRange,
+}
+
+impl Overlay {
+    /// The overlay by the range that the daemon log has now.
+    pub fn of<H: Host>(h: &mut H) -> Result<Overlay, HostFault>
+        requires { DAEMON_LOG + LOG_WORDS ≤ (H.counts h.old).size }
+        ensures range { H.tells → (image : Image) → reads (H.state h.old).now.words ≡ image → IfOk result (λ overlay. HasRange overlay.range (log_of image DAEMON_LOG)) }
+        ensures stays { H.tells → H.state h.new ≡ H.state h.old }
+        ensures cause { H.counts h.new ≡ after_fault (fault_of result) (H.counts h.old) }
+        ensures never_cut { fault_of result ≢ Option.Some HostFault.Cut }
+    {
+        let range = LogRange::of(h, DAEMON_LOG)?;
+        Ok(Overlay { range })
+    }
+
+    /// Takes in what an entry gives to word `w`.
+    fn add<H: Host>(
+        &self,
+        h: &mut H,
+        entry: &Entry,
+        w: u32,
+        given: Given,
+    ) -> Result<Given, HostFault>
+        requires { entry.now.at + entry.now.n ≤ (H.counts h.old).size }
+        ensures more { H.tells → (image : Image) → reads (H.state h.old).now.words ≡ image → (log : Log) → HasRange self.now.range log
+            → IfOk result (λ after. GivesMore log (entry_from image entry.now) w given after) }
+        ensures stays { H.tells → H.state h.new ≡ H.state h.old }
+        ensures cause { H.counts h.new ≡ after_fault (fault_of result) (H.counts h.old) }
+        ensures never_cut { fault_of result ≢ Option.Some HostFault.Cut }
+    {
+        let _words = h.words();
+        if !self.range.counts(entry) || !names(entry, w) {
+            return Ok(given);
+        }
+        let value = h.load(entry.at + (w - entry.addr as u32))?;
+        Ok(given.with(entry.order, value))
+    }
+
+    /// What the entries of the daemon log give to word `w`.
+    fn given<H: Host>(&self, h: &mut H, w: u32) -> Result<Given, HostFault>
+        requires { DAEMON_LOG + LOG_WORDS ≤ (H.counts h.old).size }
+        ensures given { H.tells → (image : Image) → reads (H.state h.old).now.words ≡ image → (es : List LoggedEntry) → entries_of image DAEMON_LOG ≡ Option.Some es
+            → HasRange self.now.range (log_of image DAEMON_LOG) → IfOk result (λ given. Gives (log_of image DAEMON_LOG) es w given) }
+        ensures stays { H.tells → H.state h.new ≡ H.state h.old }
+        ensures cause { H.counts h.new ≡ after_fault (fault_of result) (H.counts h.old) }
+        ensures never_cut { fault_of result ≢ Option.Some HostFault.Cut }
+    {
+        let mut given = Given {
+            undo: None,
+            redo: None,
+        };
+        let mut reader = EntryReader::new(DAEMON_LOG);
+        while let Some(entry) = reader.next(h)? {
+            given = self.add(h, &entry, w, given)?;
+        }
+        Ok(given)
+    }
+
+    /// The value of word `w`, which is none of the daemon log's, with that log replayed.
+    pub fn word<H: Host>(&self, h: &mut H, w: u32) -> Result<u64, HostFault>
+        requires log { DAEMON_LOG + LOG_WORDS ≤ (H.counts h.old).size }
+        requires word { w < (H.counts h.old).size }
+        ensures value { H.tells → (image : Image) → reads (H.state h.old).now.words ≡ image → IsOverlay self.now image → is_in_log DAEMON_LOG w ≡ false
+            → IfOk result (λ v. v ≡ settled_by DAEMON_LOG image w) }
+        ensures stays { H.tells → H.state h.new ≡ H.state h.old }
+        ensures cause { H.counts h.new ≡ after_fault (fault_of result) (H.counts h.old) }
+        ensures never_cut { fault_of result ≢ Option.Some HostFault.Cut }
+    {
+        let before = h.load(w)?;
+        if self.range.counts_none() {
+            return Ok(before);
+        }
+        let given = self.given(h, w)?;
+        Ok(given.redo.or(given.undo).unwrap_or(before))
+    }
+}
+
+/// Whether an entry names word `w`.
+fn names(entry: &Entry, w: u32) -> bool
+    ensures { result ≡ (nat_le entry.now.addr w && nat_lt w (entry.now.addr + entry.now.n)) }
+{
+    let w = u64::from(w);
+    entry.addr <= w && w - entry.addr < u64::from(entry.n)
+}

@@ -1,0 +1,260 @@
+//! Whether the records of the pool table and the puddle table are legal, once the daemon log is replayed.
+ghost use Rattle.std.specs.Prelude.{◌≡◌, ◌≢◌, ◌+◌, ◌<◌, ◌≤◌, ◌==◌, ℕ, Option, IfOk};
+ghost use Rattle.std.specs.List.{list_all};
+ghost use Rattle.pm_model.specs.Words.{reads};
+ghost use Rattle.pm_model.specs.Counts.{after_fault, fault_of};
+ghost use Rattle.pud_defs.specs.declared.layout.TheConstants.{DAEMON_LOG, TYPE_TABLE, SPACE_TABLE, MAX_FRAMES};
+ghost use Rattle.pud_defs.specs.declared.records.TheConstants.{POOL_RECORDS, RECORD_WORDS_READ};
+ghost use Rattle.pud_defs.specs.Image.{Image};
+ghost use Rattle.pud_defs.specs.Layout.{device_words};
+ghost use Rattle.pud_defs.specs.Replay.{settled_by};
+ghost use Rattle.pud_defs.specs.Names.{is_name_byte, is_filled, is_legal_name, name_by};
+ghost use Rattle.pud_defs.specs.Pools.{is_given};
+ghost use Rattle.pud_defs.specs.Tables.{tables_of};
+ghost use Rattle.pud_defs.specs.SoundTables.{is_sound_pool, has_legal_pools, is_pool, is_sound_puddle, has_legal_puddles};
+ghost use Rattle.soundness.specs.Overlaying.{IsOverlay};
+ghost use Rattle.soundness.specs.Tables.{record_words, pool_by_words, puddle_by_words, member_of_words, is_legal_but_pool};
+
+use crate::overlay::Overlay;
+use pm_model::{Host, HostFault};
+use pud_defs::layout::{MAX_OWNER_ID, POOL_TABLE, PUDDLE_RECORD_WORDS, PUDDLE_TABLE};
+use pud_defs::records::{
+    MAX_PUDDLES, POOL_MODE_WORD, POOL_NUMBER_WORD, POOL_OWNER_WORD, POOL_RECORD_WORDS,
+    POOL_RECORDS, PUDDLE_BASE_WORD, PUDDLE_FRONTIER_WORD, PUDDLE_NUMBER_WORD,
+    PUDDLE_OLD_BASE_WORD, RECORD_WORDS_READ, is_legal_mode, member_ordinal, member_pool, owner_gid,
+    owner_uid,
+};
+use pud_defs::space::{LAST_FRONTIER, is_legal_base};
+
+/// A small letter, a digit or `_`.
+fn is_name_byte(byte: u8) -> bool
+    ensures { result ≡ is_name_byte byte }
+{
+    byte.is_ascii_lowercase() || byte.is_ascii_digit() || byte == b'_'
+}
+
+/// Whether all bytes are zeros.
+fn are_zero(bytes: &[u8]) -> bool
+    ensures { result ≡ list_all (λ byte. byte == 0) bytes.now }
+{
+    bytes.iter().all(|byte| *byte == 0)
+}
+
+/// Whether bytes of a name come first, and zeros alone behind them.
+#[tactic(auto, unfolding(pud_defs::specs::Names::is_filled))]
+fn is_filled(bytes: &[u8]) -> bool
+    ensures { result ≡ is_filled bytes.now }
+{
+    match bytes {
+        [] => true,
+        [first, rest @ ..] => {
+            let named = is_name_byte(*first) && is_filled(rest);
+            named || are_zero(bytes)
+        }
+    }
+}
+
+/// Whether at least one byte of a name comes first, and zeros alone behind the last one.
+#[tactic(auto, unfolding(pud_defs::specs::Names::is_legal_name))]
+fn is_legal_name(bytes: &[u8]) -> bool
+    ensures { result ≡ is_legal_name bytes.now }
+{
+    match bytes {
+        [] => false,
+        [first, rest @ ..] => is_name_byte(*first) && is_filled(rest),
+    }
+}
+
+/// The 16 bytes of a name, by the two words that hold it.
+fn name_by(low: u64, high: u64) -> [u8; 16]
+    ensures { result ≡ name_by low high }
+{
+    let mut bytes = [0u8; 16];
+    bytes[..8].copy_from_slice(&low.to_le_bytes());
+    bytes[8..].copy_from_slice(&high.to_le_bytes());
+    bytes
+}
+
+/// Whether a UUID number was given out, where this one is the next.
+fn is_given(next: u64, number: u64) -> bool
+    ensures { result ≡ is_given next number }
+{
+    1 <= number && number < next
+}
+
+/// The words of a pool record or a puddle record that are read.
+type RecordWords = [u64; RECORD_WORDS_READ as usize];
+
+/// Reads the record that begins at word `at`, which stands behind the daemon log.
+fn read_record<H: Host>(
+    h: &mut H,
+    overlay: &Overlay,
+    at: u32,
+) -> Result<RecordWords, HostFault>
+    requires behind { TYPE_TABLE ≤ at }
+    requires within { at + RECORD_WORDS_READ ≤ (H.counts h.old).size }
+    ensures words { H.tells → (image : Image) → reads (H.state h.old).now.words ≡ image → IsOverlay overlay.now image
+        → IfOk result (λ words. words ≡ record_words (settled_by DAEMON_LOG image) at) }
+    ensures stays { H.tells → H.state h.new ≡ H.state h.old }
+    ensures cause { H.counts h.new ≡ after_fault (fault_of result) (H.counts h.old) }
+    ensures never_cut { fault_of result ≢ Option.Some HostFault.Cut }
+{
+    let _words = h.words();
+    let first = overlay.word(h, at)?;
+    let second = overlay.word(h, at + 1)?;
+    let third = overlay.word(h, at + 2)?;
+    let fourth = overlay.word(h, at + 3)?;
+    let fifth = overlay.word(h, at + 4)?;
+    Ok([first, second, third, fourth, fifth])
+}
+
+/// Whether a pool record of these words is free, or legal where this UUID number is the next.
+#[tactic(auto, unfolding(pud_defs::specs::Pools::pool_by))]
+fn is_sound_pool(next: u64, words: &RecordWords) -> bool
+    ensures { result ≡ is_sound_pool next (pool_by_words words.now) }
+{
+    if words[0] == 0 {
+        return true;
+    }
+    let name = name_by(words[0], words[1]);
+    let owner = words[POOL_OWNER_WORD as usize];
+    is_legal_name(&name)
+        && owner_uid(owner) <= MAX_OWNER_ID
+        && owner_gid(owner) <= MAX_OWNER_ID
+        && is_legal_mode(words[POOL_MODE_WORD as usize])
+        && is_given(next, words[POOL_NUMBER_WORD as usize])
+}
+
+/// Whether the pool record of a slot is free or legal, where this UUID number is the next.
+fn is_sound_slot<H: Host>(
+    h: &mut H,
+    overlay: &Overlay,
+    next: u64,
+    slot: u32,
+) -> Result<bool, HostFault>
+    requires known { slot < POOL_RECORDS }
+    requires within { SPACE_TABLE ≤ (H.counts h.old).size }
+    ensures sound { H.tells → (image : Image) → reads (H.state h.old).now.words ≡ image → IsOverlay overlay.now image
+        → (F : ℕ) → IfOk result (λ sound. sound ≡ is_sound_pool next ((tables_of F (settled_by DAEMON_LOG image)).pools slot)) }
+    ensures stays { H.tells → H.state h.new ≡ H.state h.old }
+    ensures cause { H.counts h.new ≡ after_fault (fault_of result) (H.counts h.old) }
+    ensures never_cut { fault_of result ≢ Option.Some HostFault.Cut }
+{
+    let words = read_record(h, overlay, POOL_TABLE + POOL_RECORD_WORDS * slot)?;
+    Ok(is_sound_pool(next, &words))
+}
+
+/// Whether each used pool record is legal, where this UUID number is the next.
+pub fn has_legal_pools<H: Host>(
+    h: &mut H,
+    overlay: &Overlay,
+    next: u64,
+) -> Result<bool, HostFault>
+    requires { SPACE_TABLE ≤ (H.counts h.old).size }
+    ensures legal { H.tells → (image : Image) → reads (H.state h.old).now.words ≡ image → IsOverlay overlay.now image
+        → (F : ℕ) → IfOk result (λ legal. legal ≡ has_legal_pools next (tables_of F (settled_by DAEMON_LOG image))) }
+    ensures stays { H.tells → H.state h.new ≡ H.state h.old }
+    ensures cause { H.counts h.new ≡ after_fault (fault_of result) (H.counts h.old) }
+    ensures never_cut { fault_of result ≢ Option.Some HostFault.Cut }
+{
+    for slot in 0..POOL_RECORDS {
+        if !is_sound_slot(h, overlay, next, slot)? {
+            return Ok(false);
+        }
+    }
+    Ok(true)
+}
+
+/// Whether a used puddle record of these words is legal but for the pool that it names, where this UUID number is the next.
+fn is_legal_puddle(next: u64, words: &RecordWords) -> bool
+    ensures { result ≡ is_legal_but_pool next (member_of_words words.now) }
+{
+    member_ordinal(words[0]) < MAX_PUDDLES
+        && is_given(next, words[PUDDLE_NUMBER_WORD as usize])
+        && is_legal_base(words[PUDDLE_BASE_WORD as usize])
+        && is_legal_base(words[PUDDLE_OLD_BASE_WORD as usize])
+        && words[PUDDLE_FRONTIER_WORD as usize] <= u64::from(LAST_FRONTIER)
+}
+
+/// Whether the record of this pool, given by its slot plus 1, is used.
+fn is_pool<H: Host>(h: &mut H, overlay: &Overlay, pool: u32) -> Result<bool, HostFault>
+    requires { SPACE_TABLE ≤ (H.counts h.old).size }
+    ensures used { H.tells → (image : Image) → reads (H.state h.old).now.words ≡ image → IsOverlay overlay.now image
+        → (F : ℕ) → IfOk result (λ used. used ≡ is_pool (tables_of F (settled_by DAEMON_LOG image)) pool) }
+    ensures stays { H.tells → H.state h.new ≡ H.state h.old }
+    ensures cause { H.counts h.new ≡ after_fault (fault_of result) (H.counts h.old) }
+    ensures never_cut { fault_of result ≢ Option.Some HostFault.Cut }
+{
+    if pool == 0 || pool > POOL_RECORDS {
+        return Ok(false);
+    }
+    let first = overlay.word(h, POOL_TABLE + POOL_RECORD_WORDS * (pool - 1))?;
+    Ok(first != 0)
+}
+
+/// Whether a puddle record of these words is free or legal, where this UUID number is the next.
+fn is_sound_puddle<H: Host>(
+    h: &mut H,
+    overlay: &Overlay,
+    next: u64,
+    words: &RecordWords,
+) -> Result<bool, HostFault>
+    requires { SPACE_TABLE ≤ (H.counts h.old).size }
+    ensures sound { H.tells → (image : Image) → reads (H.state h.old).now.words ≡ image → IsOverlay overlay.now image
+        → (F : ℕ) → IfOk result (λ sound. sound ≡ is_sound_puddle next (tables_of F (settled_by DAEMON_LOG image)) (puddle_by_words words.now)) }
+    ensures stays { H.tells → H.state h.new ≡ H.state h.old }
+    ensures cause { H.counts h.new ≡ after_fault (fault_of result) (H.counts h.old) }
+    ensures never_cut { fault_of result ≢ Option.Some HostFault.Cut }
+{
+    if words[0] == 0 {
+        return Ok(true);
+    }
+    if !is_pool(h, overlay, member_pool(words[0]))? {
+        return Ok(false);
+    }
+    Ok(is_legal_puddle(next, words))
+}
+
+/// Whether the puddle record of a frame is free or legal, where this UUID number is the next, on a device of so many frames.
+fn is_sound_frame<H: Host>(
+    h: &mut H,
+    overlay: &Overlay,
+    next: u64,
+    frames: u32,
+    frame: u32,
+) -> Result<bool, HostFault>
+    requires few { frames ≤ MAX_FRAMES }
+    requires known { frame < frames }
+    requires room { device_words frames ≤ (H.counts h.old).size }
+    ensures sound { H.tells → (image : Image) → reads (H.state h.old).now.words ≡ image → IsOverlay overlay.now image
+        → IfOk result (λ sound. sound ≡ is_sound_puddle next (tables_of frames (settled_by DAEMON_LOG image)) ((tables_of frames (settled_by DAEMON_LOG image)).puddles frame)) }
+    ensures stays { H.tells → H.state h.new ≡ H.state h.old }
+    ensures cause { H.counts h.new ≡ after_fault (fault_of result) (H.counts h.old) }
+    ensures never_cut { fault_of result ≢ Option.Some HostFault.Cut }
+{
+    let words = read_record(h, overlay, PUDDLE_TABLE + PUDDLE_RECORD_WORDS * frame)?;
+    is_sound_puddle(h, overlay, next, &words)
+}
+
+/// Whether each used puddle record is legal, where this UUID number is the next, on a device of so many frames.
+pub fn has_legal_puddles<H: Host>(
+    h: &mut H,
+    overlay: &Overlay,
+    next: u64,
+    frames: u32,
+) -> Result<bool, HostFault>
+    requires few { frames ≤ MAX_FRAMES }
+    requires room { device_words frames ≤ (H.counts h.old).size }
+    ensures legal { H.tells → (image : Image) → reads (H.state h.old).now.words ≡ image → IsOverlay overlay.now image
+        → IfOk result (λ legal. legal ≡ has_legal_puddles next (tables_of frames (settled_by DAEMON_LOG image))) }
+    ensures stays { H.tells → H.state h.new ≡ H.state h.old }
+    ensures cause { H.counts h.new ≡ after_fault (fault_of result) (H.counts h.old) }
+    ensures never_cut { fault_of result ≢ Option.Some HostFault.Cut }
+{
+    for frame in 0..frames {
+        if !is_sound_frame(h, overlay, next, frames, frame)? {
+            return Ok(false);
+        }
+    }
+    Ok(true)
+}
