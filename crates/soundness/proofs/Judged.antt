@@ -2,7 +2,7 @@
 use Rattle.std.proofs.Common.{◌≡◌, inl, inr, ℕ, ◌<◌, ◌≤◌, Bool, true, false, ◌&&◌, cond, leb, eqb, List, Option, Some, None, refl, sym, ap, subst, ◌∙◌, arith}
 use Rattle.std.specs.List.{list_all}
 use Rattle.std.specs.Prelude.{is_some}
-use Rattle.std.proofs.lemmas.Bool.{and_left, and_right, cases_Bool}
+use Rattle.std.proofs.lemmas.Bool.{and_parts, and_left, and_right, cases_Bool}
 use Rattle.std.proofs.lemmas.Option.{cond_some}
 use Rattle.pud_defs.specs.declared.layout.TheConstants.{DEVICE_MAGIC, VERSION, MAGIC_WORD, VERSION_WORD, FRAMES_WORD, MIN_FRAMES, DAEMON_LOG, CLIENTS}
 use Rattle.pud_defs.specs.Image.{Image}
@@ -12,6 +12,8 @@ use Rattle.pud_defs.specs.Replay.{settled_by}
 use Rattle.pud_defs.specs.Spaces.{has_closed_logs}
 use Rattle.pud_defs.specs.World.{stored_by}
 use Rattle.pud_defs.specs.Registry.{frames_of, has_magic, has_version, has_room, has_legal_number, has_legal_types, has_sound_tables, has_legal_spaces, is_registry, may_be_logged, is_allowed, are_allowed, has_legal_log, is_sound}
+use Rattle.pud_defs.specs.Tables.{Tables}
+use Rattle.pud_defs.specs.SoundTables.{has_legal_pools, has_distinct_names, has_legal_puddles, has_distinct_bases, has_distinct_old_bases, has_distinct_ordinals, has_counted_puddles, are_sound_tables}
 use Rattle.pud_defs.specs.Registry as registry
 use Rattle.pud_defs.proofs.Logged.{settled_by-unlogged, settled_by-client_logs}
 use Rattle.pud_defs.proofs.Spaces.{has_closed_logs-same}
@@ -20,6 +22,7 @@ use Rattle.pud_defs.proofs.Worlds.{standing_of_world, world_of-sound}
 use Rattle.log_entry.specs.Ranges.{HasRange}
 use Rattle.soundness.specs.declared.overlay.Overlay.{Overlay}
 use Rattle.soundness.specs.Overlaying.{IsOverlay}
+use Rattle.soundness.specs.Distinct.{are_distinct_puddles}
 use Rattle.soundness.specs.Judging.{frames_described, has_sound_records, has_sound_spaces}
 
 -- ---- a legal log
@@ -132,3 +135,18 @@ registry_parts size image F legal some =
     ap (λ (n : ℕ). has_sound_records settled n && has_sound_spaces settled n) frames
     ∙ regrouped (has_legal_number settled) (has_legal_types settled) (has_sound_tables settled) (has_legal_spaces settled) (registry.has_closed_logs settled)
     ∙ ap (λ (b : Bool). b && has_legal_number settled && has_legal_types settled && has_sound_tables settled && has_legal_spaces settled && registry.has_closed_logs settled) (sym header)
+
+-- ---- the tables of pools and puddles, each record by itself first
+
+regrouped_tables : (first bases old_bases ordinals counted : Bool) → (first && bases && old_bases && ordinals && counted) ≡ (first && (bases && old_bases && ordinals && counted))
+regrouped_tables first bases old_bases ordinals counted = elim first as (λ b. (b && bases && old_bases && ordinals && counted) ≡ (b && (bases && old_bases && ordinals && counted))) [ true ↦ refl | false ↦ refl ]
+
+pub sound_tables : (next : ℕ) (t : Tables) (first : Bool) → first ≡ (has_legal_pools next t && has_distinct_names t && has_legal_puddles next t) → are_sound_tables next t ≡ (first && are_distinct_puddles t)
+unfolding are_sound_tables
+sound_tables next t first is =
+    ap (λ (b : Bool). b && has_distinct_bases t && has_distinct_old_bases t && has_distinct_ordinals t && has_counted_puddles t) (sym is)
+    ∙ regrouped_tables first (has_distinct_bases t) (has_distinct_old_bases t) (has_distinct_ordinals t) (has_counted_puddles t)
+
+-- where each record is legal by itself, so is each puddle
+pub puddles_of_all : (pools names puddles : Bool) → (pools && names && puddles) ≡ true → puddles ≡ true
+puddles_of_all pools names puddles all = (and_parts (pools && names) puddles all).1
