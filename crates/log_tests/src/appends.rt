@@ -1,7 +1,7 @@
 //! A log that grows: the gates that it has, how much it takes, and what a power loss leaves of an append.
 ghost use Rattle.std.specs.Prelude.{◌≡◌};
 
-use crate::device::{EVERY_OTHER, NEWEST, OLDEST, device_with, has, leaves, word};
+use crate::device::{EVERY_OTHER, NEWEST, OLDEST, device_with, has, leaves};
 use log_store::{AppendFault, Log};
 use pm_model::{Host, HostFault};
 use pud_defs::layout::{DAEMON_LOG, LOG_WORDS};
@@ -96,42 +96,39 @@ fn an_entry_is_too_big_from_1_017_words_on(rt: HostRuntime) {
     leave_grown(&rt, rt.alloc(), (29, &rows, 66_585_602), 1_087, &[7]);
 }
 
-/// An entry of six values behind another, with a cut at this step of its append: whether power was lost, and whether the
-/// gate counts the second entry, whose words stand on both sides of the line that begins at word 80. Where it does, they are
-/// there.
-fn cut_at<H: Host>(rt: &impl Abort, host: &mut H, step: u32, pick: u64) -> (bool, bool) {
+/// An entry of six values behind another, with a cut at this step of its append: eight stores, two flushes and a fence; then a
+/// store of the gate, a flush and a fence, 14 steps in all. From this step on the gate counts the entry, whose words stand on
+/// both sides of the line that begins at word 80, and they are there.
+fn append_cut<H: Host>(rt: &impl Abort, host: &mut H, step: u32, pick: u64, counted_from: u32) {
     assert!(rt; DAEMON_LOG + LOG_WORDS <= host.words() && step >= 1);
     let mut log = Log::open_running(host, DAEMON_LOG).expect(rt, "no fault");
     assert!(rt; append(rt, host, &mut log, &[99]) == DONE);
     host.arm(step, pick);
-    let answer = append(rt, host, &mut log, &[1, 2, 3, 4, 5, 6]);
-    assert!(rt; answer == DONE || answer == LOST);
-    let is_counted = word(rt, host, DAEMON_LOG) == 721_408;
-    if is_counted {
+    let answer = if step <= 14 { LOST } else { DONE };
+    assert!(rt;
+        append(rt, host, &mut log, &[1, 2, 3, 4, 5, 6]) == answer,
+        "step {step}"
+    );
+    if step >= counted_from {
+        has(rt, host, DAEMON_LOG, &[721_408]);
         has(rt, host, 75, &[ADDRESS, 4_295_163_910, 1, 2, 3, 4, 5, 6]);
     } else {
         has(rt, host, DAEMON_LOG, &[197_120]);
     }
-    (answer == LOST, is_counted)
 }
 
-/// Eight stores, two flushes and a fence; then a store of the gate, a flush and a fence: 14 steps. The gate counts the entry
-/// from this step on.
-fn is_counted_from(rt: &impl Abort, alloc: Global, step: u32, pick: u64, counted_from: u32) {
+/// It on a device of its own.
+fn append_cut_at(rt: &impl Abort, alloc: Global, step: u32, pick: u64, counted_from: u32) {
     let mut host = device_with(rt, alloc, WORDS, &[]);
-    let found = cut_at(rt, &mut host, step, pick);
-    assert!(rt;
-        found == (step <= 14, step >= counted_from),
-        "step {step}, pick {pick}"
-    );
+    append_cut(rt, &mut host, step, pick, counted_from);
 }
 
 // A power loss at the thirteenth step may leave the new gate, and the fifteenth step is behind the append.
 #[test]
 fn a_cut_leaves_the_log_as_it_was_or_with_the_entry(rt: HostRuntime) {
-    for (pick, counted_from) in [(OLDEST, 15), (NEWEST, 13), (EVERY_OTHER, 13)] {
-        for step in 1..16 {
-            is_counted_from(&rt, rt.alloc(), step, pick, counted_from);
-        }
+    for step in 1..16 {
+        append_cut_at(&rt, rt.alloc(), step, OLDEST, 15);
+        append_cut_at(&rt, rt.alloc(), step, NEWEST, 13);
+        append_cut_at(&rt, rt.alloc(), step, EVERY_OTHER, 13);
     }
 }

@@ -1,7 +1,6 @@
 //! Replays: which words they make durable, and that one that is cut off is done again.
 use crate::device::{EVERY_OTHER, NEWEST, OLDEST, device_with_log, has, is_lost, leaves};
 use log_replay::{Target, replay_range};
-use pm_mem::MemHost;
 use pm_model::Host;
 use pud_defs::layout::{DAEMON_LOG, LOG_WORDS};
 use std::alloc::Global;
@@ -27,42 +26,46 @@ const NAMED: [(u32, u64); 5] = [
     (2_047, 14),
 ];
 
-/// A device whose log has that gate and those first entry words.
-fn device(rt: &impl Abort, alloc: Global, gate: u64, words: &[u64]) -> MemHost {
-    let mut host = device_with_log(rt, alloc, 2_048, DAEMON_LOG, gate, words);
-    assert!(rt; poke(&mut host, &NAMED));
-    host
-}
-
 /// Replays the log. The answer is whether power was lost.
 fn is_cut<H: Host>(rt: &impl Abort, host: &mut H) -> bool {
     assert!(rt; DAEMON_LOG + LOG_WORDS <= host.words());
     is_lost(rt, replay_range(host, DAEMON_LOG, Target::Words))
 }
 
-/// The named words and the last one that a power loss leaves, where each word has its durable value, have to be these.
-fn leave<H: Host>(rt: &impl Abort, host: &mut H, named: &[u64], last: u64) {
+/// Replays the log, with a cut at this step where it takes as many, and again where it was cut off. The named words and the
+/// last one that a power loss then leaves, where each word has its durable value, have to be these.
+fn replay_cut<H: Host>(
+    rt: &impl Abort,
+    host: &mut H,
+    (step, pick): (u32, u64),
+    is_short: bool,
+    (named, last): (&[u64], u64),
+) {
+    assert!(rt; step >= 1);
+    host.arm(step, pick);
+    assert!(rt; is_cut(rt, host) != is_short, "step {step}");
+    assert!(rt; is_short || !is_cut(rt, host));
     leaves(rt, host, 1_094, named);
     has(rt, host, 2_047, &[last]);
 }
 
-/// Replays the log, with a cut at this step, and again where it was cut off. The answer is whether it was.
-fn is_cut_at<H: Host>(rt: &impl Abort, host: &mut H, step: u32, pick: u64) -> bool {
-    assert!(rt; step >= 1);
-    host.arm(step, pick);
-    let lost = is_cut(rt, host);
-    assert!(rt; !lost || !is_cut(rt, host), "step {step}");
-    leave(rt, host, &[1, 2, 6, 8], 14);
-    lost
+/// The log of this range that counts these words is replayed so.
+fn replay_at(
+    rt: &impl Abort,
+    alloc: Global,
+    (range, words): (u64, &[u64]),
+    (loss, is_short): ((u32, u64), bool),
+    left: (&[u64], u64),
+) {
+    assert!(rt; range < 65_536 && words.len() < 65_536);
+    let gate = range + ((words.len() as u64) << 16);
+    let mut host = device_with_log(rt, alloc, 2_048, DAEMON_LOG, gate, words);
+    assert!(rt; poke(&mut host, &NAMED));
+    replay_cut(rt, &mut host, loss, is_short, left);
 }
 
-/// The log of this range that counts these words is replayed, and leaves these.
-fn replays_to(rt: &impl Abort, alloc: Global, range: u64, words: &[u64], named: &[u64], last: u64) {
-    assert!(rt; range < 65_536 && words.len() < 65_536);
-    let mut host = device(rt, alloc, range + ((words.len() as u64) << 16), words);
-    assert!(rt; !is_cut(rt, &mut host), "range {range}");
-    leave(rt, &mut host, named, last);
-}
+/// No replay here takes so many steps.
+const NO_LOSS: (u32, u64) = (100, OLDEST);
 
 #[test]
 fn what_a_replay_makes_durable(rt: HostRuntime) {
@@ -127,26 +130,28 @@ fn what_a_replay_makes_durable(rt: HostRuntime) {
         (1_028, &[], [10, 11, 12, 13], 14),
     ];
     for (range, words, named, last) in rows {
-        replays_to(&rt, rt.alloc(), range, words, &named, last);
+        replay_at(
+            &rt,
+            rt.alloc(),
+            (range, words),
+            (NO_LOSS, true),
+            (&named, last),
+        );
     }
 }
 
-/// Eight stores, six flushes and the fence are 15 steps: a cut at each, and then a replay of what the power loss left.
-fn is_done_again(rt: &impl Abort, alloc: Global, step: u32, pick: u64) {
+// Eight stores, six flushes and the fence are 15 steps: a cut at each, and then a replay of what the power loss left. The
+// 16th step is behind the replay.
+#[test]
+fn a_replay_that_is_cut_off_is_done_again(rt: HostRuntime) {
     let words = [
         1_094, UNDO, 1, 1_095, UNDO_TWO, 2, 3, 1_094, UNDO_TWO, 4, 5, 1_096, REDO_TWO, 6, 7, 1_097,
         REDO, 8,
     ];
-    let mut host = device(rt, alloc, 1_024 + (18 << 16), &words);
-    let lost = is_cut_at(rt, &mut host, step, pick);
-    assert!(rt; lost == (step <= 15), "step {step}, pick {pick}");
-}
-
-#[test]
-fn a_replay_that_is_cut_off_is_done_again(rt: HostRuntime) {
     for pick in [OLDEST, NEWEST, EVERY_OTHER] {
         for step in 1..17 {
-            is_done_again(&rt, rt.alloc(), step, pick);
+            let loss = ((step, pick), step > 15);
+            replay_at(&rt, rt.alloc(), (1_024, &words), loss, (&[1, 2, 6, 8], 14));
         }
     }
 }
