@@ -27,7 +27,7 @@ pub const CUT_IN_START: u8 = 3;
 pub const UNSOUND_RESTART: u8 = 4;
 
 /// What a start on the device answers. The daemon is stopped again.
-pub fn start_of(host: &mut MemHost) -> u8 {
+pub fn start_of<H: Host>(host: &mut H) -> u8 {
     match Daemon::start(host) {
         Ok(daemon) => {
             daemon.stop();
@@ -40,11 +40,11 @@ pub fn start_of(host: &mut MemHost) -> u8 {
 }
 
 /// What the daemon answers to the line.
-fn answer_of(
+fn answer_of<H: Host>(
     rt: &impl Abort,
     alloc: Global,
     daemon: &mut Daemon,
-    host: &mut MemHost,
+    host: &mut H,
     line: &str,
     aloud: bool,
 ) -> u8 {
@@ -58,26 +58,23 @@ fn answer_of(
     }
 }
 
-/// Has each of these lines carried out, which has to be answered so.
-pub fn carry_out(
+/// Starts on the device, which has to go well, has each of these lines carried out, which has to be answered so, and stops.
+pub fn carry_out<H: Host>(
     rt: &impl Abort,
     alloc: Global,
-    daemon: &mut Daemon,
-    host: &mut MemHost,
+    host: &mut H,
     aloud: bool,
     rows: &[(&str, u8)],
 ) {
+    let mut daemon = Daemon::start(host).expect(rt, "a start");
     for (line, wanted) in rows {
-        let answer = answer_of(rt, alloc, daemon, host, line, aloud);
+        let answer = answer_of(rt, alloc, &mut daemon, host, line, aloud);
         assert!(rt; answer == *wanted, "{line}: {answer}");
     }
+    daemon.stop();
 }
 
-/// Starts on the device, which has to go well, has each of these lines carried out aloud, which has to be answered so, and
-/// stops. This is what has to have been said on the device by then.
-pub fn serve(rt: &impl Abort, alloc: Global, host: &mut MemHost, rows: &[(&str, u8)], said: &str) {
-    let mut daemon = Daemon::start(host).expect(rt, "a start");
-    carry_out(rt, alloc, &mut daemon, host, true, rows);
-    daemon.stop();
-    assert!(rt; host.said() == said.as_bytes());
+/// This is what has been said on the device.
+pub fn has_said(rt: &impl Abort, host: &MemHost, said: &str) {
+    assert!(rt; host.said() == said.as_bytes(), "{said}");
 }

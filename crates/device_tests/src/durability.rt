@@ -1,5 +1,5 @@
 //! A word, a range and a range of zeroes made durable. The ranges lie on both sides of the line that begins at word 8.
-use pm_mem::Plan;
+use pm_mem::{MemHost, Plan};
 use pm_model::{Host, HostFault};
 use pm_persist::{persist_range, persist_word, write_range, zero_range};
 use std::alloc::Global;
@@ -40,6 +40,12 @@ fn made<H: Host>(rt: &impl Abort, host: &mut H, call: Call) -> Result<(), HostFa
     }
 }
 
+/// The words 6 to 9 have to be these.
+fn has_words(rt: &impl Abort, alloc: Global, host: &MemHost, want: &[u64]) {
+    let words = host.read_back(alloc).expect(rt, "memory");
+    assert!(rt; words.get(6..10) == Some(want), "{want:?}");
+}
+
 /// Makes the calls in turn on a device of zero words, each of which has to succeed; then power is lost. The words 6 to 9
 /// have to be these, by their durable values.
 fn leave(rt: &impl Abort, alloc: Global, calls: &[Call], want: &[u64]) {
@@ -47,9 +53,12 @@ fn leave(rt: &impl Abort, alloc: Global, calls: &[Call], want: &[u64]) {
     for call in calls {
         assert!(rt; made(rt, &mut host, *call).is_ok(), "{call:?}");
     }
-    host.cut(0);
-    let words = host.read_back(alloc).expect(rt, "memory");
-    assert_eq!(rt; words.get(6..10), Some(want));
+    lose(&mut host, 0);
+    has_words(rt, alloc, &host, want);
+}
+
+fn lose<H: Host>(host: &mut H, pick: u64) {
+    host.cut(pick);
 }
 
 #[test]
@@ -65,18 +74,9 @@ fn a_written_range_is_durable_after_the_next_fence(rt: HostRuntime) {
 }
 
 #[test]
-fn a_persisted_range_is_durable(rt: HostRuntime) {
-    leave(
-        &rt,
-        rt.alloc(),
-        &[Call::PersistRange(6, &[1, 2, 3])],
-        &[1, 2, 3, 0],
-    );
-}
-
-#[test]
-fn a_zeroed_range_is_durable(rt: HostRuntime) {
+fn a_persisted_and_a_zeroed_range_are_durable(rt: HostRuntime) {
     let range = Call::PersistRange(6, &[1, 2, 3, 4]);
+    leave(&rt, rt.alloc(), &[range], &[1, 2, 3, 4]);
     leave(
         &rt,
         rt.alloc(),
@@ -85,36 +85,31 @@ fn a_zeroed_range_is_durable(rt: HostRuntime) {
     );
 }
 
-/// How many of the words 6 to 9 have their new value where a range over them is cut at this step, and whether it was.
-/// Each other one of them has its old value, which is 0.
-fn cut_at(rt: &impl Abort, alloc: Global, step: u32, pick: u64) -> (usize, bool) {
-    let range = Call::PersistRange(6, &[1, 2, 3, 4]);
+/// Persists 1 to 4 at the words 6 to 9 of a device of zero words, with a cut at this step. Whether it was cut, and the words
+/// once power is lost with the same pick, have to be these.
+fn cut_range(rt: &impl Abort, alloc: Global, step: u32, pick: u64, is_cut: bool, want: &[u64]) {
     let mut host = zero_device(alloc, 24, b"", Plan::none(alloc)).expect(rt, "memory");
     arm(&mut host, step, pick);
-    let is_cut = made(rt, &mut host, range).is_err();
-    host.cut(pick);
-    let words = host.read_back(alloc).expect(rt, "memory");
-    let left = words.get(6..10).unwrap_or(&[]);
-    let new = left
-        .iter()
-        .zip(&[1, 2, 3, 4])
-        .filter(|(word, new)| word == new)
-        .count();
-    let old = left.iter().filter(|word| **word == 0).count();
-    assert!(rt; new <= 4 && old == 4 - new, "step {step}");
-    (new, is_cut)
+    let range = Call::PersistRange(6, &[1, 2, 3, 4]);
+    assert!(rt;
+        made(rt, &mut host, range).is_err() == is_cut,
+        "step {step}"
+    );
+    lose(&mut host, pick);
+    has_words(rt, alloc, &host, want);
 }
 
-// Four stores, two flushes and a fence.
+// Four stores, two flushes and a fence. The last pick keeps the newest value of each even word.
 #[test]
 fn a_range_that_is_cut_off_has_old_and_new_words(rt: HostRuntime) {
-    for (pick, at_the_fence) in [(0, 0), (1, 4), (0x5555_5555_5555_5555, 2)] {
-        assert_eq!(rt; cut_at(&rt, rt.alloc(), 1, pick), (0, true), "pick {pick}");
-        assert_eq!(rt;
-            cut_at(&rt, rt.alloc(), 7, pick),
-            (at_the_fence, true),
-            "pick {pick}"
-        );
-        assert_eq!(rt; cut_at(&rt, rt.alloc(), 8, pick), (4, false), "pick {pick}");
+    let rows = [
+        (0, [0, 0, 0, 0]),
+        (1, [1, 2, 3, 4]),
+        (0x5555_5555_5555_5555, [1, 0, 3, 0]),
+    ];
+    for (pick, at_the_fence) in rows {
+        cut_range(&rt, rt.alloc(), 1, pick, true, &[0, 0, 0, 0]);
+        cut_range(&rt, rt.alloc(), 7, pick, true, &at_the_fence);
+        cut_range(&rt, rt.alloc(), 8, pick, false, &[1, 2, 3, 4]);
     }
 }

@@ -2,115 +2,49 @@
 ghost use Rattle.std.specs.Prelude.{◌≡◌, ◌<◌, IfOk};
 ghost use Rattle.pm_mem.specs.MemHost.{mem_counts};
 
+use crate::calls::{Call, DONE, END, FAILED, LOST, answer, answers, done, number};
 use pm_mem::{MemHost, Plan};
 use pm_model::{Host, HostFault};
 use std::alloc::Global;
 use std::process::Abort;
 use test_device::{cuts, failures, poke};
 
-/// A call of the host.
-#[derive(Clone, Copy, Debug)]
-enum Call {
-    Load(u32),
-    Store(u32, u64),
-    Flush(u32),
-    Fence,
-    Cut(u64),
-    Arm(u32, u64),
-    Read,
-}
-
-/// The answer of a call that gives nothing.
-const DONE: u64 = 0;
-
-/// The answer of a call that failed.
-const FAILED: u64 = 1_001;
-
-/// The answer of a call in which power was lost.
-const LOST: u64 = 1_002;
-
-/// The answer of a read at the end of the script.
-const END: u64 = 1_003;
-
 /// Two lines of words, "hi" to read, room for eight steps and four bytes.
 fn host(rt: &impl Abort, alloc: Global, plan: Plan) -> MemHost {
     MemHost::new(alloc, 16, b"hi", 8, 4, plan).expect(rt, "memory")
 }
 
-fn number(outcome: Result<u64, HostFault>) -> u64 {
-    match outcome {
-        Ok(value) => value,
-        Err(HostFault::Failed) => FAILED,
-        Err(HostFault::Cut) => LOST,
-    }
-}
-
-fn done(outcome: Result<(), HostFault>) -> u64 {
-    match outcome {
-        Ok(()) => DONE,
-        Err(fault) => number(Err(fault)),
-    }
-}
-
-/// What the call answers at any host, as a number.
-fn answer<H: Host>(rt: &impl Abort, host: &mut H, call: Call) -> u64 {
-    let words = host.words();
-    match call {
-        Call::Load(w) => {
-            assert!(rt; w < words);
-            number(host.load(w))
-        }
-        Call::Store(w, v) => {
-            assert!(rt; w < words);
-            done(host.store(w, v))
-        }
-        Call::Flush(line) => {
-            assert!(rt; line < words / 8);
-            done(host.flush(line))
-        }
-        Call::Fence => done(host.fence()),
-        Call::Cut(pick) => {
-            host.cut(pick);
-            DONE
-        }
-        Call::Arm(steps, pick) => {
-            assert!(rt; steps >= 1);
-            host.arm(steps, pick);
-            DONE
-        }
-        Call::Read => number(next_byte(host.read())),
-    }
-}
-
-fn next_byte(outcome: Result<Option<u8>, HostFault>) -> Result<u64, HostFault> {
-    match outcome {
-        Ok(Some(byte)) => Ok(u64::from(byte)),
-        Ok(None) => Ok(END),
-        Err(fault) => Err(fault),
-    }
-}
-
-/// Makes the calls in turn, each of which has to answer this.
-fn answers<H: Host>(rt: &impl Abort, host: &mut H, rows: &[(Call, u64)]) {
-    for (at, (call, want)) in rows.iter().enumerate() {
-        assert_eq!(rt; answer(rt, host, *call), *want, "call {at}: {call:?}");
-    }
-}
-
 /// Says each of these texts, where the answer has to be this.
 fn says<H: Host>(rt: &impl Abort, host: &mut H, rows: &[(&str, u64)]) {
     for (text, want) in rows {
-        assert_eq!(rt; done(host.say(text.as_bytes())), *want, "{text}");
+        assert!(rt; done(host.say(text.as_bytes())) == *want, "{text}");
     }
 }
 
-/// Makes the calls in turn on a new host: the newest words that they leave.
-fn left_by(rt: &impl Abort, alloc: Global, calls: &[Call]) -> Vec<u64> {
+/// Makes the calls in turn on a new host: the newest words that they leave have to be these.
+fn leaves(rt: &impl Abort, alloc: Global, calls: &[Call], want: &[u64]) {
     let mut host = host(rt, alloc, Plan::none(alloc));
     for call in calls {
         answer(rt, &mut host, *call);
     }
-    host.read_back(alloc).expect(rt, "memory")
+    let left = host.read_back(alloc).expect(rt, "memory");
+    assert!(rt; left.as_slice() == want, "{calls:?}");
+}
+
+fn has_said(rt: &impl Abort, host: &MemHost, want: &[u8]) {
+    assert!(rt; host.said() == want);
+}
+
+fn watch(host: &mut MemHost, w: u32) {
+    host.watch(w);
+}
+
+fn has_watched(rt: &impl Abort, host: &MemHost, want: u32) {
+    assert!(rt; host.watched() == want, "{want} loads");
+}
+
+fn refill(rt: &impl Abort, alloc: Global, host: &mut MemHost, script: &[u8]) {
+    host.refill(alloc, script).expect(rt, "memory");
 }
 
 // What is stored is read, where the host tells.
@@ -134,55 +68,60 @@ fn store_and_load_in_memory(host: &mut MemHost, w: u32, v: u64) -> Result<u64, H
 fn what_is_stored_is_read(rt: HostRuntime) {
     let mut host = host(&rt, rt.alloc(), Plan::none(rt.alloc()));
     assert!(rt; 5 < host.words());
-    assert_eq!(rt; number(store_and_load_in_memory(&mut host, 5, 50)), 50);
+    assert!(rt; number(store_and_load_in_memory(&mut host, 5, 50)) == 50);
 }
 
 #[test]
-fn a_store_alone_is_lost_at_pick_0_and_kept_at_pick_1(rt: HostRuntime) {
-    let at_pick_0 = left_by(&rt, rt.alloc(), &[Call::Store(3, 7), Call::Cut(0)]);
-    assert_eq!(rt; at_pick_0.get(3), Some(&0));
-    let at_pick_1 = left_by(&rt, rt.alloc(), &[Call::Store(3, 7), Call::Cut(1)]);
-    assert_eq!(rt; at_pick_1.get(3), Some(&7));
+fn a_loss_keeps_values_by_its_pick(rt: HostRuntime) {
+    let stores = [
+        Call::Store(0, 5),
+        Call::Store(1, 5),
+        Call::Store(2, 5),
+        Call::Store(9, 5),
+    ];
+    let [a, b, c, d] = stores;
+    let rows: [(u64, [u64; 16]); 3] = [
+        (0, [0; 16]),
+        (1, [5, 5, 5, 0, 0, 0, 0, 0, 0, 5, 0, 0, 0, 0, 0, 0]),
+        (
+            0b10_0000_0110,
+            [0, 5, 5, 0, 0, 0, 0, 0, 0, 5, 0, 0, 0, 0, 0, 0],
+        ),
+    ];
+    for (pick, want) in rows {
+        leaves(&rt, rt.alloc(), &[a, b, c, d, Call::Cut(pick)], &want);
+    }
 }
 
 #[test]
 fn a_flush_and_a_fence_make_a_line_durable(rt: HostRuntime) {
-    let left = left_by(
-        &rt,
-        rt.alloc(),
-        &[
-            Call::Store(3, 7),
-            Call::Store(7, 8),
-            Call::Store(8, 9),
-            Call::Flush(0),
-            Call::Store(7, 10),
-            Call::Fence,
-            Call::Cut(0),
-        ],
-    );
-    assert_eq!(rt;
-        left.as_slice(),
-        [0, 0, 0, 7, 0, 0, 0, 8, 0, 0, 0, 0, 0, 0, 0, 0].as_slice()
-    );
+    let calls = [
+        Call::Store(3, 7),
+        Call::Store(7, 8),
+        Call::Store(8, 9),
+        Call::Flush(0),
+        Call::Store(7, 10),
+        Call::Fence,
+        Call::Cut(0),
+    ];
+    let want = [0, 0, 0, 7, 0, 0, 0, 8, 0, 0, 0, 0, 0, 0, 0, 0];
+    leaves(&rt, rt.alloc(), &calls, &want);
 }
 
+// Line 0 was settled by a fence, and is stored to again.
 #[test]
-fn another_pick_takes_the_newest_where_its_bit_is_set(rt: HostRuntime) {
-    let left = left_by(
-        &rt,
-        rt.alloc(),
-        &[
-            Call::Store(0, 5),
-            Call::Store(1, 5),
-            Call::Store(2, 5),
-            Call::Store(9, 5),
-            Call::Cut(0b10_0000_0110),
-        ],
-    );
-    assert_eq!(rt;
-        left.as_slice(),
-        [0, 5, 5, 0, 0, 0, 0, 0, 0, 5, 0, 0, 0, 0, 0, 0].as_slice()
-    );
+fn a_line_that_was_durable_loses_what_is_not_fenced(rt: HostRuntime) {
+    let calls = [
+        Call::Store(4, 1),
+        Call::Flush(0),
+        Call::Fence,
+        Call::Store(4, 2),
+        Call::Store(5, 3),
+        Call::Flush(0),
+        Call::Cut(2 | 1 << 5),
+    ];
+    let want = [0, 0, 0, 0, 1, 3, 0, 0, 0, 0, 0, 0, 0, 0, 0, 0];
+    leaves(&rt, rt.alloc(), &calls, &want);
 }
 
 #[test]
@@ -227,7 +166,7 @@ fn a_call_fails_by_the_plan_and_is_not_done(rt: HostRuntime) {
         &mut host,
         &[("ab", DONE), ("cd", FAILED), ("ef", DONE)],
     );
-    assert_eq!(rt; host.said(), b"abef".as_slice());
+    has_said(&rt, &host, b"abef");
 }
 
 #[test]
@@ -242,7 +181,7 @@ fn what_goes_beyond_the_steps_or_the_room_fails(rt: HostRuntime) {
         &mut host,
         &[("abcde", FAILED), ("abcd", DONE), ("e", FAILED)],
     );
-    assert_eq!(rt; host.said(), b"abcd".as_slice());
+    has_said(&rt, &host, b"abcd");
 }
 
 #[test]
@@ -262,8 +201,8 @@ fn a_poked_word_has_one_value(rt: HostRuntime) {
 fn loads_of_the_watched_word_are_counted(rt: HostRuntime) {
     let mut host = host(&rt, rt.alloc(), Plan::none(rt.alloc()));
     answers(&rt, &mut host, &[(Call::Load(3), 0)]);
-    assert_eq!(rt; host.watched(), 0);
-    host.watch(3);
+    has_watched(&rt, &host, 0);
+    watch(&mut host, 3);
     let rows = [
         (Call::Load(3), 0),
         (Call::Load(4), 0),
@@ -271,9 +210,9 @@ fn loads_of_the_watched_word_are_counted(rt: HostRuntime) {
         (Call::Load(3), 7),
     ];
     answers(&rt, &mut host, &rows);
-    assert_eq!(rt; host.watched(), 2);
-    host.watch(4);
-    assert_eq!(rt; host.watched(), 0);
+    has_watched(&rt, &host, 2);
+    watch(&mut host, 4);
+    has_watched(&rt, &host, 0);
 }
 
 #[test]
@@ -288,7 +227,7 @@ fn the_script_is_read_to_its_end_and_filled_again(rt: HostRuntime) {
             (Call::Read, END),
         ],
     );
-    host.refill(rt.alloc(), b"x").expect(&rt, "memory");
+    refill(&rt, rt.alloc(), &mut host, b"x");
     answers(
         &rt,
         &mut host,

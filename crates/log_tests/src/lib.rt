@@ -6,6 +6,8 @@ mod appends;
 #[cfg(test)]
 mod batches;
 #[cfg(test)]
+mod device;
+#[cfg(test)]
 mod entries;
 #[cfg(test)]
 mod replays;

@@ -4,8 +4,8 @@ use Rattle.pm_model.specs.declared.losses.Armed.{Armed}
 use Rattle.pm_model.specs.Calls.{IsDue}
 use Rattle.pm_model.specs.declared.host.HostFault.{HostFault}
 use Rattle.pm_model.specs.declared.host.HostFault.TheVariants.{Failed, Cut}
-use Rattle.pm_file.specs.declared.device_rows.DeviceRows.{DeviceRows}
-use Rattle.pm_file.specs.Rows.{Loses}
+use Rattle.pm_rows.specs.declared.device_rows.DeviceRows.{DeviceRows}
+use Rattle.pm_rows.specs.Rows.{Loses}
 
 -- After a power loss each of the three rows has the values that the pick gives.
 pub record LosesRows (pick : ℕ) (old new : DeviceRows) : Type 0 where

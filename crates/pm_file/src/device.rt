@@ -1,21 +1,23 @@
 //! The device: its rows of words, the file behind them, the armed cut and the counts.
-ghost use Rattle.std.specs.Prelude.{◌≡◌, ◌≢◌, ℕ, ◌*◌, ◌/◌, ◌<◌, ◌≤◌, true, false, Option, Some, None, IfOk, OnErr, slice_index, slice_set};
+ghost use Rattle.std.specs.Prelude.{◌≡◌, ◌≢◌, ℕ, ◌*◌, ◌<◌, true, false, not, Option, IfOk, slice_index, slice_set};
 ghost use Rattle.pm_model.specs.Counts.{counts_of, fresh_counts, after_fault, after_arm, after_loss_of, fault_of};
 ghost use Rattle.pm_model.specs.Calls.{IsDue, CountsDown, counted_down};
-ghost use Rattle.pm_file.specs.Rows.{is_listed, TakesLine, TakesLines};
+ghost use Rattle.pm_rows.specs.Rows.{TakesLine, AreSame};
 ghost use Rattle.pm_file.specs.Steps.{LosesRows, KeepsRows, Stops};
 
-use crate::device_file;
-use crate::device_rows::DeviceRows;
+use crate::device_file::DeviceFile;
 use pm_model::{Armed, HostFault, Tally, counted_down};
+use pm_rows::DeviceRows;
 use std::fs::OpenFile;
 use std::io::{Seek, Write};
 
 /// A device over an open file.
 #[derive(Drop)]
 pub(crate) struct Device<F> {
-    file: F,
+    file: DeviceFile<F>,
     pub(crate) rows: DeviceRows,
+    /// Whether the file may hold something else than the durable words in the unsettled lines.
+    pub(crate) is_behind: bool,
     pub(crate) armed: Option<Armed>,
     /// Whether a power loss could not be written, which the next device call answers.
     pub(crate) owes_fault: bool,
@@ -24,13 +26,14 @@ pub(crate) struct Device<F> {
 
 impl<F: Write + Seek + OpenFile> Device<F> {
     /// A device at rest with these words, which the file has.
-    pub(crate) fn new(file: F, rows: DeviceRows) -> Device<F>
+    pub(crate) fn new(file: DeviceFile<F>, rows: DeviceRows) -> Device<F>
         ensures rows { result.rows ≡ rows }
         ensures counts { counts_of (8 * result.rows.lines) result.tally ≡ fresh_counts (8 * rows.lines) }
     {
         Device {
             file,
             rows,
+            is_behind: false,
             armed: None,
             owes_fault: false,
             tally: Tally::new(),
@@ -100,7 +103,6 @@ impl<F: Write + Seek + OpenFile> Device<F> {
         ensures stopped { Stops (fault_of result) self.old.armed self.old.rows self.new.rows }
         ensures marked { fault_of result ≡ Option.None → TakesLine line self.old.rows.newest.items
             self.old.rows.marked.items self.new.rows.marked.items }
-        ensures noted { fault_of result ≡ Option.None → is_listed line self.new.rows.noted.lines.items ≡ true }
     {
         self.begin_step()?;
         self.rows.flush(line);
@@ -112,14 +114,13 @@ impl<F: Write + Seek + OpenFile> Device<F> {
     ///
     /// # Errors
     ///
-    /// Those of `store`, and `Failed` where the file could not be written or synced: the lines stay noted.
+    /// Those of `store`, and `Failed` where the file could not be written or synced: the next fence writes it again.
     pub(crate) fn fence(&mut self) -> Result<(), HostFault>
         ensures cause { counts_of (8 * self.new.rows.lines) self.new.tally
             ≡ after_fault (fault_of result) (counts_of (8 * self.old.rows.lines) self.old.tally) }
         ensures armed { CountsDown (fault_of result) self.old.armed self.new.armed }
         ensures stopped { Stops (fault_of result) self.old.armed self.old.rows self.new.rows }
-        ensures durable { fault_of result ≡ Option.None → TakesLines self.old.rows.noted.lines.items
-            self.old.rows.marked.items self.old.rows.durable.items self.new.rows.durable.items }
+        ensures durable { fault_of result ≡ Option.None → AreSame self.new.rows.durable.items self.old.rows.marked.items }
     {
         self.begin_step()?;
         if !self.settle() {
@@ -199,38 +200,52 @@ impl<F: Write + Seek + OpenFile> Device<F> {
         self.armed = counted_down(self.armed);
     }
 
-    // Loses power: the file takes each line in which a durable word changed.
+    // Loses power: the file takes each line in which a durable word changes.
     fn lose(&mut self, pick: u64)
         ensures size { self.new.rows.lines ≡ self.old.rows.lines }
         ensures tally { self.new.tally ≡ self.old.tally }
         ensures armed { self.new.armed ≡ self.old.armed }
         ensures lost { LosesRows pick self.old.rows self.new.rows }
     {
-        self.rows.lose(pick);
+        self.rows.choose(pick);
         if !self.settle() {
+            self.rows.take_marked();
             self.owes_fault = true;
         }
     }
 
-    // Writes the noted lines and makes them durable, or leaves them noted where the file failed, and says which.
+    // Makes what is marked durable once the file has it, or nothing where the file failed, and says which.
     fn settle(&mut self) -> bool
         ensures size { self.new.rows.lines ≡ self.old.rows.lines }
         ensures tally { self.new.tally ≡ self.old.tally }
         ensures armed { self.new.armed ≡ self.old.armed }
         ensures marked { self.new.rows.marked ≡ self.old.rows.marked }
         ensures newest { self.new.rows.newest ≡ self.old.rows.newest }
-        ensures written { result ≡ true → TakesLines self.old.rows.noted.lines.items self.old.rows.marked.items
-            self.old.rows.durable.items self.new.rows.durable.items }
+        ensures written { result ≡ true → AreSame self.new.rows.durable.items self.old.rows.marked.items }
         ensures unwritten { result ≡ false → self.new.rows.durable ≡ self.old.rows.durable }
-        ensures behind { result ≡ false → self.new.rows.is_behind ≡ true }
+        ensures behind { self.new.is_behind ≡ not result }
     {
-        self.rows.sort_noted();
-        let is_written = device_file::write_due(&mut self.file, &self.rows).is_ok();
+        let is_written = self.write();
         if is_written {
-            self.rows.settle();
-        } else {
-            self.rows.is_behind = true;
+            self.rows.take_marked();
+            self.rows.forget_settled();
         }
+        is_written
+    }
+
+    // Writes the marked words of the unsettled lines, and says whether the file surely has them.
+    fn write(&mut self) -> bool
+        ensures size { self.new.rows.lines ≡ self.old.rows.lines }
+        ensures tally { self.new.tally ≡ self.old.tally }
+        ensures armed { self.new.armed ≡ self.old.armed }
+        ensures durable { self.new.rows.durable ≡ self.old.rows.durable }
+        ensures marked { self.new.rows.marked ≡ self.old.rows.marked }
+        ensures newest { self.new.rows.newest ≡ self.old.rows.newest }
+        ensures behind { self.new.is_behind ≡ not result }
+    {
+        self.rows.sort_unsettled();
+        let is_written = self.file.write_due(&self.rows, self.is_behind).is_ok();
+        self.is_behind = !is_written;
         is_written
     }
 }

@@ -3,8 +3,8 @@ ghost use Rattle.std.specs.Prelude.{◌≡◌, ℕ, ◌+◌, ◌*◌, ◌<◌, �
 ghost use Rattle.std.specs.Int.{from_le_bytes};
 ghost use mir.Syntax.{w64};
 
-use crate::device_rows::DeviceRows;
 use crate::line_run::{LINE_BYTES, LineRun};
+use pm_rows::DeviceRows;
 use std::fs::{File, OpenFile};
 use std::io;
 use std::io::{ErrorKind, Read, Seek, Write};
@@ -16,8 +16,16 @@ const PIECE_WORDS: usize = 1_024;
 
 const PIECE_BYTES: usize = WORD_BYTES * PIECE_WORDS;
 
-/// Opens the file, which is made where it is missing, and reads its words; `words` has zeroes. A file that is shorter
-/// than the device reads as zero beyond its end and is made as long; what stands past the device stays unread.
+/// The open file of the device.
+#[derive(Drop)]
+pub(crate) struct DeviceFile<F> {
+    pub(crate) file: F,
+    /// Whether it is shorter than the device. The first write makes it as long.
+    pub(crate) is_short: bool,
+}
+
+/// Opens the file of a device of so many lines, and reads its words; `words` has zeroes. A missing file is made, as long as
+/// the device. One that is shorter reads as zero beyond its end; what stands past the device stays unread.
 ///
 /// # Errors
 ///
@@ -27,21 +35,33 @@ pub(crate) fn open<R: Files>(
     path: &str,
     lines: u32,
     words: &mut Vec<u64>,
-) -> io::Result<R::File>
-    requires { vec_len words.old ≡ 8 * lines }
-    ensures { vec_len words.new ≡ 8 * lines }
+) -> io::Result<DeviceFile<R::File>>
+    ensures { vec_len words.new ≡ vec_len words.old }
 {
-    let mut file = File::options()
+    let bytes = u64::from(lines) * LINE_BYTES as u64;
+    match File::options().read(true).write(true).open(runtime, path) {
+        Ok(mut file) => {
+            read_words(&mut file, words)?;
+            let is_short = file.metadata()?.len() < bytes;
+            Ok(DeviceFile { file, is_short })
+        }
+        Err(error) if error.kind() == ErrorKind::NotFound => make(runtime, path, bytes),
+        Err(error) => Err(error),
+    }
+}
+
+// Makes the file of that many zero bytes.
+fn make<R: Files>(runtime: &R, path: &str, bytes: u64) -> io::Result<DeviceFile<R::File>> {
+    let file = File::options()
         .read(true)
         .write(true)
         .create(true)
         .open(runtime, path)?;
-    read_words(&mut file, words)?;
-    let bytes = u64::from(lines) * LINE_BYTES as u64;
-    if file.metadata()?.len() < bytes {
-        file.set_len(bytes)?;
-    }
-    Ok(file)
+    file.set_len(bytes)?;
+    Ok(DeviceFile {
+        file,
+        is_short: false,
+    })
 }
 
 // Reads words until the row or the file ends.
@@ -107,27 +127,35 @@ fn word_at(piece: &[u8], place: usize) -> u64
     u64::from_le_bytes(bytes)
 }
 
-/// Writes each noted line that is due with its marked words, neighbours together, and syncs the file's data. Where
-/// none is due it does nothing.
-///
-/// # Errors
-///
-/// A write or the sync failed: each of the lines may hold its marked words or not.
-pub(crate) fn write_due<F: Write + Seek + OpenFile>(
-    file: &mut F,
-    rows: &DeviceRows,
-) -> io::Result<()> {
-    let mut run = LineRun::new();
-    let mut is_written = false;
-    for line in rows.noted.as_slice() {
-        if rows.is_due(*line) {
-            run.put(file, *line, &rows.marked_line(*line))?;
-            is_written = true;
+impl<F: Write + Seek + OpenFile> DeviceFile<F> {
+    /// Writes the marked words of each unsettled line that is due, or of each of them where the file is behind, neighbours
+    /// together, and syncs the file's data. Where there is none it does nothing.
+    ///
+    /// # Errors
+    ///
+    /// A write or the sync failed: each of the lines may hold its marked words or not.
+    pub(crate) fn write_due(&mut self, rows: &DeviceRows, is_behind: bool) -> io::Result<()> {
+        let mut run = LineRun::new();
+        let mut is_written = false;
+        for line in rows.unsettled.as_slice() {
+            if is_behind || rows.is_due(*line) {
+                run.put(&mut self.file, *line, &rows.marked_line(*line))?;
+                is_written = true;
+            }
         }
+        if is_written {
+            run.write(&mut self.file)?;
+            self.finish(u64::from(rows.lines) * LINE_BYTES as u64)?;
+        }
+        Ok(())
     }
-    if is_written {
-        run.write(file)?;
-        file.sync_data()?;
+
+    // Ends a write: the file has that many bytes at least, and its data are synced.
+    fn finish(&mut self, bytes: u64) -> io::Result<()> {
+        if self.is_short {
+            self.file.set_len(bytes)?;
+            self.is_short = false;
+        }
+        self.file.sync_data()
     }
-    Ok(())
 }

@@ -6,11 +6,11 @@ ghost use Rattle.pm_model.specs.Counts.{Counts, counts_of, fresh_counts, after_f
 ghost use Rattle.pm_file.specs.Silence.{silent};
 
 use crate::device::Device;
-use crate::device_rows::DeviceRows;
 use crate::script::Script;
 use crate::storage_fault::StorageFault;
 use crate::{device_file, shelf};
 use pm_model::{FileFault, Host, HostFault};
+use pm_rows::DeviceRows;
 use std::alloc::{AllocError, Global};
 use std::io::{BufReader, Input};
 use std::rt::Files;
@@ -40,20 +40,20 @@ impl<R: Files + Input + Print + Clone + Drop> FileHost<R> {
         ensures fresh { IfOk result (λ host. ⟦<FileHost<R> as Host>⟧.counts host ≡ fresh_counts 2139648) }
         ensures never_cut { result ≢ Result.Err (FileFault.Host HostFault.Cut) }
     {
-        match FileHost::open_at(runtime, alloc, DEVICE_PATH) {
+        match FileHost::open_files(runtime, alloc) {
             Ok(host) => Ok(host),
             Err(StorageFault::Memory) => Err(FileFault::Memory),
             Err(StorageFault::Failed) => Err(FileFault::Host(HostFault::Failed)),
         }
     }
 
-    // Opens the device in the file of that path.
-    fn open_at(runtime: &R, alloc: Global, path: &str) -> Result<FileHost<R>, StorageFault>
+    // Opens the device's file, and begins to read the script.
+    fn open_files(runtime: &R, alloc: Global) -> Result<FileHost<R>, StorageFault>
         ensures { IfOk result (λ host. counts_of (8 * host.device.rows.lines) host.device.tally ≡ fresh_counts 2139648) }
     {
         let runtime = runtime.clone()?;
         let mut words = zeroes(alloc, DEVICE_LINES)?;
-        let file = device_file::open(&runtime, path, DEVICE_LINES, &mut words)?;
+        let file = device_file::open(&runtime, DEVICE_PATH, DEVICE_LINES, &mut words)?;
         let rows = DeviceRows::new(alloc, DEVICE_LINES, words)?;
         let script = Script::new(alloc, runtime.reader())?;
         Ok(FileHost {
@@ -138,6 +138,3 @@ impl<R: Files + Input + Print + Clone + Drop> Host for FileHost<R> {
         }
     }
 }
-
-#[cfg(test)]
-mod tests;

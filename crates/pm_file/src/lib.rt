@@ -4,10 +4,8 @@
 
 mod device;
 mod device_file;
-mod device_rows;
 mod file_host;
 mod line_run;
-mod line_set;
 mod script;
 mod shelf;
 mod storage_fault;

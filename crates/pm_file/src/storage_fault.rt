@@ -6,7 +6,7 @@ use std::alloc::AllocError;
 use std::io;
 
 /// The two causes that the host tells apart.
-#[derive(Debug, Drop)]
+#[derive(Drop)]
 pub(crate) enum StorageFault {
     /// Memory was refused.
     Memory,

@@ -10,6 +10,7 @@ use Rattle.pm_model.specs.Picking.{keeps_newest}
 use Rattle.pm_mem.specs.Events.{image_of, words_from, fresh, told_events}
 use Rattle.pm_mem.proofs.Events.{told_events-none}
 use Rattle.pm_mem.specs.Rows.{marked_value, AreOf, AreSingle}
+use Rattle.pm_rows.specs.Rows.{TakesLine, AreSame, Loses}
 
 pub get_or-set : (row : List ℕ) (w v k : ℕ) → w < length row → get_or (set row w v) k 0 ≡ cond (eqb k w) v (get_or row k 0)
 get_or-set row w v k within = elim (cases_eq k w) [
@@ -33,45 +34,47 @@ AreOf-store newest marks durables words w v within rows = record {
   durables = λ k. rows.durables k ∙ sym (at_choice durable (eqb k w) (stored v (words k)) (words k) ∙ same_choice (eqb k w) (durable (words k)));
 }
 
-pub AreOf-flush : (newest marks new_marks durables : List ℕ) (words : Words) (line : ℕ)
-    → ((k : ℕ) → get_or new_marks k 0 ≡ cond (eqb (k / 8) line) (get_or newest k 0) (get_or marks k 0))
+pub AreOf-flush : (newest marks new_marks durables : List ℕ) (words : Words) (line : ℕ) → TakesLine line newest marks new_marks
     → AreOf newest marks durables words → AreOf newest new_marks durables (after_flush line words)
 AreOf-flush newest marks new_marks durables words line is rows = record {
   newest = λ k. rows.newest k ∙ sym (at_choice (λ (c : Cell). c.newest) (eqb (k / 8) line) (marked (words k)) (words k) ∙ same_choice (eqb (k / 8) line) ((words k).newest));
-  marked = λ k. is k ∙ ap (λ (x : ℕ). cond (eqb (k / 8) line) x (get_or marks k 0)) (rows.newest k) ∙ ap (λ (x : ℕ). cond (eqb (k / 8) line) ((words k).newest) x) (rows.marked k)
+  marked = λ k. is.each k ∙ ap (λ (x : ℕ). cond (eqb (k / 8) line) x (get_or marks k 0)) (rows.newest k) ∙ ap (λ (x : ℕ). cond (eqb (k / 8) line) ((words k).newest) x) (rows.marked k)
       ∙ sym (at_choice marked_value (eqb (k / 8) line) (marked (words k)) (words k));
   durables = λ k. rows.durables k ∙ sym (at_choice durable (eqb (k / 8) line) (marked (words k)) (words k) ∙ same_choice (eqb (k / 8) line) (durable (words k)));
 }
 
-pub AreOf-fence : (newest marks durables : List ℕ) (words : Words) → AreOf newest marks durables words → AreOf newest marks marks (after_fence words)
-AreOf-fence newest marks durables words rows = record {
+pub AreOf-fence : (newest marks durables new_durables : List ℕ) (words : Words) → AreSame new_durables marks → AreOf newest marks durables words → AreOf newest marks new_durables (after_fence words)
+AreOf-fence newest marks durables new_durables words same rows = record {
   newest = rows.newest;
   marked = rows.marked;
-  durables = λ k. rows.marked k ∙ sym (ap (last_or (words k).newest) (append-nil (words k).kept));
+  durables = λ k. same.each k ∙ rows.marked k ∙ sym (ap (last_or (words k).newest) (append-nil (words k).kept));
 }
 
-lost_values : (newest left marks durables : List ℕ) (words : Words) (pick : ℕ)
-    → ((k : ℕ) → get_or left k 0 ≡ cond (keeps_newest pick k) (get_or newest k 0) (get_or durables k 0))
+lost_values : (newest left marks durables : List ℕ) (words : Words) (pick : ℕ) → Loses pick durables newest left
     → AreOf newest marks durables words → (k : ℕ) → get_or left k 0 ≡ image_of pick words k
 lost_values newest left marks durables words pick is rows k =
-    is k ∙ ap (λ (x : ℕ). cond (keeps_newest pick k) x (get_or durables k 0)) (rows.newest k) ∙ ap (λ (x : ℕ). cond (keeps_newest pick k) ((words k).newest) x) (rows.durables k)
+    is.each k ∙ ap (λ (x : ℕ). cond (keeps_newest pick k) x (get_or durables k 0)) (rows.newest k) ∙ ap (λ (x : ℕ). cond (keeps_newest pick k) ((words k).newest) x) (rows.durables k)
 
-pub AreOf-lost : (newest left marks durables : List ℕ) (words : Words) (pick : ℕ)
-    → ((k : ℕ) → get_or left k 0 ≡ cond (keeps_newest pick k) (get_or newest k 0) (get_or durables k 0))
-    → AreOf newest marks durables words → AreOf left left left (after_loss (image_of pick words) words)
-AreOf-lost newest left marks durables words pick is rows =
-    let each : (k : ℕ) → get_or left k 0 ≡ image_of pick words k = lost_values newest left marks durables words pick is rows in
-    record { newest = each; marked = each; durables = each }
+pub AreOf-lost : (newest marks durables new_newest new_marks new_durables : List ℕ) (words : Words) (pick : ℕ)
+    → Loses pick durables newest new_newest → Loses pick durables newest new_marks → AreSame new_durables new_marks
+    → AreOf newest marks durables words → AreOf new_newest new_marks new_durables (after_loss (image_of pick words) words)
+AreOf-lost newest marks durables new_newest new_marks new_durables words pick newest_is marks_is same rows = record {
+  newest = lost_values newest new_newest marks durables words pick newest_is rows;
+  marked = lost_values newest new_marks marks durables words pick marks_is rows;
+  durables = λ k. same.each k ∙ lost_values newest new_marks marks durables words pick marks_is rows k;
+}
 
 pub AreSingle-lost : (image : Image) (words : Words) → AreSingle (after_loss image words)
 AreSingle-lost image words = record { each = λ k. refl }
 
 pub AreOf-start : (initial newest marks durables : List ℕ) (events : List Event) → events ≡ []
-    → ((k : ℕ) → get_or initial k 0 ≡ 0) → ((k : ℕ) → get_or newest k 0 ≡ 0) → ((k : ℕ) → get_or marks k 0 ≡ 0) → ((k : ℕ) → get_or durables k 0 ≡ 0)
+    → ((k : ℕ) → get_or initial k 0 ≡ 0) → ((k : ℕ) → get_or durables k 0 ≡ 0) → newest ≡ durables → marks ≡ durables
     → AreOf newest marks durables (told_events initial events).now.words
-AreOf-start initial newest marks durables events none i n m d =
-    let start : AreOf newest marks durables (words_from initial) = record { newest = λ k. n k ∙ sym (i k); marked = λ k. m k ∙ sym (i k); durables = λ k. d k ∙ sym (i k) } in
-    subst (λ (s : State). AreOf newest marks durables s.now.words) (sym (ap (told_events initial) none ∙ told_events-none initial)) start
+AreOf-start initial newest marks durables events none i d n m =
+    let start : AreOf durables durables durables (words_from initial) = record { newest = λ k. d k ∙ sym (i k); marked = λ k. d k ∙ sym (i k); durables = λ k. d k ∙ sym (i k) } in
+    let told : AreOf durables durables durables (told_events initial events).now.words = subst (λ (s : State). AreOf durables durables durables s.now.words) (sym (ap (told_events initial) none ∙ told_events-none initial)) start in
+    subst (λ (row : List ℕ). AreOf row marks durables (told_events initial events).now.words) (sym n)
+    (subst (λ (row : List ℕ). AreOf durables row durables (told_events initial events).now.words) (sym m) told)
 
 pub AreSingle-start : (initial : List ℕ) (events : List Event) → events ≡ [] → AreSingle (told_events initial events).now.words
 AreSingle-start initial events none =

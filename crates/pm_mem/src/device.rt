@@ -1,10 +1,10 @@
 //! The words of a device in memory, the bytes said, and what happened at each moment.
-ghost use Rattle.std.specs.Prelude.{◌≡◌, ℕ, ◌+◌, ◌*◌, ◌/◌, ◌<◌, ◌≤◌, false, true, map, vec_len, vec_capacity};
+ghost use Rattle.std.specs.Prelude.{◌≡◌, ℕ, ◌+◌, ◌*◌, ◌/◌, ◌%◌, ◌<◌, ◌≤◌, false, true, map, IfOk, slice_index, vec_len, vec_capacity};
 ghost use Rattle.pm_mem.specs.Events.{told_events, blanked};
 ghost use Rattle.pm_mem.specs.Rows.{AreOf, AreSingle};
 
 use crate::event::Event;
-use crate::rows;
+use pm_rows::DeviceRows;
 use std::alloc::{AllocError, Global};
 
 /// The words, the bytes said and the events since the start, from which each past moment can be told. The rows have
@@ -13,24 +13,20 @@ use std::alloc::{AllocError, Global};
 pub struct Device {
     pub words: u32,
     pub initial: Vec<u64>,
-    pub newest: Vec<u64>,
-    pub marked: Vec<u64>,
-    pub durable: Vec<u64>,
+    pub rows: DeviceRows,
     pub said: Vec<u8>,
     pub events: Vec<Event>,
     /// Whether a step came since power was last lost.
     pub moved: bool,
     ghost initial_len: { vec_len initial ≡ words },
-    ghost newest_len: { vec_len newest ≡ words },
-    ghost marked_len: { vec_len marked ≡ words },
-    ghost durable_len: { vec_len durable ≡ words },
-    ghost rows: { AreOf newest.items marked.items durable.items (told_events initial.items events.items).now.words },
+    ghost lines: { words ≡ 8 * rows.lines },
+    ghost follows: { AreOf rows.newest.items rows.marked.items rows.durable.items (told_events initial.items events.items).now.words },
     ghost replies: { said.items ≡ (told_events initial.items events.items).now.said },
     ghost single: { moved ≡ false → AreSingle (told_events initial.items events.items).now.words },
 }
 
 impl Device {
-    ghost use Rattle.std.specs.Prelude.{[], IfOk, length};
+    ghost use Rattle.std.specs.Prelude.{[], length};
     ghost use Rattle.pm_model.specs.Words.{after_store, after_flush, after_fence};
     ghost use Rattle.pm_model.specs.Moments.{stepped, one_said, all_said};
     ghost use Rattle.pm_mem.specs.Events.{after_pick, always, fresh};
@@ -43,6 +39,7 @@ impl Device {
         moments: usize,
         replies: usize,
     ) -> Result<Device, AllocError>
+        requires { words % 8 ≡ 0 }
         ensures words { IfOk result (λ device. device.words ≡ words) }
         ensures state { IfOk result (λ device. device_state device ≡ fresh []) }
         ensures events { IfOk result (λ device. vec_len device.events ≡ 0) }
@@ -53,10 +50,8 @@ impl Device {
     {
         Ok(Device {
             words,
-            initial: rows::zeroes(alloc, words)?,
-            newest: rows::zeroes(alloc, words)?,
-            marked: rows::zeroes(alloc, words)?,
-            durable: rows::zeroes(alloc, words)?,
+            initial: zeroes(alloc, words)?,
+            rows: DeviceRows::new(alloc, words / 8, zeroes(alloc, words)?)?,
             said: Vec::with_capacity(alloc, replies)?,
             events: Vec::with_capacity(alloc, moments)?,
             moved: false,
@@ -68,7 +63,7 @@ impl Device {
         requires room { vec_len self.old.events < vec_capacity self.old.events }
         ensures { GoesTo (stepped (after_store word value) (device_state self.old)) true 1 0 self.old self.new }
     {
-        self.newest[word as usize] = value;
+        self.rows.store(word, value);
         self.events.push_reserved(Event::Store(word, value));
         self.moved = true;
     }
@@ -78,7 +73,7 @@ impl Device {
         requires room { vec_len self.old.events < vec_capacity self.old.events }
         ensures { GoesTo (stepped (after_flush line) (device_state self.old)) true 1 0 self.old self.new }
     {
-        rows::copy_line(&mut self.marked, &self.newest, line);
+        self.rows.flush(line);
         self.events.push_reserved(Event::Flush(line));
         self.moved = true;
     }
@@ -87,7 +82,8 @@ impl Device {
         requires { vec_len self.old.events < vec_capacity self.old.events }
         ensures { GoesTo (stepped after_fence (device_state self.old)) true 1 0 self.old self.new }
     {
-        rows::copy(&mut self.durable, &self.marked);
+        self.rows.take_marked();
+        self.rows.forget_settled();
         self.events.push_reserved(Event::Fence);
         self.moved = true;
     }
@@ -97,9 +93,9 @@ impl Device {
         requires { vec_len self.old.events < vec_capacity self.old.events }
         ensures { GoesTo (after_pick pick (device_state self.old)) false 1 0 self.old self.new }
     {
-        rows::lose(&mut self.newest, &self.durable, pick);
-        rows::copy(&mut self.marked, &self.newest);
-        rows::copy(&mut self.durable, &self.newest);
+        self.rows.choose(pick);
+        self.rows.take_marked();
+        self.rows.forget_settled();
         self.events.push_reserved(Event::Lost(pick));
         self.moved = false;
     }
@@ -130,10 +126,16 @@ impl Device {
     {
         blank(&mut self.events, word);
         self.initial[word as usize] = value;
-        self.newest[word as usize] = value;
-        self.marked[word as usize] = value;
-        self.durable[word as usize] = value;
+        self.rows.poke(word, value);
     }
+}
+
+// A row of zeroes.
+fn zeroes(alloc: Global, words: u32) -> Result<Vec<u64>, AllocError>
+    ensures len { IfOk result (λ row. vec_len row ≡ words) }
+    ensures zero { IfOk result (λ row. (k : ℕ) → slice_index row.items k ≡ 0) }
+{
+    vec![in alloc; 0; words as usize]
 }
 
 // Makes each store to that word as if it had not been.

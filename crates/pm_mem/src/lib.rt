@@ -6,7 +6,6 @@ mod device;
 mod event;
 mod mem_host;
 mod plan;
-mod rows;
 mod turns;
 mod watch;
 

@@ -94,7 +94,7 @@ impl MemHost {
         ensures len { IfOk result (λ row. vec_len row ≡ (mem_counts self.now).size) }
         ensures newest { IfOk result (λ row. (k : ℕ) → slice_index row.items k ≡ ((mem_state self.now).now.words k).newest) }
     {
-        Vec::from_slice(alloc, &self.device.newest)
+        Vec::from_slice(alloc, &self.device.rows.newest)
     }
 
     /// Gives a word one durable value. The word then reads as if it had always had that value: each moment has it as
@@ -208,7 +208,7 @@ impl Host for MemHost {
     {
         self.call()?;
         self.watch.load(w);
-        Ok(self.device.newest[w as usize])
+        Ok(self.device.rows.load(w))
     }
 
     fn store(&mut self, w: u32, v: u64) -> Result<(), HostFault>

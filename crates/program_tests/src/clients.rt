@@ -1,6 +1,5 @@
 //! All lines, with their refusals, held against the machine that they move: with no cut, and cut at each step.
-use crate::program::{EVERY_OTHER, NEWEST, OLDEST, RUN, blank, cut_at, status_of};
-use pm_mem::MemHost;
+use crate::program::{EVERY_OTHER, NEWEST, OLDEST, RUN, Seen, blank, status_of};
 use pm_model::Host;
 use puddle_cli::{DONE, POWER_LOST};
 use std::alloc::Global;
@@ -21,24 +20,32 @@ enum Line {
     Arm,
 }
 
-/// All lines that there are, with their refusals.
-const LINES: [(&str, Line); 16] = [
-    ("client 0 5 5", Line::Client(1)),
-    ("type 1 2 1", Line::Define(1, 2)),
-    ("client 1 6 65535", Line::Client(2)),
-    ("client 0 7 7", Line::Client(1)),
-    ("leave 1", Line::Leave(2)),
-    ("leave 1", Line::Leave(2)),
-    ("type 1 2 0", Line::Define(2, 1)),
-    ("cut 1", Line::Cut),
-    ("client 0 9 9", Line::Client(1)),
-    ("leave", Line::Bad),
-    ("type 2 1 -", Line::Define(4, 8)),
-    ("arm 3 0", Line::Arm),
-    ("leave 0", Line::Leave(1)),
-    ("leave 0", Line::Leave(1)),
-    ("client 0 5 5", Line::Client(1)),
-    ("type 1 2 1", Line::Define(1, 2)),
+/// All lines that there are, with their refusals, and what they are answered where power is lost by them alone.
+const SCRIPT: &str =
+    "client 0 5 5\ntype 1 2 1\nclient 1 6 65535\nclient 0 7 7\nleave 1\nleave 1\ntype 1 2 0\ncut 1\n\
+    client 0 9 9\nleave\ntype 2 1 -\narm 3 0\nleave 0\nleave 0\nclient 0 5 5\ntype 1 2 1\n";
+
+const SAID: &str = "ready\nok\nok\nok\nno taken\nok\nno client\nno clash\nok\n\
+    ok\nno bad\nok\nok\ncut\nno client\nok\nok\n";
+
+/// What the lines of the script do.
+const LINES: [Line; 16] = [
+    Line::Client(1),
+    Line::Define(1, 2),
+    Line::Client(2),
+    Line::Client(1),
+    Line::Leave(2),
+    Line::Leave(2),
+    Line::Define(2, 1),
+    Line::Cut,
+    Line::Client(1),
+    Line::Bad,
+    Line::Define(4, 8),
+    Line::Arm,
+    Line::Leave(1),
+    Line::Leave(1),
+    Line::Client(1),
+    Line::Define(1, 2),
 ];
 
 /// A world of the machine: the clients that are present, and the types that are defined.
@@ -123,46 +130,46 @@ fn worlds_left(rt: &impl Abort, alloc: Global, worlds: &[World], line: Line) -> 
     left
 }
 
-/// All lines, each with its newline.
-fn script(rt: &impl Abort, alloc: Global) -> String {
-    let mut script = String::new(alloc);
-    for (text, _) in LINES {
-        script.push_str(text).expect(rt, "memory");
-        script.push('\n').expect(rt, "memory");
-    }
-    script
-}
-
-/// Runs all lines from one of these worlds, holds each reply against the machine, and gives how the run ended and the
-/// worlds that a start may find then.
-fn run_all_lines(
+/// Holds what a run over all lines from one of these worlds said against the machine, and gives the worlds that a start may
+/// find then.
+fn worlds_by(
     rt: &impl Abort,
     alloc: Global,
-    host: &mut MemHost,
+    said: &str,
+    status: u8,
     worlds: Vec<World>,
-) -> (u8, Vec<World>) {
-    let before = host.said().len();
-    host.refill(alloc, script(rt, alloc).as_bytes())
-        .expect(rt, "memory");
-    let status = status_of(rt, alloc, host, &RUN);
-    let said = host.said().get(before..).unwrap_or(&[]);
-    let said = String::from_utf8_lossy(alloc, said).expect(rt, "memory");
+) -> Vec<World> {
     let mut replies = said.lines();
     let mut worlds = worlds;
     if replies.next() != Some("ready") {
-        assert_eq!(rt; status, POWER_LOST);
-        return (status, worlds);
+        assert!(rt; status == POWER_LOST);
+        return worlds;
     }
-    for (_, line) in LINES {
+    for line in &LINES {
         let Some(reply) = replies.next() else {
-            assert_eq!(rt; status, POWER_LOST);
-            return (status, worlds_left(rt, alloc, &worlds, line));
+            assert!(rt; status == POWER_LOST);
+            return worlds_left(rt, alloc, &worlds, *line);
         };
-        worlds = worlds_behind(rt, alloc, &worlds, line, reply);
+        worlds = worlds_behind(rt, alloc, &worlds, *line, reply);
         assert!(rt; !worlds.is_empty());
     }
-    assert_eq!(rt; status, DONE);
-    (status, worlds_left(rt, alloc, &worlds, Line::Bad))
+    assert!(rt; status == DONE && replies.next().is_none());
+    worlds_left(rt, alloc, &worlds, Line::Bad)
+}
+
+/// Runs all lines from one of these worlds, and gives how the run ended and the worlds that a start may find then.
+fn run_all_lines<S: Seen>(
+    rt: &impl Abort,
+    alloc: Global,
+    host: &mut S,
+    worlds: Vec<World>,
+) -> (u8, Vec<World>) {
+    let before = host.heard().len();
+    assert!(rt; host.give(alloc, SCRIPT));
+    let status = status_of(rt, alloc, host, &RUN);
+    let said = host.heard().get(before..).unwrap_or(&[]);
+    let said = String::from_utf8_lossy(alloc, said).expect(rt, "memory");
+    (status, worlds_by(rt, alloc, &said, status, worlds))
 }
 
 /// The world of a blank device.
@@ -176,28 +183,42 @@ fn first_world(rt: &impl Abort, alloc: Global) -> Vec<World> {
     worlds
 }
 
-/// Runs all lines, cut at this step, and again; each time they are a run of the machine. The answer is the first status.
-fn cut_off(rt: &impl Abort, alloc: Global, step: u32, pick: u64) -> u8 {
-    let mut host = blank(rt, alloc, b"", cut_at(rt, alloc, step, pick));
+/// Runs all lines, loses power, and runs them again; each time they are a run of the machine. The answer is how both runs
+/// ended. A cut behind the first run strikes in the start of the second, and a third run follows.
+fn run_twice<S: Seen>(rt: &impl Abort, alloc: Global, host: &mut S, pick: u64) -> (u8, u8) {
     let worlds = first_world(rt, alloc);
-    let (status, left) = run_all_lines(rt, alloc, &mut host, worlds);
+    let (first, left) = run_all_lines(rt, alloc, host, worlds);
     host.cut(pick);
-    let (again, _) = run_all_lines(rt, alloc, &mut host, left);
-    assert_eq!(rt; again, DONE, "step {step}");
-    status
+    let (second, left) = run_all_lines(rt, alloc, host, left);
+    if second != DONE {
+        let (third, _) = run_all_lines(rt, alloc, host, left);
+        assert!(rt; third == DONE);
+    }
+    (first, second)
 }
 
-/// A run that is cut in its start, or in a restart, ends; one that is cut in a line goes on.
+/// How both runs end where the first is cut at this step.
+fn cut_off(rt: &impl Abort, alloc: Global, step: u32, pick: u64) -> (u8, u8) {
+    let mut host = blank(rt, alloc, "", &[(step, pick)]);
+    run_twice(rt, alloc, &mut host, pick)
+}
+
+/// A run ends where it is cut in its start, in the restart of `cut 1` or in that behind the armed loss, each of 55 steps.
+/// One that is cut in a line goes on: nothing stays armed then. The last step is behind the run.
 fn cut_at_each_step(rt: &impl Abort, alloc: Global, pick: u64) {
-    let (mut ended, mut went_on) = (false, false);
-    for step in 1..ALL_STEPS + 1 {
-        if cut_off(rt, alloc, step, pick) == DONE {
-            went_on = true;
-        } else {
-            ended = true;
+    let (mut ended, mut went_on, mut whole) = (0u32, 0u32, 0u32);
+    for step in 1..ALL_STEPS + 2 {
+        match cut_off(rt, alloc, step, pick) {
+            (POWER_LOST, DONE) => ended = ended.saturating_add(1),
+            (DONE, DONE) => went_on = went_on.saturating_add(1),
+            (DONE, POWER_LOST) => whole = whole.saturating_add(1),
+            _ => assert!(rt; false, "step {step}"),
         }
     }
-    assert!(rt; ended && went_on);
+    assert!(rt;
+        ended == 165 && went_on == 146 && whole == 1,
+        "{ended}, {went_on}, {whole}"
+    );
 }
 
 #[test]
@@ -215,18 +236,21 @@ fn all_lines_cut_at_each_step_with_every_other_newest_value(rt: HostRuntime) {
     cut_at_each_step(&rt, rt.alloc(), EVERY_OTHER);
 }
 
+/// A run over all lines with power lost at this step says what it says without, or something else.
+fn says(rt: &impl Abort, alloc: Global, step: u32, is_whole: bool) {
+    let mut host = blank(rt, alloc, SCRIPT, &[(step, OLDEST)]);
+    assert!(rt;
+        status_of(rt, alloc, &mut host, &RUN) == DONE,
+        "step {step}"
+    );
+    assert!(rt;
+        (host.heard() == SAID.as_bytes()) == is_whole,
+        "step {step}"
+    );
+}
+
 #[test]
 fn a_run_over_all_lines_takes_its_steps(rt: HostRuntime) {
-    let whole =
-        b"ready\nok\nok\nok\nno taken\nok\nno client\nno clash\nok\nok\nno bad\nok\nok\ncut\nno client\nok\nok\n";
-    for (step, is_whole) in [(ALL_STEPS, false), (ALL_STEPS + 1, true)] {
-        let plan = cut_at(&rt, rt.alloc(), step, OLDEST);
-        let script = script(&rt, rt.alloc());
-        let mut host = blank(&rt, rt.alloc(), script.as_bytes(), plan);
-        assert_eq!(rt; status_of(&rt, rt.alloc(), &mut host, &RUN), DONE);
-        assert!(rt;
-            (host.said() == whole.as_slice()) == is_whole,
-            "step {step}"
-        );
-    }
+    says(&rt, rt.alloc(), ALL_STEPS, false);
+    says(&rt, rt.alloc(), ALL_STEPS + 1, true);
 }

@@ -1,11 +1,12 @@
 //! A first definition of a type, with power lost or a call failing somewhere in the run.
-use crate::program::{NEWEST, OLDEST, RUN, START_STEPS, blank, cut_at, has_words, status_of};
-use pm_mem::{MemHost, Plan};
+use crate::program::{
+    EVERY_OTHER, End, NEWEST, OLDEST, RUN, START_STEPS, Seen, blank, blank_failing, end_of,
+    has_words, status_of,
+};
 use pm_model::Host;
 use puddle_cli::{DEVICE_FAULT, DONE, POWER_LOST};
 use std::alloc::Global;
 use std::process::Abort;
-use test_device::{cuts, failures, newest};
 
 /// The map word of a type of two fields of which field 1 is a pointer.
 const MAP: u64 = 8_589_934_594;
@@ -16,137 +17,160 @@ const LINE_STEPS: u32 = 6;
 /// The steps of a run over it.
 const STEPS: u32 = START_STEPS + LINE_STEPS;
 
-/// Where a first definition came to its end.
-#[derive(Clone, Copy, Debug, PartialEq, Eq)]
-enum End {
-    /// Before the start text was said whole.
-    InStart,
-    /// Behind the start text, and before a reply was said whole.
-    InLine,
-    /// With the reply `cut`.
-    Cut,
-    /// With the reply `ok`, and a fault behind it.
-    BehindReply,
-    /// With the reply `ok`, and the plan's fault still to come.
-    Whole,
-}
+/// From which step on a power loss may leave the type defined: behind the store of the id word, or behind the run.
+const STORED: u32 = STEPS - 1;
 
-/// Where a run ended, by its status and what it said. A status other than 0 is the fault's.
-fn end_of(rt: &impl Abort, status: u8, said: &[u8], fault: u8) -> End {
-    assert!(rt; status == DONE || status == fault);
-    if said == b"ready\ncut\n".as_slice() {
-        assert!(rt; status == DONE);
-        End::Cut
-    } else if said == b"ready\nok\n".as_slice() {
-        if status == DONE {
-            End::Whole
-        } else {
-            End::BehindReply
-        }
-    } else {
-        assert!(rt; status == fault);
-        assert!(rt; b"ready\nok\n".starts_with(said) || b"ready\ncut\n".starts_with(said));
-        if said.starts_with(b"ready\n") {
-            End::InLine
-        } else {
-            End::InStart
-        }
-    }
-}
+const BEHIND: u32 = STEPS + 1;
 
-/// Runs the program, which has to end with this status and to say this.
-fn runs(rt: &impl Abort, alloc: Global, host: &mut MemHost, status: u8, said: &[u8]) {
-    let before = host.said().len();
-    assert_eq!(rt; status_of(rt, alloc, host, &RUN), status);
-    assert!(rt; host.said().get(before..) == Some(said));
-}
-
-/// Runs a first definition with this plan, and then loses power. Behind `ok` the type has to be there, and behind a start
-/// that did not end it may not be; a second run has to answer as the device's words say.
-fn define_under(rt: &impl Abort, alloc: Global, plan: Plan, fault: u8, pick: u64) -> End {
-    let mut host = blank(rt, alloc, b"type 1 2 1\n", plan);
-    let status = status_of(rt, alloc, &mut host, &RUN);
-    let end = end_of(rt, status, host.said(), fault);
-    host.cut(pick);
-    let is_defined = newest(alloc, &host, 1_088) == Some(1);
-    match end {
-        End::InStart => assert!(rt; !is_defined),
-        End::InLine | End::Cut => {}
-        End::BehindReply | End::Whole => has_words(rt, alloc, &host, &[(1_088, 1), (1_089, MAP)]),
-    }
-    host.refill(alloc, b"type 1 2 0\n").expect(rt, "memory");
-    if end == End::Whole {
-        // The next call or step of the host has the plan's fault.
-        runs(rt, alloc, &mut host, fault, b"");
+/// Runs a script of the other definition of the type, which has to be answered as it is defined or not. The answer is
+/// whether the plan's fault was still to come: then the first try ends by it, and says nothing.
+fn define_again<S: Seen>(rt: &impl Abort, alloc: Global, host: &mut S, is_defined: bool) -> bool {
+    assert!(rt; host.give(alloc, "type 1 2 0\n"));
+    let before = host.heard().len();
+    let is_to_come = status_of(rt, alloc, host, &RUN) != DONE;
+    if is_to_come {
+        assert!(rt; host.heard().len() == before);
+        assert!(rt; status_of(rt, alloc, host, &RUN) == DONE);
     }
     let said = if is_defined {
         b"ready\nno clash\n".as_slice()
     } else {
         b"ready\nok\n".as_slice()
     };
-    runs(rt, alloc, &mut host, DONE, said);
-    end
+    assert!(rt; host.heard().get(before..) == Some(said));
+    is_to_come
+}
+
+/// Runs a first definition, and then loses power. The answer is where the run ended, whether the type is defined then, and
+/// whether the plan has a fault still to come.
+fn define<S: Seen>(
+    rt: &impl Abort,
+    alloc: Global,
+    host: &mut S,
+    fault: u8,
+    pick: u64,
+) -> (End, bool, bool) {
+    let status = status_of(rt, alloc, host, &RUN);
+    let end = end_of(rt, status, host.heard(), fault);
+    host.cut(pick);
+    let is_defined = host.word(alloc, 1_088) != Some(0);
+    if is_defined {
+        has_words(rt, alloc, host, &[(1_088, 1), (1_089, MAP)]);
+    }
+    let is_to_come = define_again(rt, alloc, host, is_defined);
+    (end, is_defined, is_to_come)
+}
+
+/// A definition with power lost at these steps ends so.
+fn ends_so(
+    rt: &impl Abort,
+    alloc: Global,
+    losses: &[(u32, u64)],
+    pick: u64,
+    wanted: (End, bool, bool),
+) {
+    let mut host = blank(rt, alloc, "type 1 2 1\n", losses);
+    let found = define(rt, alloc, &mut host, POWER_LOST, pick);
+    assert!(rt; found == wanted, "{losses:?}");
 }
 
 #[test]
 fn a_definition_cut_at_each_step_is_there_or_not(rt: HostRuntime) {
-    for pick in [OLDEST, NEWEST] {
-        for step in 1..STEPS + 2 {
-            let wanted = if step <= START_STEPS {
+    for (pick, defined_from) in [(OLDEST, BEHIND), (NEWEST, STORED), (EVERY_OTHER, STORED)] {
+        for step in 1..BEHIND + 1 {
+            let end = if step <= START_STEPS {
                 End::InStart
             } else if step <= STEPS {
                 End::Cut
             } else {
                 End::Whole
             };
-            let plan = cut_at(&rt, rt.alloc(), step, pick);
-            let end = define_under(&rt, rt.alloc(), plan, POWER_LOST, pick);
-            assert!(rt; end == wanted, "step {step}");
+            let wanted = (end, step >= defined_from, step > STEPS);
+            ends_so(&rt, rt.alloc(), &[(step, pick)], pick, wanted);
         }
     }
 }
 
+/// A definition cut at this step of the run, whose restart is cut so many steps later, or is not, since there are fewer.
+fn end_in_restart(rt: &impl Abort, alloc: Global, step: u32, later: u32, pick: u64) {
+    let (end, is_to_come) = if later <= START_STEPS {
+        (End::InLine, false)
+    } else {
+        (End::Cut, true)
+    };
+    let is_defined = step >= STORED && pick == NEWEST;
+    let losses = [(step, pick), (step.saturating_add(later), pick)];
+    ends_so(rt, alloc, &losses, pick, (end, is_defined, is_to_come));
+}
+
+// Behind the last step of the definition, and behind each of the others at some steps.
 #[test]
 fn a_definition_whose_restart_is_cut_is_there_or_not(rt: HostRuntime) {
     for pick in [OLDEST, NEWEST] {
-        for step in START_STEPS + 1..STEPS + 1 {
-            for later in [step + 1, step + 5, step + START_STEPS] {
-                let plan = cuts(rt.alloc(), &[(step, pick), (later, pick)]).expect(&rt, "memory");
-                let end = define_under(&rt, rt.alloc(), plan, POWER_LOST, pick);
-                assert!(rt; end == End::InLine, "steps {step} and {later}");
+        for later in 1..START_STEPS + 2 {
+            end_in_restart(&rt, rt.alloc(), STEPS, later, pick);
+        }
+        for step in START_STEPS + 1..STEPS {
+            for later in [1, 5, START_STEPS, START_STEPS + 1] {
+                end_in_restart(&rt, rt.alloc(), step, later, pick);
             }
         }
     }
+}
+
+/// Runs both definitions, with power lost at this step, which says this.
+fn define_both(rt: &impl Abort, alloc: Global, loss: (u32, u64), said: &str) {
+    let mut host = blank(rt, alloc, "type 1 2 1\ntype 1 2 0\n", &[loss]);
+    assert!(rt; status_of(rt, alloc, &mut host, &RUN) == DONE, "{loss:?}");
+    assert!(rt; host.heard() == said.as_bytes(), "{loss:?}");
 }
 
 #[test]
 fn a_line_that_is_cut_off_is_answered_cut_and_the_run_goes_on(rt: HostRuntime) {
-    for (step, pick, said) in [
-        (START_STEPS + 1, OLDEST, "ready\ncut\nok\n"),
-        (STEPS, OLDEST, "ready\ncut\nok\n"),
-        (STEPS, NEWEST, "ready\ncut\nno clash\n"),
-    ] {
-        let plan = cut_at(&rt, rt.alloc(), step, pick);
-        let mut host = blank(&rt, rt.alloc(), b"type 1 2 1\ntype 1 2 0\n", plan);
-        runs(&rt, rt.alloc(), &mut host, DONE, said.as_bytes());
-    }
+    define_both(
+        &rt,
+        rt.alloc(),
+        (START_STEPS + 1, OLDEST),
+        "ready\ncut\nok\n",
+    );
+    define_both(&rt, rt.alloc(), (STEPS, OLDEST), "ready\ncut\nok\n");
+    define_both(&rt, rt.alloc(), (STEPS, NEWEST), "ready\ncut\nno clash\n");
 }
 
-#[test]
-fn a_definition_with_a_failing_call_is_there_or_not(rt: HostRuntime) {
-    let (mut in_start, mut in_line, mut behind_reply, mut whole) = (false, false, false, false);
+/// A definition with the call of this number failing.
+fn define_failing(rt: &impl Abort, alloc: Global, call: u32, pick: u64) -> (End, bool, bool) {
+    let mut host = blank_failing(rt, alloc, "type 1 2 1\n", call);
+    define(rt, alloc, &mut host, DEVICE_FAULT, pick)
+}
+
+/// A definition with each call in turn failing. The line has 11 bytes to read, 64 records to look at, six steps and one
+/// reply to say: 82 calls, at so many of which the type is defined. Behind the reply there is the end to read.
+fn fail_each_call(rt: &impl Abort, alloc: Global, pick: u64, defined_at: u32) {
+    let (mut start, mut line, mut defined, mut reply, mut whole) = (0u32, 0u32, 0u32, 0u32, 0u32);
     for call in 1..2_000 {
-        let plan = failures(rt.alloc(), &[call]).expect(&rt, "memory");
-        match define_under(&rt, rt.alloc(), plan, DEVICE_FAULT, OLDEST) {
-            End::InStart => in_start = true,
-            End::InLine => in_line = true,
-            End::Cut => assert!(rt; false, "call {call}"),
-            End::BehindReply => behind_reply = true,
-            End::Whole => {
-                whole = true;
-                break;
+        if whole == 0 {
+            match define_failing(rt, alloc, call, pick) {
+                (End::InStart, false, false) => start = start.saturating_add(1),
+                (End::InLine, false, false) => line = line.saturating_add(1),
+                (End::InLine, true, false) => defined = defined.saturating_add(1),
+                (End::BehindReply, true, false) => reply = reply.saturating_add(1),
+                (End::Whole, true, true) => whole = whole.saturating_add(1),
+                _ => assert!(rt; false, "call {call}"),
             }
         }
     }
-    assert!(rt; in_start && in_line && behind_reply && whole);
+    assert!(rt; start > START_STEPS && line.saturating_add(defined) == 82);
+    assert!(rt; defined == defined_at && reply == 1 && whole == 1);
+}
+
+// The type is defined where the reply fails.
+#[test]
+fn a_definition_with_a_failing_call_is_there_or_not(rt: HostRuntime) {
+    fail_each_call(&rt, rt.alloc(), OLDEST, 1);
+}
+
+// It is there too where the last flush fails or the last fence, and the id word is kept.
+#[test]
+fn a_definition_with_a_failing_call_is_there_or_not_by_the_newest_values(rt: HostRuntime) {
+    fail_each_call(&rt, rt.alloc(), NEWEST, 3);
 }

@@ -1,78 +1,92 @@
 //! What becomes of a device, and of one that is not sound.
 use crate::program::{
-    EVERY_OTHER, FORMAT, NEWEST, OLDEST, RUN, blank, cut_at, has_words, status_of, zeroed,
+    EVERY_OTHER, End, FORMAT, NEWEST, OLDEST, RUN, START_STEPS, Seen, blank, end_of, has_words,
+    status_of,
 };
-use pm_mem::{MemHost, Plan};
 use pm_model::Host;
-use pud_defs::layout::{CLIENT_LOGS, MIN_FRAMES, log_at};
 use puddle_cli::{DONE, NOT_USABLE, POWER_LOST, USAGE};
 use std::alloc::Global;
 use std::process::Abort;
 use test_device::poke;
 
 /// Runs the program with each of these words in turn. It has to end with this status, and to have said this since the
-/// first.
-fn end_with(rt: &impl Abort, alloc: Global, host: &mut MemHost, rows: &[(&[&str], u8, &str)]) {
+/// first. Then power is lost, where each word has its durable value, and these words are left.
+fn end_with<S: Seen>(
+    rt: &impl Abort,
+    alloc: Global,
+    host: &mut S,
+    rows: &[(&[&str], u8, &str)],
+    left: &[(u32, u64)],
+) {
     for (words, status, said) in rows {
-        assert_eq!(rt; status_of(rt, alloc, host, words), *status, "{words:?}");
-        assert_eq!(rt; host.said(), said.as_bytes());
+        assert!(rt; status_of(rt, alloc, host, words) == *status, "{words:?}");
+        assert!(rt; host.heard() == said.as_bytes(), "{words:?}");
     }
+    host.cut(OLDEST);
+    has_words(rt, alloc, host, left);
+}
+
+/// The words of a blank device that are not zero, as zeroes.
+const ZEROES: [(u32, u64); 5] = [(0, 0), (1, 0), (2, 0), (3, 0), (4, 0)];
+
+/// The program ends so on a blank device with this script and with these words.
+fn end_on(
+    rt: &impl Abort,
+    alloc: Global,
+    (script, words): (&str, &[(u32, u64)]),
+    rows: &[(&[&str], u8, &str)],
+    left: &[(u32, u64)],
+) {
+    let mut host = blank(rt, alloc, script, &[]);
+    assert!(rt; poke(&mut host, words));
+    end_with(rt, alloc, &mut host, rows, left);
 }
 
 #[test]
 fn a_device_is_formatted_once_and_runs_an_empty_script(rt: HostRuntime) {
-    let mut host = zeroed(&rt, rt.alloc(), b"", Plan::none(rt.alloc()));
-    end_with(
-        &rt,
-        rt.alloc(),
-        &mut host,
-        &[
-            (&FORMAT, DONE, "formatted\n"),
-            (&RUN, DONE, "formatted\nready\n"),
-            (&FORMAT, NOT_USABLE, "formatted\nready\n"),
-        ],
-    );
+    let rows: [(&[&str], u8, &str); 3] = [
+        (&FORMAT, DONE, "formatted\n"),
+        (&RUN, DONE, "formatted\nready\n"),
+        (&FORMAT, NOT_USABLE, "formatted\nready\n"),
+    ];
+    end_on(&rt, rt.alloc(), ("", &ZEROES), &rows, &[(2, 7), (3, 4)]);
 }
 
 #[test]
 fn words_that_are_no_mode_say_nothing(rt: HostRuntime) {
-    let mut host = blank(&rt, rt.alloc(), b"type 1 2 1\n", Plan::none(rt.alloc()));
-    end_with(
-        &rt,
-        rt.alloc(),
-        &mut host,
-        &[
-            (&[], USAGE, ""),
-            (&["puddle"], USAGE, ""),
-            (&["puddle", "run", "now"], USAGE, ""),
-            (&["puddle", "--help"], USAGE, ""),
-            (&["puddle", "format", "3", "7"], USAGE, ""),
-            (&["puddle", "format", "1025", "7"], USAGE, ""),
-            (&["puddle", "format", "04", "7"], USAGE, ""),
-            (&["puddle", "format", "4", "+7"], USAGE, ""),
-            (
-                &["puddle", "format", "4", "18446744073709551616"],
-                USAGE,
-                "",
-            ),
-        ],
-    );
+    let rows: [(&[&str], u8, &str); 9] = [
+        (&[], USAGE, ""),
+        (&["puddle"], USAGE, ""),
+        (&["puddle", "run", "now"], USAGE, ""),
+        (&["puddle", "--help"], USAGE, ""),
+        (&["puddle", "format", "3", "7"], USAGE, ""),
+        (&["puddle", "format", "1025", "7"], USAGE, ""),
+        (&["puddle", "format", "04", "7"], USAGE, ""),
+        (&["puddle", "format", "4", "+7"], USAGE, ""),
+        (
+            &["puddle", "format", "4", "18446744073709551616"],
+            USAGE,
+            "",
+        ),
+    ];
+    end_on(&rt, rt.alloc(), ("type 1 2 1\n", &[]), &rows, &[(1_088, 0)]);
 }
 
 #[test]
 fn a_device_that_is_too_small_is_not_formatted(rt: HostRuntime) {
-    let mut host = zeroed(&rt, rt.alloc(), b"", Plan::none(rt.alloc()));
-    let words = ["puddle", "format", "5", "7"];
-    end_with(&rt, rt.alloc(), &mut host, &[(&words, NOT_USABLE, "")]);
-    has_words(&rt, rt.alloc(), &host, &[(3, 0)]);
+    let rows: [(&[&str], u8, &str); 1] = [(&["puddle", "format", "5", "7"], NOT_USABLE, "")];
+    end_on(&rt, rt.alloc(), ("", &ZEROES), &rows, &[(0, 0), (3, 0)]);
 }
 
 #[test]
 fn a_device_of_zeroes_is_not_sound_and_stays(rt: HostRuntime) {
-    let mut host = zeroed(&rt, rt.alloc(), b"type 1 2 1\n", Plan::none(rt.alloc()));
-    end_with(&rt, rt.alloc(), &mut host, &[(&RUN, NOT_USABLE, "")]);
+    let mut host = blank(&rt, rt.alloc(), "type 1 2 1\n", &[]);
+    assert!(rt; poke(&mut host, &ZEROES));
+    end_with(&rt, rt.alloc(), &mut host, &[(&RUN, NOT_USABLE, "")], &[]);
     let words = host.read_back(rt.alloc()).expect(&rt, "memory");
-    assert!(rt; words.iter().all(|word| *word == 0));
+    for word in &words {
+        assert!(rt; *word == 0);
+    }
 }
 
 #[test]
@@ -86,75 +100,98 @@ fn a_hostile_device_is_not_sound_and_stays(rt: HostRuntime) {
         (1_216, 1),
         (1_567, 1),
     ] {
-        let mut host = blank(&rt, rt.alloc(), b"type 1 2 1\n", Plan::none(rt.alloc()));
-        assert!(rt; poke(&mut host, &[(at, value)]));
-        end_with(&rt, rt.alloc(), &mut host, &[(&RUN, NOT_USABLE, "")]);
-        has_words(&rt, rt.alloc(), &host, &[(at as usize, value)]);
+        let device: (&str, &[(u32, u64)]) = ("type 1 2 1\n", &[(at, value)]);
+        let rows: [(&[&str], u8, &str); 1] = [(&RUN, NOT_USABLE, "")];
+        end_on(&rt, rt.alloc(), device, &rows, &[(at, value)]);
     }
 }
 
 #[test]
 fn a_start_closes_the_daemon_log_and_empties_the_log_space_table(rt: HostRuntime) {
     for gate in [0, 1, 1_028] {
-        let mut host = blank(&rt, rt.alloc(), b"", Plan::none(rt.alloc()));
         let used = [(64, gate), (1_472, 1), (1_480, 1), (1_528, 1)];
-        assert!(rt; poke(&mut host, &used));
-        end_with(&rt, rt.alloc(), &mut host, &[(&RUN, DONE, "ready\n")]);
-        host.cut(0);
+        let rows: [(&[&str], u8, &str); 1] = [(&RUN, DONE, "ready\n")];
         let left = [(64, 1_028), (1_472, 0), (1_480, 0), (1_528, 0)];
-        has_words(&rt, rt.alloc(), &host, &left);
+        end_on(&rt, rt.alloc(), ("", &used), &rows, &left);
     }
 }
 
 #[test]
 fn two_types_stand_in_the_first_two_records(rt: HostRuntime) {
-    let script = b"type 1 2 1\ntype 2 30 0,29\n";
-    let mut host = blank(&rt, rt.alloc(), script, Plan::none(rt.alloc()));
-    end_with(
-        &rt,
-        rt.alloc(),
-        &mut host,
-        &[(&RUN, DONE, "ready\nok\nok\n")],
-    );
-    host.cut(0);
+    let rows: [(&[&str], u8, &str); 1] = [(&RUN, DONE, "ready\nok\nok\n")];
     let left = [
         (1_088, 1),
         (1_089, 8_589_934_594),
         (1_090, 2),
         (1_091, (30 << 32) + (1 << 29) + 1),
     ];
-    has_words(&rt, rt.alloc(), &host, &left);
+    let device: (&str, &[(u32, u64)]) = ("type 1 2 1\ntype 2 30 0,29\n", &[]);
+    end_on(&rt, rt.alloc(), device, &rows, &left);
 }
 
-/// The device steps of a run in which a client comes: the start, four gates with a line each and a fence, and the batch.
+/// The device steps of a run in which a client comes: the start, four gates with a line each and a fence, and the batch of
+/// an entry of five words.
 const COME_STEPS: u32 = 82;
 
-/// A client comes, whose logs are open, by this plan; power is lost then, and a second run follows. The answer is whether
-/// the client was said to be there: then it is, by its record.
-fn comes(rt: &impl Abort, alloc: Global, plan: Plan, pick: u64) -> bool {
-    let mut host = blank(rt, alloc, b"client 7 65535 9\n", plan);
-    // The logs of a client that is not registered may be in any state.
-    for number in 0..CLIENT_LOGS {
-        assert!(rt; poke(&mut host, &[(log_at(MIN_FRAMES, 7, number), 512)]));
-    }
-    let status = status_of(rt, alloc, &mut host, &RUN);
-    assert!(rt; status == DONE || status == POWER_LOST);
+/// The gate of a closed log.
+const CLOSED: u64 = 1_028;
+
+/// Client 7 comes, and power is lost. The answer is where the run ended, and whether the record has the owner: where it has,
+/// the logs of the client are closed.
+fn comes<S: Seen>(rt: &impl Abort, alloc: Global, host: &mut S, pick: u64) -> (End, bool) {
+    let status = status_of(rt, alloc, host, &RUN);
+    let end = end_of(rt, status, host.heard(), POWER_LOST);
     host.cut(pick);
-    let is_there = host.said() == b"ready\nok\n".as_slice();
-    if is_there {
-        has_words(rt, alloc, &host, &[(1_528, 1), (1_529, 65_535), (1_530, 9)]);
+    let has_owner = host.word(alloc, 1_529) != Some(0);
+    if has_owner {
+        // A restart frees the record, and leaves the owner in it.
+        let used = u64::from(end == End::Whole);
+        let record = [(1_528, used), (1_529, 65_535), (1_530, 9)];
+        has_words(rt, alloc, host, &record);
+        let gates = [
+            (30_240, CLOSED),
+            (31_264, CLOSED),
+            (32_288, CLOSED),
+            (33_312, CLOSED),
+        ];
+        has_words(rt, alloc, host, &gates);
+    } else {
+        has_words(rt, alloc, host, &[(1_528, 0), (1_530, 0)]);
     }
-    assert_eq!(rt; status_of(rt, alloc, &mut host, &RUN), DONE);
-    is_there
+    // A cut behind the run strikes in the next start.
+    let next = if end == End::Whole { POWER_LOST } else { DONE };
+    assert!(rt; status_of(rt, alloc, host, &RUN) == next);
+    (end, has_owner)
 }
 
+/// Client 7 comes with a cut at this step, whose logs are open: the record has the owner from this step on.
+fn comes_so(rt: &impl Abort, alloc: Global, step: u32, pick: u64, owner_from: u32) {
+    let end = if step <= START_STEPS {
+        End::InStart
+    } else if step <= COME_STEPS {
+        End::Cut
+    } else {
+        End::Whole
+    };
+    let mut host = blank(rt, alloc, "client 7 65535 9\n", &[(step, pick)]);
+    // The logs of a client that is not registered may be in any state.
+    assert!(rt;
+        poke(
+            &mut host,
+            &[(30_240, 512), (31_264, 512), (32_288, 512), (33_312, 512)]
+        )
+    );
+    let found = comes(rt, alloc, &mut host, pick);
+    assert!(rt; found == (end, step >= owner_from), "step {step}");
+}
+
+// The gate by which the entry of the batch counts is stored by the 17th step of the line, which is the 72nd, and durable behind
+// the 74th.
 #[test]
 fn a_client_is_registered_behind_closed_logs(rt: HostRuntime) {
-    for pick in [OLDEST, NEWEST, EVERY_OTHER] {
-        assert!(rt; comes(&rt, rt.alloc(), Plan::none(rt.alloc()), pick));
-        for step in 1..COME_STEPS + 1 {
-            let plan = cut_at(&rt, rt.alloc(), step, pick);
-            assert!(rt; !comes(&rt, rt.alloc(), plan, pick), "step {step}");
+    for (pick, owner_from) in [(OLDEST, 75), (NEWEST, 73), (EVERY_OTHER, 73)] {
+        for step in 1..COME_STEPS + 2 {
+            comes_so(&rt, rt.alloc(), step, pick, owner_from);
         }
     }
 }

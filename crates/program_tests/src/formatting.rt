@@ -1,61 +1,134 @@
-//! A device is formatted, with power lost or a call failing somewhere.
-use crate::program::{FORMAT, NEWEST, OLDEST, RUN, cut_at, status_of, zeroed};
-use pm_mem::Plan;
+//! A device is formatted, with other words on it before, and with power lost or a call failing somewhere.
+use crate::program::{FORMAT, NEWEST, OLDEST, RUN, Seen, WORDS, status_of};
+use pm_mem::{MemHost, Plan};
 use pm_model::Host;
 use pud_defs::layout::DEVICE_MAGIC;
 use puddle_cli::{DEVICE_FAULT, DONE, NOT_USABLE, POWER_LOST};
 use std::alloc::Global;
 use std::process::Abort;
-use test_device::{failures, newest, poke};
+use test_device::{cuts, failures, poke, zero_device};
 
 /// The device steps that formatting four frames takes: 34,336 words and 4,292 lines of zeroes with a fence, four words and
 /// a line with a fence, and one word.
 const FORMAT_STEPS: u32 = 38_638;
 
-/// Formats a device with old words under this plan. Whatever comes, a power loss leaves it not sound or blank. The answer
-/// is whether it was formatted.
-fn format_under(rt: &impl Abort, alloc: Global, plan: Plan, fault: u8, pick: u64) -> bool {
-    let mut host = zeroed(rt, alloc, b"", plan);
-    assert!(rt; poke(&mut host, &[(64, 9), (1_216, 5)]));
-    let status = status_of(rt, alloc, &mut host, &FORMAT);
-    let is_done = status == DONE;
-    assert!(rt; is_done || status == fault);
-    assert!(rt; b"formatted\n".starts_with(host.said()));
-    host.cut(pick);
-    let is_whole = newest(alloc, &host, 0) == Some(DEVICE_MAGIC);
-    if is_done {
-        assert!(rt; is_whole);
-        // The plan's fault is still to come, in the start.
-        assert_eq!(rt; status_of(rt, alloc, &mut host, &RUN), fault);
-        assert_eq!(rt; host.said(), b"formatted\n".as_slice());
-    }
-    let wanted = if is_whole { DONE } else { NOT_USABLE };
-    assert_eq!(rt; status_of(rt, alloc, &mut host, &RUN), wanted);
-    is_done
+/// What a word of the noisy device has before, none of which is zero or the magic.
+fn noise(at: u32) -> u64 {
+    1_000_000 + u64::from(at)
 }
 
+/// What it has once four frames are formatted: the words that describe the device, zeroes in its tables and logs, and what
+/// was there in the frames.
+fn formatted(at: u32) -> u64 {
+    match at {
+        0 => DEVICE_MAGIC,
+        1 | 4 => 1,
+        2 => 7,
+        3 => 4,
+        5..34_336 => 0,
+        _ => noise(at),
+    }
+}
+
+/// Formats the device, and loses power where each word has its durable value.
+fn format<H: Host>(rt: &impl Abort, alloc: Global, host: &mut H) {
+    assert!(rt; status_of(rt, alloc, host, &FORMAT) == DONE);
+    host.cut(OLDEST);
+}
+
+// Word 1,568 is the first of a client's log, and word 34,336 the first of the frames.
+#[test]
+fn formatting_clears_the_tables_and_the_logs_and_leaves_the_frames(rt: HostRuntime) {
+    let plan = Plan::none(rt.alloc());
+    let mut host = zero_device(rt.alloc(), WORDS, b"", plan).expect(&rt, "memory");
+    for at in 0..WORDS {
+        assert!(rt; poke(&mut host, &[(at, noise(at))]));
+    }
+    format(&rt, rt.alloc(), &mut host);
+    let words = host.read_back(rt.alloc()).expect(&rt, "memory");
+    assert!(rt; words.get(1_568) == Some(&0) && words.get(34_336) == Some(&1_034_336));
+    for (word, at) in words.iter().zip(0..WORDS) {
+        assert!(rt; *word == formatted(at), "word {at}");
+    }
+}
+
+/// Formats a device with old words under this plan. Whatever comes, a power loss leaves it not sound or blank. The answer
+/// is whether it was formatted, and whether the device is a blank one then.
+fn format_under<S: Seen>(
+    rt: &impl Abort,
+    alloc: Global,
+    host: &mut S,
+    fault: u8,
+    pick: u64,
+) -> (bool, bool) {
+    let status = status_of(rt, alloc, host, &FORMAT);
+    let is_done = status == DONE;
+    assert!(rt; is_done || status == fault);
+    assert!(rt; b"formatted\n".starts_with(host.heard()));
+    host.cut(pick);
+    let is_whole = host.word(alloc, 0) == Some(DEVICE_MAGIC);
+    if is_done {
+        // The plan's fault is still to come, in the start.
+        assert!(rt; status_of(rt, alloc, host, &RUN) == fault);
+        assert!(rt; host.heard() == b"formatted\n".as_slice());
+    }
+    let wanted = if is_whole { DONE } else { NOT_USABLE };
+    assert!(rt; status_of(rt, alloc, host, &RUN) == wanted);
+    (is_done, is_whole)
+}
+
+/// A device with old words by this plan.
+fn old(rt: &impl Abort, alloc: Global, plan: Plan) -> MemHost {
+    let mut host = zero_device(alloc, WORDS, b"", plan).expect(rt, "memory");
+    assert!(rt; poke(&mut host, &[(64, 9), (1_216, 5)]));
+    host
+}
+
+/// Formatting that is cut at this step: it is done behind its steps, and the device is a blank one from this step on.
+fn cut_so(rt: &impl Abort, alloc: Global, step: u32, pick: u64, whole_from: u32) {
+    let plan = cuts(alloc, &[(step, pick)]).expect(rt, "memory");
+    let mut host = old(rt, alloc, plan);
+    let found = format_under(rt, alloc, &mut host, POWER_LOST, pick);
+    assert!(rt;
+        found == (step > FORMAT_STEPS, step >= whole_from),
+        "step {step}"
+    );
+}
+
+// The first steps are stores, and those from 34,337 on flushes. From the fence behind them on each step is taken: the magic
+// is stored by the last but two.
 #[test]
 fn formatting_cut_at_a_step_leaves_no_device_or_a_blank_one(rt: HostRuntime) {
-    for pick in [OLDEST, NEWEST] {
-        let first = [1, 2, 20_000, 34_336, 34_337];
-        for step in first.into_iter().chain(FORMAT_STEPS - 12..FORMAT_STEPS + 2) {
-            let plan = cut_at(&rt, rt.alloc(), step, pick);
-            let is_done = format_under(&rt, rt.alloc(), plan, POWER_LOST, pick);
-            assert_eq!(rt; is_done, step > FORMAT_STEPS, "step {step}");
+    for (pick, whole_from) in [(OLDEST, FORMAT_STEPS + 1), (NEWEST, FORMAT_STEPS - 1)] {
+        for step in [1, 2, 20_000, 34_336, 34_337] {
+            cut_so(&rt, rt.alloc(), step, pick, whole_from);
+        }
+        for step in FORMAT_STEPS - 12..FORMAT_STEPS + 2 {
+            cut_so(&rt, rt.alloc(), step, pick, whole_from);
         }
     }
 }
 
-// The steps, a load before them, and two more calls: the text, and the first call of the start.
+/// Formatting with this call failing. A load comes before the steps, and behind them comes the text.
+fn fail_so(rt: &impl Abort, alloc: Global, call: u32, pick: u64, whole_from: u32) {
+    let plan = failures(alloc, &[call]).expect(rt, "memory");
+    let mut host = old(rt, alloc, plan);
+    let found = format_under(rt, alloc, &mut host, DEVICE_FAULT, pick);
+    assert!(rt;
+        found == (call > FORMAT_STEPS + 2, call >= whole_from),
+        "call {call}"
+    );
+}
+
+// The last call is the first one of the start.
 #[test]
 fn formatting_with_a_failing_call_leaves_no_device_or_a_blank_one(rt: HostRuntime) {
-    for pick in [OLDEST, NEWEST] {
-        let first = [1, 2, 20_000];
-        let last = FORMAT_STEPS - 10..FORMAT_STEPS + 3;
-        for call in first.into_iter().chain(last).chain([FORMAT_STEPS + 4]) {
-            let plan = failures(rt.alloc(), &[call]).expect(&rt, "memory");
-            let is_done = format_under(&rt, rt.alloc(), plan, DEVICE_FAULT, pick);
-            assert_eq!(rt; is_done, call == FORMAT_STEPS + 4, "call {call}");
+    for (pick, whole_from) in [(OLDEST, FORMAT_STEPS + 2), (NEWEST, FORMAT_STEPS)] {
+        for call in [1, 2, 20_000] {
+            fail_so(&rt, rt.alloc(), call, pick, whole_from);
+        }
+        for call in FORMAT_STEPS - 10..FORMAT_STEPS + 4 {
+            fail_so(&rt, rt.alloc(), call, pick, whole_from);
         }
     }
 }

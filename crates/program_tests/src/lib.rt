@@ -8,6 +8,8 @@ mod definitions;
 #[cfg(test)]
 mod devices;
 #[cfg(test)]
+mod faults;
+#[cfg(test)]
 mod formatting;
 #[cfg(test)]
 mod program;

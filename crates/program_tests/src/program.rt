@@ -1,10 +1,10 @@
 //! The program, and the devices that it is run on.
-use pm_mem::{MemHost, Plan};
+use pm_mem::MemHost;
 use pm_model::Host;
-use puddle_cli::puddle_main;
+use puddle_cli::{DONE, puddle_main};
 use std::alloc::Global;
 use std::process::Abort;
-use test_device::{blank_device, cuts, zero_device};
+use test_device::{blank_device, cuts, failures, newest};
 
 /// The words of the mode `run`.
 pub const RUN: [&str; 2] = ["puddle", "run"];
@@ -13,7 +13,7 @@ pub const RUN: [&str; 2] = ["puddle", "run"];
 pub const FORMAT: [&str; 4] = ["puddle", "format", "4", "7"];
 
 /// The words of the smallest device.
-const WORDS: u32 = 42_528;
+pub const WORDS: u32 = 42_528;
 
 /// A power loss keeps the oldest of each word's values.
 pub const OLDEST: u64 = 0;
@@ -39,25 +39,84 @@ pub fn status_of<H: Host>(rt: &impl Abort, alloc: Global, host: &mut H, words: &
     puddle_main(alloc, &all, host)
 }
 
-/// The smallest device, of zero words.
-pub fn zeroed(rt: &impl Abort, alloc: Global, script: &[u8], plan: Plan) -> MemHost {
-    zero_device(alloc, WORDS, script, plan).expect(rt, "memory")
+/// A device that tests look at, by no call that might fail.
+pub trait Seen: Host {
+    /// What was said so far.
+    fn heard(&self) -> &[u8];
+
+    /// The newest value of a word.
+    fn word(&self, alloc: Global, at: u32) -> Option<u64>;
+
+    /// Gives it this script to read. The answer is whether there was memory.
+    fn give(&mut self, alloc: Global, script: &str) -> bool;
 }
 
-/// The smallest device, as it is once it is formatted.
-pub fn blank(rt: &impl Abort, alloc: Global, script: &[u8], plan: Plan) -> MemHost {
-    blank_device(alloc, script, plan).expect(rt, "memory")
+impl Seen for MemHost {
+    fn heard(&self) -> &[u8] {
+        self.said()
+    }
+
+    fn word(&self, alloc: Global, at: u32) -> Option<u64> {
+        newest(alloc, self, at)
+    }
+
+    fn give(&mut self, alloc: Global, script: &str) -> bool {
+        self.refill(alloc, script.as_bytes()).is_ok()
+    }
 }
 
-/// Power is lost at this step.
-pub fn cut_at(rt: &impl Abort, alloc: Global, step: u32, pick: u64) -> Plan {
-    cuts(alloc, &[(step, pick)]).expect(rt, "memory")
+/// The smallest device, as it is once it is formatted, with this script, and with power lost at these steps.
+pub fn blank(rt: &impl Abort, alloc: Global, script: &str, losses: &[(u32, u64)]) -> MemHost {
+    let plan = cuts(alloc, losses).expect(rt, "memory");
+    blank_device(alloc, script.as_bytes(), plan).expect(rt, "memory")
+}
+
+/// It, with the call of this number failing.
+pub fn blank_failing(rt: &impl Abort, alloc: Global, script: &str, call: u32) -> MemHost {
+    let plan = failures(alloc, &[call]).expect(rt, "memory");
+    blank_device(alloc, script.as_bytes(), plan).expect(rt, "memory")
 }
 
 /// These words have to have these newest values.
-pub fn has_words(rt: &impl Abort, alloc: Global, host: &MemHost, rows: &[(usize, u64)]) {
-    let words = host.read_back(alloc).expect(rt, "memory");
+pub fn has_words<S: Seen>(rt: &impl Abort, alloc: Global, host: &S, rows: &[(u32, u64)]) {
     for (at, want) in rows {
-        assert_eq!(rt; words.get(*at), Some(want), "word {at}");
+        assert!(rt; host.word(alloc, *at) == Some(*want), "word {at}");
     }
+}
+
+/// Where a run of one line came to its end.
+#[derive(Clone, Copy, PartialEq, Eq)]
+pub enum End {
+    /// Before the start text was said whole.
+    InStart,
+    /// Behind the start text, and before a reply was said whole.
+    InLine,
+    /// With the reply `cut`.
+    Cut,
+    /// With the reply `ok`, and a fault behind it.
+    BehindReply,
+    /// With the reply `ok`, and the plan's fault still to come.
+    Whole,
+}
+
+/// Where a run ended, by its status and what it said. A status other than 0 is the fault's.
+pub fn end_of(rt: &impl Abort, status: u8, said: &[u8], fault: u8) -> End {
+    let is_done = status == DONE;
+    assert!(rt; is_done || status == fault);
+    let end = if said == b"ready\ncut\n".as_slice() {
+        End::Cut
+    } else if said != b"ready\nok\n".as_slice() {
+        assert!(rt; b"ready\nok\n".starts_with(said) || b"ready\ncut\n".starts_with(said));
+        if said.len() < 6 {
+            End::InStart
+        } else {
+            End::InLine
+        }
+    } else if is_done {
+        End::Whole
+    } else {
+        End::BehindReply
+    };
+    assert!(rt; is_done == (end == End::Cut || end == End::Whole));
+    end
 }

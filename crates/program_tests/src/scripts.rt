@@ -1,6 +1,5 @@
 //! Scripts, with the replies that they are answered by on a blank device.
-use crate::program::{RUN, blank, status_of};
-use pm_mem::Plan;
+use crate::program::{RUN, Seen, blank, status_of};
 use pud_defs::layout::SCRIPT_LIMIT;
 use puddle_cli::{DONE, POWER_LOST, TOO_LONG};
 use std::alloc::Global;
@@ -9,9 +8,9 @@ use std::process::Abort;
 /// Runs each script on a blank device of its own. It has to end with this status and to have said this.
 fn end_with(rt: &impl Abort, alloc: Global, rows: &[(&str, u8, &str)]) {
     for (script, status, said) in rows {
-        let mut host = blank(rt, alloc, script.as_bytes(), Plan::none(alloc));
-        assert_eq!(rt; status_of(rt, alloc, &mut host, &RUN), *status, "{said}");
-        assert_eq!(rt; host.said(), said.as_bytes());
+        let mut host = blank(rt, alloc, script, &[]);
+        assert!(rt; status_of(rt, alloc, &mut host, &RUN) == *status, "{said}");
+        assert!(rt; host.heard() == said.as_bytes(), "{said}");
     }
 }
 
@@ -58,6 +57,19 @@ fn clients_come_and_go_and_power_is_lost_by_command(rt: HostRuntime) {
             // A restart that is cut ends the run.
             ("arm 1 0\ncut 1\n", POWER_LOST, "ready\nok\n"),
         ],
+    );
+}
+
+#[test]
+fn what_clients_and_types_are_refused(rt: HostRuntime) {
+    end_with(
+        &rt,
+        rt.alloc(),
+        &[(
+            "type 1 2 1\nclient 0 5 5\nclient 0 1 1\nclient 8 1 1\nleave 3\ntype 1 2 0\ntype 1 2 1\n",
+            DONE,
+            "ready\nok\nok\nno taken\nno bad\nno client\nno clash\nok\n",
+        )],
     );
 }
 

@@ -15,8 +15,8 @@ use std::alloc::Global;
 /// the program ends with.
 ///
 /// The status is 0 where the mode is done, or the script's end was read before 2^20 of its bytes were taken; 2 exactly where
-/// the words are no mode; 5 only where the host failed; 6 only where power was lost; and 7 where 2^20 bytes of script were
-/// taken before its end was read, and the run could go on to there: exactly then, of the runs that end with 0 or 7.
+/// the words are no mode; 5 only where the host failed; 6 only where power was lost; and 7 only where 2^20 bytes of script were
+/// taken before its end was read: exactly there, where the run was not ended by 4, 5 or 6.
 /// It is 4 where the device is not usable, and no call failed first: for `format` exactly there, and for `run` exactly there
 /// on a device that was rested at entry, where each word has one value. On any device `run` gives 4 only where it reads as
 /// not sound at entry, or where power was lost and it reads so at the end. At 2 nothing was said and no word changed; so at 4

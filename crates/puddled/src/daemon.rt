@@ -297,7 +297,8 @@ impl Daemon {
     ///
     /// Where power is lost in the line the daemon starts again within the call, and the reply is `cut`: the line was
     /// done wholly or not at all, and no client is present. At a line `cut N` power is lost at once, the daemon starts again,
-    /// and the reply is `ok`. The device is the one that this daemon started on: it has the words that `frames` need.
+    /// and the reply is `ok`. In a line that lets a client go each of its logs is closed in every image in which its record
+    /// is free. The device is the one that this daemon started on: it has the words that `frames` need.
     /// `Failed` comes where a call of the host failed, `CutInStart` where power was lost in that restart too, `NotSound`
     /// where the restart read a registry that is not sound; then no further line is to be given.
     pub fn exec<H: Host>(

@@ -1,14 +1,11 @@
 //! A device is judged by its words, as its daemon log's replay makes them.
-use pm_mem::{MemHost, Plan};
-use pm_model::HostFault;
-use pud_defs::layout::{DEVICE_MAGIC, MIN_FRAMES};
+use crate::device::{FAILED, Row, blank_with, number};
+use pm_model::Host;
+use pud_defs::layout::DEVICE_MAGIC;
 use registry::sound_frames;
 use std::alloc::Global;
 use std::process::Abort;
 use test_device::{blank_device, failures, poke};
-
-/// A word and its value.
-type Row = (u32, u64);
 
 /// The number of entries, the sequence number and the order of an undo entry in range and of one value, as its second word,
 /// and the same of a redo entry.
@@ -16,18 +13,18 @@ const UNDO: u64 = 196_609;
 
 const REDO: u64 = 4_295_163_905;
 
-fn blank(rt: &impl Abort, alloc: Global, plan: Plan) -> MemHost {
-    blank_device(alloc, b"", plan).expect(rt, "memory")
+/// How many frames a device that is judged sound has, or 0.
+fn judged<H: Host>(host: &mut H) -> u64 {
+    number(sound_frames(host).map(|frames| u64::from(frames.unwrap_or(0))))
 }
 
 /// A blank device with each of these groups of words in turn, beside the words that stand in all of them, is sound or not.
 fn judge(rt: &impl Abort, alloc: Global, always: &[Row], rows: &[(&[Row], bool)]) {
     for (words, want) in rows {
-        let mut host = blank(rt, alloc, Plan::none(alloc));
-        assert!(rt; poke(&mut host, always) && poke(&mut host, words));
-        let frames = sound_frames(&mut host).expect(rt, "no call fails");
-        let found = frames.unwrap_or(0);
-        assert!(rt; found == if *want { MIN_FRAMES } else { 0 }, "{words:?}");
+        let mut host = blank_with(rt, alloc, always);
+        assert!(rt; poke(&mut host, words));
+        let found = judged(&mut host);
+        assert!(rt; found == if *want { 4 } else { 0 }, "{words:?}: {found}");
     }
 }
 
@@ -113,7 +110,6 @@ fn a_registered_log_is_closed(rt: HostRuntime) {
 #[test]
 fn a_failed_load_is_told(rt: HostRuntime) {
     let plan = failures(rt.alloc(), &[1]).expect(&rt, "memory");
-    let mut host = blank(&rt, rt.alloc(), plan);
-    let failed = matches!(sound_frames(&mut host), Err(HostFault::Failed));
-    assert!(rt; failed);
+    let mut host = blank_device(rt.alloc(), b"", plan).expect(&rt, "memory");
+    assert!(rt; judged(&mut host) == FAILED);
 }

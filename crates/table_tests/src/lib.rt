@@ -3,7 +3,11 @@
 #![tactic(auto)]
 
 #[cfg(test)]
+mod device;
+#[cfg(test)]
 mod judging;
+#[cfg(test)]
+mod loading;
 #[cfg(test)]
 mod spaces;
 #[cfg(test)]

@@ -1,12 +1,12 @@
 use super::Device;
-use crate::device_rows::DeviceRows;
+use crate::device_file::DeviceFile;
 use pm_model::HostFault;
+use pm_rows::DeviceRows;
 use std::alloc::Global;
 use std::fs::{Metadata, OpenFile};
 use std::io;
 use std::io::{ErrorKind, Seek, SeekFrom, Write};
 use std::process::Abort;
-use std::test::Fail;
 
 const BYTES: usize = 1024;
 
@@ -72,7 +72,7 @@ impl OpenFile for Fake {
 
 fn fake_device(rt: &impl Abort, alloc: Global) -> Device<Fake> {
     let words = vec![in alloc; 0u64; 128].expect(rt, "memory");
-    assert_eq!(rt; words.len(), 128);
+    assert!(rt; words.len() == 128);
     let rows = DeviceRows::new(alloc, 16, words).expect(rt, "memory");
     let file = Fake {
         bytes: [0; BYTES],
@@ -80,93 +80,170 @@ fn fake_device(rt: &impl Abort, alloc: Global) -> Device<Fake> {
         refuses_write: false,
         refuses_sync: false,
     };
-    Device::new(file, rows)
+    Device::new(
+        DeviceFile {
+            file,
+            is_short: false,
+        },
+        rows,
+    )
 }
 
-fn put(rt: &impl Abort, device: &mut Device<Fake>, word: u32, value: u64) {
+/// What is done to the device or to its file.
+#[derive(Clone, Copy, Debug)]
+enum Call {
+    /// Stores a word and flushes its line.
+    Put(u32, u64),
+    Load(u32),
+    Fence,
+    Cut(u64),
+    RefuseWrite(bool),
+    RefuseSync(bool),
+    /// Looks at a byte of the file.
+    Byte(usize),
+}
+
+/// The answer of a call that gives nothing.
+const DONE: u64 = 0;
+
+/// The answer of a call that failed.
+const FAILED: u64 = 1_001;
+
+fn number(outcome: Result<u64, HostFault>) -> u64 {
+    match outcome {
+        Ok(value) => value,
+        Err(_) => FAILED,
+    }
+}
+
+fn done(outcome: Result<(), HostFault>) -> u64 {
+    match outcome {
+        Ok(()) => DONE,
+        Err(_) => FAILED,
+    }
+}
+
+fn put<F: Write + Seek + OpenFile>(
+    rt: &impl Abort,
+    device: &mut Device<F>,
+    word: u32,
+    value: u64,
+) -> u64 {
     assert!(rt; word < device.rows.words());
-    assert_eq!(rt; device.store(word, value), Ok(()));
+    let stored = done(device.store(word, value));
     assert!(rt; word / 8 < device.rows.words() / 8);
-    assert_eq!(rt; device.flush(word / 8), Ok(()));
+    stored.max(done(device.flush(word / 8)))
+}
+
+fn load<F: Write + Seek + OpenFile>(rt: &impl Abort, device: &mut Device<F>, word: u32) -> u64 {
+    assert!(rt; word < device.rows.words());
+    number(device.load(word))
+}
+
+fn answer(rt: &impl Abort, device: &mut Device<Fake>, call: Call) -> u64 {
+    match call {
+        Call::Put(word, value) => put(rt, device, word, value),
+        Call::Load(word) => load(rt, device, word),
+        Call::Fence => done(device.fence()),
+        Call::Cut(pick) => {
+            device.cut(pick);
+            DONE
+        }
+        Call::RefuseWrite(refuses) => {
+            device.file.file.refuses_write = refuses;
+            DONE
+        }
+        Call::RefuseSync(refuses) => {
+            device.file.file.refuses_sync = refuses;
+            DONE
+        }
+        Call::Byte(at) => {
+            assert!(rt; at < BYTES);
+            u64::from(device.file.file.bytes[at])
+        }
+    }
+}
+
+/// Makes the calls in turn on a new device, each of which has to answer this.
+fn answers(rt: &impl Abort, alloc: Global, rows: &[(Call, u64)]) {
+    let mut device = fake_device(rt, alloc);
+    for (at, (call, want)) in rows.iter().enumerate() {
+        assert!(rt;
+            answer(rt, &mut device, *call) == *want,
+            "call {at}: {call:?}"
+        );
+    }
 }
 
 // A fence that fails may have written some lines, so the next one writes them again, also with the old values.
 #[test]
-fn a_fence_writes_again_what_a_failed_one_left_unsure(rt: HostRuntime) -> Result<(), Fail> {
-    let mut device = fake_device(&rt, rt.alloc());
-    put(&rt, &mut device, 0, 1);
-    put(&rt, &mut device, 8, 2);
-    device.file.refuses_sync = true;
-    assert_eq!(rt; device.fence(), Err(HostFault::Failed));
-    assert_eq!(rt; device.file.bytes[64], 2, "written, but not surely");
-    put(&rt, &mut device, 8, 0);
-    device.file.refuses_sync = false;
-    assert_eq!(rt; device.fence(), Ok(()));
-    assert_eq!(rt; device.file.bytes[0], 1);
-    assert_eq!(rt; device.file.bytes[64], 0);
-    Ok(())
-}
-
-#[test]
-fn a_cut_that_is_not_written_fails_the_next_call(rt: HostRuntime) -> Result<(), Fail> {
-    let mut device = fake_device(&rt, rt.alloc());
-    put(&rt, &mut device, 0, 1);
-    device.file.refuses_write = true;
-    device.cut(1);
-    assert!(rt; 0 < device.rows.words());
-    assert_eq!(rt; device.load(0), Err(HostFault::Failed));
-    assert!(rt; 0 < device.rows.words());
-    assert_eq!(rt; device.load(0), Ok(1));
-    device.file.refuses_write = false;
-    assert_eq!(rt; device.file.bytes[0], 0);
-    assert_eq!(rt; device.fence(), Ok(()));
-    assert_eq!(rt; device.file.bytes[0], 1);
-    Ok(())
-}
-
-#[test]
-fn a_fence_with_nothing_to_write_does_not_sync(rt: HostRuntime) -> Result<(), Fail> {
-    let mut device = fake_device(&rt, rt.alloc());
-    device.file.refuses_sync = true;
-    put(&rt, &mut device, 0, 0);
-    assert_eq!(rt; device.fence(), Ok(()));
-    Ok(())
-}
-
-#[test]
-fn a_cut_keeps_values_by_its_pick(rt: HostRuntime) -> Result<(), Fail> {
-    // the pick, and what the words 0, 1, 64 and 65 hold after it, of 1 that is durable and 2 that is newest
-    let cases = [
-        (0, [1, 1, 1, 1]),
-        (1, [2, 2, 2, 2]),
-        (2, [1, 2, 1, 2]),
-        (5, [2, 1, 2, 1]),
+fn a_fence_writes_again_what_a_failed_one_left_unsure(rt: HostRuntime) {
+    let rows = [
+        (Call::Put(0, 1), DONE),
+        (Call::Put(8, 2), DONE),
+        (Call::RefuseSync(true), DONE),
+        (Call::Fence, FAILED),
+        (Call::Byte(64), 2),
+        (Call::Put(8, 0), DONE),
+        (Call::RefuseSync(false), DONE),
+        (Call::Fence, DONE),
+        (Call::Byte(0), 1),
+        (Call::Byte(64), 0),
     ];
-    for (pick, want) in cases {
-        let mut device = fake_device(&rt, rt.alloc());
-        for word in [0, 1, 64, 65] {
-            put(&rt, &mut device, word, 1);
-        }
-        assert_eq!(rt; device.fence(), Ok(()));
-        for word in [0, 1, 64, 65] {
-            put(&rt, &mut device, word, 2);
-        }
-        device.cut(pick);
-        for (word, value) in [0u32, 1, 64, 65].iter().zip(&want) {
-            assert!(rt; *word < device.rows.words());
-            assert_eq!(rt;
-                device.load(*word),
-                Ok(u64::from(*value)),
-                "word {word} at pick {pick}"
-            );
-            let at = *word as usize * 8;
-            assert!(rt; at < BYTES);
-            assert_eq!(rt;
-                device.file.bytes[at],
-                *value,
-                "the file's word {word} at pick {pick}"
-            );
-        }
+    answers(&rt, rt.alloc(), &rows);
+}
+
+#[test]
+fn a_cut_that_is_not_written_fails_the_next_call(rt: HostRuntime) {
+    let rows = [
+        (Call::Put(0, 1), DONE),
+        (Call::RefuseWrite(true), DONE),
+        (Call::Cut(1), DONE),
+        (Call::Load(0), FAILED),
+        (Call::Load(0), 1),
+        (Call::RefuseWrite(false), DONE),
+        (Call::Byte(0), 0),
+        (Call::Fence, DONE),
+        (Call::Byte(0), 1),
+    ];
+    answers(&rt, rt.alloc(), &rows);
+}
+
+#[test]
+fn a_fence_with_nothing_to_write_does_not_sync(rt: HostRuntime) {
+    let rows = [
+        (Call::RefuseSync(true), DONE),
+        (Call::Put(0, 0), DONE),
+        (Call::Fence, DONE),
+    ];
+    answers(&rt, rt.alloc(), &rows);
+}
+
+// Of each word 1 is durable and 2 the newest; the words 0 and 64 have the same bit of a pick. The file has what is left.
+#[test]
+fn a_cut_keeps_values_by_its_pick(rt: HostRuntime) {
+    let cases = [(0, 1, 1), (1, 2, 2), (2, 1, 2), (5, 2, 1)];
+    for (pick, even, odd) in cases {
+        let rows = [
+            (Call::Put(0, 1), DONE),
+            (Call::Put(1, 1), DONE),
+            (Call::Put(64, 1), DONE),
+            (Call::Put(65, 1), DONE),
+            (Call::Fence, DONE),
+            (Call::Put(0, 2), DONE),
+            (Call::Put(1, 2), DONE),
+            (Call::Put(64, 2), DONE),
+            (Call::Put(65, 2), DONE),
+            (Call::Cut(pick), DONE),
+            (Call::Load(0), even),
+            (Call::Load(1), odd),
+            (Call::Load(64), even),
+            (Call::Load(65), odd),
+            (Call::Byte(0), even),
+            (Call::Byte(8), odd),
+            (Call::Byte(512), even),
+            (Call::Byte(520), odd),
+        ];
+        answers(&rt, rt.alloc(), &rows);
     }
-    Ok(())
 }

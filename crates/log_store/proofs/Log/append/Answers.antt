@@ -5,14 +5,6 @@ use Rattle.log_store.specs.Store.{OpenLog, longer}
 use Rattle.log_store.proofs.Appending.{changes_in_log, Appends-failed, Appends-done}
 use Rattle.log_store.proofs.Log.append.Goals as goal
 
-pub returns-then-self-words-gt-LOG_ENTRY_WORDS-clause-too_big : goal.returns-then-self-words-gt-LOG_ENTRY_WORDS-clause-too_big
-returns-then-self-words-gt-LOG_ENTRY_WORDS-clause-too_big g c =
-    let used = ap (λ (l : OpenLog). l.used) c.self.view_is in
-    (λ _. omega arith, λ _. refl)
-
-pub returns-clause-appended : goal.returns-clause-appended
-returns-clause-appended g c = ap (longer (length c.args.vals.now + ENTRY_HEADER_WORDS)) c.self.view_is
-
 pub returns-in_err-append_fitting-clause-changes : goal.returns-in_err-append_fitting-clause-changes
 returns-in_err-append_fitting-clause-changes g c =
     let p = err_from_is_err_and c.from_residual.result c.from_residual.ensures.1 in
@@ -35,3 +27,11 @@ returns-clause-appends g c =
     (λ t es open_log. Appends-done _ es _ _ _
     (record { some = c.requires.some; no_more = c.requires.no_more; seq_fits = c.requires.seq_fits; order_known = c.requires.order_known })
     (omega arith) open_log (c.in_ok-append_fitting.ensures.persists t) (c.in_ok-append_fitting.ensures.moments t es open_log))
+
+pub returns-then-self-words-gt-LOG_ENTRY_WORDS-clause-too_big : goal.returns-then-self-words-gt-LOG_ENTRY_WORDS-clause-too_big
+returns-then-self-words-gt-LOG_ENTRY_WORDS-clause-too_big g c =
+    let used = ap (λ (l : OpenLog). l.used) c.self.view_is in
+    (λ _. omega arith, λ _. refl)
+
+pub returns-clause-appended : goal.returns-clause-appended
+returns-clause-appended g c = ap (longer (length c.args.vals.now + ENTRY_HEADER_WORDS)) c.self.view_is

@@ -1,20 +1,22 @@
-use Rattle.std.proofs.Common.{rules, ◌≡◌, ℕ, List, sym, ap, subst, ◌∙◌}
+use Rattle.std.proofs.Common.{rules, sym, ap, subst, ◌∙◌}
 use Rattle.pm_model.specs.Moments.{State}
 use Rattle.pm_mem.specs.declared.event.Event.TheVariants.{Fence}
-use Rattle.pm_model.specs.Words.{after_fence}
 use Rattle.pm_mem.specs.Events.{told_events}
 use Rattle.pm_mem.specs.Rows.{AreOf}
 use Rattle.pm_mem.proofs.Events.{told_after}
 use Rattle.pm_mem.proofs.Followed.{AreOf-fence}
 use Rattle.pm_mem.proofs.device.Device.fence.Goals as goal
 
-pub invariant_of-self-clause-rows : goal.invariant_of-self-clause-rows
-invariant_of-self-clause-rows c =
+pub invariant_of-self-clause-follows : goal.invariant_of-self-clause-follows
+invariant_of-self-clause-follows c =
     let d = c.args.self.now in
     let e = told_after d.initial.items d.events.items c.push_reserved.new.self.items Fence c.push_reserved.ensures.items in
-    let is : c.copy.new.to.items ≡ d.marked.items = c.copy.ensures.items ∙ c.deref.ensures.value in
-    subst (λ (s : State). AreOf d.newest.items d.marked.items c.copy.new.to.items s.now.words) (sym e)
-    (subst (λ (row : List ℕ). AreOf d.newest.items d.marked.items row (after_fence (told_events d.initial.items d.events.items).now.words)) (sym is) (AreOf-fence d.newest.items d.marked.items d.durable.items (told_events d.initial.items d.events.items).now.words d.rows))
+    let rows = c.forget_settled.new.self in
+    let taken = c.take_marked.ensures in
+    let forgot = c.forget_settled.ensures in
+    subst (λ (s : State). AreOf rows.newest.items rows.marked.items rows.durable.items s.now.words) (sym e)
+    (rw (forgot.newest, forgot.marked, forgot.durable, taken.newest, taken.marked)
+    (AreOf-fence d.rows.newest.items d.rows.marked.items d.rows.durable.items c.take_marked.new.self.durable.items (told_events d.initial.items d.events.items).now.words taken.durable d.follows))
 
 pub invariant_of-self-clause-replies : goal.invariant_of-self-clause-replies
 invariant_of-self-clause-replies c =

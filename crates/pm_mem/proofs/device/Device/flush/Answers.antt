@@ -1,4 +1,4 @@
-use Rattle.std.proofs.Common.{rules, ℕ, ◌/◌, cond, eqb, List, get_or, sym, ap, subst, ◌∙◌}
+use Rattle.std.proofs.Common.{rules, sym, ap, subst, ◌∙◌}
 use Rattle.pm_model.specs.Moments.{State}
 use Rattle.pm_mem.specs.declared.event.Event.TheVariants.{Flush}
 use Rattle.pm_mem.specs.Events.{told_events}
@@ -7,11 +7,14 @@ use Rattle.pm_mem.proofs.Events.{told_after}
 use Rattle.pm_mem.proofs.Followed.{AreOf-flush}
 use Rattle.pm_mem.proofs.device.Device.flush.Goals as goal
 
-pub invariant_of-self-clause-rows : goal.invariant_of-self-clause-rows
-invariant_of-self-clause-rows c =
+pub invariant_of-self-clause-follows : goal.invariant_of-self-clause-follows
+invariant_of-self-clause-follows c =
     let d = c.args.self.now in
     let e = told_after d.initial.items d.events.items c.push_reserved.new.self.items (Flush c.args.line) c.push_reserved.ensures.items in
-    subst (λ (s : State). AreOf d.newest.items c.copy_line.new.to.items d.durable.items s.now.words) (sym e) (AreOf-flush d.newest.items d.marked.items c.copy_line.new.to.items d.durable.items (told_events d.initial.items d.events.items).now.words c.args.line (λ k. c.copy_line.ensures.values k ∙ ap (λ (row : List ℕ). cond (eqb (k / 8) c.args.line) (get_or row k 0) (get_or d.marked.items k 0)) c.deref.ensures.value) d.rows)
+    let rows = c.flush.new.self in
+    subst (λ (s : State). AreOf rows.newest.items rows.marked.items rows.durable.items s.now.words) (sym e)
+    (rw (c.flush.ensures.newest, c.flush.ensures.durable)
+    (AreOf-flush d.rows.newest.items d.rows.marked.items rows.marked.items d.rows.durable.items (told_events d.initial.items d.events.items).now.words c.args.line c.flush.ensures.marked d.follows))
 
 pub invariant_of-self-clause-replies : goal.invariant_of-self-clause-replies
 invariant_of-self-clause-replies c =

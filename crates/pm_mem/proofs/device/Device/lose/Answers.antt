@@ -1,27 +1,24 @@
-use Rattle.std.proofs.Common.{rules, ◌≡◌, ℕ, cond, List, get_or, sym, ap, subst, ◌∙◌}
+use Rattle.std.proofs.Common.{rules, sym, ap, subst, ◌∙◌}
 use Rattle.pm_model.specs.Moments.{State}
 use Rattle.pm_mem.specs.declared.event.Event.TheVariants.{Lost}
-use Rattle.pm_model.specs.Words.{after_loss}
-use Rattle.pm_model.specs.Picking.{keeps_newest}
-use Rattle.pm_mem.specs.Events.{told_events, image_of}
+use Rattle.pm_mem.specs.Events.{told_events}
 use Rattle.pm_mem.specs.Rows.{AreOf, AreSingle}
 use Rattle.pm_mem.proofs.Events.{told_after}
 use Rattle.pm_mem.proofs.Followed.{AreOf-lost, AreSingle-lost}
 use Rattle.pm_mem.proofs.device.Device.lose.Goals as goal
 
-pub invariant_of-self-clause-rows : goal.invariant_of-self-clause-rows
-invariant_of-self-clause-rows c =
+pub invariant_of-self-clause-follows : goal.invariant_of-self-clause-follows
+invariant_of-self-clause-follows c =
     let d = c.args.self.now in
     let e = told_after d.initial.items d.events.items c.push_reserved.new.self.items (Lost c.args.pick) c.push_reserved.ensures.items in
-    let marked_is : c.copy.new.to.items ≡ c.lose.new.newest.items = c.copy.ensures.items ∙ c.deref-2.ensures.value in
-    let durable_is : c.copy-2.new.to.items ≡ c.lose.new.newest.items = c.copy-2.ensures.items ∙ c.deref-3.ensures.value in
-    let words = (told_events d.initial.items d.events.items).now.words in
-    let at : (k : ℕ) → get_or c.lose.new.newest.items k 0 ≡ cond (keeps_newest c.args.pick k) (get_or d.newest.items k 0) (get_or d.durable.items k 0) =
-    λ k. c.lose.ensures.values k ∙ ap (λ (row : List ℕ). cond (keeps_newest c.args.pick k) (get_or d.newest.items k 0) (get_or row k 0)) c.deref.ensures.value in
-    let left = AreOf-lost d.newest.items c.lose.new.newest.items d.marked.items d.durable.items words c.args.pick at d.rows in
-    subst (λ (s : State). AreOf c.lose.new.newest.items c.copy.new.to.items c.copy-2.new.to.items s.now.words) (sym e)
-    (subst (λ (row : List ℕ). AreOf c.lose.new.newest.items c.copy.new.to.items row (after_loss (image_of c.args.pick words) words)) (sym durable_is)
-    (subst (λ (row : List ℕ). AreOf c.lose.new.newest.items row c.lose.new.newest.items (after_loss (image_of c.args.pick words) words)) (sym marked_is) left))
+    let rows = c.forget_settled.new.self in
+    let chosen = c.choose.new.self in
+    let taken = c.take_marked.ensures in
+    let forgot = c.forget_settled.ensures in
+    subst (λ (s : State). AreOf rows.newest.items rows.marked.items rows.durable.items s.now.words) (sym e)
+    (rw (forgot.newest, forgot.marked, forgot.durable, taken.newest, taken.marked)
+    (AreOf-lost d.rows.newest.items d.rows.marked.items d.rows.durable.items chosen.newest.items chosen.marked.items c.take_marked.new.self.durable.items (told_events d.initial.items d.events.items).now.words c.args.pick
+    c.choose.ensures.newest c.choose.ensures.marked taken.durable d.follows))
 
 pub invariant_of-self-clause-replies : goal.invariant_of-self-clause-replies
 invariant_of-self-clause-replies c =

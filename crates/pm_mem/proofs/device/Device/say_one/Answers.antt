@@ -5,11 +5,11 @@ use Rattle.pm_mem.specs.Rows.{AreOf, AreSingle}
 use Rattle.pm_mem.proofs.Events.{told_after}
 use Rattle.pm_mem.proofs.device.Device.say_one.Goals as goal
 
-pub invariant_of-self-clause-rows : goal.invariant_of-self-clause-rows
-invariant_of-self-clause-rows c =
+pub invariant_of-self-clause-follows : goal.invariant_of-self-clause-follows
+invariant_of-self-clause-follows c =
     let d = c.args.self.now in
     let e = told_after d.initial.items d.events.items c.push_reserved-2.new.self.items (Said c.args.byte) c.push_reserved-2.ensures.items in
-    subst (λ (s : State). AreOf d.newest.items d.marked.items d.durable.items s.now.words) (sym e) d.rows
+    subst (λ (s : State). AreOf d.rows.newest.items d.rows.marked.items d.rows.durable.items s.now.words) (sym e) d.follows
 
 pub invariant_of-self-clause-replies : goal.invariant_of-self-clause-replies
 invariant_of-self-clause-replies c =

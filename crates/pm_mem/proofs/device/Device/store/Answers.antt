@@ -7,11 +7,14 @@ use Rattle.pm_mem.proofs.Events.{told_after}
 use Rattle.pm_mem.proofs.Followed.{AreOf-store}
 use Rattle.pm_mem.proofs.device.Device.store.Goals as goal
 
-pub invariant_of-self-clause-rows : goal.invariant_of-self-clause-rows
-invariant_of-self-clause-rows c =
+pub invariant_of-self-clause-follows : goal.invariant_of-self-clause-follows
+invariant_of-self-clause-follows c =
     let d = c.args.self.now in
     let e = told_after d.initial.items d.events.items c.push_reserved.new.self.items (Store c.args.word c.args.value) c.push_reserved.ensures.items in
-    subst (λ (s : State). AreOf (set d.newest.items c.args.word c.args.value) d.marked.items d.durable.items s.now.words) (sym e) (AreOf-store d.newest.items d.marked.items d.durable.items (told_events d.initial.items d.events.items).now.words c.args.word c.args.value (omega arith) d.rows)
+    let rows = c.store.new.self in
+    subst (λ (s : State). AreOf rows.newest.items rows.marked.items rows.durable.items s.now.words) (sym e)
+    (rw (c.store.ensures.newest, c.store.ensures.marked, c.store.ensures.durable)
+    (AreOf-store d.rows.newest.items d.rows.marked.items d.rows.durable.items (told_events d.initial.items d.events.items).now.words c.args.word c.args.value (omega (arith, c.requires.within, d.lines, d.rows.newest_len, d.rows.newest.ok.0)) d.follows))
 
 pub invariant_of-self-clause-replies : goal.invariant_of-self-clause-replies
 invariant_of-self-clause-replies c =

@@ -1,0 +1,93 @@
+-- Lemmas on rows of words, of which some lines are copied or lost.
+use Rattle.std.proofs.Common.{◌≡◌, ◌≢◌, ℕ, ◌+◌, ◌*◌, ◌/◌, ◌<◌, ◌≤◌, ◌==◌, ◌&&◌, ◌||◌, not, nat_lt, Bool, true, false, cond, List, [], length, get_or, set, take, refl, sym, ap, subst, ◌∙◌, arith, inl, inr, get_or-set_same, get_or-set_other}
+use Rattle.std.proofs.lemmas.List.Folds.{list_any_more}
+use Rattle.std.proofs.lemmas.Bool.Decides.{nat_tests}
+use Rattle.std.proofs.lemmas.Bool.{cases_eq}
+use Rattle.pm_model.specs.Picking.{keeps_newest}
+use Rattle.pm_rows.specs.Rows.{is_listed, picked, TakesLine, TakesLines, AreSame, AreSameOutside, Loses, LosesLine, LosesLines}
+
+-- the words from first on and below upto are those of another row
+pub record TakesPart (first upto : ℕ) (from old new : List ℕ) : Type 0 where
+  pub each : (word : ℕ) → get_or new word 0 ≡ cond (not (nat_lt word first) && nat_lt word upto) (get_or from word 0) (get_or old word 0)
+
+pub TakesPart-start : (first : ℕ) (from old : List ℕ) → TakesPart first first from old old
+TakesPart-start first from old = record { each = λ word. grind (arith, nat_tests) }
+
+pub TakesPart-more : (first i value : ℕ) (from old new : List ℕ) → first ≤ i → i < length new → value ≡ get_or from i 0 → TakesPart first i from old new → TakesPart first (i + 1) from old (set new i value)
+TakesPart-more first i value from old new le lt is part = record {
+  each = λ word.
+      elim (cases_eq word i) [
+        | inl e ↦ grind (arith, nat_tests, e, is, get_or-set_same new i value 0 lt)
+        | inr ne ↦ grind (arith, nat_tests, ne, part.each word, get_or-set_other new i word value 0 ne)
+      ];
+}
+
+pub TakesLine-part : (line first : ℕ) (from old new : List ℕ) → first ≡ line * 8 → TakesPart first (first + 8) from old new → TakesLine line from old new
+TakesLine-part line first from old new e part = record { each = λ word. grind (arith, nat_tests, part.each word) }
+
+pub TakesLines-none : (from old : List ℕ) → TakesLines [] from old old
+TakesLines-none from old = record { each = λ word. refl }
+
+pub TakesLines-more : (lines from old mid new : List ℕ) (i line : ℕ) → i < length lines → line ≡ get_or lines i 0 → TakesLines (take i lines) from old mid → TakesLine line from mid new → TakesLines (take (i + 1) lines) from old new
+TakesLines-more lines from old mid new i line lt is some one = record {
+  each = λ word.
+      let more = list_any_more (λ listed. word / 8 == listed) lines i 0 lt in
+      elim (cases_eq (word / 8) line) [
+        | inl e ↦ grind (arith, nat_tests, e, is, more, one.each word)
+        | inr ne ↦ grind (arith, nat_tests, ne, is, more, one.each word, some.each word)
+      ];
+}
+
+-- The words from first on and below upto are lost by the pick, and the others stay.
+pub record LosesPart (first upto pick : ℕ) (durable old new : List ℕ) : Type 0 where
+  pub each : (word : ℕ) → get_or new word 0
+      ≡ cond (not (nat_lt word first) && nat_lt word upto) (picked pick word (get_or durable word 0) (get_or old word 0)) (get_or old word 0)
+
+pub LosesPart-start : (first pick : ℕ) (durable old : List ℕ) → LosesPart first first pick durable old old
+LosesPart-start first pick durable old = record { each = λ word. grind (arith, nat_tests) }
+
+-- one word more, which keeps its newest value
+pub LosesPart-kept : (first i pick : ℕ) (durable old new : List ℕ) → keeps_newest pick i ≡ true → LosesPart first i pick durable old new → LosesPart first (i + 1) pick durable old new
+LosesPart-kept first i pick durable old new keeps part = record {
+  each = λ word.
+      elim (cases_eq word i) [
+        | inl e ↦ rw e (grind (arith, nat_tests, keeps, part.each i))
+        | inr ne ↦ grind (arith, nat_tests, ne, part.each word)
+      ];
+}
+
+-- one word more, which has its durable value
+pub LosesPart-lost : (first i pick value : ℕ) (durable old new : List ℕ) → first ≤ i → i < length new → keeps_newest pick i ≡ false → value ≡ get_or durable i 0
+    → LosesPart first i pick durable old new → LosesPart first (i + 1) pick durable old (set new i value)
+LosesPart-lost first i pick value durable old new le lt loses is part = record {
+  each = λ word.
+      elim (cases_eq word i) [
+        | inl e ↦ rw e (grind (arith, nat_tests, is, loses, get_or-set_same new i value 0 lt))
+        | inr ne ↦ grind (arith, nat_tests, ne, part.each word, get_or-set_other new i word value 0 ne)
+      ];
+}
+
+pub LosesLine-part : (line first pick : ℕ) (durable old new : List ℕ) → first ≡ line * 8 → LosesPart first (first + 8) pick durable old new → LosesLine line pick durable old new
+LosesLine-part line first pick durable old new e part = record { each = λ word. grind (arith, nat_tests, part.each word) }
+
+pub LosesLines-none : (pick : ℕ) (durable old : List ℕ) → LosesLines [] pick durable old old
+LosesLines-none pick durable old = record { each = λ word. refl }
+
+again : (b : Bool) (durable newest : ℕ) → cond b (cond b newest durable) durable ≡ cond b newest durable
+again true durable newest = refl
+again false durable newest = refl
+
+-- what the pick gives a word stays at the same pick
+picked-again : (pick word durable newest : ℕ) → picked pick word durable (picked pick word durable newest) ≡ picked pick word durable newest
+picked-again pick word durable newest = again (keeps_newest pick word) durable newest
+
+pub LosesLines-more : (lines : List ℕ) (pick : ℕ) (durable old mid new : List ℕ) (i line : ℕ) → i < length lines → line ≡ get_or lines i 0
+    → LosesLines (take i lines) pick durable old mid → LosesLine line pick durable mid new → LosesLines (take (i + 1) lines) pick durable old new
+LosesLines-more lines pick durable old mid new i line lt is some one = record {
+  each = λ word.
+      let more = list_any_more (λ listed. word / 8 == listed) lines i 0 lt in
+      elim (cases_eq (word / 8) line) [
+        | inl e ↦ grind (arith, nat_tests, e, is, more, one.each word, some.each word, picked-again pick word (get_or durable word 0) (get_or old word 0))
+        | inr ne ↦ grind (arith, nat_tests, ne, is, more, one.each word, some.each word)
+      ];
+}
