@@ -200,6 +200,13 @@ module _ {K X : Type 0} (R : K → K → Ordering) where
     ]
   ] }
 
+  -- one record alone has a key of its own
+  pub HasDistinctKeys-one : (at : ℕ → Option (K × X)) (from count i : ℕ) → ((j : ℕ) → from ≤ j → j < from + count → (j ≡ i → ⊥) → at j ≡ None) → HasDistinctKeys at from count
+  HasDistinctKeys-one at from count i none = record { apart = λ a b low less high e is. elim (cases_eq b i) [
+    | inl here ↦ absurd (none-some e (sym (none a low (omega arith) (λ s. absurd (omega arith))) ∙ is))
+    | inr other ↦ ap (under R e.0) (none b (omega arith) high other)
+  ] }
+
   -- ---- with the order of the keys
 
   module _ (o : IsTotalOrder R) where

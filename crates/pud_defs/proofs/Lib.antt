@@ -4,6 +4,7 @@ pub mod KeyedTypes
 pub mod TablesOf
 pub mod PutsMade
 pub mod PoolsChanged
+pub mod SoundChanged
 pub mod Images
 pub mod TypeLists
 pub mod TypeTable
