@@ -142,6 +142,71 @@ module _ {K X : Type 0} (R : K → K → Ordering) where
         })
   ]
 
+  -- ---- what the laws speak of
+
+  -- no record has the key of an earlier one
+  pub record HasDistinctKeys (at : ℕ → Option (K × X)) (from count : ℕ) : Type 0 where
+    pub apart : (i j : ℕ) → from ≤ i → i < j → j < from + count → (e : K × X) → at i ≡ Some e → under R e.0 (at j) ≡ None
+
+  -- the record is free, or it has this key
+  abbrev pub is_free_for : K → Option (K × X) → Bool
+  is_free_for k None = true
+  is_free_for k (Some e) = eq_by_cmp R k e.0
+
+  -- The second table is the first with one record changed, which was free or had this key, and no other record has the key.
+  pub record IsSetAt (f g : ℕ → Option (K × X)) (from count i : ℕ) (k : K) (now : Option X) : Type 0 where
+    pub low : from ≤ i
+    pub high : i < from + count
+    pub others : (j : ℕ) → (j ≡ i → ⊥) → g j ≡ f j
+    pub is : g i ≡ option_map (λ v. (k, v)) now
+    pub was : is_free_for k (f i) ≡ true
+    pub alone : (j : ℕ) → from ≤ j → j < from + count → (j ≡ i → ⊥) → under R k (f j) ≡ None
+
+  -- ---- distinct keys, by the test
+
+  apart_of : (first : Option (K × X)) (at : ℕ → Option (K × X)) (from count : ℕ) → is_apart R first at from count ≡ true → (e : K × X) → first ≡ Some e → first_from R e.0 at from count ≡ None
+  apart_of first at from count h e is = none_when _ (sym (ap (λ v. is_apart R v at from count) is) ∙ h)
+
+  pub distinct_keys : (at : ℕ → Option (K × X)) (from count : ℕ) → are_distinct R at from count ≡ true → HasDistinctKeys at from count
+  unfolding are_distinct
+  distinct_keys at from zero h = record { apart = λ i j low less high. absurd (omega arith) }
+  distinct_keys at from (suc count) h =
+      let parts = and_parts (is_apart R (at from) at (from + 1) count) (are_distinct R at (from + 1) count) h in
+      let later = distinct_keys at (from + 1) count parts.1 in
+      record { apart = λ i j low less high e is. elim (cases_eq i from) [
+        | inl s ↦ first_from_none_each e.0 at (from + 1) count (apart_of (at from) at (from + 1) count parts.0 e (sym (ap at s) ∙ is)) j (omega arith) (omega arith)
+        | inr other ↦ later.apart i j (omega arith) less (omega arith) e is
+      ] }
+
+  apart_from : (first : Option (K × X)) (at : ℕ → Option (K × X)) (from count : ℕ) → ((e : K × X) → first ≡ Some e → first_from R e.0 at from count ≡ None) → is_apart R first at from count ≡ true
+  apart_from None at from count h = refl
+  apart_from (Some e) at from count h = ap is_none (h e refl)
+
+  pub are_distinct_keys : (at : ℕ → Option (K × X)) (from count : ℕ) → HasDistinctKeys at from count → are_distinct R at from count ≡ true
+  unfolding are_distinct
+  are_distinct_keys at from zero h = refl
+  are_distinct_keys at from (suc count) h =
+      and_from _ _
+      (apart_from (at from) at (from + 1) count (λ e is. first_from_none e.0 at (from + 1) count (λ j low high. h.apart from j (omega arith) (omega arith) (omega arith) e is)))
+      (are_distinct_keys at (from + 1) count (record { apart = λ i j low less high. h.apart i j (omega arith) less (omega arith) }))
+
+  -- fewer records have distinct keys too
+  pub HasDistinctKeys-fewer : (f g : ℕ → Option (K × X)) (from count : ℕ) → ((j : ℕ) → from ≤ j → j < from + count → (g j ≡ f j) ⊎ (g j ≡ None)) → HasDistinctKeys f from count → HasDistinctKeys g from count
+  HasDistinctKeys-fewer f g from count fewer h = record { apart = λ i j low less high e is. elim (fewer i low (omega arith)) [
+    | inr none ↦ absurd (none-some e (sym none ∙ is))
+    | inl kept ↦ elim (fewer j (omega arith) high) [
+      | inr none ↦ ap (under R e.0) none
+      | inl same ↦ ap (under R e.0) same ∙ h.apart i j low less high e (sym kept ∙ is)
+    ]
+  ] }
+
+  -- one record alone has a key of its own
+  pub HasDistinctKeys-one : (at : ℕ → Option (K × X)) (from count i : ℕ) → ((j : ℕ) → from ≤ j → j < from + count → (j ≡ i → ⊥) → at j ≡ None) → HasDistinctKeys at from count
+  HasDistinctKeys-one at from count i none = record { apart = λ a b low less high e is. elim (cases_eq b i) [
+    | inl here ↦ absurd (none-some e (sym (none a low (omega arith) (λ s. absurd (omega arith))) ∙ is))
+    | inr other ↦ ap (under R e.0) (none b (omega arith) high other)
+  ] }
+
   -- ---- with the order of the keys
 
   module _ (o : IsTotalOrder R) where
@@ -169,47 +234,7 @@ module _ {K X : Type 0} (R : K → K → Ordering) where
     find-keyed q at from zero = refl
     find-keyed q at from (suc count) = found_in_front q (at from) (keyed R at (from + 1) count) ∙ ap (option_or (under R q (at from))) (find-keyed q at (from + 1) count)
 
-    -- ---- distinct keys
-
-    -- no record has the key of an earlier one
-    pub record HasDistinctKeys (at : ℕ → Option (K × X)) (from count : ℕ) : Type 0 where
-      pub apart : (i j : ℕ) → from ≤ i → i < j → j < from + count → (e : K × X) → at i ≡ Some e → under R e.0 (at j) ≡ None
-
-    apart_of : (first : Option (K × X)) (at : ℕ → Option (K × X)) (from count : ℕ) → is_apart R first at from count ≡ true → (e : K × X) → first ≡ Some e → first_from R e.0 at from count ≡ None
-    apart_of first at from count h e is = none_when _ (sym (ap (λ v. is_apart R v at from count) is) ∙ h)
-
-    pub distinct_keys : (at : ℕ → Option (K × X)) (from count : ℕ) → are_distinct R at from count ≡ true → HasDistinctKeys at from count
-    unfolding are_distinct
-    distinct_keys at from zero h = record { apart = λ i j low less high. absurd (omega arith) }
-    distinct_keys at from (suc count) h =
-        let parts = and_parts (is_apart R (at from) at (from + 1) count) (are_distinct R at (from + 1) count) h in
-        let later = distinct_keys at (from + 1) count parts.1 in
-        record { apart = λ i j low less high e is. elim (cases_eq i from) [
-          | inl s ↦ first_from_none_each e.0 at (from + 1) count (apart_of (at from) at (from + 1) count parts.0 e (sym (ap at s) ∙ is)) j (omega arith) (omega arith)
-          | inr other ↦ later.apart i j (omega arith) less (omega arith) e is
-        ] }
-
-    apart_from : (first : Option (K × X)) (at : ℕ → Option (K × X)) (from count : ℕ) → ((e : K × X) → first ≡ Some e → first_from R e.0 at from count ≡ None) → is_apart R first at from count ≡ true
-    apart_from None at from count h = refl
-    apart_from (Some e) at from count h = ap is_none (h e refl)
-
-    pub are_distinct_keys : (at : ℕ → Option (K × X)) (from count : ℕ) → HasDistinctKeys at from count → are_distinct R at from count ≡ true
-    unfolding are_distinct
-    are_distinct_keys at from zero h = refl
-    are_distinct_keys at from (suc count) h =
-        and_from _ _
-        (apart_from (at from) at (from + 1) count (λ e is. first_from_none e.0 at (from + 1) count (λ j low high. h.apart from j (omega arith) (omega arith) (omega arith) e is)))
-        (are_distinct_keys at (from + 1) count (record { apart = λ i j low less high. h.apart i j (omega arith) less (omega arith) }))
-
-    -- fewer records have distinct keys too
-    pub HasDistinctKeys-fewer : (f g : ℕ → Option (K × X)) (from count : ℕ) → ((j : ℕ) → from ≤ j → j < from + count → (g j ≡ f j) ⊎ (g j ≡ None)) → HasDistinctKeys f from count → HasDistinctKeys g from count
-    HasDistinctKeys-fewer f g from count fewer h = record { apart = λ i j low less high e is. elim (fewer i low (omega arith)) [
-      | inr none ↦ absurd (none-some e (sym none ∙ is))
-      | inl kept ↦ elim (fewer j (omega arith) high) [
-        | inr none ↦ ap (under R e.0) none
-        | inl same ↦ ap (under R e.0) same ∙ h.apart i j low less high e (sym kept ∙ is)
-      ]
-    ] }
+    -- ---- distinct keys and look-up
 
     no_later : (at : ℕ → Option (K × X)) (from count i j : ℕ) (e : K × X) (d : Option (K × X)) → HasDistinctKeys at from count → from ≤ j → j < i → i < from + count → at i ≡ Some e → at j ≡ d → under R e.0 d ≡ None
     no_later at from count i j e None h low less high is there = refl
@@ -245,20 +270,6 @@ module _ {K X : Type 0} (R : K → K → Ordering) where
         (length-keyed at (from + 1) count (record { apart = λ i j low less high. h.apart i j (omega arith) less (omega arith) }))
 
     -- ---- a change of one record
-
-    -- the record is free, or it has this key
-    abbrev pub is_free_for : K → Option (K × X) → Bool
-    is_free_for k None = true
-    is_free_for k (Some e) = eq_by_cmp R k e.0
-
-    -- The second table is the first with one record changed, which was free or had this key, and no other record has the key.
-    pub record IsSetAt (f g : ℕ → Option (K × X)) (from count i : ℕ) (k : K) (now : Option X) : Type 0 where
-      pub low : from ≤ i
-      pub high : i < from + count
-      pub others : (j : ℕ) → (j ≡ i → ⊥) → g j ≡ f j
-      pub is : g i ≡ option_map (λ v. (k, v)) now
-      pub was : is_free_for k (f i) ≡ true
-      pub alone : (j : ℕ) → from ≤ j → j < from + count → (j ≡ i → ⊥) → under R k (f j) ≡ None
 
     other_key : (q k : K) (e : Option (K × X)) → is_free_for k e ≡ true → eq_by_cmp R q k ≡ false → under R q e ≡ None
     other_key q k None was a = refl
@@ -336,7 +347,29 @@ module _ {K X : Type 0} (R : K → K → Ordering) where
       ]
     ] }
 
--- ---- tables that have the same records
+-- ---- tables that have the same keys, or the same records
+
+key_there : {K X Y : Type 0} (e : Option (K × X)) (d : K × Y) → option_map (λ (p : K × X). p.0) e ≡ option_map (λ (p : K × Y). p.0) (Some d) → (c : K × X) × ((e ≡ Some c) × (c.0 ≡ d.0))
+key_there {K} None d same = absurd (none-some d.0 same)
+key_there {K} (Some c) d same = (c, (refl, same_Some c.0 d.0 same))
+
+pub no_key : {K X Y : Type 0} (R : K → K → Ordering) (q : K) (e : Option (K × X)) (d : Option (K × Y)) → option_map (λ (p : K × X). p.0) e ≡ option_map (λ (p : K × Y). p.0) d → under R q e ≡ None → under R q d ≡ None
+no_key R q e None same none = refl
+no_key R q None (Some d) same none = absurd (none-some d.0 same)
+no_key R q (Some e) (Some d) same none = under_apart R q d (ap (eq_by_cmp R q) (sym (same_Some e.0 d.0 same)) ∙ under_none R q e none)
+
+pub HasDistinctKeys-keys : {K X Y : Type 0} (R : K → K → Ordering) (f : ℕ → Option (K × X)) (g : ℕ → Option (K × Y)) (from count : ℕ) → ((j : ℕ) → option_map (λ (p : K × X). p.0) (f j) ≡ option_map (λ (p : K × Y). p.0) (g j))
+    → HasDistinctKeys R f from count → HasDistinctKeys R g from count
+HasDistinctKeys-keys R f g from count same h = record { apart = λ i j low less high d is.
+    let there = key_there (f i) d (same i ∙ ap (option_map (λ p. p.0)) is) in
+    no_key R d.0 (f j) (g j) (same j) (ap (λ k. under R k (f j)) (sym there.1.1) ∙ h.apart i j low less high there.0 there.1.0) }
+
+pub keyed-none : {K X : Type 0} (R : K → K → Ordering) (at : ℕ → Option (K × X)) (from count : ℕ) → ((j : ℕ) → from ≤ j → j < from + count → at j ≡ None) → keyed R at from count ≡ []
+unfolding keyed
+keyed-none R at from zero none = refl
+keyed-none R at from (suc count) none =
+    ap₂ (put_entry R) (none from (omega arith) (omega arith)) (keyed-none R at (from + 1) count (λ j low high. none j (omega arith) (omega arith)))
+
 
 pub keyed-same : {K X : Type 0} (R : K → K → Ordering) (f g : ℕ → Option (K × X)) (from count : ℕ) → ((j : ℕ) → from ≤ j → j < from + count → f j ≡ g j) → keyed R f from count ≡ keyed R g from count
 unfolding keyed

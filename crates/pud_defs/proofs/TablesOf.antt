@@ -1,5 +1,5 @@
 -- Reading the tables of an image, and what a change of a record's words makes of them.
-use Rattle.std.proofs.Common.{◌≡◌, ◌⊎◌, inl, inr, ℕ, ◌+◌, ◌*◌, ◌<◌, ◌≤◌, ◌^◌, true, false, cond, ltb, eqb, List, [], ◌∷◌, Option, Some, None, refl, sym, ap, ap₂, ◌∙◌, subst, ⊎_elim, arith, ne_eqb, eq-eqb}
+use Rattle.std.proofs.Common.{◌≡◌, ◌⊎◌, inl, inr, ℕ, ◌+◌, ◌*◌, ◌<◌, ◌≤◌, ◌^◌, Bool, true, false, cond, ltb, eqb, List, [], ◌∷◌, Option, Some, None, refl, sym, ap, ap₂, ◌∙◌, subst, ⊎_elim, arith, ne_eqb, eq-eqb}
 use Rattle.std.proofs.lemmas.Bool.{cases_eq, cases_lt, cond-true, cond-false, lt-ltb, le-ltb}
 use Rattle.pud_defs.specs.declared.layout.TheConstants.{POOL_TABLE, SPACE_TABLE, PUDDLE_TABLE}
 use Rattle.pud_defs.specs.declared.records.TheConstants.{POOL_RECORDS, POOL_RECORD_WORDS}
@@ -104,4 +104,46 @@ tables_of-puddle F i j frame within pools puddles =
     masked POOL_RECORDS s (pool_at j s) (pool_at i s) (λ below. pool_at-same j i s (λ k low high. pools k (omega arith) (omega arith))) in
     let each_puddle : (f : ℕ) → cond (ltb f F) (puddle_at j f) None ≡ changed_at frame (puddle_at j frame) (λ k. cond (ltb k F) (puddle_at i k) None) f = λ f.
     changed_there F f frame (puddle_at j) (puddle_at i) within (λ below other. puddle_at-same j i f (λ k low high. puddles k (omega arith) (omega arith) (λ l h. absurd (omega arith)))) in
+    λ p. record { frames = F; pools = λ s. each_pool s p; puddles = λ f. each_puddle f p }
+
+-- ---- a pool is dropped
+
+pub pool_at-free : (image : Image) (slot : ℕ) → image (pool_record_at slot) ≡ 0 → pool_at image slot ≡ None
+unfolding pool_at pool_by
+pool_at-free image slot empty = cond-true _ _ _ (eq-eqb (image (pool_record_at slot)) 0 empty)
+
+pub puddle_at-free : (image : Image) (frame : ℕ) → image (puddle_record_at frame) ≡ 0 → puddle_at image frame ≡ None
+unfolding puddle_at puddle_by
+puddle_at-free image frame empty = cond-true _ _ _ (eq-eqb (image (puddle_record_at frame)) 0 empty)
+
+-- The record of the pool is free, and those of its puddles are, and each other record has the words that it had.
+pub record IsDropped (F slot : ℕ) (i j : Image) : Type 0 where
+  pub pools : (k : ℕ) → POOL_TABLE ≤ k → k < SPACE_TABLE → (pool_record_at slot ≤ k → k < pool_record_at (slot + 1) → ⊥) → j k ≡ i k
+  pub freed : j (pool_record_at slot) ≡ 0
+  pub kept : (frame : ℕ) → frame < F → is_of_pool slot (puddle_at i frame) ≡ false → (k : ℕ) → puddle_record_at frame ≤ k → k < puddle_record_at (frame + 1) → j k ≡ i k
+  pub gone : (frame : ℕ) → frame < F → is_of_pool slot (puddle_at i frame) ≡ true → j (puddle_record_at frame) ≡ 0
+
+true_or_false : (b : Bool) → (b ≡ true) ⊎ (b ≡ false)
+true_or_false true = inl refl
+true_or_false false = inr refl
+
+puddle_dropped : (F slot : ℕ) (i j : Image) → IsDropped F slot i j → (frame : ℕ) → frame < F → puddle_at j frame ≡ cond (is_of_pool slot (puddle_at i frame)) None (puddle_at i frame)
+puddle_dropped F slot i j h frame below = elim (true_or_false (is_of_pool slot (puddle_at i frame))) [
+  | inl of ↦ puddle_at-free j frame (h.gone frame below of) ∙ sym (cond-true _ _ _ of)
+  | inr other ↦ puddle_at-same j i frame (h.kept frame below other) ∙ sym (cond-false _ _ _ other)
+]
+
+-- what is masked is not of the pool
+masked_out : (slot F frame : ℕ) (m : Option Member) → cond (ltb frame F) (cond (is_of_pool slot m) None m) None ≡ cond (is_of_pool slot (cond (ltb frame F) m None)) None (cond (ltb frame F) m None)
+masked_out slot F frame m =
+    elim (ltb frame F) as (λ b. cond b (cond (is_of_pool slot m) None m) None ≡ cond (is_of_pool slot (cond b m None)) None (cond b m None)) [ true ↦ refl | false ↦ refl ]
+
+pub tables_of-dropped : (F slot : ℕ) (i j : Image) → slot < POOL_RECORDS → IsDropped F slot i j → tables_of F j ≡ without_pool_at slot (tables_of F i)
+unfolding tables_of
+tables_of-dropped F slot i j within h =
+    let each_pool : (s : ℕ) → cond (ltb s POOL_RECORDS) (pool_at j s) None ≡ changed_at slot None (λ k. cond (ltb k POOL_RECORDS) (pool_at i k) None) s = λ s.
+    changed_there POOL_RECORDS s slot (pool_at j) (pool_at i) within (λ below other. pool_at-same j i s (λ k low high. h.pools k (omega arith) (omega arith) (λ l r. absurd (omega arith))))
+    ∙ ap (λ now. changed_at slot now (λ k. cond (ltb k POOL_RECORDS) (pool_at i k) None) s) (pool_at-free j slot h.freed) in
+    let each_puddle : (f : ℕ) → cond (ltb f F) (puddle_at j f) None ≡ cond (is_of_pool slot (cond (ltb f F) (puddle_at i f) None)) None (cond (ltb f F) (puddle_at i f) None) = λ f.
+    masked F f (puddle_at j f) (cond (is_of_pool slot (puddle_at i f)) None (puddle_at i f)) (puddle_dropped F slot i j h f) ∙ masked_out slot F f (puddle_at i f) in
     λ p. record { frames = F; pools = λ s. each_pool s p; puddles = λ f. each_puddle f p }
