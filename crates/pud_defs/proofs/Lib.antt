@@ -31,4 +31,5 @@ pub mod ExamplesRun
 pub mod ExamplesLogs
 pub mod ExamplesTables
 pub mod ExamplesIdentifiers
+pub mod ExamplesPlaces
 pub mod Stands
