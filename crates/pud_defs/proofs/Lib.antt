@@ -30,5 +30,7 @@ pub mod ExamplesImage
 pub mod ExamplesRun
 pub mod ExamplesLogs
 pub mod ExamplesTables
+pub mod ExamplesIdentifiers
+pub mod ExamplesPlaces
 pub mod Stands
 pub mod DistinctKeys

@@ -1,6 +1,7 @@
 pub mod Layout
 pub mod Image
 pub mod TypeMap
+pub mod Identifiers
 pub mod Entries
 pub mod Replay
 pub mod Spaces
@@ -11,9 +12,11 @@ pub mod Modes
 pub mod Names
 pub mod Pools
 pub mod Puddles
+pub mod Headers
 pub mod Tables
 pub mod SoundTables
 pub mod Puts
+pub mod Places
 pub mod Types
 pub mod Registry
 pub mod World
