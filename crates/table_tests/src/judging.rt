@@ -19,7 +19,7 @@ fn judged<H: Host>(host: &mut H) -> u64 {
 }
 
 /// A blank device with each of these groups of words in turn, beside the words that stand in all of them, is sound or not.
-fn judge(rt: &impl Abort, alloc: Global, always: &[Row], rows: &[(&[Row], bool)]) {
+pub fn judge(rt: &impl Abort, alloc: Global, always: &[Row], rows: &[(&[Row], bool)]) {
     for (words, want) in rows {
         let mut host = blank_with(rt, alloc, always);
         assert!(rt; poke(&mut host, words));
@@ -41,7 +41,7 @@ fn a_device_is_judged_by_its_words(rt: HostRuntime) {
         (&[(1_088, 1)], false),
         (&[(1_216, 97)], false),
         (&[(1_472, 2)], false),
-        (&[(1_567, 1)], false),
+        (&[(1_560, 1)], false),
     ];
     judge(&rt, rt.alloc(), &[], &rows);
 }

@@ -9,6 +9,8 @@ mod judging;
 #[cfg(test)]
 mod loading;
 #[cfg(test)]
+mod pools;
+#[cfg(test)]
 mod spaces;
 #[cfg(test)]
 mod types;
