@@ -1,3 +1,4 @@
 pub mod Overlaying
 pub mod Judging
 pub mod Registry
+pub mod Distinct

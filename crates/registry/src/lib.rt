@@ -11,6 +11,7 @@ ghost use Rattle.pud_defs.specs.World.{StoredWorld, world_of};
 ghost use Rattle.registry.specs.Judging.{IsRoomFor};
 ghost use Rattle.registry.specs.Registry.{load_fault, AppliesLog};
 
+mod distinct;
 mod overlay;
 mod soundness;
 
