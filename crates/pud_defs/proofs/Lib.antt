@@ -1,4 +1,10 @@
 pub mod Words
+pub mod Keyed
+pub mod KeyedTypes
+pub mod TablesOf
+pub mod PutsMade
+pub mod PoolsChanged
+pub mod SoundChanged
 pub mod Images
 pub mod TypeLists
 pub mod TypeTable
@@ -24,5 +30,6 @@ pub mod ExamplesGrammar
 pub mod ExamplesImage
 pub mod ExamplesRun
 pub mod ExamplesLogs
+pub mod ExamplesTables
 pub mod Stands
 pub mod DistinctKeys

@@ -13,6 +13,7 @@ pub mod Pools
 pub mod Puddles
 pub mod Tables
 pub mod SoundTables
+pub mod Puts
 pub mod Types
 pub mod Registry
 pub mod World

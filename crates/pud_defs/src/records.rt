@@ -72,7 +72,7 @@ pub struct PoolRec {
 }
 
 /// What a record says of a puddle, beside whose it is.
-#[derive(Clone, Copy, Debug, PartialEq, Eq)]
+#[derive(Clone, Copy)]
 pub struct Puddle {
     /// The UUID number, at least 1 and below the next one in a legal record.
     pub number: u64,

@@ -1,0 +1,52 @@
+-- Where a pool stands in the pool table, and what adding one answers.
+use Rattle.std.specs.Prelude.{ℕ, ◌<◌, List, Option, Some, None, Result, Ok, Err}
+use Rattle.pm_model.specs.declared.host.HostFault.{HostFault}
+use Rattle.pud_defs.specs.declared.records.TheConstants.{POOL_RECORDS}
+use Rattle.pud_defs.specs.declared.records.PoolRec.{PoolRec}
+use Rattle.pud_defs.specs.declared.records.Put.{Put}
+use Rattle.pud_defs.specs.Image.{Image}
+use Rattle.pud_defs.specs.Keyed.{first_free}
+use Rattle.pud_defs.specs.Tables.{Tables, tables_of, pool_in}
+use Rattle.pud_defs.specs.Puts.{pool_put}
+use Rattle.pool_table.specs.declared.PoolFault.{PoolFault}
+use Rattle.pool_table.specs.declared.PoolFault.TheVariants as faults
+use Rattle.pool_table.specs.declared.Place.{Place}
+use Rattle.pool_table.specs.declared.Place.TheVariants as places
+
+-- the host's fault that an addition answered
+abbrev pub fault_in : Result Put PoolFault → Option HostFault
+fault_in (Ok put) = None
+fault_in (Err (faults.Host fault)) = Some fault
+fault_in (Err faults.Exists) = None
+fault_in (Err faults.Full) = None
+
+-- where a pool stands that was found, or would stand where it was not
+abbrev pub place_by : Option (ℕ × PoolRec) → Option ℕ → Place
+place_by (Some found) free = places.Used found.0 found.1
+place_by None (Some slot) = places.Free slot
+place_by None None = places.Full
+
+-- where the pool of a name stands, or would stand
+abbrev pub place_of : Tables → List ℕ → Place
+place_of t name = place_by (pool_in t name) (first_free t.pools 0 POOL_RECORDS)
+
+-- a slot is one of the table
+abbrev pub IsInTable : Place → Type 0
+IsInTable (places.Used slot rec) = slot < POOL_RECORDS
+IsInTable (places.Free slot) = slot < POOL_RECORDS
+IsInTable places.Full = Unit {0}
+
+-- the same of what was found
+abbrev pub IsKnown : Option (ℕ × PoolRec) → Type 0
+IsKnown None = Unit {0}
+IsKnown (Some found) = found.0 < POOL_RECORDS
+
+-- what adding a record answers at its place
+abbrev pub added_at : Place → PoolRec → Result Put PoolFault
+added_at (places.Used slot rec) r = Err faults.Exists
+added_at (places.Free slot) r = Ok (pool_put slot r)
+added_at places.Full r = Err faults.Full
+
+-- What adding a record answers: the name is there, or the words of the lowest free slot, or none is free.
+abbrev pub added : Tables → PoolRec → Result Put PoolFault
+added t r = added_at (place_of t r.name) r
