@@ -1,13 +1,9 @@
 -- The marks of the places that puddles have, and what they say of legal records.
-use Rattle.std.proofs.Common.{◌≡◌, ◌⊎◌, inl, inr, ◌↔◌, ℕ, zero, suc, ◌+◌, ◌-◌, ◌*◌, ◌%◌, ◌^◌, ◌<◌, ◌≤◌, Bool, true, false, not, ◌&&◌, ◌||◌, cond, eqb, ltb, List, [], ◌∷◌, length, get_or, Option, Some, None, is_some, is_none, refl, sym, ap, ap₂, subst, ◌∙◌, arith, add-one, eq-eqb, ne_eqb, true≢false, get_or-set_same, get_or-set_other}
+use Rattle.std.proofs.Common.{◌≡◌, inl, inr, ◌↔◌, ℕ, zero, suc, ◌+◌, ◌-◌, ◌*◌, ◌<◌, ◌≤◌, Bool, true, false, not, ◌&&◌, ◌||◌, cond, eqb, List, [], length, get_or, Option, Some, None, is_some, is_none, refl, sym, ap, ap₂, subst, ◌∙◌, arith, add-one, eq-eqb, ne_eqb, get_or-set_same, get_or-set_other}
 use Rattle.std.specs.Prelude.{option_map, slice_set, replicate}
-use Rattle.std.specs.Option.{option_or}
 use Rattle.std.specs.List.{IsDistinct}
 use Rattle.std.specs.Ordering.{nat_cmp}
-use Rattle.std.proofs.lemmas.Bool.{and_parts, and_from, and_left, and_right, or_right, cases_Bool, cases_eq, not-true, not_from_false, not-false, eqb-true, or_left, le-ltb, lt-ltb, cond-true, cond-false, ltb-true}
-use Rattle.std.proofs.lemmas.List.{get_or-replicate}
-use Rattle.std.proofs.lemmas.Option.{none-some}
-use Rattle.pud_defs.specs.declared.layout.TheConstants.{PUDDLE_TABLE}
+use Rattle.std.proofs.lemmas.Bool.{and_from, and_left, and_right, cases_Bool, cases_eq, or_left, cond-false}
 use Rattle.pud_defs.specs.declared.records.TheConstants.{POOL_RECORDS, MAX_PUDDLES}
 use Rattle.pud_defs.specs.declared.records.Puddle.{Puddle}
 use Rattle.pud_defs.specs.Image.{Image}
@@ -16,23 +12,20 @@ use Rattle.pud_defs.specs.Keyed.{under, first_from, is_apart, are_distinct}
 use Rattle.pud_defs.specs.Pools.{pool_record_at, pool_by, pool_at}
 use Rattle.pud_defs.specs.Puddles.{Member, member_pool, member_ordinal, puddle_record_at, puddle_by, puddle_at}
 use Rattle.pud_defs.specs.Tables.{Tables, tables_of, member_of, members, puddles_of}
-use Rattle.pud_defs.specs.SoundTables.{has_legal_puddles, has_distinct_bases, has_distinct_old_bases, has_distinct_ordinals, has_counted_puddles, are_counted}
+use Rattle.pud_defs.specs.SoundTables.{has_legal_pools, has_distinct_names, has_legal_puddles, are_sound_tables, has_distinct_bases, has_distinct_old_bases, has_distinct_ordinals, has_counted_puddles, are_counted}
 use Rattle.pud_defs.proofs.Spaces.{all_below-same, all_below-more, all_below-fails}
-use Rattle.pud_defs.proofs.DistinctKeys.{some_or, some_under, none_by_some, IsTold, Numbers, IsSmall, small_in_tables, distinct_old_bases, distinct_ordinals, found_ordinal, first_from-nowhere, AreKeys, counted_by_marks}
+use Rattle.pud_defs.proofs.TablesOf.{pools_below, puddles_below, pool_at-free, puddle_at-free}
+use Rattle.pud_defs.proofs.DistinctKeys.{some_or, some_under, none_by_some, IsTold, IsSmall, small_in_tables, distinct_old_bases, distinct_ordinals, found_ordinal, first_from-nowhere, AreKeys, counted_by_marks}
 use Rattle.registry.specs.declared.distinct.Key.{Key}
 use Rattle.registry.specs.declared.distinct.Key.TheVariants.{Base, OldBase}
-use Rattle.registry.specs.declared.distinct.TheConstants.{POOL_NUMBERS, OLD_BASES, PLACES}
-use Rattle.registry.specs.Distinct.{joined, word_of, number_by, number_of, place_of, by_number, numbers_from, has_distinct_numbers, is_apart_from, with_mark, MarksMore, IsMarked, AreMarked, mark_of, counts_up, is_counted_by, has_counted_ordinals, are_distinct_puddles}
+use Rattle.registry.specs.declared.distinct.TheConstants.{OLD_BASES, PLACES}
+use Rattle.registry.specs.Distinct.{joined, word_of, number_by, number_of, place_of, by_number, numbers_from, has_distinct_numbers, is_apart_from, with_mark, MarksMore, IsMarked, AreMarked, mark_of, counts_up, is_counted_by, are_distinct_puddles}
 use Rattle.registry.proofs.Numbers.{told_by_places, told_by_bases, place_below, all_numbers, decided_by_list}
 
 -- ---- one record
 
-pub free_record : (F : ℕ) (image : Image) (frame : ℕ) → image (puddle_record_at frame) ≡ 0 → (tables_of F image).puddles frame ≡ None
-unfolding tables_of puddle_at puddle_by
-free_record F image frame free = elim (ltb frame F) as (λ b. cond b (puddle_at image frame) None ≡ None) [
-  | true ↦ cond-true _ _ _ (eq-eqb (image (puddle_record_at frame)) 0 free)
-  | false ↦ refl
-]
+pub free_record : (F : ℕ) (image : Image) (frame : ℕ) → frame < F → image (puddle_record_at frame) ≡ 0 → (tables_of F image).puddles frame ≡ None
+free_record F image frame below free = puddles_below F image frame below ∙ puddle_at-free image frame free
 
 used_record : (F : ℕ) (image : Image) (frame : ℕ) → frame < F → (image (puddle_record_at frame) ≡ 0 → ⊥) → (tables_of F image).puddles frame
     ≡ Some (record {
@@ -40,8 +33,8 @@ used_record : (F : ℕ) (image : Image) (frame : ℕ) → frame < F → (image (
       ordinal = member_ordinal (image (puddle_record_at frame));
       puddle = record { number = image (puddle_record_at frame + 1); base = image (puddle_record_at frame + 2); old_base = image (puddle_record_at frame + 3); frontier = image (puddle_record_at frame + 4) };
     })
-unfolding tables_of puddle_at puddle_by
-used_record F image frame below used = cond-true _ _ _ (lt-ltb frame F below) ∙ cond-false _ _ _ (ne_eqb (image (puddle_record_at frame)) 0 used)
+unfolding puddle_at puddle_by
+used_record F image frame below used = puddles_below F image frame below ∙ cond-false _ _ _ (ne_eqb (image (puddle_record_at frame)) 0 used)
 
 pub number_used : (key : Key) (F : ℕ) (image : Image) (frame member base : ℕ) → frame < F → member ≡ image (puddle_record_at frame) → (member ≡ 0 → ⊥) → base ≡ image (puddle_record_at frame + word_of key)
     → Some (number_by key (member_pool member) base) ≡ option_map (number_of key) ((tables_of F image).puddles frame)
@@ -55,16 +48,12 @@ pub place_used : (F : ℕ) (image : Image) (frame member : ℕ) → frame < F �
 place_used F image frame member below is used =
     ap (λ (w : ℕ). Some (joined MAX_PUDDLES (member_pool w) (member_ordinal w))) is ∙ sym (ap (option_map place_of) (used_record F image frame below (λ e. used (is ∙ e))))
 
-pub free_pool : (F : ℕ) (image : Image) (slot : ℕ) → image (pool_record_at slot) ≡ 0 → is_none ((tables_of F image).pools slot) ≡ true
-unfolding tables_of pool_at pool_by
-free_pool F image slot free = elim (ltb slot POOL_RECORDS) as (λ b. is_none (cond b (pool_at image slot) None) ≡ true) [
-  | true ↦ ap is_none (cond-true _ _ _ (eq-eqb (image (pool_record_at slot)) 0 free))
-  | false ↦ refl
-]
+pub free_pool : (F : ℕ) (image : Image) (slot : ℕ) → slot < POOL_RECORDS → image (pool_record_at slot) ≡ 0 → is_none ((tables_of F image).pools slot) ≡ true
+free_pool F image slot below free = ap is_none (pools_below F image slot below ∙ pool_at-free image slot free)
 
 pub used_pool : (F : ℕ) (image : Image) (slot : ℕ) → slot < POOL_RECORDS → (image (pool_record_at slot) ≡ 0 → ⊥) → is_none ((tables_of F image).pools slot) ≡ false
-unfolding tables_of pool_at pool_by
-used_pool F image slot below used = ap is_none (cond-true _ _ _ (lt-ltb slot POOL_RECORDS below)) ∙ ap is_none (cond-false _ _ _ (ne_eqb (image (pool_record_at slot)) 0 used))
+unfolding pool_at pool_by
+used_pool F image slot below used = ap is_none (pools_below F image slot below) ∙ ap is_none (cond-false _ _ _ (ne_eqb (image (pool_record_at slot)) 0 used))
 
 -- ---- marks, record by record
 
@@ -286,3 +275,23 @@ bases_by_numbers t = refl
 
 pub in_groups : (a b c d : Bool) → (a && b && (c && d)) ≡ (a && b && c && d)
 in_groups a b c d = elim (a && b) as (λ x. (x && (c && d)) ≡ (x && c && d)) [ true ↦ refl | false ↦ refl ]
+
+-- ---- the whole rule
+
+in_one : (x a b c d : Bool) → (x && (a && b && c && d)) ≡ (x && a && b && c && d)
+in_one true a b c d = refl
+in_one false a b c d = refl
+
+-- what is distinct matters only where the puddle records are legal
+pub sound_when_distinct : (next : ℕ) (t : Tables) (distinct : Bool) → (has_legal_puddles next t ≡ true → distinct ≡ are_distinct_puddles t)
+    → (has_legal_pools next t && has_distinct_names t && has_legal_puddles next t && distinct) ≡ are_sound_tables next t
+unfolding are_sound_tables
+sound_when_distinct next t distinct is =
+    let first = has_legal_pools next t && has_distinct_names t in
+    let both : (first && has_legal_puddles next t && distinct) ≡ (first && has_legal_puddles next t && are_distinct_puddles t) = elim (cases_Bool (has_legal_puddles next t)) [
+      | inl legal ↦ ap (λ (b : Bool). first && has_legal_puddles next t && b) (is legal)
+      | inr spoilt ↦
+          let none = and_right first (has_legal_puddles next t) spoilt in
+          and_left (first && has_legal_puddles next t) distinct none ∙ sym (and_left (first && has_legal_puddles next t) (are_distinct_puddles t) none)
+    ] in
+    both ∙ in_one (first && has_legal_puddles next t) (has_distinct_bases t) (has_distinct_old_bases t) (has_distinct_ordinals t) (has_counted_puddles t)

@@ -1,22 +1,20 @@
 -- The numbers of used records: in a list that a sort decides, and as marks.
-use Rattle.std.proofs.Common.{◌≡◌, ◌⊎◌, inl, inr, ◌↔◌, ℕ, zero, suc, ◌+◌, ◌-◌, ◌*◌, ◌%◌, ◌^◌, ◌<◌, ◌≤◌, Bool, true, false, not, ◌&&◌, ◌||◌, cond, eqb, List, [], ◌∷◌, length, get_or, Option, Some, None, is_some, is_none, refl, sym, ap, ap₂, subst, ◌∙◌, arith, add-one, eq-eqb, ne_eqb, true≢false, get_or-set_same, get_or-set_other}
-use Rattle.std.specs.Prelude.{option_map, slice_set}
+use Rattle.std.proofs.Common.{◌≡◌, ◌↔◌, ℕ, zero, suc, ◌+◌, ◌-◌, ◌*◌, ◌^◌, ◌<◌, ◌≤◌, Bool, true, false, not, ◌&&◌, ◌||◌, eqb, List, [], ◌∷◌, length, get_or, Option, Some, None, is_some, refl, sym, ap, ap₂, subst, ◌∙◌, arith, add-one, eq-eqb}
+use Rattle.std.specs.Prelude.{option_map}
 use Rattle.std.specs.Option.{option_or}
-use Rattle.std.specs.Ordering.{nat_cmp, eq_by_cmp}
+use Rattle.std.specs.Ordering.{nat_cmp}
 use Rattle.std.specs.Cmp.{unsigned_tied}
 use Rattle.std.specs.List.{IsDistinct, AllByRecursion, list_any}
-use Rattle.std.specs.List.Sorted.{IsPermutation, IsSorted, IsNonDecreasing}
-use Rattle.std.proofs.lemmas.Bool.{and_parts, and_from, and_left, or_parts, or_from, cases_Bool, cases_eq, not-true, not_from_false, eqb-true, or_left}
+use Rattle.std.specs.List.Sorted.{IsPermutation, IsSorted}
+use Rattle.std.proofs.lemmas.Bool.{and_parts, and_from, or_parts, or_from, not-true, not_from_false, eqb-true}
 use Rattle.std.proofs.lemmas.List.Sorted.{IsPermutation-sym, IsNonDecreasingBy-from_sort}
 use Rattle.std.proofs.lemmas.Map.Keys.{IsDistinct-head, IsDistinct-tail, IsDistinct-cons, IsDistinct-from_apart, IsDistinct-IsPermutation, IsDistinct-from_sorted, IsStrictlyIncreasing-from_distinct, sorted_from_strictly_increasing}
 use Rattle.std.proofs.Math.Nat.{mod-eq_of_lt}
-use Rattle.pud_defs.specs.declared.records.TheConstants.{POOL_RECORDS, MAX_PUDDLES}
 use Rattle.pud_defs.specs.Keyed.{under, first_from, is_apart, are_distinct}
 use Rattle.pud_defs.specs.Puddles.{Member}
-use Rattle.pud_defs.specs.Tables.{Tables}
 use Rattle.pud_defs.proofs.DistinctKeys.{same_tests, none_by_some, some_or, some_under}
 use Rattle.registry.specs.declared.distinct.TheConstants.{POOL_NUMBERS, OLD_BASES, PLACES}
-use Rattle.registry.specs.Distinct.{joined, place_of, by_number, with_number, numbers_from, has_distinct_numbers, is_apart_from, with_mark, MarksMore, IsMarked}
+use Rattle.registry.specs.Distinct.{joined, place_of, with_number, numbers_from}
 
 -- ---- two numbers in one
 
@@ -75,12 +73,6 @@ none_any x [] none = refl
 none_any x (y ∷ ys) none = or_from (eqb x y) (list_any (eqb x) ys) none.0 (none_any x ys none.1)
 
 module _ (at : ℕ → Option Member) (number : Member → ℕ) where
-  under_numbers : ℕ → Option (ℕ × ℕ)
-  under_numbers j = option_map (λ m. (number m, j)) (at j)
-
-  listed : ℕ → Option ℕ
-  listed j = option_map number (at j)
-
   found_here : (n j : ℕ) (o : Option Member) (later : Option ℕ) (xs : List ℕ) → is_some later ≡ list_any (eqb n) xs
       → is_some (option_or (under nat_cmp n (option_map (λ m. (number m, j)) o)) later) ≡ list_any (eqb n) (with_number (option_map number o) xs)
   found_here n j None later xs same = same

@@ -1,6 +1,6 @@
 //! Whether the puddles of a device are told apart by their bases, those of a pool by their old bases and ordinals, and
 //! whether each pool's ordinals are counted from 0 on, once its daemon log is replayed.
-ghost use Rattle.std.specs.Prelude.{◌≡◌, ◌≢◌, ◌↔◌, ◌+◌, ◌-◌, ◌*◌, ◌<◌, ◌≤◌, nat_eq, ℕ, Bool, true, false, not, ◌&&◌, ◌||◌, length, drop, slice_index_or, Option, option_map, IfSome, IfOk};
+ghost use Rattle.std.specs.Prelude.{◌≡◌, ◌≢◌, ◌↔◌, ◌+◌, ◌-◌, ◌*◌, ◌<◌, ◌≤◌, nat_eq, ℕ, true, false, not, ◌&&◌, ◌||◌, length, drop, Option, option_map, IfSome, IfOk};
 ghost use Rattle.std.specs.List.{IsDistinct};
 ghost use Rattle.pm_model.specs.Words.{reads};
 ghost use Rattle.pm_model.specs.Counts.{after_fault, fault_of};
@@ -9,14 +9,14 @@ ghost use Rattle.pud_defs.specs.Layout.{device_words};
 ghost use Rattle.pud_defs.specs.Replay.{settled_by};
 ghost use Rattle.pud_defs.specs.Spaces.{all_below};
 ghost use Rattle.pud_defs.specs.Tables.{tables_of};
-ghost use Rattle.pud_defs.specs.SoundTables.{has_legal_puddles, has_distinct_ordinals, has_counted_puddles};
+ghost use Rattle.pud_defs.specs.SoundTables.{has_legal_puddles};
 ghost use Rattle.registry.specs.Overlaying.{IsOverlay};
 ghost use Rattle.registry.specs.Distinct.{joined, word_of, number_by, number_of, place_of, with_number, has_distinct_numbers, MarksMore, AreMarked, counts_up, mark_of, is_counted_by, has_counted_ordinals, are_distinct_puddles};
 
 use crate::overlay::Overlay;
 use pm_model::{Host, HostFault};
 use pud_defs::layout::{
-    DAEMON_LOG, LOG_WORDS, MAX_FRAMES, POOL_TABLE, PUDDLE_RECORD_WORDS, PUDDLE_TABLE, device_words,
+    DAEMON_LOG, MAX_FRAMES, POOL_TABLE, PUDDLE_RECORD_WORDS, PUDDLE_TABLE, device_words,
 };
 use pud_defs::records::{
     MAX_PUDDLES, POOL_RECORD_WORDS, POOL_RECORDS, PUDDLE_BASE_WORD, PUDDLE_OLD_BASE_WORD,

@@ -1,4 +1,4 @@
-use Rattle.std.proofs.Common.{◌≡◌, ◌-◌, ℕ, List, drop, refl, sym, ap, ap₂, ◌∙◌, arith, length-drop, take_all}
+use Rattle.std.proofs.Common.{◌-◌, ℕ, List, drop, refl, sym, ap, ap₂, ◌∙◌, arith, length-drop, take_all}
 use Rattle.std.specs.Prelude.{option_map}
 use Rattle.pm_model.specs.Words.{reads}
 use Rattle.pm_model.specs.Moments.{State}

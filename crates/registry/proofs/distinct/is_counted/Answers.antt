@@ -11,7 +11,7 @@ use Rattle.registry.proofs.distinct.is_counted.Goals as goal
 pub returns-then-branch-eq0-clause-counted : goal.returns-then-branch-eq0-clause-counted
 returns-then-branch-eq0-clause-counted g c = λ t image same over frames.
     let word = c.in_ok-word.ensures.value t image same over (outside_log DAEMON_LOG (pool_record_at c.args.slot) (inr (omega arith))) in
-    sym (or_left _ (counts_up (mark_of c.args.marks.now c.args.slot)) (free_pool frames (settled_by DAEMON_LOG image) c.args.slot (sym word ∙ c.if-branch-eq0.true)))
+    sym (or_left _ (counts_up (mark_of c.args.marks.now c.args.slot)) (free_pool frames (settled_by DAEMON_LOG image) c.args.slot (omega arith) (sym word ∙ c.if-branch-eq0.true)))
 
 pub returns-clause-counted : goal.returns-clause-counted
 returns-clause-counted g c = λ t image same over frames.

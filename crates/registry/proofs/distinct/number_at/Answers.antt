@@ -13,7 +13,7 @@ use Rattle.registry.proofs.distinct.number_at.Goals as goal
 pub returns-then-member-eq0-clause-number : goal.returns-then-member-eq0-clause-number
 returns-then-member-eq0-clause-number g c = λ t image same over frames below.
     let read = c.in_ok-member.ensures.value t image same over (outside_log DAEMON_LOG (puddle_record_at c.args.frame) (inr (omega arith))) in
-    sym (ap (option_map (number_of c.args.key)) (free_record frames (settled_by DAEMON_LOG image) c.args.frame (sym read ∙ c.if-member-eq0.true)))
+    sym (ap (option_map (number_of c.args.key)) (free_record frames (settled_by DAEMON_LOG image) c.args.frame below (sym read ∙ c.if-member-eq0.true)))
 
 pub returns-clause-number : goal.returns-clause-number
 returns-clause-number g c = λ t image same over frames below.

@@ -1,4 +1,4 @@
-use Rattle.std.proofs.Common.{inr, ℕ, ◌+◌, Some, sym, ap, ap₂, ◌∙◌, arith}
+use Rattle.std.proofs.Common.{inr, ℕ, Some, sym, ap, ap₂, ◌∙◌, arith}
 use Rattle.std.specs.Prelude.{option_map}
 use Rattle.pud_defs.specs.declared.layout.TheConstants.{DAEMON_LOG}
 use Rattle.pud_defs.specs.declared.records.TheConstants.{MAX_PUDDLES}
@@ -12,7 +12,7 @@ use Rattle.registry.proofs.distinct.place_at.Goals as goal
 pub returns-then-member-eq0-clause-place : goal.returns-then-member-eq0-clause-place
 returns-then-member-eq0-clause-place g c = λ t image same over frames below.
     let read = c.in_ok-member.ensures.value t image same over (outside_log DAEMON_LOG (puddle_record_at c.args.frame) (inr (omega arith))) in
-    sym (ap (option_map place_of) (free_record frames (settled_by DAEMON_LOG image) c.args.frame (sym read ∙ c.if-member-eq0.true)))
+    sym (ap (option_map place_of) (free_record frames (settled_by DAEMON_LOG image) c.args.frame below (sym read ∙ c.if-member-eq0.true)))
 
 pub returns-clause-place : goal.returns-clause-place
 returns-clause-place g c = λ t image same over frames below.
