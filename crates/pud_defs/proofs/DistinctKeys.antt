@@ -1,26 +1,28 @@
 -- Puddles told apart by one number each: one test serves all pools, and the marks of a pool's ordinals tell whether they are counted.
-use Rattle.std.proofs.Common.{◌≡◌, ◌⊎◌, inl, inr, ℕ, zero, suc, ◌+◌, ◌-◌, ◌*◌, ◌%◌, ◌^◌, ◌<◌, ◌≤◌, Bool, true, false, not, ◌&&◌, ◌||◌, cond, leb, ltb, eqb, T, List, [], ◌∷◌, map, length, Option, Some, None, is_some, is_none, refl, sym, ap, ap₂, subst, ◌∙◌, arith, add-one, eq-eqb, ne_eqb, true≢false}
+use Rattle.std.proofs.Common.{◌≡◌, inl, inr, ℕ, zero, suc, ◌+◌, ◌-◌, ◌%◌, ◌^◌, ◌<◌, ◌≤◌, Bool, true, false, not, ◌&&◌, ◌||◌, cond, leb, ltb, eqb, T, List, [], ◌∷◌, map, length, Option, Some, None, is_some, is_none, refl, sym, ap, ap₂, ◌∙◌, arith, eq-eqb, ne_eqb, true≢false}
 use Rattle.std.specs.Prelude.{option_map}
 use Rattle.std.specs.Option.{option_or}
 use Rattle.std.specs.Ordering.{nat_cmp, eq_by_cmp, is_lt}
 use Rattle.std.specs.declared.cmp.Ordering.TheVariants.{Less, Equal, Greater}
 use Rattle.std.specs.Cmp.{unsigned_tied}
-use Rattle.std.specs.FinMap.Entries.{put, find, below_all, is_sorted, find-put, is_sorted-put}
+use Rattle.std.specs.FinMap.Entries.{find, below_all, is_sorted}
 use Rattle.std.proofs.lemmas.Cmp.{nat_cmp_total}
-use Rattle.std.proofs.lemmas.Bool.{and_parts, and_from, and_left, or_cases, or_left, or_right, or_from, cases_Bool, cases_eq, cases_lt, cond-false, eqb-true, ltb-true, leb-true, lt-ltb, le-ltb, le-leb, not_from_false, not-true, false_from_ne_true}
+use Rattle.std.proofs.lemmas.Bool.{and_parts, and_from, or_cases, or_left, or_right, or_from, cases_Bool, cases_eq, cases_lt, cond-false, eqb-true, ltb-true, leb-true, lt-ltb, le-ltb, le-leb, not_from_false, not-true, false_from_ne_true}
 use Rattle.std.proofs.lemmas.Bool.Decides.{same_from_decides}
 use Rattle.std.proofs.lemmas.Option.{none-some}
 use Rattle.pud_defs.specs.declared.records.TheConstants.{POOL_RECORDS, MAX_PUDDLES}
 use Rattle.pud_defs.specs.declared.records.Puddle.{Puddle}
 use Rattle.pud_defs.specs.Image.{Image}
 use Rattle.pud_defs.specs.Spaces.{all_below}
-use Rattle.pud_defs.specs.Keyed.{put_entry, keyed, under, first_from, is_apart, are_distinct}
+use Rattle.pud_defs.specs.Keyed.{keyed, under, first_from, is_apart, are_distinct}
 use Rattle.pud_defs.specs.Bases.{is_legal_base, is_legal_frontier}
 use Rattle.pud_defs.specs.Pools.{is_given}
 use Rattle.pud_defs.specs.Puddles.{Member, is_legal_puddle}
 use Rattle.pud_defs.specs.Tables.{Tables, tables_of, member_of, members, puddles_of}
-use Rattle.pud_defs.specs.SoundTables.{is_pool, is_legal_member, is_sound_puddle, has_legal_puddles, old_bases, has_distinct_old_bases, has_distinct_ordinals, count_up, are_counted}
+use Rattle.pud_defs.specs.SoundTables.{is_pool, is_legal_member, is_sound_puddle, has_legal_puddles, has_distinct_old_bases, has_distinct_ordinals, count_up, are_counted}
 use Rattle.pud_defs.proofs.Spaces.{all_below-from, all_below-each}
+use Rattle.pud_defs.proofs.Keyed.{find-keyed, is_sorted-keyed}
+use Rattle.pud_defs.proofs.TablesOf.{puddles_beyond}
 
 -- ---- tests
 
@@ -334,35 +336,13 @@ module _ {X : Type 0} where
       and_from (leb 1 (length es) && leb (length es) 16) (count_up 0 (map (λ e. e.0) es))
       (and_from (leb 1 (length es)) (leb (length es) 16) (le-leb 1 (length es) (omega arith)) (le-leb (length es) 16 few)) counted)
 
-  -- ---- a table as the list of its keys
-
-  found_in_front : (q : ℕ) (e : Option (ℕ × X)) (es : List (ℕ × X)) → find nat_cmp q (put_entry nat_cmp e es) ≡ option_or (under nat_cmp q e) (find nat_cmp q es)
-  found_in_front q None es = refl
-  found_in_front q (Some e) es =
-      find-put nat_cmp nat_cmp_total q e.0 e.1 es
-      ∙ elim (eq_by_cmp nat_cmp q e.0) as (λ b. cond b (Some e.1) (find nat_cmp q es) ≡ option_or (cond b (Some e.1) None) (find nat_cmp q es)) [ true ↦ refl | false ↦ refl ]
-
-  find_in_keyed : (q : ℕ) (at : ℕ → Option (ℕ × X)) (from count : ℕ) → find nat_cmp q (keyed nat_cmp at from count) ≡ first_from nat_cmp q at from count
-  unfolding keyed first_from
-  find_in_keyed q at from zero = refl
-  find_in_keyed q at from (suc count) = found_in_front q (at from) (keyed nat_cmp at (from + 1) count) ∙ ap (option_or (under nat_cmp q (at from))) (find_in_keyed q at (from + 1) count)
-
-  sorted_in_front : (e : Option (ℕ × X)) (es : List (ℕ × X)) → T (is_sorted nat_cmp es) → T (is_sorted nat_cmp (put_entry nat_cmp e es))
-  sorted_in_front None es h = h
-  sorted_in_front (Some e) es h = is_sorted-put nat_cmp nat_cmp_total e.0 e.1 es h
-
-  keyed_is_sorted : (at : ℕ → Option (ℕ × X)) (from count : ℕ) → T (is_sorted nat_cmp (keyed nat_cmp at from count))
-  unfolding keyed
-  keyed_is_sorted at from zero = tt
-  keyed_is_sorted at from (suc count) = sorted_in_front (at from) (keyed nat_cmp at (from + 1) count) (keyed_is_sorted at (from + 1) count)
-
 -- the puddles of a pool are counted where the marks of their ordinals count
 pub counted_by_marks : (t : Tables) (slot : ℕ) (mark : ℕ → Bool) → AreKeys mark (λ k. is_some (first_from nat_cmp k (members t slot) 0 t.frames)) → are_counted (puddles_of t slot) ≡ counts mark
 unfolding puddles_of
 counted_by_marks t slot mark keys =
     let es = keyed nat_cmp (members t slot) 0 t.frames in
-    let same : (k : ℕ) → is_some (find nat_cmp k es) ≡ is_some (first_from nat_cmp k (members t slot) 0 t.frames) = λ k. ap is_some (find_in_keyed k (members t slot) 0 t.frames) in
-    counted_by_keys {X = ℕ × Puddle} mark es (T_true (is_sorted nat_cmp es) (keyed_is_sorted (members t slot) 0 t.frames))
+    let same : (k : ℕ) → is_some (find nat_cmp k es) ≡ is_some (first_from nat_cmp k (members t slot) 0 t.frames) = λ k. ap is_some (find-keyed nat_cmp nat_cmp_total k (members t slot) 0 t.frames) in
+    counted_by_keys {X = ℕ × Puddle} mark es (T_true (is_sorted nat_cmp es) (is_sorted-keyed nat_cmp nat_cmp_total (members t slot) 0 t.frames))
     (record { same = λ k below. same k ∙ keys.same k below; none = λ k high. same k ∙ keys.none k high })
 
 -- ---- legal records
@@ -399,7 +379,7 @@ small_by next t m masked legal =
 pub small_in_tables : (F : ℕ) (image : Image) (next : ℕ) → has_legal_puddles next (tables_of F image) ≡ true → (j : ℕ) (m : Member) → (tables_of F image).puddles j ≡ Some m → IsSmall m
 unfolding has_legal_puddles tables_of
 small_in_tables F image next legal j m is = elim (cases_lt j F) [
-  | inr past ↦ absurd (none-some m (sym (cond-false _ _ _ (le-ltb j F past)) ∙ is))
+  | inr past ↦ absurd (none-some m (sym (puddles_beyond F image j past) ∙ is))
   | inl below ↦
       small_by next (tables_of F image) m (λ slot past. cond-false _ _ _ (le-ltb slot POOL_RECORDS past))
       (sym (ap (is_sound_puddle next (tables_of F image)) is) ∙ all_below-each F (λ frame. is_sound_puddle next (tables_of F image) ((tables_of F image).puddles frame)) legal j below)

@@ -3,3 +3,5 @@ pub mod Judged
 pub mod Records
 pub mod Tabled
 pub mod NamesApart
+pub mod Numbers
+pub mod Marks

@@ -1,0 +1,100 @@
+-- What tells the puddles of a device apart: numbers of used records, and where a pool's ordinals are marked.
+use Rattle.std.specs.Prelude.{◌≡◌, ℕ, zero, suc, ◌+◌, ◌*◌, ◌%◌, ◌<◌, Bool, true, false, not, ◌&&◌, ◌||◌, List, [], ◌∷◌, Option, Some, None, option_map, is_some, is_none, slice_index_or, slice_set}
+use Rattle.std.specs.Ordering.{nat_cmp}
+use Rattle.pud_defs.specs.Keyed.{first_from, are_distinct}
+use Rattle.pud_defs.specs.Puddles.{Member}
+use Rattle.pud_defs.specs.Spaces.{all_below}
+use Rattle.pud_defs.specs.Tables.{Tables}
+use Rattle.pud_defs.specs.SoundTables.{has_distinct_bases, has_distinct_old_bases, has_distinct_ordinals, has_counted_puddles}
+use Rattle.soundness.specs.declared.distinct.Key.{Key}
+use Rattle.soundness.specs.declared.distinct.Key.TheVariants.{Base, OldBase}
+use Rattle.soundness.specs.declared.distinct.TheConstants.{POOL_NUMBERS, OLD_BASES, PLACES}
+use Rattle.pud_defs.specs.declared.records.TheConstants.{MAX_PUDDLES, PUDDLE_BASE_WORD, PUDDLE_OLD_BASE_WORD}
+
+-- one number of a pool and of a number below n, told apart where the pool is below 64
+abbrev pub joined : (n pool low : ℕ) → ℕ
+joined n pool low = pool % POOL_NUMBERS * n + low % n
+
+-- the word of a record that holds the base or the old base
+abbrev pub word_of : Key → ℕ
+word_of Base = PUDDLE_BASE_WORD
+word_of OldBase = PUDDLE_OLD_BASE_WORD
+
+-- what a puddle of a pool is told apart by: its base, or its pool and its old base
+abbrev pub number_by : Key → (pool base : ℕ) → ℕ
+number_by Base pool base = base
+number_by OldBase pool base = joined OLD_BASES pool base
+
+-- the same of a record
+abbrev pub number_of : Key → Member → ℕ
+number_of Base m = number_by Base m.pool m.puddle.base
+number_of OldBase m = number_by OldBase m.pool m.puddle.old_base
+
+-- the number of a record's pool and ordinal
+abbrev pub place_of : Member → ℕ
+place_of m = joined MAX_PUDDLES m.pool m.ordinal
+
+-- the frame of a used record, under a number of the record
+abbrev pub by_number : (Member → ℕ) → Tables → ℕ → Option (ℕ × ℕ)
+by_number number t frame = option_map (λ m. (number m, frame)) (t.puddles frame)
+
+-- no two used records have one number
+abbrev pub has_distinct_numbers : (Member → ℕ) → Tables → Bool
+has_distinct_numbers number t = are_distinct nat_cmp (by_number number t) 0 t.frames
+
+-- a list with the number of a place, where it is used
+abbrev pub with_number : Option ℕ → List ℕ → List ℕ
+with_number None numbers = numbers
+with_number (Some n) numbers = n ∷ numbers
+
+-- the numbers of the used records among so many, from a frame on
+unfoldable pub numbers_from : (ℕ → Option ℕ) → (from count : ℕ) → List ℕ
+numbers_from at from zero = []
+numbers_from at from (suc count) = with_number (at from) (numbers_from at (from + 1) count)
+
+-- ---- marks of places
+
+-- the place is not marked, where there is one
+abbrev pub is_apart_from : List Bool → Option ℕ → Bool
+is_apart_from marks None = true
+is_apart_from marks (Some n) = not (slice_index_or marks n false)
+
+abbrev pub with_mark : List Bool → Option ℕ → List Bool
+with_mark marks None = marks
+with_mark marks (Some n) = slice_set marks n true
+
+-- one place more is marked, where there is one, and the answer is whether it was not marked before
+pub record MarksMore (before : List Bool) (place : Option ℕ) (answer : Bool) (after : List Bool) : Type 0 where
+  pub apart : answer ≡ is_apart_from before place
+  pub marks : answer ≡ true → after ≡ with_mark before place
+
+-- the marks of the places that the used records have, among so many from a frame on
+pub record IsMarked (t : Tables) (from count : ℕ) (marks : List Bool) : Type 0 where
+  pub each : (n : ℕ) → n < PLACES → slice_index_or marks n false ≡ is_some (first_from nat_cmp n (by_number place_of t) from count)
+
+-- the marks are there where no two records have one place
+abbrev pub AreMarked : Tables → Option (List Bool) → Type 0
+AreMarked t None = has_distinct_numbers place_of t ≡ false
+AreMarked t (Some marks) = (has_distinct_numbers place_of t ≡ true) × IsMarked t 0 t.frames marks
+
+-- the mark of an ordinal of a slot's pool
+abbrev pub mark_of : List Bool → (slot ordinal : ℕ) → Bool
+mark_of marks slot ordinal = slice_index_or marks ((slot + 1) * MAX_PUDDLES + ordinal) false
+
+-- ordinal 0 is marked, and each other one that is marked stands behind one that is
+abbrev pub counts_up : (ℕ → Bool) → Bool
+counts_up mark = all_below 15 (λ k. mark k || not (mark (k + 1))) && mark 0
+
+-- the slot is free, or its pool's ordinals are counted from 0 on by their marks
+abbrev pub is_counted_by : List Bool → Tables → ℕ → Bool
+is_counted_by marks t slot = is_none (t.pools slot) || counts_up (mark_of marks slot)
+
+-- ---- the whole
+
+-- the ordinals of a pool are distinct, and counted from 0 on
+abbrev pub has_counted_ordinals : Tables → Bool
+has_counted_ordinals t = has_distinct_ordinals t && has_counted_puddles t
+
+-- puddles are told apart by their bases, those of a pool by their old bases and ordinals, and the ordinals of a pool are counted from 0 on
+abbrev pub are_distinct_puddles : Tables → Bool
+are_distinct_puddles t = has_distinct_bases t && has_distinct_old_bases t && has_distinct_ordinals t && has_counted_puddles t
