@@ -1,5 +1,5 @@
 -- Where a pool stands in the pool table, and what adding one answers.
-use Rattle.std.specs.Prelude.{ℕ, ◌<◌, List, Option, Some, None, Result, Ok, Err}
+use Rattle.std.specs.Prelude.{◌≡◌, ℕ, ◌<◌, List, Option, Some, None, Result, Ok, Err}
 use Rattle.pm_model.specs.declared.host.HostFault.{HostFault}
 use Rattle.pud_defs.specs.declared.records.TheConstants.{POOL_RECORDS}
 use Rattle.pud_defs.specs.declared.records.PoolRec.{PoolRec}
@@ -7,7 +7,7 @@ use Rattle.pud_defs.specs.declared.records.Put.{Put}
 use Rattle.pud_defs.specs.Image.{Image}
 use Rattle.pud_defs.specs.Keyed.{first_free}
 use Rattle.pud_defs.specs.Tables.{Tables, tables_of, pool_in}
-use Rattle.pud_defs.specs.Puts.{pool_put}
+use Rattle.pud_defs.specs.Puts.{pool_put, with_pool_at}
 use Rattle.pool_table.specs.declared.PoolFault.{PoolFault}
 use Rattle.pool_table.specs.declared.PoolFault.TheVariants as faults
 use Rattle.pool_table.specs.declared.Place.{Place}
@@ -50,3 +50,10 @@ added_at places.Full r = Err faults.Full
 -- What adding a record answers: the name is there, or the words of the lowest free slot, or none is free.
 abbrev pub added : Tables → PoolRec → Result Put PoolFault
 added t r = added_at (place_of t r.name) r
+
+-- A record is added in the lowest free slot to tables that have none of its name.
+pub record Adds (r : PoolRec) (t u : Tables) : Type 0 where
+  pub slot : ℕ
+  pub lowest : first_free t.pools 0 POOL_RECORDS ≡ Some slot
+  pub absent : pool_in t r.name ≡ None
+  pub is : u ≡ with_pool_at slot (Some r) t

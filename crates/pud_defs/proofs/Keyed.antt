@@ -12,7 +12,7 @@ use Rattle.pud_defs.specs.Keyed.{first_free, count_used, put_entry, keyed, under
 
 -- ---- small facts
 
-none_when : {A : Type 0} (o : Option A) → is_none o ≡ true → o ≡ None
+pub none_when : {A : Type 0} (o : Option A) → is_none o ≡ true → o ≡ None
 none_when None e = refl
 none_when (Some x) e = cc
 
@@ -28,7 +28,7 @@ or_first o x later e = ap (λ v. option_or v later) e
 or_later : {A : Type 0} (o later : Option A) → o ≡ None → option_or o later ≡ later
 or_later o later e = ap (λ v. option_or v later) e
 
-or_none : {A : Type 0} (o later : Option A) → option_or o later ≡ None → (o ≡ None) × (later ≡ None)
+pub or_none : {A : Type 0} (o later : Option A) → option_or o later ≡ None → (o ≡ None) × (later ≡ None)
 or_none None later e = (refl, e)
 or_none (Some x) later e = absurd (none-some x (sym e))
 

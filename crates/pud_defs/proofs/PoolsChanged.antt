@@ -1,5 +1,5 @@
 -- The pools of tables that were changed: a mode, a pool that is made, a pool that is dropped.
-use Rattle.std.proofs.Common.{◌≡◌, ◌⊎◌, inl, inr, ℕ, ◌+◌, ◌<◌, ◌≤◌, Bool, true, false, cond, eqb, List, [], ◌∷◌, Option, Some, None, nat_cmp, option_map, refl, sym, ap, ap₂, ◌∙◌, arith, ne_eqb, eq-eqb}
+use Rattle.std.proofs.Common.{◌≡◌, ◌⊎◌, inl, inr, ℕ, ◌+◌, ◌^◌, ◌<◌, ◌≤◌, Bool, true, false, cond, eqb, List, [], ◌∷◌, Option, Some, None, nat_cmp, option_map, refl, sym, ap, ap₂, ◌∙◌, arith, ne_eqb, eq-eqb}
 use Rattle.std.specs.FinMap.{nat_cmp-IsAntisymmetric, slice_cmp-IsAntisymmetric}
 use Rattle.std.specs.FinMap.Entries.{put}
 use Rattle.std.specs.Cmp.Lexicographic.{nat_list_cmp_total}
@@ -11,12 +11,16 @@ use Rattle.std.proofs.lemmas.Bool.{cases_eq, cond-true, cond-false}
 use Rattle.pud_defs.specs.declared.records.TheConstants.{POOL_RECORDS}
 use Rattle.pud_defs.specs.declared.records.PoolRec.{PoolRec}
 use Rattle.pud_defs.specs.declared.records.Puddle.{Puddle}
+use Rattle.pud_defs.specs.declared.records.PuddleRec.{PuddleRec}
+use Rattle.pud_defs.specs.Image.{Image}
 use Rattle.pud_defs.specs.Names.{name_cmp}
 use Rattle.pud_defs.specs.Keyed.{under, keyed, first_from, without}
+use Rattle.pud_defs.specs.Pools.{IsHeld}
 use Rattle.pud_defs.specs.Puddles.{Member}
-use Rattle.pud_defs.specs.Tables.{Tables, Pool, member_of, members, puddles_of, named, pool_of, entries, pools_of}
-use Rattle.pud_defs.specs.Puts.{changed_at, with_pool_at, with_puddle_at, is_of_pool, without_pool_at}
+use Rattle.pud_defs.specs.Tables.{Tables, Pool, tables_of, member_of, members, puddles_of, named, pool_of, entries, pools_of}
+use Rattle.pud_defs.specs.Puts.{with_put, pool_put, puddle_put, member_by, changed_at, with_pool_at, with_puddle_at, is_of_pool, without_pool_at}
 use Rattle.pud_defs.proofs.Keyed.{HasDistinctKeys, HasDistinctKeys-keys, no_key, IsSetAt, is_free_for, alone_there, first_from_none_each, keyed-put, keyed-without, keyed-none}
+use Rattle.pud_defs.proofs.PutsMade.{pool_put_made, puddle_put_made}
 
 -- ---- a place that is changed
 
@@ -171,3 +175,9 @@ module _ (t : Tables) (slot frame : ℕ) (r : PoolRec) (m : Member) (h : IsMade 
         was = ap (is_free_for name_cmp r.name) (ap (entry_of (puddles_of t slot)) h.slot_free);
         alone = λ j low high other. entry_none j (first_from_none_each name_cmp r.name (named t) 0 POOL_RECORDS h.new_name j low high);
       })
+
+-- the words of both records make it of an image
+pub tables_of-made : (F : ℕ) (image : Image) (slot frame : ℕ) (r : PoolRec) (p : PuddleRec) → slot < POOL_RECORDS → IsHeld r → frame < F → p.pool + 1 < 2 ^ 32
+    → tables_of F (with_put (puddle_put frame p) (with_put (pool_put slot r) image)) ≡ made slot frame r (member_by p) (tables_of F image)
+tables_of-made F image slot frame r p slot_below held frame_below fits =
+    puddle_put_made F (with_put (pool_put slot r) image) frame p frame_below fits ∙ ap (with_puddle_at frame (Some (member_by p))) (pool_put_made F image slot slot_below r held)

@@ -12,8 +12,8 @@ use Rattle.pud_defs.specs.declared.records.PuddleRec.{PuddleRec}
 use Rattle.pud_defs.specs.declared.records.Put.{Put}
 use Rattle.pud_defs.specs.Image.{Image}
 use Rattle.pud_defs.specs.Layout.{tables_end}
-use Rattle.pud_defs.specs.Names.{name_by, is_legal_name}
-use Rattle.pud_defs.specs.Pools.{pool_record_at, pool_by, pool_at, owner_uid, owner_gid, owner_word, name_word, next_name_word}
+use Rattle.pud_defs.specs.Names.{IsName, name_by, is_legal_name}
+use Rattle.pud_defs.specs.Pools.{IsHeld, pool_record_at, pool_by, pool_at, owner_uid, owner_gid, owner_word, name_word, next_name_word}
 use Rattle.pud_defs.specs.Puddles.{Member, puddle_record_at, puddle_by, puddle_at, member_pool, member_ordinal, member_word}
 use Rattle.pud_defs.specs.Tables.{tables_of}
 use Rattle.pud_defs.specs.Puts.{with_put, pool_put, mode_put, free_pool_put, puddle_put, with_pool_at, with_puddle_at, with_mode, member_by}
@@ -43,11 +43,6 @@ sum_same f g (suc k) same = ap₂ (λ a b. a + b) (sum_same f g k (λ i h. same 
 
 first_eight : (name : List ℕ) → name_word name ≡ from_le_bytes w64 (take 8 name)
 first_eight name = sum_same (λ i. byte_worth i (get_or name i 0)) (λ i. byte_worth i (get_or (take 8 name) i 0)) 7 (λ i h. ap (byte_worth i) (sym (get_or-take 8 name i 0 (omega arith))))
-
--- 16 bytes
-pub record IsName (name : List ℕ) : Type 0 where
-  pub sixteen : length name ≡ 16
-  pub bytes : (i : ℕ) → get_or name i 0 < 256
 
 byte_of_front : (name : List ℕ) → IsName name → (i : ℕ) → get_or (take 8 name) i 0 < 256
 byte_of_front name h i = elim (cases_lt i 8) [
@@ -83,12 +78,6 @@ used_name name h legal empty =
     true≢false (sym legal ∙ ap is_legal_name (sym whole) ∙ zero_word_is_illegal (next_name_word name))
 
 -- ---- the record of a pool
-
--- its words hold it
-pub record IsHeld (r : PoolRec) : Type 0 where
-  pub name : IsName r.name
-  pub legal : is_legal_name r.name ≡ true
-  pub uid : r.uid < 2 ^ 32
 
 uid_of : (uid gid : ℕ) → uid < 2 ^ 32 → owner_uid (owner_word uid gid) ≡ uid
 uid_of uid gid h = omega arith

@@ -23,6 +23,10 @@ pub pools_below : (F : ℕ) (image : Image) (slot : ℕ) → slot < POOL_RECORDS
 unfolding tables_of
 pools_below F image slot below = cond-true (ltb slot POOL_RECORDS) (pool_at image slot) None (lt-ltb slot POOL_RECORDS below)
 
+pub pools_beyond : (F : ℕ) (image : Image) (slot : ℕ) → POOL_RECORDS ≤ slot → (tables_of F image).pools slot ≡ None
+unfolding tables_of
+pools_beyond F image slot beyond = cond-false (ltb slot POOL_RECORDS) (pool_at image slot) None (le-ltb slot POOL_RECORDS beyond)
+
 pub puddles_below : (F : ℕ) (image : Image) (frame : ℕ) → frame < F → (tables_of F image).puddles frame ≡ puddle_at image frame
 unfolding tables_of
 puddles_below F image frame below = cond-true (ltb frame F) (puddle_at image frame) None (lt-ltb frame F below)

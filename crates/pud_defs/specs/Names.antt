@@ -1,10 +1,15 @@
 -- The names of pools: 1 to 16 bytes, filled with zeros to 16, which two words hold.
-use Rattle.std.specs.Prelude.{ℕ, Bool, true, false, ◌&&◌, ◌||◌, nat_le, ◌==◌, List, [], ◌∷◌, ◌++◌}
+use Rattle.std.specs.Prelude.{◌≡◌, ℕ, ◌<◌, Bool, true, false, ◌&&◌, ◌||◌, nat_le, ◌==◌, List, [], ◌∷◌, ◌++◌, length, slice_index}
 use Rattle.std.specs.Ordering.{nat_cmp}
 use Rattle.std.specs.List.{list_all}
 use Rattle.std.specs.Int.{to_le_bytes, w64}
 use Rattle.std.specs.Cmp.Lexicographic.{slice_cmp}
 use Rattle.std.specs.declared.cmp.Ordering.{Ordering}
+
+-- 16 bytes
+pub record IsName (name : List ℕ) : Type 0 where
+  pub sixteen : length name ≡ 16
+  pub bytes : (i : ℕ) → slice_index name i < 256
 
 -- the 16 bytes that two words hold, lowest first
 unfoldable pub name_by : ℕ → ℕ → List ℕ

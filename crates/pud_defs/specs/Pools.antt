@@ -1,11 +1,11 @@
 -- The records of the pool table, as functions of their words.
-use Rattle.std.specs.Prelude.{ℕ, ◌+◌, ◌*◌, ◌/◌, ◌%◌, ◌^◌, Bool, ◌&&◌, nat_le, nat_lt, ◌==◌, cond, List, [], ◌∷◌, drop, Option, Some, None}
+use Rattle.std.specs.Prelude.{◌≡◌, ℕ, ◌+◌, ◌*◌, ◌/◌, ◌%◌, ◌^◌, ◌<◌, Bool, true, ◌&&◌, nat_le, nat_lt, ◌==◌, cond, List, [], ◌∷◌, drop, Option, Some, None}
 use Rattle.std.specs.Int.{from_le_bytes, w64}
 use Rattle.pud_defs.specs.declared.layout.TheConstants.{POOL_TABLE, MAX_OWNER_ID}
 use Rattle.pud_defs.specs.declared.records.TheConstants.{POOL_RECORD_WORDS, POOL_OWNER_WORD, POOL_MODE_WORD, POOL_NUMBER_WORD}
 use Rattle.pud_defs.specs.declared.records.PoolRec.{PoolRec}
 use Rattle.pud_defs.specs.Image.{Image}
-use Rattle.pud_defs.specs.Names.{name_by, is_legal_name}
+use Rattle.pud_defs.specs.Names.{IsName, name_by, is_legal_name}
 use Rattle.pud_defs.specs.Modes.{is_legal_mode}
 
 -- the parts of an owner word
@@ -42,6 +42,12 @@ next_name_word name = from_le_bytes w64 (drop 8 name)
 -- the words that spell a record
 abbrev pub pool_words : PoolRec → List ℕ
 pool_words r = name_word r.name ∷ next_name_word r.name ∷ owner_word r.uid r.gid ∷ r.mode ∷ r.number ∷ []
+
+-- a record that its words hold: it has a legal name, and its uid has its own half of a word
+pub record IsHeld (r : PoolRec) : Type 0 where
+  pub name : IsName r.name
+  pub legal : is_legal_name r.name ≡ true
+  pub uid : r.uid < 2 ^ 32
 
 -- a UUID number that was given out, where this one is the next
 abbrev pub is_given : (next number : ℕ) → Bool

@@ -1,0 +1,56 @@
+-- What adding a puddle answers, and what is read of a record.
+use Rattle.std.specs.Prelude.{◌≡◌, ℕ, ◌+◌, ◌-◌, ◌%◌, ◌^◌, ◌<◌, Bool, ◌&&◌, ◌==◌, Option, Some, None, Result, Ok, Err}
+use Rattle.pm_model.specs.declared.host.HostFault.{HostFault}
+use Rattle.pud_defs.specs.declared.records.TheConstants.{PUDDLE_NUMBER_WORD, PUDDLE_BASE_WORD, PUDDLE_OLD_BASE_WORD, PUDDLE_FRONTIER_WORD}
+use Rattle.pud_defs.specs.declared.records.Puddle.{Puddle}
+use Rattle.pud_defs.specs.declared.records.PuddleRec.{PuddleRec}
+use Rattle.pud_defs.specs.declared.records.Put.{Put}
+use Rattle.pud_defs.specs.Image.{Image}
+use Rattle.pud_defs.specs.Keyed.{first_free}
+use Rattle.pud_defs.specs.Puddles.{member_pool, member_ordinal, puddle_record_at}
+use Rattle.pud_defs.specs.Tables.{Tables}
+use Rattle.pud_defs.specs.Puts.{puddle_put, with_puddle_at, member_by}
+use Rattle.puddle_table.specs.declared.PuddleFault.{PuddleFault}
+use Rattle.puddle_table.specs.declared.PuddleFault.TheVariants as faults
+
+-- the host's fault that an addition answered
+abbrev pub fault_in : Result Put PuddleFault → Option HostFault
+fault_in (Ok put) = None
+fault_in (Err (faults.Host fault)) = Some fault
+fault_in (Err faults.NoSpace) = None
+
+-- what adding a record answers at the lowest free frame
+abbrev pub added_at : Option ℕ → PuddleRec → Result Put PuddleFault
+added_at (Some frame) r = Ok (puddle_put frame r)
+added_at None r = Err faults.NoSpace
+
+-- What adding a record from a frame on answers: the words of the lowest free one there, or none is free.
+abbrev pub added : Tables → ℕ → PuddleRec → Result Put PuddleFault
+added t from r = added_at (first_free t.puddles from (t.frames - from)) r
+
+-- A record is added in the lowest free frame from one on.
+pub record Adds (r : PuddleRec) (from : ℕ) (t u : Tables) : Type 0 where
+  pub frame : ℕ
+  pub lowest : first_free t.puddles from (t.frames - from) ≡ Some frame
+  pub is : u ≡ with_puddle_at frame (Some (member_by r)) t
+
+-- the member word names this ordinal of the pool of this slot
+abbrev pub is_member : (member slot ordinal : ℕ) → Bool
+is_member member slot ordinal = member_pool member == slot + 1 && member_ordinal member == ordinal
+
+-- what the words of a record say of a puddle, whether the record is used or not
+abbrev pub puddle_words_at : Image → ℕ → Puddle
+puddle_words_at image frame = record {
+  number = image (puddle_record_at frame + PUDDLE_NUMBER_WORD);
+  base = image (puddle_record_at frame + PUDDLE_BASE_WORD);
+  old_base = image (puddle_record_at frame + PUDDLE_OLD_BASE_WORD);
+  frontier = image (puddle_record_at frame + PUDDLE_FRONTIER_WORD);
+}
+
+-- the frontier of a record, as it is read into a number of 32 bits
+abbrev pub frontier_of : Image → ℕ → ℕ
+frontier_of image frame = image (puddle_record_at frame + PUDDLE_FRONTIER_WORD) % 2 ^ 32
+
+-- what was found is in one of so many frames
+abbrev pub IsFrame : ℕ → ℕ × PuddleRec → Type 0
+IsFrame F found = found.0 < F

@@ -1,0 +1,172 @@
+//! The puddle table: which frame has which puddle of which pool, at which base.
+//!
+//! The table has a record for each frame, and how many frames there are is given to the calls that go over all of them. A
+//! call that adds a record writes nothing: it answers the words that are to be a part of a batch.
+#![tactic(auto)]
+
+ghost use Rattle.std.specs.Prelude.{◌≡◌, ◌≢◌, ◌+◌, ◌-◌, ◌<◌, ◌≤◌, ℕ, Option, IfOk, IfSome};
+ghost use Rattle.pm_model.specs.Words.{reads};
+ghost use Rattle.pm_model.specs.Counts.{after_fault, fault_of};
+ghost use Rattle.pud_defs.specs.declared.layout.TheConstants.{MAX_FRAMES};
+ghost use Rattle.pud_defs.specs.declared.records.TheConstants.{POOL_RECORDS};
+ghost use Rattle.pud_defs.specs.Image.{Image};
+ghost use Rattle.pud_defs.specs.Layout.{tables_end};
+ghost use Rattle.pud_defs.specs.Keyed.{first_free};
+ghost use Rattle.pud_defs.specs.Puddles.{puddle_record_at, puddle_read};
+ghost use Rattle.pud_defs.specs.Tables.{tables_of, puddle_in};
+ghost use Rattle.pud_defs.specs.Puts.{puddle_put, with_put};
+ghost use Rattle.puddle_table.specs.Records.{fault_in, added, Adds, is_member, puddle_words_at, frontier_of, IsFrame};
+
+use pm_model::{Host, HostFault};
+use pud_defs::layout::{MAX_FRAMES, PUDDLE_RECORD_WORDS, PUDDLE_TABLE};
+use pud_defs::records::{
+    POOL_RECORDS, PUDDLE_BASE_WORD, PUDDLE_FRONTIER_WORD, PUDDLE_NUMBER_WORD, PUDDLE_OLD_BASE_WORD, PuddleRec, Put,
+    RECORD_WORDS_READ, member_ordinal, member_pool, member_word,
+};
+
+/// Why a puddle was not added. Nothing changed.
+#[derive(Clone, Copy, Debug, PartialEq, Eq, thiserror::Error)]
+pub enum PuddleFault {
+    /// No frame is free from the one on that was asked for.
+    #[error("no frame is free")]
+    NoSpace,
+    /// The host's own fault.
+    #[error("the host failed")]
+    Host(HostFault),
+}
+
+impl From<HostFault> for PuddleFault {
+    ghost use Rattle.puddle_table.specs.declared.PuddleFault.TheVariants.{Host};
+
+    ghost from_gives = { λ fault e. e ≡ Host fault };
+
+    fn from(fault: HostFault) -> Self {
+        PuddleFault::Host(fault)
+    }
+}
+
+/// The first word of the record of a frame.
+const fn record_at(frame: u32) -> u32
+    requires { frame < MAX_FRAMES }
+    ensures { result ≡ puddle_record_at frame }
+{
+    PUDDLE_TABLE + PUDDLE_RECORD_WORDS * frame
+}
+
+/// The lowest free frame from one on, of so many.
+fn lowest_free<H: Host>(h: &mut H, frames: u32, from: u32) -> Result<Option<u32>, HostFault>
+    requires few { frames ≤ MAX_FRAMES }
+    requires table { tables_end frames ≤ (H.counts h.old).size }
+    ensures lowest { H.tells → (image : Image) → reads (H.state h.old).now.words ≡ image
+        → IfOk result (λ frame. frame ≡ first_free (tables_of frames image).puddles from (frames - from)) }
+    ensures within { IfOk result (λ found. IfSome found (λ frame. frame < frames)) }
+    ensures stays { H.tells → H.state h.new ≡ H.state h.old }
+    ensures cause { H.counts h.new ≡ after_fault (fault_of result) (H.counts h.old) }
+    ensures never_cut { fault_of result ≢ Option.Some HostFault.Cut }
+{
+    for frame in from..frames {
+        let member = h.load(record_at(frame))?;
+        if member == 0 {
+            return Ok(Some(frame));
+        }
+    }
+    Ok(None)
+}
+
+/// The words of a record.
+fn record_put(frame: u32, rec: PuddleRec) -> Put
+    requires frame { frame < MAX_FRAMES }
+    requires pool { rec.pool < POOL_RECORDS }
+    ensures { result ≡ puddle_put frame rec }
+{
+    let member = member_word(rec.pool + 1, rec.ordinal);
+    let vals = [member, rec.number, rec.base, rec.old_base, u64::from(rec.frontier), 0, 0, 0];
+    Put { w: record_at(frame), n: RECORD_WORDS_READ as usize, vals }
+}
+
+/// The words that put the record into the lowest free frame at or above `from`, of so many frames.
+///
+/// The device has the puddle table of so many frames. `NoSpace` comes exactly where no such frame is free, where the host
+/// does not fail first. Nothing is written.
+pub fn add<H: Host>(h: &mut H, frames: u32, from: u32, rec: PuddleRec) -> Result<Put, PuddleFault>
+    requires few { frames ≤ MAX_FRAMES }
+    requires table { tables_end frames ≤ (H.counts h.old).size }
+    requires known { rec.pool < POOL_RECORDS }
+    ensures added { H.tells → (image : Image) → reads (H.state h.old).now.words ≡ image → fault_in result ≡ Option.None
+        → result ≡ added (tables_of frames image) from rec }
+    ensures changes { H.tells → (image : Image) → reads (H.state h.old).now.words ≡ image
+        → IfOk result (λ put. Adds rec from (tables_of frames image) (tables_of frames (with_put put image))) }
+    ensures stays { H.tells → H.state h.new ≡ H.state h.old }
+    ensures cause { H.counts h.new ≡ after_fault (fault_in result) (H.counts h.old) }
+    ensures never_cut { fault_in result ≢ Option.Some HostFault.Cut }
+{
+    match lowest_free(h, frames, from)? {
+        Some(frame) => Ok(record_put(frame, rec)),
+        None => Err(PuddleFault::NoSpace),
+    }
+}
+
+/// Whether the member word names this ordinal of the pool of this slot.
+fn names(member: u64, pool: u32, ordinal: u32) -> bool
+    requires { pool < POOL_RECORDS }
+    ensures { result ≡ is_member member pool ordinal }
+{
+    member_pool(member) == pool + 1 && member_ordinal(member) == ordinal
+}
+
+/// Reads the record of a frame as that of this ordinal of the pool of this slot.
+fn read_record<H: Host>(h: &mut H, frame: u32, pool: u32, ordinal: u32) -> Result<PuddleRec, HostFault>
+    requires known { frame < MAX_FRAMES }
+    requires table { puddle_record_at (frame + 1) ≤ (H.counts h.old).size }
+    ensures record { H.tells → (image : Image) → reads (H.state h.old).now.words ≡ image
+        → IfOk result (λ rec. rec ≡ puddle_read pool ordinal (puddle_words_at image frame)) }
+    ensures stays { H.tells → H.state h.new ≡ H.state h.old }
+    ensures cause { H.counts h.new ≡ after_fault (fault_of result) (H.counts h.old) }
+    ensures never_cut { fault_of result ≢ Option.Some HostFault.Cut }
+{
+    let at = record_at(frame);
+    let number = h.load(at + PUDDLE_NUMBER_WORD)?;
+    let base = h.load(at + PUDDLE_BASE_WORD)?;
+    let old_base = h.load(at + PUDDLE_OLD_BASE_WORD)?;
+    let frontier = h.load(at + PUDDLE_FRONTIER_WORD)?;
+    Ok(PuddleRec { pool, ordinal, number, base, old_base, frontier: (frontier % (1 << 32)) as u32 })
+}
+
+/// The frame and the record of a pool's puddle by its ordinal, of so many frames, or None exactly where no used record has
+/// the pool and the ordinal. Of several the lowest frame counts.
+///
+/// The device has the puddle table of so many frames. The only errors are the host's own.
+pub fn of_pool<H: Host>(h: &mut H, frames: u32, pool: u32, ordinal: u32) -> Result<Option<(u32, PuddleRec)>, HostFault>
+    requires few { frames ≤ MAX_FRAMES }
+    requires table { tables_end frames ≤ (H.counts h.old).size }
+    requires known { pool < POOL_RECORDS }
+    ensures found { H.tells → (image : Image) → reads (H.state h.old).now.words ≡ image
+        → IfOk result (λ found. found ≡ puddle_in (tables_of frames image) pool ordinal) }
+    ensures within { IfOk result (λ found. IfSome found (IsFrame frames)) }
+    ensures stays { H.tells → H.state h.new ≡ H.state h.old }
+    ensures cause { H.counts h.new ≡ after_fault (fault_of result) (H.counts h.old) }
+    ensures never_cut { fault_of result ≢ Option.Some HostFault.Cut }
+{
+    for frame in 0..frames {
+        let member = h.load(record_at(frame))?;
+        if names(member, pool, ordinal) {
+            return Ok(Some((frame, read_record(h, frame, pool, ordinal)?)));
+        }
+    }
+    Ok(None)
+}
+
+/// How many steps of the puddle of a frame are rewritten.
+///
+/// The device has the frame's record. The only errors are the host's own.
+pub fn frontier<H: Host>(h: &mut H, frame: u32) -> Result<u32, HostFault>
+    requires known { frame < MAX_FRAMES }
+    requires table { puddle_record_at (frame + 1) ≤ (H.counts h.old).size }
+    ensures frontier { H.tells → (image : Image) → reads (H.state h.old).now.words ≡ image → IfOk result (λ steps. steps ≡ frontier_of image frame) }
+    ensures stays { H.tells → H.state h.new ≡ H.state h.old }
+    ensures cause { H.counts h.new ≡ after_fault (fault_of result) (H.counts h.old) }
+    ensures never_cut { fault_of result ≢ Option.Some HostFault.Cut }
+{
+    let steps = h.load(record_at(frame) + PUDDLE_FRONTIER_WORD)?;
+    Ok((steps % (1 << 32)) as u32)
+}
