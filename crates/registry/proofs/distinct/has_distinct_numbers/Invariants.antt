@@ -6,7 +6,8 @@ use Rattle.pud_defs.specs.Image.{Image}
 use Rattle.pud_defs.specs.Replay.{settled_by}
 use Rattle.pud_defs.specs.Tables.{tables_of}
 use Rattle.registry.specs.Overlaying.{IsOverlay}
-use Rattle.registry.specs.Distinct.{number_of, numbers_from}
+use Rattle.registry.specs.Distinct.{number_of}
+use Rattle.registry.proofs.Numbers.{numbers_from}
 use Rattle.registry.proofs.distinct.has_distinct_numbers.Given as goal
 
 abbrev pub invariant-loop-done : goal.invariant-loop-done
