@@ -1,5 +1,5 @@
 -- The marks of the places that puddles have, and what they say of legal records.
-use Rattle.std.proofs.Common.{◌≡◌, inl, inr, ◌↔◌, ℕ, zero, suc, ◌+◌, ◌-◌, ◌*◌, ◌<◌, ◌≤◌, Bool, true, false, not, ◌&&◌, ◌||◌, cond, eqb, List, [], length, get_or, Option, Some, None, is_some, is_none, refl, sym, ap, ap₂, subst, ◌∙◌, arith, add-one, eq-eqb, ne_eqb, get_or-set_same, get_or-set_other}
+use Rattle.std.proofs.Common.{◌≡◌, inl, inr, ◌↔◌, ℕ, zero, suc, ◌+◌, ◌-◌, ◌*◌, ◌<◌, ◌≤◌, Bool, true, false, not, ◌&&◌, ◌||◌, cond, eqb, List, length, get_or, Option, Some, None, is_some, is_none, refl, sym, ap, ap₂, subst, ◌∙◌, arith, add-one, eq-eqb, ne_eqb, get_or-set_same, get_or-set_other}
 use Rattle.std.specs.Prelude.{option_map, slice_set, replicate}
 use Rattle.std.specs.List.{IsDistinct}
 use Rattle.std.specs.Ordering.{nat_cmp}
@@ -19,8 +19,8 @@ use Rattle.pud_defs.proofs.DistinctKeys.{some_or, some_under, none_by_some, IsTo
 use Rattle.soundness.specs.declared.distinct.Key.{Key}
 use Rattle.soundness.specs.declared.distinct.Key.TheVariants.{Base, OldBase}
 use Rattle.soundness.specs.declared.distinct.TheConstants.{OLD_BASES, PLACES}
-use Rattle.soundness.specs.Distinct.{joined, word_of, number_by, number_of, place_of, by_number, numbers_from, has_distinct_numbers, is_apart_from, with_mark, MarksMore, IsMarked, AreMarked, mark_of, counts_up, is_counted_by, are_distinct_puddles}
-use Rattle.soundness.proofs.Numbers.{told_by_places, told_by_bases, place_below, all_numbers, decided_by_list}
+use Rattle.soundness.specs.Distinct.{joined, word_of, number_by, number_of, place_of, by_number, has_distinct_numbers, is_apart_from, with_mark, MarksMore, IsMarked, AreMarked, mark_of, counts_up, is_counted_by, are_distinct_puddles}
+use Rattle.soundness.proofs.Numbers.{told_by_places, told_by_bases, place_below, numbers_from, all_numbers, decided_by_list}
 
 -- ---- one record
 

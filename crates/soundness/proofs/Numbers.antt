@@ -1,5 +1,5 @@
 -- The numbers of used records: in a list that a sort decides, and as marks.
-use Rattle.std.proofs.Common.{◌≡◌, ◌↔◌, ℕ, zero, suc, ◌+◌, ◌-◌, ◌*◌, ◌^◌, ◌<◌, ◌≤◌, Bool, true, false, not, ◌&&◌, ◌||◌, eqb, List, [], ◌∷◌, length, get_or, Option, Some, None, is_some, refl, sym, ap, ap₂, subst, ◌∙◌, arith, add-one, eq-eqb}
+use Rattle.std.proofs.Common.{◌≡◌, ◌↔◌, ℕ, zero, suc, ◌+◌, ◌-◌, ◌*◌, ◌<◌, ◌≤◌, Bool, true, false, ◌&&◌, ◌||◌, eqb, List, [], ◌∷◌, length, get_or, Option, Some, None, is_some, refl, sym, ap, ap₂, subst, ◌∙◌, arith, add-one, eq-eqb}
 use Rattle.std.specs.Prelude.{option_map}
 use Rattle.std.specs.Option.{option_or}
 use Rattle.std.specs.Ordering.{nat_cmp}
@@ -14,7 +14,7 @@ use Rattle.pud_defs.specs.Keyed.{under, first_from, is_apart, are_distinct}
 use Rattle.pud_defs.specs.Puddles.{Member}
 use Rattle.pud_defs.proofs.DistinctKeys.{same_tests, none_by_some, some_or, some_under}
 use Rattle.soundness.specs.declared.distinct.TheConstants.{POOL_NUMBERS, OLD_BASES, PLACES}
-use Rattle.soundness.specs.Distinct.{joined, place_of, with_number, numbers_from}
+use Rattle.soundness.specs.Distinct.{joined, place_of, with_number}
 
 -- ---- two numbers in one
 
@@ -43,6 +43,11 @@ pub place_below : (m : Member) → place_of m < PLACES
 place_below m = omega arith
 
 -- ---- the list of the numbers
+
+-- the numbers of the used records among so many, from a frame on
+unfoldable pub numbers_from : (ℕ → Option ℕ) → (from count : ℕ) → List ℕ
+numbers_from at from zero = []
+numbers_from at from (suc count) = with_number (at from) (numbers_from at (from + 1) count)
 
 pub no_numbers : (at : ℕ → Option ℕ) (from : ℕ) → numbers_from at from 0 ≡ []
 unfolding numbers_from

@@ -1,5 +1,5 @@
 -- What tells the puddles of a device apart: numbers of used records, and where a pool's ordinals are marked.
-use Rattle.std.specs.Prelude.{◌≡◌, ℕ, zero, suc, ◌+◌, ◌*◌, ◌%◌, ◌<◌, Bool, true, false, not, ◌&&◌, ◌||◌, List, [], ◌∷◌, Option, Some, None, option_map, is_some, is_none, slice_index_or, slice_set}
+use Rattle.std.specs.Prelude.{◌≡◌, ℕ, ◌+◌, ◌*◌, ◌%◌, ◌<◌, Bool, true, false, not, ◌&&◌, ◌||◌, List, ◌∷◌, Option, Some, None, option_map, is_some, is_none, slice_index_or, slice_set}
 use Rattle.std.specs.Ordering.{nat_cmp}
 use Rattle.pud_defs.specs.Keyed.{first_from, are_distinct}
 use Rattle.pud_defs.specs.Puddles.{Member}
@@ -46,11 +46,6 @@ has_distinct_numbers number t = are_distinct nat_cmp (by_number number t) 0 t.fr
 abbrev pub with_number : Option ℕ → List ℕ → List ℕ
 with_number None numbers = numbers
 with_number (Some n) numbers = n ∷ numbers
-
--- the numbers of the used records among so many, from a frame on
-unfoldable pub numbers_from : (ℕ → Option ℕ) → (from count : ℕ) → List ℕ
-numbers_from at from zero = []
-numbers_from at from (suc count) = with_number (at from) (numbers_from at (from + 1) count)
 
 -- ---- marks of places
 

@@ -6,7 +6,8 @@ use Rattle.pud_defs.specs.Image.{Image}
 use Rattle.pud_defs.specs.Replay.{settled_by}
 use Rattle.pud_defs.specs.Tables.{tables_of}
 use Rattle.soundness.specs.Overlaying.{IsOverlay}
-use Rattle.soundness.specs.Distinct.{number_of, numbers_from}
+use Rattle.soundness.specs.Distinct.{number_of}
+use Rattle.soundness.proofs.Numbers.{numbers_from}
 use Rattle.soundness.proofs.distinct.has_distinct_numbers.Given as goal
 
 abbrev pub invariant-loop-done : goal.invariant-loop-done
