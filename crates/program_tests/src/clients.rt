@@ -1,5 +1,5 @@
 //! All lines, with their refusals, held against the machine that they move: with no cut, and cut at each step.
-use crate::program::{EVERY_OTHER, NEWEST, OLDEST, RUN, Seen, blank, status_of};
+use crate::program::{EVERY_OTHER, NEWEST, OLDEST, RUN, Seen, blank, run_on_blank, status_of};
 use pm_model::Host;
 use puddle_cli::{DONE, POWER_LOST};
 use std::alloc::Global;
@@ -236,21 +236,11 @@ fn all_lines_cut_at_each_step_with_every_other_newest_value(rt: HostRuntime) {
     cut_at_each_step(&rt, rt.alloc(), EVERY_OTHER);
 }
 
-/// A run over all lines with power lost at this step says what it says without, or something else.
-fn says(rt: &impl Abort, alloc: Global, step: u32, is_whole: bool) {
-    let mut host = blank(rt, alloc, SCRIPT, &[(step, OLDEST)]);
-    assert!(rt;
-        status_of(rt, alloc, &mut host, &RUN) == DONE,
-        "step {step}"
-    );
-    assert!(rt;
-        (host.heard() == SAID.as_bytes()) == is_whole,
-        "step {step}"
-    );
-}
-
 #[test]
 fn a_run_over_all_lines_takes_its_steps(rt: HostRuntime) {
-    says(&rt, rt.alloc(), ALL_STEPS, false);
-    says(&rt, rt.alloc(), ALL_STEPS + 1, true);
+    for (step, is_whole) in [(ALL_STEPS, false), (ALL_STEPS + 1, true)] {
+        let losses = [(step, OLDEST)];
+        let found = run_on_blank(&rt, rt.alloc(), (SCRIPT, &losses), SAID);
+        assert!(rt; found == (DONE, is_whole), "step {step}");
+    }
 }

@@ -1,7 +1,7 @@
 //! A first definition of a type, with power lost or a call failing somewhere in the run.
 use crate::program::{
     EVERY_OTHER, End, NEWEST, OLDEST, RUN, START_STEPS, Seen, blank, blank_failing, end_of,
-    has_words, status_of,
+    has_words, run_on_blank, status_of,
 };
 use pm_model::Host;
 use puddle_cli::{DEVICE_FAULT, DONE, POWER_LOST};
@@ -71,7 +71,7 @@ fn ends_so(
 ) {
     let mut host = blank(rt, alloc, "type 1 2 1\n", losses);
     let found = define(rt, alloc, &mut host, POWER_LOST, pick);
-    assert!(rt; found == wanted, "{losses:?}");
+    assert!(rt; found == wanted);
 }
 
 #[test]
@@ -118,11 +118,13 @@ fn a_definition_whose_restart_is_cut_is_there_or_not(rt: HostRuntime) {
     }
 }
 
-/// Runs both definitions, with power lost at this step, which says this.
+/// Runs both definitions to the end, with power lost at this step, which says this.
 fn define_both(rt: &impl Abort, alloc: Global, loss: (u32, u64), said: &str) {
-    let mut host = blank(rt, alloc, "type 1 2 1\ntype 1 2 0\n", &[loss]);
-    assert!(rt; status_of(rt, alloc, &mut host, &RUN) == DONE, "{loss:?}");
-    assert!(rt; host.heard() == said.as_bytes(), "{loss:?}");
+    let both = "type 1 2 1\ntype 1 2 0\n";
+    assert!(rt;
+        run_on_blank(rt, alloc, (both, &[loss]), said) == (DONE, true),
+        "{said}"
+    );
 }
 
 #[test]

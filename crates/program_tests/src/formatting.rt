@@ -1,6 +1,6 @@
 //! A device is formatted, with other words on it before, and with power lost or a call failing somewhere.
 use crate::program::{FORMAT, NEWEST, OLDEST, RUN, Seen, WORDS, status_of};
-use pm_mem::{MemHost, Plan};
+use pm_mem::Plan;
 use pm_model::Host;
 use pud_defs::layout::DEVICE_MAGIC;
 use puddle_cli::{DEVICE_FAULT, DONE, NOT_USABLE, POWER_LOST};
@@ -30,10 +30,15 @@ fn formatted(at: u32) -> u64 {
     }
 }
 
-/// Formats the device, and loses power where each word has its durable value.
-fn format<H: Host>(rt: &impl Abort, alloc: Global, host: &mut H) {
+/// Formats the device, and loses power where each word has its durable value. Each word is as formatting leaves it then.
+fn format_noisy<H: Host>(rt: &impl Abort, alloc: Global, host: &mut H) {
     assert!(rt; status_of(rt, alloc, host, &FORMAT) == DONE);
     host.cut(OLDEST);
+    assert!(rt; formatted(1_568) == 0 && formatted(34_336) == 1_034_336);
+    for at in 0..WORDS {
+        assert!(rt; at < host.words());
+        assert!(rt; host.load(at) == Ok(formatted(at)), "word {at}");
+    }
 }
 
 // Word 1,568 is the first of a client's log, and word 34,336 the first of the frames.
@@ -44,12 +49,7 @@ fn formatting_clears_the_tables_and_the_logs_and_leaves_the_frames(rt: HostRunti
     for at in 0..WORDS {
         assert!(rt; poke(&mut host, &[(at, noise(at))]));
     }
-    format(&rt, rt.alloc(), &mut host);
-    let words = host.read_back(rt.alloc()).expect(&rt, "memory");
-    assert!(rt; words.get(1_568) == Some(&0) && words.get(34_336) == Some(&1_034_336));
-    for (word, at) in words.iter().zip(0..WORDS) {
-        assert!(rt; *word == formatted(at), "word {at}");
-    }
+    format_noisy(&rt, rt.alloc(), &mut host);
 }
 
 /// Formats a device with old words under this plan. Whatever comes, a power loss leaves it not sound or blank. The answer
@@ -77,18 +77,17 @@ fn format_under<S: Seen>(
     (is_done, is_whole)
 }
 
-/// A device with old words by this plan.
-fn old(rt: &impl Abort, alloc: Global, plan: Plan) -> MemHost {
+/// Formats a device with old words by this plan. The answer is the same.
+fn format_old(rt: &impl Abort, alloc: Global, plan: Plan, fault: u8, pick: u64) -> (bool, bool) {
     let mut host = zero_device(alloc, WORDS, b"", plan).expect(rt, "memory");
     assert!(rt; poke(&mut host, &[(64, 9), (1_216, 5)]));
-    host
+    format_under(rt, alloc, &mut host, fault, pick)
 }
 
 /// Formatting that is cut at this step: it is done behind its steps, and the device is a blank one from this step on.
 fn cut_so(rt: &impl Abort, alloc: Global, step: u32, pick: u64, whole_from: u32) {
     let plan = cuts(alloc, &[(step, pick)]).expect(rt, "memory");
-    let mut host = old(rt, alloc, plan);
-    let found = format_under(rt, alloc, &mut host, POWER_LOST, pick);
+    let found = format_old(rt, alloc, plan, POWER_LOST, pick);
     assert!(rt;
         found == (step > FORMAT_STEPS, step >= whole_from),
         "step {step}"
@@ -112,8 +111,7 @@ fn formatting_cut_at_a_step_leaves_no_device_or_a_blank_one(rt: HostRuntime) {
 /// Formatting with this call failing. A load comes before the steps, and behind them comes the text.
 fn fail_so(rt: &impl Abort, alloc: Global, call: u32, pick: u64, whole_from: u32) {
     let plan = failures(alloc, &[call]).expect(rt, "memory");
-    let mut host = old(rt, alloc, plan);
-    let found = format_under(rt, alloc, &mut host, DEVICE_FAULT, pick);
+    let found = format_old(rt, alloc, plan, DEVICE_FAULT, pick);
     assert!(rt;
         found == (call > FORMAT_STEPS + 2, call >= whole_from),
         "call {call}"

@@ -77,6 +77,19 @@ pub fn blank_failing(rt: &impl Abort, alloc: Global, script: &str, call: u32) ->
     blank_device(alloc, script.as_bytes(), plan).expect(rt, "memory")
 }
 
+/// Runs a script on a device that is blank, with power lost at these steps. The answer is the status, and whether this was
+/// said.
+pub fn run_on_blank(
+    rt: &impl Abort,
+    alloc: Global,
+    (script, losses): (&str, &[(u32, u64)]),
+    said: &str,
+) -> (u8, bool) {
+    let mut host = blank(rt, alloc, script, losses);
+    let status = status_of(rt, alloc, &mut host, &RUN);
+    (status, host.heard() == said.as_bytes())
+}
+
 /// These words have to have these newest values.
 pub fn has_words<S: Seen>(rt: &impl Abort, alloc: Global, host: &S, rows: &[(u32, u64)]) {
     for (at, want) in rows {

@@ -1,5 +1,5 @@
 //! Scripts, with the replies that they are answered by on a blank device.
-use crate::program::{RUN, Seen, blank, status_of};
+use crate::program::run_on_blank;
 use pud_defs::layout::SCRIPT_LIMIT;
 use puddle_cli::{DONE, POWER_LOST, TOO_LONG};
 use std::alloc::Global;
@@ -8,9 +8,8 @@ use std::process::Abort;
 /// Runs each script on a blank device of its own. It has to end with this status and to have said this.
 fn end_with(rt: &impl Abort, alloc: Global, rows: &[(&str, u8, &str)]) {
     for (script, status, said) in rows {
-        let mut host = blank(rt, alloc, script, &[]);
-        assert!(rt; status_of(rt, alloc, &mut host, &RUN) == *status, "{said}");
-        assert!(rt; host.heard() == said.as_bytes(), "{said}");
+        let found = run_on_blank(rt, alloc, (script, &[]), said);
+        assert!(rt; found == (*status, true), "{said}");
     }
 }
 
