@@ -2,7 +2,7 @@ use Rattle.std.proofs.Common.{Option, ℕ, sym, ap, ◌∙◌}
 use Rattle.std.specs.Option.{option_or}
 use Rattle.std.proofs.lemmas.Bool.{cond-true, eq-eqb}
 use Rattle.pud_defs.specs.declared.log_words.TheConstants.{UNDO_ORDER, REDO_ORDER}
-use Rattle.registry.proofs.overlay.Given.with.Goals as goal
+use Rattle.soundness.proofs.overlay.Given.with.Goals as goal
 
 -- an undo entry gives where none before it did
 pub returns-then-order-eq-UNDO_ORDER-clause-undo : goal.returns-then-order-eq-UNDO_ORDER-clause-undo
