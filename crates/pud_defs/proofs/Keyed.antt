@@ -1,8 +1,8 @@
 -- Laws of tables that are read by their keys: look-up, and what a change of one record changes.
-use Rattle.std.proofs.Common.{◌≡◌, ◌⊎◌, inl, inr, ℕ, zero, suc, ◌+◌, ◌-◌, ◌<◌, ◌≤◌, Bool, true, false, not, cond, ◌&&◌, T, List, [], ◌∷◌, length, Option, Some, None, is_some, is_none, option_map, refl, sym, ap, ap₂, ◌∙◌, subst, ⊎_elim, arith, add-one, zero-le, true≢false}
+use Rattle.std.proofs.Common.{◌≡◌, ◌⊎◌, inl, inr, ℕ, zero, suc, ◌+◌, ◌-◌, ◌<◌, ◌≤◌, Bool, true, false, not, cond, T, List, [], length, Option, Some, None, is_some, is_none, option_map, refl, sym, ap, ap₂, ◌∙◌, arith, add-one, zero-le, true≢false}
 use Rattle.std.specs.declared.cmp.Ordering.{Ordering}
 use Rattle.std.specs.declared.cmp.Ordering.TheVariants.{Less, Equal, Greater}
-use Rattle.std.specs.Ordering.{is_eq, eq_by_cmp, ordering_reverse}
+use Rattle.std.specs.Ordering.{is_eq, eq_by_cmp}
 use Rattle.std.specs.Cmp.{IsTotalOrder, Equal-is, alike_right, tied_back, tied_itself}
 use Rattle.std.specs.Option.{option_or}
 use Rattle.std.specs.FinMap.Entries.{put, find, is_sorted, find-put, is_sorted-put, find-where_key, is_sorted-where_key, length-put, same_entries}
@@ -133,13 +133,15 @@ module _ {K X : Type 0} (R : K → K → Ordering) where
         let found = first_from_some q at (from + 1) count x later.1 in
         let first = found.1 in
         let low = first.low in
-        let high = first.high in
-        (found.0, record {
-          low = omega arith;
-          high = omega arith;
-          here = first.here;
-          before = λ j l h. elim (cases_eq j from) [ inl s ↦ ap (λ n. under R q (at n)) s ∙ later.0 | inr other ↦ first.before j (omega arith) h ];
-        })
+        let high = first.high in (
+          found.0,
+          record {
+            low = omega arith;
+            high = omega arith;
+            here = first.here;
+            before = λ j l h. elim (cases_eq j from) [ inl s ↦ ap (λ n. under R q (at n)) s ∙ later.0 | inr other ↦ first.before j (omega arith) h ];
+          },
+        )
   ]
 
   -- ---- what the laws speak of
@@ -173,10 +175,12 @@ module _ {K X : Type 0} (R : K → K → Ordering) where
   distinct_keys at from (suc count) h =
       let parts = and_parts (is_apart R (at from) at (from + 1) count) (are_distinct R at (from + 1) count) h in
       let later = distinct_keys at (from + 1) count parts.1 in
-      record { apart = λ i j low less high e is. elim (cases_eq i from) [
-        | inl s ↦ first_from_none_each e.0 at (from + 1) count (apart_of (at from) at (from + 1) count parts.0 e (sym (ap at s) ∙ is)) j (omega arith) (omega arith)
-        | inr other ↦ later.apart i j (omega arith) less (omega arith) e is
-      ] }
+      record {
+        apart = λ i j low less high e is. elim (cases_eq i from) [
+          | inl s ↦ first_from_none_each e.0 at (from + 1) count (apart_of (at from) at (from + 1) count parts.0 e (sym (ap at s) ∙ is)) j (omega arith) (omega arith)
+          | inr other ↦ later.apart i j (omega arith) less (omega arith) e is
+        ];
+      }
 
   apart_from : (first : Option (K × X)) (at : ℕ → Option (K × X)) (from count : ℕ) → ((e : K × X) → first ≡ Some e → first_from R e.0 at from count ≡ None) → is_apart R first at from count ≡ true
   apart_from None at from count h = refl
@@ -192,20 +196,24 @@ module _ {K X : Type 0} (R : K → K → Ordering) where
 
   -- fewer records have distinct keys too
   pub HasDistinctKeys-fewer : (f g : ℕ → Option (K × X)) (from count : ℕ) → ((j : ℕ) → from ≤ j → j < from + count → (g j ≡ f j) ⊎ (g j ≡ None)) → HasDistinctKeys f from count → HasDistinctKeys g from count
-  HasDistinctKeys-fewer f g from count fewer h = record { apart = λ i j low less high e is. elim (fewer i low (omega arith)) [
-    | inr none ↦ absurd (none-some e (sym none ∙ is))
-    | inl kept ↦ elim (fewer j (omega arith) high) [
-      | inr none ↦ ap (under R e.0) none
-      | inl same ↦ ap (under R e.0) same ∙ h.apart i j low less high e (sym kept ∙ is)
-    ]
-  ] }
+  HasDistinctKeys-fewer f g from count fewer h = record {
+    apart = λ i j low less high e is. elim (fewer i low (omega arith)) [
+      | inr none ↦ absurd (none-some e (sym none ∙ is))
+      | inl kept ↦ elim (fewer j (omega arith) high) [
+        | inr none ↦ ap (under R e.0) none
+        | inl same ↦ ap (under R e.0) same ∙ h.apart i j low less high e (sym kept ∙ is)
+      ]
+    ];
+  }
 
   -- one record alone has a key of its own
   pub HasDistinctKeys-one : (at : ℕ → Option (K × X)) (from count i : ℕ) → ((j : ℕ) → from ≤ j → j < from + count → (j ≡ i → ⊥) → at j ≡ None) → HasDistinctKeys at from count
-  HasDistinctKeys-one at from count i none = record { apart = λ a b low less high e is. elim (cases_eq b i) [
-    | inl here ↦ absurd (none-some e (sym (none a low (omega arith) (λ s. absurd (omega arith))) ∙ is))
-    | inr other ↦ ap (under R e.0) (none b (omega arith) high other)
-  ] }
+  HasDistinctKeys-one at from count i none = record {
+    apart = λ a b low less high e is. elim (cases_eq b i) [
+      | inl here ↦ absurd (none-some e (sym (none a low (omega arith) (λ s. absurd (omega arith))) ∙ is))
+      | inr other ↦ ap (under R e.0) (none b (omega arith) high other)
+    ];
+  }
 
   -- ---- with the order of the keys
 
@@ -334,18 +342,20 @@ module _ {K X : Type 0} (R : K → K → Ordering) where
     pub HasDistinctKeys-set : (f g : ℕ → Option (K × X)) (from count i : ℕ) (k : K) (now : Option X) → IsSetAt f g from count i k now → HasDistinctKeys f from count → HasDistinctKeys g from count
     HasDistinctKeys-set f g from count i k None h d =
         HasDistinctKeys-fewer f g from count (λ j low high. elim (cases_eq j i) [ inl e ↦ inr (ap g e ∙ h.is) | inr other ↦ inl (h.others j other) ]) d
-    HasDistinctKeys-set f g from count i k (Some v) h d = record { apart = λ a b low less high e is. elim (cases_eq a i) [
-      | inl s ↦
-          let key = same_key k v e (sym h.is ∙ ap g (sym s) ∙ is) in
-          let other : b ≡ i → ⊥ = λ t. absurd (omega arith) in
-          ap (under R e.0) (h.others b other) ∙ ap (λ (x : K). under R x (f b)) (sym key) ∙ h.alone b (omega arith) high other
-      | inr first ↦ elim (cases_eq b i) [
+    HasDistinctKeys-set f g from count i k (Some v) h d = record {
+      apart = λ a b low less high e is. elim (cases_eq a i) [
         | inl s ↦
-            let kept = sym (h.others a first) ∙ is in
-            ap (λ n. under R e.0 (g n)) s ∙ ap (under R e.0) h.is ∙ under_apart e.0 (k, v) (turned_apart o k e.0 (under_none k e (sym (ap (under R k) kept) ∙ h.alone a low (omega arith) first)))
-        | inr second ↦ ap (under R e.0) (h.others b second) ∙ d.apart a b low less high e (sym (h.others a first) ∙ is)
-      ]
-    ] }
+            let key = same_key k v e (sym h.is ∙ ap g (sym s) ∙ is) in
+            let other : b ≡ i → ⊥ = λ t. absurd (omega arith) in
+            ap (under R e.0) (h.others b other) ∙ ap (λ (x : K). under R x (f b)) (sym key) ∙ h.alone b (omega arith) high other
+        | inr first ↦ elim (cases_eq b i) [
+          | inl s ↦
+              let kept = sym (h.others a first) ∙ is in
+              ap (λ n. under R e.0 (g n)) s ∙ ap (under R e.0) h.is ∙ under_apart e.0 (k, v) (turned_apart o k e.0 (under_none k e (sym (ap (under R k) kept) ∙ h.alone a low (omega arith) first)))
+          | inr second ↦ ap (under R e.0) (h.others b second) ∙ d.apart a b low less high e (sym (h.others a first) ∙ is)
+        ]
+      ];
+    }
 
 -- ---- tables that have the same keys, or the same records
 
@@ -360,16 +370,17 @@ no_key R q (Some e) (Some d) same none = under_apart R q d (ap (eq_by_cmp R q) (
 
 pub HasDistinctKeys-keys : {K X Y : Type 0} (R : K → K → Ordering) (f : ℕ → Option (K × X)) (g : ℕ → Option (K × Y)) (from count : ℕ) → ((j : ℕ) → option_map (λ (p : K × X). p.0) (f j) ≡ option_map (λ (p : K × Y). p.0) (g j))
     → HasDistinctKeys R f from count → HasDistinctKeys R g from count
-HasDistinctKeys-keys R f g from count same h = record { apart = λ i j low less high d is.
-    let there = key_there (f i) d (same i ∙ ap (option_map (λ p. p.0)) is) in
-    no_key R d.0 (f j) (g j) (same j) (ap (λ k. under R k (f j)) (sym there.1.1) ∙ h.apart i j low less high there.0 there.1.0) }
+HasDistinctKeys-keys R f g from count same h = record {
+  apart = λ i j low less high d is.
+      let there = key_there (f i) d (same i ∙ ap (option_map (λ p. p.0)) is) in
+      no_key R d.0 (f j) (g j) (same j) (ap (λ k. under R k (f j)) (sym there.1.1) ∙ h.apart i j low less high there.0 there.1.0);
+}
 
 pub keyed-none : {K X : Type 0} (R : K → K → Ordering) (at : ℕ → Option (K × X)) (from count : ℕ) → ((j : ℕ) → from ≤ j → j < from + count → at j ≡ None) → keyed R at from count ≡ []
 unfolding keyed
 keyed-none R at from zero none = refl
 keyed-none R at from (suc count) none =
     ap₂ (put_entry R) (none from (omega arith) (omega arith)) (keyed-none R at (from + 1) count (λ j low high. none j (omega arith) (omega arith)))
-
 
 pub keyed-same : {K X : Type 0} (R : K → K → Ordering) (f g : ℕ → Option (K × X)) (from count : ℕ) → ((j : ℕ) → from ≤ j → j < from + count → f j ≡ g j) → keyed R f from count ≡ keyed R g from count
 unfolding keyed

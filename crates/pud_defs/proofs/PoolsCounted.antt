@@ -1,5 +1,5 @@
 -- How many pools there are, how many puddles each has, and how many all have together.
-use Rattle.std.proofs.Common.{◌≡◌, ◌⊎◌, inl, inr, ℕ, zero, suc, ◌+◌, ◌-◌, ◌<◌, ◌≤◌, Bool, true, false, not, cond, ◌&&◌, ◌||◌, leb, ltb, eqb, T, List, [], ◌∷◌, length, sum_by, Option, Some, None, nat_cmp, is_some, is_none, option_map, refl, sym, ap, ap₂, ◌∙◌, arith, ne_eqb, eq-eqb, true≢false, add-zero, zero-add, add_assoc, add-one}
+use Rattle.std.proofs.Common.{◌≡◌, inl, inr, ℕ, zero, suc, ◌+◌, ◌-◌, ◌<◌, ◌≤◌, Bool, true, false, not, cond, ◌&&◌, ◌||◌, leb, ltb, eqb, List, [], ◌∷◌, length, sum_by, Option, Some, None, nat_cmp, is_some, is_none, refl, sym, ap, ap₂, ◌∙◌, arith, ne_eqb, eq-eqb, true≢false, zero-add}
 use Rattle.std.specs.declared.cmp.Ordering.{Ordering}
 use Rattle.std.specs.declared.cmp.Ordering.TheVariants.{Less, Equal, Greater}
 use Rattle.std.specs.Ordering.{is_eq}
@@ -14,10 +14,10 @@ use Rattle.pud_defs.specs.declared.records.TheConstants.{POOL_RECORDS, MAX_PUDDL
 use Rattle.pud_defs.specs.declared.records.PoolRec.{PoolRec}
 use Rattle.pud_defs.specs.declared.records.Puddle.{Puddle}
 use Rattle.pud_defs.specs.Names.{name_cmp}
-use Rattle.pud_defs.specs.Keyed.{put_entry, keyed, first_from, count_used}
+use Rattle.pud_defs.specs.Keyed.{put_entry, keyed, count_used}
 use Rattle.pud_defs.specs.Puddles.{Member, is_legal_puddle}
 use Rattle.pud_defs.specs.Tables.{Tables, Pool, member_of, members, puddles_of, pool_of, entries, pools_of}
-use Rattle.pud_defs.specs.SoundTables.{is_pool, is_sound_puddle, are_counted, count_up, HasSoundTables}
+use Rattle.pud_defs.specs.SoundTables.{is_pool, is_sound_puddle, are_counted, HasSoundTables}
 use Rattle.pud_defs.proofs.Keyed.{HasDistinctKeys, find-keyed, first_from_none, length-keyed}
 use Rattle.pud_defs.proofs.PoolsChanged.{distinct_entries, entry_of}
 use Rattle.pud_defs.proofs.SoundChanged.{distinct_names, distinct_ordinals, counted_puddles, legal_puddle}
@@ -193,9 +193,11 @@ module _ (next : ℕ) (t : Tables) (h : HasSoundTables next t) where
       (x.pool - 1, (pool.1, sym (ap (λ (y : Member). y.pool) same) ∙ place))
 
   known_slots : IsMasked t → HasKnownSlots t 0 t.frames
-  known_slots masked = record { slot = λ frame low high m is.
-      let named = named_pool frame (t.puddles frame) (legal_puddle next t h frame (omega arith)) m is in
-      (named.0, (elim (cases_lt named.0 POOL_RECORDS) [ inl below ↦ below | inr beyond ↦ absurd (true≢false (sym named.1.0 ∙ ap is_some (masked.beyond named.0 beyond))) ], named.1.1)) }
+  known_slots masked = record {
+    slot = λ frame low high m is.
+        let named = named_pool frame (t.puddles frame) (legal_puddle next t h frame (omega arith)) m is in
+        (named.0, (elim (cases_lt named.0 POOL_RECORDS) [ inl below ↦ below | inr beyond ↦ absurd (true≢false (sym named.1.0 ∙ ap is_some (masked.beyond named.0 beyond))) ], named.1.1));
+  }
 
   no_member_by : (slot frame : ℕ) (o : Option Member) → is_sound_puddle next t o ≡ true → t.pools slot ≡ None → member_of slot frame o ≡ None
   no_member_by slot frame None sound free = refl
