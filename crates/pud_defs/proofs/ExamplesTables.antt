@@ -1,16 +1,14 @@
 -- Pool tables and puddle tables, what they stand for, and which are sound.
-use Rattle.std.proofs.Common.{ℕ, ◌≡◌, ◌+◌, ◌-◌, ◌^◌, true, false, List, [], ◌∷◌, Option, Some, None, replicate, refl}
-use Rattle.pud_defs.specs.declared.records.PoolRec.{PoolRec}
-use Rattle.pud_defs.specs.declared.records.PuddleRec.{PuddleRec}
+use Rattle.std.proofs.Common.{ℕ, ◌≡◌, ◌+◌, ◌-◌, ◌^◌, true, false, List, [], ◌∷◌, Some, None, replicate, refl}
 use Rattle.pud_defs.specs.Image.{Image, written}
 use Rattle.pud_defs.specs.Spaces.{owner, all_below}
 use Rattle.pud_defs.specs.Keyed.{first_free, count_used, keyed, first_from, are_distinct}
 use Rattle.pud_defs.specs.Bases.{base_at, is_legal_base}
 use Rattle.pud_defs.specs.Modes.{is_legal_mode}
 use Rattle.pud_defs.specs.Names.{name_by, is_filled, is_legal_name}
-use Rattle.pud_defs.specs.Pools.{pool_record_at, pool_by, pool_at, pool_words, owner_word}
+use Rattle.pud_defs.specs.Pools.{pool_by, pool_at}
 use Rattle.pud_defs.specs.Puddles.{puddle_record_at, puddle_by, puddle_at, member_word}
-use Rattle.pud_defs.specs.Tables.{Tables, Pool, tables_of, puddles_of, puddle_in, records_of, pool_in, pool_of, pools_of}
+use Rattle.pud_defs.specs.Tables.{Pool, tables_of, puddles_of, puddle_in, records_of, pool_of, pools_of}
 use Rattle.pud_defs.specs.SoundTables.{has_legal_pools, has_distinct_names, has_legal_puddles, has_distinct_bases, has_distinct_old_bases, has_distinct_ordinals, count_up, has_counted_puddles, are_sound_tables}
 use Rattle.pud_defs.specs.Puts.{with_put, pool_put, mode_put, free_pool_put, puddle_put}
 

@@ -1,10 +1,12 @@
 pub mod Words
 pub mod Keyed
+pub mod KeyedKeys
 pub mod KeyedTypes
 pub mod TablesOf
 pub mod PutsMade
 pub mod PoolsChanged
 pub mod SoundChanged
+pub mod PoolsCounted
 pub mod Images
 pub mod TypeLists
 pub mod TypeTable

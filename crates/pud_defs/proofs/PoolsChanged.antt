@@ -1,5 +1,5 @@
 -- The pools of tables that were changed: a mode, a pool that is made, a pool that is dropped.
-use Rattle.std.proofs.Common.{◌≡◌, ◌⊎◌, inl, inr, ℕ, ◌+◌, ◌^◌, ◌<◌, ◌≤◌, Bool, true, false, cond, eqb, List, [], ◌∷◌, Option, Some, None, nat_cmp, option_map, refl, sym, ap, ap₂, ◌∙◌, arith, ne_eqb, eq-eqb}
+use Rattle.std.proofs.Common.{◌≡◌, inl, inr, ℕ, ◌+◌, ◌^◌, ◌<◌, ◌≤◌, true, false, cond, eqb, List, [], ◌∷◌, Option, Some, None, nat_cmp, option_map, refl, sym, ap, ap₂, ◌∙◌, arith, ne_eqb, eq-eqb}
 use Rattle.std.specs.FinMap.{nat_cmp-IsAntisymmetric, slice_cmp-IsAntisymmetric}
 use Rattle.std.specs.FinMap.Entries.{put}
 use Rattle.std.specs.Cmp.Lexicographic.{nat_list_cmp_total}
@@ -19,7 +19,7 @@ use Rattle.pud_defs.specs.Pools.{IsHeld}
 use Rattle.pud_defs.specs.Puddles.{Member}
 use Rattle.pud_defs.specs.Tables.{Tables, Pool, tables_of, member_of, members, puddles_of, named, pool_of, entries, pools_of}
 use Rattle.pud_defs.specs.Puts.{with_put, pool_put, puddle_put, member_by, changed_at, with_pool_at, with_puddle_at, is_of_pool, without_pool_at}
-use Rattle.pud_defs.proofs.Keyed.{HasDistinctKeys, HasDistinctKeys-keys, no_key, IsSetAt, is_free_for, alone_there, first_from_none_each, keyed-put, keyed-without, keyed-none}
+use Rattle.pud_defs.proofs.Keyed.{HasDistinctKeys, HasDistinctKeys-keys, no_key, is_free_for, alone_there, first_from_none_each, keyed-put, keyed-without, keyed-none}
 use Rattle.pud_defs.proofs.PutsMade.{pool_put_made, puddle_put_made}
 
 -- ---- a place that is changed

@@ -1,17 +1,15 @@
 -- What the words of a change make of the tables.
-use Rattle.std.proofs.Common.{◌≡◌, ◌⊎◌, inl, inr, ℕ, zero, suc, ◌+◌, ◌-◌, ◌*◌, ◌/◌, ◌%◌, ◌^◌, ◌<◌, ◌≤◌, true, false, cond, ◌&&◌, leb, ltb, eqb, List, [], ◌∷◌, ◌++◌, length, get_or, take, drop, Option, Some, None, refl, sym, ap, ap₂, ◌∙◌, subst, arith, ne_eqb, eq-eqb, true≢false, length-drop}
-use Rattle.std.specs.Int.{to_le_bytes, from_le_bytes, sum_through, byte_worth, w64}
+use Rattle.std.proofs.Common.{◌≡◌, inl, inr, ℕ, zero, suc, ◌+◌, ◌-◌, ◌^◌, ◌<◌, ◌≤◌, true, false, cond, ◌&&◌, ltb, eqb, List, ◌++◌, length, get_or, take, drop, Some, None, refl, sym, ap, ap₂, ◌∙◌, arith, ne_eqb, true≢false, length-drop}
+use Rattle.std.specs.Int.{from_le_bytes, sum_through, byte_worth, w64}
 use Rattle.std.proofs.lemmas.Bool.{cases_lt, cond-true, cond-false, lt-ltb, le-ltb, le-leb, lt-leb}
 use Rattle.std.proofs.lemmas.List.{get_or-take, get_or-drop, take-append-drop, length-take-le}
 use Rattle.std.proofs.lemmas.Nat.{le_bytes_8}
 use Rattle.std.proofs.Math.ListN.{get_or-eq_default}
-use Rattle.pud_defs.specs.declared.layout.TheConstants.{POOL_TABLE, SPACE_TABLE, PUDDLE_TABLE, MAX_FRAMES}
 use Rattle.pud_defs.specs.declared.records.TheConstants.{POOL_RECORDS}
 use Rattle.pud_defs.specs.declared.records.PoolRec.{PoolRec}
 use Rattle.pud_defs.specs.declared.records.PuddleRec.{PuddleRec}
 use Rattle.pud_defs.specs.declared.records.Put.{Put}
 use Rattle.pud_defs.specs.Image.{Image}
-use Rattle.pud_defs.specs.Layout.{tables_end}
 use Rattle.pud_defs.specs.Names.{IsName, name_by, is_legal_name}
 use Rattle.pud_defs.specs.Pools.{IsHeld, pool_record_at, pool_by, pool_at, owner_uid, owner_gid, owner_word, name_word, next_name_word}
 use Rattle.pud_defs.specs.Puddles.{Member, puddle_record_at, puddle_by, puddle_at, member_pool, member_ordinal, member_word}
@@ -47,7 +45,7 @@ first_eight name = sum_same (λ i. byte_worth i (get_or name i 0)) (λ i. byte_w
 byte_of_front : (name : List ℕ) → IsName name → (i : ℕ) → get_or (take 8 name) i 0 < 256
 byte_of_front name h i = elim (cases_lt i 8) [
   | inl within ↦ let e = get_or-take 8 name i 0 within in omega (arith, h.bytes i)
-  | inr beyond ↦ 
+  | inr beyond ↦
       let n = h.sixteen in
       let front : length (take 8 name) ≡ 8 = length-take-le 8 name (omega arith) in
       let e : get_or (take 8 name) i 0 ≡ 0 = get_or-eq_default (take 8 name) 0 (omega arith) in

@@ -1,23 +1,21 @@
 -- Sound tables stay sound: where a pool's record is changed, where a pool is made, and where one is dropped.
 use Rattle.std.proofs.Common.{◌≡◌, ◌⊎◌, inl, inr, ℕ, ◌+◌, ◌-◌, ◌<◌, ◌≤◌, Bool, true, false, not, cond, ◌&&◌, ◌||◌, leb, ltb, eqb, List, [], ◌∷◌, Option, Some, None, nat_cmp, is_some, is_none, option_map, refl, sym, ap, ap₂, ◌∙◌, subst, arith, ne_eqb, eq-eqb, true≢false}
-use Rattle.std.proofs.lemmas.Bool.{cases_eq, cond-true, cond-false, and_parts, and_from, leb-true, ltb-true, lt-ltb}
-use Rattle.std.proofs.lemmas.Option.{none-some}
+use Rattle.std.proofs.lemmas.Bool.{cases_eq, cond-true, cond-false, and_parts, and_from, ltb-true, lt-ltb}
 use Rattle.std.specs.Cmp.Lexicographic.{nat_list_cmp_total}
 use Rattle.std.proofs.lemmas.Cmp.{nat_cmp_total}
 use Rattle.pud_defs.specs.declared.records.TheConstants.{POOL_RECORDS, MAX_PUDDLES}
 use Rattle.pud_defs.specs.declared.records.PoolRec.{PoolRec}
-use Rattle.pud_defs.specs.Spaces.{all_below}
 use Rattle.pud_defs.specs.Names.{name_cmp}
-use Rattle.pud_defs.specs.Keyed.{under, first_from, are_distinct}
+use Rattle.pud_defs.specs.Keyed.{first_from, are_distinct}
 use Rattle.pud_defs.specs.Pools.{is_given, is_legal_pool}
 use Rattle.pud_defs.specs.declared.records.Puddle.{Puddle}
 use Rattle.pud_defs.specs.Bases.{is_legal_base, is_legal_frontier}
 use Rattle.pud_defs.specs.Puddles.{Member, is_legal_puddle}
 use Rattle.pud_defs.specs.Tables.{Tables, member_of, members, puddles_of, named}
-use Rattle.pud_defs.specs.SoundTables.{is_sound_pool, has_legal_pools, has_distinct_names, is_pool, is_legal_member, is_sound_puddle, has_legal_puddles, bases, has_distinct_bases, old_bases, has_distinct_old_bases, has_distinct_ordinals, count_up, are_counted, has_counted_puddles, are_sound_tables, HasSoundTables}
-use Rattle.pud_defs.specs.Puts.{changed_at, with_pool_at, with_puddle_at, is_of_pool, without_pool_at}
+use Rattle.pud_defs.specs.SoundTables.{is_sound_pool, has_legal_pools, has_distinct_names, is_pool, is_sound_puddle, has_legal_puddles, bases, has_distinct_bases, old_bases, has_distinct_old_bases, has_distinct_ordinals, count_up, are_counted, has_counted_puddles, are_sound_tables, HasSoundTables}
+use Rattle.pud_defs.specs.Puts.{changed_at, with_pool_at, is_of_pool, without_pool_at}
 use Rattle.pud_defs.proofs.Spaces.{all_below-from, all_below-each}
-use Rattle.pud_defs.proofs.Keyed.{HasDistinctKeys, HasDistinctKeys-keys, HasDistinctKeys-fewer, HasDistinctKeys-set, HasDistinctKeys-one, distinct_keys, are_distinct_keys, IsSetAt, is_free_for, first_from_none_each}
+use Rattle.pud_defs.proofs.Keyed.{HasDistinctKeys, HasDistinctKeys-keys, HasDistinctKeys-fewer, HasDistinctKeys-set, HasDistinctKeys-one, distinct_keys, are_distinct_keys, is_free_for, first_from_none_each}
 use Rattle.pud_defs.proofs.PoolsChanged.{changed_here, changed_elsewhere, IsMade, made, puddles_of-pool, puddles_of-dropped, puddles_of-made, puddles_elsewhere, new_elsewhere, not_of}
 
 -- ---- the test and its parts

@@ -3,7 +3,6 @@ use Rattle.std.specs.Prelude.{ℕ, ◌+◌, ◌-◌, Bool, ◌&&◌, nat_le, nat
 use Rattle.pud_defs.specs.declared.records.TheConstants.{POOL_MODE_WORD}
 use Rattle.pud_defs.specs.declared.records.PoolRec.{PoolRec}
 use Rattle.pud_defs.specs.declared.records.PuddleRec.{PuddleRec}
-use Rattle.pud_defs.specs.declared.records.Puddle.{Puddle}
 use Rattle.pud_defs.specs.declared.records.Put.{Put}
 use Rattle.pud_defs.specs.Image.{Image}
 use Rattle.pud_defs.specs.Pools.{pool_record_at, pool_words}

@@ -9,7 +9,7 @@ use Rattle.pud_defs.specs.Names.{name_cmp}
 use Rattle.pud_defs.specs.Keyed.{are_distinct}
 use Rattle.pud_defs.specs.Pools.{is_legal_pool}
 use Rattle.pud_defs.specs.Puddles.{Member, is_legal_puddle}
-use Rattle.pud_defs.specs.Tables.{Tables, member_of, members, puddles_of, named}
+use Rattle.pud_defs.specs.Tables.{Tables, members, puddles_of, named}
 
 -- ---- the pool records
 

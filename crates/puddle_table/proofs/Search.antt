@@ -1,5 +1,5 @@
 -- The searches of the puddle table, record by record.
-use Rattle.std.proofs.Common.{◌≡◌, inl, inr, ℕ, ◌+◌, ◌-◌, ◌<◌, ◌≤◌, ◌%◌, ◌/◌, ◌^◌, ◌&&◌, Bool, true, false, cond, eqb, Option, Some, None, nat_cmp, option_map, refl, sym, ap, ◌∙◌, subst, arith, eq-eqb, ne_eqb}
+use Rattle.std.proofs.Common.{◌≡◌, inl, inr, ℕ, ◌+◌, ◌-◌, ◌<◌, ◌≤◌, ◌&&◌, Bool, true, false, cond, eqb, Option, Some, None, nat_cmp, option_map, refl, sym, ap, ◌∙◌, subst, arith, ne_eqb}
 use Rattle.std.specs.Ordering.{eq_by_cmp}
 use Rattle.std.proofs.lemmas.Bool.{cases_eq, cond-true, cond-false}
 use Rattle.std.proofs.lemmas.Bool.Decides.{nat_tests}
@@ -9,7 +9,7 @@ use Rattle.pud_defs.specs.declared.records.PuddleRec.{PuddleRec}
 use Rattle.pud_defs.specs.Image.{Image}
 use Rattle.pud_defs.specs.Keyed.{first_free, under, first_from}
 use Rattle.pud_defs.specs.Puddles.{Member, member_pool, member_ordinal, puddle_record_at, puddle_by, puddle_at, puddle_read}
-use Rattle.pud_defs.specs.Tables.{Tables, tables_of, member_of, members, puddles_of, puddle_in}
+use Rattle.pud_defs.specs.Tables.{tables_of, member_of, members, puddles_of, puddle_in}
 use Rattle.pud_defs.proofs.Keyed.{find-keyed, first_from_here, first_from_other, first_from_end, first_free_here, first_free_used, first_free_end}
 use Rattle.pud_defs.proofs.TablesOf.{puddles_below, frames_of_tables, puddle_at-free}
 use Rattle.puddle_table.specs.Records.{is_member, puddle_words_at}

@@ -20,8 +20,8 @@ ghost use Rattle.puddle_table.specs.Records.{fault_in, added, Adds, is_member, p
 use pm_model::{Host, HostFault};
 use pud_defs::layout::{MAX_FRAMES, PUDDLE_RECORD_WORDS, PUDDLE_TABLE};
 use pud_defs::records::{
-    POOL_RECORDS, PUDDLE_BASE_WORD, PUDDLE_FRONTIER_WORD, PUDDLE_NUMBER_WORD, PUDDLE_OLD_BASE_WORD, PuddleRec, Put,
-    RECORD_WORDS_READ, member_ordinal, member_pool, member_word,
+    POOL_RECORDS, PUDDLE_BASE_WORD, PUDDLE_FRONTIER_WORD, PUDDLE_NUMBER_WORD, PUDDLE_OLD_BASE_WORD,
+    PuddleRec, Put, RECORD_WORDS_READ, member_ordinal, member_pool, member_word,
 };
 
 /// Why a puddle was not added. Nothing changed.
@@ -80,8 +80,21 @@ fn record_put(frame: u32, rec: PuddleRec) -> Put
     ensures { result ≡ puddle_put frame rec }
 {
     let member = member_word(rec.pool + 1, rec.ordinal);
-    let vals = [member, rec.number, rec.base, rec.old_base, u64::from(rec.frontier), 0, 0, 0];
-    Put { w: record_at(frame), n: RECORD_WORDS_READ as usize, vals }
+    let vals = [
+        member,
+        rec.number,
+        rec.base,
+        rec.old_base,
+        u64::from(rec.frontier),
+        0,
+        0,
+        0,
+    ];
+    Put {
+        w: record_at(frame),
+        n: RECORD_WORDS_READ as usize,
+        vals,
+    }
 }
 
 /// The words that put the record into the lowest free frame at or above `from`, of so many frames.
@@ -115,7 +128,12 @@ fn names(member: u64, pool: u32, ordinal: u32) -> bool
 }
 
 /// Reads the record of a frame as that of this ordinal of the pool of this slot.
-fn read_record<H: Host>(h: &mut H, frame: u32, pool: u32, ordinal: u32) -> Result<PuddleRec, HostFault>
+fn read_record<H: Host>(
+    h: &mut H,
+    frame: u32,
+    pool: u32,
+    ordinal: u32,
+) -> Result<PuddleRec, HostFault>
     requires known { frame < MAX_FRAMES }
     requires table { puddle_record_at (frame + 1) ≤ (H.counts h.old).size }
     ensures record { H.tells → (image : Image) → reads (H.state h.old).now.words ≡ image
@@ -129,14 +147,26 @@ fn read_record<H: Host>(h: &mut H, frame: u32, pool: u32, ordinal: u32) -> Resul
     let base = h.load(at + PUDDLE_BASE_WORD)?;
     let old_base = h.load(at + PUDDLE_OLD_BASE_WORD)?;
     let frontier = h.load(at + PUDDLE_FRONTIER_WORD)?;
-    Ok(PuddleRec { pool, ordinal, number, base, old_base, frontier: (frontier % (1 << 32)) as u32 })
+    Ok(PuddleRec {
+        pool,
+        ordinal,
+        number,
+        base,
+        old_base,
+        frontier: (frontier % (1 << 32)) as u32,
+    })
 }
 
 /// The frame and the record of a pool's puddle by its ordinal, of so many frames, or None exactly where no used record has
 /// the pool and the ordinal. Of several the lowest frame counts.
 ///
 /// The device has the puddle table of so many frames. The only errors are the host's own.
-pub fn of_pool<H: Host>(h: &mut H, frames: u32, pool: u32, ordinal: u32) -> Result<Option<(u32, PuddleRec)>, HostFault>
+pub fn of_pool<H: Host>(
+    h: &mut H,
+    frames: u32,
+    pool: u32,
+    ordinal: u32,
+) -> Result<Option<(u32, PuddleRec)>, HostFault>
     requires few { frames ≤ MAX_FRAMES }
     requires table { tables_end frames ≤ (H.counts h.old).size }
     requires known { pool < POOL_RECORDS }

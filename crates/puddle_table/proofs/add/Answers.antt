@@ -1,4 +1,4 @@
-use Rattle.std.proofs.Common.{◌+◌, ◌<◌, ◌^◌, Option, ℕ, Result, Ok, sym, ap, ◌∙◌, arith}
+use Rattle.std.proofs.Common.{Option, ℕ, Result, Ok, sym, ap, ◌∙◌, arith}
 use Rattle.pud_defs.specs.declared.records.Put.{Put}
 use Rattle.pud_defs.specs.Tables.{tables_of}
 use Rattle.pud_defs.specs.Puts.{with_put}
