@@ -1,14 +1,10 @@
 -- What brings a registry up to date.
 use Rattle.std.specs.Prelude.{◌≡◌, ℕ, Option, Some, None, Result, Ok, Err}
 use Rattle.pm_model.specs.declared.host.HostFault.{HostFault}
-use Rattle.pm_model.specs.Words.{reads, IsRested}
+use Rattle.pm_model.specs.Words.{IsRested}
 use Rattle.pm_model.specs.Moments.{State}
-use Rattle.pm_model.specs.Changes.{Changes, Leaves, Silently}
-use Rattle.pud_defs.specs.declared.layout.TheConstants.{DAEMON_LOG}
-use Rattle.pud_defs.specs.Entries.{log_of}
-use Rattle.pud_defs.specs.Replay.{device_word, new_value}
+use Rattle.pm_model.specs.Changes.{Leaves, Silently}
 use Rattle.pud_defs.specs.World.{StoredWorld, world_of}
-use Rattle.log_replay.specs.Replaying.{ByLog}
 use Rattle.registry.specs.declared.LoadFault.{LoadFault}
 use Rattle.registry.specs.declared.LoadFault.TheVariants as faults
 use Rattle.batch.specs.Worlds.{IsSettled}

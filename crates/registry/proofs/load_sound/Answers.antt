@@ -1,4 +1,4 @@
-use Rattle.std.proofs.Common.{◌≡◌, ℕ, None, Some, Ok, refl, sym, ap, ◌∙◌}
+use Rattle.std.proofs.Common.{◌≡◌, ℕ, None, refl, sym, ap, ◌∙◌}
 use Rattle.std.proofs.lemmas.Result.{err_from_is_err_and}
 use Rattle.pm_model.specs.Words.{reads}
 use Rattle.pud_defs.specs.World.{world_of}
@@ -24,9 +24,10 @@ returns-clause-stands g c = λ t size same.
     stands_read size a _ _ sound (c.in_ok-frames.ensures.settles t (λ e. cc e)) (c.in_ok-id.ensures.state t)
 
 pub returns-clause-geo : goal.returns-clause-geo
-returns-clause-geo g c = λ t size same s world.
-    (c.in_ok-frames.ensures.frames t ∙ frames_of_world size _ s world,
-    c.in_ok-id.ensures.value t ∙ machine_then size s (g.H.Host.state c.args.h.now) _ world (c.in_ok-frames.ensures.settles t (λ e. cc e)))
+returns-clause-geo g c = λ t size same s world. (
+  c.in_ok-frames.ensures.frames t ∙ frames_of_world size _ s world,
+  c.in_ok-id.ensures.value t ∙ machine_then size s (g.H.Host.state c.args.h.now) _ world (c.in_ok-frames.ensures.settles t (λ e. cc e)),
+)
 
 pub returns-clause-applies : goal.returns-clause-applies
 returns-clause-applies g c = λ t size same s rested world.
