@@ -9,7 +9,7 @@ mod judging;
 #[cfg(test)]
 mod loading;
 #[cfg(test)]
-mod pools;
+mod sound_pools;
 #[cfg(test)]
 mod spaces;
 #[cfg(test)]
