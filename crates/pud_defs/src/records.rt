@@ -5,6 +5,7 @@
 
 ghost use Rattle.std.specs.Prelude.{◌≡◌, ◌<◌, ◌^◌};
 ghost use Rattle.pud_defs.specs.Modes.{is_legal_mode};
+ghost use Rattle.pud_defs.specs.Names.{name_by};
 ghost use Rattle.pud_defs.specs.Pools.{owner_uid, owner_gid, owner_word};
 ghost use Rattle.pud_defs.specs.Puddles.{member_pool, member_ordinal, member_word};
 
@@ -170,4 +171,14 @@ pub fn is_legal_mode(v: u64) -> bool
     ensures { result ≡ is_legal_mode v }
 {
     v <= u64::from(MAX_MODE) && v % 2 == 0 && v / 8 % 2 == 0 && v / 64 % 2 == 0
+}
+
+/// The 16 bytes of a name, by the two words that hold it.
+pub fn name_by(first: u64, next: u64) -> Name
+    ensures { result ≡ name_by first next }
+{
+    let mut bytes = [0u8; NAME_BYTES];
+    bytes[..8].copy_from_slice(&first.to_le_bytes());
+    bytes[8..].copy_from_slice(&next.to_le_bytes());
+    bytes
 }

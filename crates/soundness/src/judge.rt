@@ -26,9 +26,9 @@ use log_entry::{Entry, EntryReader, is_closed_log, well_formed};
 use pm_model::{Host, HostFault};
 use pud_defs::layout::{
     CLIENT_LOGS, CLIENTS, DAEMON_LOG, DEVICE_MAGIC, FRAMES_WORD, LOG_WORDS, MAGIC_WORD, MAX_FRAMES,
-    MAX_OWNER_ID, MIN_FRAMES, NEXT_NUMBER_WORD, NUMBER_LIMIT,
-    SPACE_RECORD_WORDS, SPACE_TABLE, TYPE_RECORD_WORDS, TYPE_RECORDS, TYPE_TABLE, VERSION,
-    VERSION_WORD, device_words, frames_at, log_at, tables_end,
+    MAX_OWNER_ID, MIN_FRAMES, NEXT_NUMBER_WORD, NUMBER_LIMIT, SPACE_RECORD_WORDS, SPACE_TABLE,
+    TYPE_RECORD_WORDS, TYPE_RECORDS, TYPE_TABLE, VERSION, VERSION_WORD, device_words, frames_at,
+    log_at, tables_end,
 };
 use pud_defs::type_map::{is_legal_map, is_legal_type_id};
 
@@ -301,11 +301,7 @@ fn are_sound_tables<H: Host>(
 }
 
 /// Whether the next number and the types are legal, and the pool table and the puddle table are sound.
-fn has_sound_records<H: Host>(
-    h: &mut H,
-    overlay: &Overlay,
-    frames: u32,
-) -> Result<bool, HostFault>
+fn has_sound_records<H: Host>(h: &mut H, overlay: &Overlay, frames: u32) -> Result<bool, HostFault>
     requires few { frames ≤ MAX_FRAMES }
     requires room { device_words frames ≤ (H.counts h.old).size }
     ensures sound { H.tells → (image : Image) → reads (H.state h.old).now.words ≡ image → IsOverlay overlay.now image

@@ -8,7 +8,7 @@ ghost use Rattle.pud_defs.specs.declared.records.TheConstants.{POOL_RECORDS, REC
 ghost use Rattle.pud_defs.specs.Image.{Image};
 ghost use Rattle.pud_defs.specs.Layout.{device_words};
 ghost use Rattle.pud_defs.specs.Replay.{settled_by};
-ghost use Rattle.pud_defs.specs.Names.{is_name_byte, is_filled, is_legal_name, name_by};
+ghost use Rattle.pud_defs.specs.Names.{is_name_byte, is_filled, is_legal_name};
 ghost use Rattle.pud_defs.specs.Pools.{is_given};
 ghost use Rattle.pud_defs.specs.Tables.{tables_of};
 ghost use Rattle.pud_defs.specs.SoundTables.{is_sound_pool, has_legal_pools, is_pool, is_sound_puddle, has_legal_puddles};
@@ -20,9 +20,8 @@ use pm_model::{Host, HostFault};
 use pud_defs::layout::{MAX_OWNER_ID, POOL_TABLE, PUDDLE_RECORD_WORDS, PUDDLE_TABLE};
 use pud_defs::records::{
     MAX_PUDDLES, POOL_MODE_WORD, POOL_NUMBER_WORD, POOL_OWNER_WORD, POOL_RECORD_WORDS,
-    POOL_RECORDS, PUDDLE_BASE_WORD, PUDDLE_FRONTIER_WORD, PUDDLE_NUMBER_WORD,
-    PUDDLE_OLD_BASE_WORD, RECORD_WORDS_READ, is_legal_mode, member_ordinal, member_pool, owner_gid,
-    owner_uid,
+    POOL_RECORDS, PUDDLE_BASE_WORD, PUDDLE_FRONTIER_WORD, PUDDLE_NUMBER_WORD, PUDDLE_OLD_BASE_WORD,
+    RECORD_WORDS_READ, is_legal_mode, member_ordinal, member_pool, name_by, owner_gid, owner_uid,
 };
 use pud_defs::space::{LAST_FRONTIER, is_legal_base};
 
@@ -65,16 +64,6 @@ fn is_legal_name(bytes: &[u8]) -> bool
     }
 }
 
-/// The 16 bytes of a name, by the two words that hold it.
-fn name_by(low: u64, high: u64) -> [u8; 16]
-    ensures { result ≡ name_by low high }
-{
-    let mut bytes = [0u8; 16];
-    bytes[..8].copy_from_slice(&low.to_le_bytes());
-    bytes[8..].copy_from_slice(&high.to_le_bytes());
-    bytes
-}
-
 /// Whether a UUID number was given out, where this one is the next.
 fn is_given(next: u64, number: u64) -> bool
     ensures { result ≡ is_given next number }
@@ -86,11 +75,7 @@ fn is_given(next: u64, number: u64) -> bool
 type RecordWords = [u64; RECORD_WORDS_READ as usize];
 
 /// Reads the record that begins at word `at`, which stands behind the daemon log.
-fn read_record<H: Host>(
-    h: &mut H,
-    overlay: &Overlay,
-    at: u32,
-) -> Result<RecordWords, HostFault>
+fn read_record<H: Host>(h: &mut H, overlay: &Overlay, at: u32) -> Result<RecordWords, HostFault>
     requires behind { TYPE_TABLE ≤ at }
     requires within { at + RECORD_WORDS_READ ≤ (H.counts h.old).size }
     ensures words { H.tells → (image : Image) → reads (H.state h.old).now.words ≡ image → IsOverlay overlay.now image
@@ -145,11 +130,7 @@ fn is_sound_slot<H: Host>(
 }
 
 /// Whether each used pool record is legal, where this UUID number is the next.
-pub fn has_legal_pools<H: Host>(
-    h: &mut H,
-    overlay: &Overlay,
-    next: u64,
-) -> Result<bool, HostFault>
+pub fn has_legal_pools<H: Host>(h: &mut H, overlay: &Overlay, next: u64) -> Result<bool, HostFault>
     requires { SPACE_TABLE ≤ (H.counts h.old).size }
     ensures legal { H.tells → (image : Image) → reads (H.state h.old).now.words ≡ image → IsOverlay overlay.now image
         → (F : ℕ) → IfOk result (λ legal. legal ≡ has_legal_pools next (tables_of F (settled_by DAEMON_LOG image))) }

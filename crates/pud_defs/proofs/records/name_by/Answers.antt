@@ -1,6 +1,6 @@
 use Rattle.std.proofs.Common.{refl}
 use Rattle.pud_defs.specs.Names.{name_by}
-use Rattle.soundness.proofs.tables.name_by.Goals as goal
+use Rattle.pud_defs.proofs.records.name_by.Goals as goal
 
 pub returns : goal.returns
 unfolding name_by
