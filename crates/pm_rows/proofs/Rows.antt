@@ -1,10 +1,10 @@
 -- Lemmas on rows of words, of which some lines are copied or lost.
-use Rattle.std.proofs.Common.{◌≡◌, ◌≢◌, ℕ, ◌+◌, ◌*◌, ◌/◌, ◌<◌, ◌≤◌, ◌==◌, ◌&&◌, ◌||◌, not, nat_lt, Bool, true, false, cond, List, [], length, get_or, set, take, refl, sym, ap, subst, ◌∙◌, arith, inl, inr, get_or-set_same, get_or-set_other}
+use Rattle.std.proofs.Common.{◌≡◌, ℕ, ◌+◌, ◌*◌, ◌/◌, ◌<◌, ◌≤◌, ◌==◌, ◌&&◌, not, nat_lt, Bool, true, false, cond, List, [], length, get_or, set, take, refl, arith, inl, inr, get_or-set_same, get_or-set_other}
 use Rattle.std.proofs.lemmas.List.Folds.{list_any_more}
 use Rattle.std.proofs.lemmas.Bool.Decides.{nat_tests}
 use Rattle.std.proofs.lemmas.Bool.{cases_eq}
 use Rattle.pm_model.specs.Picking.{keeps_newest}
-use Rattle.pm_rows.specs.Rows.{is_listed, picked, TakesLine, TakesLines, AreSame, AreSameOutside, Loses, LosesLine, LosesLines}
+use Rattle.pm_rows.specs.Rows.{picked, TakesLine, TakesLines, LosesLine, LosesLines}
 
 -- the words from first on and below upto are those of another row
 pub record TakesPart (first upto : ℕ) (from old new : List ℕ) : Type 0 where

@@ -7,7 +7,7 @@ use Rattle.pud_defs.specs.declared.machine.Refusal.{Refusal}
 use Rattle.pud_defs.specs.World.{World}
 use Rattle.pud_defs.specs.Grammar.{command_of}
 use Rattle.pud_defs.specs.Step.{refusal_of, after, unless_refused, world_by, step_world}
-use Rattle.pud_defs.specs.Changing.{Part, part_of, with_part, file_of, file_in, KeepsFiles, IsWritable, KeepsUnwritable}
+use Rattle.pud_defs.specs.Changing.{Part, part_of, with_part, file_in, KeepsFiles, KeepsUnwritable}
 use Rattle.pud_defs.specs.Run.{Turn, IsTurn, IsRun, last_world}
 use Rattle.pud_defs.proofs.TypeLists.{is_sorted-with_type}
 use Rattle.pud_defs.specs.Changing.Part.{types, clients, nothing}

@@ -1,16 +1,15 @@
 -- Tables without a used record are sound, and stand for no pool.
-use Rattle.std.proofs.Common.{◌≡◌, ℕ, zero, suc, ◌+◌, ◌<◌, ◌≤◌, Bool, true, false, nat_lt, cond, List, [], Option, None, nat_cmp, refl, ap, ◌∙◌, sym, arith}
-use Rattle.std.proofs.lemmas.Bool.{cond-true, cond-false, cases_Bool, and_from}
+use Rattle.std.proofs.Common.{◌≡◌, ℕ, zero, suc, ◌+◌, ◌<◌, ◌≤◌, Bool, true, false, nat_lt, cond, [], Option, None, nat_cmp, refl, ap, ◌∙◌}
+use Rattle.std.proofs.lemmas.Bool.{and_from}
 use Rattle.std.specs.declared.cmp.Ordering.{Ordering}
 use Rattle.pud_defs.specs.declared.layout.TheConstants.{POOL_TABLE, SPACE_TABLE, PUDDLE_TABLE}
 use Rattle.pud_defs.specs.declared.records.TheConstants.{POOL_RECORDS}
 use Rattle.pud_defs.specs.Layout.{tables_end}
 use Rattle.pud_defs.specs.Image.{Image}
-use Rattle.pud_defs.specs.Spaces.{all_below}
 use Rattle.pud_defs.specs.Keyed.{keyed, are_distinct}
 use Rattle.pud_defs.specs.Pools.{pool_at, pool_by}
 use Rattle.pud_defs.specs.Puddles.{puddle_at, puddle_by}
-use Rattle.pud_defs.specs.Tables.{Tables, tables_of, pools_of, puddles_of}
+use Rattle.pud_defs.specs.Tables.{Tables, tables_of, pools_of}
 use Rattle.pud_defs.specs.SoundTables.{are_sound_tables, has_legal_pools, has_distinct_names, has_legal_puddles, has_distinct_bases, has_distinct_old_bases, has_distinct_ordinals, has_counted_puddles}
 use Rattle.pud_defs.proofs.Spaces.{all_below-from}
 use Rattle.pud_defs.proofs.TablesOf.{tables_of-same}

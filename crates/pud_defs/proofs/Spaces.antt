@@ -2,7 +2,7 @@
 use Rattle.std.proofs.Common.{◌≡◌, ℕ, zero, suc, ◌+◌, ◌^◌, ◌<◌, ◌≤◌, Bool, true, false, ◌&&◌, ◌||◌, eqb, leb, ltb, refl, sym, ap, ap₂, ◌∙◌, ⊎_elim, inl, inr, arith, add-one, eq-eqb}
 use Rattle.std.specs.Prelude.{cond, Some, None, is_some}
 use Rattle.std.proofs.lemmas.Bool.{and_parts, and_from, cond-false, cases_Bool, cases_eq, or_left, leb-true}
-use Rattle.pud_defs.specs.declared.layout.TheConstants.{SPACE_TABLE, CLIENTS, CLIENT_LOGS, LOG_WORDS, LOG_ENTRY_WORDS, PUDDLE_TABLE}
+use Rattle.pud_defs.specs.declared.layout.TheConstants.{SPACE_TABLE, CLIENTS, CLIENT_LOGS, LOG_ENTRY_WORDS, PUDDLE_TABLE}
 use Rattle.pud_defs.specs.Image.{Image}
 use Rattle.pud_defs.specs.Layout.{tables_end, log_at, frames_at}
 use Rattle.pud_defs.specs.Entries.{gate_used, is_legal_gate, entries_of}

@@ -4,7 +4,7 @@ use Rattle.std.specs.FinMap.Entries.{is_sorted}
 use Rattle.std.proofs.lemmas.Bool.{lt-leb}
 use Rattle.pud_defs.specs.declared.layout.TheConstants.{TYPE_RECORDS}
 use Rattle.pud_defs.specs.declared.machine.Command.{Command}
-use Rattle.pud_defs.specs.declared.machine.Command.TheVariants.{Client, Leave, Define, Cut, Arm}
+use Rattle.pud_defs.specs.declared.machine.Command.TheVariants.{Client, Leave, Define}
 use Rattle.pud_defs.specs.declared.machine.Reply.TheVariants as replies
 use Rattle.pud_defs.specs.declared.machine.Refusal.{Refusal}
 use Rattle.pud_defs.specs.declared.machine.Refusal.TheVariants as refusals
@@ -12,10 +12,10 @@ use Rattle.pud_defs.specs.Types.{map_of}
 use Rattle.pud_defs.specs.Spaces.{Owner}
 use Rattle.pud_defs.specs.World.{World}
 use Rattle.pud_defs.specs.Grammar.{command_of}
-use Rattle.pud_defs.specs.Step.{Answer, step_answer, is_other, is_clash, is_full, holds, refusal_of, after, answer, answer_unless, answer_by, world_by, step_world, unless_refused, Step}
+use Rattle.pud_defs.specs.Step.{Answer, step_answer, is_other, is_clash, is_full, holds, refusal_of, after, answer, answer_unless, answer_by, world_by, unless_refused, Step}
 use Rattle.pud_defs.specs.Step.Answer.{of_reply}
 use Rattle.pud_defs.specs.Run.{is_cut}
-use Rattle.pud_defs.proofs.TypeLists.{with_type-same, is_sorted-with_type}
+use Rattle.pud_defs.proofs.TypeLists.{with_type-same}
 
 -- the first of the two causes, by whether each holds
 abbrev chosen : Bool → Bool → Option Refusal

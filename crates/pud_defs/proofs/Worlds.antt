@@ -1,9 +1,9 @@
 -- What it says that an image stands for a world, point by point: an image with nothing to replay first, and then any.
-use Rattle.std.proofs.Common.{◌≡◌, ◌⊎◌, ◌+◌, inl, inr, Bool, ℕ, ◌-◌, ◌<◌, ◌≤◌, true, ◌&&◌, T, length, Option, Some, None, nat_cmp, refl, sym, ap, ◌∙◌, arith, eqb-true, eq-eqb, leb-true, le-leb, subst, false}
+use Rattle.std.proofs.Common.{◌≡◌, ◌⊎◌, ◌+◌, inl, inr, Bool, ℕ, ◌<◌, ◌≤◌, true, ◌&&◌, T, length, Option, Some, None, nat_cmp, refl, sym, ap, ◌∙◌, arith, eqb-true, eq-eqb, leb-true, le-leb, subst, false}
 use Rattle.std.specs.FinMap.Entries.{is_sorted}
 use Rattle.std.proofs.lemmas.Bool.{and_parts, and_from, cond-true, cond-false, cases_Bool}
 use Rattle.std.proofs.lemmas.Option.{cond_some}
-use Rattle.pud_defs.specs.declared.layout.TheConstants.{DEVICE_MAGIC, MIN_FRAMES, MAX_FRAMES, NUMBER_LIMIT, MAGIC_WORD, FRAMES_WORD, NEXT_NUMBER_WORD, DAEMON_LOG, LOG_WORDS, TYPE_TABLE, POOL_TABLE, SPACE_TABLE, PUDDLE_TABLE, TYPE_RECORDS}
+use Rattle.pud_defs.specs.declared.layout.TheConstants.{DEVICE_MAGIC, MIN_FRAMES, MAX_FRAMES, NUMBER_LIMIT, MAGIC_WORD, FRAMES_WORD, NEXT_NUMBER_WORD, DAEMON_LOG, LOG_WORDS, TYPE_TABLE, TYPE_RECORDS}
 use Rattle.pud_defs.specs.Layout.{tables_end, device_words}
 use Rattle.pud_defs.specs.Image.{Image, IsSameBelow}
 use Rattle.pud_defs.specs.Types.{type_table, map_of, first_free}

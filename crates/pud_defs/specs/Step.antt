@@ -1,5 +1,5 @@
 -- What a line does to the world, and what is answered.
-use Rattle.std.specs.Prelude.{◌≡◌, ℕ, Bool, false, cond, not, ◌&&◌, nat_le, ◌==◌, List, [], ◌∷◌, length, find, Option, Some, None, is_none, is_some}
+use Rattle.std.specs.Prelude.{◌≡◌, ℕ, Bool, false, not, ◌&&◌, nat_le, ◌==◌, List, [], ◌∷◌, length, find, Option, Some, None, is_none, is_some}
 use Rattle.pud_defs.specs.declared.layout.TheConstants.{TYPE_RECORDS}
 use Rattle.pud_defs.specs.declared.machine.Command.{Command}
 use Rattle.pud_defs.specs.declared.machine.Command.TheVariants.{Client, Leave, Define, Cut, Arm}
