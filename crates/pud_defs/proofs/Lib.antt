@@ -32,4 +32,5 @@ pub mod ExamplesImage
 pub mod ExamplesRun
 pub mod ExamplesLogs
 pub mod ExamplesTables
+pub mod ExamplesIdentifiers
 pub mod Stands

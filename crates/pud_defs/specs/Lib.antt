@@ -1,6 +1,7 @@
 pub mod Layout
 pub mod Image
 pub mod TypeMap
+pub mod Identifiers
 pub mod Entries
 pub mod Replay
 pub mod Spaces

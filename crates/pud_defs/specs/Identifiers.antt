@@ -1,0 +1,22 @@
+-- The identifiers of pools and puddles, and their text.
+use Rattle.std.specs.Prelude.{ℕ, zero, suc, ◌+◌, ◌*◌, ◌/◌, ◌%◌, ◌^◌, nat_lt, if◌then◌else◌, List, [], ◌∷◌, ◌++◌}
+
+-- the machine id above the UUID number, each of 64 bits; no version and no variant is forced in
+abbrev pub puddle_uuid : ℕ → ℕ → ℕ
+puddle_uuid id n = id * 2 ^ 64 + n
+
+-- the code of a digit: `0` to `9`, then `a` to `f`
+abbrev pub hex_digit : ℕ → ℕ
+hex_digit d = if nat_lt d 10 then 48 + d else 87 + d
+
+-- so many hexadecimal digits of a number, those above its lowest `low` ones, the highest first
+unfoldable pub hex_digits : (count low u : ℕ) → List ℕ
+hex_digits zero low u = []
+hex_digits (suc n) low u = hex_digit (u / 16 ^ (low + n) % 16) ∷ hex_digits n low u
+
+abbrev pub hyphen : ℕ
+hyphen = 45
+
+-- 8-4-4-4-12 lower-case digits of a number of 128 bits
+unfoldable pub uuid_text : ℕ → List ℕ
+uuid_text u = hex_digits 8 24 u ++ (hyphen ∷ (hex_digits 4 20 u ++ (hyphen ∷ (hex_digits 4 16 u ++ (hyphen ∷ (hex_digits 4 12 u ++ (hyphen ∷ hex_digits 12 0 u)))))))
