@@ -12,6 +12,7 @@ pub mod Modes
 pub mod Names
 pub mod Pools
 pub mod Puddles
+pub mod Headers
 pub mod Tables
 pub mod SoundTables
 pub mod Puts

@@ -1,0 +1,21 @@
+-- What a frame says of its puddle, and the words of the puddle's slots.
+use Rattle.std.specs.Prelude.{ℕ, ◌+◌, Bool, false, ◌&&◌, ◌==◌, Option, Some, None}
+use Rattle.pud_defs.specs.declared.space.TheConstants.{FRAME_MAGIC, FRAME_MAGIC_WORD, FRAME_NUMBER_WORD, FRAME_ORDINAL_WORD}
+use Rattle.pud_defs.specs.Image.{Image}
+use Rattle.pud_defs.specs.Frames.{frame_word, slot_at}
+use Rattle.pud_defs.specs.Puddles.{Member, puddle_at}
+
+-- word k of a slot of the puddle that lies in a frame
+abbrev pub slot_word : (F frame slot k : ℕ) → Image → ℕ
+slot_word F frame slot k image = frame_word F frame (slot_at slot + k) image
+
+-- a header of these words is that of the record's puddle: the frame magic, its UUID number and its ordinal; a free record has no puddle
+abbrev pub is_header_of : Option Member → (magic number ordinal : ℕ) → Bool
+is_header_of None magic number ordinal = false
+is_header_of (Some m) magic number ordinal = magic == FRAME_MAGIC && number == m.puddle.number && ordinal == m.ordinal
+
+-- a frame has the header of the puddle that its record says it has
+abbrev pub header_fits : (F frame : ℕ) → Image → Bool
+header_fits F frame image =
+    is_header_of (puddle_at image frame) (frame_word F frame FRAME_MAGIC_WORD image) (frame_word F frame FRAME_NUMBER_WORD image)
+    (frame_word F frame FRAME_ORDINAL_WORD image)

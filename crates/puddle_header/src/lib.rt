@@ -1,0 +1,202 @@
+//! The frames of puddles, read: the words of a header, those of a slot, and whether a header is its puddle's.
+//!
+//! Each call takes the number of the device's frames, at most 1,024, and a frame below it, on a device that has the words
+//! which so many frames need. It answers on every content of the device. Nothing changes, and the only errors are the host's
+//! own.
+#![tactic(auto)]
+
+ghost use Rattle.std.specs.Prelude.{◌≡◌, ◌≢◌, ◌+◌, ◌<◌, ◌≤◌, ℕ, Bool, not, ◌&&◌, ◌==◌, Option, IfOk};
+ghost use Rattle.pm_model.specs.Words.{Image, reads};
+ghost use Rattle.pm_model.specs.Counts.{after_fault, fault_of};
+ghost use Rattle.pud_defs.specs.Layout.{device_words};
+ghost use Rattle.pud_defs.specs.Frames.{frame_word};
+ghost use Rattle.pud_defs.specs.Puddles.{member_ordinal};
+ghost use Rattle.pud_defs.specs.Headers.{slot_word, header_fits};
+
+use pm_model::{Host, HostFault};
+use pud_defs::layout::{FRAME_WORDS, MAX_FIELDS, MAX_FRAMES, PUDDLE_RECORD_WORDS, PUDDLE_TABLE};
+use pud_defs::records::{PUDDLE_NUMBER_WORD, member_ordinal};
+use pud_defs::space::{
+    FRAME_MAGIC, FRAME_MAGIC_WORD, FRAME_NUMBER_WORD, FRAME_ORDINAL_WORD, FRAME_SLOTS,
+    NEXT_SERIAL_WORD, ROOT_WORD, SLOT_FIELDS_WORD, SLOT_SERIAL_WORD, SLOT_TYPE_WORD, SLOT_WORDS,
+    frame_at, slot_at,
+};
+
+/// Word `k` of a frame.
+fn frame_word<H: Host>(h: &mut H, frames: u32, frame: u32, k: u32) -> Result<u64, HostFault>
+    requires few { frames ≤ MAX_FRAMES }
+    requires room { device_words frames ≤ (H.counts h.old).size }
+    requires known { frame < frames }
+    requires within { k < FRAME_WORDS }
+    ensures word { H.tells → (image : Image) → reads (H.state h.old).now.words ≡ image → IfOk result (λ v. v ≡ frame_word frames frame k image) }
+    ensures stays { H.tells → H.state h.new ≡ H.state h.old }
+    ensures cause { H.counts h.new ≡ after_fault (fault_of result) (H.counts h.old) }
+    ensures never_cut { fault_of result ≢ Option.Some HostFault.Cut }
+{
+    h.load(frame_at(frames, frame) + k)
+}
+
+/// Word `k` of a slot of the puddle in a frame.
+fn slot_word<H: Host>(
+    h: &mut H,
+    frames: u32,
+    frame: u32,
+    slot: u32,
+    k: u32,
+) -> Result<u64, HostFault>
+    requires few { frames ≤ MAX_FRAMES }
+    requires room { device_words frames ≤ (H.counts h.old).size }
+    requires known { frame < frames }
+    requires slot { slot < FRAME_SLOTS }
+    requires within { k < SLOT_WORDS }
+    ensures word { H.tells → (image : Image) → reads (H.state h.old).now.words ≡ image → IfOk result (λ v. v ≡ slot_word frames frame slot k image) }
+    ensures stays { H.tells → H.state h.new ≡ H.state h.old }
+    ensures cause { H.counts h.new ≡ after_fault (fault_of result) (H.counts h.old) }
+    ensures never_cut { fault_of result ≢ Option.Some HostFault.Cut }
+{
+    frame_word(h, frames, frame, slot_at(slot) + k)
+}
+
+/// The word in which the header of a frame has the frame magic.
+pub fn frame_magic<H: Host>(h: &mut H, frames: u32, frame: u32) -> Result<u64, HostFault>
+    requires few { frames ≤ MAX_FRAMES }
+    requires room { device_words frames ≤ (H.counts h.old).size }
+    requires known { frame < frames }
+    ensures word { H.tells → (image : Image) → reads (H.state h.old).now.words ≡ image → IfOk result (λ v. v ≡ frame_word frames frame FRAME_MAGIC_WORD image) }
+    ensures stays { H.tells → H.state h.new ≡ H.state h.old }
+    ensures cause { H.counts h.new ≡ after_fault (fault_of result) (H.counts h.old) }
+    ensures never_cut { fault_of result ≢ Option.Some HostFault.Cut }
+{
+    frame_word(h, frames, frame, FRAME_MAGIC_WORD)
+}
+
+/// The UUID number in the header of a frame.
+pub fn frame_number<H: Host>(h: &mut H, frames: u32, frame: u32) -> Result<u64, HostFault>
+    requires few { frames ≤ MAX_FRAMES }
+    requires room { device_words frames ≤ (H.counts h.old).size }
+    requires known { frame < frames }
+    ensures word { H.tells → (image : Image) → reads (H.state h.old).now.words ≡ image → IfOk result (λ v. v ≡ frame_word frames frame FRAME_NUMBER_WORD image) }
+    ensures stays { H.tells → H.state h.new ≡ H.state h.old }
+    ensures cause { H.counts h.new ≡ after_fault (fault_of result) (H.counts h.old) }
+    ensures never_cut { fault_of result ≢ Option.Some HostFault.Cut }
+{
+    frame_word(h, frames, frame, FRAME_NUMBER_WORD)
+}
+
+/// The ordinal in the header of a frame.
+pub fn frame_ordinal<H: Host>(h: &mut H, frames: u32, frame: u32) -> Result<u64, HostFault>
+    requires few { frames ≤ MAX_FRAMES }
+    requires room { device_words frames ≤ (H.counts h.old).size }
+    requires known { frame < frames }
+    ensures word { H.tells → (image : Image) → reads (H.state h.old).now.words ≡ image → IfOk result (λ v. v ≡ frame_word frames frame FRAME_ORDINAL_WORD image) }
+    ensures stays { H.tells → H.state h.new ≡ H.state h.old }
+    ensures cause { H.counts h.new ≡ after_fault (fault_of result) (H.counts h.old) }
+    ensures never_cut { fault_of result ≢ Option.Some HostFault.Cut }
+{
+    frame_word(h, frames, frame, FRAME_ORDINAL_WORD)
+}
+
+/// The next serial in the header of a frame, which counts in that of ordinal 0.
+pub fn next_serial<H: Host>(h: &mut H, frames: u32, frame: u32) -> Result<u64, HostFault>
+    requires few { frames ≤ MAX_FRAMES }
+    requires room { device_words frames ≤ (H.counts h.old).size }
+    requires known { frame < frames }
+    ensures word { H.tells → (image : Image) → reads (H.state h.old).now.words ≡ image → IfOk result (λ v. v ≡ frame_word frames frame NEXT_SERIAL_WORD image) }
+    ensures stays { H.tells → H.state h.new ≡ H.state h.old }
+    ensures cause { H.counts h.new ≡ after_fault (fault_of result) (H.counts h.old) }
+    ensures never_cut { fault_of result ≢ Option.Some HostFault.Cut }
+{
+    frame_word(h, frames, frame, NEXT_SERIAL_WORD)
+}
+
+/// The root pointer in the header of a frame, which counts in that of ordinal 0.
+pub fn root_value<H: Host>(h: &mut H, frames: u32, frame: u32) -> Result<u64, HostFault>
+    requires few { frames ≤ MAX_FRAMES }
+    requires room { device_words frames ≤ (H.counts h.old).size }
+    requires known { frame < frames }
+    ensures word { H.tells → (image : Image) → reads (H.state h.old).now.words ≡ image → IfOk result (λ v. v ≡ frame_word frames frame ROOT_WORD image) }
+    ensures stays { H.tells → H.state h.new ≡ H.state h.old }
+    ensures cause { H.counts h.new ≡ after_fault (fault_of result) (H.counts h.old) }
+    ensures never_cut { fault_of result ≢ Option.Some HostFault.Cut }
+{
+    frame_word(h, frames, frame, ROOT_WORD)
+}
+
+/// The serial of the object in a slot, 0 where the slot is free.
+pub fn slot_serial<H: Host>(h: &mut H, frames: u32, frame: u32, slot: u32) -> Result<u64, HostFault>
+    requires few { frames ≤ MAX_FRAMES }
+    requires room { device_words frames ≤ (H.counts h.old).size }
+    requires known { frame < frames }
+    requires slot { slot < FRAME_SLOTS }
+    ensures word { H.tells → (image : Image) → reads (H.state h.old).now.words ≡ image → IfOk result (λ v. v ≡ slot_word frames frame slot SLOT_SERIAL_WORD image) }
+    ensures stays { H.tells → H.state h.new ≡ H.state h.old }
+    ensures cause { H.counts h.new ≡ after_fault (fault_of result) (H.counts h.old) }
+    ensures never_cut { fault_of result ≢ Option.Some HostFault.Cut }
+{
+    slot_word(h, frames, frame, slot, SLOT_SERIAL_WORD)
+}
+
+/// The type id of the object in a slot.
+pub fn slot_type<H: Host>(h: &mut H, frames: u32, frame: u32, slot: u32) -> Result<u64, HostFault>
+    requires few { frames ≤ MAX_FRAMES }
+    requires room { device_words frames ≤ (H.counts h.old).size }
+    requires known { frame < frames }
+    requires slot { slot < FRAME_SLOTS }
+    ensures word { H.tells → (image : Image) → reads (H.state h.old).now.words ≡ image → IfOk result (λ v. v ≡ slot_word frames frame slot SLOT_TYPE_WORD image) }
+    ensures stays { H.tells → H.state h.new ≡ H.state h.old }
+    ensures cause { H.counts h.new ≡ after_fault (fault_of result) (H.counts h.old) }
+    ensures never_cut { fault_of result ≢ Option.Some HostFault.Cut }
+{
+    slot_word(h, frames, frame, slot, SLOT_TYPE_WORD)
+}
+
+/// Field `f`, 0 to 29, of the object in a slot.
+pub fn slot_field<H: Host>(
+    h: &mut H,
+    frames: u32,
+    frame: u32,
+    slot: u32,
+    f: u32,
+) -> Result<u64, HostFault>
+    requires few { frames ≤ MAX_FRAMES }
+    requires room { device_words frames ≤ (H.counts h.old).size }
+    requires known { frame < frames }
+    requires slot { slot < FRAME_SLOTS }
+    requires field { f < MAX_FIELDS }
+    ensures word { H.tells → (image : Image) → reads (H.state h.old).now.words ≡ image → IfOk result (λ v. v ≡ slot_word frames frame slot (SLOT_FIELDS_WORD + f) image) }
+    ensures stays { H.tells → H.state h.new ≡ H.state h.old }
+    ensures cause { H.counts h.new ≡ after_fault (fault_of result) (H.counts h.old) }
+    ensures never_cut { fault_of result ≢ Option.Some HostFault.Cut }
+{
+    slot_word(h, frames, frame, slot, SLOT_FIELDS_WORD + f)
+}
+
+/// Whether a header of these words is that of the puddle of a record that has this member word and UUID number.
+fn is_header_of(member: u64, given: u64, magic: u64, number: u64, ordinal: u64) -> bool
+    ensures { result ≡ (not (member == 0) && (magic == FRAME_MAGIC && number == given && ordinal == member_ordinal member)) }
+{
+    member != 0
+        && magic == FRAME_MAGIC
+        && number == given
+        && ordinal == u64::from(member_ordinal(member))
+}
+
+/// Whether the frame has the header of the puddle that its record says it has: the frame magic, the UUID number and the
+/// ordinal. A frame whose record is free has none.
+pub fn header_fits<H: Host>(h: &mut H, frames: u32, frame: u32) -> Result<bool, HostFault>
+    requires few { frames ≤ MAX_FRAMES }
+    requires room { device_words frames ≤ (H.counts h.old).size }
+    requires known { frame < frames }
+    ensures fits { H.tells → (image : Image) → reads (H.state h.old).now.words ≡ image → IfOk result (λ fits. fits ≡ header_fits frames frame image) }
+    ensures stays { H.tells → H.state h.new ≡ H.state h.old }
+    ensures cause { H.counts h.new ≡ after_fault (fault_of result) (H.counts h.old) }
+    ensures never_cut { fault_of result ≢ Option.Some HostFault.Cut }
+{
+    let record = PUDDLE_TABLE + PUDDLE_RECORD_WORDS * frame;
+    let member = h.load(record)?;
+    let given = h.load(record + PUDDLE_NUMBER_WORD)?;
+    let magic = frame_magic(h, frames, frame)?;
+    let number = frame_number(h, frames, frame)?;
+    let ordinal = frame_ordinal(h, frames, frame)?;
+    Ok(is_header_of(member, given, magic, number, ordinal))
+}
