@@ -33,4 +33,5 @@ pub mod ExamplesRun
 pub mod ExamplesLogs
 pub mod ExamplesTables
 pub mod ExamplesIdentifiers
+pub mod ExamplesPlaces
 pub mod Stands

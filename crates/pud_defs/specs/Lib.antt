@@ -16,6 +16,7 @@ pub mod Headers
 pub mod Tables
 pub mod SoundTables
 pub mod Puts
+pub mod Places
 pub mod Types
 pub mod Registry
 pub mod World

@@ -1,0 +1,4 @@
+pub mod Records
+pub mod Located
+pub mod Kept
+pub mod Lowest

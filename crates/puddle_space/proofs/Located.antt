@@ -1,0 +1,42 @@
+-- The place of an address, record by record.
+use Rattle.std.proofs.Common.{◌≡◌, ℕ, zero, suc, ◌+◌, ◌-◌, ◌<◌, ◌≤◌, Bool, true, false, Option, Some, None, refl, sym, ap, ap₂, ◌∙◌, arith, add-one, add-zero}
+use Rattle.std.proofs.lemmas.Bool.{cond-true}
+use Rattle.std.specs.Prelude.{cond, nat_lt}
+use Rattle.std.specs.Option.{option_or}
+use Rattle.std.proofs.lemmas.Bool.Decides.{nat_tests}
+use Rattle.pud_defs.specs.Image.{Image}
+use Rattle.pud_defs.specs.Puddles.{puddle_at}
+use Rattle.pud_defs.specs.Tables.{Tables, tables_of}
+use Rattle.pud_defs.specs.Places.{first_some, place_by, located}
+use Rattle.pud_defs.proofs.TablesOf.{puddles_below, frames_of_tables}
+
+-- ---- steps of a search
+
+pub first_some-passed : {A : Type 0} (at : ℕ → Option A) (i n : ℕ) → i < n → at i ≡ None → first_some at i (n - i) ≡ first_some at (i + 1) (n - (i + 1))
+unfolding first_some
+first_some-passed at i n below none =
+    let count : n - i ≡ suc (n - (i + 1)) = omega arith in
+    ap (first_some at i) count ∙ ap (λ found. option_or found (first_some at (i + 1) (n - (i + 1)))) none
+
+pub first_some-found : {A : Type 0} (at : ℕ → Option A) (i n : ℕ) (x : A) → i < n → at i ≡ Some x → first_some at i (n - i) ≡ Some x
+unfolding first_some
+first_some-found at i n x below found =
+    let count : n - i ≡ suc (n - (i + 1)) = omega arith in
+    ap (first_some at i) count ∙ ap (λ here. option_or here (first_some at (i + 1) (n - (i + 1)))) found
+
+pub first_some-none : {A : Type 0} (at : ℕ → Option A) (i n : ℕ) → n ≤ i → first_some at i (n - i) ≡ None
+unfolding first_some
+first_some-none at i n past = let count : n - i ≡ 0 = omega arith in ap (first_some at i) count
+
+pub first_some-same : {A : Type 0} (f g : ℕ → Option A) (i count : ℕ) → ((k : ℕ) → i ≤ k → k < i + count → f k ≡ g k) → first_some f i count ≡ first_some g i count
+unfolding first_some
+first_some-same f g i zero same = refl
+first_some-same f g i (suc count) same =
+    ap₂ option_or (same i (omega arith) (omega arith)) (first_some-same f g (i + 1) count (λ k low high. same k (omega arith) (omega arith)))
+
+-- where an address lies, by the records of the image
+pub located_by_records : (F : ℕ) (image : Image) (address : ℕ) → located (tables_of F image) address ≡ first_some (λ frame. place_by address frame (puddle_at image frame)) 0 F
+located_by_records F image address =
+    ap (first_some (λ frame. place_by address frame ((tables_of F image).puddles frame)) 0) (frames_of_tables F image)
+    ∙ first_some-same (λ frame. place_by address frame ((tables_of F image).puddles frame)) (λ frame. place_by address frame (puddle_at image frame)) 0 F
+    (λ k low high. ap (place_by address k) (puddles_below F image k (omega arith)))
