@@ -1,11 +1,11 @@
 -- Whether a header is that of a record's puddle, by the words of both.
-use Rattle.std.proofs.Common.{◌≡◌, ℕ, ◌+◌, Bool, true, false, not, ◌&&◌, eqb, Some, None, refl, sym, ◌∙◌}
+use Rattle.std.proofs.Common.{◌≡◌, ℕ, ◌+◌, Bool, true, false, not, ◌&&◌, eqb, Some, None, refl, sym}
 use Rattle.std.specs.Prelude.{cond}
 use Rattle.pud_defs.specs.declared.space.TheConstants.{FRAME_MAGIC, FRAME_MAGIC_WORD, FRAME_NUMBER_WORD, FRAME_ORDINAL_WORD}
 use Rattle.pud_defs.specs.declared.records.TheConstants.{PUDDLE_NUMBER_WORD}
 use Rattle.pud_defs.specs.Image.{Image}
 use Rattle.pud_defs.specs.Frames.{frame_word}
-use Rattle.pud_defs.specs.Puddles.{Member, puddle_by, puddle_at, puddle_record_at, member_pool, member_ordinal}
+use Rattle.pud_defs.specs.Puddles.{puddle_by, puddle_at, puddle_record_at, member_pool, member_ordinal}
 use Rattle.pud_defs.specs.Headers.{is_header_of, header_fits}
 
 -- the header is that of a record of these words

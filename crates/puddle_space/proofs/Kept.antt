@@ -1,11 +1,10 @@
 -- Ranges that are left free by marks, one after the other.
-use Rattle.std.proofs.Common.{◌≡◌, ℕ, zero, suc, ◌+◌, ◌*◌, ◌<◌, ◌≤◌, Bool, true, false, not, ◌&&◌, List, [], ◌∷◌, length, get_or, set, eqb, refl, sym, ap, ap₂, ◌∙◌, ⊎_elim, inl, inr, arith, eq-eqb, ne_eqb, get_or-set_same, get_or-set_other, length-set, subst, lt-ltb, add-one}
+use Rattle.std.proofs.Common.{◌≡◌, ℕ, ◌+◌, ◌<◌, ◌≤◌, Bool, true, false, not, ◌&&◌, List, [], ◌∷◌, length, get_or, set, eqb, refl, sym, ap, ◌∙◌, ⊎_elim, arith, eq-eqb, ne_eqb, get_or-set_same, get_or-set_other, subst, lt-ltb, add-one}
 use Rattle.std.proofs.Math.Bool.{and-true, and_assoc}
 use Rattle.std.proofs.lemmas.Bool.{cases_eq, and_right}
 use Rattle.std.proofs.lemmas.List.Sums.{sum_by-set}
-use Rattle.std.specs.Prelude.{cond, nat_lt, Option, Some, None, IsSome}
+use Rattle.std.specs.Prelude.{cond, nat_lt, Some, None, IsSome}
 use Rattle.std.specs.List.{position, position_or_len}
-use Rattle.pud_defs.specs.declared.space.TheConstants.{SPACE_START, RANGE_BYTES}
 use Rattle.pud_defs.specs.Bases.{base_at}
 use Rattle.pud_defs.specs.Spaces.{all_below}
 use Rattle.puddle_space.specs.declared.bases.TheConstants.{TRIED}

@@ -1,21 +1,19 @@
 -- The lowest free base, by the first of the ranges that is free.
-use Rattle.std.proofs.Common.{◌≡◌, ℕ, ◌+◌, ◌-◌, ◌*◌, ◌/◌, ◌%◌, ◌^◌, ◌<◌, ◌≤◌, Bool, true, false, not, ◌&&◌, List, eqb, leb, ltb, refl, sym, ap, ◌∙◌, arith, eq-eqb, eqb-true}
-use Rattle.std.specs.Prelude.{nat_le, nat_lt}
+use Rattle.std.proofs.Common.{◌≡◌, ℕ, ◌+◌, ◌-◌, ◌/◌, ◌%◌, ◌<◌, Bool, true, false, not, ◌&&◌, List, eqb, leb, ltb, sym, ap, ◌∙◌, arith, eqb-true}
 use Rattle.std.specs.List.{list_all}
-use Rattle.std.proofs.lemmas.Bool.{and_parts, and_from, leb-true}
+use Rattle.std.proofs.lemmas.Bool.{and_parts, leb-true}
 use Rattle.std.proofs.lemmas.Bool.Decides.{nat_tests}
 use Rattle.pud_defs.specs.declared.space.TheConstants.{SPACE_START, SPACE_BYTES, RANGE_BYTES}
 use Rattle.pud_defs.specs.Image.{Image}
 use Rattle.pud_defs.specs.Bases.{base_at, is_legal_base}
 use Rattle.pud_defs.specs.Spaces.{all_below}
 use Rattle.pud_defs.specs.Puddles.{puddle_at}
-use Rattle.pud_defs.specs.Tables.{Tables, tables_of}
+use Rattle.pud_defs.specs.Tables.{tables_of}
 use Rattle.pud_defs.specs.Places.{has_other_bases, is_free_base, IsLowestBase}
 use Rattle.pud_defs.proofs.Spaces.{all_below-same}
 use Rattle.pud_defs.proofs.TablesOf.{puddles_below, frames_of_tables}
 use Rattle.puddle_space.specs.declared.bases.TheConstants.{TRIED}
 use Rattle.puddle_space.specs.FreeRanges.{is_free, LeavesFree}
-
 
 tried_is_legal : (k : ℕ) → k < TRIED → is_legal_base (base_at k) ≡ true
 tried_is_legal k tried = grind (arith, nat_tests)

@@ -1,4 +1,4 @@
-use Rattle.std.proofs.Common.{◌≡◌, ℕ, ◌+◌, ◌-◌, Some, None, refl, ap, sym, ◌∙◌, arith}
+use Rattle.std.proofs.Common.{◌≡◌, ℕ, ◌-◌, Some, None, refl, ap, sym, ◌∙◌, arith}
 use Rattle.pm_model.specs.Words.{reads}
 use Rattle.pm_model.specs.Moments.{State}
 use Rattle.pud_defs.specs.Puddles.{puddle_at}

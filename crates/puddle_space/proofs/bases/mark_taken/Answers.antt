@@ -1,4 +1,4 @@
-use Rattle.std.proofs.Common.{ℕ, ◌+◌, not, eqb, take, get_or, arith}
+use Rattle.std.proofs.Common.{◌+◌, not, eqb, take, get_or, arith}
 use Rattle.std.specs.List.{list_all}
 use Rattle.std.proofs.lemmas.List.Folds.{list_all_more}
 use Rattle.pud_defs.specs.Bases.{base_at}
