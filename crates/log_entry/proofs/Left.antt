@@ -1,8 +1,8 @@
 -- What is left to read of a log, entry by entry, and what is made of its entries meanwhile.
-use Rattle.std.proofs.Common.{◌≡◌, inl, inr, ℕ, ◌+◌, ◌-◌, ◌<◌, ◌≤◌, ◌^◌, ◌&&◌, Bool, true, false, cond, leb, ltb, List, [], ◌∷◌, length, drop, Option, Some, None, option_map, is_some, refl, sym, ap, ap₂, subst, ◌∙◌, arith, add-zero}
-use Rattle.std.proofs.lemmas.Bool.{cond-true, cond-false, cases_Bool, and_left, and_parts, le-leb, lt-leb, leb-true}
+use Rattle.std.proofs.Common.{◌≡◌, inl, inr, ℕ, ◌+◌, ◌-◌, ◌≤◌, ◌^◌, ◌&&◌, Bool, true, false, cond, leb, ltb, List, [], ◌∷◌, length, Option, Some, None, option_map, is_some, refl, sym, ap, ap₂, subst, ◌∙◌, arith, add-zero}
+use Rattle.std.proofs.lemmas.Bool.{cond-true, cond-false, cases_Bool, and_left, and_parts, leb-true}
 use Rattle.std.proofs.lemmas.Bool.Decides.{leb_tells}
-use Rattle.pud_defs.specs.declared.layout.TheConstants.{LOG_HEADER_WORDS, LOG_ENTRY_WORDS, ENTRY_HEADER_WORDS}
+use Rattle.pud_defs.specs.declared.layout.TheConstants.{LOG_HEADER_WORDS, LOG_ENTRY_WORDS}
 use Rattle.pud_defs.specs.Image.{Image}
 use Rattle.pud_defs.specs.Entries.{Entry, gate_used, is_legal_gate, words_from, first_entry, entries_in, entries_of}
 use Rattle.pud_defs.specs.Replay.{IsInLog}
