@@ -1,9 +1,11 @@
-//! Tests of the registry floor over its public calls: a device judged and brought up to date, the log-space table, and the
-//! type table.
+//! Tests of the registry floor over its public calls: a device judged and brought up to date, the log-space table, the type
+//! table, the pool table, and the puddle table.
 #![tactic(auto)]
 
 #[cfg(test)]
 mod judging;
+#[cfg(test)]
+mod pools;
 #[cfg(test)]
 mod spaces;
 #[cfg(test)]
