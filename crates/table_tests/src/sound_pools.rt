@@ -2,6 +2,7 @@
 use crate::device::{Row, blank_with, has, word};
 use crate::judging::judge;
 use pm_model::Host;
+use pud_defs::layout::DEVICE_MAGIC;
 use registry::{LoadFault, load_sound};
 use std::process::Abort;
 use test_device::poke;
@@ -159,18 +160,19 @@ fn a_refused_device_stays(rt: HostRuntime) {
 // A batch under way counts: it puts the puddle of frame 3 under ordinal 2, or gives pool `a` the name of `b`.
 #[test]
 fn the_tables_are_read_through_the_daemon_log(rt: HostRuntime) {
-    let under_way = [(64, 197_634), (73, 4_295_163_905)];
-    for (row, want) in [
+    let rows: [(Row, bool); 4] = [
         ((1_560, 2 + 2 * UPPER), false),
         ((1_216, 98), false),
         ((1_216, 99), true),
         ((1_538, BASE + RANGE), false),
-    ] {
-        let mut always = [(0, 0); 30];
+    ];
+    for ((word, value), want) in rows {
+        let mut always = [(0, DEVICE_MAGIC); 30];
         always[..26].copy_from_slice(&TWO_POOLS);
-        always[26..28].copy_from_slice(&under_way);
-        always[28] = (72, u64::from(row.0));
-        always[29] = (74, row.1);
+        always[26] = (64, 197_634);
+        always[27] = (72, u64::from(word));
+        always[28] = (73, 4_295_163_905);
+        always[29] = (74, value);
         judge(&rt, rt.alloc(), &always, &[(&[], want)]);
     }
 }
