@@ -19,10 +19,10 @@ use Rattle.pud_defs.specs.Entries.{Entry, is_idle_gate}
 use Rattle.pud_defs.specs.Replay.{device_word, overwritten, is_in_log, settled_by}
 use Rattle.pud_defs.specs.Registry.{frames_of, may_be_logged, is_allowed, has_legal_log}
 use Rattle.pud_defs.specs.World.{StoredWorld, registry_world, world_of}
-use Rattle.pud_defs.proofs.Replay.{overwritten-stays, overwritten-there, settled_by-closed, outside_log, within_log}
+use Rattle.pud_defs.proofs.Replay.{overwritten-stays, overwritten-there, settled_by-idle, outside_log, within_log}
 use Rattle.pud_defs.proofs.Logged.{IsUnlogged, unlogged, lies_apart, allowed_in_range, new_value-allowed, has_legal_log-of}
 use Rattle.pud_defs.proofs.Parts.Part.{Header}
-use Rattle.pud_defs.proofs.Worlds.{standing_of_world, legal_log_of_world, legal_log_closed, world_of_legal, frames_of_world}
+use Rattle.pud_defs.proofs.Worlds.{standing_of_world, legal_log_of_world, legal_log_idle, world_of_legal, frames_of_world}
 use Rattle.log_replay.specs.Replaying.{NamesApart}
 use Rattle.batch.specs.Batches.{batch_write, committed, IsBatchEntry, AreBatched, IsFree, ByBatch, IsBatched, Commits}
 use Rattle.batch.specs.Worlds.{IsSettled, with_batch, MovesBy, IsBetween, HasBatch, Moves}
@@ -64,7 +64,7 @@ module _ (size : ℕ) (s next : StoredWorld) (es : List Entry) (a : State) (batc
 
   legal : (image : Image) → IsBatched a.now.words DAEMON_LOG es image → has_legal_log image ≡ true
   legal image b = elim b.log [
-    | inl idle ↦ legal_log_closed image idle
+    | inl idle ↦ legal_log_idle image idle
     | inr log ↦ has_legal_log-of image s.frames (committed es) (frames_stay image b) log m.allowed
   ]
 
@@ -93,7 +93,7 @@ module _ (size : ℕ) (s next : StoredWorld) (es : List Entry) (a : State) (batc
     word_written k (Some v) some =
         overwritten-there (batch_write es) (settled_by DAEMON_LOG image) k v some
         ∙ sym ((c.durable refl k v some).each (image k) (picked.each k))
-        ∙ sym (settled_by-closed DAEMON_LOG image k (ap is_idle_gate ((c.closed refl).each (image DAEMON_LOG) (picked.each DAEMON_LOG))) (outside_batch k v some))
+        ∙ sym (settled_by-idle DAEMON_LOG image k (ap is_idle_gate ((c.closed refl).each (image DAEMON_LOG) (picked.each DAEMON_LOG))) (outside_batch k v some))
 
     -- the batch's words are there, so to write them again changes nothing
     again : with_batch es image ≡ settled_by DAEMON_LOG image

@@ -8,7 +8,7 @@ use Rattle.pud_defs.specs.declared.log_words.TheConstants.{UNDO_ORDER, REDO_ORDE
 use Rattle.pud_defs.specs.Image.{Image}
 use Rattle.pud_defs.specs.Entries.{Entry, Log, log_of, is_idle_gate}
 use Rattle.pud_defs.specs.Replay.{device_word, value_at, is_in_range, given_by, undone, redone, new_value, overwritten, replayed, IsInLog, is_in_log, settled_by}
-use Rattle.pud_defs.proofs.Replay.{or_none, or_assoc, undone-first, redone-first, undone-none, redone-none, new_value-of, settled_by-inside, settled_by-outside, settled_by-closed, within_log}
+use Rattle.pud_defs.proofs.Replay.{or_none, or_assoc, undone-first, redone-first, undone-none, redone-none, new_value-of, settled_by-inside, settled_by-outside, settled_by-idle, within_log}
 use Rattle.log_replay.specs.Replaying.{NamesApart}
 use Rattle.log_replay.proofs.Left.{value_from-apart}
 use Rattle.batch.specs.Batches.{batch_write, committed, IsBatchEntry, AreBatched}
@@ -73,7 +73,7 @@ pub settled_by-idle_same : (at : ℕ) (i j : Image) → is_idle_gate (i at) ≡ 
 settled_by-idle_same at i j idle_i idle_j same =
     let each : (w : ℕ) → settled_by at i w ≡ settled_by at j w = λ w. elim (cases_Bool (is_in_log at w)) [
       | inl inside ↦ settled_by-inside at i w inside ∙ sym (settled_by-inside at j w inside)
-      | inr outside ↦ settled_by-closed at i w idle_i outside ∙ same w outside ∙ sym (settled_by-closed at j w idle_j outside)
+      | inr outside ↦ settled_by-idle at i w idle_i outside ∙ same w outside ∙ sym (settled_by-idle at j w idle_j outside)
     ] in
     λ p w. each w p
 
@@ -91,6 +91,6 @@ settled_by-committed size at es i j batched apart log idle same =
       | inr outside ↦
           settled_by-outside at i w outside
           ∙ ap (λ (l : Log). replayed device_word l i w) log
-          ∙ ap₂ unwrap_or (new_value-committed es w batched) (same w outside ∙ sym (settled_by-closed at j w idle outside))
+          ∙ ap₂ unwrap_or (new_value-committed es w batched) (same w outside ∙ sym (settled_by-idle at j w idle outside))
     ] in
     λ p w. each w p

@@ -16,7 +16,7 @@ use Rattle.pud_defs.specs.declared.log_words.TheConstants.{CLOSED_GATE}
 use Rattle.pud_defs.specs.Image.{Image}
 use Rattle.pud_defs.specs.Entries.{Entry, Log, log_of, is_idle_gate}
 use Rattle.pud_defs.specs.Replay.{device_word, new_value, replayed, is_in_log, settled_by}
-use Rattle.pud_defs.proofs.Replay.{settled_by-inside, settled_by-outside, settled_by-same, settled_by-closed, not_inside}
+use Rattle.pud_defs.proofs.Replay.{settled_by-inside, settled_by-outside, settled_by-same, settled_by-idle, not_inside}
 use Rattle.log_replay.specs.Replaying.{IsReplayable, HasDurableLog, Named, ReplaysSame, Replays, ReplaysAgain, ByLog, SettlesSame, SettlesLog}
 use Rattle.log_replay.proofs.Whole.{log_of_picked, new_value-apart}
 
@@ -117,7 +117,7 @@ module _ (size at : ℕ) (es : List Entry) (b : State) (durable : HasDurableLog 
         | inr shut ↦
             let each : (w : ℕ) → settled_by at image w ≡ settled_by at before w = λ w. elim (cases_Bool (is_in_log at w)) [
               | inl inside ↦ settled_by-inside at image w inside ∙ sym (settled_by-inside at before w inside)
-              | inr out ↦ settled_by-closed at image w (ap is_idle_gate shut.there) out ∙ shut.others w (gate_apart at w out) ∙ sym (settled_placed before p w out)
+              | inr out ↦ settled_by-idle at image w (ap is_idle_gate shut.there) out ∙ shut.others w (gate_apart at w out) ∙ sym (settled_placed before p w out)
             ] in
             record {
               before = p.so_far.before;

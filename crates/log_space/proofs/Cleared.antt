@@ -17,7 +17,7 @@ use Rattle.pud_defs.specs.Replay.{value_at, overwritten, settled_by}
 use Rattle.pud_defs.specs.Registry.{is_allowed}
 use Rattle.pud_defs.specs.Spaces.{space_record_at, owner_by, owner_of}
 use Rattle.pud_defs.specs.World.{StoredWorld, world_of}
-use Rattle.pud_defs.proofs.Replay.{overwritten-stays, overwritten-there, value_at-there, value_at-apart, settled_by-closed, outside_log}
+use Rattle.pud_defs.proofs.Replay.{overwritten-stays, overwritten-there, value_at-there, value_at-apart, settled_by-idle, outside_log}
 use Rattle.pud_defs.proofs.Logged.{may_be_logged-table, is_allowed-there}
 use Rattle.pud_defs.proofs.Spaces.{are_legal_spaces-none, are_closed_logs-none}
 use Rattle.pud_defs.proofs.Parts.{StandsFor, standing_spaces}
@@ -113,7 +113,7 @@ Empties-commits fault a b c = record {
       (λ bytes image p. (p.0, may_be_emptied a.now.words image p.1)) c.moments;
   done = λ none image picked. no_owners (settled_by DAEMON_LOG image) (λ client below.
       let at = space_record_at client in
-      settled_by-closed DAEMON_LOG image at (ap is_idle_gate ((c.closed none).each (image DAEMON_LOG) (picked.each DAEMON_LOG))) (outside_log DAEMON_LOG at (inr (omega arith)))
+      settled_by-idle DAEMON_LOG image at (ap is_idle_gate ((c.closed none).each (image DAEMON_LOG) (picked.each DAEMON_LOG))) (outside_log DAEMON_LOG at (inr (omega arith)))
       ∙ (c.durable none at 0 (clearing-there CLIENTS client below)).each (image at) (picked.each at));
 }
 

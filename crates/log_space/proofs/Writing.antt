@@ -14,7 +14,7 @@ use Rattle.pud_defs.specs.Replay.{overwritten, settled_by}
 use Rattle.pud_defs.specs.Registry.{is_allowed}
 use Rattle.pud_defs.specs.Spaces.{Owner, space_record_at, owner_by, owner_of, is_space, is_legal_space, has_closed_logs, owner, with_owner}
 use Rattle.pud_defs.specs.World.{StoredWorld}
-use Rattle.pud_defs.proofs.Replay.{settled_by-closed, outside_log, overwritten-stays, overwritten-there, value_at-there, value_at-apart}
+use Rattle.pud_defs.proofs.Replay.{settled_by-idle, outside_log, overwritten-stays, overwritten-there, value_at-there, value_at-apart}
 use Rattle.pud_defs.proofs.Logged.{may_be_logged-table, is_allowed-there}
 use Rattle.pud_defs.proofs.Spaces.{owner_of-same, has_closed_logs-same}
 use Rattle.pud_defs.proofs.Worlds.{standing_of_world, registry_world_standing}
@@ -147,7 +147,7 @@ GivesOwner-registration size s slot uid gid words settled known uid_fits gid_fit
       let new = overwritten (batch_write (registration slot uid gid)) old in
       let gate : is_idle_gate (image DAEMON_LOG) ≡ true = settled.idle (image DAEMON_LOG) (picked.each DAEMON_LOG) in
       let same : has_closed_logs old s.frames slot ≡ has_closed_logs image s.frames slot =
-      has_closed_logs-same old image s.frames slot known (λ k low high. settled_by-closed DAEMON_LOG image k gate (outside_log DAEMON_LOG k (inr (omega arith)))) in
+      has_closed_logs-same old image s.frames slot known (λ k low high. settled_by-idle DAEMON_LOG image k gate (outside_log DAEMON_LOG k (inr (omega arith)))) in
       or_right (eqb (new (space_record_at slot)) 0) (has_closed_logs new s.frames slot)
       (has_closed_logs-changed slot old new (is_beside slot (1 ∷ uid ∷ gid ∷ []) old (omega arith)) s.frames slot known known ∙ same ∙ logs.each image picked);
 }

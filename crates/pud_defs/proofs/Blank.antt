@@ -14,7 +14,7 @@ use Rattle.pud_defs.proofs.Spaces.{are_legal_spaces-none, are_closed_logs-none}
 use Rattle.pud_defs.proofs.Parts.{Part, Holds, StandsFor}
 use Rattle.pud_defs.proofs.Parts.Part.{Header, Types, Pools, Spaces}
 use Rattle.pud_defs.proofs.NoPools.{empty_tables}
-use Rattle.pud_defs.proofs.Worlds.{registry_world_standing, world_of-closed}
+use Rattle.pud_defs.proofs.Worlds.{registry_world_standing, world_of-idle}
 
 -- records whose id words are 0 are free
 pub type_records-blank : (image : Image) (from count : ℕ) → ((i : ℕ) → from ≤ i → i < from + count → image (type_record_at i) ≡ 0) → type_records image from count ≡ []
@@ -54,7 +54,7 @@ pub world_of-blank : (size F machine : ℕ) (image : Image) → is_legal_frame_c
 world_of-blank size F machine image legal room h =
     let closed : is_idle_gate (image DAEMON_LOG) ≡ true = ap is_idle_gate (h.rest DAEMON_LOG (omega arith) (omega arith)) in
     let read : (k : ℕ) → k < DAEMON_LOG → beside_log DAEMON_LOG image k ≡ image k = λ k low. beside_log-outside DAEMON_LOG image k (outside_log DAEMON_LOG k (inl low)) in
-    world_of-closed size image closed
+    world_of-idle size image closed
     ∙ registry_world_standing size (beside_log DAEMON_LOG image) (blank_world F machine) (standing_blank size F machine (beside_log DAEMON_LOG image) legal room (record {
       magic = read MAGIC_WORD (omega arith) ∙ h.magic;
       version = read VERSION_WORD (omega arith) ∙ h.version;

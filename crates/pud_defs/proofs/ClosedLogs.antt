@@ -10,11 +10,11 @@ use Rattle.pud_defs.specs.Entries.{is_idle_gate, entries_of}
 use Rattle.pud_defs.specs.Replay.{IsInLog, is_in_log, beside_log}
 use Rattle.pud_defs.specs.Spaces.{space_record_at, is_closed_range, is_closed_log, has_closed_logs, are_closed_logs, IsGateOf}
 use Rattle.pud_defs.specs.World.{StoredWorld, world_of}
-use Rattle.pud_defs.proofs.Replay.{entries_of-closed, beside_log-outside, outside_log}
+use Rattle.pud_defs.proofs.Replay.{entries_of-idle, beside_log-outside, outside_log}
 use Rattle.pud_defs.proofs.Spaces.{all_below-from, all_below-each, is_closed_log-same}
 use Rattle.pud_defs.proofs.Parts.{StandsFor}
 use Rattle.pud_defs.proofs.Parts.Part.{Spaces}
-use Rattle.pud_defs.proofs.Worlds.{standing_logs, standing_closed, world_of-closed, registry_world_standing}
+use Rattle.pud_defs.proofs.Worlds.{standing_logs, standing_idle, world_of-idle, registry_world_standing}
 
 -- the second image is the first but for gates of this client's logs, which it has closed
 pub record IsClosedAnew (F client : ℕ) (i j : Image) : Type 0 where
@@ -23,7 +23,7 @@ pub record IsClosedAnew (F client : ℕ) (i j : Image) : Type 0 where
 -- a log with this gate is closed
 pub closed_by_gate : (image : Image) (at : ℕ) → image at ≡ CLOSED_GATE → is_closed_log image at ≡ true
 closed_by_gate image at gate =
-    let empty : entries_of image at ≡ Some [] = entries_of-closed image at (ap is_idle_gate gate) in
+    let empty : entries_of image at ≡ Some [] = entries_of-idle image at (ap is_idle_gate gate) in
     λ p. is_closed_range (gate p) && is_some (empty p)
 
 above : (n k : ℕ) → n ≤ k → (k ≡ n → ⊥) → n < k
@@ -92,9 +92,9 @@ anew_beside F client i j anew = record {
 pub world_of-anew : (size client : ℕ) (i j : Image) (s : StoredWorld) → is_idle_gate (i DAEMON_LOG) ≡ true → world_of size i ≡ Some s → IsClosedAnew s.frames client i j → world_of size j ≡ Some s
 world_of-anew size client i j s closed world anew =
     let gate : is_idle_gate (j DAEMON_LOG) ≡ true = ap is_idle_gate (below_logs s.frames client i j anew DAEMON_LOG (omega arith)) ∙ closed in
-    world_of-closed size j gate
+    world_of-idle size j gate
     ∙ registry_world_standing size (beside_log DAEMON_LOG j) s
-    (standing_anew size client (beside_log DAEMON_LOG i) (beside_log DAEMON_LOG j) s (standing_closed size i s closed world) (anew_beside s.frames client i j anew))
+    (standing_anew size client (beside_log DAEMON_LOG i) (beside_log DAEMON_LOG j) s (standing_idle size i s closed world) (anew_beside s.frames client i j anew))
 
 -- with each of its gates closed the client's logs are
 pub has_closed_logs-gates : (F client : ℕ) (image : Image) → ((n : ℕ) → n < CLIENT_LOGS → image (log_at F client n) ≡ CLOSED_GATE) → has_closed_logs image F client ≡ true

@@ -14,7 +14,7 @@ use Rattle.pud_defs.proofs.TypeLists.{by_id-insert, are_legal_types-insert}
 use Rattle.pud_defs.proofs.TypeTable.{type_records_but, type_records-map_written, type_records-id_written}
 use Rattle.pud_defs.proofs.Parts.{StandsFor, HasTypes, standing_with_types}
 use Rattle.pud_defs.proofs.Parts.Part.{Types}
-use Rattle.pud_defs.proofs.Worlds.{registry_world_standing, standing_closed, world_of-closed, map_of_world}
+use Rattle.pud_defs.proofs.Worlds.{registry_world_standing, standing_idle, world_of-idle, map_of_world}
 
 -- a word of the type table is written: what else is read stays
 type_written : (size : ℕ) (image : Image) (s : StoredWorld) (ts : List (ℕ × ℕ)) (w v : ℕ) → type_record_at 0 ≤ w → w < type_record_at TYPE_RECORDS → StandsFor size image s
@@ -70,20 +70,20 @@ pub world_of-map_written : (size : ℕ) (image : Image) (s : StoredWorld) (r v :
     → world_of size (written (type_record_at r + 1) v image) ≡ Some s
 world_of-map_written size image s r v closed h within free =
     let low : type_record_at 0 ≤ type_record_at r + 1 = omega arith in
-    world_of-closed size (written (type_record_at r + 1) v image) (gate_written image (type_record_at r + 1) v low closed)
+    world_of-idle size (written (type_record_at r + 1) v image) (gate_written image (type_record_at r + 1) v low closed)
     ∙ ap (registry_world size) (beside_written image (type_record_at r + 1) v low)
     ∙ registry_world_standing size _ s
-    (standing-map_written size (beside_log DAEMON_LOG image) s r v (standing_closed size image s closed h) within (beside_read image (type_record_at r) (omega arith) ∙ free))
+    (standing-map_written size (beside_log DAEMON_LOG image) s r v (standing_idle size image s closed h) within (beside_read image (type_record_at r) (omega arith) ∙ free))
 
 pub world_of-id_written : (size : ℕ) (image : Image) (s : StoredWorld) (r id map : ℕ) → is_idle_gate (image DAEMON_LOG) ≡ true → world_of size image ≡ Some s → r < TYPE_RECORDS → image (type_record_at r) ≡ 0
     → image (type_record_at r + 1) ≡ map → is_legal_type_id id ≡ true → is_legal_map map ≡ true → map_of id s.types ≡ None
     → world_of size (written (type_record_at r) id image) ≡ Some (record s { types = with_type id map s.types })
 world_of-id_written size image s r id map closed h within free there legal_id legal_map none =
     let low : type_record_at 0 ≤ type_record_at r = omega arith in
-    world_of-closed size (written (type_record_at r) id image) (gate_written image (type_record_at r) id low closed)
+    world_of-idle size (written (type_record_at r) id image) (gate_written image (type_record_at r) id low closed)
     ∙ ap (registry_world size) (beside_written image (type_record_at r) id low)
     ∙ registry_world_standing size _ _
-    (standing-id_written size (beside_log DAEMON_LOG image) s r id map (standing_closed size image s closed h) within
+    (standing-id_written size (beside_log DAEMON_LOG image) s r id map (standing_idle size image s closed h) within
     (beside_read image (type_record_at r) low ∙ free) (beside_read image (type_record_at r + 1) (omega arith) ∙ there) legal_id legal_map none)
 
 -- both writes

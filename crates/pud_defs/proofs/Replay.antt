@@ -145,8 +145,8 @@ new_value-closed place log w closed =
     ap₂ option_or (redone-closed place log (entries_or_none log.entries) w closed) (undone-closed place log (entries_or_none log.entries) w closed)
 
 -- so its replay changes nothing
-pub replayed-closed : (place : Place) (log : Log) (image : Image) → log.hi ≤ log.lo + 1 → replayed place log image ≡ image
-replayed-closed place log image closed = overwritten-nothing (new_value place log) image (λ w. new_value-closed place log w closed)
+pub replayed-none : (place : Place) (log : Log) (image : Image) → log.hi ≤ log.lo + 1 → replayed place log image ≡ image
+replayed-none place log image closed = overwritten-nothing (new_value place log) image (λ w. new_value-closed place log w closed)
 
 -- what the entries of a log give
 pub new_value-of : (place : Place) (log : Log) (es : List Entry) (w : ℕ) → log.entries ≡ Some es → new_value place log w ≡ given place log es w
@@ -174,26 +174,26 @@ settled_by-same at i j same =
 
 -- ---- a closed log that counts no word
 
-pub closed_range_of : (v : ℕ) → is_idle_gate v ≡ true → gate_hi v ≤ gate_lo v + 1
-closed_range_of v closed = leb-true _ _ (and_parts (is_legal_gate v && eqb (gate_used v) 0) (leb (gate_hi v) (gate_lo v + 1)) closed).1
+pub empty_range_of : (v : ℕ) → is_idle_gate v ≡ true → gate_hi v ≤ gate_lo v + 1
+empty_range_of v closed = leb-true _ _ (and_parts (is_legal_gate v && eqb (gate_used v) 0) (leb (gate_hi v) (gate_lo v + 1)) closed).1
 
-pub entries_of-closed : (image : Image) (at : ℕ) → is_idle_gate (image at) ≡ true → entries_of image at ≡ Some []
-entries_of-closed image at closed =
+pub entries_of-idle : (image : Image) (at : ℕ) → is_idle_gate (image at) ≡ true → entries_of image at ≡ Some []
+entries_of-idle image at closed =
     let parts = and_parts (is_legal_gate (image at) && eqb (gate_used (image at)) 0) (leb (gate_hi (image at)) (gate_lo (image at) + 1)) closed in
     let gate = and_parts (is_legal_gate (image at)) (eqb (gate_used (image at)) 0) parts.0 in
     let none : words_from image (at + LOG_HEADER_WORDS) (gate_used (image at)) ≡ [] = words_from-none image (at + LOG_HEADER_WORDS) (gate_used (image at)) (eqb-true _ _ gate.1) in
     entries_of-is image at (image at) [] refl gate.0 none ∙ entries_in-nothing [] refl
 
 -- its replay changes nothing
-pub settled_by-closed : (at : ℕ) (image : Image) (w : ℕ) → is_idle_gate (image at) ≡ true → is_in_log at w ≡ false → settled_by at image w ≡ image w
-settled_by-closed at image w closed outside =
-    settled_by-outside at image w outside ∙ ap (λ (i : Image). i w) (replayed-closed device_word (log_of image at) image (closed_range_of (image at) closed))
+pub settled_by-idle : (at : ℕ) (image : Image) (w : ℕ) → is_idle_gate (image at) ≡ true → is_in_log at w ≡ false → settled_by at image w ≡ image w
+settled_by-idle at image w closed outside =
+    settled_by-outside at image w outside ∙ ap (λ (i : Image). i w) (replayed-none device_word (log_of image at) image (empty_range_of (image at) closed))
 
 pub settled_by-beside : (at : ℕ) (image : Image) → is_idle_gate (image at) ≡ true → settled_by at image ≡ beside_log at image
 settled_by-beside at image closed =
     let each : (w : ℕ) → settled_by at image w ≡ beside_log at image w = λ w. elim (cases_Bool (is_in_log at w)) [
       | inl inside ↦ settled_by-inside at image w inside ∙ sym (cond-true _ _ _ inside)
-      | inr outside ↦ settled_by-closed at image w closed outside ∙ sym (cond-false _ _ _ outside)
+      | inr outside ↦ settled_by-idle at image w closed outside ∙ sym (cond-false _ _ _ outside)
     ] in
     λ p w. each w p
 

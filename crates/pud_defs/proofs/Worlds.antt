@@ -14,7 +14,7 @@ use Rattle.pud_defs.specs.World.{StoredWorld, stored_by, registry_world, world_o
 use Rattle.pud_defs.specs.Entries.{is_idle_gate, log_of}
 use Rattle.pud_defs.specs.Replay.{settled_by, beside_log}
 use Rattle.pud_defs.specs.Spaces.{are_closed_logs}
-use Rattle.pud_defs.proofs.Replay.{entries_of-closed, settled_by-beside, beside_log-outside, outside_log}
+use Rattle.pud_defs.proofs.Replay.{entries_of-idle, settled_by-beside, beside_log-outside, outside_log}
 use Rattle.pud_defs.proofs.Spaces.{are_legal_spaces-same}
 use Rattle.pud_defs.proofs.Logged.{settled_by-unlogged}
 use Rattle.pud_defs.proofs.TypeLists.{is_sorted-by_id, map_of-by_id, length-by_id}
@@ -148,17 +148,17 @@ world_of-unsound size image e = elim (cases_Bool (has_legal_log image)) [
 
 -- ---- a daemon log that is closed and counts no word
 
-pub legal_log_closed : (image : Image) → is_idle_gate (image DAEMON_LOG) ≡ true → has_legal_log image ≡ true
+pub legal_log_idle : (image : Image) → is_idle_gate (image DAEMON_LOG) ≡ true → has_legal_log image ≡ true
 unfolding has_legal_log
-legal_log_closed image closed = ap (are_allowed (frames_of image) (log_of image DAEMON_LOG)) (entries_of-closed image DAEMON_LOG closed)
+legal_log_idle image closed = ap (are_allowed (frames_of image) (log_of image DAEMON_LOG)) (entries_of-idle image DAEMON_LOG closed)
 
 -- the image beside that log stands for the world
-pub world_of-closed : (size : ℕ) (image : Image) → is_idle_gate (image DAEMON_LOG) ≡ true → world_of size image ≡ registry_world size (beside_log DAEMON_LOG image)
+pub world_of-idle : (size : ℕ) (image : Image) → is_idle_gate (image DAEMON_LOG) ≡ true → world_of size image ≡ registry_world size (beside_log DAEMON_LOG image)
 unfolding world_of
-world_of-closed size image closed = cond-true _ _ _ (legal_log_closed image closed) ∙ ap (registry_world size) (settled_by-beside DAEMON_LOG image closed)
+world_of-idle size image closed = cond-true _ _ _ (legal_log_idle image closed) ∙ ap (registry_world size) (settled_by-beside DAEMON_LOG image closed)
 
-pub standing_closed : (size : ℕ) (image : Image) (s : StoredWorld) → is_idle_gate (image DAEMON_LOG) ≡ true → world_of size image ≡ Some s → StandsFor size (beside_log DAEMON_LOG image) s
-standing_closed size image s closed h = standing_of_registry size (beside_log DAEMON_LOG image) s (sym (world_of-closed size image closed) ∙ h)
+pub standing_idle : (size : ℕ) (image : Image) (s : StoredWorld) → is_idle_gate (image DAEMON_LOG) ≡ true → world_of size image ≡ Some s → StandsFor size (beside_log DAEMON_LOG image) s
+standing_idle size image s closed h = standing_of_registry size (beside_log DAEMON_LOG image) s (sym (world_of-idle size image closed) ∙ h)
 
 around_log : (k : ℕ) → (k < DAEMON_LOG) ⊎ (TYPE_TABLE ≤ k) → (k < DAEMON_LOG) ⊎ (DAEMON_LOG + LOG_WORDS ≤ k)
 around_log k (inl low) = inl low

@@ -11,8 +11,8 @@ pub fn word_not_named_stays()
     ensures { (place : Place) (log : Log) (image : Image) (w : ℕ) → new_value place log w ≡ Option.None → replayed place log image w ≡ image w }
 {}
 
-/// A log whose range is closed changes nothing.
-pub fn closed_log_replays_nothing()
+/// A log in whose range no entry can be changes nothing.
+pub fn log_that_counts_none_replays_nothing()
     ensures { (place : Place) (log : Log) (image : Image) → log.hi ≤ log.lo + 1 → replayed place log image ≡ image }
 {}
 

@@ -18,7 +18,7 @@ use Rattle.pud_defs.specs.World.{World, world_of, closed}
 use Rattle.pud_defs.specs.declared.machine.Command.TheVariants.{Client, Leave}
 use Rattle.pud_defs.specs.declared.machine.Refusal.TheVariants as refusals
 use Rattle.pud_defs.specs.Step.{refusal_of, after}
-use Rattle.pud_defs.proofs.Replay.{settled_by-closed, outside_log}
+use Rattle.pud_defs.proofs.Replay.{settled_by-idle, outside_log}
 use Rattle.pud_defs.proofs.Spaces.{used_is_some, owner_of-same, has_closed_logs-same}
 use Rattle.pud_defs.proofs.Steps.{client-taken, client-new, leave-absent, leave-present}
 use Rattle.batch.specs.Batches.{ByBatch}
@@ -118,7 +118,7 @@ module _ (size : ℕ) (w : World) (memory : Memory) (slot : ℕ) (known : slot <
 
   -- a record that is used is so still where the daemon log is closed
   used_still : (image : Image) → image (space_record_at slot) ≡ 1 → is_idle_gate (image DAEMON_LOG) ≡ true → IsUsedStill slot image
-  used_still image used gate = record { now = used; replayed = settled_by-closed DAEMON_LOG image (space_record_at slot) gate (outside_log DAEMON_LOG (space_record_at slot) (inr (omega arith))) ∙ used }
+  used_still image used gate = record { now = used; replayed = settled_by-idle DAEMON_LOG image (space_record_at slot) gate (outside_log DAEMON_LOG (space_record_at slot) (inr (omega arith))) ∙ used }
 
   module _ (present : true ≡ is_some (w.clients slot)) where
     used_before : (a : State) → IsReady size w memory a → (image : Image) → Picks a.now.words image → image (space_record_at slot) ≡ 1

@@ -23,7 +23,7 @@ use Rattle.pud_defs.specs.Step.{is_other, answer_by, refusal_of, after, unless_r
 use Rattle.pud_defs.proofs.TypeTable.{IsLowestFree, first_free_some}
 use Rattle.pud_defs.proofs.Spaces.{owner_of-same}
 use Rattle.pud_defs.proofs.Parts.{StandsFor}
-use Rattle.pud_defs.proofs.Worlds.{standing_beside, standing_closed, types_sorted, map_of_world, length_of_world, full_of_world, room_of_world}
+use Rattle.pud_defs.proofs.Worlds.{standing_beside, standing_idle, types_sorted, map_of_world, length_of_world, full_of_world, room_of_world}
 use Rattle.pud_defs.proofs.Definitions.{world_of-map_written, world_of-defined}
 use Rattle.pud_defs.specs.Step.Answer.{of_reply}
 use Rattle.pud_defs.proofs.Steps.{refused_answer, answer_is_ok, refusal_of-define, define-same, define-clash, define-full, define-new, after-same}
@@ -89,7 +89,7 @@ closed_after w id map = refl
 standing : (size : ℕ) (w : World) (memory : Memory) (s : State) → IsReady size w memory s → StandsFor size (reads s.now.words) (closed w)
 standing size w memory s ready =
     standing_beside size (reads s.now.words) (closed w)
-    (standing_closed size (reads s.now.words) (closed w) (ready.settled.idle (reads s.now.words DAEMON_LOG) (inl refl)) (ready.settled.stands (reads s.now.words) (Picks-reads s.now.words)))
+    (standing_idle size (reads s.now.words) (closed w) (ready.settled.idle (reads s.now.words DAEMON_LOG) (inl refl)) (ready.settled.stands (reads s.now.words) (Picks-reads s.now.words)))
 
 -- a definition writes no word outside the type table
 not_outside : (r id map k v : ℕ) → r < TYPE_RECORDS → (k < TYPE_TABLE) ⊎ (POOL_TABLE ≤ k) → written (record_write r id map) k v → ⊥

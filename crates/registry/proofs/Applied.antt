@@ -21,10 +21,10 @@ use Rattle.pud_defs.specs.Entries.{Entry, log_of, is_idle_gate}
 use Rattle.pud_defs.specs.Replay.{device_word, new_value, is_in_log, settled_by}
 use Rattle.pud_defs.specs.Registry.{frames_of, is_allowed, are_allowed, has_legal_log, is_sound}
 use Rattle.pud_defs.specs.World.{StoredWorld, stored_by, registry_world, world_of}
-use Rattle.pud_defs.proofs.Replay.{outside_log, settled_by-inside, settled_by-outside, settled_by-closed}
+use Rattle.pud_defs.proofs.Replay.{outside_log, settled_by-inside, settled_by-outside, settled_by-idle}
 use Rattle.pud_defs.proofs.Logged.{legal_entries, allowed_in_range, has_legal_log-of, new_value-unlogged}
 use Rattle.pud_defs.proofs.Parts.Part.{Header}
-use Rattle.pud_defs.proofs.Worlds.{standing_of_world, legal_log_of_world, legal_log_closed, frames_of_world, world_of_legal, world_of-sound}
+use Rattle.pud_defs.proofs.Worlds.{standing_of_world, legal_log_of_world, legal_log_idle, frames_of_world, world_of_legal, world_of-sound}
 use Rattle.log_replay.specs.Replaying.{IsReplayable, HasDurableLog, ByLog, SettlesSame, SettlesLog}
 use Rattle.log_replay.proofs.Closing.{gate_apart}
 use Rattle.batch.specs.Worlds.{IsSettled}
@@ -108,7 +108,7 @@ gate_closed a b settles = ap is_idle_gate (HasOnly-newest (b.now.words DAEMON_LO
 settled_then : (a b : State) → SettlesLog DAEMON_LOG None a b → (w : ℕ) → settled_by DAEMON_LOG (reads b.now.words) w ≡ settled_by DAEMON_LOG (reads a.now.words) w
 settled_then a b settles w = elim (cases_Bool (is_in_log DAEMON_LOG w)) [
   | inl inside ↦ settled_by-inside DAEMON_LOG (reads b.now.words) w inside ∙ sym (settled_by-inside DAEMON_LOG (reads a.now.words) w inside)
-  | inr out ↦ settled_by-closed DAEMON_LOG (reads b.now.words) w (gate_closed a b settles) out ∙ reads_settled a b settles w out
+  | inr out ↦ settled_by-idle DAEMON_LOG (reads b.now.words) w (gate_closed a b settles) out ∙ reads_settled a b settles w out
 ]
 
 -- it stands for what it stood for
@@ -118,7 +118,7 @@ stands_then size a b None none sound settles = absurd (sound refl)
 stands_then size a b (Some s) world sound settles =
     let before = reads a.now.words in
     let now = reads b.now.words in
-    world_of_legal size now (legal_log_closed now (gate_closed a b settles))
+    world_of_legal size now (legal_log_idle now (gate_closed a b settles))
     ∙ ap (registry_world size) (λ i w. settled_then a b settles w i)
     ∙ sym (world_of_legal size before (legal_log_of_world size before s world))
 
@@ -149,7 +149,7 @@ module _ (size : ℕ) (s : StoredWorld) (a : State) (rested : IsRested a.now.wor
       p.outside FRAMES_WORD (outside_log DAEMON_LOG FRAMES_WORD (inl (omega arith))) (new_value-unlogged i FRAMES_WORD legal_log (omega arith)) ∙ ap (λ (x : Image). x FRAMES_WORD) before in
       let legal_now : has_legal_log image ≡ true = elim p.gate [
         | inl same ↦ has_legal_log-of image (frames_of i) log frames same (ap (are_allowed (frames_of i) log) (spelled size s i world) ∙ allowed size s i world)
-        | inr closed ↦ legal_log_closed image closed
+        | inr closed ↦ legal_log_idle image closed
       ] in
       world_of_legal size image legal_now
       ∙ ap (registry_world size) (p.same ∙ ap (settled_by DAEMON_LOG) before)

@@ -11,7 +11,7 @@ use Rattle.pud_defs.specs.Image.{Image}
 use Rattle.pud_defs.specs.Entries.{Entry, Log, log_of, words_from}
 use Rattle.pud_defs.specs.Replay.{device_word, is_in_range, value_in, given_by, undone, redone, is_in_log, settled_by}
 use Rattle.pud_defs.proofs.Entries.{words_from-length}
-use Rattle.pud_defs.proofs.Replay.{or_none, or_assoc, given_by-out, undone-first, undone-none, redone-first, redone-none, new_value-of, replayed-closed, settled_by-outside}
+use Rattle.pud_defs.proofs.Replay.{or_none, or_assoc, given_by-out, undone-first, undone-none, redone-first, redone-none, new_value-of, replayed-none, settled_by-outside}
 use Rattle.log_entry.specs.declared.Entry.{Entry as Found}
 use Rattle.log_entry.specs.Reading.{entry_from}
 use Rattle.soundness.specs.declared.overlay.Overlay.{Overlay}
@@ -101,11 +101,11 @@ gives_all log w es given same = record {
 -- ---- the word
 
 -- nothing is in range
-pub word_closed : (o : Overlay) (image : Image) (w v : ℕ) → IsOverlay o image → is_in_log DAEMON_LOG w ≡ false → o.range.hi ≤ o.range.lo + 1 → v ≡ image w → v ≡ settled_by DAEMON_LOG image w
-word_closed o image w v over outside closed read =
+pub word_uncounted : (o : Overlay) (image : Image) (w v : ℕ) → IsOverlay o image → is_in_log DAEMON_LOG w ≡ false → o.range.hi ≤ o.range.lo + 1 → v ≡ image w → v ≡ settled_by DAEMON_LOG image w
+word_uncounted o image w v over outside closed read =
     let lo = over.range.lo in
     let hi = over.range.hi in
-    sym (settled_by-outside DAEMON_LOG image w outside ∙ ap (λ (i : Image). i w) (replayed-closed device_word (log_of image DAEMON_LOG) image (omega arith)) ∙ sym read)
+    sym (settled_by-outside DAEMON_LOG image w outside ∙ ap (λ (i : Image). i w) (replayed-none device_word (log_of image DAEMON_LOG) image (omega arith)) ∙ sym read)
 
 pub word_given : (o : Overlay) (image : Image) (w before v : ℕ) (given : Given) (over : IsOverlay o image) → is_in_log DAEMON_LOG w ≡ false → before ≡ image w
     → Gives (log_of image DAEMON_LOG) over.entries w given → v ≡ unwrap_or (option_or given.redo given.undo) before → v ≡ settled_by DAEMON_LOG image w

@@ -4,13 +4,13 @@ use Rattle.std.proofs.lemmas.Bool.{leb-true}
 use Rattle.pm_model.specs.Words.{reads}
 use Rattle.pm_model.specs.Moments.{State}
 use Rattle.pud_defs.specs.Image.{Image}
-use Rattle.soundness.proofs.Overlaid.{word_closed, word_given}
+use Rattle.soundness.proofs.Overlaid.{word_uncounted, word_given}
 use Rattle.soundness.proofs.overlay.Overlay.word.Goals as goal
 
 pub returns-then-counts_none-clause-value : goal.returns-then-counts_none-clause-value
 returns-then-counts_none-clause-value g c = λ t image same over outside.
     let o = c.args.self.now in
-    word_closed o image c.args.w c.in_ok-before.before over outside (leb-true o.range.hi (o.range.lo + 1) (sym c.counts_none.ensures ∙ c.if-counts_none.true))
+    word_uncounted o image c.args.w c.in_ok-before.before over outside (leb-true o.range.hi (o.range.lo + 1) (sym c.counts_none.ensures ∙ c.if-counts_none.true))
     (c.in_ok-before.ensures.value t ∙ ap (λ (i : Image). i c.args.w) same)
 
 pub returns-clause-value : goal.returns-clause-value

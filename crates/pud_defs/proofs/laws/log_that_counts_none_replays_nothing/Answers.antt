@@ -1,0 +1,5 @@
+use Rattle.pud_defs.proofs.Replay.{replayed-none}
+use Rattle.pud_defs.proofs.laws.log_that_counts_none_replays_nothing.Goals as goal
+
+pub returns : goal.returns
+returns c = λ place log image closed. replayed-none place log image closed
