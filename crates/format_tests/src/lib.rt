@@ -1,10 +1,12 @@
-//! Tests of the formats and of the grammar over their public calls.
+//! Tests of the formats, of the grammar and of identifiers over their public calls.
 #![tactic(auto)]
 
 #[cfg(test)]
 mod commands;
 #[cfg(test)]
 mod gates;
+#[cfg(test)]
+mod identifiers;
 #[cfg(test)]
 mod maps;
 #[cfg(test)]

@@ -1,5 +1,5 @@
 //! Tests of the registry floor over its public calls: a device judged and brought up to date, the log-space table, the type
-//! table, the pool table, and the puddle table.
+//! table, the pool table, the puddle table, and what is read of puddles: addresses, free bases, headers and slots.
 #![tactic(auto)]
 
 #[cfg(test)]
@@ -8,6 +8,8 @@ mod device;
 mod judging;
 #[cfg(test)]
 mod loading;
+#[cfg(test)]
+mod places;
 #[cfg(test)]
 mod pools;
 #[cfg(test)]

@@ -1,0 +1,210 @@
+//! Addresses, free bases, and the headers and slots of frames.
+use pm_mem::{MemHost, Plan};
+use pm_model::{Host, HostFault};
+use puddle_header::{
+    frame_magic, frame_number, frame_ordinal, header_fits, next_serial, root_value, slot_field,
+    slot_serial, slot_type,
+};
+use puddle_space::{free_base, locate};
+use pud_defs::layout::{MIN_FRAMES, device_words};
+use std::alloc::Global;
+use std::process::Abort;
+use test_device::{blank_device, failures, poke};
+
+/// A word and its value.
+type Row = (u32, u64);
+
+/// The first base of the space, and how far the next one is from it.
+const START: u64 = 0x1000_0000_0000;
+
+const RANGE: u64 = 16_384;
+
+/// The first words of the puddle records of frames 0 to 3.
+const RECORDS: [u32; 4] = [1_536, 1_544, 1_552, 1_560];
+
+/// The first word of frame 1.
+const FRAME_1: u32 = 36_384;
+
+const MAGIC: u64 = 0x3130_454c_4444_5550;
+
+/// The answer where there is none, and that of a call that failed.
+const NONE: u64 = u64::MAX;
+
+const FAULT: u64 = u64::MAX - 1;
+
+fn number(outcome: Result<u64, HostFault>) -> u64 {
+    outcome.unwrap_or(FAULT)
+}
+
+/// The place of an address, as so many words from the first frame on.
+fn place<H: Host>(rt: &impl Abort, host: &mut H, address: u64) -> u64 {
+    assert!(rt; device_words(MIN_FRAMES) <= host.words());
+    match locate(host, MIN_FRAMES, address) {
+        Ok(Some((frame, word))) => u64::from(frame) * 2_048 + u64::from(word),
+        Ok(None) => NONE,
+        Err(_) => FAULT,
+    }
+}
+
+fn base<H: Host>(rt: &impl Abort, host: &mut H, taken: &[u64]) -> u64 {
+    assert!(rt; device_words(MIN_FRAMES) <= host.words() && taken.len() <= 16);
+    number(free_base(host, MIN_FRAMES, taken))
+}
+
+/// 1 where frame 1 has the header of its puddle, and 0 where it has not.
+fn fits<H: Host>(rt: &impl Abort, host: &mut H) -> u64 {
+    assert!(rt; device_words(MIN_FRAMES) <= host.words());
+    number(header_fits(host, MIN_FRAMES, 1).map(u64::from))
+}
+
+/// What the reader of this number finds in frame 1, in its last slot where it reads a slot.
+fn word<H: Host>(rt: &impl Abort, host: &mut H, reader: u32) -> u64 {
+    assert!(rt; device_words(MIN_FRAMES) <= host.words());
+    number(match reader {
+        0 => frame_magic(host, MIN_FRAMES, 1),
+        1 => frame_number(host, MIN_FRAMES, 1),
+        2 => frame_ordinal(host, MIN_FRAMES, 1),
+        3 => next_serial(host, MIN_FRAMES, 1),
+        4 => root_value(host, MIN_FRAMES, 1),
+        5 => slot_serial(host, MIN_FRAMES, 1, 61),
+        6 => slot_type(host, MIN_FRAMES, 1, 61),
+        7 => slot_field(host, MIN_FRAMES, 1, 61, 0),
+        _ => slot_field(host, MIN_FRAMES, 1, 61, 29),
+    })
+}
+
+fn device(rt: &impl Abort, alloc: Global, plan: Plan, words: &[Row]) -> MemHost {
+    let mut host = blank_device(alloc, b"", plan).expect(rt, "memory");
+    assert!(rt; poke(&mut host, words));
+    host
+}
+
+#[test]
+fn an_address_lies_in_the_range_of_one_puddle(rt: HostRuntime) {
+    let alloc = rt.alloc();
+    let [zero, one, two, three] = RECORDS;
+    // Frames 1 and 2 have the first two ranges, frame 0 is free, and frame 3 has the last addresses that a word can name.
+    let words = [
+        (zero + 2, START + 2 * RANGE),
+        (one, 1),
+        (one + 2, START),
+        (two, 1 + (1 << 32)),
+        (two + 2, START + RANGE),
+        (three, 2),
+        (three + 2, u64::MAX - 7),
+    ];
+    let mut host = device(&rt, alloc, Plan::none(alloc), &words);
+    let rows = [
+        (0, NONE),
+        (START - 1, NONE),
+        (START, 2_048),
+        (START + 7, 2_048),
+        (START + 8, 2_049),
+        (START + 528, 2_048 + 66),
+        (START + RANGE - 1, 2_048 + 2_047),
+        (START + RANGE, 4_096),
+        (START + 2 * RANGE - 8, 4_096 + 2_047),
+        (START + 2 * RANGE, NONE),
+        (u64::MAX, 6_144),
+    ];
+    for (address, want) in rows {
+        assert!(rt; place(&rt, &mut host, address) == want, "{address}");
+    }
+}
+
+#[test]
+fn of_several_ranges_the_lowest_frame_counts(rt: HostRuntime) {
+    let alloc = rt.alloc();
+    let [_, one, two, _] = RECORDS;
+    let words = [(one, 1), (one + 2, START + 8), (two, 1), (two + 2, START)];
+    let mut host = device(&rt, alloc, Plan::none(alloc), &words);
+    for (address, want) in [(START, 4_096), (START + 8, 2_048), (START + RANGE, 2_048 + 2_047)] {
+        assert!(rt; place(&rt, &mut host, address) == want, "{address}");
+    }
+}
+
+#[test]
+fn the_lowest_base_that_nothing_has(rt: HostRuntime) {
+    let alloc = rt.alloc();
+    let [zero, one, two, _] = RECORDS;
+    let rows: [(&[Row], &[u64], u64); 9] = [
+        (&[], &[], START),
+        (&[(zero, 1), (zero + 2, START), (zero + 3, START)], &[], START + RANGE),
+        (&[(zero, 1), (zero + 2, START + RANGE), (zero + 3, START)], &[], START + 2 * RANGE),
+        (&[(zero, 1), (zero + 2, START), (zero + 3, START + RANGE)], &[], START + 2 * RANGE),
+        (&[(zero, 1), (zero + 2, START + RANGE), (zero + 3, START + RANGE)], &[], START),
+        (&[(zero + 2, START)], &[], START),
+        (&[(two, 1), (two + 2, START + 8), (two + 3, 0)], &[], START),
+        (&[], &[START, START + RANGE], START + 2 * RANGE),
+        (&[(one, 1), (one + 2, START), (one + 3, START)], &[START + RANGE, 5, START], START + 2 * RANGE),
+    ];
+    for (words, taken, want) in rows {
+        let mut host = device(&rt, alloc, Plan::none(alloc), words);
+        assert!(rt; base(&rt, &mut host, taken) == want, "{want}");
+    }
+}
+
+#[test]
+fn a_header_is_its_puddles(rt: HostRuntime) {
+    let alloc = rt.alloc();
+    let [_, one, _, _] = RECORDS;
+    let whole = [
+        (one, 1 + (2 << 32)),
+        (one + 1, 9),
+        (FRAME_1, MAGIC),
+        (FRAME_1 + 1, 9),
+        (FRAME_1 + 2, 2),
+    ];
+    let rows: [(&[Row], u64); 7] = [
+        (&[], 1),
+        (&[(FRAME_1 + 3, 5), (FRAME_1 + 5, 5)], 1),
+        (&[(FRAME_1, MAGIC + 1)], 0),
+        (&[(FRAME_1 + 1, 8)], 0),
+        (&[(FRAME_1 + 2, 1)], 0),
+        (&[(FRAME_1 + 2, 1 + (2 << 32))], 0),
+        (&[(one, 0), (FRAME_1 + 2, 0)], 0),
+    ];
+    for (words, want) in rows {
+        let mut host = device(&rt, alloc, Plan::none(alloc), &whole);
+        assert!(rt; poke(&mut host, words) && fits(&rt, &mut host) == want, "{words:?}");
+    }
+}
+
+#[test]
+fn the_words_of_a_frame(rt: HostRuntime) {
+    let alloc = rt.alloc();
+    // Slot 61 is the last one, and begins at word 2,016 of the frame.
+    let last = FRAME_1 + 2_016;
+    let words = [
+        (FRAME_1, 10),
+        (FRAME_1 + 1, 11),
+        (FRAME_1 + 2, 12),
+        (FRAME_1 + 3, 13),
+        (FRAME_1 + 4, 14),
+        (last, 15),
+        (last + 1, 16),
+        (last + 2, 17),
+        (last + 31, 18),
+    ];
+    let mut host = device(&rt, alloc, Plan::none(alloc), &words);
+    for reader in 0..9 {
+        assert!(rt; word(&rt, &mut host, reader) == u64::from(10 + reader), "{reader}");
+    }
+}
+
+#[test]
+fn a_failing_load_is_told(rt: HostRuntime) {
+    let alloc = rt.alloc();
+    let words = [(RECORDS[0], 1), (RECORDS[0] + 2, START + RANGE)];
+    for call in 1..=3 {
+        let plan = failures(alloc, &[call]).expect(&rt, "memory");
+        let mut host = device(&rt, alloc, plan, &words);
+        assert!(rt; base(&rt, &mut host, &[]) == FAULT);
+        let plan = failures(alloc, &[call]).expect(&rt, "memory");
+        let mut host = device(&rt, alloc, plan, &words);
+        assert!(rt; place(&rt, &mut host, START) == FAULT);
+        let plan = failures(alloc, &[call]).expect(&rt, "memory");
+        let mut host = device(&rt, alloc, plan, &words);
+        assert!(rt; fits(&rt, &mut host) == FAULT);
+    }
+}
