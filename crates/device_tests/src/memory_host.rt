@@ -21,12 +21,17 @@ fn says<H: Host>(rt: &impl Abort, host: &mut H, rows: &[(&str, u64)]) {
     }
 }
 
+/// Makes the calls in turn, each of which has to be done.
+fn make_all<H: Host>(rt: &impl Abort, host: &mut H, calls: &[Call]) {
+    for call in calls {
+        assert!(rt; answer(rt, host, *call) == DONE, "{call:?}");
+    }
+}
+
 /// Makes the calls in turn on a new host: the newest words that they leave have to be these.
 fn leaves(rt: &impl Abort, alloc: Global, calls: &[Call], want: &[u64]) {
     let mut host = host(rt, alloc, Plan::none(alloc));
-    for call in calls {
-        answer(rt, &mut host, *call);
-    }
+    make_all(rt, &mut host, calls);
     let left = host.read_back(alloc).expect(rt, "memory");
     assert!(rt; left.as_slice() == want, "{calls:?}");
 }
