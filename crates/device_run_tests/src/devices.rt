@@ -1,13 +1,12 @@
 //! What becomes of a device, and of one that is not sound.
-use crate::program::{
-    EVERY_OTHER, End, FORMAT, NEWEST, OLDEST, RUN, START_STEPS, Seen, blank, end_of, has_words,
-    status_of,
-};
+use crate::run::{End, START_STEPS, end_of, has_words};
+use pm_mem::MemHost;
 use pm_model::Host;
 use puddle_cli::{DONE, NOT_USABLE, POWER_LOST, USAGE};
 use std::alloc::Global;
 use std::process::Abort;
 use test_device::poke;
+use test_program::{EVERY_OTHER, FORMAT, NEWEST, OLDEST, RUN, Seen, blank, status_of};
 
 /// Runs the program with each of these words in turn. It has to end with this status, and to have said this since the
 /// first. Then power is lost, where each word has its durable value, and these words are left.
@@ -19,11 +18,23 @@ fn end_with<S: Seen>(
     left: &[(u32, u64)],
 ) {
     for (words, status, said) in rows {
-        assert!(rt; status_of(rt, alloc, host, words) == *status, "{words:?}");
+        assert!(rt; status_of(alloc, host, words) == Some(*status), "{words:?}");
         assert!(rt; host.heard() == said.as_bytes());
     }
     host.cut(OLDEST);
     has_words(rt, alloc, host, left);
+}
+
+/// A blank device with this script but for these words, and with power lost at these steps.
+fn device_with(
+    rt: &impl Abort,
+    alloc: Global,
+    (script, words): (&str, &[(u32, u64)]),
+    losses: &[(u32, u64)],
+) -> MemHost {
+    let mut host = blank(alloc, script, losses).expect(rt, "memory");
+    assert!(rt; poke(&mut host, words));
+    host
 }
 
 /// The words of a blank device that are not zero, as zeroes.
@@ -33,12 +44,11 @@ const ZEROES: [(u32, u64); 5] = [(0, 0), (1, 0), (2, 0), (3, 0), (4, 0)];
 fn end_on(
     rt: &impl Abort,
     alloc: Global,
-    (script, words): (&str, &[(u32, u64)]),
+    device: (&str, &[(u32, u64)]),
     rows: &[(&[&str], u8, &str)],
     left: &[(u32, u64)],
 ) {
-    let mut host = blank(rt, alloc, script, &[]);
-    assert!(rt; poke(&mut host, words));
+    let mut host = device_with(rt, alloc, device, &[]);
     end_with(rt, alloc, &mut host, rows, left);
 }
 
@@ -87,11 +97,14 @@ fn refuse_zeroes<S: Seen>(rt: &impl Abort, alloc: Global, host: &mut S) {
     }
 }
 
+fn refuse_device_of_zeroes(rt: &impl Abort, alloc: Global) {
+    let mut host = device_with(rt, alloc, ("type 1 2 1\n", &ZEROES), &[]);
+    refuse_zeroes(rt, alloc, &mut host);
+}
+
 #[test]
 fn a_device_of_zeroes_is_not_sound_and_stays(rt: HostRuntime) {
-    let mut host = blank(&rt, rt.alloc(), "type 1 2 1\n", &[]);
-    assert!(rt; poke(&mut host, &ZEROES));
-    refuse_zeroes(&rt, rt.alloc(), &mut host);
+    refuse_device_of_zeroes(&rt, rt.alloc());
 }
 
 #[test]
@@ -144,7 +157,7 @@ const CLOSED: u64 = 1_028;
 /// Client 7 comes, and power is lost. The answer is where the run ended, and whether the record has the owner: where it has,
 /// the logs of the client are closed.
 fn comes<S: Seen>(rt: &impl Abort, alloc: Global, host: &mut S, pick: u64) -> (End, bool) {
-    let status = status_of(rt, alloc, host, &RUN);
+    let status = status_of(alloc, host, &RUN);
     let end = end_of(rt, status, host.heard(), POWER_LOST);
     host.cut(pick);
     let has_owner = host.word(alloc, 1_529) != Some(0);
@@ -165,9 +178,12 @@ fn comes<S: Seen>(rt: &impl Abort, alloc: Global, host: &mut S, pick: u64) -> (E
     }
     // A cut behind the run strikes in the next start.
     let next = if end == End::Whole { POWER_LOST } else { DONE };
-    assert!(rt; status_of(rt, alloc, host, &RUN) == next);
+    assert!(rt; status_of(alloc, host, &RUN) == Some(next));
     (end, has_owner)
 }
+
+/// Gates of the logs of client 7 that are open. The logs of a client that is not registered may be in any state.
+const OPEN_LOGS: [(u32, u64); 4] = [(30_240, 512), (31_264, 512), (32_288, 512), (33_312, 512)];
 
 /// Client 7 comes with a cut at this step, whose logs are open: the record has the owner from this step on.
 fn comes_so(rt: &impl Abort, alloc: Global, step: u32, pick: u64, owner_from: u32) {
@@ -178,14 +194,8 @@ fn comes_so(rt: &impl Abort, alloc: Global, step: u32, pick: u64, owner_from: u3
     } else {
         End::Whole
     };
-    let mut host = blank(rt, alloc, "client 7 65535 9\n", &[(step, pick)]);
-    // The logs of a client that is not registered may be in any state.
-    assert!(rt;
-        poke(
-            &mut host,
-            &[(30_240, 512), (31_264, 512), (32_288, 512), (33_312, 512)]
-        )
-    );
+    let device: (&str, &[(u32, u64)]) = ("client 7 65535 9\n", &OPEN_LOGS);
+    let mut host = device_with(rt, alloc, device, &[(step, pick)]);
     let found = comes(rt, alloc, &mut host, pick);
     assert!(rt; found == (end, step >= owner_from), "step {step}");
 }
