@@ -1,5 +1,5 @@
 //! What becomes of a device, and of one that is not sound.
-use crate::run::{End, START_STEPS, end_of, has_words};
+use crate::run::{End, START_STEPS, end_of, has_words, loads};
 use pm_mem::MemHost;
 use pm_model::Host;
 use puddle_cli::{DONE, NOT_USABLE, POWER_LOST, USAGE};
@@ -64,22 +64,27 @@ fn a_device_is_formatted_once_and_runs_an_empty_script(rt: HostRuntime) {
 
 #[test]
 fn words_that_are_no_mode_say_nothing(rt: HostRuntime) {
-    let rows: [(&[&str], u8, &str); 9] = [
-        (&[], USAGE, ""),
-        (&["puddle"], USAGE, ""),
-        (&["puddle", "run", "now"], USAGE, ""),
-        (&["puddle", "--help"], USAGE, ""),
-        (&["puddle", "format", "3", "7"], USAGE, ""),
-        (&["puddle", "format", "1025", "7"], USAGE, ""),
-        (&["puddle", "format", "04", "7"], USAGE, ""),
-        (&["puddle", "format", "4", "+7"], USAGE, ""),
-        (
-            &["puddle", "format", "4", "18446744073709551616"],
-            USAGE,
-            "",
-        ),
+    let all: [&[&str]; 9] = [
+        &[],
+        &["puddle"],
+        &["puddle", "run", "now"],
+        &["puddle", "--help"],
+        &["puddle", "format", "3", "7"],
+        &["puddle", "format", "1025", "7"],
+        &["puddle", "format", "04", "7"],
+        &["puddle", "format", "4", "+7"],
+        &["puddle", "format", "4", "18446744073709551616"],
     ];
-    end_on(&rt, rt.alloc(), ("type 1 2 1\n", &[]), &rows, &[(1_088, 0)]);
+    for words in all {
+        let device: (&str, &[(u32, u64)]) = ("type 1 2 1\n", &[]);
+        end_on(
+            &rt,
+            rt.alloc(),
+            device,
+            &[(words, USAGE, "")],
+            &[(1_088, 0)],
+        );
+    }
 }
 
 #[test]
@@ -92,8 +97,7 @@ fn a_device_that_is_too_small_is_not_formatted(rt: HostRuntime) {
 fn refuse_zeroes<S: Seen>(rt: &impl Abort, alloc: Global, host: &mut S) {
     end_with(rt, alloc, host, &[(&RUN, NOT_USABLE, "")], &[]);
     for at in 0..host.words() {
-        assert!(rt; at < host.words());
-        assert!(rt; host.load(at) == Ok(0), "word {at}");
+        loads(rt, host, at, 0);
     }
 }
 
@@ -164,15 +168,16 @@ fn comes<S: Seen>(rt: &impl Abort, alloc: Global, host: &mut S, pick: u64) -> (E
     if has_owner {
         // A restart frees the record, and leaves the owner in it.
         let used = u64::from(end == End::Whole);
-        let record = [(1_528, used), (1_529, 65_535), (1_530, 9)];
-        has_words(rt, alloc, host, &record);
-        let gates = [
+        let rows = [
+            (1_528, used),
+            (1_529, 65_535),
+            (1_530, 9),
             (30_240, CLOSED),
             (31_264, CLOSED),
             (32_288, CLOSED),
             (33_312, CLOSED),
         ];
-        has_words(rt, alloc, host, &gates);
+        has_words(rt, alloc, host, &rows);
     } else {
         has_words(rt, alloc, host, &[(1_528, 0), (1_530, 0)]);
     }

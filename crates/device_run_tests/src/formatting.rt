@@ -1,4 +1,5 @@
 //! A device is formatted, with other words on it before, and with power lost or a call failing somewhere.
+use crate::run::loads;
 use pm_mem::{MemHost, Plan};
 use pm_model::Host;
 use pud_defs::layout::DEVICE_MAGIC;
@@ -39,8 +40,7 @@ fn format_noisy<H: Host>(rt: &impl Abort, alloc: Global, host: &mut H) {
     host.cut(OLDEST);
     assert!(rt; formatted(1_568) == 0 && formatted(34_336) == 1_034_336);
     for at in 0..WORDS {
-        assert!(rt; at < host.words());
-        assert!(rt; host.load(at) == Ok(formatted(at)), "word {at}");
+        loads(rt, host, at, formatted(at));
     }
 }
 

@@ -1,4 +1,5 @@
 //! Where a run of one line ends, and what it leaves.
+use pm_model::Host;
 use puddle_cli::DONE;
 use std::alloc::Global;
 use std::process::Abort;
@@ -14,6 +15,12 @@ pub fn has_words<S: Seen>(rt: &impl Abort, alloc: Global, host: &S, rows: &[(u32
     for (at, want) in rows {
         assert!(rt; host.word(alloc, *at) == Some(*want), "word {at}");
     }
+}
+
+/// A load of the word has to give this.
+pub fn loads<H: Host>(rt: &impl Abort, host: &mut H, at: u32, want: u64) {
+    assert!(rt; at < host.words());
+    assert!(rt; host.load(at) == Ok(want), "word {at}");
 }
 
 /// Where a run of one line came to its end.
@@ -33,22 +40,20 @@ pub enum End {
 
 /// Where a run ended, by its status and what it said. A status other than 0 is the fault's.
 pub fn end_of(rt: &impl Abort, status: Option<u8>, said: &[u8], fault: u8) -> End {
-    let is_done = status == Some(DONE);
-    assert!(rt; is_done || status == Some(fault));
-    let end = if said == b"ready\ncut\n".as_slice() {
-        End::Cut
-    } else if said != b"ready\nok\n".as_slice() {
-        assert!(rt; b"ready\nok\n".starts_with(said) || b"ready\ncut\n".starts_with(said));
-        if said.len() < 6 {
-            End::InStart
-        } else {
-            End::InLine
-        }
-    } else if is_done {
-        End::Whole
+    let is_cut = said == b"ready\ncut\n".as_slice();
+    let is_ok = said == b"ready\nok\n".as_slice();
+    if status == Some(DONE) {
+        assert!(rt; is_cut || is_ok);
+        return if is_cut { End::Cut } else { End::Whole };
+    }
+    assert!(rt; status == Some(fault) && !is_cut);
+    if is_ok {
+        return End::BehindReply;
+    }
+    assert!(rt; b"ready\nok\n".starts_with(said) || b"ready\ncut\n".starts_with(said));
+    if said.len() < 6 {
+        End::InStart
     } else {
-        End::BehindReply
-    };
-    assert!(rt; is_done == (end == End::Cut || end == End::Whole));
-    end
+        End::InLine
+    }
 }
