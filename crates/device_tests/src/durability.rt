@@ -7,7 +7,7 @@ use std::process::Abort;
 use test_device::zero_device;
 
 /// A call on a device of three lines.
-#[derive(Clone, Copy, Debug)]
+#[derive(Clone, Copy)]
 enum Call {
     PersistWord(u32, u64),
     WriteRange(u32, &'static [u64]),
@@ -49,8 +49,8 @@ fn has_words(rt: &impl Abort, alloc: Global, host: &MemHost, want: &[u64]) {
 /// Makes the calls in turn at any host, each of which has to succeed; then power is lost, where each word has its durable
 /// value.
 fn make_all<H: Host>(rt: &impl Abort, host: &mut H, calls: &[Call]) {
-    for call in calls {
-        assert!(rt; made(rt, host, *call).is_ok(), "{call:?}");
+    for (at, call) in calls.iter().enumerate() {
+        assert!(rt; made(rt, host, *call).is_ok(), "call {at}");
     }
     host.cut(0);
 }
