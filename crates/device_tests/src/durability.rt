@@ -18,23 +18,23 @@ enum Call {
 
 /// Makes the call at any host.
 fn made<H: Host>(rt: &impl Abort, host: &mut H, call: Call) -> Result<(), HostFault> {
-    let words = host.words();
+    assert!(rt; host.words() == 24);
     match call {
         Call::PersistWord(w, v) => {
-            assert!(rt; w < words);
+            assert!(rt; w < 24);
             persist_word(host, w, v)
         }
         Call::WriteRange(w, vals) => {
-            assert!(rt; w <= 16 && vals.len() <= 8 && 24 <= words);
+            assert!(rt; w <= 16 && vals.len() <= 8);
             write_range(host, w, vals)
         }
         Call::Fence => host.fence(),
         Call::PersistRange(w, vals) => {
-            assert!(rt; w <= 16 && vals.len() <= 8 && 24 <= words);
+            assert!(rt; w <= 16 && vals.len() <= 8);
             persist_range(host, w, vals)
         }
         Call::ZeroRange(w, n) => {
-            assert!(rt; w <= 16 && n <= 8 && 24 <= words);
+            assert!(rt; w <= 16 && n <= 8);
             zero_range(host, w, n)
         }
     }
