@@ -1,9 +1,10 @@
 //! Calls of any host, and what they answer, as numbers.
 use pm_model::{Host, HostFault};
+use std::alloc::Global;
 use std::process::Abort;
 
 /// A call of the host.
-#[derive(Clone, Copy, Debug)]
+#[derive(Clone, Copy)]
 pub(crate) enum Call {
     Load(u32),
     Store(u32, u64),
@@ -82,6 +83,21 @@ fn next_byte(outcome: Result<Option<u8>, HostFault>) -> Result<u64, HostFault> {
 /// Makes the calls in turn, each of which has to answer this.
 pub(crate) fn answers<H: Host>(rt: &impl Abort, host: &mut H, rows: &[(Call, u64)]) {
     for (at, (call, want)) in rows.iter().enumerate() {
-        assert!(rt; answer(rt, host, *call) == *want, "call {at}: {call:?}");
+        assert!(rt; answer(rt, host, *call) == *want, "call {at}");
+    }
+}
+
+/// The file of that name has to have these bytes on the shelf, or not to be there.
+pub(crate) fn has_file<H: Host>(
+    rt: &impl Abort,
+    alloc: Global,
+    host: &mut H,
+    name: &str,
+    want: Option<&[u8]>,
+) {
+    let found = host.file_get(alloc, name).expect(rt, "no fault");
+    match (found, want) {
+        (Some(bytes), Some(want)) => assert!(rt; bytes.as_slice() == want, "{name}"),
+        (found, want) => assert!(rt; found.is_none() && want.is_none(), "{name}"),
     }
 }

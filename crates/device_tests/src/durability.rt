@@ -4,10 +4,10 @@ use pm_model::{Host, HostFault};
 use pm_persist::{persist_range, persist_word, write_range, zero_range};
 use std::alloc::Global;
 use std::process::Abort;
-use test_device::{arm, zero_device};
+use test_device::zero_device;
 
 /// A call on a device of three lines.
-#[derive(Clone, Copy, Debug)]
+#[derive(Clone, Copy)]
 enum Call {
     PersistWord(u32, u64),
     WriteRange(u32, &'static [u64]),
@@ -18,23 +18,23 @@ enum Call {
 
 /// Makes the call at any host.
 fn made<H: Host>(rt: &impl Abort, host: &mut H, call: Call) -> Result<(), HostFault> {
-    let words = host.words();
+    assert!(rt; host.words() == 24);
     match call {
         Call::PersistWord(w, v) => {
-            assert!(rt; w < words);
+            assert!(rt; w < 24);
             persist_word(host, w, v)
         }
         Call::WriteRange(w, vals) => {
-            assert!(rt; w <= 16 && vals.len() <= 8 && 24 <= words);
+            assert!(rt; w <= 16 && vals.len() <= 8);
             write_range(host, w, vals)
         }
         Call::Fence => host.fence(),
         Call::PersistRange(w, vals) => {
-            assert!(rt; w <= 16 && vals.len() <= 8 && 24 <= words);
+            assert!(rt; w <= 16 && vals.len() <= 8);
             persist_range(host, w, vals)
         }
         Call::ZeroRange(w, n) => {
-            assert!(rt; w <= 16 && n <= 8 && 24 <= words);
+            assert!(rt; w <= 16 && n <= 8);
             zero_range(host, w, n)
         }
     }
@@ -46,19 +46,20 @@ fn has_words(rt: &impl Abort, alloc: Global, host: &MemHost, want: &[u64]) {
     assert!(rt; words.get(6..10) == Some(want), "{want:?}");
 }
 
-/// Makes the calls in turn on a device of zero words, each of which has to succeed; then power is lost. The words 6 to 9
-/// have to be these, by their durable values.
-fn leave(rt: &impl Abort, alloc: Global, calls: &[Call], want: &[u64]) {
-    let mut host = zero_device(alloc, 24, b"", Plan::none(alloc)).expect(rt, "memory");
-    for call in calls {
-        assert!(rt; made(rt, &mut host, *call).is_ok(), "{call:?}");
+/// Makes the calls in turn at any host, each of which has to succeed; then power is lost, where each word has its durable
+/// value.
+fn make_all<H: Host>(rt: &impl Abort, host: &mut H, calls: &[Call]) {
+    for (at, call) in calls.iter().enumerate() {
+        assert!(rt; made(rt, host, *call).is_ok(), "call {at}");
     }
-    lose(&mut host, 0);
-    has_words(rt, alloc, &host, want);
+    host.cut(0);
 }
 
-fn lose<H: Host>(host: &mut H, pick: u64) {
-    host.cut(pick);
+/// The words 6 to 9 of a device of zero words have to be these once the calls are made and power is lost.
+fn leave(rt: &impl Abort, alloc: Global, calls: &[Call], want: &[u64]) {
+    let mut host = zero_device(alloc, 24, b"", Plan::none(alloc)).expect(rt, "memory");
+    make_all(rt, &mut host, calls);
+    has_words(rt, alloc, &host, want);
 }
 
 #[test]
@@ -85,31 +86,48 @@ fn a_persisted_and_a_zeroed_range_are_durable(rt: HostRuntime) {
     );
 }
 
-/// Persists 1 to 4 at the words 6 to 9 of a device of zero words, with a cut at this step. Whether it was cut, and the words
-/// once power is lost with the same pick, have to be these.
-fn cut_range(rt: &impl Abort, alloc: Global, step: u32, pick: u64, is_cut: bool, want: &[u64]) {
-    let mut host = zero_device(alloc, 24, b"", Plan::none(alloc)).expect(rt, "memory");
-    arm(&mut host, step, pick);
+/// The device steps that persisting the words 6 to 9 takes: four stores, two flushes and a fence.
+const RANGE_STEPS: u32 = 7;
+
+/// Persists 1 to 4 at the words 6 to 9 with a cut at this step; then power is lost with the same pick. The call has to fail
+/// where the step is one of its own.
+fn cut_range<H: Host>(rt: &impl Abort, host: &mut H, step: u32, pick: u64) {
     let range = Call::PersistRange(6, &[1, 2, 3, 4]);
+    assert!(rt; step >= 1);
+    host.arm(step, pick);
     assert!(rt;
-        made(rt, &mut host, range).is_err() == is_cut,
+        made(rt, host, range).is_err() == (step <= RANGE_STEPS),
         "step {step}"
     );
-    lose(&mut host, pick);
-    has_words(rt, alloc, &host, want);
+    host.cut(pick);
 }
 
-// Four stores, two flushes and a fence. The last pick keeps the newest value of each even word.
+/// The words 6 to 9 of a device of zero words have to be these once 1 to 4 are persisted there with a cut at each step in
+/// turn, and at the first behind them.
+fn cut_at_each_step(rt: &impl Abort, alloc: Global, pick: u64, rows: &[[u64; 4]; 8]) {
+    for (step, want) in (1..RANGE_STEPS + 2).zip(rows) {
+        let mut host = zero_device(alloc, 24, b"", Plan::none(alloc)).expect(rt, "memory");
+        cut_range(rt, &mut host, step, pick);
+        has_words(rt, alloc, &host, want);
+    }
+}
+
+const OLD: [u64; 4] = [0; 4];
+
+const NEW: [u64; 4] = [1, 2, 3, 4];
+
+// The oldest values are kept, the newest, and the newest of each even word. Each store is behind the one before.
 #[test]
 fn a_range_that_is_cut_off_has_old_and_new_words(rt: HostRuntime) {
-    let rows = [
-        (0, [0, 0, 0, 0]),
-        (1, [1, 2, 3, 4]),
-        (0x5555_5555_5555_5555, [1, 0, 3, 0]),
-    ];
-    for (pick, at_the_fence) in rows {
-        cut_range(&rt, rt.alloc(), 1, pick, true, &[0, 0, 0, 0]);
-        cut_range(&rt, rt.alloc(), 7, pick, true, &at_the_fence);
-        cut_range(&rt, rt.alloc(), 8, pick, false, &[1, 2, 3, 4]);
+    let (one, two, three, odd) = ([1, 0, 0, 0], [1, 2, 0, 0], [1, 2, 3, 0], [1, 0, 3, 0]);
+    for (pick, rows) in [
+        (0, [OLD, OLD, OLD, OLD, OLD, OLD, OLD, NEW]),
+        (1, [OLD, one, two, three, NEW, NEW, NEW, NEW]),
+        (
+            0x5555_5555_5555_5555,
+            [OLD, one, one, odd, odd, odd, odd, NEW],
+        ),
+    ] {
+        cut_at_each_step(&rt, rt.alloc(), pick, &rows);
     }
 }

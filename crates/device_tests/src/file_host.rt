@@ -1,6 +1,6 @@
 //! The host over the file `puddles.pm` of the current folder: what is durable stands in the file and is read again, and the
 //! shelf is the files beside it.
-use crate::calls::{Call, DONE, END, LOST, answers};
+use crate::calls::{Call, DONE, END, LOST, answers, has_file};
 use pm_file::FileHost;
 use pm_model::{FILE_READ_LIMIT, Host};
 use std::alloc::Global;
@@ -29,12 +29,17 @@ fn without_device<R: Runtime>(rt: &R) {
     let _ = fs::remove_file(rt, DEVICE);
 }
 
-/// The file of the device has to have so many bytes, and these from that one on.
-fn has_bytes<R: Runtime + Abort>(rt: &R, length: usize, at: usize, want: &[u8]) {
-    let bytes = fs::read(rt, DEVICE).expect(rt, "the file of the device");
+/// There have to be so many bytes, and these from that one on.
+fn are_bytes(rt: &impl Abort, bytes: &[u8], length: usize, at: usize, want: &[u8]) {
     assert!(rt; bytes.len() == length, "{length} bytes");
     let rest = bytes.get(at..).expect(rt, "bytes there");
     assert!(rt; rest.starts_with(want), "the bytes from {at} on");
+}
+
+/// The file of the device has to have so many bytes, and these from that one on.
+fn has_bytes<R: Runtime + Abort>(rt: &R, length: usize, at: usize, want: &[u8]) {
+    let bytes = fs::read(rt, DEVICE).expect(rt, "the file of the device");
+    are_bytes(rt, &bytes, length, at, want);
 }
 
 /// Writes more bytes behind the device in its file.
@@ -147,21 +152,6 @@ fn an_armed_cut_fires_once_at_its_step(rt: HostRuntime) {
     );
     opened(&rt, rt.alloc(), &[(Call::Load(0), 1)]);
     without_device(&rt);
-}
-
-/// The file of that name has to have these bytes on the shelf, or not to be there.
-fn has_file<H: Host>(
-    rt: &impl Abort,
-    alloc: Global,
-    host: &mut H,
-    name: &str,
-    want: Option<&[u8]>,
-) {
-    let found = host.file_get(alloc, name).expect(rt, "no fault");
-    match (found, want) {
-        (Some(bytes), Some(want)) => assert!(rt; bytes.as_slice() == want, "{name}"),
-        (found, want) => assert!(rt; found.is_none() && want.is_none(), "{name}"),
-    }
 }
 
 /// Puts each file, which has to succeed or not, and looks at what is there then.

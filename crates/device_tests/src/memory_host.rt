@@ -2,7 +2,7 @@
 ghost use Rattle.std.specs.Prelude.{◌≡◌, ◌<◌, IfOk};
 ghost use Rattle.pm_mem.specs.MemHost.{mem_counts};
 
-use crate::calls::{Call, DONE, END, FAILED, LOST, answer, answers, done, number};
+use crate::calls::{Call, DONE, END, FAILED, LOST, answer, answers, done, has_file, number};
 use pm_mem::{MemHost, Plan};
 use pm_model::{Host, HostFault};
 use std::alloc::Global;
@@ -21,14 +21,19 @@ fn says<H: Host>(rt: &impl Abort, host: &mut H, rows: &[(&str, u64)]) {
     }
 }
 
+/// Makes the calls in turn, each of which has to be done.
+fn make_all<H: Host>(rt: &impl Abort, host: &mut H, calls: &[Call]) {
+    for (at, call) in calls.iter().enumerate() {
+        assert!(rt; answer(rt, host, *call) == DONE, "call {at}");
+    }
+}
+
 /// Makes the calls in turn on a new host: the newest words that they leave have to be these.
 fn leaves(rt: &impl Abort, alloc: Global, calls: &[Call], want: &[u64]) {
     let mut host = host(rt, alloc, Plan::none(alloc));
-    for call in calls {
-        answer(rt, &mut host, *call);
-    }
+    make_all(rt, &mut host, calls);
     let left = host.read_back(alloc).expect(rt, "memory");
-    assert!(rt; left.as_slice() == want, "{calls:?}");
+    assert!(rt; left.as_slice() == want, "{want:?}");
 }
 
 fn has_said(rt: &impl Abort, host: &MemHost, want: &[u8]) {
@@ -236,27 +241,42 @@ fn the_script_is_read_to_its_end_and_filled_again(rt: HostRuntime) {
 }
 
 /// Looks for each of these files at any host, which has to be there with these bytes, or not at all.
-fn has_files<H: Host>(rt: &impl Abort, alloc: Global, host: &mut H, rows: &[(&str, Option<&str>)]) {
+fn has_files<H: Host>(
+    rt: &impl Abort,
+    alloc: Global,
+    host: &mut H,
+    rows: &[(&str, Option<&[u8]>)],
+) {
     for (name, want) in rows {
-        let found = host.file_get(alloc, name).expect(rt, "the file");
-        match (found, want) {
-            (Some(bytes), Some(text)) => {
-                assert!(rt; bytes.as_slice() == text.as_bytes(), "{name}");
-            }
-            (found, want) => assert!(rt; found.is_none() && want.is_none(), "{name}"),
-        }
+        has_file(rt, alloc, host, name, *want);
     }
+}
+
+/// Replaces the file `x` at any host that has it and `y`, and looks for both before and after.
+fn replace<H: Host>(rt: &impl Abort, alloc: Global, host: &mut H) {
+    let rows: [(&str, Option<&[u8]>); 3] = [
+        ("x", Some(b"old")),
+        ("y", Some(b"other")),
+        ("z", None),
+    ];
+    has_files(rt, alloc, host, &rows);
+    host.file_put(alloc, "x", b"new!").expect(rt, "memory");
+    let rows: [(&str, Option<&[u8]>); 3] = [
+        ("x", Some(b"new!")),
+        ("y", Some(b"other")),
+        ("z", None),
+    ];
+    has_files(rt, alloc, host, &rows);
+}
+
+fn shelve(rt: &impl Abort, alloc: Global, host: &mut MemHost, name: &str, bytes: &[u8]) {
+    host.put_shelf(alloc, name, bytes).expect(rt, "memory");
 }
 
 #[test]
 fn files_are_replaced_whole(rt: HostRuntime) {
-    let alloc = rt.alloc();
-    let mut host = host(&rt, alloc, Plan::none(alloc));
-    host.put_shelf(alloc, "x", b"old").expect(&rt, "memory");
-    host.put_shelf(alloc, "y", b"other").expect(&rt, "memory");
-    let rows = [("x", Some("old")), ("y", Some("other")), ("z", None)];
-    has_files(&rt, alloc, &mut host, &rows);
-    host.file_put(alloc, "x", b"new!").expect(&rt, "memory");
-    let rows = [("x", Some("new!")), ("y", Some("other")), ("z", None)];
-    has_files(&rt, alloc, &mut host, &rows);
+    let mut host = host(&rt, rt.alloc(), Plan::none(rt.alloc()));
+    shelve(&rt, rt.alloc(), &mut host, "x", b"old");
+    shelve(&rt, rt.alloc(), &mut host, "y", b"other");
+    replace(&rt, rt.alloc(), &mut host);
 }

@@ -1,9 +1,9 @@
 //! Each call of a run over two lines fails in turn.
-use crate::program::{OLDEST, RUN, Seen, blank_failing, status_of};
 use pm_model::Host;
 use puddle_cli::{DEVICE_FAULT, DONE};
 use std::alloc::Global;
 use std::process::Abort;
+use test_program::{OLDEST, RUN, Seen, blank_failing, status_of};
 
 /// The lines, and what they are answered.
 const LINES: &str = "type 1 2 1\nclient 0 5 5\n";
@@ -15,21 +15,21 @@ const WHOLE: usize = 100;
 
 /// How many bytes a run says that ends by a failing call, or so many more. The device is a sound one behind it.
 fn run<S: Seen>(rt: &impl Abort, alloc: Global, host: &mut S) -> usize {
-    let status = status_of(rt, alloc, host, &RUN);
+    let status = status_of(alloc, host, &RUN);
     let said = host.heard().len();
     assert!(rt; SAID.starts_with(host.heard()));
-    if status == DONE {
+    if status == Some(DONE) {
         return said.saturating_add(WHOLE);
     }
-    assert!(rt; status == DEVICE_FAULT);
+    assert!(rt; status == Some(DEVICE_FAULT));
     host.cut(OLDEST);
-    assert!(rt; status_of(rt, alloc, host, &RUN) == DONE);
+    assert!(rt; status_of(alloc, host, &RUN) == Some(DONE));
     said
 }
 
 /// The same, by the call of this number.
 fn said_with(rt: &impl Abort, alloc: Global, call: u32) -> usize {
-    let mut host = blank_failing(rt, alloc, LINES, call);
+    let mut host = blank_failing(alloc, LINES, call).expect(rt, "memory");
     run(rt, alloc, &mut host)
 }
 

@@ -1,17 +1,9 @@
-//! Tests of whole runs of the program, over a host in memory.
+//! Tests of whole scripts that the program runs over a host in memory, and of what they are answered.
 #![tactic(auto)]
 
 #[cfg(test)]
 mod clients;
 #[cfg(test)]
-mod definitions;
-#[cfg(test)]
-mod devices;
-#[cfg(test)]
 mod faults;
-#[cfg(test)]
-mod formatting;
-#[cfg(test)]
-mod program;
 #[cfg(test)]
 mod scripts;

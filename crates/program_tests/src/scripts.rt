@@ -1,15 +1,15 @@
 //! Scripts, with the replies that they are answered by on a blank device.
-use crate::program::run_on_blank;
 use pud_defs::layout::SCRIPT_LIMIT;
 use puddle_cli::{DONE, POWER_LOST, TOO_LONG};
 use std::alloc::Global;
 use std::process::Abort;
+use test_program::run_on_blank;
 
 /// Runs each script on a blank device of its own. It has to end with this status and to have said this.
 fn end_with(rt: &impl Abort, alloc: Global, rows: &[(&str, u8, &str)]) {
     for (script, status, said) in rows {
-        let found = run_on_blank(rt, alloc, (script, &[]), said);
-        assert!(rt; found == (*status, true), "{said}");
+        let (end, is_said) = run_on_blank(alloc, (script, &[]), said).expect(rt, "memory");
+        assert!(rt; end == *status && is_said, "{said}");
     }
 }
 

@@ -1,13 +1,12 @@
 //! What becomes of a device, and of one that is not sound.
-use crate::program::{
-    EVERY_OTHER, End, FORMAT, NEWEST, OLDEST, RUN, START_STEPS, Seen, blank, end_of, has_words,
-    status_of,
-};
+use crate::run::{End, START_STEPS, end_of, has_words, loads};
+use pm_mem::MemHost;
 use pm_model::Host;
 use puddle_cli::{DONE, NOT_USABLE, POWER_LOST, USAGE};
 use std::alloc::Global;
 use std::process::Abort;
 use test_device::poke;
+use test_program::{EVERY_OTHER, FORMAT, NEWEST, OLDEST, RUN, Seen, blank, status_of};
 
 /// Runs the program with each of these words in turn. It has to end with this status, and to have said this since the
 /// first. Then power is lost, where each word has its durable value, and these words are left.
@@ -19,11 +18,23 @@ fn end_with<S: Seen>(
     left: &[(u32, u64)],
 ) {
     for (words, status, said) in rows {
-        assert!(rt; status_of(rt, alloc, host, words) == *status, "{words:?}");
+        assert!(rt; status_of(alloc, host, words) == Some(*status), "{words:?}");
         assert!(rt; host.heard() == said.as_bytes());
     }
     host.cut(OLDEST);
     has_words(rt, alloc, host, left);
+}
+
+/// A blank device with this script but for these words, and with power lost at these steps.
+fn device_with(
+    rt: &impl Abort,
+    alloc: Global,
+    (script, words): (&str, &[(u32, u64)]),
+    losses: &[(u32, u64)],
+) -> MemHost {
+    let mut host = blank(alloc, script, losses).expect(rt, "memory");
+    assert!(rt; poke(&mut host, words));
+    host
 }
 
 /// The words of a blank device that are not zero, as zeroes.
@@ -33,12 +44,11 @@ const ZEROES: [(u32, u64); 5] = [(0, 0), (1, 0), (2, 0), (3, 0), (4, 0)];
 fn end_on(
     rt: &impl Abort,
     alloc: Global,
-    (script, words): (&str, &[(u32, u64)]),
+    device: (&str, &[(u32, u64)]),
     rows: &[(&[&str], u8, &str)],
     left: &[(u32, u64)],
 ) {
-    let mut host = blank(rt, alloc, script, &[]);
-    assert!(rt; poke(&mut host, words));
+    let mut host = device_with(rt, alloc, device, &[]);
     end_with(rt, alloc, &mut host, rows, left);
 }
 
@@ -54,22 +64,27 @@ fn a_device_is_formatted_once_and_runs_an_empty_script(rt: HostRuntime) {
 
 #[test]
 fn words_that_are_no_mode_say_nothing(rt: HostRuntime) {
-    let rows: [(&[&str], u8, &str); 9] = [
-        (&[], USAGE, ""),
-        (&["puddle"], USAGE, ""),
-        (&["puddle", "run", "now"], USAGE, ""),
-        (&["puddle", "--help"], USAGE, ""),
-        (&["puddle", "format", "3", "7"], USAGE, ""),
-        (&["puddle", "format", "1025", "7"], USAGE, ""),
-        (&["puddle", "format", "04", "7"], USAGE, ""),
-        (&["puddle", "format", "4", "+7"], USAGE, ""),
-        (
-            &["puddle", "format", "4", "18446744073709551616"],
-            USAGE,
-            "",
-        ),
+    let all: [&[&str]; 9] = [
+        &[],
+        &["puddle"],
+        &["puddle", "run", "now"],
+        &["puddle", "--help"],
+        &["puddle", "format", "3", "7"],
+        &["puddle", "format", "1025", "7"],
+        &["puddle", "format", "04", "7"],
+        &["puddle", "format", "4", "+7"],
+        &["puddle", "format", "4", "18446744073709551616"],
     ];
-    end_on(&rt, rt.alloc(), ("type 1 2 1\n", &[]), &rows, &[(1_088, 0)]);
+    for words in all {
+        let device: (&str, &[(u32, u64)]) = ("type 1 2 1\n", &[]);
+        end_on(
+            &rt,
+            rt.alloc(),
+            device,
+            &[(words, USAGE, "")],
+            &[(1_088, 0)],
+        );
+    }
 }
 
 #[test]
@@ -82,16 +97,18 @@ fn a_device_that_is_too_small_is_not_formatted(rt: HostRuntime) {
 fn refuse_zeroes<S: Seen>(rt: &impl Abort, alloc: Global, host: &mut S) {
     end_with(rt, alloc, host, &[(&RUN, NOT_USABLE, "")], &[]);
     for at in 0..host.words() {
-        assert!(rt; at < host.words());
-        assert!(rt; host.load(at) == Ok(0), "word {at}");
+        loads(rt, host, at, 0);
     }
+}
+
+fn refuse_device_of_zeroes(rt: &impl Abort, alloc: Global) {
+    let mut host = device_with(rt, alloc, ("type 1 2 1\n", &ZEROES), &[]);
+    refuse_zeroes(rt, alloc, &mut host);
 }
 
 #[test]
 fn a_device_of_zeroes_is_not_sound_and_stays(rt: HostRuntime) {
-    let mut host = blank(&rt, rt.alloc(), "type 1 2 1\n", &[]);
-    assert!(rt; poke(&mut host, &ZEROES));
-    refuse_zeroes(&rt, rt.alloc(), &mut host);
+    refuse_device_of_zeroes(&rt, rt.alloc());
 }
 
 #[test]
@@ -144,30 +161,34 @@ const CLOSED: u64 = 1_028;
 /// Client 7 comes, and power is lost. The answer is where the run ended, and whether the record has the owner: where it has,
 /// the logs of the client are closed.
 fn comes<S: Seen>(rt: &impl Abort, alloc: Global, host: &mut S, pick: u64) -> (End, bool) {
-    let status = status_of(rt, alloc, host, &RUN);
+    let status = status_of(alloc, host, &RUN);
     let end = end_of(rt, status, host.heard(), POWER_LOST);
     host.cut(pick);
     let has_owner = host.word(alloc, 1_529) != Some(0);
     if has_owner {
         // A restart frees the record, and leaves the owner in it.
         let used = u64::from(end == End::Whole);
-        let record = [(1_528, used), (1_529, 65_535), (1_530, 9)];
-        has_words(rt, alloc, host, &record);
-        let gates = [
+        let rows = [
+            (1_528, used),
+            (1_529, 65_535),
+            (1_530, 9),
             (30_240, CLOSED),
             (31_264, CLOSED),
             (32_288, CLOSED),
             (33_312, CLOSED),
         ];
-        has_words(rt, alloc, host, &gates);
+        has_words(rt, alloc, host, &rows);
     } else {
         has_words(rt, alloc, host, &[(1_528, 0), (1_530, 0)]);
     }
     // A cut behind the run strikes in the next start.
     let next = if end == End::Whole { POWER_LOST } else { DONE };
-    assert!(rt; status_of(rt, alloc, host, &RUN) == next);
+    assert!(rt; status_of(alloc, host, &RUN) == Some(next));
     (end, has_owner)
 }
+
+/// Gates of the logs of client 7 that are open. The logs of a client that is not registered may be in any state.
+const OPEN_LOGS: [(u32, u64); 4] = [(30_240, 512), (31_264, 512), (32_288, 512), (33_312, 512)];
 
 /// Client 7 comes with a cut at this step, whose logs are open: the record has the owner from this step on.
 fn comes_so(rt: &impl Abort, alloc: Global, step: u32, pick: u64, owner_from: u32) {
@@ -178,14 +199,8 @@ fn comes_so(rt: &impl Abort, alloc: Global, step: u32, pick: u64, owner_from: u3
     } else {
         End::Whole
     };
-    let mut host = blank(rt, alloc, "client 7 65535 9\n", &[(step, pick)]);
-    // The logs of a client that is not registered may be in any state.
-    assert!(rt;
-        poke(
-            &mut host,
-            &[(30_240, 512), (31_264, 512), (32_288, 512), (33_312, 512)]
-        )
-    );
+    let device: (&str, &[(u32, u64)]) = ("client 7 65535 9\n", &OPEN_LOGS);
+    let mut host = device_with(rt, alloc, device, &[(step, pick)]);
     let found = comes(rt, alloc, &mut host, pick);
     assert!(rt; found == (end, step >= owner_from), "step {step}");
 }

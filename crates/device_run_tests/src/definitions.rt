@@ -1,12 +1,12 @@
 //! A first definition of a type, with power lost or a call failing somewhere in the run.
-use crate::program::{
-    EVERY_OTHER, End, NEWEST, OLDEST, RUN, START_STEPS, Seen, blank, blank_failing, end_of,
-    has_words, run_on_blank, status_of,
-};
+use crate::run::{End, START_STEPS, end_of, has_words};
 use pm_model::Host;
 use puddle_cli::{DEVICE_FAULT, DONE, POWER_LOST};
 use std::alloc::Global;
 use std::process::Abort;
+use test_program::{
+    EVERY_OTHER, NEWEST, OLDEST, RUN, Seen, blank, blank_failing, run_on_blank, status_of,
+};
 
 /// The map word of a type of two fields of which field 1 is a pointer.
 const MAP: u64 = 8_589_934_594;
@@ -22,16 +22,24 @@ const STORED: u32 = STEPS - 1;
 
 const BEHIND: u32 = STEPS + 1;
 
+/// Runs the script, and once more where the plan's fault was still to come: then the first try ends by it, and says nothing.
+/// The answer is whether it was.
+fn run_past_fault<S: Seen>(rt: &impl Abort, alloc: Global, host: &mut S) -> bool {
+    let before = host.heard().len();
+    let is_to_come = status_of(alloc, host, &RUN) != Some(DONE);
+    if is_to_come {
+        assert!(rt; host.heard().len() == before);
+        assert!(rt; status_of(alloc, host, &RUN) == Some(DONE));
+    }
+    is_to_come
+}
+
 /// Runs a script of the other definition of the type, which has to be answered as it is defined or not. The answer is
-/// whether the plan's fault was still to come: then the first try ends by it, and says nothing.
+/// whether the plan's fault was still to come.
 fn define_again<S: Seen>(rt: &impl Abort, alloc: Global, host: &mut S, is_defined: bool) -> bool {
     assert!(rt; host.give(alloc, "type 1 2 0\n"));
     let before = host.heard().len();
-    let is_to_come = status_of(rt, alloc, host, &RUN) != DONE;
-    if is_to_come {
-        assert!(rt; host.heard().len() == before);
-        assert!(rt; status_of(rt, alloc, host, &RUN) == DONE);
-    }
+    let is_to_come = run_past_fault(rt, alloc, host);
     let said = if is_defined {
         b"ready\nno clash\n".as_slice()
     } else {
@@ -50,7 +58,7 @@ fn define<S: Seen>(
     fault: u8,
     pick: u64,
 ) -> (End, bool, bool) {
-    let status = status_of(rt, alloc, host, &RUN);
+    let status = status_of(alloc, host, &RUN);
     let end = end_of(rt, status, host.heard(), fault);
     host.cut(pick);
     let is_defined = host.word(alloc, 1_088) != Some(0);
@@ -69,7 +77,7 @@ fn ends_so(
     pick: u64,
     wanted: (End, bool, bool),
 ) {
-    let mut host = blank(rt, alloc, "type 1 2 1\n", losses);
+    let mut host = blank(alloc, "type 1 2 1\n", losses).expect(rt, "memory");
     let found = define(rt, alloc, &mut host, POWER_LOST, pick);
     assert!(rt; found == wanted);
 }
@@ -121,10 +129,8 @@ fn a_definition_whose_restart_is_cut_is_there_or_not(rt: HostRuntime) {
 /// Runs both definitions to the end, with power lost at this step, which says this.
 fn define_both(rt: &impl Abort, alloc: Global, loss: (u32, u64), said: &str) {
     let both = "type 1 2 1\ntype 1 2 0\n";
-    assert!(rt;
-        run_on_blank(rt, alloc, (both, &[loss]), said) == (DONE, true),
-        "{said}"
-    );
+    let (status, is_said) = run_on_blank(alloc, (both, &[loss]), said).expect(rt, "memory");
+    assert!(rt; status == DONE && is_said, "{said}");
 }
 
 #[test]
@@ -141,26 +147,43 @@ fn a_line_that_is_cut_off_is_answered_cut_and_the_run_goes_on(rt: HostRuntime) {
 
 /// A definition with the call of this number failing.
 fn define_failing(rt: &impl Abort, alloc: Global, call: u32, pick: u64) -> (End, bool, bool) {
-    let mut host = blank_failing(rt, alloc, "type 1 2 1\n", call);
+    let mut host = blank_failing(alloc, "type 1 2 1\n", call).expect(rt, "memory");
     define(rt, alloc, &mut host, DEVICE_FAULT, pick)
+}
+
+/// The number of a case of a failing call: in the start, in the line with the type not defined or defined, behind the reply,
+/// or behind the run.
+fn case_of(rt: &impl Abort, call: u32, found: (End, bool, bool)) -> usize {
+    match found {
+        (End::InStart, false, false) => 0,
+        (End::InLine, false, false) => 1,
+        (End::InLine, true, false) => 2,
+        (End::BehindReply, true, false) => 3,
+        (End::Whole, true, true) => 4,
+        _ => {
+            assert!(rt; false, "call {call}");
+            5
+        }
+    }
+}
+
+/// How many calls there are of each case, until one is behind the run.
+fn fail_each_call(rt: &impl Abort, alloc: Global, pick: u64) -> [u32; 5] {
+    let mut counts = [0u32; 5];
+    for call in 1..2_000 {
+        if counts[4] == 0 {
+            let case = case_of(rt, call, define_failing(rt, alloc, call, pick));
+            if let Some(count) = counts.get_mut(case) {
+                *count = count.saturating_add(1);
+            }
+        }
+    }
+    counts
 }
 
 /// A definition with each call in turn failing. The line has 11 bytes to read, 64 records to look at, six steps and one
 /// reply to say: 82 calls, at so many of which the type is defined. Behind the reply there is the end to read.
-fn fail_each_call(rt: &impl Abort, alloc: Global, pick: u64, defined_at: u32) {
-    let (mut start, mut line, mut defined, mut reply, mut whole) = (0u32, 0u32, 0u32, 0u32, 0u32);
-    for call in 1..2_000 {
-        if whole == 0 {
-            match define_failing(rt, alloc, call, pick) {
-                (End::InStart, false, false) => start = start.saturating_add(1),
-                (End::InLine, false, false) => line = line.saturating_add(1),
-                (End::InLine, true, false) => defined = defined.saturating_add(1),
-                (End::BehindReply, true, false) => reply = reply.saturating_add(1),
-                (End::Whole, true, true) => whole = whole.saturating_add(1),
-                _ => assert!(rt; false, "call {call}"),
-            }
-        }
-    }
+fn has_cases(rt: &impl Abort, [start, line, defined, reply, whole]: [u32; 5], defined_at: u32) {
     assert!(rt; start > START_STEPS && line.saturating_add(defined) == 82);
     assert!(rt; defined == defined_at && reply == 1 && whole == 1);
 }
@@ -168,11 +191,11 @@ fn fail_each_call(rt: &impl Abort, alloc: Global, pick: u64, defined_at: u32) {
 // The type is defined where the reply fails.
 #[test]
 fn a_definition_with_a_failing_call_is_there_or_not(rt: HostRuntime) {
-    fail_each_call(&rt, rt.alloc(), OLDEST, 1);
+    has_cases(&rt, fail_each_call(&rt, rt.alloc(), OLDEST), 1);
 }
 
 // It is there too where the last flush fails or the last fence, and the id word is kept.
 #[test]
 fn a_definition_with_a_failing_call_is_there_or_not_by_the_newest_values(rt: HostRuntime) {
-    fail_each_call(&rt, rt.alloc(), NEWEST, 3);
+    has_cases(&rt, fail_each_call(&rt, rt.alloc(), NEWEST), 3);
 }

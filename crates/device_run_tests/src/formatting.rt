@@ -1,12 +1,16 @@
 //! A device is formatted, with other words on it before, and with power lost or a call failing somewhere.
-use crate::program::{FORMAT, NEWEST, OLDEST, RUN, Seen, WORDS, status_of};
-use pm_mem::Plan;
+use crate::run::loads;
+use pm_mem::{MemHost, Plan};
 use pm_model::Host;
 use pud_defs::layout::DEVICE_MAGIC;
 use puddle_cli::{DEVICE_FAULT, DONE, NOT_USABLE, POWER_LOST};
 use std::alloc::Global;
 use std::process::Abort;
 use test_device::{cuts, failures, poke, zero_device};
+use test_program::{FORMAT, NEWEST, OLDEST, RUN, Seen, status_of};
+
+/// The words of the smallest device.
+const WORDS: u32 = 42_528;
 
 /// The device steps that formatting four frames takes: 34,336 words and 4,292 lines of zeroes with a fence, four words and
 /// a line with a fence, and one word.
@@ -32,24 +36,56 @@ fn formatted(at: u32) -> u64 {
 
 /// Formats the device, and loses power where each word has its durable value. Each word is as formatting leaves it then.
 fn format_noisy<H: Host>(rt: &impl Abort, alloc: Global, host: &mut H) {
-    assert!(rt; status_of(rt, alloc, host, &FORMAT) == DONE);
+    assert!(rt; status_of(alloc, host, &FORMAT) == Some(DONE));
     host.cut(OLDEST);
     assert!(rt; formatted(1_568) == 0 && formatted(34_336) == 1_034_336);
     for at in 0..WORDS {
-        assert!(rt; at < host.words());
-        assert!(rt; host.load(at) == Ok(formatted(at)), "word {at}");
+        loads(rt, host, at, formatted(at));
     }
+}
+
+/// The noise of each word.
+fn all_noise(rt: &impl Abort, alloc: Global) -> Vec<(u32, u64)> {
+    let mut rows = Vec::new(alloc);
+    for at in 0..WORDS {
+        rows.push((at, noise(at))).expect(rt, "memory");
+    }
+    rows
+}
+
+/// A device of zeroes but for these words.
+fn device_with(rt: &impl Abort, alloc: Global, plan: Plan, rows: &[(u32, u64)]) -> MemHost {
+    let mut host = zero_device(alloc, WORDS, b"", plan).expect(rt, "memory");
+    assert!(rt; poke(&mut host, rows));
+    host
+}
+
+/// Formats a noisy device.
+fn format_noise(rt: &impl Abort, alloc: Global) {
+    let rows = all_noise(rt, alloc);
+    let mut host = device_with(rt, alloc, Plan::none(alloc), &rows);
+    format_noisy(rt, alloc, &mut host);
 }
 
 // Word 1,568 is the first of a client's log, and word 34,336 the first of the frames.
 #[test]
 fn formatting_clears_the_tables_and_the_logs_and_leaves_the_frames(rt: HostRuntime) {
-    let plan = Plan::none(rt.alloc());
-    let mut host = zero_device(rt.alloc(), WORDS, b"", plan).expect(&rt, "memory");
-    for at in 0..WORDS {
-        assert!(rt; poke(&mut host, &[(at, noise(at))]));
-    }
-    format_noisy(&rt, rt.alloc(), &mut host);
+    format_noise(&rt, rt.alloc());
+}
+
+/// Formats the device, and answers whether that was done. Whatever was said is of the text.
+fn formats<S: Seen>(rt: &impl Abort, alloc: Global, host: &mut S, fault: u8) -> bool {
+    let status = status_of(alloc, host, &FORMAT);
+    let is_done = status == Some(DONE);
+    assert!(rt; is_done || status == Some(fault));
+    assert!(rt; b"formatted\n".starts_with(host.heard()));
+    is_done
+}
+
+/// Starts behind a whole format, where the plan's fault is still to come.
+fn start_faults<S: Seen>(rt: &impl Abort, alloc: Global, host: &mut S, fault: u8) {
+    assert!(rt; status_of(alloc, host, &RUN) == Some(fault));
+    assert!(rt; host.heard() == b"formatted\n".as_slice());
 }
 
 /// Formats a device with old words under this plan. Whatever comes, a power loss leaves it not sound or blank. The answer
@@ -61,26 +97,20 @@ fn format_under<S: Seen>(
     fault: u8,
     pick: u64,
 ) -> (bool, bool) {
-    let status = status_of(rt, alloc, host, &FORMAT);
-    let is_done = status == DONE;
-    assert!(rt; is_done || status == fault);
-    assert!(rt; b"formatted\n".starts_with(host.heard()));
+    let is_done = formats(rt, alloc, host, fault);
     host.cut(pick);
     let is_whole = host.word(alloc, 0) == Some(DEVICE_MAGIC);
     if is_done {
-        // The plan's fault is still to come, in the start.
-        assert!(rt; status_of(rt, alloc, host, &RUN) == fault);
-        assert!(rt; host.heard() == b"formatted\n".as_slice());
+        start_faults(rt, alloc, host, fault);
     }
     let wanted = if is_whole { DONE } else { NOT_USABLE };
-    assert!(rt; status_of(rt, alloc, host, &RUN) == wanted);
+    assert!(rt; status_of(alloc, host, &RUN) == Some(wanted));
     (is_done, is_whole)
 }
 
 /// Formats a device with old words by this plan. The answer is the same.
 fn format_old(rt: &impl Abort, alloc: Global, plan: Plan, fault: u8, pick: u64) -> (bool, bool) {
-    let mut host = zero_device(alloc, WORDS, b"", plan).expect(rt, "memory");
-    assert!(rt; poke(&mut host, &[(64, 9), (1_216, 5)]));
+    let mut host = device_with(rt, alloc, plan, &[(64, 9), (1_216, 5)]);
     format_under(rt, alloc, &mut host, fault, pick)
 }
 

@@ -1,0 +1,11 @@
+//! Tests of what whole runs of the program leave on a device: formatted, found not sound, with a type defined, with a client.
+#![tactic(auto)]
+
+#[cfg(test)]
+mod definitions;
+#[cfg(test)]
+mod devices;
+#[cfg(test)]
+mod formatting;
+#[cfg(test)]
+mod run;
