@@ -11,7 +11,7 @@ use Rattle.pm_model.proofs.Changes.{Changes-now, Changes-said, Changes-wider, Ch
 use Rattle.pm_model.proofs.Leaves.{Leaves-changes, Leaves-now, Leaves-then, Leaves-weaker}
 use Rattle.pm_model.proofs.OneWord.{one_word, one_word_after}
 use Rattle.pm_persist.proofs.Ranges.{placed_within, placed_at}
-use Rattle.pud_defs.specs.declared.layout.TheConstants.{LOG_WORDS, LOG_HEADER_WORDS, LOG_ENTRY_WORDS}
+use Rattle.pud_defs.specs.declared.layout.TheConstants.{LOG_HEADER_WORDS, LOG_ENTRY_WORDS}
 use Rattle.pud_defs.specs.declared.log_words.TheConstants.{COMMITTING_LO, COMMITTING_HI}
 use Rattle.pud_defs.specs.Image.{Image}
 use Rattle.pud_defs.specs.Entries.{Entry, Log, log_of, gate_lo, gate_hi, gate_used, gate_word, is_idle_gate, entries_in, entries_of, words_from}

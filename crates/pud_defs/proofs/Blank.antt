@@ -1,32 +1,37 @@
 -- The image of a device that was just formatted.
-use Rattle.std.proofs.Common.{nat_le, ◌≡◌, inl, inr, ℕ, zero, suc, ◌+◌, ◌<◌, ◌≤◌, true, [], Some, refl, ap, ◌∙◌, arith, leb-true, eq-eqb}
-use Rattle.std.proofs.lemmas.Bool.{and_parts, cond-true, cases_Bool}
+use Rattle.std.proofs.Common.{nat_le, ◌≡◌, inl, inr, ℕ, ◌<◌, ◌≤◌, true, nat_cmp, [], None, Some, refl, ap, ◌∙◌, arith, leb-true}
+use Rattle.std.proofs.lemmas.Bool.{and_parts, and_from, cond-true, cases_Bool}
 use Rattle.pud_defs.specs.declared.layout.TheConstants.{TYPE_RECORDS, MIN_FRAMES, MAX_FRAMES, DAEMON_LOG, MAGIC_WORD, VERSION_WORD, MACHINE_WORD, FRAMES_WORD, NEXT_NUMBER_WORD}
 use Rattle.pud_defs.specs.Layout.{device_words, is_legal_frame_count}
 use Rattle.pud_defs.specs.Image.{Image}
-use Rattle.pud_defs.specs.Types.{type_record_at, type_records, type_table, by_id, are_legal_types}
+use Rattle.pud_defs.specs.Types.{type_record_at, type_at, is_sound_type}
 use Rattle.pud_defs.specs.World.{IsBlank, world_of, blank_world}
 use Rattle.pud_defs.specs.Entries.{is_idle_gate}
 use Rattle.pud_defs.specs.Replay.{is_in_log, beside_log}
 use Rattle.pud_defs.specs.Spaces.{space_record_at}
 use Rattle.pud_defs.proofs.Replay.{beside_log-outside, outside_log}
-use Rattle.pud_defs.proofs.Spaces.{are_legal_spaces-none, are_closed_logs-none}
-use Rattle.pud_defs.proofs.Parts.{Part, Holds, StandsFor}
+use Rattle.pud_defs.proofs.Spaces.{are_legal_spaces-none, are_closed_logs-none, all_below-from}
+use Rattle.pud_defs.proofs.Keyed.{HasDistinctKeys-one, are_distinct_keys, keyed-none}
+use Rattle.pud_defs.proofs.TypeTable.{type_at-free}
+use Rattle.pud_defs.proofs.Parts.{Part, Holds, HasTypes, StandsFor}
 use Rattle.pud_defs.proofs.Parts.Part.{Header, Types, Pools, Spaces}
 use Rattle.pud_defs.proofs.NoPools.{empty_tables}
 use Rattle.pud_defs.proofs.Worlds.{registry_world_standing, world_of-idle}
 
--- records whose id words are 0 are free
-pub type_records-blank : (image : Image) (from count : ℕ) → ((i : ℕ) → from ≤ i → i < from + count → image (type_record_at i) ≡ 0) → type_records image from count ≡ []
-unfolding type_records
-type_records-blank image from zero h = refl
-type_records-blank image from (suc count) h =
-    cond-true _ _ _ (eq-eqb _ 0 (h from (omega arith) (omega arith))) ∙ type_records-blank image (from + 1) count (λ i low high. h i (omega arith) (omega arith))
+-- a table whose id words are 0 has no types
+pub no_types : (image : Image) → ((i : ℕ) → i < TYPE_RECORDS → image (type_record_at i) ≡ 0) → HasTypes [] image
+no_types image free =
+    let none : (i : ℕ) → i < TYPE_RECORDS → type_at image i ≡ None = λ i below. type_at-free image i (free i below) in
+    record {
+      types = keyed-none nat_cmp (type_at image) 0 TYPE_RECORDS (λ i low high. none i (omega arith));
+      legal = and_from _ _
+          (all_below-from TYPE_RECORDS (λ i. is_sound_type (type_at image i)) (λ i below. ap is_sound_type (none i below)))
+          (are_distinct_keys nat_cmp (type_at image) 0 TYPE_RECORDS (HasDistinctKeys-one nat_cmp (type_at image) 0 TYPE_RECORDS 0 (λ j low high other. none j (omega arith))));
+    }
 
 pub standing_blank : (size F machine : ℕ) (image : Image) → is_legal_frame_count F ≡ true → device_words F ≤ size → IsBlank F machine image → StandsFor size image (blank_world F machine)
 standing_blank size F machine image legal room h =
     let counts : (nat_le MIN_FRAMES F ≡ true) × (nat_le F MAX_FRAMES ≡ true) = and_parts _ _ legal in
-    let none : type_table image ≡ [] = type_records-blank image 0 TYPE_RECORDS (λ i low high. h.rest (type_record_at i) (omega arith) (omega arith)) in
     let held : (p : Part) → Holds p size (blank_world F machine) image = λ p. elim p as (λ p. Holds p size (blank_world F machine) image) [
       | Header ↦ record {
         magic = h.magic;
@@ -40,7 +45,7 @@ standing_blank size F machine image legal room h =
         number_low = omega arith;
         number_high = leb-true _ _ refl;
       }
-      | Types ↦ record { types = ap by_id none; legal = ap are_legal_types none }
+      | Types ↦ no_types image (λ i below. h.rest (type_record_at i) (omega arith) (omega arith))
       | Pools ↦ empty_tables F 1 image (λ k low high. h.rest k (omega arith) (omega arith)) (λ k low high. h.rest k (omega arith) (omega arith))
       | Spaces ↦ record {
         spaces = are_legal_spaces-none image (λ c below. h.rest (space_record_at c) (omega arith) (omega arith));

@@ -1,17 +1,17 @@
 -- What the two writes of a type's definition do to the world that an image stands for.
-use Rattle.std.proofs.Common.{◌≡◌, inl, inr, cond, false, eq-eqb, ℕ, ◌+◌, ◌-◌, ◌<◌, ◌≤◌, true, List, ◌∷◌, ◌++◌, Some, None, sym, ap, ◌∙◌, arith, leb-true}
+use Rattle.std.proofs.Common.{◌≡◌, inl, inr, cond, false, eq-eqb, ℕ, ◌+◌, ◌<◌, ◌≤◌, true, nat_cmp, List, Some, None, sym, ap, ◌∙◌, arith, leb-true}
 use Rattle.std.proofs.lemmas.Bool.{and_parts, cond-true, cond-false, cases_eq}
 use Rattle.pud_defs.specs.declared.layout.TheConstants.{TYPE_RECORDS, DAEMON_LOG}
 use Rattle.pud_defs.specs.Image.{Image, written}
 use Rattle.pud_defs.specs.TypeMap.{is_legal_map, is_legal_type_id}
-use Rattle.pud_defs.specs.Types.{type_record_at, type_records, type_table, by_id, map_of, with_type, are_legal_types}
+use Rattle.pud_defs.specs.Types.{type_record_at, type_at, map_of, with_type}
 use Rattle.pud_defs.specs.World.{StoredWorld, registry_world, world_of}
 use Rattle.pud_defs.specs.Entries.{is_idle_gate}
 use Rattle.pud_defs.specs.Replay.{is_in_log, beside_log}
 use Rattle.pud_defs.proofs.Replay.{beside_log-outside, outside_log}
 use Rattle.pud_defs.proofs.Images.{written_there, written_other}
-use Rattle.pud_defs.proofs.TypeLists.{by_id-insert, are_legal_types-insert}
-use Rattle.pud_defs.proofs.TypeTable.{type_records_but, type_records-map_written, type_records-id_written}
+use Rattle.pud_defs.proofs.Keyed.{keyed-same}
+use Rattle.pud_defs.proofs.TypeTable.{type_at-map_written, are_legal_types-fewer, types_of-written, are_legal_types-written}
 use Rattle.pud_defs.proofs.Parts.{StandsFor, HasTypes, standing_with_types}
 use Rattle.pud_defs.proofs.Parts.Part.{Types}
 use Rattle.pud_defs.proofs.Worlds.{registry_world_standing, standing_idle, world_of-idle, map_of_world}
@@ -25,25 +25,25 @@ type_written size image s ts w v low high h now =
 -- the map word of a free record is written: the image stands for the same world
 pub standing-map_written : (size : ℕ) (image : Image) (s : StoredWorld) (r v : ℕ) → StandsFor size image s → r < TYPE_RECORDS → image (type_record_at r) ≡ 0 → StandsFor size (written (type_record_at r + 1) v image) s
 standing-map_written size image s r v h within free =
-    let same : type_table (written (type_record_at r + 1) v image) ≡ type_table image = type_records-map_written image TYPE_RECORDS r v within free in
+    let now = written (type_record_at r + 1) v image in
+    let same : (n : ℕ) → type_at now n ≡ type_at image n = λ n. type_at-map_written image r v n free in
     let types = h.holds Types in
-    type_written size image s s.types (type_record_at r + 1) v (omega arith) (omega arith) h (record { types = ap by_id same ∙ types.types; legal = ap are_legal_types same ∙ types.legal })
+    type_written size image s s.types (type_record_at r + 1) v (omega arith) (omega arith) h (record {
+      types = keyed-same nat_cmp (type_at now) (type_at image) 0 TYPE_RECORDS (λ n low high. same n) ∙ types.types;
+      legal = are_legal_types-fewer (type_at image) (type_at now) (λ n below. inl (same n)) types.legal;
+    })
 
 -- the id word of a free record is written where its map word is in place: the type is defined
 pub standing-id_written : (size : ℕ) (image : Image) (s : StoredWorld) (r id map : ℕ) → StandsFor size image s → r < TYPE_RECORDS → image (type_record_at r) ≡ 0 → image (type_record_at r + 1) ≡ map
     → is_legal_type_id id ≡ true → is_legal_map map ≡ true → map_of id s.types ≡ None
     → StandsFor size (written (type_record_at r) id image) (record s { types = with_type id map s.types })
 standing-id_written size image s r id map h within free there legal_id legal_map none =
-    let before = type_records image 0 r in
-    let behind = type_records image (r + 1) (TYPE_RECORDS - (r + 1)) in
     let above : 0 < id = leb-true 1 id ((and_parts _ _ legal_id).0) in
-    let but : type_table image ≡ before ++ behind = type_records_but image TYPE_RECORDS r within free in
-    let now : type_table (written (type_record_at r) id image) ≡ before ++ (id, map) ∷ behind = type_records-id_written image TYPE_RECORDS r id within above ∙ ap (λ m. before ++ (id, m) ∷ behind) there in
-    let apart : map_of id (before ++ behind) ≡ None = ap (map_of id) (sym but) ∙ map_of_world size image s id h ∙ none in
+    let missing = map_of_world size image s id h ∙ none in
     let types = h.holds Types in
     type_written size image s (with_type id map s.types) (type_record_at r) id (omega arith) (omega arith) h (record {
-      types = ap by_id now ∙ by_id-insert id map before behind apart ∙ ap (with_type id map) (ap by_id (sym but) ∙ types.types);
-      legal = ap are_legal_types now ∙ are_legal_types-insert id map before behind legal_id legal_map apart (ap are_legal_types (sym but) ∙ types.legal);
+      types = types_of-written image r id map within above free there missing ∙ ap (with_type id map) types.types;
+      legal = are_legal_types-written image r id map within above free there missing legal_id legal_map types.legal;
     })
 
 -- ---- the same two, of an image whose daemon log is closed and counts no word

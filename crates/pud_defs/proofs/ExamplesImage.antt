@@ -4,7 +4,7 @@ use Rattle.pud_defs.specs.declared.layout.TheConstants.{DEVICE_MAGIC}
 use Rattle.pud_defs.specs.Layout.{tables_end, frames_at, device_words}
 use Rattle.pud_defs.specs.Image.{Image, written}
 use Rattle.pud_defs.specs.Entries.{gate_word, entry_word}
-use Rattle.pud_defs.specs.Types.{first_free}
+use Rattle.pud_defs.specs.Types.{free_type}
 use Rattle.pud_defs.specs.Registry.{is_sound}
 use Rattle.pud_defs.specs.World.{world_of, blank_world}
 use Rattle.pud_defs.proofs.Opened.{opened}
@@ -40,11 +40,11 @@ any_order : world_of 42528 (written 1215 8589934594 (written 1214 1 (written 108
 unfolding opened
 any_order = refl
 
-third_record_is_free : first_free two_types 0 64 ≡ Some 2
+third_record_is_free : free_type two_types ≡ Some 2
 unfolding opened
 third_record_is_free = refl
 
-gaps_are_found : first_free (written 1088 0 two_types) 0 64 ≡ Some 0
+gaps_are_found : free_type (written 1088 0 two_types) ≡ Some 0
 unfolding opened
 gaps_are_found = refl
 

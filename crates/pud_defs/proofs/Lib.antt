@@ -1,7 +1,6 @@
 pub mod Words
 pub mod Keyed
 pub mod KeyedKeys
-pub mod KeyedTypes
 pub mod TablesOf
 pub mod PutsMade
 pub mod PoolsChanged

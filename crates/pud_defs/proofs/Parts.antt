@@ -1,16 +1,17 @@
 -- What an image with nothing to replay holds of a world, part by part, and the words that each part is read from.
-use Rattle.std.proofs.Common.{◌≡◌, ◌⊎◌, inl, inr, ⊎_elim, ℕ, ◌<◌, ◌≤◌, true, List, ap, ◌∙◌, arith, zero-le}
+use Rattle.std.proofs.Common.{◌≡◌, ◌⊎◌, inl, inr, ⊎_elim, ℕ, ◌<◌, ◌≤◌, ◌+◌, true, List, nat_cmp, ap, ◌∙◌, arith, zero-le}
 use Rattle.std.proofs.lemmas.Bool.{cases_lt}
 use Rattle.pud_defs.specs.declared.layout.TheConstants.{DEVICE_MAGIC, VERSION, MIN_FRAMES, MAX_FRAMES, NUMBER_LIMIT, MAGIC_WORD, VERSION_WORD, MACHINE_WORD, FRAMES_WORD, NEXT_NUMBER_WORD, DAEMON_LOG, TYPE_TABLE, POOL_TABLE, SPACE_TABLE, PUDDLE_TABLE, TYPE_RECORDS}
 use Rattle.pud_defs.specs.Layout.{tables_end, frames_at, device_words}
 use Rattle.pud_defs.specs.Image.{Image}
-use Rattle.pud_defs.specs.Types.{type_table, types_of, by_id, are_legal_types}
+use Rattle.pud_defs.specs.Types.{type_record_at, type_at, types_of, are_legal_types}
 use Rattle.pud_defs.specs.Spaces.{are_legal_spaces, are_closed_logs}
 use Rattle.pud_defs.specs.Tables.{Pool, tables_of, pools_of}
 use Rattle.pud_defs.specs.SoundTables.{are_sound_tables}
 use Rattle.pud_defs.specs.World.{StoredWorld}
 use Rattle.pud_defs.proofs.Spaces.{are_legal_spaces-same, are_closed_logs-same}
-use Rattle.pud_defs.proofs.TypeTable.{type_records_same}
+use Rattle.pud_defs.proofs.Keyed.{keyed-same}
+use Rattle.pud_defs.proofs.TypeTable.{type_at-same, are_legal_types-fewer}
 use Rattle.pud_defs.proofs.TablesOf.{tables_of-same}
 
 -- the words that describe the device; the types; the pools, with their puddles; the log spaces, with the clients' logs
@@ -46,7 +47,7 @@ pub record HasHeader (size F id number : ℕ) (image : Image) : Type 0 where
 
 pub record HasTypes (ts : List (ℕ × ℕ)) (image : Image) : Type 0 where
   pub types : types_of image ≡ ts
-  pub legal : are_legal_types (type_table image) ≡ true
+  pub legal : are_legal_types (type_at image) ≡ true
 
 pub record HasSpaces (F : ℕ) (image : Image) : Type 0 where
   pub spaces : are_legal_spaces image ≡ true
@@ -80,8 +81,12 @@ Holds-same Header size s i j same h =
       number_high = h.number_high;
     }
 Holds-same Types size s i j same h =
-    let table : type_table j ≡ type_table i = type_records_same j i 0 TYPE_RECORDS (λ k low high. same k (record { low = omega arith; high = omega arith })) in
-    record { types = ap by_id table ∙ h.types; legal = ap are_legal_types table ∙ h.legal }
+    let each : (n : ℕ) → n < TYPE_RECORDS → type_at j n ≡ type_at i n = λ n below.
+    type_at-same i j n (same (type_record_at n) (record { low = omega arith; high = omega arith })) (same (type_record_at n + 1) (record { low = omega arith; high = omega arith })) in
+    record {
+      types = keyed-same nat_cmp (type_at j) (type_at i) 0 TYPE_RECORDS (λ n low high. each n (omega arith)) ∙ h.types;
+      legal = are_legal_types-fewer (type_at i) (type_at j) (λ n below. inl (each n below)) h.legal;
+    }
 Holds-same Pools size s i j same h =
     let tables : tables_of s.frames j ≡ tables_of s.frames i =
     tables_of-same s.frames j i (λ k low high. same k (inl (record { low = low; high = high }))) (λ k low high. same k (inr (record { low = low; high = high }))) in

@@ -2,23 +2,24 @@
 use Rattle.std.proofs.Common.{◌≡◌, ◌⊎◌, ◌+◌, inl, inr, Bool, ℕ, ◌<◌, ◌≤◌, true, ◌&&◌, T, length, Option, Some, None, nat_cmp, refl, sym, ap, ◌∙◌, arith, eqb-true, eq-eqb, leb-true, le-leb, subst, false}
 use Rattle.std.specs.FinMap.Entries.{is_sorted}
 use Rattle.std.proofs.lemmas.Bool.{and_parts, and_from, cond-true, cond-false, cases_Bool}
+use Rattle.std.proofs.lemmas.Cmp.{nat_cmp_total}
 use Rattle.std.proofs.lemmas.Option.{cond_some}
 use Rattle.pud_defs.specs.declared.layout.TheConstants.{DEVICE_MAGIC, MIN_FRAMES, MAX_FRAMES, NUMBER_LIMIT, MAGIC_WORD, FRAMES_WORD, NEXT_NUMBER_WORD, DAEMON_LOG, LOG_WORDS, TYPE_TABLE, TYPE_RECORDS}
 use Rattle.pud_defs.specs.Layout.{tables_end, device_words}
 use Rattle.pud_defs.specs.Image.{Image, IsSameBelow}
-use Rattle.pud_defs.specs.Types.{type_table, map_of, first_free}
+use Rattle.pud_defs.specs.Keyed.{are_distinct}
+use Rattle.pud_defs.specs.Types.{type_at, types_of, free_type, used_types, map_of, is_sound_type}
 use Rattle.pud_defs.specs.Registry.{frames_of, is_sound, has_magic, has_version, has_room, has_legal_number, has_legal_types, has_sound_tables, has_legal_spaces, has_closed_logs, is_registry, has_legal_log, are_allowed}
 use Rattle.pud_defs.specs.Tables.{tables_of, pools_of}
 use Rattle.pud_defs.specs.SoundTables.{are_sound_tables}
 use Rattle.pud_defs.specs.World.{StoredWorld, stored_by, registry_world, world_of}
 use Rattle.pud_defs.specs.Entries.{is_idle_gate, log_of}
 use Rattle.pud_defs.specs.Replay.{settled_by, beside_log}
-use Rattle.pud_defs.specs.Spaces.{are_closed_logs}
+use Rattle.pud_defs.specs.Spaces.{all_below, are_closed_logs}
 use Rattle.pud_defs.proofs.Replay.{entries_of-idle, settled_by-beside, beside_log-outside, outside_log}
 use Rattle.pud_defs.proofs.Spaces.{are_legal_spaces-same}
 use Rattle.pud_defs.proofs.Logged.{settled_by-unlogged}
-use Rattle.pud_defs.proofs.TypeLists.{is_sorted-by_id, map_of-by_id, length-by_id}
-use Rattle.pud_defs.proofs.TypeTable.{length-type_records, length-type_records_full, first_free_some}
+use Rattle.pud_defs.proofs.Keyed.{distinct_keys, is_sorted-keyed, length-keyed, first_free_some, count_used_most, count_used_full, count_used_room}
 use Rattle.pud_defs.proofs.Parts.{Part, Holds, StandsFor, standing_same, standing_with_spaces}
 use Rattle.pud_defs.proofs.Parts.Part.{Header, Types, Pools, Spaces}
 
@@ -187,21 +188,26 @@ world_of-no_magic size image h = elim (cases_Bool (has_legal_log image)) [
 -- ---- the world's types are those of the table
 
 pub types_sorted : (size : ℕ) (image : Image) (s : StoredWorld) → StandsFor size image s → T (is_sorted nat_cmp s.types)
-types_sorted size image s h = subst (λ ts. T (is_sorted nat_cmp ts)) (h.holds Types).types (is_sorted-by_id (type_table image))
+types_sorted size image s h = subst (λ ts. T (is_sorted nat_cmp ts)) (h.holds Types).types (is_sorted-keyed nat_cmp nat_cmp_total (type_at image) 0 TYPE_RECORDS)
 
--- the first record with an id gives its map
-pub map_of_world : (size : ℕ) (image : Image) (s : StoredWorld) (id : ℕ) → StandsFor size image s → map_of id (type_table image) ≡ map_of id s.types
-map_of_world size image s id h = sym (map_of-by_id id (type_table image)) ∙ ap (map_of id) (h.holds Types).types
+pub map_of_world : (size : ℕ) (image : Image) (s : StoredWorld) (id : ℕ) → StandsFor size image s → map_of id (types_of image) ≡ map_of id s.types
+map_of_world size image s id h = ap (map_of id) (h.holds Types).types
 
-pub length_of_world : (size : ℕ) (image : Image) (s : StoredWorld) → StandsFor size image s → length (type_table image) ≡ length s.types
-length_of_world size image s h = sym (length-by_id (type_table image) (h.holds Types).legal) ∙ ap length (h.holds Types).types
+-- as many records are used as types are defined
+pub length_of_world : (size : ℕ) (image : Image) (s : StoredWorld) → StandsFor size image s → used_types image ≡ length s.types
+length_of_world size image s h =
+    let types = h.holds Types in
+    let distinct = and_parts (all_below TYPE_RECORDS (λ i. is_sound_type (type_at image i))) (are_distinct nat_cmp (type_at image) 0 TYPE_RECORDS) types.legal in
+    sym (length-keyed nat_cmp nat_cmp_total (type_at image) 0 TYPE_RECORDS (distinct_keys nat_cmp (type_at image) 0 TYPE_RECORDS distinct.1)) ∙ ap length types.types
 
 -- all records are used exactly where as many types are defined
-pub full_of_world : (size : ℕ) (image : Image) (s : StoredWorld) → StandsFor size image s → first_free image 0 TYPE_RECORDS ≡ None → length s.types ≡ TYPE_RECORDS
-full_of_world size image s h none = sym (length_of_world size image s h) ∙ length-type_records_full image 0 TYPE_RECORDS none
+pub full_of_world : (size : ℕ) (image : Image) (s : StoredWorld) → StandsFor size image s → free_type image ≡ None → length s.types ≡ TYPE_RECORDS
+full_of_world size image s h none = sym (length_of_world size image s h) ∙ count_used_full (type_at image) 0 TYPE_RECORDS none
 
-pub room_of_world : (size : ℕ) (image : Image) (s : StoredWorld) (r : ℕ) → StandsFor size image s → first_free image 0 TYPE_RECORDS ≡ Some r → length s.types < TYPE_RECORDS
-room_of_world size image s r h some = let free = first_free_some image 0 TYPE_RECORDS r some in let room = free.room in omega (arith, length_of_world size image s h)
+pub room_of_world : (size : ℕ) (image : Image) (s : StoredWorld) (r : ℕ) → StandsFor size image s → free_type image ≡ Some r → length s.types < TYPE_RECORDS
+room_of_world size image s r h some =
+    let free = first_free_some (type_at image) 0 TYPE_RECORDS r some in
+    omega (arith, length_of_world size image s h, count_used_room (type_at image) 0 TYPE_RECORDS r free.low free.high free.free)
 
 pub at_most_of_world : (size : ℕ) (image : Image) (s : StoredWorld) → StandsFor size image s → length s.types ≤ TYPE_RECORDS
-at_most_of_world size image s h = omega (arith, length_of_world size image s h, length-type_records image 0 TYPE_RECORDS)
+at_most_of_world size image s h = omega (arith, length_of_world size image s h, count_used_most (type_at image) 0 TYPE_RECORDS)

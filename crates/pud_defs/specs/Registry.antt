@@ -7,7 +7,7 @@ use Rattle.pud_defs.specs.Layout.{tables_end, frames_at, device_words, is_legal_
 use Rattle.pud_defs.specs.Entries.{Entry, Log, log_of}
 use Rattle.pud_defs.specs.Replay.{is_in_range, settled_by}
 use Rattle.pud_defs.specs.Spaces.{are_legal_spaces, are_closed_logs}
-use Rattle.pud_defs.specs.Types.{type_table, are_legal_types}
+use Rattle.pud_defs.specs.Types.{type_at, are_legal_types}
 use Rattle.pud_defs.specs.Tables.{tables_of}
 use Rattle.pud_defs.specs.SoundTables.{are_sound_tables}
 
@@ -33,7 +33,7 @@ abbrev pub has_legal_number : Image → Bool
 has_legal_number image = is_number (image NEXT_NUMBER_WORD)
 
 abbrev pub has_legal_types : Image → Bool
-has_legal_types image = are_legal_types (type_table image)
+has_legal_types image = are_legal_types (type_at image)
 
 -- the pools and puddles are sound, by the next UUID number
 abbrev pub has_sound_tables : Image → Bool

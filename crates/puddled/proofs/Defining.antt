@@ -16,11 +16,12 @@ use Rattle.pud_defs.specs.declared.machine.Refusal.{Refusal}
 use Rattle.pud_defs.specs.declared.machine.Refusal.TheVariants.{Clash, Full}
 use Rattle.pud_defs.specs.Image.{Image}
 use Rattle.pud_defs.specs.TypeMap.{is_legal_map, is_legal_type_id}
-use Rattle.pud_defs.specs.Types.{type_record_at, type_table, first_free, map_of, with_type}
+use Rattle.pud_defs.specs.Types.{type_record_at, type_at, free_type, map_of, with_type}
 use Rattle.pud_defs.specs.Entries.{is_idle_gate}
 use Rattle.pud_defs.specs.World.{World, world_of, closed}
 use Rattle.pud_defs.specs.Step.{is_other, answer_by, refusal_of, after, unless_refused, world_by}
-use Rattle.pud_defs.proofs.TypeTable.{IsLowestFree, first_free_some}
+use Rattle.pud_defs.proofs.Keyed.{IsLowestFree, first_free_some}
+use Rattle.pud_defs.proofs.TypeTable.{free_word}
 use Rattle.pud_defs.proofs.Spaces.{owner_of-same}
 use Rattle.pud_defs.proofs.Parts.{StandsFor}
 use Rattle.pud_defs.proofs.Worlds.{standing_beside, standing_idle, types_sorted, map_of_world, length_of_world, full_of_world, room_of_world}
@@ -44,12 +45,12 @@ module _ (size : ℕ) (w : World) (image : Image) (id map : ℕ) (stands : Stand
   types = w.stored.types
 
   -- the table refuses what the machine refuses
-  pub refusal_of_table : table_refusal (type_table image) id map ≡ refusal_of w (Define id map)
+  pub refusal_of_table : table_refusal image id map ≡ refusal_of w (Define id map)
   refusal_of_table =
       (λ i. table_refusal_by (map_of_world size image (closed w) id stands i) (length_of_world size image (closed w) stands i) map)
       ∙ sym (refusal_of-define w id map)
 
-  found_by : (found : Option ℕ) → map_of id types ≡ found → cond (is_some found) None (first_free image 0 TYPE_RECORDS) ≡ None → unless_refused (refusal_of w (Define id map)) w (after w (Define id map)) ≡ w
+  found_by : (found : Option ℕ) → map_of id types ≡ found → cond (is_some found) None (free_type image) ≡ None → unless_refused (refusal_of w (Define id map)) w (after w (Define id map)) ≡ w
   found_by (Some other) e none = ⊎_elim
       (λ same. ap (λ (o : Option Refusal). unless_refused o w (after w (Define id map))) (define-same w id map (e ∙ ap Some same)) ∙ after-same w id map (types_sorted size image (closed w) stands) (e ∙ ap Some same))
       (λ apart. ap (λ (o : Option Refusal). unless_refused o w (after w (Define id map))) (define-clash w id map other e apart))
@@ -60,24 +61,24 @@ module _ (size : ℕ) (w : World) (image : Image) (id map : ℕ) (stands : Stand
 
   -- where nothing is to be written the world stays
   pub idle_world : place_for image id ≡ None → world_by w (Some (Define id map)) ≡ w
-  idle_world none = found_by (map_of id types) refl (ap (λ (o : Option ℕ). cond (is_some o) None (first_free image 0 TYPE_RECORDS)) (sym (map_of_world size image (closed w) id stands)) ∙ none)
+  idle_world none = found_by (map_of id types) refl (ap (λ (o : Option ℕ). cond (is_some o) None (free_type image)) (sym (map_of_world size image (closed w) id stands)) ∙ none)
 
-  place_by_found : (found : Option ℕ) (r : ℕ) → cond (is_some found) None (first_free image 0 TYPE_RECORDS) ≡ Some r → (found ≡ None) × (first_free image 0 TYPE_RECORDS ≡ Some r)
+  place_by_found : (found : Option ℕ) (r : ℕ) → cond (is_some found) None (free_type image) ≡ Some r → (found ≡ None) × (free_type image ≡ Some r)
   place_by_found (Some other) r e = absurd (let no : None ≡ Some r = e in cc)
   place_by_found None r e = (refl, e)
 
   -- the type is new, and this is the lowest free record
   pub record IsNew (r : ℕ) : Type 0 where
     pub missing : map_of id types ≡ None
-    pub lowest : IsLowestFree image 0 TYPE_RECORDS r
+    pub lowest : IsLowestFree (type_at image) 0 TYPE_RECORDS r
     pub world : world_by w (Some (Define id map)) ≡ after w (Define id map)
 
   pub new_type : (r : ℕ) → place_for image id ≡ Some r → IsNew r
   new_type r place =
-      let parts = place_by_found (map_of id types) r (ap (λ (o : Option ℕ). cond (is_some o) None (first_free image 0 TYPE_RECORDS)) (sym (map_of_world size image (closed w) id stands)) ∙ place) in
+      let parts = place_by_found (map_of id types) r (ap (λ (o : Option ℕ). cond (is_some o) None (free_type image)) (sym (map_of_world size image (closed w) id stands)) ∙ place) in
       record {
         missing = parts.0;
-        lowest = first_free_some image 0 TYPE_RECORDS r parts.1;
+        lowest = first_free_some (type_at image) 0 TYPE_RECORDS r parts.1;
         world = ap (λ (o : Option Refusal). unless_refused o w (after w (Define id map))) (define-new w id map parts.0 (room_of_world size image (closed w) r stands parts.1));
       }
 
@@ -112,7 +113,7 @@ module _ (size : ℕ) (w : World) (memory : Memory) (id map r : ℕ) (old : Stat
   free image picked =
       let known = within in
       let one = ready.tables.each (type_record_at r) (inr (omega arith)) (omega arith) in
-      one.each (image (type_record_at r)) (picked.each (type_record_at r)) ∙ is_new.lowest.free
+      one.each (image (type_record_at r)) (picked.each (type_record_at r)) ∙ free_word (reads old.now.words) r is_new.lowest.free
 
   gate : (image : Image) → Picks old.now.words image → is_idle_gate (image DAEMON_LOG) ≡ true
   gate image picked = ready.settled.idle (image DAEMON_LOG) (picked.each DAEMON_LOG)
@@ -180,7 +181,7 @@ Applies-define size w memory id map fault old new ready legal_id legal_map idle 
     place_applies size w memory id map fault old new ready legal_id legal_map (place_for (reads old.now.words) id) refl idle defines rests
 
 -- the reply is the machine's
-pub refusal_when_ready : (size : ℕ) (w : World) (memory : Memory) (id map : ℕ) (old : State) → IsReady size w memory old → table_refusal (type_table (reads old.now.words)) id map ≡ refusal_of w (Define id map)
+pub refusal_when_ready : (size : ℕ) (w : World) (memory : Memory) (id map : ℕ) (old : State) → IsReady size w memory old → table_refusal (reads old.now.words) id map ≡ refusal_of w (Define id map)
 refusal_when_ready size w memory id map old ready = refusal_of_table size w (reads old.now.words) id map (standing size w memory old ready)
 
 pub fault_of_reply : (done : Result (Unit {0}) TypeFault) → fault_of (reply_of done) ≡ fault_in done
@@ -190,7 +191,7 @@ fault_of_reply (Err faults.Full) = refl
 fault_of_reply (Err (faults.Host fault)) = refl
 
 pub reply_when_ready : (size : ℕ) (w : World) (memory : Memory) (id map : ℕ) (done : Result (Unit {0}) TypeFault) (old : State) → IsReady size w memory old
-    → (fault_in done ≡ None → refusal_in done ≡ table_refusal (type_table (reads old.now.words)) id map) → IfOk (reply_of done) (λ reply. of_reply reply ≡ answer_by w (Some (Define id map)))
+    → (fault_in done ≡ None → refusal_in done ≡ table_refusal (reads old.now.words) id map) → IfOk (reply_of done) (λ reply. of_reply reply ≡ answer_by w (Some (Define id map)))
 reply_when_ready size w memory id map (Ok x) old ready told = sym (answer_is_ok w (Define id map) (sym (told refl ∙ refusal_when_ready size w memory id map old ready)))
 reply_when_ready size w memory id map (Err faults.Clash) old ready told = sym (refused_answer w (Define id map) Clash (sym (told refl ∙ refusal_when_ready size w memory id map old ready)))
 reply_when_ready size w memory id map (Err faults.Full) old ready told = sym (refused_answer w (Define id map) Full (sym (told refl ∙ refusal_when_ready size w memory id map old ready)))

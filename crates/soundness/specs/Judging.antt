@@ -1,11 +1,13 @@
 -- The parts of a sound registry, in the order in which they are read.
-use Rattle.std.specs.Prelude.{ℕ, ◌-◌, ◌≤◌, ◌==◌, nat_le, Bool, not, ◌&&◌, ◌||◌, cond, List, Option, Some, None}
+use Rattle.std.specs.Prelude.{ℕ, ◌-◌, ◌≤◌, ◌==◌, nat_le, Bool, not, ◌&&◌, ◌||◌, cond, Option, Some, None}
+use Rattle.std.specs.Ordering.{nat_cmp}
 use Rattle.pud_defs.specs.declared.layout.TheConstants.{DEVICE_MAGIC, VERSION, MAGIC_WORD, VERSION_WORD, FRAMES_WORD, MIN_FRAMES, MAX_FRAMES, NEXT_NUMBER_WORD, TYPE_RECORDS}
 use Rattle.pud_defs.specs.Image.{Image}
 use Rattle.pud_defs.specs.TypeMap.{is_legal_map, is_legal_type_id}
-use Rattle.pud_defs.specs.Types.{type_records}
+use Rattle.pud_defs.specs.Keyed.{are_distinct}
+use Rattle.pud_defs.specs.Types.{type_at, is_sound_type}
 use Rattle.pud_defs.specs.Layout.{device_words, is_legal_frame_count}
-use Rattle.pud_defs.specs.Spaces.{space_record_at, has_closed_logs, are_legal_spaces, are_closed_logs}
+use Rattle.pud_defs.specs.Spaces.{all_below, space_record_at, has_closed_logs, are_legal_spaces, are_closed_logs}
 use Rattle.pud_defs.specs.Tables.{tables_of}
 use Rattle.pud_defs.specs.SoundTables.{are_sound_tables}
 use Rattle.pud_defs.specs.Registry.{has_legal_number, has_legal_types}
@@ -25,9 +27,9 @@ pub record IsRoomFor (size frames : ℕ) : Type 0 where
   pub no_more : frames ≤ MAX_FRAMES
   pub fits : device_words frames ≤ size
 
--- the last n records of the type table
-abbrev pub last_records : Image → ℕ → List (ℕ × ℕ)
-last_records image n = type_records image (TYPE_RECORDS - n) n
+-- the last n records of the type table are free or legal, and no two of them have one id
+abbrev pub are_legal_last : Image → ℕ → Bool
+are_legal_last image n = all_below n (λ k. is_sound_type (type_at image (TYPE_RECORDS - 1 - k))) && are_distinct nat_cmp (type_at image) (TYPE_RECORDS - n) n
 
 -- whether records are legal with one more in front, by whether its id is one of theirs and whether they are legal
 abbrev pub with_one_more : (id map : ℕ) (again legal : Bool) → Bool

@@ -1,12 +1,12 @@
 //! Addresses, free bases, and the headers and slots of frames.
 use pm_mem::{MemHost, Plan};
 use pm_model::{Host, HostFault};
+use pud_defs::layout::{MIN_FRAMES, device_words};
 use puddle_header::{
     frame_magic, frame_number, frame_ordinal, header_fits, next_serial, root_value, slot_field,
     slot_serial, slot_type,
 };
 use puddle_space::{free_base, locate};
-use pud_defs::layout::{MIN_FRAMES, device_words};
 use std::alloc::Global;
 use std::process::Abort;
 use test_device::{blank_device, failures, poke};
@@ -118,7 +118,11 @@ fn of_several_ranges_the_lowest_frame_counts(rt: HostRuntime) {
     let [_, one, two, _] = RECORDS;
     let words = [(one, 1), (one + 2, START + 8), (two, 1), (two + 2, START)];
     let mut host = device(&rt, alloc, Plan::none(alloc), &words);
-    for (address, want) in [(START, 4_096), (START + 8, 2_048), (START + RANGE, 2_048 + 2_047)] {
+    for (address, want) in [
+        (START, 4_096),
+        (START + 8, 2_048),
+        (START + RANGE, 2_048 + 2_047),
+    ] {
         assert!(rt; place(&rt, &mut host, address) == want, "{address}");
     }
 }
@@ -129,14 +133,38 @@ fn the_lowest_base_that_nothing_has(rt: HostRuntime) {
     let [zero, one, two, _] = RECORDS;
     let rows: [(&[Row], &[u64], u64); 9] = [
         (&[], &[], START),
-        (&[(zero, 1), (zero + 2, START), (zero + 3, START)], &[], START + RANGE),
-        (&[(zero, 1), (zero + 2, START + RANGE), (zero + 3, START)], &[], START + 2 * RANGE),
-        (&[(zero, 1), (zero + 2, START), (zero + 3, START + RANGE)], &[], START + 2 * RANGE),
-        (&[(zero, 1), (zero + 2, START + RANGE), (zero + 3, START + RANGE)], &[], START),
+        (
+            &[(zero, 1), (zero + 2, START), (zero + 3, START)],
+            &[],
+            START + RANGE,
+        ),
+        (
+            &[(zero, 1), (zero + 2, START + RANGE), (zero + 3, START)],
+            &[],
+            START + 2 * RANGE,
+        ),
+        (
+            &[(zero, 1), (zero + 2, START), (zero + 3, START + RANGE)],
+            &[],
+            START + 2 * RANGE,
+        ),
+        (
+            &[
+                (zero, 1),
+                (zero + 2, START + RANGE),
+                (zero + 3, START + RANGE),
+            ],
+            &[],
+            START,
+        ),
         (&[(zero + 2, START)], &[], START),
         (&[(two, 1), (two + 2, START + 8), (two + 3, 0)], &[], START),
         (&[], &[START, START + RANGE], START + 2 * RANGE),
-        (&[(one, 1), (one + 2, START), (one + 3, START)], &[START + RANGE, 5, START], START + 2 * RANGE),
+        (
+            &[(one, 1), (one + 2, START), (one + 3, START)],
+            &[START + RANGE, 5, START],
+            START + 2 * RANGE,
+        ),
     ];
     for (words, taken, want) in rows {
         let mut host = device(&rt, alloc, Plan::none(alloc), words);
@@ -166,7 +194,10 @@ fn a_header_is_its_puddles(rt: HostRuntime) {
     ];
     for (words, want) in rows {
         let mut host = device(&rt, alloc, Plan::none(alloc), &whole);
-        assert!(rt; poke(&mut host, words) && fits(&rt, &mut host) == want, "{words:?}");
+        assert!(rt;
+            poke(&mut host, words) && fits(&rt, &mut host) == want,
+            "{words:?}"
+        );
     }
 }
 
@@ -188,7 +219,10 @@ fn the_words_of_a_frame(rt: HostRuntime) {
     ];
     let mut host = device(&rt, alloc, Plan::none(alloc), &words);
     for reader in 0..9 {
-        assert!(rt; word(&rt, &mut host, reader) == u64::from(10 + reader), "{reader}");
+        assert!(rt;
+            word(&rt, &mut host, reader) == u64::from(10 + reader),
+            "{reader}"
+        );
     }
 }
 

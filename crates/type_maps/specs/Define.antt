@@ -1,5 +1,5 @@
 -- What a definition does to the type table.
-use Rattle.std.specs.Prelude.{◌≡◌, ◌⊎◌, ℕ, ◌+◌, ◌<◌, ◌==◌, cond, List, Option, Some, None, is_some, Result, Ok, Err}
+use Rattle.std.specs.Prelude.{◌≡◌, ◌⊎◌, ℕ, ◌+◌, ◌<◌, ◌==◌, Bool, ◌&&◌, nat_le, cond, Option, Some, None, is_some, is_none, Result, Ok, Err}
 use Rattle.pm_model.specs.declared.host.HostFault.{HostFault}
 use Rattle.pm_model.specs.Words.{Words, Picks}
 use Rattle.pm_model.specs.Moments.{State}
@@ -8,8 +8,8 @@ use Rattle.pud_defs.specs.declared.layout.TheConstants.{TYPE_RECORDS}
 use Rattle.pud_defs.specs.declared.machine.Refusal.{Refusal}
 use Rattle.pud_defs.specs.declared.machine.Refusal.TheVariants as refusals
 use Rattle.pud_defs.specs.Image.{Image, written}
-use Rattle.pud_defs.specs.Types.{type_record_at, type_table, first_free, map_of}
-use Rattle.pud_defs.specs.Step.{is_clash, is_full}
+use Rattle.pud_defs.specs.Types.{type_record_at, types_of, free_type, used_types, map_of}
+use Rattle.pud_defs.specs.Step.{is_clash}
 use Rattle.type_maps.specs.declared.TypeFault.{TypeFault}
 use Rattle.type_maps.specs.declared.TypeFault.TheVariants as faults
 use Rattle.type_maps.specs.declared.Place.{Place}
@@ -29,13 +29,17 @@ refusal_in (Err (faults.Host fault)) = None
 refusal_in (Err faults.Clash) = Some refusals.Clash
 refusal_in (Err faults.Full) = Some refusals.Full
 
--- why a definition is refused by a table, as the list of its records
-abbrev pub table_refusal : List (ℕ × ℕ) → ℕ → ℕ → Option Refusal
-table_refusal table id map = cond (is_clash table id map) (Some refusals.Clash) (cond (is_full table id) (Some refusals.Full) None)
+-- the image has no such type, and each record is used
+abbrev pub has_no_room : Image → ℕ → Bool
+has_no_room image id = is_none (map_of id (types_of image)) && nat_le TYPE_RECORDS (used_types image)
+
+-- why a definition is refused by the table of an image
+abbrev pub table_refusal : Image → ℕ → ℕ → Option Refusal
+table_refusal image id map = cond (is_clash (types_of image) id map) (Some refusals.Clash) (cond (has_no_room image id) (Some refusals.Full) None)
 
 -- the record that a definition writes: the lowest free one, and none where the type is defined
 abbrev pub place_for : Image → ℕ → Option ℕ
-place_for image id = cond (is_some (map_of id (type_table image))) None (first_free image 0 TYPE_RECORDS)
+place_for image id = cond (is_some (map_of id (types_of image))) None (free_type image)
 
 abbrev pub place_by : Option ℕ → Option ℕ → Place
 place_by (Some map) free = places.Defined map
@@ -44,7 +48,7 @@ place_by None None = places.Full
 
 -- where a type stands in the table, or would stand
 abbrev pub place_of : Image → ℕ → Place
-place_of image id = place_by (map_of id (type_table image)) (first_free image 0 TYPE_RECORDS)
+place_of image id = place_by (map_of id (types_of image)) (free_type image)
 
 -- a free record is one of the table
 abbrev pub IsInTable : Place → Type 0

@@ -4,7 +4,7 @@
 ghost use Rattle.std.specs.Prelude.{◌≡◌, ◌≢◌, ◌+◌, ◌*◌, ◌<◌, ◌≤◌, ◌^◌, ℕ, Option, IfOk, IsSome};
 ghost use Rattle.pm_model.specs.Words.{IsRested, reads};
 ghost use Rattle.pm_model.specs.Counts.{after_fault, fault_of};
-ghost use Rattle.pud_defs.specs.Types.{map_of, type_table};
+ghost use Rattle.pud_defs.specs.Types.{map_of, types_of};
 ghost use Rattle.type_maps.specs.Define.{fault_in, refusal_in, table_refusal, place_for, place_of, IsInTable, Defines};
 
 use pm_model::{Host, HostFault};
@@ -76,7 +76,7 @@ fn look_up<H: Host>(h: &mut H, id: u32) -> Result<Place, HostFault>
 /// The device reaches beyond the type table. The only errors are the host's own.
 pub fn find<H: Host>(h: &mut H, id: u32) -> Result<Option<u64>, HostFault>
     requires { POOL_TABLE ≤ (H.counts h.old).size }
-    ensures map { H.tells → IfOk result (λ map. map ≡ map_of id (type_table (reads (H.state h.old).now.words))) }
+    ensures map { H.tells → IfOk result (λ map. map ≡ map_of id (types_of (reads (H.state h.old).now.words))) }
     ensures stays { H.tells → H.state h.new ≡ H.state h.old }
     ensures cause { H.counts h.new ≡ after_fault (fault_of result) (H.counts h.old) }
     ensures never_cut { fault_of result ≢ Option.Some HostFault.Cut }
@@ -107,7 +107,7 @@ fn write_record<H: Host>(h: &mut H, place: u32, id: u32, map: u64) -> Result<(),
 pub fn define<H: Host>(h: &mut H, id: u32, map: u64) -> Result<(), TypeFault>
     requires { POOL_TABLE ≤ (H.counts h.old).size }
     ensures refusal { H.tells → fault_in result ≡ Option.None
-        → refusal_in result ≡ table_refusal (type_table (reads (H.state h.old).now.words)) id map }
+        → refusal_in result ≡ table_refusal (reads (H.state h.old).now.words) id map }
     ensures idle { H.tells → place_for (reads (H.state h.old).now.words) id ≡ Option.None → H.state h.new ≡ H.state h.old }
     ensures defines { H.tells → (r : ℕ) → place_for (reads (H.state h.old).now.words) id ≡ Option.Some r
         → Defines r id map (fault_in result) (H.state h.old) (H.state h.new) }

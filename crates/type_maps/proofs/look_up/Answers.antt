@@ -1,4 +1,4 @@
-use Rattle.std.proofs.Common.{◌≡◌, ℕ, ◌+◌, ◌<◌, ◌∙◌, IfSome, None, Option, sym, ap, subst, arith}
+use Rattle.std.proofs.Common.{◌≡◌, ℕ, ◌+◌, ◌<◌, ◌∙◌, IfSome, None, Option, refl, sym, ap, subst, arith}
 use Rattle.pm_model.specs.Words.{reads}
 use Rattle.pm_model.specs.Counts.{after_fault, fault_of}
 use Rattle.type_maps.specs.declared.Place.TheVariants.{Defined}
@@ -6,7 +6,7 @@ use Rattle.pm_model.specs.Moments.{State}
 use Rattle.pud_defs.specs.declared.layout.TheConstants.{TYPE_RECORDS}
 use Rattle.pud_defs.specs.Types.{type_record_at}
 use Rattle.type_maps.specs.Define.{place_by}
-use Rattle.type_maps.proofs.LookUp.{place_from, place_from-free, place_from-other, place_from-here, place_from-end, either_within}
+use Rattle.type_maps.proofs.LookUp.{place_from, place_from-start, place_from-free, place_from-other, place_from-here, place_from-end, either_within}
 use Rattle.type_maps.proofs.look_up.Goals as goal
 use Rattle.type_maps.proofs.look_up.Goals.{then-used_by-eq0, else-used_by-eq0+else-used_by-from}
 
@@ -20,6 +20,14 @@ returns-then-used_by-from-clause-place g c = λ t.
     let here : image (type_record_at i) ≡ c.args.id = omega arith in
     ap (λ n. Defined n) map
     ∙ sym (c.loop-record.invariant.place t ∙ place_from-here image c.args.id c.loop-record.free i (omega arith) (λ zero. absurd (omega arith)) here)
+
+pub loop-record-init : goal.loop-record-init
+loop-record-init g c = record {
+  within = tt;
+  counts = refl;
+  stays = λ t. refl;
+  place = λ t. place_from-start (reads (g.H.Host.state c.args.h.now).now.words) c.args.id;
+}
 
 pub loop-record-preserved : goal.loop-record-preserved
 loop-record-preserved g c = record {

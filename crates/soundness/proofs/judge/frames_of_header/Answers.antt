@@ -1,4 +1,4 @@
-use Rattle.std.proofs.Common.{◌≡◌, ℕ, ◌≤◌, ◌&&◌, leb, eqb, Some, None, sym, arith}
+use Rattle.std.proofs.Common.{◌≡◌, ℕ, ◌&&◌, leb, eqb, Some, None, sym, arith}
 use Rattle.std.proofs.lemmas.Bool.{and_from, cond-true, eq-eqb, le-leb}
 use Rattle.pud_defs.specs.declared.layout.TheConstants.{DEVICE_MAGIC, VERSION, MIN_FRAMES, MAX_FRAMES}
 use Rattle.pud_defs.specs.Layout.{device_words}

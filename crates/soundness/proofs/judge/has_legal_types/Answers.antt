@@ -3,14 +3,14 @@ use Rattle.std.specs.List.{list_any}
 use Rattle.std.proofs.Math.ListN.{length-set}
 use Rattle.pm_model.specs.Words.{reads}
 use Rattle.pm_model.specs.Moments.{State}
-use Rattle.pud_defs.specs.declared.layout.TheConstants.{DAEMON_LOG}
+use Rattle.pud_defs.specs.declared.layout.TheConstants.{DAEMON_LOG, TYPE_RECORDS}
 use Rattle.pud_defs.specs.Image.{Image}
 use Rattle.pud_defs.specs.Replay.{settled_by}
-use Rattle.pud_defs.specs.Types.{type_record_at, are_legal_types}
+use Rattle.pud_defs.specs.Types.{type_record_at}
 use Rattle.pud_defs.proofs.Replay.{outside_log}
 use Rattle.soundness.specs.Overlaying.{IsOverlay}
-use Rattle.soundness.specs.Judging.{with_one_more, last_records}
-use Rattle.soundness.proofs.Records.{no_records, legal_more}
+use Rattle.soundness.specs.Judging.{with_one_more, are_legal_last}
+use Rattle.soundness.proofs.Records.{no_records, legal_more, legal_last}
 use Rattle.soundness.proofs.judge.has_legal_types.Goals as goal
 
 pub loop-done-init : goal.loop-done-init
@@ -37,7 +37,7 @@ loop-done-preserved g c =
       stays = λ t. c.word-in-loop-done.ensures.stays t ∙ c.word.ensures.stays t ∙ c.loop-done.invariant.stays t;
       legal = λ t image same over.
           let settled = settled_by DAEMON_LOG image in
-          let these : with_one_more c.in_ok-id.id c.in_ok-map.map (list_any (λ y. eqb y c.in_ok-id.id) (take n ids)) c.loop-done.legal ≡ are_legal_types (last_records settled (n + 1)) =
+          let these : with_one_more c.in_ok-id.id c.in_ok-map.map (list_any (λ y. eqb y c.in_ok-id.id) (take n ids)) c.loop-done.legal ≡ are_legal_last settled (n + 1) =
           ap (λ (b : Bool). with_one_more c.in_ok-id.id c.in_ok-map.map (list_any (λ y. eqb y c.in_ok-id.id) (take n ids)) b) (c.loop-done.invariant.legal t image same over)
           ∙ legal_more settled ids n c.in_ok-id.id c.in_ok-map.map (omega arith) (omega arith) (id t image same over) (map t image same over) (c.loop-done.invariant.ids t image same over) in
           c.is_legal_with-legal.ensures ∙ these;
@@ -45,3 +45,9 @@ loop-done-preserved g c =
           (λ k below. let apart : k ≢ n = omega arith in get_or-set_other ids n k c.in_ok-id.id 0 apart ∙ c.loop-done.invariant.ids t image same over k below)
           (get_or-set_same ids n c.in_ok-id.id 0 fits ∙ id t image same over);
     }
+
+pub returns-clause-legal : goal.returns-clause-legal
+returns-clause-legal g c = λ t image same over.
+    let settled = settled_by DAEMON_LOG image in
+    let done : c.loop-done.done ≡ TYPE_RECORDS = omega arith in
+    c.loop-done.invariant.legal t image same over ∙ ap (are_legal_last settled) done ∙ legal_last settled

@@ -3,9 +3,9 @@ use Rattle.pm_model.specs.Words.{reads}
 use Rattle.pud_defs.specs.declared.layout.TheConstants.{DAEMON_LOG, TYPE_RECORDS}
 use Rattle.pud_defs.specs.Image.{Image}
 use Rattle.pud_defs.specs.Replay.{settled_by}
-use Rattle.pud_defs.specs.Types.{type_record_at, are_legal_types}
+use Rattle.pud_defs.specs.Types.{type_record_at}
 use Rattle.soundness.specs.Overlaying.{IsOverlay}
-use Rattle.soundness.specs.Judging.{last_records}
+use Rattle.soundness.specs.Judging.{are_legal_last}
 use Rattle.soundness.proofs.judge.has_legal_types.Given as goal
 
 abbrev pub invariant-loop-done : goal.invariant-loop-done
@@ -14,7 +14,7 @@ invariant-loop-done g l = record {
   counts : g.H.Host.counts l.h ≡ g.H.Host.counts l.initial.h;
   stays : g.H.Host.tells → g.H.Host.state l.h ≡ g.H.Host.state l.initial.h;
   legal : g.H.Host.tells → (image : Image) → reads (g.H.Host.state l.initial.h).now.words ≡ image → IsOverlay l.overlay image
-      → l.legal ≡ are_legal_types (last_records (settled_by DAEMON_LOG image) l.done);
+      → l.legal ≡ are_legal_last (settled_by DAEMON_LOG image) l.done;
   ids : g.H.Host.tells → (image : Image) → reads (g.H.Host.state l.initial.h).now.words ≡ image → IsOverlay l.overlay image
       → (k : ℕ) → k < l.done → get_or l.ids k 0 ≡ settled_by DAEMON_LOG image (type_record_at (63 - k));
 }

@@ -1,4 +1,4 @@
-use Rattle.std.proofs.Common.{inr, not, eqb, Bool, ℕ, ◌-◌, ap, sym, ◌∙◌, arith}
+use Rattle.std.proofs.Common.{inr, not, eqb, ℕ, ◌-◌, ap, sym, ◌∙◌, arith}
 use Rattle.pud_defs.specs.declared.layout.TheConstants.{DAEMON_LOG}
 use Rattle.pud_defs.specs.Replay.{settled_by}
 use Rattle.pud_defs.specs.Pools.{pool_record_at}

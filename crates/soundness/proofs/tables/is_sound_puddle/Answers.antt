@@ -1,9 +1,8 @@
-use Rattle.std.proofs.Common.{false, true, sym, ap, Bool, ◌&&◌, ◌∙◌}
+use Rattle.std.proofs.Common.{false, true, sym, ap, ◌∙◌}
 use Rattle.pud_defs.specs.declared.layout.TheConstants.{DAEMON_LOG}
 use Rattle.pud_defs.specs.Replay.{settled_by}
 use Rattle.pud_defs.specs.Tables.{tables_of}
 use Rattle.pud_defs.specs.SoundTables.{is_pool}
-use Rattle.soundness.specs.Tables.{is_legal_but_pool, member_of_words}
 use Rattle.soundness.proofs.Tabled.{sound_free, sound_by_pool}
 use Rattle.soundness.proofs.tables.is_sound_puddle.Goals as goal
 
