@@ -97,7 +97,7 @@ fn one_word_amiss_is_not_sound(rt: HostRuntime) {
             (&[(TYPE_TABLE, 1)], NOT_SOUND),
             (&[(POOL_TABLE, 97)], NOT_SOUND),
             (&[(SPACE_TABLE, 2)], NOT_SOUND),
-            (&[(1_567, 1)], NOT_SOUND),
+            (&[(1_560, 1)], NOT_SOUND),
         ],
     );
 }

@@ -120,7 +120,7 @@ fn a_hostile_device_is_not_sound_and_stays(rt: HostRuntime) {
         (64, 1 << 32),
         (1_088, u64::MAX),
         (1_216, 1),
-        (1_567, 1),
+        (1_560, 1),
     ] {
         let device: (&str, &[(u32, u64)]) = ("type 1 2 1\n", &[(at, value)]);
         let rows: [(&[&str], u8, &str); 1] = [(&RUN, NOT_USABLE, "")];
