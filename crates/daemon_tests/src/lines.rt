@@ -15,7 +15,7 @@ const LINE_END: u32 = START_STEPS + DEFINE_STEPS;
 /// Starts on a blank device that loses power at these steps, and has each of these lines carried out, which has to be
 /// answered so; this has to have been said. Then power is lost, where each word has its durable value, and a second start has
 /// to answer so.
-fn serve(
+pub fn serve(
     rt: &impl Abort,
     alloc: Global,
     losses: &[(u32, u64)],

@@ -26,7 +26,7 @@ fn end_with<S: Seen>(
 }
 
 /// A blank device with this script but for these words, and with power lost at these steps.
-fn device_with(
+pub fn device_with(
     rt: &impl Abort,
     alloc: Global,
     (script, words): (&str, &[(u32, u64)]),
@@ -41,7 +41,7 @@ fn device_with(
 const ZEROES: [(u32, u64); 5] = [(0, 0), (1, 0), (2, 0), (3, 0), (4, 0)];
 
 /// The program ends so on a blank device with this script and with these words.
-fn end_on(
+pub fn end_on(
     rt: &impl Abort,
     alloc: Global,
     device: (&str, &[(u32, u64)]),

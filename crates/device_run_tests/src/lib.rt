@@ -1,4 +1,5 @@
-//! Tests of what whole runs of the program leave on a device: formatted, found not sound, with a type defined, with a client.
+//! Tests of what whole runs of the program leave on a device: formatted, found not sound, with a type defined, with a
+//! client, with pools.
 #![tactic(auto)]
 
 #[cfg(test)]
@@ -7,5 +8,7 @@ mod definitions;
 mod devices;
 #[cfg(test)]
 mod formatting;
+#[cfg(test)]
+mod pools;
 #[cfg(test)]
 mod run;

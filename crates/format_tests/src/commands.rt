@@ -1,36 +1,45 @@
 //! Lines that are commands, and lines that are none.
+use pud_defs::records::Name;
 use script::{Command, parse_line};
 use std::process::Abort;
 
-/// What stands for `client`, and in the same way for the other commands: their number, and what they carry.
-const CLIENT: u64 = 1;
-
-const LEAVE: u64 = 2;
-
-const DEFINE: u64 = 3;
-
-const CUT: u64 = 4;
-
-const ARM: u64 = 5;
-
-/// The line as numbers: which command it is, and what it carries; zeroes where it is none.
-fn numbers(line: &[u8]) -> [u64; 4] {
-    match parse_line(line) {
-        Ok(Command::Client { client, uid, gid }) => {
-            [CLIENT, u64::from(client), u64::from(uid), u64::from(gid)]
-        }
-        Ok(Command::Leave { client }) => [LEAVE, u64::from(client), 0, 0],
-        Ok(Command::Define { t, map }) => [DEFINE, u64::from(t), map, 0],
-        Ok(Command::Cut { pick }) => [CUT, pick, 0, 0],
-        Ok(Command::Arm { step, pick }) => [ARM, u64::from(step), pick, 0],
-        Err(_) => [0; 4],
-    }
+// One function a command, so that a row of a table is one line.
+fn client(client: u8, uid: u32, gid: u32) -> Command {
+    Command::Client { client, uid, gid }
 }
 
-/// Each line is the command that its numbers say.
-fn are_commands(rt: &impl Abort, rows: &[(&str, [u64; 4])]) {
+fn leave(client: u8) -> Command {
+    Command::Leave { client }
+}
+
+fn define(t: u32, map: u64) -> Command {
+    Command::Define { t, map }
+}
+
+fn pool(client: u8, name: Name, mode: u32) -> Command {
+    Command::Pool { client, name, mode }
+}
+
+fn chmod(client: u8, name: Name, mode: u32) -> Command {
+    Command::Chmod { client, name, mode }
+}
+
+fn drop_pool(client: u8, name: Name) -> Command {
+    Command::Drop { client, name }
+}
+
+fn cut(pick: u64) -> Command {
+    Command::Cut { pick }
+}
+
+fn arm(step: u32, pick: u64) -> Command {
+    Command::Arm { step, pick }
+}
+
+/// Each line is this command.
+fn are_commands(rt: &impl Abort, rows: &[(&str, Command)]) {
     for (line, command) in rows {
-        assert!(rt; numbers(line.as_bytes()) == *command, "{line}");
+        assert!(rt; parse_line(line.as_bytes()) == Ok(*command), "{line}");
     }
 }
 
@@ -48,13 +57,13 @@ fn definitions_of_types(rt: HostRuntime) {
     are_commands(
         &rt,
         &[
-            ("type 1 2 1", [DEFINE, 1, 8_589_934_594, 0]),
-            ("type 1 2 -", [DEFINE, 1, 8_589_934_592, 0]),
-            ("type 7 1 0", [DEFINE, 7, 4_294_967_297, 0]),
-            ("type 10 3 0,2", [DEFINE, 10, 12_884_901_893, 0]),
-            ("type 2 30 0,29", [DEFINE, 2, 129_385_889_793, 0]),
-            ("type 65535 1 -", [DEFINE, 65_535, 4_294_967_296, 0]),
-            (every_field, [DEFINE, 65_535, 129_922_760_703, 0]),
+            ("type 1 2 1", define(1, 8_589_934_594)),
+            ("type 1 2 -", define(1, 8_589_934_592)),
+            ("type 7 1 0", define(7, 4_294_967_297)),
+            ("type 10 3 0,2", define(10, 12_884_901_893)),
+            ("type 2 30 0,29", define(2, 129_385_889_793)),
+            ("type 65535 1 -", define(65_535, 4_294_967_296)),
+            (every_field, define(65_535, 129_922_760_703)),
         ],
     );
 }
@@ -64,14 +73,37 @@ fn lines_of_clients_and_of_power(rt: HostRuntime) {
     are_commands(
         &rt,
         &[
-            ("client 0 0 0", [CLIENT, 0, 0, 0]),
-            ("client 7 65535 5", [CLIENT, 7, 65_535, 5]),
-            ("leave 0", [LEAVE, 0, 0, 0]),
-            ("leave 7", [LEAVE, 7, 0, 0]),
-            ("cut 0", [CUT, 0, 0, 0]),
-            ("cut 18446744073709551615", [CUT, u64::MAX, 0, 0]),
-            ("arm 1 0", [ARM, 1, 0, 0]),
-            ("arm 1000000 7", [ARM, 1_000_000, 7, 0]),
+            ("client 0 0 0", client(0, 0, 0)),
+            ("client 7 65535 5", client(7, 65_535, 5)),
+            ("leave 0", leave(0)),
+            ("leave 7", leave(7)),
+            ("cut 0", cut(0)),
+            ("cut 18446744073709551615", cut(u64::MAX)),
+            ("arm 1 0", arm(1, 0)),
+            ("arm 1000000 7", arm(1_000_000, 7)),
+        ],
+    );
+}
+
+#[test]
+fn lines_of_pools(rt: HostRuntime) {
+    let p = *b"p\0\0\0\0\0\0\0\0\0\0\0\0\0\0\0";
+    let seven = *b"7\0\0\0\0\0\0\0\0\0\0\0\0\0\0\0";
+    let low_line = *b"_\0\0\0\0\0\0\0\0\0\0\0\0\0\0\0";
+    let digits = *b"0123456789_az\0\0\0";
+    let sixteen = *b"abcdefghijklmnop";
+    are_commands(
+        &rt,
+        &[
+            ("pool 0 p 600", pool(0, p, 0o600)),
+            ("pool 7 abcdefghijklmnop 000", pool(7, sixteen, 0)),
+            ("chmod 0 p 666", chmod(0, p, 0o666)),
+            ("chmod 7 0123456789_az 246", chmod(7, digits, 0o246)),
+            ("drop 0 p", drop_pool(0, p)),
+            ("drop 7 abcdefghijklmnop", drop_pool(7, sixteen)),
+            ("drop 1 7", drop_pool(1, seven)),
+            ("drop 2 _", drop_pool(2, low_line)),
+            ("pools", Command::Pools),
         ],
     );
 }
@@ -93,6 +125,15 @@ fn words_and_spaces_that_are_wrong(rt: HostRuntime) {
             "type\t1 2 1",
             "type 1 2 1\n",
             "leave 0 ",
+            "Pool 0 p 600",
+            "pool  0 p 600",
+            "pool 0 p  600",
+            "pool 0 p 600 ",
+            "chmod 0 p 600 ",
+            "drop 0 p ",
+            "dropp 0 p",
+            "pools ",
+            " pools",
         ],
     );
 }
@@ -111,6 +152,15 @@ fn arguments_too_few_or_too_many(rt: HostRuntime) {
             "client 0 5 5 5",
             "leave",
             "leave 0 0",
+            "pool",
+            "pool 0 p",
+            "pool 0 p 600 600",
+            "chmod 0 p",
+            "chmod 0 p 600 600",
+            "drop 0",
+            "drop 0 p 600",
+            "pools 0",
+            "pools p",
             "cut",
             "cut 0 0",
             "arm 1",
@@ -154,6 +204,9 @@ fn numbers_out_of_range(rt: HostRuntime) {
             "client 0 65536 5",
             "client 0 5 65536",
             "leave 8",
+            "pool 8 p 600",
+            "chmod 8 p 600",
+            "drop 8 p",
             "cut 18446744073709551616",
             "arm 0 0",
             "arm 1000001 0",
@@ -180,6 +233,59 @@ fn lists_of_fields_that_are_none(rt: HostRuntime) {
             "type 1 2 -,1",
             "type 1 2 --",
             "type 1 2 1000000000000000000000000000000000000000000000000000000000000000000000000000000000000000000000000000",
+        ],
+    );
+}
+
+#[test]
+fn names_of_pools_that_are_none(rt: HostRuntime) {
+    are_none(
+        &rt,
+        &[
+            "pool 0  600",
+            "chmod 0  600",
+            "drop 0 ",
+            "pool 0 abcdefghijklmnopq 600",
+            "chmod 0 abcdefghijklmnopq 600",
+            "drop 0 abcdefghijklmnopq",
+            "pool 0 P 600",
+            "chmod 0 pooL 600",
+            "drop 0 A",
+            "drop 0 Z",
+            "pool 0 a-b 600",
+            "drop 0 -",
+            "drop 0 p\0",
+            "drop 0 /",
+            "drop 0 :",
+            "drop 0 ^",
+            "drop 0 `",
+            "drop 0 {",
+            "drop 0 é",
+        ],
+    );
+}
+
+#[test]
+fn modes_of_pools_that_are_none(rt: HostRuntime) {
+    are_none(
+        &rt,
+        &[
+            "pool 0 p ",
+            "pool 0 p 6",
+            "pool 0 p 66",
+            "pool 0 p 6666",
+            "chmod 0 p 0600",
+            "pool 0 p 100",
+            "pool 0 p 010",
+            "pool 0 p 001",
+            "chmod 0 p 366",
+            "chmod 0 p 656",
+            "chmod 0 p 667",
+            "chmod 0 p 866",
+            "chmod 0 p 6.6",
+            "chmod 0 p -66",
+            "chmod 0 p 66a",
+            "chmod 0 p rw-",
         ],
     );
 }

@@ -24,8 +24,12 @@ fn texts_of_replies(rt: HostRuntime) {
             (Reply::No(Refusal::Bad), "no bad\n"),
             (Reply::No(Refusal::Client), "no client\n"),
             (Reply::No(Refusal::Taken), "no taken\n"),
+            (Reply::No(Refusal::Pool), "no pool\n"),
+            (Reply::No(Refusal::Exists), "no exists\n"),
+            (Reply::No(Refusal::Denied), "no denied\n"),
             (Reply::No(Refusal::Clash), "no clash\n"),
             (Reply::No(Refusal::Full), "no full\n"),
+            (Reply::No(Refusal::Space), "no space\n"),
             (Reply::Cut, "cut\n"),
         ],
     );

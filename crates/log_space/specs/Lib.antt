@@ -2,3 +2,4 @@ pub mod Records
 pub mod FreeLogs
 pub mod Closed
 pub mod Clearing
+pub mod Owners

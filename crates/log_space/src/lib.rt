@@ -4,19 +4,21 @@
 //! as it was or wholly as it is to be.
 #![tactic(auto)]
 
-ghost use Rattle.std.specs.Prelude.{◌≡◌, ◌≢◌, ◌<◌, ◌≤◌, ℕ, Option, IfOk, IfSome, is_some, length};
+ghost use Rattle.std.specs.Prelude.{◌≡◌, ◌≢◌, ◌<◌, ◌≤◌, ℕ, Option, IfOk, IfSome, is_some, option_map, length};
 ghost use Rattle.pm_model.specs.Words.{reads};
 ghost use Rattle.pm_model.specs.Counts.{after_fault, fault_of};
 ghost use Rattle.pm_model.specs.Changes.{Changes};
 ghost use Rattle.pud_defs.specs.declared.layout.TheConstants.{DAEMON_LOG, PUDDLE_TABLE, SPACE_RECORD_WORDS, CLIENTS, MAX_FRAMES, MAX_OWNER_ID};
 ghost use Rattle.pud_defs.specs.Layout.{device_words};
-ghost use Rattle.pud_defs.specs.Spaces.{owner_of};
+ghost use Rattle.pud_defs.specs.Image.{Image};
+ghost use Rattle.pud_defs.specs.Spaces.{owner_by, owner_of};
 ghost use Rattle.pud_defs.specs.World.{StoredWorld};
 ghost use Rattle.log_replay.specs.Replaying.{Anything};
 ghost use Rattle.batch.specs.Batches.{HasIdleGate, Commits};
 ghost use Rattle.batch.specs.Worlds.{IsSettled, MovesBy, Moves};
 ghost use Rattle.log_space.specs.Records.{record_batch, registration, unregistration, HasClosedLogs, Registers, Unregisters};
 ghost use Rattle.log_space.specs.Clearing.{clearing, Clears, Empties};
+ghost use Rattle.log_space.specs.Owners.{owner_read};
 ghost use Rattle.log_space.specs.FreeLogs.{first_closed, IsLogOf};
 
 mod closing;
@@ -26,6 +28,7 @@ pub use closing::close_logs;
 use log_entry::is_closed_log;
 use pm_model::{Host, HostFault};
 use pud_defs::layout::{CLIENT_LOGS, CLIENTS, LogNo, SPACE_RECORD_WORDS, SPACE_TABLE, log_at};
+use pud_defs::records::Owner;
 
 /// Gives the first words of the record of client `slot` these values, all or none.
 fn write_record<H: Host>(h: &mut H, slot: u32, vals: &[u64]) -> Result<(), HostFault>
@@ -122,6 +125,39 @@ pub fn is_registered<H: Host>(h: &mut H, slot: u32) -> Result<bool, HostFault>
     ensures never_cut { fault_of result ≢ Option.Some HostFault.Cut }
 {
     Ok(h.load(SPACE_TABLE + SPACE_RECORD_WORDS * slot)? == 1)
+}
+
+/// The owner that these three words of a record hold.
+fn owner_by(used: u64, uid: u64, gid: u64) -> Option<Owner>
+    ensures { result ≡ option_map owner_read (owner_by used uid gid) }
+{
+    if used != 1 {
+        return None;
+    }
+    Some(Owner {
+        uid: (uid % (1 << 32)) as u32,
+        gid: (gid % (1 << 32)) as u32,
+    })
+}
+
+/// As whom client `slot` acts: the owner of its logs, or None exactly where they are not registered.
+///
+/// The device has the log-space table, whatever it holds, and where the daemon log names words of it, what it names is not
+/// read. Nothing changes, and the only errors are the host's own.
+pub fn owner<H: Host>(h: &mut H, slot: u32) -> Result<Option<Owner>, HostFault>
+    requires table { PUDDLE_TABLE ≤ (H.counts h.old).size }
+    requires known { slot < CLIENTS }
+    ensures owner { H.tells → (image : Image) → reads (H.state h.old).now.words ≡ image
+        → IfOk result (λ found. found ≡ option_map owner_read (owner_of image slot)) }
+    ensures stays { H.tells → H.state h.new ≡ H.state h.old }
+    ensures cause { H.counts h.new ≡ after_fault (fault_of result) (H.counts h.old) }
+    ensures never_cut { fault_of result ≢ Option.Some HostFault.Cut }
+{
+    let at = SPACE_TABLE + SPACE_RECORD_WORDS * slot;
+    let used = h.load(at)?;
+    let uid = h.load(at + 1)?;
+    let gid = h.load(at + 2)?;
+    Ok(owner_by(used, uid, gid))
 }
 
 /// The number of the lowest of the logs of client `slot` that is closed. None comes exactly where none of the four is.

@@ -3,4 +3,5 @@ pub mod Words
 pub mod Changes
 pub mod Leaves
 pub mod Said
+pub mod Saying
 pub mod OneWord

@@ -1,4 +1,4 @@
--- Where a pool stands in the pool table, and what adding one answers.
+-- Where a pool stands in the pool table, which slot a new one takes, and what adding one answers.
 use Rattle.std.specs.Prelude.{◌≡◌, ℕ, ◌<◌, List, Option, Some, None, Result, Ok, Err}
 use Rattle.pm_model.specs.declared.host.HostFault.{HostFault}
 use Rattle.pud_defs.specs.declared.records.TheConstants.{POOL_RECORDS}
@@ -12,9 +12,9 @@ use Rattle.pool_table.specs.declared.PoolFault.TheVariants as faults
 use Rattle.pool_table.specs.declared.Place.{Place}
 use Rattle.pool_table.specs.declared.Place.TheVariants as places
 
--- the host's fault that an addition answered
-abbrev pub fault_in : Result Put PoolFault → Option HostFault
-fault_in (Ok put) = None
+-- the host's fault that a call answered
+abbrev pub fault_in : {A : Type 0} → Result A PoolFault → Option HostFault
+fault_in (Ok value) = None
 fault_in (Err (faults.Host fault)) = Some fault
 fault_in (Err faults.Exists) = None
 fault_in (Err faults.Full) = None
@@ -39,6 +39,16 @@ IsInTable places.Full = Unit {0}
 abbrev pub IsKnown : Option (ℕ × PoolRec) → Type 0
 IsKnown None = Unit {0}
 IsKnown (Some found) = found.0 < POOL_RECORDS
+
+-- which slot a new pool takes, by the place of its name
+abbrev pub slot_at : Place → Result ℕ PoolFault
+slot_at (places.Used slot rec) = Err faults.Exists
+slot_at (places.Free slot) = Ok slot
+slot_at places.Full = Err faults.Full
+
+-- Which slot a new pool of this name takes: the lowest free one, where no pool has the name.
+abbrev pub slot_for : Tables → List ℕ → Result ℕ PoolFault
+slot_for t name = slot_at (place_of t name)
 
 -- what adding a record answers at its place
 abbrev pub added_at : Place → PoolRec → Result Put PoolFault

@@ -6,4 +6,8 @@ mod clients;
 #[cfg(test)]
 mod faults;
 #[cfg(test)]
+mod pool_cuts;
+#[cfg(test)]
+mod pools;
+#[cfg(test)]
 mod scripts;

@@ -6,7 +6,7 @@ use std::process::Abort;
 use test_program::run_on_blank;
 
 /// Runs each script on a blank device of its own. It has to end with this status and to have said this.
-fn end_with(rt: &impl Abort, alloc: Global, rows: &[(&str, u8, &str)]) {
+pub fn end_with(rt: &impl Abort, alloc: Global, rows: &[(&str, u8, &str)]) {
     for (script, status, said) in rows {
         let (end, is_said) = run_on_blank(alloc, (script, &[]), said).expect(rt, "memory");
         assert!(rt; end == *status && is_said, "{said}");

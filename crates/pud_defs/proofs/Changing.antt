@@ -2,28 +2,34 @@
 use Rattle.std.proofs.Common.{◌≡◌, inl, inr, ℕ, T, List, [], ◌∷◌, ◌++◌, Option, Some, None, nat_cmp, refl, sym, ap, ◌∙◌}
 use Rattle.std.specs.FinMap.Entries.{is_sorted}
 use Rattle.pud_defs.specs.declared.machine.Command.{Command}
-use Rattle.pud_defs.specs.declared.machine.Command.TheVariants.{Client, Leave, Define, Cut, Arm}
+use Rattle.pud_defs.specs.declared.machine.Command.TheVariants.{Client, Leave, Define, Cut, Arm, Chmod, Pools}
+use Rattle.pud_defs.specs.declared.machine.Command.TheVariants as commands
 use Rattle.pud_defs.specs.declared.machine.Refusal.{Refusal}
 use Rattle.pud_defs.specs.World.{World}
+use Rattle.pud_defs.specs.PoolChanges.{with_new_pool, with_pool_mode, without_pool}
 use Rattle.pud_defs.specs.Grammar.{command_of}
 use Rattle.pud_defs.specs.Step.{refusal_of, after, unless_refused, world_by, step_world}
 use Rattle.pud_defs.specs.Changing.{Part, part_of, with_part, file_in, KeepsFiles, KeepsUnwritable}
 use Rattle.pud_defs.specs.Run.{Turn, IsTurn, IsRun, last_world}
 use Rattle.pud_defs.proofs.TypeLists.{is_sorted-with_type}
-use Rattle.pud_defs.specs.Changing.Part.{types, clients, nothing}
+use Rattle.pud_defs.specs.Changing.Part.{types, pools, clients, nothing}
 
 -- a command changes its part alone
 pub after-part : (w : World) (c : Command) → after w c ≡ with_part (part_of c) (after w c) w
-unfolding after
+unfolding after with_new_pool with_pool_mode without_pool
 after-part w (Client client uid gid) = refl
 after-part w (Leave client) = refl
 after-part w (Define id map) = refl
+after-part w (commands.Pool client name mode) = refl
+after-part w (Chmod client name mode) = refl
+after-part w (commands.Drop client name) = refl
+after-part w Pools = refl
 after-part w (Cut pick) = refl
 after-part w (Arm step pick) = refl
 
 -- types stay by ascending ids
 pub is_sorted-after : (w : World) (c : Command) → T (is_sorted nat_cmp w.stored.types) → T (is_sorted nat_cmp (after w c).stored.types)
-unfolding after
+unfolding after with_new_pool with_pool_mode without_pool
 is_sorted-after w (Define id map) h = is_sorted-with_type id map w.stored.types h
 is_sorted-after w c h = h
 
@@ -32,6 +38,7 @@ is_sorted-after w c h = h
 -- no part has a file
 shelf_of_part : (p : Part) (v w : World) → (with_part p v w).shelf ≡ w.shelf
 shelf_of_part types v w = refl
+shelf_of_part pools v w = refl
 shelf_of_part clients v w = refl
 shelf_of_part nothing v w = refl
 

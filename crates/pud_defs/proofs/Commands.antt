@@ -7,9 +7,14 @@ use Rattle.std.proofs.lemmas.List.Sums.{sum_by-cons}
 use Rattle.std.proofs.lemmas.Nat.{div-mul-add, mod-mul-add}
 use Rattle.pud_defs.specs.declared.layout.TheConstants.{LINE_LIMIT, CLIENTS, MAX_OWNER_ID, MAX_TYPE_ID, MAX_FIELDS, MAX_ARMED_STEP}
 use Rattle.pud_defs.specs.declared.machine.Command.{Command}
-use Rattle.pud_defs.specs.declared.machine.Command.TheVariants.{Client, Leave, Define, Cut, Arm}
+use Rattle.pud_defs.specs.declared.machine.Command.TheVariants.{Client, Leave, Define, Cut, Arm, Chmod, Pools}
+use Rattle.pud_defs.specs.declared.machine.Command.TheVariants as commands
+use Rattle.std.specs.Prelude.{IsTrue}
+use Rattle.pud_defs.specs.Modes.{is_legal_mode}
+use Rattle.pud_defs.specs.Names.{IsName, is_legal_name}
+use Rattle.pud_defs.proofs.NamesRead.{pool_name-legal, pool_mode-legal}
 use Rattle.pud_defs.specs.TypeMap.{map_fields, map_word, is_legal_map, is_legal_type_id}
-use Rattle.pud_defs.specs.Grammar.{split_at, number_of, in_range, number_within, fields_from, pointers_of, listed_map, Parser, taking, at_end, client_by, leave_by, define_by, cut_by, arm_by, lines, command_among, command_with, command_by, command_of, IsLegalCommand}
+use Rattle.pud_defs.specs.Grammar.{split_at, number_of, in_range, number_within, fields_from, pointers_of, listed_map, Parser, taking, at_end, pool_name, pool_mode, client_by, leave_by, define_by, pool_line_by, chmod_by, drop_by, pools_by, cut_by, arm_by, lines, command_among, command_with, command_by, command_of, IsLegalCommand}
 
 -- a longer line is no command
 pub command_of-long : (line : List ℕ) → LINE_LIMIT < length line → command_of line ≡ None
@@ -132,6 +137,14 @@ number_taken least end next after = taken (number_within least end) (λ n. (leas
 map_taken : (n : ℕ) (next : ℕ → Parser) → 1 ≤ n → n < MAX_FIELDS + 1 → ((map : ℕ) → is_legal_map map ≡ true → IsLegalParser (next map)) → IsLegalParser (taking (listed_map n) next)
 map_taken n next low high after = taken (listed_map n) (λ map. is_legal_map map ≡ true) next (λ bytes map e. listed_map-legal n bytes map low high e) after
 
+-- the name of a pool
+name_taken : (next : List ℕ → Parser) → ((name : List ℕ) → IsName name × IsTrue (is_legal_name name) → IsLegalParser (next name)) → IsLegalParser (taking pool_name next)
+name_taken next after = taken pool_name (λ name. IsName name × IsTrue (is_legal_name name)) next pool_name-legal after
+
+-- a mode
+mode_taken : (next : ℕ → Parser) → ((mode : ℕ) → IsTrue (is_legal_mode mode) → IsLegalParser (next mode)) → IsLegalParser (taking pool_mode next)
+mode_taken next after = taken pool_mode (λ mode. IsTrue (is_legal_mode mode)) next pool_mode-legal after
+
 ended : (command : Command) → IsLegalCommand command → IsLegalParser (at_end command)
 unfolding at_end
 ended command legal = record { legal = λ arguments c e. legal_ended arguments c e }
@@ -152,6 +165,22 @@ define_by-legal : IsLegalParser define_by
 unfolding define_by
 define_by-legal = number_taken 1 (MAX_TYPE_ID + 1) _ (λ id low high. number_taken 1 (MAX_FIELDS + 1) _ (λ n some few. map_taken n _ some few (λ map legal. ended (Define id map) (type_id-legal id low high, legal))))
 
+pool_line_by-legal : IsLegalParser pool_line_by
+unfolding pool_line_by
+pool_line_by-legal = number_taken 0 CLIENTS _ (λ client _ known. name_taken _ (λ name is. mode_taken _ (λ mode legal. ended (commands.Pool client name mode) (known, is.0, is.1, legal))))
+
+chmod_by-legal : IsLegalParser chmod_by
+unfolding chmod_by
+chmod_by-legal = number_taken 0 CLIENTS _ (λ client _ known. name_taken _ (λ name is. mode_taken _ (λ mode legal. ended (Chmod client name mode) (known, is.0, is.1, legal))))
+
+drop_by-legal : IsLegalParser drop_by
+unfolding drop_by
+drop_by-legal = number_taken 0 CLIENTS _ (λ client _ known. name_taken _ (λ name is. ended (commands.Drop client name) (known, is.0, is.1)))
+
+pools_by-legal : IsLegalParser pools_by
+unfolding pools_by
+pools_by-legal = ended Pools tt
+
 cut_by-legal : IsLegalParser cut_by
 unfolding cut_by
 cut_by-legal = number_taken 0 (2 ^ 64) _ (λ pick _ word. ended (Cut pick) word)
@@ -168,7 +197,8 @@ AreLegalLines [] = Unit {0}
 AreLegalLines (line ∷ others) = IsLegalParser line.1 × AreLegalLines others
 
 are_legal_lines : AreLegalLines lines
-are_legal_lines = (client_by-legal, (leave_by-legal, (define_by-legal, (cut_by-legal, (arm_by-legal, tt)))))
+are_legal_lines =
+    (client_by-legal, (leave_by-legal, (define_by-legal, (pool_line_by-legal, (chmod_by-legal, (drop_by-legal, (pools_by-legal, (cut_by-legal, (arm_by-legal, tt)))))))))
 
 -- of two choices one is taken
 legal_choice : (b : Bool) (o p : Option Command) (c : Command) → (o ≡ Some c → IsLegalCommand c) → (p ≡ Some c → IsLegalCommand c)

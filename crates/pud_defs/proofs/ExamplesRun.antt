@@ -220,6 +220,18 @@ said_taken : reply_text (replies.No refusals.Taken) ≡ codes "no taken" ++ 10 �
 unfolding opened
 said_taken = refl
 
+said_pool : reply_text (replies.No refusals.Pool) ≡ codes "no pool" ++ 10 ∷ []
+unfolding opened
+said_pool = refl
+
+said_exists : reply_text (replies.No refusals.Exists) ≡ codes "no exists" ++ 10 ∷ []
+unfolding opened
+said_exists = refl
+
+said_denied : reply_text (replies.No refusals.Denied) ≡ codes "no denied" ++ 10 ∷ []
+unfolding opened
+said_denied = refl
+
 said_clash : reply_text (replies.No refusals.Clash) ≡ codes "no clash" ++ 10 ∷ []
 unfolding opened
 said_clash = refl
@@ -227,6 +239,10 @@ said_clash = refl
 said_full : reply_text (replies.No refusals.Full) ≡ codes "no full" ++ 10 ∷ []
 unfolding opened
 said_full = refl
+
+said_space : reply_text (replies.No refusals.Space) ≡ codes "no space" ++ 10 ∷ []
+unfolding opened
+said_space = refl
 
 said_cut : reply_text replies.Cut ≡ codes "cut" ++ 10 ∷ []
 unfolding opened

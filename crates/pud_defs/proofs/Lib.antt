@@ -1,6 +1,9 @@
 pub mod Words
 pub mod Keyed
 pub mod KeyedKeys
+pub mod KeyedMaps
+pub mod KeyedEach
+pub mod KeyedPlaces
 pub mod TablesOf
 pub mod PutsMade
 pub mod PoolsChanged
@@ -22,13 +25,17 @@ pub mod Blank
 pub mod Lines
 pub mod Runs
 pub mod Steps
+pub mod PoolRefusals
 pub mod Changing
+pub mod NamesRead
 pub mod Commands
 pub mod Said
+pub mod Listing
 pub mod Opened
 pub mod ExamplesGrammar
 pub mod ExamplesImage
 pub mod ExamplesRun
+pub mod ExamplesPools
 pub mod ExamplesLogs
 pub mod ExamplesTables
 pub mod ExamplesIdentifiers

@@ -2,7 +2,7 @@
 use Rattle.std.proofs.Common.{◌≡◌, ◌⊎◌, inl, inr, ⊎_elim, ℕ, ◌<◌, ◌≤◌, ◌+◌, true, List, nat_cmp, ap, ◌∙◌, arith, zero-le}
 use Rattle.std.proofs.lemmas.Bool.{cases_lt}
 use Rattle.pud_defs.specs.declared.layout.TheConstants.{DEVICE_MAGIC, VERSION, MIN_FRAMES, MAX_FRAMES, NUMBER_LIMIT, MAGIC_WORD, VERSION_WORD, MACHINE_WORD, FRAMES_WORD, NEXT_NUMBER_WORD, DAEMON_LOG, TYPE_TABLE, POOL_TABLE, SPACE_TABLE, PUDDLE_TABLE, TYPE_RECORDS}
-use Rattle.pud_defs.specs.Layout.{tables_end, frames_at, device_words}
+use Rattle.pud_defs.specs.Layout.{IsWithin, tables_end, frames_at, device_words}
 use Rattle.pud_defs.specs.Image.{Image}
 use Rattle.pud_defs.specs.Types.{type_record_at, type_at, types_of, are_legal_types}
 use Rattle.pud_defs.specs.Spaces.{are_legal_spaces, are_closed_logs}
@@ -20,11 +20,6 @@ pub data Part : Type 0 where
   Types : Part
   Pools : Part
   Spaces : Part
-
--- the word lies from one on and before another
-pub record IsWithin (from end k : ℕ) : Type 0 where
-  pub low : from ≤ k
-  pub high : k < end
 
 -- the words that a part is read from, on a device of so many frames
 abbrev pub IsReadBy : ℕ → Part → ℕ → Type 0
@@ -137,6 +132,40 @@ module _ (size : ℕ) (i j : Image) (s : StoredWorld) (ts : List (ℕ × ℕ)) (
 
   pub standing_with_types : StandsFor size j (record s { types = ts })
   standing_with_types = record { holds = with_types }
+
+-- but in the next number, in the tables of pools and puddles, and in the frames: these hold other pools, and this number is the next
+module _ (size : ℕ) (i j : Image) (s : StoredWorld) (number : ℕ) (ps : List (List ℕ × Pool)) (h : StandsFor size i s)
+    (same : (k : ℕ) → k < frames_at s.frames → (k ≡ NEXT_NUMBER_WORD → ⊥) → (POOL_TABLE ≤ k → k < SPACE_TABLE → ⊥) → (PUDDLE_TABLE ≤ k → k < tables_end s.frames → ⊥) → j k ≡ i k)
+    (next : j NEXT_NUMBER_WORD ≡ number) (low : 1 ≤ number) (high : number ≤ NUMBER_LIMIT) (now : HasPools s.frames number ps j) where
+  with_pools : (p : Part) → Holds p size (record s { next_number = number; pools = ps }) j
+  with_pools Pools = now
+  with_pools Header =
+      let was = h.holds Header in
+      let at : (k : ℕ) → k < NEXT_NUMBER_WORD → j k ≡ i k = λ k below. same k (omega arith) (λ e. omega arith) (λ l r. omega arith) (λ l r. omega arith) in
+      record {
+        magic = at MAGIC_WORD (omega arith) ∙ was.magic;
+        version = at VERSION_WORD (omega arith) ∙ was.version;
+        machine = at MACHINE_WORD (omega arith) ∙ was.machine;
+        frames = at FRAMES_WORD (omega arith) ∙ was.frames;
+        next_number = next;
+        enough_frames = was.enough_frames;
+        no_more_frames = was.no_more_frames;
+        room = was.room;
+        number_low = low;
+        number_high = high;
+      }
+  with_pools Types =
+      Holds-same Types size s i j
+      (λ k of. let from = of.low in let to = of.high in same k (omega arith) (λ e. omega arith) (λ l r. omega arith) (λ l r. omega arith)) (h.holds Types)
+  with_pools Spaces =
+      Holds-same Spaces size s i j
+      (λ k of. ⊎_elim
+      (λ table. let from = table.low in let to = table.high in same k (omega arith) (λ e. omega arith) (λ l r. omega arith) (λ l r. omega arith))
+      (λ logs. let from = logs.low in let to = logs.high in same k to (λ e. omega arith) (λ l r. omega arith) (λ l r. omega arith)) of)
+      (h.holds Spaces)
+
+  pub standing_with_pools : StandsFor size j (record s { next_number = number; pools = ps })
+  standing_with_pools = record { holds = with_pools }
 
 -- but in the log-space table and the clients' logs, which hold these spaces
 module _ (size : ℕ) (i j : Image) (s : StoredWorld) (h : StandsFor size i s) (same : (k : ℕ) → k < tables_end s.frames → (SPACE_TABLE ≤ k → k < PUDDLE_TABLE → ⊥) → j k ≡ i k) (now : HasSpaces s.frames j) where

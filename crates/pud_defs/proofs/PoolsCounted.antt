@@ -207,10 +207,10 @@ module _ (next : ℕ) (t : Tables) (h : HasSoundTables next t) where
       let same : named.0 ≡ slot = omega arith in
       true≢false (sym named.1.0 ∙ ap is_some (ap t.pools same ∙ free))))
 
-  no_member : (slot frame : ℕ) → frame < t.frames → t.pools slot ≡ None → members t slot frame ≡ None
+  pub no_member : (slot frame : ℕ) → frame < t.frames → t.pools slot ≡ None → members t slot frame ≡ None
   no_member slot frame below free = no_member_by slot frame (t.puddles frame) (legal_puddle next t h frame below) free
 
-  length_puddles : (slot : ℕ) → slot < POOL_RECORDS → length (puddles_of t slot) ≡ count_used (members t slot) 0 t.frames
+  pub length_puddles : (slot : ℕ) → slot < POOL_RECORDS → length (puddles_of t slot) ≡ count_used (members t slot) 0 t.frames
   unfolding puddles_of
   length_puddles slot below = length-keyed nat_cmp nat_cmp_total (members t slot) 0 t.frames (distinct_ordinals next t h slot below)
 

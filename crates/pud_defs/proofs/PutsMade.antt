@@ -14,8 +14,8 @@ use Rattle.pud_defs.specs.Names.{IsName, name_by, is_legal_name}
 use Rattle.pud_defs.specs.Pools.{IsHeld, pool_record_at, pool_by, pool_at, owner_uid, owner_gid, owner_word, name_word, next_name_word}
 use Rattle.pud_defs.specs.Puddles.{Member, puddle_record_at, puddle_by, puddle_at, member_pool, member_ordinal, member_word}
 use Rattle.pud_defs.specs.Tables.{tables_of}
-use Rattle.pud_defs.specs.Puts.{with_put, pool_put, mode_put, free_pool_put, puddle_put, with_pool_at, with_puddle_at, with_mode, member_by}
-use Rattle.pud_defs.proofs.TablesOf.{pool_at-free, tables_of-pool, tables_of-puddle}
+use Rattle.pud_defs.specs.Puts.{with_put, pool_put, mode_put, free_pool_put, puddle_put, free_puddle_put, with_pool_at, with_puddle_at, with_mode, member_by}
+use Rattle.pud_defs.proofs.TablesOf.{pool_at-free, puddle_at-free, tables_of-pool, tables_of-puddle}
 
 -- ---- a word of the image with a change
 
@@ -177,18 +177,32 @@ puddle_at-words : (image : Image) (frame w0 w1 w2 w3 w4 : ℕ) → image (puddle
 unfolding puddle_at
 puddle_at-words image frame w0 w1 w2 w3 w4 e0 e1 e2 e3 e4 = λ p. puddle_by (e0 p) (e1 p) (e2 p) (e3 p) (e4 p)
 
--- the words of a record put it into the frame's record
-pub puddle_put_made : (F : ℕ) (image : Image) (frame : ℕ) (r : PuddleRec) → frame < F → r.pool + 1 < 2 ^ 32 → tables_of F (with_put (puddle_put frame r) image) ≡ with_puddle_at frame (Some (member_by r)) (tables_of F image)
-puddle_put_made F image frame r within fits =
-    let put = puddle_put frame r in
-    tables_of-puddle F image (with_put put image) frame within
-    (λ k l h. with_put-outside put image k (λ from to. omega arith))
-    (λ k l h not. with_put-outside put image k (λ from to. not (omega arith) (omega arith)))
-    ∙ ap (λ now. with_puddle_at frame now (tables_of F image))
-    (puddle_at-words (with_put put image) frame (member_word (r.pool + 1) r.ordinal) r.number r.base r.old_base r.frontier
-    (with_put-inside put image (puddle_record_at frame) 0 (omega arith) (omega arith))
-    (with_put-inside put image (puddle_record_at frame + 1) 1 refl (omega arith))
-    (with_put-inside put image (puddle_record_at frame + 2) 2 refl (omega arith))
-    (with_put-inside put image (puddle_record_at frame + 3) 3 refl (omega arith))
-    (with_put-inside put image (puddle_record_at frame + 4) 4 refl (omega arith))
-    ∙ puddle_by-words r fits)
+module _ (F : ℕ) (image : Image) (frame : ℕ) where
+  -- a change within one record of the puddle table
+  in_puddle_record : (put : Put) → frame < F → puddle_record_at frame ≤ put.w → put.w + put.n ≤ puddle_record_at (frame + 1)
+      → tables_of F (with_put put image) ≡ with_puddle_at frame (puddle_at (with_put put image) frame) (tables_of F image)
+  in_puddle_record put within low high =
+      tables_of-puddle F image (with_put put image) frame within
+      (λ k l h. with_put-outside put image k (λ from to. omega arith))
+      (λ k l h not. with_put-outside put image k (λ from to. not (omega arith) (omega arith)))
+
+  -- the words of a record put it into the frame's record
+  pub puddle_put_made : (r : PuddleRec) → frame < F → r.pool + 1 < 2 ^ 32 → tables_of F (with_put (puddle_put frame r) image) ≡ with_puddle_at frame (Some (member_by r)) (tables_of F image)
+  puddle_put_made r within fits =
+      let put = puddle_put frame r in
+      in_puddle_record put within (omega arith) (omega arith)
+      ∙ ap (λ now. with_puddle_at frame now (tables_of F image))
+      (puddle_at-words (with_put put image) frame (member_word (r.pool + 1) r.ordinal) r.number r.base r.old_base r.frontier
+      (with_put-inside put image (puddle_record_at frame) 0 (omega arith) (omega arith))
+      (with_put-inside put image (puddle_record_at frame + 1) 1 refl (omega arith))
+      (with_put-inside put image (puddle_record_at frame + 2) 2 refl (omega arith))
+      (with_put-inside put image (puddle_record_at frame + 3) 3 refl (omega arith))
+      (with_put-inside put image (puddle_record_at frame + 4) 4 refl (omega arith))
+      ∙ puddle_by-words r fits)
+
+  -- the word 0 frees the record
+  pub free_puddle_put_made : frame < F → tables_of F (with_put (free_puddle_put frame) image) ≡ with_puddle_at frame None (tables_of F image)
+  free_puddle_put_made within =
+      let put = free_puddle_put frame in
+      in_puddle_record put within (omega arith) (omega arith)
+      ∙ ap (λ now. with_puddle_at frame now (tables_of F image)) (puddle_at-free (with_put put image) frame (with_put-inside put image (puddle_record_at frame) 0 (omega arith) (omega arith)))

@@ -59,8 +59,12 @@ newlines-reply_text (replies.Ref serial) = newlines-number (codes "ok @") serial
 newlines-reply_text (replies.No refusals.Bad) = refl
 newlines-reply_text (replies.No refusals.Client) = refl
 newlines-reply_text (replies.No refusals.Taken) = refl
+newlines-reply_text (replies.No refusals.Pool) = refl
+newlines-reply_text (replies.No refusals.Exists) = refl
+newlines-reply_text (replies.No refusals.Denied) = refl
 newlines-reply_text (replies.No refusals.Clash) = refl
 newlines-reply_text (replies.No refusals.Full) = refl
+newlines-reply_text (replies.No refusals.Space) = refl
 newlines-reply_text replies.Cut = refl
 
 pub newlines-answer_text : (a : Answer) → newlines (answer_text a) ≡ 1

@@ -12,7 +12,7 @@ use Rattle.pud_defs.specs.Types.{map_of}
 use Rattle.pud_defs.specs.Spaces.{Owner}
 use Rattle.pud_defs.specs.World.{World}
 use Rattle.pud_defs.specs.Grammar.{command_of}
-use Rattle.pud_defs.specs.Step.{Answer, step_answer, is_other, is_clash, is_full, holds, refusal_of, after, answer, answer_unless, answer_by, world_by, unless_refused, Step}
+use Rattle.pud_defs.specs.Step.{Answer, step_answer, is_other, is_clash, is_full, holds, refusal_of, after, text_for, text_or_ok, answer, answer_unless, answer_by, world_by, unless_refused, Step}
 use Rattle.pud_defs.specs.Step.Answer.{of_reply}
 use Rattle.pud_defs.specs.Run.{is_cut}
 use Rattle.pud_defs.proofs.TypeLists.{with_type-same}
@@ -89,10 +89,10 @@ done_answer w c h = ap (λ o. answer_unless o (answer w c)) h
 pub done_world : (w : World) (c : Command) → refusal_of w c ≡ None → world_by w (Some c) ≡ after w c
 done_world w c h = ap (λ o. unless_refused o w (after w c)) h
 
--- and is answered `ok` alone
-pub answer_is_ok : (w : World) (c : Command) → refusal_of w c ≡ None → answer_by w (Some c) ≡ of_reply replies.Ok
+-- and is answered `ok` alone, where it asks for no text
+pub answer_is_ok : (w : World) (c : Command) → text_for w c ≡ None → refusal_of w c ≡ None → answer_by w (Some c) ≡ of_reply replies.Ok
 unfolding answer
-answer_is_ok w c h = done_answer w c h
+answer_is_ok w c none h = done_answer w c h ∙ ap text_or_ok none
 
 -- a line that is no command
 pub step-bad : (w : World) (line : List ℕ) → command_of line ≡ None → Step w line (of_reply (replies.No refusals.Bad)) w
@@ -111,10 +111,14 @@ no_cut_unless : (r : Option Refusal) (done : Answer) → is_cut done ≡ false �
 no_cut_unless None done none = none
 no_cut_unless (Some r) done none = refl
 
+no_cut_in : (text : Option (List ℕ)) → is_cut (text_or_ok text) ≡ false
+no_cut_in None = refl
+no_cut_in (Some text) = refl
+
 no_cut_by : (w : World) (c : Option Command) → is_cut (answer_by w c) ≡ false
 unfolding answer
 no_cut_by w None = refl
-no_cut_by w (Some c) = no_cut_unless (refusal_of w c) (answer w c) refl
+no_cut_by w (Some c) = no_cut_unless (refusal_of w c) (answer w c) (no_cut_in (text_for w c))
 
 pub step_is_no_cut : (w : World) (line : List ℕ) → is_cut (step_answer w line) ≡ false
 step_is_no_cut w line = no_cut_by w (command_of line)

@@ -1,7 +1,7 @@
 -- The frames of a device and their slots.
-use Rattle.std.specs.Prelude.{ℕ, ◌+◌, ◌*◌}
+use Rattle.std.specs.Prelude.{◌≡◌, ℕ, ◌+◌, ◌-◌, ◌*◌, ◌<◌, ◌==◌, cond, List, [], ◌∷◌, ◌++◌, slice_index, replicate}
 use Rattle.pud_defs.specs.declared.layout.TheConstants.{FRAME_WORDS}
-use Rattle.pud_defs.specs.declared.space.TheConstants.{FRAME_HEADER_WORDS, SLOT_WORDS}
+use Rattle.pud_defs.specs.declared.space.TheConstants.{FRAME_HEADER_WORDS, SLOT_WORDS, FRAME_MAGIC}
 use Rattle.pud_defs.specs.Layout.{frames_at}
 use Rattle.pud_defs.specs.Image.{Image}
 
@@ -16,3 +16,21 @@ frame_word F frame k image = image (frame_at F frame + k)
 -- the word of a frame at which a slot begins
 abbrev pub slot_at : ℕ → ℕ
 slot_at slot = FRAME_HEADER_WORDS + SLOT_WORDS * slot
+
+-- ---- the frame of a new puddle
+
+-- the next serial of a new pool, which the frame of ordinal 0 holds
+abbrev pub first_serial : ℕ → ℕ
+first_serial ordinal = cond (ordinal == 0) 1 0
+
+-- what the header of a new puddle holds: the frame magic, the UUID number, the ordinal, and the next serial
+abbrev pub fresh_header : (number ordinal : ℕ) → List ℕ
+fresh_header number ordinal = FRAME_MAGIC ∷ number ∷ ordinal ∷ first_serial ordinal ∷ []
+
+-- the words of its frame: its header, and 0 in all words behind it
+unfoldable pub fresh_frame : (number ordinal : ℕ) → List ℕ
+fresh_frame number ordinal = fresh_header number ordinal ++ replicate (FRAME_WORDS - 4) 0
+
+-- the frame is that of a new puddle
+pub record IsFreshFrame (F frame number ordinal : ℕ) (image : Image) : Type 0 where
+  pub each : (k : ℕ) → k < FRAME_WORDS → frame_word F frame k image ≡ slice_index (fresh_frame number ordinal) k

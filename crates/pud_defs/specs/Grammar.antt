@@ -1,9 +1,13 @@
 -- Which lines are commands. A line stands here without its newline.
-use Rattle.std.specs.Prelude.{IsTrue, ℕ, ◌<◌, ◌≤◌, ◌+◌, ◌-◌, ◌*◌, ◌^◌, Bool, true, false, cond, not, ◌&&◌, nat_le, nat_lt, ◌==◌, List, [], ◌∷◌, length, fold, codes, bytes_eq, Option, Some, None, option_map, option_and_then}
+use Rattle.std.specs.Prelude.{IsTrue, ℕ, ◌<◌, ◌≤◌, ◌+◌, ◌-◌, ◌*◌, ◌%◌, ◌^◌, Bool, true, false, cond, not, ◌&&◌, nat_le, nat_lt, ◌==◌, List, [], ◌∷◌, ◌++◌, length, replicate, fold, codes, bytes_eq, Option, Some, None, option_map, option_and_then}
 use Rattle.std.specs.List.{list_all, slice_split}
 use Rattle.pud_defs.specs.declared.layout.TheConstants.{LINE_LIMIT, CLIENTS, MAX_OWNER_ID, MAX_TYPE_ID, MAX_FIELDS, MAX_ARMED_STEP}
 use Rattle.pud_defs.specs.declared.machine.Command.{Command}
-use Rattle.pud_defs.specs.declared.machine.Command.TheVariants.{Client, Leave, Define, Cut, Arm}
+use Rattle.pud_defs.specs.declared.machine.Command.TheVariants.{Client, Leave, Define, Cut, Arm, Chmod, Pools}
+use Rattle.pud_defs.specs.declared.machine.Command.TheVariants as commands
+use Rattle.pud_defs.specs.declared.records.TheConstants.{NAME_BYTES}
+use Rattle.pud_defs.specs.Modes.{is_legal_mode}
+use Rattle.pud_defs.specs.Names.{IsName, is_name_byte, is_legal_name}
 use Rattle.pud_defs.specs.TypeMap.{map_word, is_legal_type_id, is_legal_map}
 
 -- the pieces between the bytes that equal the separator: one more than there are such bytes
@@ -63,6 +67,25 @@ field_count bytes = number_within 1 (MAX_FIELDS + 1) bytes
 abbrev pub listed_map : ℕ → List ℕ → Option ℕ
 listed_map n bytes = option_map (map_word n) (pointers_of n bytes)
 
+-- the name of a pool: 1 to 16 bytes out of small letters, digits and `_`, filled with zeros
+unfoldable pub pool_name : List ℕ → Option (List ℕ)
+pool_name bytes =
+    cond (nat_le 1 (length bytes) && nat_le (length bytes) NAME_BYTES && list_all is_name_byte bytes) (Some (bytes ++ replicate (NAME_BYTES - length bytes) 0)) None
+
+-- 0, 2, 4 or 6
+abbrev pub is_mode_digit : ℕ → Bool
+is_mode_digit b = nat_le 48 b && nat_le b 54 && (b % 2) == 0
+
+-- the mode of three such digits
+abbrev pub mode_by : (owner group others : ℕ) → Option ℕ
+mode_by owner group others =
+    cond (is_mode_digit owner && is_mode_digit group && is_mode_digit others) (Some ((owner - 48) * 64 + (group - 48) * 8 + (others - 48))) None
+
+-- the mode of a pool: three digits, for the owner, the group and others
+unfoldable pub pool_mode : List ℕ → Option ℕ
+pool_mode (owner ∷ group ∷ others ∷ []) = mode_by owner group others
+pool_mode bytes = None
+
 abbrev pub armed_step : List ℕ → Option ℕ
 armed_step bytes = number_within 1 (MAX_ARMED_STEP + 1) bytes
 
@@ -95,6 +118,22 @@ leave_by arguments = taking client_number (λ client. at_end (Leave client)) arg
 unfoldable pub define_by : Parser
 define_by arguments = taking type_id (λ id. taking field_count (λ n. taking (listed_map n) (λ map. at_end (Define id map)))) arguments
 
+-- `pool C P mode`
+unfoldable pub pool_line_by : Parser
+pool_line_by arguments = taking client_number (λ client. taking pool_name (λ name. taking pool_mode (λ mode. at_end (commands.Pool client name mode)))) arguments
+
+-- `chmod C P mode`
+unfoldable pub chmod_by : Parser
+chmod_by arguments = taking client_number (λ client. taking pool_name (λ name. taking pool_mode (λ mode. at_end (Chmod client name mode)))) arguments
+
+-- `drop C P`
+unfoldable pub drop_by : Parser
+drop_by arguments = taking client_number (λ client. taking pool_name (λ name. at_end (commands.Drop client name))) arguments
+
+-- `pools`
+unfoldable pub pools_by : Parser
+pools_by arguments = at_end Pools arguments
+
 -- `cut N`
 unfoldable pub cut_by : Parser
 cut_by arguments = taking loss_pick (λ pick. at_end (Cut pick)) arguments
@@ -109,6 +148,10 @@ lines =
     (codes "client", client_by)
     ∷ (codes "leave", leave_by)
     ∷ (codes "type", define_by)
+    ∷ (codes "pool", pool_line_by)
+    ∷ (codes "chmod", chmod_by)
+    ∷ (codes "drop", drop_by)
+    ∷ (codes "pools", pools_by)
     ∷ (codes "cut", cut_by)
     ∷ (codes "arm", arm_by)
     ∷ []
@@ -135,5 +178,9 @@ abbrev pub IsLegalCommand : Command → Type 0
 IsLegalCommand (Client client uid gid) = (client < CLIENTS) × (uid ≤ MAX_OWNER_ID) × (gid ≤ MAX_OWNER_ID)
 IsLegalCommand (Leave client) = client < CLIENTS
 IsLegalCommand (Define id map) = IsTrue (is_legal_type_id id) × IsTrue (is_legal_map map)
+IsLegalCommand (commands.Pool client name mode) = (client < CLIENTS) × IsName name × IsTrue (is_legal_name name) × IsTrue (is_legal_mode mode)
+IsLegalCommand (Chmod client name mode) = (client < CLIENTS) × IsName name × IsTrue (is_legal_name name) × IsTrue (is_legal_mode mode)
+IsLegalCommand (commands.Drop client name) = (client < CLIENTS) × IsName name × IsTrue (is_legal_name name)
+IsLegalCommand Pools = Unit {0}
 IsLegalCommand (Cut pick) = pick < 2 ^ 64
 IsLegalCommand (Arm step pick) = (1 ≤ step) × (step ≤ MAX_ARMED_STEP) × (pick < 2 ^ 64)

@@ -1,6 +1,11 @@
 -- Where the parts of a device of F frames lie.
-use Rattle.std.specs.Prelude.{ℕ, ◌+◌, ◌*◌, Bool, ◌&&◌, nat_le}
+use Rattle.std.specs.Prelude.{ℕ, ◌+◌, ◌*◌, ◌<◌, ◌≤◌, Bool, ◌&&◌, nat_le}
 use Rattle.pud_defs.specs.declared.layout.TheConstants.{MIN_FRAMES, MAX_FRAMES, LOG_WORDS, CLIENTS, CLIENT_LOGS, PUDDLE_TABLE, PUDDLE_RECORD_WORDS, FRAME_WORDS}
+
+-- the word lies from one on and before another
+pub record IsWithin (from end k : ℕ) : Type 0 where
+  pub low : from ≤ k
+  pub high : k < end
 
 -- the first word behind the puddle table, which has a record for each frame
 abbrev pub tables_end : ℕ → ℕ

@@ -20,6 +20,8 @@ pub mod Places
 pub mod Types
 pub mod Registry
 pub mod World
+pub mod PoolChanges
+pub mod Listing
 pub mod Grammar
 pub mod Step
 pub mod Changing

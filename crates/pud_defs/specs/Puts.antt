@@ -33,6 +33,10 @@ free_pool_put slot = put_of (pool_record_at slot) (0 ∷ [])
 abbrev pub puddle_put : ℕ → PuddleRec → Put
 puddle_put frame r = put_of (puddle_record_at frame) (puddle_words r)
 
+-- a puddle record that is free
+abbrev pub free_puddle_put : ℕ → Put
+free_puddle_put frame = put_of (puddle_record_at frame) (0 ∷ [])
+
 -- what stands at one place, changed
 abbrev pub changed_at : {A : Type 0} → ℕ → A → (ℕ → A) → ℕ → A
 changed_at i now at j = cond (j == i) now (at j)

@@ -1,15 +1,19 @@
 -- What a line does to the world, and what is answered.
-use Rattle.std.specs.Prelude.{◌≡◌, ℕ, Bool, false, not, ◌&&◌, nat_le, ◌==◌, List, [], ◌∷◌, length, find, Option, Some, None, is_none, is_some}
+use Rattle.std.specs.Prelude.{◌≡◌, ℕ, Bool, false, not, ◌&&◌, nat_le, ◌==◌, List, [], ◌∷◌, length, find, Option, Some, None, is_none, is_some, unwrap_or}
 use Rattle.pud_defs.specs.declared.layout.TheConstants.{TYPE_RECORDS}
 use Rattle.pud_defs.specs.declared.machine.Command.{Command}
-use Rattle.pud_defs.specs.declared.machine.Command.TheVariants.{Client, Leave, Define, Cut, Arm}
+use Rattle.pud_defs.specs.declared.machine.Command.TheVariants.{Client, Leave, Define, Cut, Arm, Chmod, Pools}
+use Rattle.pud_defs.specs.declared.machine.Command.TheVariants as commands
 use Rattle.pud_defs.specs.declared.machine.Reply.{Reply}
 use Rattle.pud_defs.specs.declared.machine.Reply.TheVariants as replies
 use Rattle.pud_defs.specs.declared.machine.Refusal.{Refusal}
 use Rattle.pud_defs.specs.declared.machine.Refusal.TheVariants as refusals
 use Rattle.pud_defs.specs.Types.{map_of, with_type}
 use Rattle.pud_defs.specs.Spaces.{Owner, owner, with_owner}
-use Rattle.pud_defs.specs.World.{World, restart}
+use Rattle.pud_defs.specs.Tables.{Pool}
+use Rattle.pud_defs.specs.World.{StoredWorld, World, restart}
+use Rattle.pud_defs.specs.PoolChanges.{pool_named, is_full_of_pools, lacks_frames, with_new_pool, with_pool_mode, without_pool}
+use Rattle.pud_defs.specs.Listing.{pools_text}
 use Rattle.pud_defs.specs.Grammar.{command_of}
 
 -- The answer to a line: a reply, or the text behind `ok` that the line asks for.
@@ -22,6 +26,10 @@ abbrev pub causes : Command → List Refusal
 causes (Client client uid gid) = refusals.Taken ∷ []
 causes (Leave client) = refusals.Client ∷ []
 causes (Define id map) = refusals.Clash ∷ refusals.Full ∷ []
+causes (commands.Pool client name mode) = refusals.Client ∷ refusals.Exists ∷ refusals.Full ∷ refusals.Space ∷ []
+causes (Chmod client name mode) = refusals.Client ∷ refusals.Pool ∷ refusals.Denied ∷ []
+causes (commands.Drop client name) = refusals.Client ∷ refusals.Pool ∷ refusals.Denied ∷ []
+causes Pools = []
 causes (Cut pick) = []
 causes (Arm step pick) = []
 
@@ -30,6 +38,10 @@ abbrev pub client_of : Command → Option ℕ
 client_of (Client client uid gid) = Some client
 client_of (Leave client) = Some client
 client_of (Define id map) = None
+client_of (commands.Pool client name mode) = Some client
+client_of (Chmod client name mode) = Some client
+client_of (commands.Drop client name) = Some client
+client_of Pools = None
 client_of (Cut pick) = None
 client_of (Arm step pick) = None
 
@@ -37,6 +49,29 @@ client_of (Arm step pick) = None
 abbrev pub is_present : (ℕ → Option Owner) → Option ℕ → Bool
 is_present clients None = false
 is_present clients (Some client) = is_some (clients client)
+
+-- the owner as whom the client acts, where one is named that is present
+abbrev pub acting : (ℕ → Option Owner) → Option ℕ → Option Owner
+acting clients None = None
+acting clients (Some client) = clients client
+
+-- the name of the pool that a command names
+abbrev pub name_in : Command → Option (List ℕ)
+name_in (commands.Pool client name mode) = Some name
+name_in (Chmod client name mode) = Some name
+name_in (commands.Drop client name) = Some name
+name_in c = None
+
+-- the pool of the name, where one is named and is there
+abbrev pub pool_by_name : StoredWorld → Option (List ℕ) → Option Pool
+pool_by_name s None = None
+pool_by_name s (Some name) = pool_named name s
+
+-- the user is the owner of the pool
+abbrev pub owns : Option Owner → Option Pool → Bool
+owns None pool = false
+owns (Some who) None = false
+owns (Some who) (Some pool) = who.uid == pool.owner.uid
 
 abbrev pub is_other : ℕ → Option ℕ → Bool
 is_other map None = false
@@ -55,34 +90,62 @@ abbrev pub clashes : List (ℕ × ℕ) → Command → Bool
 clashes types (Define id map) = is_clash types id map
 clashes types _ = false
 
--- there is no room for what a command adds
-abbrev pub overfills : List (ℕ × ℕ) → Command → Bool
-overfills types (Define id map) = is_full types id
-overfills types _ = false
+-- there is no room in the tables for what a command adds, or there are too few UUID numbers
+abbrev pub overfills : StoredWorld → Command → Bool
+overfills s (Define id map) = is_full s.types id
+overfills s (commands.Pool client name mode) = is_full_of_pools s
+overfills s _ = false
+
+-- there are too few frames for what a command adds
+abbrev pub overflows : StoredWorld → Command → Bool
+overflows s (commands.Pool client name mode) = lacks_frames s 1
+overflows s _ = false
 
 -- whether the cause holds for the command. `bad` never does: it is said of lines that are no command
 unfoldable pub holds : World → Command → Refusal → Bool
 holds w c refusals.Bad = false
 holds w c refusals.Client = not (is_present w.clients (client_of c))
 holds w c refusals.Taken = is_present w.clients (client_of c)
+holds w c refusals.Pool = is_none (pool_by_name w.stored (name_in c))
+holds w c refusals.Exists = is_some (pool_by_name w.stored (name_in c))
+holds w c refusals.Denied = not (owns (acting w.clients (client_of c)) (pool_by_name w.stored (name_in c)))
 holds w c refusals.Clash = clashes w.stored.types c
-holds w c refusals.Full = overfills w.stored.types c
+holds w c refusals.Full = overfills w.stored c
+holds w c refusals.Space = overflows w.stored c
 
 -- the first cause of the command that holds
 unfoldable pub refusal_of : World → Command → Option Refusal
 refusal_of w c = find (holds w c) (causes c)
+
+-- as whom a client acts that is present
+abbrev pub owner_acting : (ℕ → Option Owner) → ℕ → Owner
+owner_acting clients client = unwrap_or (clients client) (owner 0 0)
 
 -- the world after a command that is not refused
 unfoldable pub after : World → Command → World
 after w (Client client uid gid) = record w { clients = with_owner client (Some (owner uid gid)) w.clients }
 after w (Leave client) = record w { clients = with_owner client None w.clients }
 after w (Define id map) = record w { stored = record w.stored { types = with_type id map w.stored.types } }
+after w (commands.Pool client name mode) = record w { stored = with_new_pool name (owner_acting w.clients client) mode w.stored }
+after w (Chmod client name mode) = record w { stored = with_pool_mode name mode w.stored }
+after w (commands.Drop client name) = record w { stored = without_pool name w.stored }
+after w Pools = w
 after w (Cut pick) = restart w
 after w (Arm step pick) = w
 
+-- the text that a command asks for
+abbrev pub text_for : World → Command → Option (List ℕ)
+text_for w Pools = Some (pools_text w.stored)
+text_for w c = None
+
+-- the text, or else `ok` alone
+abbrev pub text_or_ok : Option (List ℕ) → Answer
+text_or_ok None = of_reply replies.Ok
+text_or_ok (Some text) = of_text text
+
 -- the answer to a command that is not refused
 unfoldable pub answer : World → Command → Answer
-answer w c = of_reply replies.Ok
+answer w c = text_or_ok (text_for w c)
 
 -- the answer: the refusal, where there is one
 abbrev pub answer_unless : Option Refusal → Answer → Answer

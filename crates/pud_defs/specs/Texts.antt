@@ -24,8 +24,12 @@ abbrev pub refusal_word : Refusal → List ℕ
 refusal_word refusals.Bad = codes "bad"
 refusal_word refusals.Client = codes "client"
 refusal_word refusals.Taken = codes "taken"
+refusal_word refusals.Pool = codes "pool"
+refusal_word refusals.Exists = codes "exists"
+refusal_word refusals.Denied = codes "denied"
 refusal_word refusals.Clash = codes "clash"
 refusal_word refusals.Full = codes "full"
+refusal_word refusals.Space = codes "space"
 
 -- what is said in reply
 unfoldable pub reply_text : Reply → List ℕ

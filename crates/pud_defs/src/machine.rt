@@ -4,6 +4,8 @@ ghost use Rattle.std.specs.Prelude.{◌≡◌};
 ghost use Rattle.pud_defs.specs.Step.Answer.{of_reply};
 ghost use Rattle.pud_defs.specs.Texts.{begins_with_ok};
 
+use crate::records::Name;
+
 /// What a line asks for.
 #[derive(Clone, Copy, Debug, PartialEq, Eq)]
 pub enum Command {
@@ -13,6 +15,14 @@ pub enum Command {
     Leave { client: u8 },
     /// `type T n list`: the type `t` has the fields and pointers that the map word `map` gives.
     Define { t: u32, map: u64 },
+    /// `pool C P mode`: the client, from 0 to 7, makes the pool of this name with this mode.
+    Pool { client: u8, name: Name, mode: u32 },
+    /// `chmod C P mode`: the client, from 0 to 7, gives the pool of this name this mode.
+    Chmod { client: u8, name: Name, mode: u32 },
+    /// `drop C P`: the client, from 0 to 7, drops the pool of this name, with its puddles.
+    Drop { client: u8, name: Name },
+    /// `pools`: what pools are there.
+    Pools,
     /// `cut N`: power is lost at once, and what is left of words that are not durable is chosen by `pick`.
     Cut { pick: u64 },
     /// `arm K N`: power is lost in the device step that is number `step` from now on, from 1 to 1,000,000, with this pick.
@@ -57,8 +67,16 @@ pub enum Refusal {
     Client,
     /// The client is present.
     Taken,
+    /// There is no pool of the name.
+    Pool,
+    /// There is a pool of the name.
+    Exists,
+    /// The client's user is not the pool's owner.
+    Denied,
     /// The type is defined with another map.
     Clash,
-    /// So many others are there that no further one fits.
+    /// So many others are there that no further one fits, or so many UUID numbers were given out that too few are left.
     Full,
+    /// Too few frames are free.
+    Space,
 }

@@ -1,4 +1,4 @@
-//! The records of pools and puddles, and their packed words.
+//! The records of pools, puddles and clients, and their packed words.
 //!
 //! An owner word has the uid in bits 0 to 31 and the gid in bits 32 to 63. A member word has the pool's slot plus 1 in
 //! bits 0 to 31, 0 in a free record, and the ordinal in bits 32 to 63. The readers answer for every word, legal or not.
@@ -57,8 +57,17 @@ pub const MAX_MODE: u32 = 0o666;
 /// A name: 1 to 16 bytes, and zeros behind them.
 pub type Name = [u8; NAME_BYTES];
 
-/// What a record says of a pool.
+/// A user and a group: as whom a client acts.
 #[derive(Clone, Copy, Debug, PartialEq, Eq)]
+pub struct Owner {
+    /// The uid, 0 to 65,535 in a legal record.
+    pub uid: u32,
+    /// The gid, 0 to 65,535 in a legal record.
+    pub gid: u32,
+}
+
+/// What a record says of a pool.
+#[derive(Clone, Copy, Debug, Default, PartialEq, Eq)]
 pub struct PoolRec {
     /// The name, 16 bytes filled with zeros.
     pub name: Name,

@@ -1,5 +1,5 @@
 -- The searches of the puddle table, record by record.
-use Rattle.std.proofs.Common.{◌≡◌, inl, inr, ℕ, ◌+◌, ◌-◌, ◌<◌, ◌≤◌, ◌&&◌, Bool, true, false, cond, eqb, Option, Some, None, nat_cmp, option_map, refl, sym, ap, ◌∙◌, subst, arith, ne_eqb, [], ◌∷◌, ◌%◌, ◌^◌}
+use Rattle.std.proofs.Common.{◌≡◌, inl, inr, ℕ, ◌+◌, ◌-◌, ◌<◌, ◌≤◌, ◌&&◌, Bool, true, false, cond, eqb, Option, Some, None, Ok, Err, nat_cmp, option_map, refl, sym, ap, ◌∙◌, subst, arith, ne_eqb, [], ◌∷◌, ◌%◌, ◌^◌}
 use Rattle.std.specs.Ordering.{eq_by_cmp}
 use Rattle.std.proofs.lemmas.Bool.{cases_eq, cond-true, cond-false}
 use Rattle.std.proofs.lemmas.Bool.Decides.{nat_tests}
@@ -13,7 +13,9 @@ use Rattle.pud_defs.specs.Puts.{put_of, puddle_put}
 use Rattle.pud_defs.specs.Tables.{tables_of, member_of, members, puddles_of, puddle_in}
 use Rattle.pud_defs.proofs.Keyed.{find-keyed, first_from_here, first_from_other, first_from_end, first_free_here, first_free_used, first_free_end}
 use Rattle.pud_defs.proofs.TablesOf.{puddles_below, frames_of_tables, puddle_at-free}
-use Rattle.puddle_table.specs.Records.{is_member, puddle_words_at}
+use Rattle.puddle_table.specs.declared.PuddleFault.{PuddleFault}
+use Rattle.puddle_table.specs.declared.PuddleFault.TheVariants.{NoSpace}
+use Rattle.puddle_table.specs.Records.{frame_by, added_at, is_member, puddle_words_at}
 
 -- ---- free and used records
 
@@ -21,7 +23,7 @@ use Rattle.puddle_table.specs.Records.{is_member, puddle_words_at}
 abbrev pub member_there : Image → ℕ → Member
 member_there image frame = record { pool = member_pool (image (puddle_record_at frame)); ordinal = member_ordinal (image (puddle_record_at frame)); puddle = puddle_words_at image frame }
 
-used_record : (image : Image) (frame : ℕ) → (image (puddle_record_at frame) ≡ 0 → ⊥) → puddle_at image frame ≡ Some (member_there image frame)
+pub used_record : (image : Image) (frame : ℕ) → (image (puddle_record_at frame) ≡ 0 → ⊥) → puddle_at image frame ≡ Some (member_there image frame)
 unfolding puddle_at puddle_by
 used_record image frame used = cond-false _ _ _ (ne_eqb _ 0 used)
 
@@ -45,6 +47,15 @@ lowest_moved words image F from frame e h = subst (λ (w : Image). first_free (t
 pub lowest_in : (F : ℕ) (image : Image) (from : ℕ) (found : Option ℕ) → found ≡ first_free (tables_of F image).puddles from (F - from)
     → first_free (tables_of F image).puddles from ((tables_of F image).frames - from) ≡ found
 lowest_in F image from found e = ap (λ (n : ℕ). first_free (tables_of F image).puddles from (n - from)) (frames_of_tables F image) ∙ sym e
+
+-- what was found, by the frame that is answered
+pub frame_found : (o : Option ℕ) (frame : ℕ) → Ok frame ≡ frame_by o → o ≡ Some frame
+frame_found None frame e = absurd (let no : Ok frame ≡ Err NoSpace = e in cc)
+frame_found (Some at) frame e = let same : Ok frame ≡ Ok at = e in cc
+
+pub none_found : (o : Option ℕ) (fault : PuddleFault) (r : PuddleRec) → Err fault ≡ frame_by o → Err fault ≡ added_at o r
+none_found None fault r e = let same : Err fault ≡ Err NoSpace = e in cc
+none_found (Some at) fault r e = absurd (let no : Err fault ≡ Ok at = e in cc)
 
 -- ---- the record of a pool's puddle
 

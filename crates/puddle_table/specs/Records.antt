@@ -1,23 +1,28 @@
--- What adding a puddle answers, and what is read of a record.
-use Rattle.std.specs.Prelude.{◌≡◌, ℕ, ◌+◌, ◌-◌, ◌%◌, ◌^◌, ◌<◌, Bool, ◌&&◌, ◌==◌, Option, Some, None, Result, Ok, Err}
+-- Which frame a new puddle takes, what adding one answers, what is read of a record, and how many records each pool has.
+use Rattle.std.specs.Prelude.{◌≡◌, ℕ, ◌+◌, ◌-◌, ◌%◌, ◌^◌, ◌<◌, Bool, ◌&&◌, ◌==◌, cond, List, slice_index, Option, Some, None, Result, Ok, Err}
 use Rattle.pm_model.specs.declared.host.HostFault.{HostFault}
-use Rattle.pud_defs.specs.declared.records.TheConstants.{PUDDLE_NUMBER_WORD, PUDDLE_BASE_WORD, PUDDLE_OLD_BASE_WORD, PUDDLE_FRONTIER_WORD}
+use Rattle.pud_defs.specs.declared.records.TheConstants.{POOL_RECORDS, PUDDLE_NUMBER_WORD, PUDDLE_BASE_WORD, PUDDLE_OLD_BASE_WORD, PUDDLE_FRONTIER_WORD}
 use Rattle.pud_defs.specs.declared.records.Puddle.{Puddle}
 use Rattle.pud_defs.specs.declared.records.PuddleRec.{PuddleRec}
 use Rattle.pud_defs.specs.declared.records.Put.{Put}
 use Rattle.pud_defs.specs.Image.{Image}
-use Rattle.pud_defs.specs.Keyed.{first_free}
+use Rattle.pud_defs.specs.Keyed.{first_free, count_used}
 use Rattle.pud_defs.specs.Puddles.{member_pool, member_ordinal, puddle_record_at}
-use Rattle.pud_defs.specs.Tables.{Tables}
+use Rattle.pud_defs.specs.Tables.{Tables, members}
 use Rattle.pud_defs.specs.Puts.{puddle_put, with_puddle_at, member_by}
 use Rattle.puddle_table.specs.declared.PuddleFault.{PuddleFault}
 use Rattle.puddle_table.specs.declared.PuddleFault.TheVariants as faults
 
--- the host's fault that an addition answered
-abbrev pub fault_in : Result Put PuddleFault → Option HostFault
-fault_in (Ok put) = None
+-- the host's fault that a call answered
+abbrev pub fault_in : {A : Type 0} → Result A PuddleFault → Option HostFault
+fault_in (Ok value) = None
 fault_in (Err (faults.Host fault)) = Some fault
 fault_in (Err faults.NoSpace) = None
+
+-- which frame a new puddle takes, by the lowest free one
+abbrev pub frame_by : Option ℕ → Result ℕ PuddleFault
+frame_by (Some frame) = Ok frame
+frame_by None = Err faults.NoSpace
 
 -- what adding a record answers at the lowest free frame
 abbrev pub added_at : Option ℕ → PuddleRec → Result Put PuddleFault
@@ -54,3 +59,11 @@ frontier_of image frame = image (puddle_record_at frame + PUDDLE_FRONTIER_WORD) 
 -- what was found is in one of so many frames
 abbrev pub IsFrame : ℕ → ℕ × PuddleRec → Type 0
 IsFrame F found = found.0 < F
+
+-- Counts by slots of the pool table: how many used records of so many frames name the slot's pool.
+pub record CountsPools (F : ℕ) (t : Tables) (counts : List ℕ) : Type 0 where
+  pub each : (slot : ℕ) → slot < POOL_RECORDS → slice_index counts slot ≡ count_used (members t slot) 0 F
+
+-- the counts with one more for the pool that the member word names, where it names a slot of the table
+pub record CountsMember (member : ℕ) (old new : List ℕ) : Type 0 where
+  pub each : (slot : ℕ) → slot < POOL_RECORDS → slice_index new slot ≡ cond (member_pool member == slot + 1) (slice_index old slot + 1) (slice_index old slot)

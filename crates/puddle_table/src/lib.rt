@@ -1,10 +1,10 @@
 //! The puddle table: which frame has which puddle of which pool, at which base.
 //!
 //! The table has a record for each frame, and how many frames there are is given to the calls that go over all of them. A
-//! call that adds a record writes nothing: it answers the words that are to be a part of a batch.
+//! call that changes the table writes nothing: it answers the words that make the change, which are to be a part of a batch.
 #![tactic(auto)]
 
-ghost use Rattle.std.specs.Prelude.{◌≡◌, ◌≢◌, ◌+◌, ◌-◌, ◌<◌, ◌≤◌, ℕ, Option, IfOk, IfSome};
+ghost use Rattle.std.specs.Prelude.{◌≡◌, ◌≢◌, ◌+◌, ◌-◌, ◌<◌, ◌≤◌, ℕ, Option, IfOk, IfSome, All};
 ghost use Rattle.pm_model.specs.Words.{reads};
 ghost use Rattle.pm_model.specs.Counts.{after_fault, fault_of};
 ghost use Rattle.pud_defs.specs.declared.layout.TheConstants.{MAX_FRAMES};
@@ -14,8 +14,8 @@ ghost use Rattle.pud_defs.specs.Layout.{tables_end};
 ghost use Rattle.pud_defs.specs.Keyed.{first_free};
 ghost use Rattle.pud_defs.specs.Puddles.{puddle_record_at, puddle_read};
 ghost use Rattle.pud_defs.specs.Tables.{tables_of, puddle_in};
-ghost use Rattle.pud_defs.specs.Puts.{puddle_put, with_put};
-ghost use Rattle.puddle_table.specs.Records.{fault_in, added, Adds, is_member, puddle_words_at, frontier_of, IsFrame};
+ghost use Rattle.pud_defs.specs.Puts.{puddle_put, free_puddle_put, with_put, with_puddle_at, member_by};
+ghost use Rattle.puddle_table.specs.Records.{fault_in, frame_by, added, Adds, CountsPools, CountsMember, is_member, puddle_words_at, frontier_of, IsFrame};
 
 use pm_model::{Host, HostFault};
 use pud_defs::layout::{MAX_FRAMES, PUDDLE_RECORD_WORDS, PUDDLE_TABLE};
@@ -53,31 +53,36 @@ const fn record_at(frame: u32) -> u32
     PUDDLE_TABLE + PUDDLE_RECORD_WORDS * frame
 }
 
-/// The lowest free frame from one on, of so many.
-fn lowest_free<H: Host>(h: &mut H, frames: u32, from: u32) -> Result<Option<u32>, HostFault>
+/// The lowest free frame at or above `from`, of so many frames.
+///
+/// The device has the puddle table of so many frames. `NoSpace` comes exactly where no such frame is free, where the host
+/// does not fail first.
+pub fn free_frame<H: Host>(h: &mut H, frames: u32, from: u32) -> Result<u32, PuddleFault>
     requires few { frames ≤ MAX_FRAMES }
     requires table { tables_end frames ≤ (H.counts h.old).size }
-    ensures lowest { H.tells → (image : Image) → reads (H.state h.old).now.words ≡ image
-        → IfOk result (λ frame. frame ≡ first_free (tables_of frames image).puddles from (frames - from)) }
-    ensures within { IfOk result (λ found. IfSome found (λ frame. frame < frames)) }
+    ensures frame { H.tells → (image : Image) → reads (H.state h.old).now.words ≡ image → fault_in result ≡ Option.None
+        → result ≡ frame_by (first_free (tables_of frames image).puddles from (frames - from)) }
+    ensures within { IfOk result (λ frame. frame < frames) }
     ensures stays { H.tells → H.state h.new ≡ H.state h.old }
-    ensures cause { H.counts h.new ≡ after_fault (fault_of result) (H.counts h.old) }
-    ensures never_cut { fault_of result ≢ Option.Some HostFault.Cut }
+    ensures cause { H.counts h.new ≡ after_fault (fault_in result) (H.counts h.old) }
+    ensures never_cut { fault_in result ≢ Option.Some HostFault.Cut }
 {
     for frame in from..frames {
         let member = h.load(record_at(frame))?;
         if member == 0 {
-            return Ok(Some(frame));
+            return Ok(frame);
         }
     }
-    Ok(None)
+    Err(PuddleFault::NoSpace)
 }
 
-/// The words of a record.
-fn record_put(frame: u32, rec: PuddleRec) -> Put
+/// The words that put the record into that of the frame, whatever it held.
+pub fn record_put(frame: u32, rec: PuddleRec) -> Put
     requires frame { frame < MAX_FRAMES }
     requires pool { rec.pool < POOL_RECORDS }
-    ensures { result ≡ puddle_put frame rec }
+    ensures put { result ≡ puddle_put frame rec }
+    ensures changes { (frames : ℕ) (image : Image) → frame < frames
+        → tables_of frames (with_put result image) ≡ with_puddle_at frame (Option.Some (member_by rec)) (tables_of frames image) }
 {
     let member = member_word(rec.pool + 1, rec.ordinal);
     let vals = [
@@ -113,9 +118,21 @@ pub fn add<H: Host>(h: &mut H, frames: u32, from: u32, rec: PuddleRec) -> Result
     ensures cause { H.counts h.new ≡ after_fault (fault_in result) (H.counts h.old) }
     ensures never_cut { fault_in result ≢ Option.Some HostFault.Cut }
 {
-    match lowest_free(h, frames, from)? {
-        Some(frame) => Ok(record_put(frame, rec)),
-        None => Err(PuddleFault::NoSpace),
+    let frame = free_frame(h, frames, from)?;
+    Ok(record_put(frame, rec))
+}
+
+/// The words that free the record of the frame.
+pub fn remove(frame: u32) -> Put
+    requires { frame < MAX_FRAMES }
+    ensures put { result ≡ free_puddle_put frame }
+    ensures changes { (frames : ℕ) (image : Image) → frame < frames
+        → tables_of frames (with_put result image) ≡ with_puddle_at frame Option.None (tables_of frames image) }
+{
+    Put {
+        w: record_at(frame),
+        n: 1,
+        vals: [0; 8],
     }
 }
 
@@ -184,6 +201,44 @@ pub fn of_pool<H: Host>(
         }
     }
     Ok(None)
+}
+
+/// Counts one more record for the pool that the member word names, where it names a slot of the table.
+fn count_member(counts: &mut [u32; POOL_RECORDS as usize], member: u64)
+    requires { All (λ count. count ≤ MAX_FRAMES) counts.old }
+    ensures counted { CountsMember member counts.old counts.new }
+    ensures within { (most : ℕ) → All (λ count. count ≤ most) counts.old → All (λ count. count ≤ most + 1) counts.new }
+{
+    let pool = member_pool(member);
+    if pool >= 1 && pool <= POOL_RECORDS {
+        counts[(pool - 1) as usize] += 1;
+    }
+}
+
+/// How many used records of so many frames each slot of the pool table has, by the pools that they name. A record that
+/// names no slot of the table counts for none.
+///
+/// The device has the puddle table of so many frames, whatever it holds. No count is more than the frames, and the only errors
+/// are the host's own.
+pub fn count_by_pool<H: Host>(
+    h: &mut H,
+    frames: u32,
+) -> Result<[u32; POOL_RECORDS as usize], HostFault>
+    requires few { frames ≤ MAX_FRAMES }
+    requires table { tables_end frames ≤ (H.counts h.old).size }
+    ensures counts { H.tells → (image : Image) → reads (H.state h.old).now.words ≡ image
+        → IfOk result (CountsPools frames (tables_of frames image)) }
+    ensures within { IfOk result (All (λ count. count ≤ frames)) }
+    ensures stays { H.tells → H.state h.new ≡ H.state h.old }
+    ensures cause { H.counts h.new ≡ after_fault (fault_of result) (H.counts h.old) }
+    ensures never_cut { fault_of result ≢ Option.Some HostFault.Cut }
+{
+    let mut counts = [0; POOL_RECORDS as usize];
+    for frame in 0..frames {
+        let member = h.load(record_at(frame))?;
+        count_member(&mut counts, member);
+    }
+    Ok(counts)
 }
 
 /// How many steps of the puddle of a frame are rewritten.

@@ -6,19 +6,23 @@ use Rattle.pm_model.specs.declared.host.HostFault.TheVariants as hosts
 use Rattle.pm_model.specs.Counts.{Counts, after_fault, after_arm, after_loss_of, fault_of}
 use Rattle.pm_model.specs.Moments.{State}
 use Rattle.pud_defs.specs.declared.machine.Command.{Command}
-use Rattle.pud_defs.specs.declared.machine.Command.TheVariants.{Leave, Cut, Arm}
+use Rattle.pud_defs.specs.declared.machine.Command.TheVariants.{Leave, Cut, Arm, Pools}
 use Rattle.pud_defs.specs.declared.machine.Reply.{Reply}
 use Rattle.pud_defs.specs.declared.machine.Reply.TheVariants as replies
 use Rattle.pud_defs.specs.declared.machine.Refusal.TheVariants as refusals
 use Rattle.pud_defs.specs.World.{World, restart}
-use Rattle.pud_defs.specs.Step.{refusal_of, after, answer_by, world_by}
-use Rattle.pud_defs.specs.Step.Answer.{of_reply}
+use Rattle.pud_defs.specs.Step.{refusal_of, after, answer, answer_by, world_by}
+use Rattle.pud_defs.specs.Step.Answer.{of_reply, of_text}
+use Rattle.pud_defs.specs.Listing.{pools_text}
 use Rattle.pud_defs.specs.Changing.{file_of}
 use Rattle.pud_defs.proofs.Changing.{KeepsFiles-still, KeepsFiles-then}
 use Rattle.pud_defs.proofs.Steps.{answer_is_ok, done_world}
 use Rattle.puddled.specs.Faults.{Kind, kind_of, CountsCommand}
 use Rattle.puddled.specs.Faults.Kind.{ordinary, loses, arms}
 use Rattle.puddled.specs.Memory.{Memory}
+use Rattle.puddled.specs.declared.answers.Answered.{Answered}
+use Rattle.puddled.specs.declared.answers.Answered.TheVariants as answers
+use Rattle.puddled.specs.Answered.{as_answered, answer_of}
 use Rattle.puddled.specs.Daemon.{KeepsRest, KeepsLine, IsReady, Applies, ClosesFirst, ClosesLogs, CarriesOut}
 use Rattle.puddled.proofs.Applying.{Applies-idle}
 
@@ -49,13 +53,21 @@ world_of_arm : (w : World) (step pick : ℕ) → world_by w (Some (Arm step pick
 unfolding after
 world_of_arm w step pick = done_world w (Arm step pick) (arm_is_free w step pick)
 
+world_of_pools : (w : World) → world_by w (Some Pools) ≡ w
+unfolding after refusal_of
+world_of_pools w = refl
+
+answer_of_pools : (w : World) → answer_by w (Some Pools) ≡ of_text (pools_text w.stored)
+unfolding answer refusal_of
+answer_of_pools w = refl
+
 -- what a line that is to lose power at once is answered, and the world that it gives
 pub record IsRestart (w : World) (command : Option Command) : Type 0 where
   pub answered : answer_by w command ≡ of_reply replies.Ok
   pub given : world_by w command ≡ restart w
 
 pub restart_line : (w : World) (command : Option Command) (pick : ℕ) → kind_of command ≡ loses pick → IsRestart w command
-restart_line w (Some (Cut p)) pick is = record { answered = answer_is_ok w (Cut p) (cut_is_free w p); given = world_of_cut w p }
+restart_line w (Some (Cut p)) pick is = record { answered = answer_is_ok w (Cut p) refl (cut_is_free w p); given = world_of_cut w p }
 restart_line w (Some (Arm step p)) pick is = absurd (let no : arms step p ≡ loses pick = is in cc)
 restart_line w command pick is = absurd (let no : ordinary ≡ loses pick = is in cc)
 
@@ -79,20 +91,45 @@ module _ (size : ℕ) (w : World) (memory : Memory) (before after : Counts) (old
   -- one that counts nothing of its own, and writes no file
   pub CarriesOut-plain : (c : Command) (done : Result Reply HostFault) → kind_of (Some c) ≡ ordinary → file_of c ≡ None → IfOk done (λ reply. of_reply reply ≡ answer_by w (Some c))
       → Applies size w (world_by w (Some c)) memory (fault_of done) old new → ClosesLogs w (Some c) old new → KeepsRest old new → after ≡ after_fault (fault_of done) before
-      → CarriesOut size w memory (Some c) done before after old new
-  CarriesOut-plain c done plain none replied applies closes rest cause = record {
+      → CarriesOut size w memory (Some c) (as_answered done) before after old new
+  CarriesOut-plain c (Ok reply) plain none replied applies closes rest cause = record {
     replied = replied;
     applies = applies;
     files = KeepsFiles-still (file_of c) old.shelf new.shelf rest.shelf;
     no_file = λ _. none;
     closes = closes;
-    counted = subst (λ (k : Kind). CountsCommand k (fault_of done) before after) (sym plain) cause;
+    counted = subst (λ (k : Kind). CountsCommand k None before after) (sym plain) cause;
+  }
+  CarriesOut-plain c (Err fault) plain none replied applies closes rest cause = record {
+    replied = tt;
+    applies = applies;
+    files = KeepsFiles-still (file_of c) old.shelf new.shelf rest.shelf;
+    no_file = λ _. none;
+    closes = closes;
+    counted = subst (λ (k : Kind). CountsCommand k (Some fault) before after) (sym plain) cause;
+  }
+
+  -- by the command that it is, and what was replied
+  pub CarriesOut-as : (x c : Command) (r : Result Answered HostFault) (done : Result Reply HostFault) → x ≡ c → r ≡ as_answered done → CarriesOut size w memory (Some c) (as_answered done) before after old new
+      → CarriesOut size w memory (Some x) r before after old new
+  CarriesOut-as x c r done is same k =
+      subst (λ (y : Command). CarriesOut size w memory (Some y) r before after old new) (sym is) (subst (λ (s : Result Answered HostFault). CarriesOut size w memory (Some c) s before after old new) (sym same) k)
+
+  -- the list of the pools is asked for
+  pub CarriesOut-listed : IsReady size w memory old → new ≡ old → after ≡ before → CarriesOut size w memory (Some Pools) (Ok answers.Pools) before after old new
+  CarriesOut-listed ready same cause = record {
+    replied = ap (λ (v : World). of_text (pools_text v.stored)) (world_of_pools w) ∙ sym (answer_of_pools w);
+    applies = subst (λ (v : World). Applies size w v memory None old new) (sym (world_of_pools w)) (Applies-idle size w memory old new ready same);
+    files = KeepsFiles-still None old.shelf new.shelf (ap (λ (s : State). s.shelf) same);
+    no_file = λ _. refl;
+    closes = ClosesLogs-other w (Some Pools) old new (λ client is. cc);
+    counted = cause;
   }
 
   -- power was lost at once
   pub CarriesOut-lost : (pick : ℕ) (done : Result Reply HostFault) → done ≡ Err hosts.Cut → Applies size w (restart w) memory (Some hosts.Cut) old new → KeepsRest old new
-      → after ≡ after_loss_of pick before → CarriesOut size w memory (Some (Cut pick)) done before after old new
-  CarriesOut-lost pick done is applies rest cause = subst (λ (r : Result Reply HostFault). CarriesOut size w memory (Some (Cut pick)) r before after old new) (sym is) (record {
+      → after ≡ after_loss_of pick before → CarriesOut size w memory (Some (Cut pick)) (as_answered done) before after old new
+  CarriesOut-lost pick done is applies rest cause = subst (λ (r : Result Reply HostFault). CarriesOut size w memory (Some (Cut pick)) (as_answered r) before after old new) (sym is) (record {
     replied = tt;
     applies = subst (λ (v : World). Applies size w v memory (Some hosts.Cut) old new) (sym (world_of_cut w pick)) applies;
     files = KeepsFiles-still None old.shelf new.shelf rest.shelf;
@@ -103,9 +140,9 @@ module _ (size : ℕ) (w : World) (memory : Memory) (before after : Counts) (old
 
   -- a cut was armed
   pub CarriesOut-armed : (step pick : ℕ) (done : Result Reply HostFault) → done ≡ Ok replies.Ok → IsReady size w memory old → new ≡ old
-      → after ≡ after_arm step pick before → CarriesOut size w memory (Some (Arm step pick)) done before after old new
-  CarriesOut-armed step pick done is ready same cause = subst (λ (r : Result Reply HostFault). CarriesOut size w memory (Some (Arm step pick)) r before after old new) (sym is) (record {
-    replied = sym (answer_is_ok w (Arm step pick) (arm_is_free w step pick));
+      → after ≡ after_arm step pick before → CarriesOut size w memory (Some (Arm step pick)) (as_answered done) before after old new
+  CarriesOut-armed step pick done is ready same cause = subst (λ (r : Result Reply HostFault). CarriesOut size w memory (Some (Arm step pick)) (as_answered r) before after old new) (sym is) (record {
+    replied = sym (answer_is_ok w (Arm step pick) refl (arm_is_free w step pick));
     applies = subst (λ (v : World). Applies size w v memory None old new) (sym (world_of_arm w step pick)) (Applies-idle size w memory old new ready same);
     files = KeepsFiles-still None old.shelf new.shelf (ap (λ (s : State). s.shelf) same);
     no_file = λ _. refl;
@@ -114,7 +151,7 @@ module _ (size : ℕ) (w : World) (memory : Memory) (before after : Counts) (old
   })
 
   -- the line is no command
-  pub CarriesOut-bad : IsReady size w memory old → new ≡ old → after ≡ before → CarriesOut size w memory None (Ok (replies.No refusals.Bad)) before after old new
+  pub CarriesOut-bad : IsReady size w memory old → new ≡ old → after ≡ before → CarriesOut size w memory None (Ok (answers.Reply (replies.No refusals.Bad))) before after old new
   CarriesOut-bad ready same cause = record {
     replied = refl;
     applies = Applies-idle size w memory old new ready same;

@@ -87,7 +87,7 @@ unfolding after
 closed_after w id map = refl
 
 -- what a ready daemon reads stands for the world
-standing : (size : ℕ) (w : World) (memory : Memory) (s : State) → IsReady size w memory s → StandsFor size (reads s.now.words) (closed w)
+pub standing : (size : ℕ) (w : World) (memory : Memory) (s : State) → IsReady size w memory s → StandsFor size (reads s.now.words) (closed w)
 standing size w memory s ready =
     standing_beside size (reads s.now.words) (closed w)
     (standing_idle size (reads s.now.words) (closed w) (ready.settled.idle (reads s.now.words DAEMON_LOG) (inl refl)) (ready.settled.stands (reads s.now.words) (Picks-reads s.now.words)))
@@ -192,7 +192,7 @@ fault_of_reply (Err (faults.Host fault)) = refl
 
 pub reply_when_ready : (size : ℕ) (w : World) (memory : Memory) (id map : ℕ) (done : Result (Unit {0}) TypeFault) (old : State) → IsReady size w memory old
     → (fault_in done ≡ None → refusal_in done ≡ table_refusal (reads old.now.words) id map) → IfOk (reply_of done) (λ reply. of_reply reply ≡ answer_by w (Some (Define id map)))
-reply_when_ready size w memory id map (Ok x) old ready told = sym (answer_is_ok w (Define id map) (sym (told refl ∙ refusal_when_ready size w memory id map old ready)))
+reply_when_ready size w memory id map (Ok x) old ready told = sym (answer_is_ok w (Define id map) refl (sym (told refl ∙ refusal_when_ready size w memory id map old ready)))
 reply_when_ready size w memory id map (Err faults.Clash) old ready told = sym (refused_answer w (Define id map) Clash (sym (told refl ∙ refusal_when_ready size w memory id map old ready)))
 reply_when_ready size w memory id map (Err faults.Full) old ready told = sym (refused_answer w (Define id map) Full (sym (told refl ∙ refusal_when_ready size w memory id map old ready)))
 reply_when_ready size w memory id map (Err (faults.Host fault)) old ready told = tt

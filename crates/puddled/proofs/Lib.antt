@@ -1,10 +1,12 @@
 pub mod Applying
 pub mod Defining
 pub mod Coming
+pub mod Pooling
 pub mod Turns
 pub mod Counted
 pub mod Restarts
 pub mod Losing
 pub mod Carrying
+pub mod Listed
 pub mod Settling
 pub mod Lines

@@ -26,10 +26,13 @@ use Rattle.batch.specs.Worlds.{IsSettled}
 use Rattle.puddled.specs.declared.daemon.RunFault.{RunFault}
 use Rattle.puddled.specs.declared.daemon.RunFault.TheVariants.{NotSound}
 use Rattle.puddled.specs.Memory.{Memory}
+use Rattle.puddled.specs.declared.answers.Answered.{Answered}
+use Rattle.puddled.specs.Answered.{answer_of, said_text}
 use Rattle.puddled.specs.declared.daemon.StartFault.{StartFault}
 use Rattle.puddled.specs.declared.daemon.StartFault.TheVariants as starts
 use Rattle.puddled.specs.Faults.{start_fault, run_fault, CountsLine}
 use Rattle.puddled.specs.Daemon.{KeepsRest, KeepsLine, IsReady, IsPart, SaysPart, IsClosedIfFree, ClosesLogs, Recovers, Settles, Starts, spoken, Answers}
+use Rattle.puddled.proofs.Listed.{said_when_ready}
 use Rattle.puddled.proofs.Settling.{Between}
 use Rattle.puddled.proofs.Carrying.{KeepsLine-then}
 
@@ -132,14 +135,14 @@ Answers-fault size w memory line aloud fault before after old new s =
     }
 
 -- the reply is not said aloud
-pub Answers-unsaid : (size : ℕ) (w : World) (memory : Memory) (line : List ℕ) (reply : Reply) (ok : Bool) (before after : Counts) (old new : State)
-    → Settles size w line (Ok reply) memory before after old new → ok ≡ begins_with_ok (of_reply reply) → Answers size w line false (Ok ok) memory before after old new
-Answers-unsaid size w memory line reply ok before after old new s is =
+pub Answers-unsaid : (size : ℕ) (w : World) (memory : Memory) (line : List ℕ) (answered : Answered) (ok : Bool) (before after : Counts) (old new : State)
+    → Settles size w line (Ok answered) memory before after old new → ((v : World) → ok ≡ begins_with_ok (answer_of v answered)) → Answers size w line false (Ok ok) memory before after old new
+Answers-unsaid size w memory line answered ok before after old new s is =
     record {
       turn = s.turn;
       of_line = s.of_line;
       is_turn = s.is_turn;
-      ok = is ∙ ap begins_with_ok (sym s.replied);
+      ok = is s.turn.next ∙ ap begins_with_ok (sym s.replied);
       moments = silent_moments size w s.turn old new s.moments;
       says = record { bytes = []; rest = []; part = refl; said = s.quiet ∙ sym (append-nil old.now.said); whole = λ _. refl };
       closes = s.closes;
@@ -170,7 +173,7 @@ front_of_answer answer front prefix =
     omega arith
 
 -- the line was settled, and its reply is said
-module _ (size : ℕ) (w : World) (memory : Memory) (line : List ℕ) (reply : Reply) (before between after : Counts) (old mid new : State) (s : Settles size w line (Ok reply) memory before between old mid) where
+module _ (size : ℕ) (w : World) (memory : Memory) (line : List ℕ) (answered : Answered) (before between after : Counts) (old mid new : State) (s : Settles size w line (Ok answered) memory before between old mid) where
   said_moments : (fault : Option HostFault) → Says (answer_text s.turn.answer) fault mid new → Leaves (StandsWith size w (s.turn ∷ [])) old new
   said_moments fault says =
       let t = s.turn in
@@ -192,11 +195,12 @@ module _ (size : ℕ) (w : World) (memory : Memory) (line : List ℕ) (reply : R
         (Leaves-says text fault P mid new (λ front image prefix picked. Leaves-now P [] old mid said settled image picked) says);
   }
 
-  text_is : (fault : Option HostFault) → Says (reply_text reply) fault mid new → Says (answer_text s.turn.answer) fault mid new
-  text_is fault says = subst (λ (a : Answer). Says (answer_text a) fault mid new) (sym s.replied) says
+  -- what is said of a ready device is the text of the answer
+  text_is : (fault : Option HostFault) → Says (said_text memory.frames (reads mid.now.words) answered) fault mid new → Says (answer_text s.turn.answer) fault mid new
+  text_is fault says = subst (λ (text : List ℕ). Says text fault mid new) (said_when_ready size s.turn.next memory mid answered (s.ready refl) ∙ ap answer_text (sym s.replied)) says
 
-  pub Answers-said : (result : Result Bool RunFault) (fault : Option HostFault) → Says (reply_text reply) fault mid new → (run_fault result ≡ None → fault ≡ None)
-      → IfOk result (λ ok. ok ≡ begins_with_ok (of_reply reply)) → (run_fault result ≡ Some NotSound → ⊥) → CountsLine (command_of line) (run_fault result) (cuts_of (s.turn ∷ [])) before after
+  pub Answers-said : (result : Result Bool RunFault) (fault : Option HostFault) → Says (said_text memory.frames (reads mid.now.words) answered) fault mid new → (run_fault result ≡ None → fault ≡ None)
+      → ((v : World) → IfOk result (λ ok. ok ≡ begins_with_ok (answer_of v answered))) → (run_fault result ≡ Some NotSound → ⊥) → CountsLine (command_of line) (run_fault result) (cuts_of (s.turn ∷ [])) before after
       → Answers size w line true result memory before after old new
   Answers-said result fault spoken_text none is sound counts =
       let says = text_is fault spoken_text in
@@ -205,7 +209,7 @@ module _ (size : ℕ) (w : World) (memory : Memory) (line : List ℕ) (reply : R
         turn = s.turn;
         of_line = s.of_line;
         is_turn = s.is_turn;
-        ok = subst (λ (a : Answer). IfOk result (λ ok. ok ≡ begins_with_ok a)) (sym s.replied) is;
+        ok = subst (λ (a : Answer). IfOk result (λ ok. ok ≡ begins_with_ok a)) (sym s.replied) (is s.turn.next);
         moments = said_moments fault says;
         says = record { bytes = part.bytes; rest = part.rest; part = part.part; said = part.said ∙ ap (λ (l : List ℕ). l ++ part.bytes) s.quiet; whole = λ n. part.whole (none n) };
         closes = closes_said (answer_text s.turn.answer) fault says;

@@ -23,7 +23,7 @@ use Rattle.pud_defs.specs.World.{World, StoredWorld, world_of, closed, restart}
 use Rattle.pud_defs.specs.Grammar.{command_of}
 use Rattle.pud_defs.specs.Step.{refusal_of, after, unless_refused, world_by, step_world}
 use Rattle.pud_defs.specs.Changing.{Part, part_of, with_part, file_in}
-use Rattle.pud_defs.specs.Changing.Part.{types, clients, nothing}
+use Rattle.pud_defs.specs.Changing.Part.{types, pools, clients, nothing}
 use Rattle.pud_defs.proofs.Parts.Part.{Spaces}
 use Rattle.pud_defs.proofs.Changing.{after-part, shelf_by, KeepsFiles-none}
 use Rattle.pud_defs.proofs.Commands.{command_of-legal}
@@ -36,6 +36,8 @@ use Rattle.puddled.specs.declared.daemon.RunFault.TheVariants as faults
 use Rattle.puddled.specs.Faults.{start_fault, of_host, of_start, Kind, kind_of, CountsKind, CountsCommand, CountsLine, behind_loss}
 use Rattle.puddled.specs.Faults.Kind.{ordinary, loses, arms}
 use Rattle.puddled.specs.Memory.{Memory}
+use Rattle.puddled.specs.declared.answers.Answered.{Answered}
+use Rattle.puddled.specs.declared.answers.Answered.TheVariants as answers
 use Rattle.puddled.specs.Daemon.{IsReady, IsClosedIfFree, ClosesLogs, CarriesOut, HasLogsOf, Recovers, Settles}
 use Rattle.puddled.proofs.Turns.{turn_of, is_turn_of, cut_turn, is_cut_turn}
 use Rattle.puddled.proofs.Counted.{counted_step, counted_cut, counted_nothing, kind_done, kind_faulty, kind_unstarted, host_is_sound}
@@ -52,8 +54,8 @@ unsound_start (starts.Host fault) is = absurd (host_is_sound fault (ap Some is))
 
 module _ (size : ℕ) (w : World) (memory : Memory) (line : List ℕ) (before between : Counts) (old mid : State) where
   -- the line was done: the reply is the machine's
-  pub Settles-done : (reply : Reply) → CarriesOut size w memory (command_of line) (Ok reply) before between old mid → Settles size w line (Ok reply) memory before between old mid
-  Settles-done reply k =
+  pub Settles-done : (answered : Answered) → CarriesOut size w memory (command_of line) (Ok answered) before between old mid → Settles size w line (Ok answered) memory before between old mid
+  Settles-done answered k =
       record {
         turn = turn_of w line;
         of_line = refl;
@@ -89,6 +91,7 @@ module _ (size : ℕ) (w : World) (memory : Memory) (line : List ℕ) (before be
 
 frames_of_part : (p : Part) (v w : World) → (with_part p v w).stored.frames ≡ w.stored.frames
 frames_of_part types v w = refl
+frames_of_part pools v w = refl
 frames_of_part clients v w = refl
 frames_of_part nothing v w = refl
 
@@ -208,7 +211,7 @@ module _ (size : ℕ) (w : World) (memory : Memory) (line : List ℕ) (before be
 
   module _ (now : Memory) (after : Counts) (new : State) where
     -- the daemon started again behind a line that was cut off
-    Settles-cut : kind_of (command_of line) ≡ ordinary → Recovers size found_world (Ok now) mid new → after ≡ between → Settles size w line (Ok replies.Cut) now before after old new
+    Settles-cut : kind_of (command_of line) ≡ ordinary → Recovers size found_world (Ok now) mid new → after ≡ between → Settles size w line (Ok (answers.Reply replies.Cut)) now before after old new
     Settles-cut is r same =
         let lost : between ≡ after_fault (Some hosts.Cut) before = subst (λ (x : Kind). CountsCommand x (Some hosts.Cut) before between) is k.counted in
         record {
@@ -226,7 +229,7 @@ module _ (size : ℕ) (w : World) (memory : Memory) (line : List ℕ) (before be
         }
 
     -- or behind one that asks for it
-    Settles-lost : (pick : ℕ) → kind_of (command_of line) ≡ loses pick → Recovers size found_world (Ok now) mid new → after ≡ between → Settles size w line (Ok replies.Ok) now before after old new
+    Settles-lost : (pick : ℕ) → kind_of (command_of line) ≡ loses pick → Recovers size found_world (Ok now) mid new → after ≡ between → Settles size w line (Ok (answers.Reply replies.Ok)) now before after old new
     Settles-lost pick is r same =
         let it = restart_line w (command_of line) pick is in
         let lost = subst (λ (x : Kind). CountsCommand x (Some hosts.Cut) before between) is k.counted in
@@ -246,7 +249,7 @@ module _ (size : ℕ) (w : World) (memory : Memory) (line : List ℕ) (before be
         }
 
     -- the daemon started again
-    pub Settles-again : (kind : Kind) → kind_of (command_of line) ≡ kind → Recovers size found_world (Ok now) mid new → after ≡ between → Settles size w line (Ok (behind_loss kind)) now before after old new
+    pub Settles-again : (kind : Kind) → kind_of (command_of line) ≡ kind → Recovers size found_world (Ok now) mid new → after ≡ between → Settles size w line (Ok (answers.Reply (behind_loss kind))) now before after old new
     Settles-again ordinary is r same = Settles-cut is r same
     Settles-again (loses pick) is r same = Settles-lost pick is r same
     Settles-again (arms step pick) is r same =

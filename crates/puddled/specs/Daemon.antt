@@ -6,9 +6,7 @@ use Rattle.pm_model.specs.Words.{reads, IsRested}
 use Rattle.pm_model.specs.Counts.{Counts, fault_of}
 use Rattle.pm_model.specs.Moments.{State}
 use Rattle.pm_model.specs.Changes.{Leaves, Silently}
-use Rattle.pud_defs.specs.declared.machine.Reply.{Reply}
 use Rattle.pud_defs.specs.Step.{Answer, answer_by, world_by}
-use Rattle.pud_defs.specs.Step.Answer.{of_reply}
 use Rattle.pud_defs.specs.declared.layout.TheConstants.{DAEMON_LOG, CLIENTS}
 use Rattle.pud_defs.specs.Layout.{tables_end, frames_at}
 use Rattle.pud_defs.specs.Image.{Image}
@@ -25,6 +23,8 @@ use Rattle.pud_defs.specs.Stands.{StandsWith}
 use Rattle.batch.specs.Tables.{HasDurableTables}
 use Rattle.batch.specs.Worlds.{IsSettled}
 use Rattle.puddled.specs.Memory.{Memory}
+use Rattle.puddled.specs.declared.answers.Answered.{Answered}
+use Rattle.puddled.specs.Answered.{answer_of}
 use Rattle.puddled.specs.declared.daemon.StartFault.{StartFault}
 use Rattle.puddled.specs.declared.daemon.RunFault.{RunFault}
 use Rattle.puddled.specs.declared.daemon.RunFault.TheVariants as faults
@@ -91,8 +91,8 @@ pub record ClosesLogs (w : World) (command : Option Command) (old new : State) :
 
 -- What each command owes, before the daemon goes on behind it: it was carried out, or refused, and the reply is the machine's; only a file that
 -- it names was written, and it names none where power was lost; a client that goes has its logs closed first; it was counted by its kind.
-pub record CarriesOut (size : ℕ) (w : World) (memory : Memory) (command : Option Command) (done : Result Reply HostFault) (before after : Counts) (old new : State) : Type 0 where
-  pub replied : IfOk done (λ reply. of_reply reply ≡ answer_by w command)
+pub record CarriesOut (size : ℕ) (w : World) (memory : Memory) (command : Option Command) (done : Result Answered HostFault) (before after : Counts) (old new : State) : Type 0 where
+  pub replied : IfOk done (λ answered. answer_of (world_by w command) answered ≡ answer_by w command)
   pub applies : Applies size w (world_by w command) memory (fault_of done) old new
   pub files : KeepsFiles (file_in command) old.shelf new.shelf
   pub no_file : fault_of done ≡ Some hosts.Cut → file_in command ≡ None
@@ -102,11 +102,11 @@ pub record CarriesOut (size : ℕ) (w : World) (memory : Memory) (command : Opti
 -- A line was carried out, or refused, or cut off and the daemon started again, all without a word: at every moment the images stand for the
 -- world before it or the one that it gives, and without a fault the daemon is ready, with this memory, in the world from which the run goes on.
 -- A client that goes has its logs closed first.
-pub record Settles (size : ℕ) (w : World) (line : List ℕ) (result : Result Reply RunFault) (memory : Memory) (before after : Counts) (old new : State) : Type 0 where
+pub record Settles (size : ℕ) (w : World) (line : List ℕ) (result : Result Answered RunFault) (memory : Memory) (before after : Counts) (old new : State) : Type 0 where
   pub turn : Turn
   pub of_line : turn.line ≡ line
   pub is_turn : IsTurn w turn
-  pub replied : IfOk result (λ reply. turn.answer ≡ of_reply reply)
+  pub replied : IfOk result (λ answered. turn.answer ≡ answer_of turn.next answered)
   pub moments : Leaves (Silently (λ image. (world_of size image ≡ Some (closed w)) ⊎ (world_of size image ≡ Some (closed turn.under)))) old new
   pub quiet : new.now.said ≡ old.now.said
   pub closes : ClosesLogs w (command_of line) old new

@@ -1,4 +1,6 @@
 pub mod Memory
 pub mod Defined
+pub mod Answered
+pub mod Owning
 pub mod Faults
 pub mod Daemon

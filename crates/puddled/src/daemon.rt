@@ -5,22 +5,22 @@ ghost use Rattle.pm_model.specs.Counts.{Counts, after_fault, after_arm, after_lo
 ghost use Rattle.pm_model.specs.Moments.{State};
 ghost use Rattle.pud_defs.specs.declared.layout.TheConstants.{MIN_FRAMES};
 ghost use Rattle.pud_defs.specs.Layout.{device_words};
-ghost use Rattle.pm_model.specs.Calls.{Says};
 ghost use Rattle.pud_defs.specs.World.{World, world_of, closed, restart};
-ghost use Rattle.pud_defs.specs.Texts.{reply_text};
 ghost use Rattle.puddled.specs.Faults.{start_fault, run_fault, kind_of, CountsLine, CountsCommand, behind_loss, HasLostPower};
 ghost use Rattle.pud_defs.specs.Grammar.{command_of, IsLegalCommand};
 ghost use Rattle.pud_defs.specs.Changing.{file_of, file_in};
 ghost use Rattle.puddled.specs.Memory.{Memory};
 ghost use Rattle.puddled.specs.Daemon.{KeepsRest, KeepsLine, IsReady, Applies, CarriesOut, Recovers, Settles};
 
+use crate::answers::{Answered, say_answer, with_reply};
 use crate::clients::{come, leave};
+use crate::pools::{change, drop_owned, make};
 use crate::types::define_type;
 use log_space::clear_spaces;
 use pm_model::{Host, HostFault};
 use pud_defs::machine::{Command, Refusal, Reply};
 use registry::{LoadFault, load_sound};
-use script::{parse_line, print_reply};
+use script::parse_line;
 use std::alloc::Global;
 use std::marker::Model;
 
@@ -161,7 +161,7 @@ fn arm<H: Host>(h: &mut H, step: u32, pick: u64) -> Result<Reply, HostFault>
 
 /// Carries out the command, or refuses it, without a word.
 #[tactic(auto, using(crate::proofs::Carrying::keeps_line))]
-fn apply<H: Host>(daemon: &Daemon, h: &mut H, command: Command) -> Result<Reply, HostFault>
+fn apply<H: Host>(daemon: &Daemon, h: &mut H, command: Command) -> Result<Answered, HostFault>
     requires legal { IsLegalCommand command }
     requires room { device_words daemon.now.frames ≤ (H.counts h.old).size }
     ensures carries { H.tells → (size : ℕ) → size ≡ (H.counts h.old).size → (w : World) → IsReady size w daemon.now (H.state h.old)
@@ -171,11 +171,23 @@ fn apply<H: Host>(daemon: &Daemon, h: &mut H, command: Command) -> Result<Reply,
     ensures cause { CountsCommand (kind_of (Option.Some command)) (fault_of result) (H.counts h.old) (H.counts h.new) }
 {
     match command {
-        Command::Client { client, uid, gid } => come(h, daemon.frames, u32::from(client), uid, gid),
-        Command::Leave { client } => leave(h, daemon.frames, u32::from(client)),
-        Command::Define { t, map } => define_type(h, t, map),
-        Command::Cut { pick } => lose_power(h, pick),
-        Command::Arm { step, pick } => arm(h, step, pick),
+        Command::Client { client, uid, gid } => {
+            with_reply(come(h, daemon.frames, u32::from(client), uid, gid))
+        }
+        Command::Leave { client } => with_reply(leave(h, daemon.frames, u32::from(client))),
+        Command::Define { t, map } => with_reply(define_type(h, t, map)),
+        Command::Pool { client, name, mode } => {
+            with_reply(make(h, daemon.frames, u32::from(client), name, mode))
+        }
+        Command::Chmod { client, name, mode } => {
+            with_reply(change(h, u32::from(client), name, mode))
+        }
+        Command::Drop { client, name } => {
+            with_reply(drop_owned(h, daemon.frames, u32::from(client), name))
+        }
+        Command::Pools => Ok(Answered::Pools),
+        Command::Cut { pick } => with_reply(lose_power(h, pick)),
+        Command::Arm { step, pick } => with_reply(arm(h, step, pick)),
     }
 }
 
@@ -194,8 +206,8 @@ fn go_on<H: Host>(
     daemon: &mut Daemon,
     h: &mut H,
     command: Command,
-    done: Result<Reply, HostFault>,
-) -> Result<Reply, RunFault>
+    done: Result<Answered, HostFault>,
+) -> Result<Answered, RunFault>
     requires { device_words daemon.old.frames ≤ (H.counts h.old).size }
     // The command began in the state `before`, with these counts.
     ensures settles { H.tells → (size : ℕ) → size ≡ (H.counts h.old).size → (w : World) → (line : List ℕ) → (counted : Counts) → (before : State)
@@ -214,17 +226,17 @@ fn go_on<H: Host>(
         → CountsLine (Option.Some command) (run_fault result) 0 counted (H.counts h.new) }
 {
     match done {
-        Ok(reply) => Ok(reply),
+        Ok(answered) => Ok(answered),
         Err(HostFault::Failed) => Err(RunFault::Failed),
         Err(HostFault::Cut) => {
             *daemon = recover(h)?;
-            Ok(reply_behind_loss(command))
+            Ok(Answered::Reply(reply_behind_loss(command)))
         }
     }
 }
 
 /// Carries out one line without a word. Where power is lost in it the daemon starts again.
-fn settle<H: Host>(daemon: &mut Daemon, h: &mut H, line: &[u8]) -> Result<Reply, RunFault>
+fn settle<H: Host>(daemon: &mut Daemon, h: &mut H, line: &[u8]) -> Result<Answered, RunFault>
     requires { device_words daemon.old.frames ≤ (H.counts h.old).size }
     ensures settles { H.tells → (size : ℕ) → size ≡ (H.counts h.old).size → (w : World) → IsReady size w daemon.old (H.state h.old)
         → Settles size w line.now result daemon.new (H.counts h.old) (H.counts h.new) (H.state h.old) (H.state h.new) }
@@ -238,23 +250,12 @@ fn settle<H: Host>(daemon: &mut Daemon, h: &mut H, line: &[u8]) -> Result<Reply,
     ensures cause { CountsLine (command_of line.now) (run_fault result) 0 (H.counts h.old) (H.counts h.new) }
 {
     match parse_line(line) {
-        Err(_) => Ok(Reply::No(Refusal::Bad)),
+        Err(_) => Ok(Answered::Reply(Reply::No(Refusal::Bad))),
         Ok(command) => {
             let done = apply(daemon, h, command);
             go_on(daemon, h, command, done)
         }
     }
-}
-
-/// Says the reply with its newline.
-fn say_reply<H: Host>(h: &mut H, reply: Reply) -> Result<(), HostFault>
-    ensures says { H.tells → Says (reply_text reply) (fault_of result) (H.state h.old) (H.state h.new) }
-    ensures cause { H.counts h.new ≡ after_fault (fault_of result) (H.counts h.old) }
-    ensures never_cut { fault_of result ≢ Option.Some HostFault.Cut }
-{
-    let mut text = [0u8; 32];
-    let length = print_reply(reply, &mut text);
-    h.say(&text[..length])
 }
 
 impl Daemon {
@@ -323,11 +324,11 @@ impl Daemon {
         ensures rest { H.tells → KeepsLine (file_in (command_of line.now)) (H.state h.old) (H.state h.new) }
         ensures cause { CountsLine (command_of line.now) (run_fault result) 0 (H.counts h.old) (H.counts h.new) }
     {
-        let reply = settle(self, h, line)?;
+        let answered = settle(self, h, line)?;
         if aloud {
-            say_reply(h, reply)?;
+            say_answer(h, self.frames, answered)?;
         }
-        Ok(reply.is_ok())
+        Ok(answered.is_ok())
     }
 
     /// Ends the daemon. It touches no device: the next start does what is to be done.

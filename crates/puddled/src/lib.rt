@@ -1,8 +1,10 @@
 //! The daemon: it starts on a sound device, and carries out one line of a script at a time.
 #![tactic(auto)]
 
+mod answers;
 mod clients;
 mod daemon;
+mod pools;
 mod types;
 
 pub use daemon::{Daemon, RunFault, StartFault};

@@ -1,1 +1,9 @@
 pub mod Applied
+pub mod PutBatches
+pub mod Moved
+pub mod Changed
+pub mod Made
+pub mod Filled
+pub mod Gathered
+pub mod Joined
+pub mod Placed

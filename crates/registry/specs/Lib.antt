@@ -1,1 +1,4 @@
 pub mod Registry
+pub mod Puts
+pub mod Places
+pub mod Pools

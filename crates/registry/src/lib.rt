@@ -1,4 +1,4 @@
-//! The registry of a device: judged, and brought up to date by its daemon log.
+//! The registry of a device: judged, brought up to date by its daemon log, and its pools made, changed and dropped.
 #![tactic(auto)]
 
 ghost use Rattle.std.specs.Prelude.{◌≡◌, ◌≢◌, ◌↔◌, ℕ, Option, Result, IfOk};
@@ -12,7 +12,14 @@ ghost use Rattle.pud_defs.specs.World.{StoredWorld, world_of};
 ghost use Rattle.soundness.specs.Judging.{IsRoomFor};
 ghost use Rattle.registry.specs.Registry.{load_fault, AppliesLog};
 
+mod changing;
+mod frames;
+mod making;
+mod puts;
+
+pub use changing::{change_mode, drop_pool};
 use log_replay::settle_log;
+pub use making::{MakeFault, make_pool};
 use pm_model::{Host, HostFault};
 use pud_defs::layout::{DAEMON_LOG, MACHINE_WORD};
 pub use soundness::sound_frames;

@@ -4,11 +4,11 @@ use Rattle.std.proofs.lemmas.List.Splits.{length-slice_split}
 use Rattle.pud_defs.specs.declared.machine.Command.{Command}
 use Rattle.pud_defs.specs.Grammar.{split_at, Parser, taking, at_end}
 
-pub taking-front : (kind : List ℕ → Option ℕ) (next : ℕ → Parser) (argument : List ℕ) (arguments : List (List ℕ)) → taking kind next (argument ∷ arguments) ≡ option_and_then (λ v. next v arguments) (kind argument)
+pub taking-front : {A : Type 0} (kind : List ℕ → Option A) (next : A → Parser) (argument : List ℕ) (arguments : List (List ℕ)) → taking kind next (argument ∷ arguments) ≡ option_and_then (λ v. next v arguments) (kind argument)
 unfolding taking
 taking-front kind next argument arguments = refl
 
-pub taking-none : (kind : List ℕ → Option ℕ) (next : ℕ → Parser) → taking kind next [] ≡ None
+pub taking-none : {A : Type 0} (kind : List ℕ → Option A) (next : A → Parser) → taking kind next [] ≡ None
 unfolding taking
 taking-none kind next = refl
 

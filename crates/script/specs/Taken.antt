@@ -4,5 +4,5 @@ use Rattle.pud_defs.specs.Grammar.{Parser, taking}
 
 -- The front one of the arguments is of this kind and has this value, and the others are left; or there is no value, where it is not.
 -- So whatever takes such an argument first goes on with the value and what is left.
-abbrev pub IsTaken : (List ℕ → Option ℕ) → List (List ℕ) → Option ℕ → List (List ℕ) → Type 0
-IsTaken kind arguments value left = (next : ℕ → Parser) → taking kind next arguments ≡ option_and_then (λ v. next v left) value
+abbrev pub IsTaken : {A : Type 0} → (List ℕ → Option A) → List (List ℕ) → Option A → List (List ℕ) → Type 0
+IsTaken {A} kind arguments value left = (next : A → Parser) → taking kind next arguments ≡ option_and_then (λ v. next v left) value

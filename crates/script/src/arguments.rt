@@ -1,15 +1,17 @@
 //! The arguments of a line, taken from the front one by one, each by its kind.
 
 ghost use Rattle.std.specs.Prelude.{◌≡◌, ◌≤◌, ℕ, List, IfSome};
-ghost use Rattle.pud_defs.specs.Grammar.{client_number, owner_id, type_id, field_count, listed_map, armed_step, loss_pick, at_end};
+ghost use Rattle.pud_defs.specs.Grammar.{client_number, owner_id, type_id, field_count, listed_map, pool_name, pool_mode, armed_step, loss_pick, at_end};
 ghost use Rattle.script.specs.Pieces.{pieces_of, with_front};
 ghost use Rattle.script.specs.Taken.{IsTaken};
 
 use crate::fields::read_map;
+use crate::names::{read_mode, read_name};
 use crate::numbers::{read_number, read_within};
 use crate::pieces::cut;
 use pud_defs::layout::{CLIENTS, MAX_ARMED_STEP, MAX_FIELDS, MAX_OWNER_ID, MAX_TYPE_ID};
 use pud_defs::machine::Command;
+use pud_defs::records::Name;
 use std::marker::Model;
 
 /// The arguments that are left. Contracts see them as the list of their bytes. Where a call answers None the line is no
@@ -82,6 +84,22 @@ impl<'a> Arguments<'a> {
         ensures { IsTaken (listed_map fields) self.old result self.new }
     {
         read_map(self.front()?, fields)
+    }
+
+    /// The front argument as the name of a pool.
+    #[tactic(auto, using(crate::proofs::Taken::taken))]
+    pub(crate) fn name(&mut self) -> Option<Name>
+        ensures { IsTaken pool_name self.old result self.new }
+    {
+        read_name(self.front()?)
+    }
+
+    /// The front argument as the mode of a pool.
+    #[tactic(auto, using(crate::proofs::Taken::taken))]
+    pub(crate) fn mode(&mut self) -> Option<u32>
+        ensures { IsTaken pool_mode self.old result self.new }
+    {
+        read_mode(self.front()?)
     }
 
     /// The front argument as the device step at which power is armed to be lost.

@@ -4,6 +4,7 @@
 mod arguments;
 mod fields;
 mod lines;
+mod names;
 mod numbers;
 mod pieces;
 mod replies;

@@ -6,12 +6,17 @@
 //! - `leave C`;
 //! - `type T n list`: the type id T from 1 to 65,535, the number of fields n from 1 to 30, and the list of those fields
 //!   that are pointers;
+//! - `pool C P mode`: the client C, the name P of 1 to 16 bytes out of `a` to `z`, `0` to `9` and `_`, and the mode of
+//!   three digits out of 0, 2, 4 and 6;
+//! - `chmod C P mode`;
+//! - `drop C P`;
+//! - `pools`;
 //! - `cut N`: the pick N, any number below 2^64;
 //! - `arm K N`: the step K from 1 to 1,000,000, and the pick N.
 
 ghost use Rattle.std.specs.Prelude.{◌≡◌, IfOk};
 ghost use Rattle.std.specs.Result.{result_ok};
-ghost use Rattle.pud_defs.specs.Grammar.{split_at, client_by, leave_by, define_by, cut_by, arm_by, command_with, command_by, command_of, IsLegalCommand};
+ghost use Rattle.pud_defs.specs.Grammar.{split_at, client_by, leave_by, define_by, pool_line_by, chmod_by, drop_by, pools_by, cut_by, arm_by, command_with, command_by, command_of, IsLegalCommand};
 
 use crate::arguments::Arguments;
 use crate::pieces::cut;
@@ -54,6 +59,46 @@ fn read_definition(mut arguments: Arguments) -> Option<Command>
     arguments.end(Command::Define { t, map })
 }
 
+/// The making of a pool.
+#[tactic(auto, unfolding(pud_defs::specs::Grammar::pool_line_by))]
+fn read_pool(mut arguments: Arguments) -> Option<Command>
+    ensures { result ≡ pool_line_by arguments.entry }
+{
+    let client = arguments.client()?;
+    let name = arguments.name()?;
+    let mode = arguments.mode()?;
+    arguments.end(Command::Pool { client, name, mode })
+}
+
+/// The change of a pool's mode.
+#[tactic(auto, unfolding(pud_defs::specs::Grammar::chmod_by))]
+fn read_chmod(mut arguments: Arguments) -> Option<Command>
+    ensures { result ≡ chmod_by arguments.entry }
+{
+    let client = arguments.client()?;
+    let name = arguments.name()?;
+    let mode = arguments.mode()?;
+    arguments.end(Command::Chmod { client, name, mode })
+}
+
+/// The dropping of a pool.
+#[tactic(auto, unfolding(pud_defs::specs::Grammar::drop_by))]
+fn read_drop(mut arguments: Arguments) -> Option<Command>
+    ensures { result ≡ drop_by arguments.entry }
+{
+    let client = arguments.client()?;
+    let name = arguments.name()?;
+    arguments.end(Command::Drop { client, name })
+}
+
+/// The list of the pools.
+#[tactic(auto, unfolding(pud_defs::specs::Grammar::pools_by))]
+fn read_pools(arguments: Arguments) -> Option<Command>
+    ensures { result ≡ pools_by arguments.entry }
+{
+    arguments.end(Command::Pools)
+}
+
 /// A power loss at once.
 #[tactic(auto, unfolding(pud_defs::specs::Grammar::cut_by))]
 fn read_cut(mut arguments: Arguments) -> Option<Command>
@@ -84,6 +129,14 @@ fn read_with(word: &[u8], arguments: Arguments) -> Option<Command>
         read_leave(arguments)
     } else if word == b"type".as_slice() {
         read_definition(arguments)
+    } else if word == b"pool".as_slice() {
+        read_pool(arguments)
+    } else if word == b"chmod".as_slice() {
+        read_chmod(arguments)
+    } else if word == b"drop".as_slice() {
+        read_drop(arguments)
+    } else if word == b"pools".as_slice() {
+        read_pools(arguments)
     } else if word == b"cut".as_slice() {
         read_cut(arguments)
     } else if word == b"arm".as_slice() {

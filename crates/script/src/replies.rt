@@ -16,8 +16,12 @@ fn word_of(refusal: Refusal) -> &'static [u8]
         Refusal::Bad => b"bad",
         Refusal::Client => b"client",
         Refusal::Taken => b"taken",
+        Refusal::Pool => b"pool",
+        Refusal::Exists => b"exists",
+        Refusal::Denied => b"denied",
         Refusal::Clash => b"clash",
         Refusal::Full => b"full",
+        Refusal::Space => b"space",
     }
 }
 

@@ -1,17 +1,11 @@
-//! Tests of the registry floor over its public calls: a device judged and brought up to date, the log-space table, the type
-//! table, the pool table, the puddle table, and what is read of puddles: addresses, free bases, headers and slots.
+//! Tests of the registry floor over its public calls: a device judged and brought up to date, the log-space table and the type
+//! table.
 #![tactic(auto)]
 
-#[cfg(test)]
-mod device;
 #[cfg(test)]
 mod judging;
 #[cfg(test)]
 mod loading;
-#[cfg(test)]
-mod places;
-#[cfg(test)]
-mod pools;
 #[cfg(test)]
 mod sound_pools;
 #[cfg(test)]

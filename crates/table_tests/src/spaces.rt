@@ -1,13 +1,14 @@
 //! The log-space table: clients' logs registered, freed and closed.
-use crate::device::{
-    DONE, EVERY_OTHER, LOST, NEWEST, NONE, OLDEST, Row, blank_with, done, has, leaves, number, word,
-};
-use log_space::{clear_spaces, close_logs, free_log, is_registered, register, unregister};
+use log_space::{clear_spaces, close_logs, free_log, is_registered, owner, register, unregister};
 use pm_model::Host;
 use pud_defs::layout::{CLIENTS, MIN_FRAMES, device_words};
+use pud_defs::records::owner_word;
 use registry::load_sound;
 use std::alloc::Global;
 use std::process::Abort;
+use test_tables::{
+    DONE, EVERY_OTHER, LOST, NEWEST, NONE, OLDEST, Row, blank_with, done, has, leaves, number, word,
+};
 
 /// A call for a client.
 #[derive(Clone, Copy)]
@@ -15,6 +16,7 @@ enum Call {
     Register,
     Unregister,
     IsRegistered,
+    Owner,
     FreeLog,
     CloseLogs,
     Clear,
@@ -32,6 +34,10 @@ fn answer<H: Host>(rt: &impl Abort, host: &mut H, call: Call, client: u32) -> u6
         Call::Register => done(register(host, client, 5, 6)),
         Call::Unregister => done(unregister(host, client)),
         Call::IsRegistered => number(is_registered(host, client).map(u64::from)),
+        Call::Owner => number(owner(host, client).map(|found| found.map_or(
+            NONE,
+            |o| owner_word(o.uid, o.gid),
+        ))),
         Call::FreeLog => {
             number(free_log(host, MIN_FRAMES, client).map(|k| k.map_or(NONE, u64::from)))
         }
@@ -87,6 +93,34 @@ fn a_record_is_registered_and_freed(rt: HostRuntime) {
         (64, CLOSED),
     ];
     run_on(&rt, rt.alloc(), &[], &rows, &left);
+}
+
+// The owner word has the uid in its lower half and the gid in its upper one.
+#[test]
+fn a_registered_client_has_its_owner(rt: HostRuntime) {
+    let rows = [
+        (Call::Owner, 2, NONE),
+        (Call::Register, 2, DONE),
+        (Call::Owner, 2, 25_769_803_781),
+        (Call::Owner, 3, NONE),
+        (Call::Unregister, 2, DONE),
+        (Call::Owner, 2, NONE),
+    ];
+    run_on(&rt, rt.alloc(), &[], &rows, &[(1_488, 0)]);
+    // A record of no legal first word, and one of halves that do not fit.
+    let words = [
+        (1_472, 2),
+        (1_473, 5),
+        (1_474, 6),
+        (1_528, 1),
+        (1_529, (1 << 32) + 7),
+        (1_530, u64::MAX),
+    ];
+    let rows = [
+        (Call::Owner, 0, NONE),
+        (Call::Owner, 7, 0xffff_ffff_0000_0007),
+    ];
+    run_on(&rt, rt.alloc(), &words, &rows, &words);
 }
 
 #[test]

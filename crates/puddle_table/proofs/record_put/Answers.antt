@@ -1,5 +1,15 @@
+use Rattle.std.proofs.Common.{ap, ◌∙◌, arith}
+use Rattle.pud_defs.specs.declared.records.Put.{Put}
+use Rattle.pud_defs.specs.Tables.{tables_of}
+use Rattle.pud_defs.specs.Puts.{with_put}
+use Rattle.pud_defs.proofs.PutsMade.{puddle_put_made}
 use Rattle.puddle_table.proofs.Search.{put_same}
 use Rattle.puddle_table.proofs.record_put.Goals as goal
 
-pub returns : goal.returns
-returns c = put_same c.args.frame c.args.rec c.record_at.result c.member_word-member.result c.from.result c.record_at.ensures c.member_word-member.ensures c.from.ensures
+pub returns-clause-put : goal.returns-clause-put
+returns-clause-put c = put_same c.args.frame c.args.rec c.record_at.result c.member_word-member.result c.from.result c.record_at.ensures c.member_word-member.ensures c.from.ensures
+
+pub returns-clause-changes : goal.returns-clause-changes
+returns-clause-changes c = λ frames image within.
+    let same = put_same c.args.frame c.args.rec c.record_at.result c.member_word-member.result c.from.result c.record_at.ensures c.member_word-member.ensures c.from.ensures in
+    ap (λ (put : Put). tables_of frames (with_put put image)) same ∙ puddle_put_made frames image c.args.frame c.args.rec within (omega (arith, c.requires.pool))

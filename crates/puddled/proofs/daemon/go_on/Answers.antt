@@ -4,7 +4,7 @@ use Rattle.pm_model.specs.declared.host.HostFault.{HostFault}
 use Rattle.pm_model.specs.declared.host.HostFault.TheVariants as hosts
 use Rattle.pm_model.specs.Words.{reads}
 use Rattle.pm_model.specs.Counts.{fault_of}
-use Rattle.pud_defs.specs.declared.machine.Reply.{Reply}
+use Rattle.puddled.specs.declared.answers.Answered.{Answered}
 use Rattle.pud_defs.specs.World.{world_of}
 use Rattle.pud_defs.specs.Grammar.{command_of}
 use Rattle.puddled.specs.Memory.{Memory}
@@ -21,7 +21,7 @@ returns-in_err-daemon-in-Err-Cut-clause-settles g c = λ t size e w line counted
     let p = err_from_is_err_and c.from_residual.result c.from_residual.ensures.1 in
     let is : c.args.done ≡ Err hosts.Cut = c.in-Err-Cut.is ∙ ap Err (rw c.in-Err-Cut.is at c.in-Err-Cut.field-0-is) in
     let mid = g.H.Host.state c.args.h.now in
-    let k = subst (λ (r : Result Reply HostFault). CarriesOut size w c.args.daemon.now (command_of line) r counted (g.H.Host.counts c.args.h.now) before mid) is carries in
+    let k = subst (λ (r : Result Answered HostFault). CarriesOut size w c.args.daemon.now (command_of line) r counted (g.H.Host.counts c.args.h.now) before mid) is carries in
     let fault = c.in_err-daemon-in-Err-Cut.field-0.0 in
     let next = found_world size w _ line _ _ before mid k shelf in
     rw (p.1, p.2) (Settles-unstarted size w _ line _ _ before mid k shelf _ _ _ fault
@@ -35,39 +35,39 @@ pub returns-in_err-daemon-in-Err-Cut-clause-cause : goal.returns-in_err-daemon-i
 returns-in_err-daemon-in-Err-Cut-clause-cause g c = λ counted counts.
     let p = err_from_is_err_and c.from_residual.result c.from_residual.ensures.1 in
     let is : c.args.done ≡ Err hosts.Cut = c.in-Err-Cut.is ∙ ap Err (rw c.in-Err-Cut.is at c.in-Err-Cut.field-0-is) in
-    let k = subst (λ (r : Result Reply HostFault). CountsCommand (kind_of (Some c.args.command)) (fault_of r) counted (g.H.Host.counts c.args.h.now)) is counts in
+    let k = subst (λ (r : Result Answered HostFault). CountsCommand (kind_of (Some c.args.command)) (fault_of r) counted (g.H.Host.counts c.args.h.now)) is counts in
     rw (p.1, p.2) (kind_unstarted (kind_of (Some c.args.command)) c.in_err-daemon-in-Err-Cut.field-0.0 _ _ _ k c.in_err-daemon-in-Err-Cut.ensures.cause)
 
 pub returns-in-Ok-clause-settles : goal.returns-in-Ok-clause-settles
 returns-in-Ok-clause-settles g c = λ t size e w line counted before of_line shelf carries.
-    Settles-done size w _ line _ _ before _ c.in-Ok.reply
-    (subst (λ (r : Result Reply HostFault). CarriesOut size w c.args.daemon.now (command_of line) r counted (g.H.Host.counts c.args.h.now) before (g.H.Host.state c.args.h.now)) c.in-Ok.is carries)
+    Settles-done size w _ line _ _ before _ c.in-Ok.answered
+    (subst (λ (r : Result Answered HostFault). CarriesOut size w c.args.daemon.now (command_of line) r counted (g.H.Host.counts c.args.h.now) before (g.H.Host.state c.args.h.now)) c.in-Ok.is carries)
 
 pub returns-in-Ok-clause-cause : goal.returns-in-Ok-clause-cause
 returns-in-Ok-clause-cause g c = λ counted counts.
-    kind_done (kind_of (Some c.args.command)) _ _ (subst (λ (r : Result Reply HostFault). CountsCommand (kind_of (Some c.args.command)) (fault_of r) counted (g.H.Host.counts c.args.h.now)) c.in-Ok.is counts)
+    kind_done (kind_of (Some c.args.command)) _ _ (subst (λ (r : Result Answered HostFault). CountsCommand (kind_of (Some c.args.command)) (fault_of r) counted (g.H.Host.counts c.args.h.now)) c.in-Ok.is counts)
 
 pub returns-in-Ok-clause-restarted : goal.returns-in-Ok-clause-restarted
 returns-in-Ok-clause-restarted g c = λ t rested counted counts ok moved.
     absurd (no_power_lost (kind_of (Some c.args.command)) _ _
-    (subst (λ (r : Result Reply HostFault). CountsCommand (kind_of (Some c.args.command)) (fault_of r) counted (g.H.Host.counts c.args.h.now)) c.in-Ok.is counts) moved)
+    (subst (λ (r : Result Answered HostFault). CountsCommand (kind_of (Some c.args.command)) (fault_of r) counted (g.H.Host.counts c.args.h.now)) c.in-Ok.is counts) moved)
 
 pub returns-in-Err-Failed-clause-settles : goal.returns-in-Err-Failed-clause-settles
 returns-in-Err-Failed-clause-settles g c = λ t size e w line counted before of_line shelf carries.
     let is : c.args.done ≡ Err hosts.Failed = c.in-Err-Failed.is ∙ ap Err (rw c.in-Err-Failed.is at c.in-Err-Failed.field-0-is) in
     Settles-failed size w _ line _ _ before _ _
-    (subst (λ (r : Result Reply HostFault). CarriesOut size w c.args.daemon.now (command_of line) r counted (g.H.Host.counts c.args.h.now) before (g.H.Host.state c.args.h.now)) is carries)
+    (subst (λ (r : Result Answered HostFault). CarriesOut size w c.args.daemon.now (command_of line) r counted (g.H.Host.counts c.args.h.now) before (g.H.Host.state c.args.h.now)) is carries)
 
 pub returns-in-Err-Failed-clause-cause : goal.returns-in-Err-Failed-clause-cause
 returns-in-Err-Failed-clause-cause g c = λ counted counts.
     let is : c.args.done ≡ Err hosts.Failed = c.in-Err-Failed.is ∙ ap Err (rw c.in-Err-Failed.is at c.in-Err-Failed.field-0-is) in
-    kind_faulty (kind_of (Some c.args.command)) _ _ (subst (λ (r : Result Reply HostFault). CountsCommand (kind_of (Some c.args.command)) (fault_of r) counted (g.H.Host.counts c.args.h.now)) is counts)
+    kind_faulty (kind_of (Some c.args.command)) _ _ (subst (λ (r : Result Answered HostFault). CountsCommand (kind_of (Some c.args.command)) (fault_of r) counted (g.H.Host.counts c.args.h.now)) is counts)
 
 pub returns-in_ok-daemon-in-Err-Cut-clause-settles : goal.returns-in_ok-daemon-in-Err-Cut-clause-settles
 returns-in_ok-daemon-in-Err-Cut-clause-settles g c = λ t size e w line counted before of_line shelf carries.
     let is : c.args.done ≡ Err hosts.Cut = c.in-Err-Cut.is ∙ ap Err (rw c.in-Err-Cut.is at c.in-Err-Cut.field-0-is) in
     let mid = g.H.Host.state c.args.h.now in
-    let k = subst (λ (r : Result Reply HostFault). CarriesOut size w c.args.daemon.now (command_of line) r counted (g.H.Host.counts c.args.h.now) before mid) is carries in
+    let k = subst (λ (r : Result Answered HostFault). CarriesOut size w c.args.daemon.now (command_of line) r counted (g.H.Host.counts c.args.h.now) before mid) is carries in
     let next = found_world size w _ line _ _ before mid k shelf in
     rw c.reply_behind_loss.ensures (Settles-again size w _ line _ _ before mid k shelf _ _ _ (kind_of (Some c.args.command)) (ap kind_of of_line)
     (c.in_ok-daemon-in-Err-Cut.ensures.recovers t size e next (k.applies.rests refl) (found_stands size w _ line _ _ before mid k shelf) (found_shelf size w _ line _ _ before mid k shelf))
@@ -76,7 +76,7 @@ returns-in_ok-daemon-in-Err-Cut-clause-settles g c = λ t size e w line counted 
 pub returns-in_ok-daemon-in-Err-Cut-clause-cause : goal.returns-in_ok-daemon-in-Err-Cut-clause-cause
 returns-in_ok-daemon-in-Err-Cut-clause-cause g c = λ counted counts.
     let is : c.args.done ≡ Err hosts.Cut = c.in-Err-Cut.is ∙ ap Err (rw c.in-Err-Cut.is at c.in-Err-Cut.field-0-is) in
-    kind_restarted (kind_of (Some c.args.command)) _ _ _ (subst (λ (r : Result Reply HostFault). CountsCommand (kind_of (Some c.args.command)) (fault_of r) counted (g.H.Host.counts c.args.h.now)) is counts)
+    kind_restarted (kind_of (Some c.args.command)) _ _ _ (subst (λ (r : Result Answered HostFault). CountsCommand (kind_of (Some c.args.command)) (fault_of r) counted (g.H.Host.counts c.args.h.now)) is counts)
     c.in_ok-daemon-in-Err-Cut.ensures.cause
 
 pub returns-in_ok-daemon-in-Err-Cut-clause-restarted : goal.returns-in_ok-daemon-in-Err-Cut-clause-restarted
@@ -85,4 +85,4 @@ returns-in_ok-daemon-in-Err-Cut-clause-restarted g c = λ t rested counted count
     let is : c.args.done ≡ Err hosts.Cut = c.in-Err-Cut.is ∙ ap Err (rw c.in-Err-Cut.is at c.in-Err-Cut.field-0-is) in
     sound_recovered (g.H.Host.counts c.args.h.now).size (Ok _) mid _ refl
     (λ none. absurd (let it = (c.in_ok-daemon-in-Err-Cut.ensures.not_sound t refl).1 none in cc it))
-    (λ w world shelf. c.in_ok-daemon-in-Err-Cut.ensures.recovers t (g.H.Host.counts c.args.h.now).size refl w (rested (ap (λ (r : Result Reply HostFault). fault_of r) is)) world shelf)
+    (λ w world shelf. c.in_ok-daemon-in-Err-Cut.ensures.recovers t (g.H.Host.counts c.args.h.now).size refl w (rested (ap (λ (r : Result Answered HostFault). fault_of r) is)) world shelf)

@@ -9,6 +9,7 @@ use Rattle.pud_defs.specs.World.{world_of}
 use Rattle.pud_defs.specs.Grammar.{command_of}
 use Rattle.pud_defs.specs.Changing.{file_in}
 use Rattle.puddled.specs.Faults.{kind_of, run_fault, CountsLine}
+use Rattle.puddled.specs.declared.answers.Answered.TheVariants as answers
 use Rattle.puddled.specs.Daemon.{KeepsLine, CarriesOut}
 use Rattle.puddled.proofs.Counted.{size_of_command}
 use Rattle.puddled.proofs.Carrying.{CarriesOut-bad, KeepsLine-then}
@@ -18,7 +19,7 @@ use Rattle.puddled.proofs.daemon.settle.Goals as goal
 pub returns-in-Err-clause-settles : goal.returns-in-Err-clause-settles
 returns-in-Err-clause-settles g c = λ t size e w ready.
     Settles-done size w _ c.args.line.now _ _ _ _ _
-    (subst (λ (o : Option Command). CarriesOut size w c.args.daemon.now o (Ok (replies.No refusals.Bad)) (g.H.Host.counts c.args.h.now) (g.H.Host.counts c.args.h.now) (g.H.Host.state c.args.h.now) (g.H.Host.state c.args.h.now)) c.in-Err.ensures.command (CarriesOut-bad size w c.args.daemon.now _ _ _ _ ready refl refl))
+    (subst (λ (o : Option Command). CarriesOut size w c.args.daemon.now o (Ok (answers.Reply (replies.No refusals.Bad))) (g.H.Host.counts c.args.h.now) (g.H.Host.counts c.args.h.now) (g.H.Host.state c.args.h.now) (g.H.Host.state c.args.h.now)) c.in-Err.ensures.command (CarriesOut-bad size w c.args.daemon.now _ _ _ _ ready refl refl))
 
 pub returns-in-Ok-clause-settles : goal.returns-in-Ok-clause-settles
 returns-in-Ok-clause-settles g c = λ t size e w ready.

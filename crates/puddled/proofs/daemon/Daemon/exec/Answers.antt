@@ -1,54 +1,57 @@
-use Rattle.std.proofs.Common.{None, Some, Ok, Err, refl, subst}
+use Rattle.std.proofs.Common.{None, Some, Ok, Err, refl, ap, subst}
 use Rattle.std.proofs.lemmas.Result.{err_from_is_err_and}
+use Rattle.pm_model.specs.Words.{reads}
 use Rattle.pm_model.specs.Counts.{Counts}
 use Rattle.puddled.specs.Faults.{of_host, HasLostPower}
 use Rattle.puddled.proofs.Counted.{not_none, none_is_sound, counted_say, counted_same, host_is_sound}
+use Rattle.puddled.specs.Memory.{Memory}
+use Rattle.puddled.proofs.Listed.{said_by}
 use Rattle.puddled.proofs.Lines.{Answers-fault, Answers-unsaid, Answers-said, KeepsLine-says, sound_said}
 use Rattle.puddled.proofs.daemon.Daemon.exec.Goals as goal
-use Rattle.puddled.proofs.daemon.Daemon.exec.Goals.{then-aloud+in_ok-say_reply, else-aloud}
+use Rattle.puddled.proofs.daemon.Daemon.exec.Goals.{then-aloud+in_ok-say_answer, else-aloud}
 
-pub returns-in_err-reply-clause-answers : goal.returns-in_err-reply-clause-answers
-returns-in_err-reply-clause-answers g c =
+pub returns-in_err-answered-clause-answers : goal.returns-in_err-answered-clause-answers
+returns-in_err-answered-clause-answers g c =
     let p = err_from_is_err_and c.from_residual.result c.from_residual.ensures.1 in
-    rw (p.1, p.2) (λ t size e w ready. Answers-fault size w _ c.args.line.now c.args.aloud _ _ _ _ _ (c.in_err-reply.ensures.settles t size e w ready))
+    rw (p.1, p.2) (λ t size e w ready. Answers-fault size w _ c.args.line.now c.args.aloud _ _ _ _ _ (c.in_err-answered.ensures.settles t size e w ready))
 
-pub returns-in_err-say_reply-clause-answers : goal.returns-in_err-say_reply-clause-answers
-returns-in_err-say_reply-clause-answers g c =
-    let p = err_from_is_err_and c.from_residual-in_err-say_reply.result c.from_residual-in_err-say_reply.ensures.1 in
+pub returns-in_err-say_answer-clause-answers : goal.returns-in_err-say_answer-clause-answers
+returns-in_err-say_answer-clause-answers g c =
+    let p = err_from_is_err_and c.from_residual-in_err-say_answer.result c.from_residual-in_err-say_answer.ensures.1 in
     rw (p.1, p.2, c.if-aloud.true) (λ t size e w ready.
-    let s = c.in_ok-reply.ensures.settles t size e w ready in
-    let fault = c.in_err-say_reply.field-0.0 in
-    Answers-said size w _ c.args.line.now _ _ _ _ _ _ _ s (Err (of_host fault)) (Some fault) (c.in_err-say_reply.ensures.says t) (λ no. absurd (not_none (of_host fault) no)) tt (host_is_sound fault)
-    (counted_say _ fault _ _ _ _ s.counted c.in_err-say_reply.ensures.cause c.in_err-say_reply.ensures.never_cut))
+    let s = c.in_ok-answered.ensures.settles t size e w ready in
+    let fault = c.in_err-say_answer.field-0.0 in
+    Answers-said size w _ c.args.line.now _ _ _ _ _ _ _ s (Err (of_host fault)) (Some fault) (said_by _ _ (reads (g.H.Host.state c.settle.new.h).now.words) c.in_ok-answered.answered _ _ _ (ap (λ (m : Memory). m.frames) c.self.view_is) (c.in_err-say_answer.ensures.says t _ refl)) (λ no. absurd (not_none (of_host fault) no)) (λ v. tt) (host_is_sound fault)
+    (counted_say _ fault _ _ _ _ s.counted c.in_err-say_answer.ensures.cause c.in_err-say_answer.ensures.never_cut))
 
 pub returns-clause-restarted : goal.returns-clause-restarted
 returns-clause-restarted g c = λ t. elim c.if-aloud.branch [
-  | then-aloud+in_ok-say_reply b ↦
-      rw b.h-is (λ _ moved. sound_said _ _ _ _ _ (b.in_ok-say_reply.ensures.says t)
-      (c.in_ok-reply.ensures.restarted t refl (subst (λ (x : Counts). HasLostPower (g.H.Host.counts c.args.h.now) x) b.in_ok-say_reply.ensures.cause moved)))
-  | else-aloud b ↦ rw b.h-is (λ _ moved. c.in_ok-reply.ensures.restarted t refl moved)
+  | then-aloud+in_ok-say_answer b ↦
+      rw b.h-is (λ _ moved. sound_said _ _ _ _ _ (b.in_ok-say_answer.ensures.says t _ refl)
+      (c.in_ok-answered.ensures.restarted t refl (subst (λ (x : Counts). HasLostPower (g.H.Host.counts c.args.h.now) x) b.in_ok-say_answer.ensures.cause moved)))
+  | else-aloud b ↦ rw b.h-is (λ _ moved. c.in_ok-answered.ensures.restarted t refl moved)
 ]
 
 pub returns-clause-answers : goal.returns-clause-answers
 returns-clause-answers g c = λ t size e w ready.
-    let s = c.in_ok-reply.ensures.settles t size e w ready in
+    let s = c.in_ok-answered.ensures.settles t size e w ready in
     elim c.if-aloud.branch [
-      | then-aloud+in_ok-say_reply b ↦
-          rw (b.if-aloud.true, b.h-is) (Answers-said size w _ c.args.line.now _ _ _ _ _ _ _ s (Ok c.is_ok.result) None (b.in_ok-say_reply.ensures.says t) (λ _. refl)
-          c.is_ok.ensures (none_is_sound) (counted_same _ _ _ _ _ _ s.counted b.in_ok-say_reply.ensures.cause))
+      | then-aloud+in_ok-say_answer b ↦
+          rw (b.if-aloud.true, b.h-is) (Answers-said size w _ c.args.line.now _ _ _ _ _ _ _ s (Ok c.is_ok.result) None (said_by _ _ (reads (g.H.Host.state c.settle.new.h).now.words) c.in_ok-answered.answered _ _ _ (ap (λ (m : Memory). m.frames) c.self.view_is) (b.in_ok-say_answer.ensures.says t _ refl)) (λ _. refl)
+          c.is_ok.ensures (none_is_sound) (counted_same _ _ _ _ _ _ s.counted b.in_ok-say_answer.ensures.cause))
       | else-aloud b ↦ rw (b.if-aloud.false, b.h-is) (Answers-unsaid size w _ c.args.line.now _ c.is_ok.result _ _ _ _ s c.is_ok.ensures)
     ]
 
-pub returns-in_err-say_reply-clause-cause : goal.returns-in_err-say_reply-clause-cause
-returns-in_err-say_reply-clause-cause g c =
-    let p = err_from_is_err_and c.from_residual-in_err-say_reply.result c.from_residual-in_err-say_reply.ensures.1 in
-    rw (p.1, p.2) (counted_say _ c.in_err-say_reply.field-0.0 _ _ _ _ c.in_ok-reply.ensures.cause c.in_err-say_reply.ensures.cause c.in_err-say_reply.ensures.never_cut)
+pub returns-in_err-say_answer-clause-cause : goal.returns-in_err-say_answer-clause-cause
+returns-in_err-say_answer-clause-cause g c =
+    let p = err_from_is_err_and c.from_residual-in_err-say_answer.result c.from_residual-in_err-say_answer.ensures.1 in
+    rw (p.1, p.2) (counted_say _ c.in_err-say_answer.field-0.0 _ _ _ _ c.in_ok-answered.ensures.cause c.in_err-say_answer.ensures.cause c.in_err-say_answer.ensures.never_cut)
 
-pub returns-in_err-say_reply-clause-rest : goal.returns-in_err-say_reply-clause-rest
-returns-in_err-say_reply-clause-rest g c = λ t. KeepsLine-says _ _ _ _ _ _ (c.in_ok-reply.ensures.rest t) (c.in_err-say_reply.ensures.says t)
+pub returns-in_err-say_answer-clause-rest : goal.returns-in_err-say_answer-clause-rest
+returns-in_err-say_answer-clause-rest g c = λ t. KeepsLine-says _ _ _ _ _ _ (c.in_ok-answered.ensures.rest t) (c.in_err-say_answer.ensures.says t _ refl)
 
 pub returns-clause-rest : goal.returns-clause-rest
 returns-clause-rest g c = λ t. elim c.if-aloud.branch [
-  | then-aloud+in_ok-say_reply b ↦ rw b.h-is (KeepsLine-says _ _ _ _ _ _ (c.in_ok-reply.ensures.rest t) (b.in_ok-say_reply.ensures.says t))
-  | else-aloud b ↦ rw b.h-is (c.in_ok-reply.ensures.rest t)
+  | then-aloud+in_ok-say_answer b ↦ rw b.h-is (KeepsLine-says _ _ _ _ _ _ (c.in_ok-answered.ensures.rest t) (b.in_ok-say_answer.ensures.says t _ refl))
+  | else-aloud b ↦ rw b.h-is (c.in_ok-answered.ensures.rest t)
 ]

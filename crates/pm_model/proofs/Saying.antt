@@ -1,0 +1,49 @@
+-- How what is said composes: some bytes and then others, a fault that comes first, and calls that say nothing.
+use Rattle.std.proofs.Common.{◌≡◌, ℕ, ◌+◌, List, [], ◌∷◌, ◌++◌, length, take, Option, Some, None, refl, sym, ap, ◌∙◌, subst, arith, length-append}
+use Rattle.std.proofs.Math.Seq.{take-length, take-append-add}
+use Rattle.std.proofs.lemmas.List.{take-append-le}
+use Rattle.pm_model.specs.declared.host.HostFault.{HostFault}
+use Rattle.pm_model.specs.Moments.{State, one_said, all_said}
+use Rattle.pm_model.specs.Calls.{Says}
+
+some_is_not_none : (fault : HostFault) → Some fault ≡ None → ⊥
+some_is_not_none fault e = cc
+
+all_said-append : (front rest : List ℕ) (s : State) → all_said (front ++ rest) s ≡ all_said rest (all_said front s)
+all_said-append [] rest s = refl
+all_said-append (b ∷ front) rest s = all_said-append front rest (one_said b s)
+
+-- no byte is said
+pub Says-nothing : (old new : State) → new ≡ old → Says [] None old new
+Says-nothing old new e = record { count = 0; within = omega arith; is = e; whole = λ none. refl }
+
+-- the fault comes before a byte is said
+pub Says-unsaid : (bytes : List ℕ) (fault : HostFault) (old new : State) → new ≡ old → Says bytes (Some fault) old new
+Says-unsaid bytes fault old new e = record { count = 0; within = omega arith; is = e; whole = λ none. absurd (some_is_not_none fault none) }
+
+-- all of the front is said, and then the rest
+pub Says-then : (front rest : List ℕ) (fault : Option HostFault) (a b c : State) → Says front None a b → Says rest fault b c → Says (front ++ rest) fault a c
+Says-then front rest fault a b c p q =
+    let all : b ≡ all_said front a = p.is ∙ ap (λ n. all_said (take n front) a) (p.whole refl) ∙ ap (λ bytes. all_said bytes a) (take-length front) in
+    let within = q.within in
+    record {
+      count = length front + q.count;
+      within = omega (arith, length-append front rest);
+      is = q.is ∙ ap (all_said (take q.count rest)) all ∙ sym (all_said-append front (take q.count rest) a) ∙ ap (λ bytes. all_said bytes a) (sym (take-append-add front rest q.count));
+      whole = λ none. let e = q.whole none in omega (arith, length-append front rest);
+    }
+
+-- the fault comes in the front
+pub Says-front : (front rest : List ℕ) (fault : HostFault) (old new : State) → Says front (Some fault) old new → Says (front ++ rest) (Some fault) old new
+Says-front front rest fault old new p =
+    let within = p.within in
+    record {
+      count = p.count;
+      within = omega (arith, length-append front rest);
+      is = p.is ∙ ap (λ bytes. all_said bytes old) (sym (take-append-le p.count front rest p.within));
+      whole = λ none. absurd (some_is_not_none fault none);
+    }
+
+-- calls in front leave the state as it was
+pub Says-behind : (bytes : List ℕ) (fault : Option HostFault) (a b c : State) → b ≡ a → Says bytes fault b c → Says bytes fault a c
+Says-behind bytes fault a b c e p = subst (λ (s : State). Says bytes fault s c) e p

@@ -1,0 +1,98 @@
+-- What sound tables list is the text of the pools that they stand for.
+use Rattle.std.proofs.Common.{◌≡◌, ℕ, ◌%◌, ◌^◌, ◌<◌, List, ◌++◌, map, Option, Some, None, option_map, codes, refl, sym, ap, ap₂, ◌∙◌, subst, arith, true, ◌&&◌, leb, leb-true, eqb, ◌/◌}
+use Rattle.std.specs.List.{AllByRecursion, flat_map}
+use Rattle.std.proofs.lemmas.Bool.{and_parts}
+use Rattle.std.proofs.lemmas.Option.{none-some, same_Some}
+use Rattle.std.proofs.lemmas.List.Folds.{flat_map-map}
+use Rattle.pud_defs.specs.declared.layout.TheConstants.{MAX_OWNER_ID}
+use Rattle.pud_defs.specs.declared.records.TheConstants.{POOL_RECORDS, MAX_MODE}
+use Rattle.pud_defs.specs.declared.records.PoolRec.{PoolRec}
+use Rattle.pud_defs.specs.Names.{name_cmp, is_legal_name}
+use Rattle.pud_defs.specs.Modes.{is_legal_mode}
+use Rattle.pud_defs.specs.Keyed.{keyed}
+use Rattle.pud_defs.specs.Pools.{pool_read, is_given}
+use Rattle.pud_defs.specs.Spaces.{owner}
+use Rattle.pud_defs.specs.Tables.{Tables, Pool, puddles_of, named, records_of, pool_of, entries, pools_of}
+use Rattle.pud_defs.specs.SoundTables.{is_sound_pool, HasSoundTables}
+use Rattle.pud_defs.specs.World.{StoredWorld}
+use Rattle.pud_defs.specs.Step.Answer.{of_text}
+use Rattle.pud_defs.specs.Texts.{line_of, answer_text}
+use Rattle.pud_defs.specs.Listing.{pool_text, pools_text}
+use Rattle.pud_defs.proofs.KeyedEach.{each-keyed, flat_map-each, each-weaker}
+use Rattle.pud_defs.proofs.KeyedMaps.{of_entry, keyed-mapped}
+use Rattle.pud_defs.proofs.Listing.{in_one_line-pools_text}
+use Rattle.pud_defs.proofs.PoolsChanged.{same_name}
+use Rattle.pud_defs.proofs.PoolsCounted.{length_puddles}
+use Rattle.pud_defs.proofs.SoundChanged.{legal_pool}
+use Rattle.pool_list.specs.Listed.{record_text, puddles_counted, listed_text}
+
+-- ---- the records of the list stand in the table
+
+record IsPlaced (t : Tables) (e : List ℕ × (ℕ × PoolRec)) : Type 0 where
+  below : e.1.0 < POOL_RECORDS
+  used : t.pools e.1.0 ≡ Some e.1.1
+  name : e.1.1.name ≡ e.0
+
+placed : (t : Tables) (slot : ℕ) → slot < POOL_RECORDS → (o : Option PoolRec) → t.pools slot ≡ o → (e : List ℕ × (ℕ × PoolRec)) → option_map (λ r. (r.name, (slot, r))) o ≡ Some e → IsPlaced t e
+placed t slot below None is e there = absurd (none-some e there)
+placed t slot below (Some r) is e there = subst (IsPlaced t) (same_Some (r.name, (slot, r)) e there) (record { below = below; used = is; name = refl })
+
+each_placed : (t : Tables) → AllByRecursion (IsPlaced t) (records_of t)
+unfolding records_of
+each_placed t = each-keyed name_cmp same_name (IsPlaced t) (named t) 0 POOL_RECORDS (λ slot low high e is. placed t slot (omega arith) (t.pools slot) refl e is)
+
+-- ---- a legal record is read as it is
+
+mode_read : (mode : ℕ) → is_legal_mode mode ≡ true → mode % 2 ^ 32 ≡ mode
+mode_read mode legal =
+    let three = and_parts (leb mode MAX_MODE && eqb (mode % 2) 0 && eqb (mode / 8 % 2) 0) (eqb (mode / 64 % 2) 0) legal in
+    let two = and_parts (leb mode MAX_MODE && eqb (mode % 2) 0) (eqb (mode / 8 % 2) 0) three.0 in
+    let one = and_parts (leb mode MAX_MODE) (eqb (mode % 2) 0) two.0 in
+    let few = leb-true mode MAX_MODE one.0 in
+    omega arith
+
+legal_mode : (next : ℕ) (r : PoolRec) → is_sound_pool next (Some r) ≡ true → is_legal_mode r.mode ≡ true
+legal_mode next r sound =
+    let four = and_parts (is_legal_name r.name && leb r.uid MAX_OWNER_ID && leb r.gid MAX_OWNER_ID && is_legal_mode r.mode) (is_given next r.number) sound in
+    (and_parts (is_legal_name r.name && leb r.uid MAX_OWNER_ID && leb r.gid MAX_OWNER_ID) (is_legal_mode r.mode) four.0).1
+
+-- ---- the pools are the records, each with its puddles
+
+abbrev pool_here : Tables → ℕ × PoolRec → Pool
+pool_here t e = pool_of e.1 (puddles_of t e.0)
+
+entry_here : (t : Tables) (slot : ℕ) (o : Option PoolRec) → option_map (λ r. (r.name, pool_of r (puddles_of t slot))) o ≡ option_map (of_entry name_cmp (pool_here t)) (option_map (λ r. (r.name, (slot, r))) o)
+entry_here t slot None = refl
+entry_here t slot (Some r) = refl
+
+pools_of-records : (t : Tables) → pools_of t ≡ map (of_entry name_cmp (pool_here t)) (records_of t)
+unfolding pools_of records_of
+pools_of-records t =
+    let each : (slot : ℕ) → entries t slot ≡ option_map (of_entry name_cmp (pool_here t)) (named t slot) = λ slot. entry_here t slot (t.pools slot) in
+    (λ p. keyed name_cmp (λ slot. each slot p) 0 POOL_RECORDS) ∙ keyed-mapped name_cmp (pool_here t) (named t) 0 POOL_RECORDS
+
+module _ (next : ℕ) (t : Tables) (sound : HasSoundTables next t) (id : ℕ) where
+  -- the text of a record, as it was read and counted
+  text_here : (e : List ℕ × (ℕ × PoolRec)) → IsPlaced t e → record_text id (pool_read e.1.1) (puddles_counted t e.1.0) ≡ pool_text id (e.0, pool_here t e.1)
+  unfolding pool_of
+  text_here e p =
+      let r = e.1.1 in
+      let legal = ap (is_sound_pool next) (sym p.used) ∙ legal_pool next t sound e.1.0 p.below in
+      ap₂ (λ (mode puddles : ℕ). pool_text id (r.name, record { owner = owner r.uid r.gid; mode = mode; number = r.number; puddles = puddles }))
+      (mode_read r.mode (legal_mode next r legal)) (sym (length_puddles next t sound e.1.0 p.below))
+      ∙ ap (λ (name : List ℕ). pool_text id (name, pool_here t e.1)) p.name
+
+  listed_pools : listed_text id t ≡ flat_map (pool_text id) (pools_of t)
+  unfolding listed_text
+  listed_pools =
+      flat_map-map (λ e. record_text id e.1 (puddles_counted t e.0)) (λ e. (e.1.0, pool_read e.1.1)) (records_of t)
+      ∙ flat_map-each _ _ (records_of t) (each-weaker (IsPlaced t) _ (records_of t) text_here (each_placed t))
+      ∙ sym (flat_map-map (pool_text id) (of_entry name_cmp (pool_here t)) (records_of t))
+      ∙ sym (ap (flat_map (pool_text id)) (pools_of-records t))
+
+-- the list of sound tables is the answer of the world that they stand for
+pub line_of-listed_text : (next : ℕ) (t : Tables) (s : StoredWorld) (id : ℕ) → HasSoundTables next t → pools_of t ≡ s.pools → id ≡ s.machine → line_of (codes "ok" ++ listed_text id t) ≡ answer_text (of_text (pools_text s))
+unfolding pools_text
+line_of-listed_text next t s id sound pools machine =
+    let same : listed_text id t ≡ pools_text s = listed_pools next t sound id ∙ ap₂ (λ (n : ℕ) (ps : List (List ℕ × Pool)). flat_map (pool_text n) ps) machine pools in
+    ap (λ text. line_of (codes "ok" ++ text)) (same ∙ sym (in_one_line-pools_text next t s sound pools))

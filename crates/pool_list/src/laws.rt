@@ -1,0 +1,16 @@
+//! The law of the list. The function here does nothing; its contract is the law.
+
+ghost use Rattle.std.specs.Prelude.{◌≡◌, ◌++◌, ℕ, codes};
+ghost use Rattle.pud_defs.specs.SoundTables.{HasSoundTables};
+ghost use Rattle.pud_defs.specs.Step.Answer.{of_text};
+ghost use Rattle.pud_defs.specs.Tables.{Tables, pools_of};
+ghost use Rattle.pud_defs.specs.Texts.{line_of, answer_text};
+ghost use Rattle.pud_defs.specs.Listing.{pools_text};
+ghost use Rattle.pud_defs.specs.World.{StoredWorld};
+ghost use Rattle.pool_list.specs.Listed.{listed_text};
+
+/// What is said of sound tables is the machine's answer to the command that lists the pools.
+pub fn sound_tables_list_their_pools()
+    ensures { (next : ℕ) (t : Tables) (s : StoredWorld) (id : ℕ) → HasSoundTables next t → pools_of t ≡ s.pools → id ≡ s.machine
+        → line_of (codes "ok" ++ listed_text id t) ≡ answer_text (of_text (pools_text s)) }
+{}

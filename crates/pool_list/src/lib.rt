@@ -1,0 +1,92 @@
+//! The list of the pools, said as one line.
+#![tactic(auto)]
+
+mod laws;
+mod text;
+
+ghost use Rattle.std.specs.Prelude.{◌≡◌, ◌≢◌, ◌≤◌, ◌++◌, ℕ, Option, All, codes, slice_index};
+ghost use Rattle.pm_model.specs.Words.{reads};
+ghost use Rattle.pm_model.specs.Counts.{after_fault, fault_of};
+ghost use Rattle.pm_model.specs.Calls.{Says};
+ghost use Rattle.pud_defs.specs.declared.layout.TheConstants.{MAX_FRAMES, MACHINE_WORD};
+ghost use Rattle.pud_defs.specs.Image.{Image};
+ghost use Rattle.pud_defs.specs.Layout.{tables_end};
+ghost use Rattle.pud_defs.specs.Tables.{tables_of};
+ghost use Rattle.pud_defs.specs.Texts.{line_of};
+ghost use Rattle.pool_table.specs.InOrder.{IsInSlot};
+ghost use Rattle.pool_list.specs.Listed.{record_text, records_text, listed_text};
+
+pub use laws::sound_tables_list_their_pools;
+use pm_model::{Host, HostFault};
+use pool_table::in_order;
+use pud_defs::layout::MACHINE_WORD;
+use pud_defs::records::{POOL_RECORDS, PoolRec};
+use puddle_table::count_by_pool;
+use text::pool_text;
+
+/// Says the pool of this record with so many puddles.
+fn say_pool<H: Host>(h: &mut H, id: u64, rec: &PoolRec, puddles: u32) -> Result<(), HostFault>
+    ensures says { H.tells → Says (record_text id rec.now puddles) (fault_of result) (H.state h.old) (H.state h.new) }
+    ensures cause { H.counts h.new ≡ after_fault (fault_of result) (H.counts h.old) }
+    ensures never_cut { fault_of result ≢ Option.Some HostFault.Cut }
+{
+    let text = pool_text(id, rec, puddles);
+    h.say(text.as_slice())
+}
+
+/// Says the pools of these records, each with its slot, in turn.
+fn say_each<H: Host>(
+    h: &mut H,
+    id: u64,
+    records: &[(u32, PoolRec)],
+    counts: &[u32; POOL_RECORDS as usize],
+) -> Result<(), HostFault>
+    requires { All IsInSlot records.now }
+    ensures says { H.tells
+        → Says (records_text id (slice_index counts.now) records.now) (fault_of result) (H.state h.old) (H.state h.new) }
+    ensures cause { H.counts h.new ≡ after_fault (fault_of result) (H.counts h.old) }
+    ensures never_cut { fault_of result ≢ Option.Some HostFault.Cut }
+{
+    for (slot, rec) in records {
+        say_pool(h, id, rec, counts[*slot as usize])?;
+    }
+    Ok(())
+}
+
+/// Says the line of the pools of these records, each with its slot.
+fn say_list<H: Host>(
+    h: &mut H,
+    id: u64,
+    records: &[(u32, PoolRec)],
+    counts: &[u32; POOL_RECORDS as usize],
+) -> Result<(), HostFault>
+    requires { All IsInSlot records.now }
+    ensures says { H.tells
+        → Says (line_of (codes "ok" ++ records_text id (slice_index counts.now) records.now)) (fault_of result) (H.state h.old) (H.state h.new) }
+    ensures cause { H.counts h.new ≡ after_fault (fault_of result) (H.counts h.old) }
+    ensures never_cut { fault_of result ≢ Option.Some HostFault.Cut }
+{
+    h.say(b"ok")?;
+    say_each(h, id, records, counts)?;
+    h.say(b"\n")
+}
+
+/// Says one line: `ok`, then for each used pool record, by ascending names, ` name:uid:gid:mode:puddles:identifier`. The
+/// puddles are the used puddle records that name the pool. Of several pool records of one name the one of the lowest slot
+/// counts.
+///
+/// The device has the tables of so many frames, whatever they hold. Nothing is written, and no memory is taken. The only errors
+/// are the host's own; the front of the line may then have been said.
+pub fn say_pools<H: Host>(h: &mut H, frames: u32) -> Result<(), HostFault>
+    requires few { frames ≤ MAX_FRAMES }
+    requires table { tables_end frames ≤ (H.counts h.old).size }
+    ensures says { H.tells → (image : Image) → reads (H.state h.old).now.words ≡ image
+        → Says (line_of (codes "ok" ++ listed_text (image MACHINE_WORD) (tables_of frames image))) (fault_of result) (H.state h.old) (H.state h.new) }
+    ensures cause { H.counts h.new ≡ after_fault (fault_of result) (H.counts h.old) }
+    ensures never_cut { fault_of result ≢ Option.Some HostFault.Cut }
+{
+    let records = in_order(h)?;
+    let counts = count_by_pool(h, frames)?;
+    let id = h.load(MACHINE_WORD)?;
+    say_list(h, id, records.as_slice(), &counts)
+}

@@ -1,0 +1,58 @@
+-- What makes, changes and drops a pool of a stored world.
+use Rattle.std.specs.Prelude.{ℕ, ◌+◌, Bool, ◌||◌, nat_le, nat_lt, List, length, sum_by, Option, Some, None, option_map, unwrap_or}
+use Rattle.std.specs.FinMap.Entries.{put, find}
+use Rattle.pud_defs.specs.declared.layout.TheConstants.{NUMBER_LIMIT}
+use Rattle.pud_defs.specs.declared.records.TheConstants.{POOL_RECORDS}
+use Rattle.pud_defs.specs.Spaces.{Owner}
+use Rattle.pud_defs.specs.Names.{name_cmp}
+use Rattle.pud_defs.specs.Keyed.{without}
+use Rattle.pud_defs.specs.Tables.{Pool}
+use Rattle.pud_defs.specs.World.{StoredWorld}
+
+-- the pool of a name, where there is one
+abbrev pub pool_named : List ℕ → StoredWorld → Option Pool
+pool_named name s = find name_cmp name s.pools
+
+-- ---- a pool is made
+
+-- how many UUID numbers a new pool draws: its own, and behind it that of its puddle
+abbrev pub NUMBERS_DRAWN : ℕ
+NUMBERS_DRAWN = 2
+
+-- too few UUID numbers are left
+abbrev pub lacks_numbers : ℕ → Bool
+lacks_numbers next = nat_lt NUMBER_LIMIT (next + NUMBERS_DRAWN)
+
+-- there are as many pools as the table has records, or too few UUID numbers are left
+abbrev pub is_full_of_pools : StoredWorld → Bool
+is_full_of_pools s = nat_le POOL_RECORDS (length s.pools) || lacks_numbers s.next_number
+
+-- how many frames have a puddle
+abbrev pub used_frames : StoredWorld → ℕ
+used_frames s = sum_by (λ e. e.1.puddles) s.pools
+
+-- there is no frame for so many puddles more
+abbrev pub lacks_frames : StoredWorld → ℕ → Bool
+lacks_frames s more = nat_lt s.frames (used_frames s + more)
+
+-- a pool of one puddle
+abbrev pub new_pool : Owner → (mode number : ℕ) → Pool
+new_pool owner mode number = record { owner = owner; mode = mode; number = number; puddles = 1 }
+
+-- the world with a new pool of this name
+unfoldable pub with_new_pool : List ℕ → Owner → ℕ → StoredWorld → StoredWorld
+with_new_pool name owner mode s = record s { next_number = s.next_number + NUMBERS_DRAWN; pools = put name_cmp name (new_pool owner mode s.next_number) s.pools }
+
+-- ---- a pool is changed, or dropped
+
+-- the pools with the one of this name changed, where there is one
+abbrev pub changed_pool : List ℕ → (Pool → Pool) → List (List ℕ × Pool) → List (List ℕ × Pool)
+changed_pool name change pools = unwrap_or (option_map (λ p. put name_cmp name (change p) pools) (find name_cmp name pools)) pools
+
+-- the world with this mode in the pool of this name
+unfoldable pub with_pool_mode : List ℕ → ℕ → StoredWorld → StoredWorld
+with_pool_mode name mode s = record s { pools = changed_pool name (λ p. record p { mode = mode }) s.pools }
+
+-- the world without the pool of this name
+unfoldable pub without_pool : List ℕ → StoredWorld → StoredWorld
+without_pool name s = record s { pools = without name_cmp name s.pools }

@@ -1,0 +1,37 @@
+use Rattle.std.proofs.Common.{◌≡◌, refl, sym, ap, ◌∙◌, arith}
+use Rattle.pm_model.specs.Words.{reads}
+use Rattle.pm_model.specs.Moments.{State}
+use Rattle.pm_model.specs.Counts.{after_fault, fault_of}
+use Rattle.pud_defs.specs.Image.{Image}
+use Rattle.pud_defs.specs.Puddles.{puddle_record_at}
+use Rattle.puddle_table.specs.Records.{frame_by}
+use Rattle.puddle_table.proofs.Search.{lowest_here, lowest_later, lowest_none, lowest_moved}
+use Rattle.puddle_table.proofs.free_frame.Goals as goal
+
+pub returns-then-member-eq0-clause-frame : goal.returns-then-member-eq0-clause-frame
+returns-then-member-eq0-clause-frame g c = λ t image e none.
+    let frame = c.loop-frame.frame in
+    let within = c.loop-frame-test.true in
+    let word : c.in_ok-member.member ≡ image (puddle_record_at frame) =
+    c.in_ok-member.ensures.value t ∙ ap (λ (s : State). reads s.now.words c.record_at.result) (c.loop-frame.invariant.stays t) ∙ ap (λ (f : Image). f c.record_at.result) e ∙ ap image c.record_at.ensures in
+    sym (ap frame_by (lowest_moved _ image c.args.frames c.args.from frame e (c.loop-frame.invariant.lowest t) ∙ lowest_here c.args.frames image frame (omega arith) (sym word ∙ c.if-member-eq0.true)))
+
+pub loop-frame-init : goal.loop-frame-init
+loop-frame-init g c = record { counts = refl; stays = λ t. refl; lowest = λ t. refl }
+
+pub loop-frame-preserved : goal.loop-frame-preserved
+loop-frame-preserved g c = record {
+  counts = c.load.ensures.cause ∙ ap (λ r. after_fault (fault_of r) (g.H.Host.counts c.loop-frame.h)) c.in_ok-member.was ∙ c.loop-frame.invariant.counts;
+  stays = λ t. c.load.ensures.state t ∙ c.loop-frame.invariant.stays t;
+  lowest = λ t.
+      let frame = c.loop-frame.frame in
+      let within = c.loop-frame-test.true in
+      let image = reads (g.H.Host.state c.args.h.now).now.words in
+      let word : c.in_ok-member.member ≡ image (puddle_record_at frame) =
+      c.in_ok-member.ensures.value t ∙ ap (λ (s : State). reads s.now.words c.record_at.result) (c.loop-frame.invariant.stays t) ∙ ap image c.record_at.ensures in
+      c.loop-frame.invariant.lowest t ∙ lowest_later c.args.frames image frame (omega arith) (λ empty. c.if-member-eq0.false (word ∙ empty));
+}
+
+pub returns-clause-frame : goal.returns-clause-frame
+returns-clause-frame g c = λ t image e none.
+    sym (ap frame_by (lowest_moved _ image c.args.frames c.args.from c.loop-frame.frame e (c.loop-frame.invariant.lowest t) ∙ lowest_none c.args.frames image c.loop-frame.frame (omega arith)))

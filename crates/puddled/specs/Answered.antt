@@ -1,0 +1,30 @@
+-- What is answered to a line that was settled, and what is said of it.
+use Rattle.std.specs.Prelude.{ℕ, List, ◌++◌, codes, Result, Ok, Err}
+use Rattle.pm_model.specs.declared.host.HostFault.{HostFault}
+use Rattle.pud_defs.specs.declared.layout.TheConstants.{MACHINE_WORD}
+use Rattle.pud_defs.specs.declared.machine.Reply.{Reply}
+use Rattle.pud_defs.specs.Image.{Image}
+use Rattle.pud_defs.specs.Tables.{tables_of}
+use Rattle.pud_defs.specs.World.{World}
+use Rattle.pud_defs.specs.Listing.{pools_text}
+use Rattle.pud_defs.specs.Step.{Answer}
+use Rattle.pud_defs.specs.Step.Answer.{of_reply, of_text}
+use Rattle.pud_defs.specs.Texts.{line_of, reply_text}
+use Rattle.pool_list.specs.Listed.{listed_text}
+use Rattle.puddled.specs.declared.answers.Answered.{Answered}
+use Rattle.puddled.specs.declared.answers.Answered.TheVariants as answers
+
+-- a reply, as what is answered
+abbrev pub as_answered : Result Reply HostFault → Result Answered HostFault
+as_answered (Ok reply) = Ok (answers.Reply reply)
+as_answered (Err fault) = Err fault
+
+-- the answer that it is, where the device stands for this world
+abbrev pub answer_of : World → Answered → Answer
+answer_of w (answers.Reply reply) = of_reply reply
+answer_of w answers.Pools = of_text (pools_text w.stored)
+
+-- what is said of it, on a device of so many frames that reads so
+abbrev pub said_text : ℕ → Image → Answered → List ℕ
+said_text frames image (answers.Reply reply) = reply_text reply
+said_text frames image answers.Pools = line_of (codes "ok" ++ listed_text (image MACHINE_WORD) (tables_of frames image))

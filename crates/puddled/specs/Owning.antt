@@ -1,0 +1,31 @@
+-- What the daemon finds of a pool, and what is replied by what became of it.
+use Rattle.std.specs.Prelude.{◌≡◌, ℕ, ◌<◌, List, Option, Some, None, Result, Ok, Err}
+use Rattle.pm_model.specs.declared.host.HostFault.{HostFault}
+use Rattle.pud_defs.specs.declared.records.PoolRec.{PoolRec}
+use Rattle.pud_defs.specs.declared.machine.Reply.{Reply}
+use Rattle.pud_defs.specs.declared.machine.Reply.TheVariants as replies
+use Rattle.pud_defs.specs.declared.machine.Refusal.{Refusal}
+use Rattle.pud_defs.specs.declared.machine.Refusal.TheVariants as refusals
+use Rattle.pud_defs.specs.Image.{Image}
+use Rattle.pud_defs.specs.Tables.{tables_of}
+use Rattle.registry.specs.declared.making.MakeFault.{MakeFault}
+use Rattle.registry.specs.declared.making.MakeFault.TheVariants as faults
+
+-- what is replied to the making of a pool, by what became of it
+abbrev pub reply_of_making : Result (Unit {0}) MakeFault → Result Reply HostFault
+reply_of_making (Ok x) = Ok replies.Ok
+reply_of_making (Err faults.Exists) = Ok (replies.No refusals.Exists)
+reply_of_making (Err faults.Full) = Ok (replies.No refusals.Full)
+reply_of_making (Err faults.NoSpace) = Ok (replies.No refusals.Space)
+reply_of_making (Err (faults.Host fault)) = Err fault
+
+-- why a pool was not found for its owner
+abbrev pub refusal_found : Result ℕ Refusal → Option Refusal
+refusal_found (Ok slot) = None
+refusal_found (Err refusal) = Some refusal
+
+-- the record of the slot is that of the pool of this name
+pub record IsSlotOf (F : ℕ) (name : List ℕ) (image : Image) (slot : ℕ) : Type 0 where
+  pub rec : PoolRec
+  pub used : (tables_of F image).pools slot ≡ Some rec
+  pub name_is : rec.name ≡ name

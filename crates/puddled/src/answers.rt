@@ -1,0 +1,77 @@
+//! What is answered to a line, and how it is said.
+ghost use Rattle.std.specs.Prelude.{◌≡◌, ◌≢◌, ◌≤◌, Option};
+ghost use Rattle.pm_model.specs.Words.{Image, reads};
+ghost use Rattle.pm_model.specs.Counts.{after_fault, fault_of};
+ghost use Rattle.pm_model.specs.Calls.{Says};
+ghost use Rattle.pud_defs.specs.declared.layout.TheConstants.{MAX_FRAMES};
+ghost use Rattle.pud_defs.specs.Layout.{tables_end};
+ghost use Rattle.pud_defs.specs.World.{World};
+ghost use Rattle.pud_defs.specs.Texts.{reply_text, begins_with_ok};
+ghost use Rattle.puddled.specs.Answered.{as_answered, answer_of, said_text};
+
+use pm_model::{Host, HostFault};
+use pool_list::say_pools;
+use pud_defs::layout::REPLY_LIMIT;
+use pud_defs::machine::Reply;
+use script::print_reply;
+
+/// What is answered to a line that was settled.
+#[derive(Clone, Copy)]
+pub(crate) enum Answered {
+    /// This reply.
+    Reply(Reply),
+    /// `ok` and the list of the pools, which is read from the device as it is said.
+    Pools,
+}
+
+impl Answered {
+    /// Whether the line was carried out: the text of the answer begins with `ok`.
+    pub(crate) fn is_ok(self) -> bool
+        ensures { (w : World) → result ≡ begins_with_ok (answer_of w self) }
+    {
+        match self {
+            Answered::Reply(reply) => reply.is_ok(),
+            Answered::Pools => true,
+        }
+    }
+}
+
+/// What is answered to a command that has a reply.
+pub(crate) fn with_reply(done: Result<Reply, HostFault>) -> Result<Answered, HostFault>
+    ensures { result ≡ as_answered done }
+{
+    match done {
+        Ok(reply) => Ok(Answered::Reply(reply)),
+        Err(fault) => Err(fault),
+    }
+}
+
+/// Says the reply with its newline.
+fn say_reply<H: Host>(h: &mut H, reply: Reply) -> Result<(), HostFault>
+    ensures says { H.tells → Says (reply_text reply) (fault_of result) (H.state h.old) (H.state h.new) }
+    ensures cause { H.counts h.new ≡ after_fault (fault_of result) (H.counts h.old) }
+    ensures never_cut { fault_of result ≢ Option.Some HostFault.Cut }
+{
+    let mut text = [0u8; REPLY_LIMIT];
+    let length = print_reply(reply, &mut text);
+    h.say(&text[..length])
+}
+
+/// Says the answer with its newline. The device has so many frames.
+pub(crate) fn say_answer<H: Host>(
+    h: &mut H,
+    frames: u32,
+    answered: Answered,
+) -> Result<(), HostFault>
+    requires few { frames ≤ MAX_FRAMES }
+    requires table { tables_end frames ≤ (H.counts h.old).size }
+    ensures says { H.tells → (image : Image) → reads (H.state h.old).now.words ≡ image
+        → Says (said_text frames image answered) (fault_of result) (H.state h.old) (H.state h.new) }
+    ensures cause { H.counts h.new ≡ after_fault (fault_of result) (H.counts h.old) }
+    ensures never_cut { fault_of result ≢ Option.Some HostFault.Cut }
+{
+    match answered {
+        Answered::Reply(reply) => say_reply(h, reply),
+        Answered::Pools => say_pools(h, frames),
+    }
+}

@@ -1,0 +1,140 @@
+//! Pools that are made, changed and dropped.
+ghost use Rattle.std.specs.Prelude.{◌≡◌, ◌≢◌, ◌<◌, ◌≤◌, ℕ, Option, IfOk};
+ghost use Rattle.pm_model.specs.Words.{IsRested, reads};
+ghost use Rattle.pm_model.specs.Counts.{after_fault, fault_of};
+ghost use Rattle.pud_defs.specs.declared.layout.TheConstants.{CLIENTS, MAX_FRAMES, PUDDLE_TABLE};
+ghost use Rattle.pud_defs.specs.declared.records.TheConstants.{POOL_RECORDS};
+ghost use Rattle.pud_defs.specs.declared.machine.Command.TheVariants as commands;
+ghost use Rattle.pud_defs.specs.Layout.{device_words};
+ghost use Rattle.pud_defs.specs.World.{World};
+ghost use Rattle.pud_defs.specs.Grammar.{IsLegalCommand};
+ghost use Rattle.pud_defs.specs.Step.{refusal_of, answer_by, world_by};
+ghost use Rattle.pud_defs.specs.Step.Answer.{of_reply};
+ghost use Rattle.puddled.specs.Memory.{Memory};
+ghost use Rattle.puddled.specs.Owning.{reply_of_making, refusal_found, IsSlotOf};
+ghost use Rattle.puddled.specs.Daemon.{KeepsRest, IsReady, Applies};
+
+use log_space::owner;
+use pm_model::{Host, HostFault};
+use pool_table::find;
+use pud_defs::machine::{Refusal, Reply};
+use pud_defs::records::Name;
+use registry::{MakeFault, change_mode, drop_pool, make_pool};
+
+/// What is replied to the making of a pool, by what became of it.
+fn reply_of(done: Result<(), MakeFault>) -> Result<Reply, HostFault>
+    ensures { result ≡ reply_of_making done }
+{
+    match done {
+        Ok(()) => Ok(Reply::Ok),
+        Err(MakeFault::Exists) => Ok(Reply::No(Refusal::Exists)),
+        Err(MakeFault::Full) => Ok(Reply::No(Refusal::Full)),
+        Err(MakeFault::NoSpace) => Ok(Reply::No(Refusal::Space)),
+        Err(MakeFault::Host(fault)) => Err(fault),
+    }
+}
+
+/// Makes the pool of this name with this mode for the client, or refuses to. A refused one changes nothing. The device has so many
+/// frames.
+pub fn make<H: Host>(
+    h: &mut H,
+    frames: u32,
+    client: u32,
+    name: Name,
+    mode: u32,
+) -> Result<Reply, HostFault>
+    requires known { client < CLIENTS }
+    requires few { frames ≤ MAX_FRAMES }
+    requires room { device_words frames ≤ (H.counts h.old).size }
+    ensures reply { H.tells → (size : ℕ) → size ≡ (H.counts h.old).size → (w : World) → (memory : Memory) → memory.frames ≡ frames → IsReady size w memory (H.state h.old)
+        → IfOk result (λ reply. of_reply reply ≡ answer_by w (Option.Some (commands.Pool client name mode))) }
+    ensures applies { H.tells → (size : ℕ) → size ≡ (H.counts h.old).size → (w : World) → (memory : Memory) → memory.frames ≡ frames → IsReady size w memory (H.state h.old)
+        → IsLegalCommand (commands.Pool client name mode)
+        → Applies size w (world_by w (Option.Some (commands.Pool client name mode))) memory (fault_of result) (H.state h.old) (H.state h.new) }
+    ensures rest { H.tells → KeepsRest (H.state h.old) (H.state h.new) }
+    ensures rests { H.tells → fault_of result ≡ Option.Some HostFault.Cut → IsRested (H.state h.new).now.words }
+    ensures cause { H.counts h.new ≡ after_fault (fault_of result) (H.counts h.old) }
+{
+    let Some(who) = owner(h, client)? else {
+        return Ok(Reply::No(Refusal::Client));
+    };
+    reply_of(make_pool(h, frames, name, who.uid, who.gid, mode))
+}
+
+/// The slot of the pool of this name, where the client is its owner, or why the client may not change it.
+fn find_owned<H: Host>(
+    h: &mut H,
+    client: u32,
+    name: Name,
+) -> Result<Result<u32, Refusal>, HostFault>
+    requires known { client < CLIENTS }
+    requires table { PUDDLE_TABLE ≤ (H.counts h.old).size }
+    ensures refusal { H.tells → (size : ℕ) → (w : World) → (memory : Memory) → IsReady size w memory (H.state h.old)
+        → IfOk result (λ found. refusal_found found ≡ refusal_of w (commands.Drop client name)) }
+    ensures slot { H.tells → (size : ℕ) → (w : World) → (memory : Memory) → IsReady size w memory (H.state h.old)
+        → IfOk result (λ found. IfOk found (IsSlotOf w.stored.frames name (reads (H.state h.old).now.words))) }
+    ensures within { IfOk result (λ found. IfOk found (λ slot. slot < POOL_RECORDS)) }
+    ensures stays { H.tells → H.state h.new ≡ H.state h.old }
+    ensures cause { H.counts h.new ≡ after_fault (fault_of result) (H.counts h.old) }
+    ensures never_cut { fault_of result ≢ Option.Some HostFault.Cut }
+{
+    let Some(who) = owner(h, client)? else {
+        return Ok(Err(Refusal::Client));
+    };
+    let Some((slot, rec)) = find(h, name)? else {
+        return Ok(Err(Refusal::Pool));
+    };
+    if who.uid != rec.uid {
+        return Ok(Err(Refusal::Denied));
+    }
+    Ok(Ok(slot))
+}
+
+/// Gives the client's pool of this name the mode, or refuses to. A refused one changes nothing.
+pub fn change<H: Host>(h: &mut H, client: u32, name: Name, mode: u32) -> Result<Reply, HostFault>
+    requires known { client < CLIENTS }
+    requires table { PUDDLE_TABLE ≤ (H.counts h.old).size }
+    ensures reply { H.tells → (size : ℕ) → (w : World) → (memory : Memory) → IsReady size w memory (H.state h.old)
+        → IfOk result (λ reply. of_reply reply ≡ answer_by w (Option.Some (commands.Chmod client name mode))) }
+    ensures applies { H.tells → (size : ℕ) → size ≡ (H.counts h.old).size → (w : World) → (memory : Memory) → IsReady size w memory (H.state h.old)
+        → IsLegalCommand (commands.Chmod client name mode)
+        → Applies size w (world_by w (Option.Some (commands.Chmod client name mode))) memory (fault_of result) (H.state h.old) (H.state h.new) }
+    ensures rest { H.tells → KeepsRest (H.state h.old) (H.state h.new) }
+    ensures rests { H.tells → fault_of result ≡ Option.Some HostFault.Cut → IsRested (H.state h.new).now.words }
+    ensures cause { H.counts h.new ≡ after_fault (fault_of result) (H.counts h.old) }
+{
+    match find_owned(h, client, name)? {
+        Err(refusal) => Ok(Reply::No(refusal)),
+        Ok(slot) => {
+            change_mode(h, slot, mode)?;
+            Ok(Reply::Ok)
+        }
+    }
+}
+
+/// Drops the client's pool of this name with its puddles, or refuses to. A refused one changes nothing. The device has so many frames.
+pub fn drop_owned<H: Host>(
+    h: &mut H,
+    frames: u32,
+    client: u32,
+    name: Name,
+) -> Result<Reply, HostFault>
+    requires known { client < CLIENTS }
+    requires few { frames ≤ MAX_FRAMES }
+    requires room { device_words frames ≤ (H.counts h.old).size }
+    ensures reply { H.tells → (size : ℕ) → (w : World) → (memory : Memory) → IsReady size w memory (H.state h.old)
+        → IfOk result (λ reply. of_reply reply ≡ answer_by w (Option.Some (commands.Drop client name))) }
+    ensures applies { H.tells → (size : ℕ) → size ≡ (H.counts h.old).size → (w : World) → (memory : Memory) → memory.frames ≡ frames → IsReady size w memory (H.state h.old)
+        → Applies size w (world_by w (Option.Some (commands.Drop client name))) memory (fault_of result) (H.state h.old) (H.state h.new) }
+    ensures rest { H.tells → KeepsRest (H.state h.old) (H.state h.new) }
+    ensures rests { H.tells → fault_of result ≡ Option.Some HostFault.Cut → IsRested (H.state h.new).now.words }
+    ensures cause { H.counts h.new ≡ after_fault (fault_of result) (H.counts h.old) }
+{
+    match find_owned(h, client, name)? {
+        Err(refusal) => Ok(Reply::No(refusal)),
+        Ok(slot) => {
+            drop_pool(h, frames, slot)?;
+            Ok(Reply::Ok)
+        }
+    }
+}

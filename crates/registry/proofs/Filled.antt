@@ -1,0 +1,137 @@
+-- A frame filled while nothing names it: each image stands for the same world, and behind the batch that names it the frame is as it was filled.
+use Rattle.std.proofs.Common.{◌≡◌, ◌⊎◌, inl, inr, ⊎_elim, ℕ, ◌+◌, ◌-◌, ◌*◌, ◌<◌, ◌≤◌, Bool, true, false, cond, List, [], ◌∷◌, ◌++◌, length, get_or, Option, Some, None, refl, sym, ap, ap₂, subst, ◌∙◌, arith, length-append}
+use Rattle.std.specs.Prelude.{replicate, slice_index}
+use Rattle.std.proofs.lemmas.List.{append-nil, length-replicate}
+use Rattle.std.proofs.lemmas.Option.{same_Some, slice_get-get_or}
+use Rattle.pm_model.specs.declared.host.HostFault.{HostFault}
+use Rattle.pm_model.specs.declared.host.HostFault.TheVariants.{Cut}
+use Rattle.pm_model.specs.Words.{Words, Has, values, HasOnly, Picks, reads}
+use Rattle.pm_model.specs.Moments.{State}
+use Rattle.pm_model.specs.Changes.{placed, written, IsFrom, Persists, Changes, Leaves, Silently}
+use Rattle.pm_model.proofs.Changes.{Changes-said, Changes-now, Changes-then, Changes-wider}
+use Rattle.pm_model.proofs.Leaves.{Leaves-changes, Leaves-weaker, Leaves-then, Leaves-now}
+use Rattle.pm_persist.proofs.Ranges.{placed_at, placed_within}
+use Rattle.pud_defs.specs.declared.layout.TheConstants.{DAEMON_LOG, TYPE_TABLE, FRAME_WORDS}
+use Rattle.pud_defs.specs.declared.records.Put.{Put}
+use Rattle.pud_defs.specs.Image.{Image}
+use Rattle.pud_defs.specs.Layout.{IsWithin, tables_end, frames_at, device_words}
+use Rattle.pud_defs.specs.Frames.{frame_at, frame_word, fresh_frame, IsFreshFrame}
+use Rattle.pud_defs.specs.Entries.{is_idle_gate}
+use Rattle.pud_defs.specs.Replay.{is_in_log, beside_log}
+use Rattle.pud_defs.specs.World.{StoredWorld, world_of}
+use Rattle.pud_defs.proofs.Replay.{outside_log}
+use Rattle.pud_defs.proofs.Parts.{standing_same}
+use Rattle.pud_defs.proofs.Worlds.{registry_world_standing, world_of-idle, standing_idle}
+use Rattle.batch.specs.Batches.{HasIdleGate, IsBatched}
+use Rattle.batch.specs.Worlds.{IsSettled, IsBetween}
+use Rattle.batch.specs.Tables.{HasDurableTables}
+use Rattle.batch.proofs.Tables.{HasDurableTables-kept}
+use Rattle.registry.specs.Puts.{puts_batch, AreOfPools, IsPoolsWord, ByPools}
+use Rattle.registry.specs.Pools.{frame_write, MayStand, ChangesPools}
+use Rattle.registry.proofs.PutBatches.{puts_write-none}
+
+-- images that agree before the frames stand for the same
+pub world_before_frames : (size : ℕ) (s : StoredWorld) (i j : Image) → is_idle_gate (i DAEMON_LOG) ≡ true → world_of size i ≡ Some s → ((k : ℕ) → k < frames_at s.frames → j k ≡ i k) → world_of size j ≡ Some s
+world_before_frames size s i j idle stands same =
+    world_of-idle size j (ap is_idle_gate (same DAEMON_LOG (omega arith)) ∙ idle)
+    ∙ registry_world_standing size (beside_log DAEMON_LOG j) s
+    (standing_same size (beside_log DAEMON_LOG i) (beside_log DAEMON_LOG j) s (standing_idle size i s idle stands) (λ k outside below. ap (cond (is_in_log DAEMON_LOG k) 0) (same k below)))
+
+length-fresh_frame : (number ordinal : ℕ) → length (fresh_frame number ordinal) ≡ FRAME_WORDS
+unfolding fresh_frame
+length-fresh_frame number ordinal = omega (arith, length-replicate {A = ℕ} (FRAME_WORDS - 4) 0)
+
+module _ (F frame number ordinal : ℕ) (known : frame < F) where
+  abbrev write : ℕ → Option ℕ
+  write = frame_write F frame number ordinal
+
+  -- the words that are filled are words of the frame
+  fills : (k v : ℕ) → written write k v → IsWithin (frames_at F) (device_words F) k
+  fills k v may =
+      let within = placed_within (frame_at F frame) k v (fresh_frame number ordinal) may in
+      let low = within.0 in
+      let high = within.1 in
+      record { low = omega arith; high = omega (arith, length-fresh_frame number ordinal) }
+
+  -- so they are none before the frames
+  pub not_filled : (k v : ℕ) → k < frames_at F → written write k v → ⊥
+  not_filled k v below may = let of = fills k v may in let low = of.low in absurd (omega arith)
+
+  filled_from : (before image : Image) → IsFrom (written write) before image → (k : ℕ) → k < frames_at F → image k ≡ before k
+  filled_from before image from k below = elim (from.each k) [ inl same ↦ same | inr may ↦ absurd (not_filled k (image k) below may) ]
+
+  ByPools-filled : (k v : ℕ) → written write k v → ByPools F k v
+  ByPools-filled k v may = inr (inr (fills k v may))
+
+  -- the daemon log counts nothing still
+  pub HasIdleGate-filled : (fault : Option HostFault) (a b : State) → Changes (written write) fault a b → HasIdleGate DAEMON_LOG a.now.words → HasIdleGate DAEMON_LOG b.now.words
+  HasIdleGate-filled fault a b c idle = record {
+    each = λ v had. elim (Changes-now (written write) fault a b c DAEMON_LOG v had) [ inl was ↦ idle.each v was | inr may ↦ absurd (not_filled DAEMON_LOG v (omega arith) may) ];
+  }
+
+  -- a frame that was filled is that of a new puddle in each image
+  pub fresh_word : (b : State) → ((k v : ℕ) → write k ≡ Some v → HasOnly (b.now.words k) v) → (k : ℕ) → k < FRAME_WORDS
+      → HasOnly (b.now.words (frame_at F frame + k)) (slice_index (fresh_frame number ordinal) k)
+  fresh_word b durable k below =
+      let whole = length-fresh_frame number ordinal in
+      durable (frame_at F frame + k) (slice_index (fresh_frame number ordinal) k) (placed_at (frame_at F frame) k (frame_at F frame + k) (fresh_frame number ordinal) refl (omega arith))
+
+  -- ---- a world that stands still
+
+  module _ (size : ℕ) (s : StoredWorld) (same : F ≡ s.frames) where
+    abbrev stands : Image → Type 0
+    stands image = world_of size image ≡ Some s
+
+    still : (words : Words) → IsSettled size s words → (before image : Image) → Picks words before → IsFrom (written write) before image → stands image
+    still words settled before image picked from =
+        world_before_frames size s before image (settled.idle (before DAEMON_LOG) (picked.each DAEMON_LOG)) (settled.stands before picked) (λ k below. filled_from before image from k (omega (arith, same)))
+
+    pub Leaves-filled : (fault : Option HostFault) (a b : State) → IsSettled size s a.now.words → Changes (written write) fault a b → Leaves (Silently stands) a b
+    Leaves-filled fault a b settled c = Leaves-changes stands (written write) fault a b (still a.now.words settled) c
+
+    pub IsSettled-filled : (fault : Option HostFault) (a b : State) → IsSettled size s a.now.words → Changes (written write) fault a b → IsSettled size s b.now.words
+    IsSettled-filled fault a b settled c = record {
+      stands = λ image picked. (Leaves-now (Silently stands) [] a b (Changes-said (written write) fault a b c ∙ sym (append-nil a.now.said)) (Leaves-filled fault a b settled c) image picked).1;
+      idle = (HasIdleGate-filled fault a b c (record { each = settled.idle })).each;
+    }
+
+    pub HasDurableTables-filled : (fault : Option HostFault) (a b : State) → Changes (written write) fault a b → HasDurableTables F a.now.words → HasDurableTables F b.now.words
+    HasDurableTables-filled fault a b c = HasDurableTables-kept F (written write) fault a b c (λ k v below may. not_filled k v (omega arith) may)
+
+    -- ---- and then the batch
+
+    -- the frame is as it was filled in each image that a batch of pools leaves
+    pub fresh_behind : (puts : List Put) (b : State) (image : Image) → AreOfPools F puts → ((k v : ℕ) → write k ≡ Some v → HasOnly (b.now.words k) v) → IsBatched b.now.words DAEMON_LOG (puts_batch puts) image
+        → IsFreshFrame F frame number ordinal image
+    fresh_behind puts b image of durable batched = record {
+      each = λ k below.
+          let at = frame_at F frame + k in
+          batched.outside at (outside_log DAEMON_LOG at (inr (omega arith))) (puts_write-none F puts at of (λ word. not_pools at (omega arith) word))
+          ∙ (fresh_word b durable k below).each (batched.before at) (batched.picked.each at);
+    }
+      where
+        not_pools : (k : ℕ) → frames_at F ≤ k → IsPoolsWord F k → ⊥
+        not_pools k behind (inl word) = let high = word.high in absurd (omega arith)
+        not_pools k behind (inr (inl word)) = let high = word.high in absurd (omega arith)
+        not_pools k behind (inr (inr word)) = let high = word.high in absurd (omega arith)
+
+    -- the frame could not be filled
+    pub ChangesPools-unfilled : (next : StoredWorld) (also : Image → Type 0) (fault : HostFault) (a b : State) → IsSettled size s a.now.words → Changes (written write) (Some fault) a b
+        → ChangesPools size s next also (Some fault) a b
+    ChangesPools-unfilled next also fault a b settled c = record {
+      changes = subst (λ (n : ℕ). Changes (ByPools n) (Some fault) a b) same (Changes-wider (written write) (ByPools F) (Some fault) a b ByPools-filled c);
+      moments = Leaves-weaker (Silently stands) (Silently (MayStand size s next also)) a b (λ bytes image p. (p.0, inl p.1)) (Leaves-filled (Some fault) a b settled c);
+      settled = λ none. absurd (let no : Some fault ≡ None = none in cc);
+      tables = λ none. absurd (let no : Some fault ≡ None = none in cc);
+    }
+
+    -- it was, and then pools were changed
+    pub ChangesPools-filled : (next : StoredWorld) (also : Image → Type 0) (fault : Option HostFault) (a b c : State) → IsSettled size s a.now.words → Changes (written write) None a b
+        → ChangesPools size s next also fault b c → ChangesPools size s next also fault a c
+    ChangesPools-filled next also fault a b c settled p q = record {
+      changes = Changes-then (ByPools s.frames) fault a b c (subst (λ (n : ℕ). Changes (ByPools n) None a b) same (Changes-wider (written write) (ByPools F) None a b ByPools-filled p)) q.changes;
+      moments = Leaves-then (Silently stands) (Silently (MayStand size s next also)) (Silently (MayStand size s next also)) [] a b c (Changes-said (written write) None a b p ∙ sym (append-nil a.now.said))
+          (λ bytes image m. (m.0, inl m.1)) (λ bytes image m. m) (Leaves-filled None a b settled p) q.moments;
+      settled = q.settled;
+      tables = q.tables;
+    }

@@ -1,0 +1,134 @@
+-- A batch of changes of pools, on a device whose tables are durable: each image that it leaves stands for the world before or for the next.
+use Rattle.std.proofs.Common.{◌≡◌, ◌⊎◌, inl, inr, ⊎_elim, ℕ, ◌+◌, ◌<◌, ◌≤◌, true, false, List, [], Option, Some, None, refl, sym, ap, subst, ◌∙◌, arith}
+use Rattle.pm_model.specs.declared.host.HostFault.{HostFault}
+use Rattle.pm_model.specs.declared.host.HostFault.TheVariants.{Cut}
+use Rattle.pm_model.specs.Words.{Words, HasOnly, Picks, reads}
+use Rattle.pm_model.specs.Moments.{State}
+use Rattle.pm_model.specs.Changes.{Changes, Leaves, Silently}
+use Rattle.pm_model.proofs.Words.{Picks-reads}
+use Rattle.pm_model.proofs.Changes.{Changes-wider, Changes-still}
+use Rattle.pm_model.proofs.Leaves.{Leaves-weaker, Leaves-still}
+use Rattle.pud_defs.specs.declared.layout.TheConstants.{NEXT_NUMBER_WORD, DAEMON_LOG, POOL_TABLE, SPACE_TABLE, PUDDLE_TABLE, TYPE_TABLE, NUMBER_LIMIT}
+use Rattle.pud_defs.specs.declared.records.Put.{Put}
+use Rattle.pud_defs.specs.Image.{Image}
+use Rattle.pud_defs.specs.Layout.{IsWithin, tables_end, frames_at}
+use Rattle.pud_defs.specs.Entries.{is_idle_gate}
+use Rattle.pud_defs.specs.Replay.{settled_by}
+use Rattle.pud_defs.specs.Tables.{Tables, Pool, tables_of, pools_of}
+use Rattle.pud_defs.specs.SoundTables.{are_sound_tables, HasSoundTables}
+use Rattle.pud_defs.specs.World.{StoredWorld, world_of, registry_world}
+use Rattle.pud_defs.proofs.Replay.{settled_by-idle, outside_log}
+use Rattle.pud_defs.proofs.TablesOf.{tables_of-same}
+use Rattle.pud_defs.proofs.SoundChanged.{sound_from, sound_test}
+use Rattle.pud_defs.proofs.Parts.{HasPools, StandsFor, standing_with_pools}
+use Rattle.pud_defs.proofs.Parts.Part.{Header, Pools}
+use Rattle.pud_defs.proofs.Worlds.{standing_of_world, registry_world_standing}
+use Rattle.batch.specs.Batches.{batch_write, ByBatch}
+use Rattle.batch.specs.Worlds.{IsSettled, with_batch, MovesBy, IsBetween, Moves}
+use Rattle.batch.specs.Tables.{HasDurableTables}
+use Rattle.batch.proofs.Tables.{HasDurableTables-committed}
+use Rattle.registry.specs.Puts.{puts_batch, with_puts, AreOfPools, IsPoolsWord, ByPools}
+use Rattle.registry.specs.Pools.{MayStand, ChangesPools}
+use Rattle.registry.proofs.PutBatches.{overwritten-puts, with_puts-stays, ByPools-batch, puts_allowed}
+
+-- ---- tables that are durable
+
+-- a word of them is, in each image with the daemon log replayed, as it is read
+pub settled_word : (size : ℕ) (s : StoredWorld) (words : Words) (image : Image) (k : ℕ) → IsSettled size s words → HasDurableTables s.frames words → Picks words image
+    → (k < DAEMON_LOG) ⊎ (TYPE_TABLE ≤ k) → k < tables_end s.frames → settled_by DAEMON_LOG image k ≡ reads words k
+settled_word size s words image k settled tables picked outside below =
+    settled_by-idle DAEMON_LOG image k (settled.idle (image DAEMON_LOG) (picked.each DAEMON_LOG)) (outside_log DAEMON_LOG k (⊎_elim (λ low. inl low) (λ high. inr (omega arith)) outside))
+    ∙ (tables.each k outside below).each (image k) (picked.each k)
+
+pub settled_tables : (size : ℕ) (s : StoredWorld) (words : Words) (image : Image) → IsSettled size s words → HasDurableTables s.frames words → Picks words image
+    → tables_of s.frames (settled_by DAEMON_LOG image) ≡ tables_of s.frames (reads words)
+settled_tables size s words image settled tables picked =
+    tables_of-same s.frames (settled_by DAEMON_LOG image) (reads words)
+    (λ k low high. settled_word size s words image k settled tables picked (inr (omega arith)) (omega arith))
+    (λ k low high. settled_word size s words image k settled tables picked (inr (omega arith)) high)
+
+-- what is read of them has the world's pools and its next number
+pub record ReadsWorld (s : StoredWorld) (image : Image) : Type 0 where
+  pub number : image NEXT_NUMBER_WORD ≡ s.next_number
+  pub low : 1 ≤ s.next_number
+  pub high : s.next_number ≤ NUMBER_LIMIT
+  pub pools : pools_of (tables_of s.frames image) ≡ s.pools
+  pub sound : HasSoundTables s.next_number (tables_of s.frames image)
+
+pub reads_world : (size : ℕ) (s : StoredWorld) (words : Words) → IsSettled size s words → HasDurableTables s.frames words → ReadsWorld s (reads words)
+reads_world size s words settled tables =
+    let image = reads words in
+    let picked = Picks-reads words in
+    let stands = standing_of_world size image s (settled.stands image picked) in
+    let same = settled_tables size s words image settled tables picked in
+    record {
+      number = sym (settled_word size s words image NEXT_NUMBER_WORD settled tables picked (inl (omega arith)) (omega arith)) ∙ (stands.holds Header).next_number;
+      low = (stands.holds Header).number_low;
+      high = (stands.holds Header).number_high;
+      pools = ap pools_of (sym same) ∙ (stands.holds Pools).pools;
+      sound = sound_from s.next_number (tables_of s.frames image) (ap (are_sound_tables s.next_number) (sym same) ∙ (stands.holds Pools).sound);
+    }
+
+-- ---- a batch that changes pools
+
+-- With these changes each image that has these tables and the world's next number has this next number, and sound tables of these pools.
+pub record MakesPools (s : StoredWorld) (number : ℕ) (ps : List (List ℕ × Pool)) (puts : List Put) (t : Tables) : Type 0 where
+  pub of : AreOfPools s.frames puts
+  pub low : 1 ≤ number
+  pub high : number ≤ NUMBER_LIMIT
+  pub next : (image : Image) → image NEXT_NUMBER_WORD ≡ s.next_number → with_puts puts image NEXT_NUMBER_WORD ≡ number
+  pub now : Tables
+  pub tables : (image : Image) → tables_of s.frames image ≡ t → tables_of s.frames (with_puts puts image) ≡ now
+  pub pools : pools_of now ≡ ps
+  pub sound : HasSoundTables number now
+
+abbrev pub pools_next : StoredWorld → ℕ → List (List ℕ × Pool) → StoredWorld
+pools_next s number ps = record s { next_number = number; pools = ps }
+
+not_of_pools : (F k : ℕ) → k < frames_at F → (k ≡ NEXT_NUMBER_WORD → ⊥) → (POOL_TABLE ≤ k → k < SPACE_TABLE → ⊥) → (PUDDLE_TABLE ≤ k → k < tables_end F → ⊥) → IsPoolsWord F k → ⊥
+not_of_pools F k below number pools puddles (inl of) = let low = of.low in let high = of.high in number (omega arith)
+not_of_pools F k below number pools puddles (inr (inl of)) = pools of.low of.high
+not_of_pools F k below number pools puddles (inr (inr of)) = puddles of.low of.high
+
+module _ (size : ℕ) (s : StoredWorld) (number : ℕ) (ps : List (List ℕ × Pool)) (puts : List Put) (words : Words) (settled : IsSettled size s words) (tables : HasDurableTables s.frames words)
+    (m : MakesPools s number ps puts (tables_of s.frames (reads words))) where
+  makes : (image : Image) → Picks words image → registry_world size (with_batch (puts_batch puts) image) ≡ Some (pools_next s number ps)
+  makes image picked =
+      let i = settled_by DAEMON_LOG image in
+      let j = with_puts puts i in
+      let stands = standing_of_world size image s (settled.stands image picked) in
+      let tables_now = m.tables i (settled_tables size s words image settled tables picked) in
+      let pools : HasPools s.frames number ps j = record { pools = ap pools_of tables_now ∙ m.pools; sound = ap (are_sound_tables number) tables_now ∙ sound_test number m.now m.sound } in
+      ap (registry_world size) (overwritten-puts s.frames puts i m.of)
+      ∙ registry_world_standing size j (pools_next s number ps)
+      (standing_with_pools size i j s number ps stands
+      (λ k below apart no_pool no_puddle. with_puts-stays s.frames puts i k m.of (not_of_pools s.frames k below apart no_pool no_puddle))
+      (m.next i (stands.holds Header).next_number) m.low m.high pools)
+
+  pub MovesBy-puts : MovesBy size s (pools_next s number ps) (puts_batch puts) words
+  MovesBy-puts = record { allowed = puts_allowed s.frames (puts_batch puts) puts m.of; stands = makes }
+
+-- ---- what a call owes
+
+-- nothing happened, since a read failed
+pub ChangesPools-still : (size : ℕ) (s next : StoredWorld) (also : Image → Type 0) (fault : Option HostFault) (old new : State) → IsSettled size s old.now.words → (fault ≡ Some Cut → ⊥) → (fault ≡ None → ⊥)
+    → new ≡ old → ChangesPools size s next also fault old new
+ChangesPools-still size s next also fault old new settled not_cut not_none same = record {
+  changes = Changes-still (ByPools s.frames) fault old new not_cut same;
+  moments = Leaves-still (Silently (MayStand size s next also)) old new (λ image picked. (refl, inl (settled.stands image picked))) same;
+  settled = λ none. absurd (not_none none);
+  tables = λ none. absurd (not_none none);
+}
+
+-- a batch moved the world
+pub ChangesPools-moves : (size : ℕ) (s next : StoredWorld) (puts : List Put) (also : Image → Type 0) (fault : Option HostFault) (old new : State) → AreOfPools s.frames puts
+    → HasDurableTables s.frames old.now.words
+    → ((image : Image) → IsBetween size s next (puts_batch puts) old.now.words image → also image)
+    → Moves size s next (puts_batch puts) fault old new → ChangesPools size s next also fault old new
+ChangesPools-moves size s next puts also fault old new of tables besides m = record {
+  changes = Changes-wider (ByBatch DAEMON_LOG (puts_batch puts)) (ByPools s.frames) fault old new (λ k v may. ByPools-batch s.frames puts k v of may) m.commits.changes;
+  moments = Leaves-weaker (Silently (IsBetween size s next (puts_batch puts) old.now.words)) (Silently (MayStand size s next also)) old new
+      (λ bytes image p. (p.0, elim p.1.stands [ inl before ↦ inl before.1 | inr after ↦ inr (after.1, besides image p.1) ])) m.moments;
+  settled = m.settled;
+  tables = λ none. HasDurableTables-committed s.frames (puts_batch puts) fault old new m.commits.changes (m.commits.durable none) tables;
+}

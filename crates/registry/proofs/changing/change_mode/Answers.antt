@@ -1,0 +1,20 @@
+use Rattle.std.proofs.Common.{◌≤◌, List, [], ◌∷◌, refl, ap, ◌∙◌, arith}
+use Rattle.pud_defs.specs.Layout.{tables_end}
+use Rattle.pud_defs.specs.Puts.{mode_put}
+use Rattle.registry.specs.Puts.{puts_batch}
+use Rattle.registry.specs.Pools.{changing}
+use Rattle.registry.proofs.Gathered.{first_put}
+use Rattle.registry.proofs.Changed.{changing_of}
+use Rattle.registry.proofs.Joined.{ChangesPools-mode, Commits-puts}
+use Rattle.registry.proofs.changing.change_mode.Goals as goal
+
+pub returns-clause-commits : goal.returns-clause-commits
+returns-clause-commits g c = λ t size same idle.
+    let is = first_put c.new-batch.result c.add_put.new.batch c.set_mode.result (mode_put c.args.slot c.args.mode) c.new-batch.ensures c.set_mode.ensures.put (omega arith) c.add_put.ensures in
+    Commits-puts 0 size (changing c.args.slot c.args.mode) c.add_put.new.batch _ _ (g.H.Host.state c.args.h.now) _ refl (omega (arith, same)) (changing_of 0 c.args.slot c.args.mode c.requires.known) is
+    (c.commit.ensures.commits t size same) idle
+
+pub returns-clause-changes : goal.returns-clause-changes
+returns-clause-changes g c = λ t size same s settled r at legal.
+    let is = first_put c.new-batch.result c.add_put.new.batch c.set_mode.result (mode_put c.args.slot c.args.mode) c.new-batch.ensures c.set_mode.ensures.put (omega arith) c.add_put.ensures in
+    ChangesPools-mode size s c.args.slot c.args.mode r c.add_put.new.batch _ _ _ c.requires.known settled at legal is (λ moves. c.commit.ensures.moves t size same s _ settled moves)

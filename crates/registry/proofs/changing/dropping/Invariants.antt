@@ -1,0 +1,17 @@
+use Rattle.std.proofs.Common.{◌≡◌, ◌≤◌}
+use Rattle.pm_model.specs.Words.{reads}
+use Rattle.pud_defs.specs.declared.records.TheConstants.{MAX_PUDDLES}
+use Rattle.pud_defs.specs.Image.{Image}
+use Rattle.pud_defs.specs.Keyed.{count_used}
+use Rattle.pud_defs.specs.Tables.{tables_of, members}
+use Rattle.registry.proofs.Gathered.{Gathers}
+use Rattle.registry.proofs.changing.dropping.Given as goal
+
+abbrev pub invariant-loop-frame : goal.invariant-loop-frame
+invariant-loop-frame g l = record {
+  within : l.frame ≤ l.fn.frames;
+  counts : g.H.Host.counts l.h ≡ g.H.Host.counts l.fn.h;
+  stays : g.H.Host.tells → g.H.Host.state l.h ≡ g.H.Host.state l.fn.h;
+  gathers : g.H.Host.tells → (image : Image) → reads (g.H.Host.state l.fn.h).now.words ≡ image → count_used (members (tables_of l.fn.frames image) l.fn.slot) 0 l.fn.frames ≤ MAX_PUDDLES
+      → Gathers (tables_of l.fn.frames image) l.fn.slot l.frame l.batch;
+}

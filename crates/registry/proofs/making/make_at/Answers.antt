@@ -1,0 +1,51 @@
+use Rattle.std.proofs.Common.{◌≡◌, inl, inr, ◌+◌, ◌≤◌, List, Option, Some, None, refl, sym, ap, subst, ◌∙◌, arith}
+use Rattle.std.proofs.lemmas.Result.{err_from_is_err_and}
+use Rattle.pm_model.specs.Counts.{Counts}
+use Rattle.pm_model.specs.Changes.{written}
+use Rattle.pm_model.proofs.Changes.{Changes-wider, Changes-then}
+use Rattle.log_replay.specs.Replaying.{Anything}
+use Rattle.registry.specs.Pools.{frame_write, making}
+use Rattle.registry.proofs.Made.{making_of}
+use Rattle.registry.proofs.Filled.{HasIdleGate-filled, ChangesPools-unfilled}
+use Rattle.registry.proofs.Joined.{ChangesPools-made, Commits-puts}
+use Rattle.registry.proofs.making.make_at.Goals as goal
+
+pub returns-in_err-fill_frame-clause-makes : goal.returns-in_err-fill_frame-clause-makes
+returns-in_err-fill_frame-clause-makes g c =
+    let p = err_from_is_err_and c.from_residual.result c.from_residual.ensures.1 in
+    rw (p.1, p.2) (λ t size same s frames number settled tables place legal.
+    ChangesPools-unfilled c.args.frames c.args.place.frame (c.args.place.number + 1) 0 c.requires.within.frame size s frames _ _ c.in_err-fill_frame.field-0.0 _ _ settled (c.in_err-fill_frame.ensures.fills t).changes)
+
+pub returns-in_err-fill_frame-clause-any : goal.returns-in_err-fill_frame-clause-any
+returns-in_err-fill_frame-clause-any g c =
+    let p = err_from_is_err_and c.from_residual.result c.from_residual.ensures.1 in
+    rw (p.1, p.2) (λ t.
+    Changes-wider (written (frame_write c.args.frames c.args.place.frame (c.args.place.number + 1) 0)) Anything (Some c.in_err-fill_frame.field-0.0) _ _ (λ k v may. tt) (c.in_err-fill_frame.ensures.fills t).changes)
+
+pub returns-clause-commits : goal.returns-clause-commits
+returns-clause-commits g c = λ t size same idle.
+    let filled = c.in_ok-fill_frame.ensures.fills t in
+    let then = same ∙ sym (ap (λ (n : Counts). n.size) c.in_ok-fill_frame.ensures.cause) in
+    let idle_then = HasIdleGate-filled c.args.frames c.args.place.frame (c.args.place.number + 1) 0 c.requires.within.frame None _ _ filled.changes idle in
+    record {
+      mid = g.H.Host.state c.fill_frame.new.h;
+      first = None;
+      persists = filled;
+      then = inr (
+        refl,
+        Commits-puts c.args.frames size (making c.args.place c.args.rec) c.making.result _ (g.H.Host.state c.fill_frame.new.h) (g.H.Host.state c.fill_frame.new.h) _ refl
+            (omega (arith, same)) (making_of c.args.frames c.args.place c.args.rec c.requires.within.slot c.requires.within.frame) c.making.ensures (c.commit.ensures.commits t size then) idle_then,
+      );
+    }
+
+pub returns-clause-makes : goal.returns-clause-makes
+returns-clause-makes g c = λ t size same s frames number settled tables place legal.
+    let then = same ∙ sym (ap (λ (n : Counts). n.size) c.in_ok-fill_frame.ensures.cause) in
+    ChangesPools-made size s c.args.place c.args.rec c.making.result _ _ (g.H.Host.state c.fill_frame.new.h) _ number settled legal c.making.ensures c.args.frames frames c.requires.within.frame tables place
+    (c.in_ok-fill_frame.ensures.fills t) (λ settled_then moves. c.commit.ensures.moves t size then s _ settled_then moves)
+
+pub returns-clause-any : goal.returns-clause-any
+returns-clause-any g c = λ t.
+    Changes-then Anything _ _ (g.H.Host.state c.fill_frame.new.h) _
+    (Changes-wider (written (frame_write c.args.frames c.args.place.frame (c.args.place.number + 1) 0)) Anything None _ _ (λ k v may. tt) (c.in_ok-fill_frame.ensures.fills t).changes)
+    (c.commit.ensures.any t)

@@ -1,0 +1,62 @@
+-- Where a new pool stands, or why none can be made.
+use Rattle.std.specs.Prelude.{◌≡◌, ℕ, ◌+◌, ◌<◌, ◌≤◌, false, ◌||◌, cond, List, [], Option, Some, None, is_some, is_none, Result, Ok, Err}
+use Rattle.pm_model.specs.declared.host.HostFault.{HostFault}
+use Rattle.pud_defs.specs.declared.layout.TheConstants.{NUMBER_LIMIT}
+use Rattle.pud_defs.specs.declared.records.TheConstants.{POOL_RECORDS}
+use Rattle.pud_defs.specs.Keyed.{first_free}
+use Rattle.pud_defs.specs.Places.{IsLowestBase}
+use Rattle.pud_defs.specs.Tables.{Tables, pool_in}
+use Rattle.pud_defs.specs.PoolChanges.{NUMBERS_DRAWN, lacks_numbers}
+use Rattle.pool_table.specs.declared.PoolFault.{PoolFault}
+use Rattle.pool_table.specs.declared.PoolFault.TheVariants as pools
+use Rattle.puddle_table.specs.declared.PuddleFault.{PuddleFault}
+use Rattle.puddle_table.specs.declared.PuddleFault.TheVariants as puddles
+use Rattle.registry.specs.declared.making.MakeFault.{MakeFault}
+use Rattle.registry.specs.declared.making.MakeFault.TheVariants as faults
+use Rattle.registry.specs.declared.making.Place.{Place}
+
+-- the host's fault that the making of a pool answered
+abbrev pub make_fault : {T : Type 0} → Result T MakeFault → Option HostFault
+make_fault (Ok x) = None
+make_fault (Err faults.Exists) = None
+make_fault (Err faults.Full) = None
+make_fault (Err faults.NoSpace) = None
+make_fault (Err (faults.Host fault)) = Some fault
+
+-- what a fault of the tables is to it
+abbrev pub of_pool_fault : PoolFault → MakeFault
+of_pool_fault pools.Exists = faults.Exists
+of_pool_fault pools.Full = faults.Full
+of_pool_fault (pools.Host fault) = faults.Host fault
+
+abbrev pub of_puddle_fault : PuddleFault → MakeFault
+of_puddle_fault puddles.NoSpace = faults.NoSpace
+of_puddle_fault (puddles.Host fault) = faults.Host fault
+
+-- what it answered in place of Ok
+abbrev pub refusal_in : {T : Type 0} → Result T MakeFault → Option MakeFault
+refusal_in (Ok x) = None
+refusal_in (Err fault) = Some fault
+
+-- Why no pool of the name can be made where this UUID number is the next: one is there; no record is free, or too few numbers are left; no
+-- frame is free.
+abbrev pub make_refusal : Tables → ℕ → List ℕ → Option MakeFault
+make_refusal t next name =
+    cond (is_some (pool_in t name)) (Some faults.Exists)
+    (cond (is_none (first_free t.pools 0 POOL_RECORDS) || lacks_numbers next) (Some faults.Full)
+    (cond (is_none (first_free t.puddles 0 t.frames)) (Some faults.NoSpace) None))
+
+-- the place is the lowest free slot, frame and base, with the next UUID number, for a name that is not there
+pub record IsPlaceFor (t : Tables) (next : ℕ) (name : List ℕ) (p : Place) : Type 0 where
+  pub slot : first_free t.pools 0 POOL_RECORDS ≡ Some p.slot
+  pub frame : first_free t.puddles 0 t.frames ≡ Some p.frame
+  pub base : IsLowestBase t [] p.base
+  pub number : p.number ≡ next
+  pub enough : lacks_numbers next ≡ false
+  pub absent : pool_in t name ≡ None
+
+-- its slot is one of the table, its frame one of so many, and there are numbers behind its own
+pub record IsPlaceWithin (F : ℕ) (p : Place) : Type 0 where
+  pub slot : p.slot < POOL_RECORDS
+  pub frame : p.frame < F
+  pub numbers : p.number + NUMBERS_DRAWN ≤ NUMBER_LIMIT

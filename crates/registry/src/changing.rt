@@ -1,0 +1,109 @@
+//! Pools that are changed, and dropped.
+
+ghost use Rattle.std.specs.Prelude.{◌≡◌, ◌≢◌, ◌+◌, ◌<◌, ◌≤◌, true, ⊤, ℕ, Option, IfOk};
+ghost use Rattle.pm_model.specs.Words.{reads};
+ghost use Rattle.pm_model.specs.Counts.{after_fault, fault_of};
+ghost use Rattle.pm_model.specs.Changes.{Changes};
+ghost use Rattle.log_replay.specs.Replaying.{Anything};
+ghost use Rattle.pud_defs.specs.declared.layout.TheConstants.{DAEMON_LOG};
+ghost use Rattle.pud_defs.specs.declared.records.TheConstants.{MAX_PUDDLES};
+ghost use Rattle.pud_defs.specs.declared.records.PoolRec.{PoolRec};
+ghost use Rattle.pud_defs.specs.Image.{Image};
+ghost use Rattle.pud_defs.specs.Keyed.{count_used};
+ghost use Rattle.pud_defs.specs.Layout.{tables_end};
+ghost use Rattle.pud_defs.specs.Modes.{is_legal_mode};
+ghost use Rattle.pud_defs.specs.Puddles.{puddle_at, puddle_record_at};
+ghost use Rattle.pud_defs.specs.Puts.{is_of_pool};
+ghost use Rattle.pud_defs.specs.Tables.{tables_of, members};
+ghost use Rattle.pud_defs.specs.PoolChanges.{with_pool_mode, without_pool};
+ghost use Rattle.pud_defs.specs.World.{StoredWorld};
+ghost use Rattle.batch.specs.Batches.{HasIdleGate, Commits};
+ghost use Rattle.batch.specs.Worlds.{IsSettled};
+ghost use Rattle.registry.specs.Puts.{puts_batch};
+ghost use Rattle.registry.specs.Pools.{changing, dropping, OrStill, CommitsPuts, IsPoolAt, ChangesPools};
+
+use crate::puts::add_put;
+use batch::Batch;
+use pm_model::{Host, HostFault};
+use pud_defs::layout::{MAX_FRAMES, PUDDLE_RECORD_WORDS, PUDDLE_TABLE};
+use pud_defs::records::{POOL_RECORDS, member_pool};
+
+/// Gives the pool of this slot the mode, by one batch.
+///
+/// The device reaches up to the puddle table. Where the daemon log counts nothing in each image, each image left meanwhile has, with that log
+/// replayed, the new mode or the old; at `Ok` it is new and durable, and the daemon log is closed. Where each image stands for a world
+/// besides, the tables are durable and the slot's record is used, each image left meanwhile stands for that world or for the one with
+/// this mode in the pool, at `Ok` for the latter. The only errors are the host's own.
+pub fn change_mode<H: Host>(h: &mut H, slot: u32, mode: u32) -> Result<(), HostFault>
+    requires table { PUDDLE_TABLE ≤ (H.counts h.old).size }
+    requires known { slot < POOL_RECORDS }
+    ensures commits { H.tells → (size : ℕ) → size ≡ (H.counts h.old).size → HasIdleGate DAEMON_LOG (H.state h.old).now.words
+        → Commits DAEMON_LOG (puts_batch (changing slot mode)) (fault_of result) (H.state h.old) (H.state h.new) }
+    ensures changes { H.tells → (size : ℕ) → size ≡ (H.counts h.old).size → (s : StoredWorld) → IsSettled size s (H.state h.old).now.words
+        → (r : PoolRec) → IsPoolAt s.frames slot r (H.state h.old).now.words → is_legal_mode mode ≡ true
+        → ChangesPools size s (with_pool_mode r.name mode s) (λ _. ⊤) (fault_of result) (H.state h.old) (H.state h.new) }
+    ensures any { H.tells → Changes Anything (fault_of result) (H.state h.old) (H.state h.new) }
+    ensures cause { H.counts h.new ≡ after_fault (fault_of result) (H.counts h.old) }
+{
+    let mut batch = Batch::new();
+    add_put(&mut batch, &pool_table::set_mode(slot, mode));
+    batch.commit(h)
+}
+
+/// Whether the record of a frame is that of one of the pool's puddles.
+fn is_of_pool<H: Host>(h: &mut H, frame: u32, slot: u32) -> Result<bool, HostFault>
+    requires few { frame < MAX_FRAMES }
+    requires record { puddle_record_at (frame + 1) ≤ (H.counts h.old).size }
+    requires known { slot < POOL_RECORDS }
+    ensures of { H.tells → (image : Image) → reads (H.state h.old).now.words ≡ image → IfOk result (λ of. of ≡ is_of_pool slot (puddle_at image frame)) }
+    ensures stays { H.tells → H.state h.new ≡ H.state h.old }
+    ensures cause { H.counts h.new ≡ after_fault (fault_of result) (H.counts h.old) }
+    ensures never_cut { fault_of result ≢ Option.Some HostFault.Cut }
+{
+    let member = h.load(PUDDLE_TABLE + PUDDLE_RECORD_WORDS * frame)?;
+    Ok(member_pool(member) == slot + 1)
+}
+
+/// The batch that frees the record of the pool of this slot, and those of its puddles.
+fn dropping<H: Host>(h: &mut H, frames: u32, slot: u32) -> Result<Batch, HostFault>
+    requires few { frames ≤ MAX_FRAMES }
+    requires table { tables_end frames ≤ (H.counts h.old).size }
+    requires known { slot < POOL_RECORDS }
+    ensures batch { H.tells → (image : Image) → reads (H.state h.old).now.words ≡ image → count_used (members (tables_of frames image) slot) 0 frames ≤ MAX_PUDDLES
+        → IfOk result (λ batch. batch ≡ puts_batch (dropping (tables_of frames image) slot)) }
+    ensures stays { H.tells → H.state h.new ≡ H.state h.old }
+    ensures cause { H.counts h.new ≡ after_fault (fault_of result) (H.counts h.old) }
+    ensures never_cut { fault_of result ≢ Option.Some HostFault.Cut }
+{
+    let mut batch = Batch::new();
+    add_put(&mut batch, &pool_table::remove(slot));
+    for frame in 0..frames {
+        if is_of_pool(h, frame, slot)? {
+            add_put(&mut batch, &puddle_table::remove(frame));
+        }
+    }
+    Ok(batch)
+}
+
+/// Drops the pool of this slot with its puddles, by one batch: their frames are free then, and are not written.
+///
+/// The device has so many frames and the tables of so many. Where the daemon log counts nothing in each image and the pool has at most 16
+/// puddles, each image left meanwhile has, with that log replayed, all of these records free or all as they were; at `Ok` they are free,
+/// durably, and the daemon log is closed. Where each image stands for a world besides, the tables are durable and the slot's record is
+/// used, each image left meanwhile stands for that world or for the one without the pool, at `Ok` for the latter. The only errors are
+/// the host's own. It takes one load for each frame.
+pub fn drop_pool<H: Host>(h: &mut H, frames: u32, slot: u32) -> Result<(), HostFault>
+    requires few { frames ≤ MAX_FRAMES }
+    requires table { tables_end frames ≤ (H.counts h.old).size }
+    requires known { slot < POOL_RECORDS }
+    ensures commits { H.tells → (size : ℕ) → size ≡ (H.counts h.old).size → (image : Image) → reads (H.state h.old).now.words ≡ image → HasIdleGate DAEMON_LOG (H.state h.old).now.words
+        → count_used (members (tables_of frames image) slot) 0 frames ≤ MAX_PUDDLES
+        → OrStill (CommitsPuts (dropping (tables_of frames image) slot)) (fault_of result) (H.state h.old) (H.state h.new) }
+    ensures changes { H.tells → (size : ℕ) → size ≡ (H.counts h.old).size → (s : StoredWorld) → frames ≡ s.frames → IsSettled size s (H.state h.old).now.words
+        → (r : PoolRec) → IsPoolAt s.frames slot r (H.state h.old).now.words
+        → ChangesPools size s (without_pool r.name s) (λ _. ⊤) (fault_of result) (H.state h.old) (H.state h.new) }
+    ensures any { H.tells → Changes Anything (fault_of result) (H.state h.old) (H.state h.new) }
+    ensures cause { H.counts h.new ≡ after_fault (fault_of result) (H.counts h.old) }
+{
+    dropping(h, frames, slot)?.commit(h)
+}

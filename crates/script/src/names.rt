@@ -1,0 +1,73 @@
+//! The names and the modes of pools.
+
+ghost use Rattle.std.specs.Prelude.{◌≡◌, ◌-◌, ◌≤◌, ◌++◌, ◌&&◌, nat_le, cond, length, replicate, Some, None};
+ghost use Rattle.std.specs.List.{list_all};
+ghost use Rattle.pud_defs.specs.Grammar.{is_mode_digit, pool_mode, pool_name};
+ghost use Rattle.pud_defs.specs.Names.{is_name_byte};
+
+use pud_defs::records::{NAME_BYTES, Name};
+
+/// Whether a name may have the byte: a small letter, a digit, or `_`.
+fn is_name_byte(byte: u8) -> bool
+    ensures { result ≡ is_name_byte byte }
+{
+    matches!(byte, b'a'..=b'z' | b'0'..=b'9' | b'_')
+}
+
+/// Whether a name may have each of the bytes.
+fn are_name_bytes(bytes: &[u8]) -> bool
+    ensures { result ≡ list_all is_name_byte bytes.now }
+{
+    bytes.iter().all(|byte| is_name_byte(*byte))
+}
+
+/// Whether the bytes are a name: 1 to 16 of those that a name may have.
+fn is_name(bytes: &[u8]) -> bool
+    ensures { result
+        ≡ (nat_le 1 (length bytes.now) && nat_le (length bytes.now) NAME_BYTES
+        && list_all is_name_byte bytes.now) }
+{
+    (1..=NAME_BYTES).contains(&bytes.len()) && are_name_bytes(bytes)
+}
+
+/// The bytes, filled with zeros.
+fn filled(bytes: &[u8]) -> Name
+    requires { length bytes.now ≤ NAME_BYTES }
+    ensures { result ≡ bytes.now ++ replicate (NAME_BYTES - length bytes.now) 0 }
+{
+    let mut name = [0; NAME_BYTES];
+    name[..bytes.len()].copy_from_slice(bytes);
+    name
+}
+
+/// The name that the bytes are, filled with zeros. None where they are no name.
+#[tactic(auto, unfolding(pud_defs::specs::Grammar::pool_name))]
+pub(crate) fn read_name(bytes: &[u8]) -> Option<Name>
+    ensures { result ≡ pool_name bytes.now }
+{
+    if !is_name(bytes) {
+        return None;
+    }
+    Some(filled(bytes))
+}
+
+/// The digit of a mode that the byte is: 0, 2, 4 or 6.
+fn mode_digit(byte: u8) -> Option<u32>
+    ensures { result ≡ cond (is_mode_digit byte) (Some (byte - 48)) None }
+{
+    match byte {
+        b'0' | b'2' | b'4' | b'6' => Some(u32::from(byte - b'0')),
+        _ => None,
+    }
+}
+
+/// The mode that the bytes are: three such digits, for the owner, the group and others. None where they are no mode.
+#[tactic(auto, unfolding(pud_defs::specs::Grammar::pool_mode))]
+pub(crate) fn read_mode(bytes: &[u8]) -> Option<u32>
+    ensures { result ≡ pool_mode bytes.now }
+{
+    let [owner, group, others] = bytes else {
+        return None;
+    };
+    Some(mode_digit(*owner)? * 64 + mode_digit(*group)? * 8 + mode_digit(*others)?)
+}
