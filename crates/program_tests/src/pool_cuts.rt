@@ -73,16 +73,11 @@ fn case_at(rt: &impl Abort, alloc: Global, tried: &Tried, step: u32, pick: u64) 
     case_of(rt, alloc, &mut host, &tried.said)
 }
 
-/// Whether a line is cut off at the step: at each but for those that only fill a frame, of which some are taken.
-fn is_taken(step: u32) -> bool {
-    step <= 20 || step > 2_305 || step % 577 == 0
-}
-
 /// How many steps there are of each case, until one is behind the line.
 fn cut_each_step(rt: &impl Abort, alloc: Global, tried: &Tried, pick: u64) -> [u32; 3] {
     let mut counts = [0u32; 3];
     for step in 1..2_400 {
-        if counts[2] == 0 && is_taken(step) {
+        if counts[2] == 0 {
             let case = case_at(rt, alloc, tried, step, pick);
             if let Some(count) = counts.get_mut(case) {
                 *count = count.saturating_add(1);
@@ -111,10 +106,10 @@ fn is_done_from_the_gate_on(rt: &impl Abort, alloc: Global, tried: &Tried, undon
 
 // The frame takes 2,048 words and 256 lines with a fence. The batch has 17 entry words and three lines with a fence, and the
 // gate with a line and a fence; a number, a record of five words and another one, each with a line, with a fence, and the
-// gate. So the gate is stored by step 2,327 of 2,347. Of the 2,305 steps of the frame 23 are taken.
+// gate. So the gate is stored by step 2,327 of 2,347.
 #[test]
 fn a_pool_that_is_cut_off_is_made_or_not(rt: HostRuntime) {
-    is_done_from_the_gate_on(&rt, rt.alloc(), &POOL, 45, 20);
+    is_done_from_the_gate_on(&rt, rt.alloc(), &POOL, 2_327, 20);
 }
 
 // A change of a mode has three entry words and a line with a fence, and the gate; one word with a line, with a fence, and the
