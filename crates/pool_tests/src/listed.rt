@@ -1,18 +1,27 @@
 //! The pool table listed by names, and the puddle records counted by pools.
+use crate::pools::blank;
+use pm_mem::MemHost;
 use pm_model::Host;
 use pool_table::in_order;
 use pud_defs::layout::{MIN_FRAMES, device_words};
 use pud_defs::records::PoolRec;
 use puddle_table::count_by_pool;
+use std::alloc::Global;
 use std::process::Abort;
 use test_device::{blank_device, failures, poke};
-use test_tables::{Row, blank_with};
 
 /// The word of eight letters `z`.
 const LETTERS: u64 = 8_825_501_086_245_354_106;
 
 /// What stands for an answer of a call that failed.
 const FAILED: [u32; 4] = [1_001; 4];
+
+/// A blank device with these words.
+fn blank_with(rt: &impl Abort, alloc: Global, words: &[(u32, u64)]) -> MemHost {
+    let mut host = blank(rt, alloc);
+    assert!(rt; poke(&mut host, words));
+    host
+}
 
 /// The slots and the numbers of the listed pools have to be these, one after the other.
 fn lists<H: Host>(rt: &impl Abort, host: &mut H, want: &[(u32, u64)]) {
@@ -42,7 +51,7 @@ fn counts<H: Host>(rt: &impl Abort, host: &mut H) -> [u32; 4] {
 // The record of slot 0 begins with word 1,216, that of slot 1 with word 1,224, and so on. Its fifth word is the number.
 #[test]
 fn pools_are_listed_by_the_bytes_of_their_names(rt: HostRuntime) {
-    let rows: [(&[Row], &[(u32, u64)]); 5] = [
+    let rows: [(&[(u32, u64)], &[(u32, u64)]); 5] = [
         (&[(1_217, 97), (1_220, 1)], &[]),
         (
             // `c`, `a` and `b`.
@@ -147,7 +156,7 @@ fn a_listed_record_is_whole(rt: HostRuntime) {
 #[test]
 fn records_are_counted_by_the_pools_that_they_name(rt: HostRuntime) {
     let upper = 4_294_967_296;
-    let rows: [(&[Row], [u32; 4]); 4] = [
+    let rows: [(&[(u32, u64)], [u32; 4]); 4] = [
         (&[(1_537, 2), (1_546, 1)], [0, 0, 0, 0]),
         (
             &[(1_536, 2), (1_544, 2 + 3 * upper), (1_552, 32)],

@@ -1,18 +1,17 @@
 //! The pools are listed in one line.
-use pm_model::Host;
+use pm_model::{Host, HostFault};
 use pool_list::say_pools;
 use pud_defs::layout::{MIN_FRAMES, device_words};
 use std::alloc::Global;
 use std::process::Abort;
 use test_device::{blank_device, failures, poke};
-use test_tables::{DONE, FAILED, Row, done};
 
 /// One more in the upper half of a word: the next gid, or the next ordinal.
 const UPPER: u64 = 1 << 32;
 
 /// Pool `zoo` in slot 0, with puddles in frames 0 and 3, `a` in slot 2, with one in frame 1, and `abcdefgh_0123456` in slot 31,
 /// with none, on the machine of an id of 16 digits. The last word stands behind the records.
-const THREE_POOLS: [Row; 18] = [
+const THREE_POOLS: [(u32, u64); 18] = [
     (2, 0x0123_4567_89ab_cdef),
     (1_216, 0x6f_6f7a),
     (1_218, 1_000 + 100 * UPPER),
@@ -38,7 +37,7 @@ const LINE: &[u8] =
 
 /// Two records of one name, of which the one in slot 3 counts: a newline and two bytes 255, among zeros. All else is as large
 /// as it gets. Of the puddle records one names slot 3, and the others no slot.
-const HOSTILE: [Row; 13] = [
+const HOSTILE: [(u32, u64); 13] = [
     (2, u64::MAX),
     (1_240, 0x00ff_000a),
     (1_241, 0xff00_0000_0000_0000),
@@ -57,31 +56,37 @@ const HOSTILE: [Row; 13] = [
 const HOSTILE_LINE: &[u8] =
     b"ok \n\xff\xff:4294967295:4294967295:777:1:ffffffff-ffff-ffff-ffff-ffffffffffff\n";
 
-/// What the call answers, as a number.
-fn answer<H: Host>(rt: &impl Abort, host: &mut H) -> u64 {
+/// What the call answers.
+fn answer<H: Host>(rt: &impl Abort, host: &mut H) -> Result<(), HostFault> {
     assert!(rt; device_words(MIN_FRAMES) <= host.words());
-    done(say_pools(host, MIN_FRAMES))
+    say_pools(host, MIN_FRAMES)
 }
 
 /// A blank device with these words, at which these calls fail, has to answer so and to say this.
-fn says(rt: &impl Abort, alloc: Global, words: &[Row], fails: &[u32], wanted: u64, said: &[u8]) {
+fn says(
+    rt: &impl Abort,
+    alloc: Global,
+    (words, fails): (&[(u32, u64)], &[u32]),
+    wanted: Result<(), HostFault>,
+    said: &[u8],
+) {
     let plan = failures(alloc, fails).expect(rt, "memory");
     let mut host = blank_device(alloc, b"", plan).expect(rt, "memory");
     assert!(rt; poke(&mut host, words));
     let answered = answer(rt, &mut host);
-    assert!(rt; answered == wanted, "{answered} with {fails:?}");
+    assert!(rt; answered == wanted, "{answered:?} with {fails:?}");
     assert!(rt; host.said() == said, "{fails:?}");
 }
 
 #[test]
 fn pools_are_listed_by_their_names_whatever_the_words_hold(rt: HostRuntime) {
-    let rows: [(&[Row], &[u8]); 3] = [
+    let rows: [(&[(u32, u64)], &[u8]); 3] = [
         (&[], b"ok\n"),
         (&THREE_POOLS, LINE),
         (&HOSTILE, HOSTILE_LINE),
     ];
     for (words, line) in rows {
-        says(&rt, rt.alloc(), words, &[], DONE, line);
+        says(&rt, rt.alloc(), (words, &[]), Ok(()), line);
     }
 }
 
@@ -93,11 +98,10 @@ fn a_call_that_fails_leaves_the_front_of_the_line(rt: HostRuntime) {
         says(
             &rt,
             rt.alloc(),
-            &THREE_POOLS,
-            &[call],
-            FAILED,
+            (&THREE_POOLS, &[call]),
+            Err(HostFault::Failed),
             &LINE[..front],
         );
     }
-    says(&rt, rt.alloc(), &THREE_POOLS, &[171], DONE, LINE);
+    says(&rt, rt.alloc(), (&THREE_POOLS, &[171]), Ok(()), LINE);
 }

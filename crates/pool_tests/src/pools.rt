@@ -35,7 +35,8 @@ const FULL: [u64; 7] = [1_002; 7];
 
 const FAILED: [u64; 7] = [1_003; 7];
 
-fn blank(rt: &impl Abort, alloc: Global) -> MemHost {
+/// A blank device.
+pub fn blank(rt: &impl Abort, alloc: Global) -> MemHost {
     blank_device(alloc, b"", Plan::none(alloc)).expect(rt, "memory")
 }
 

@@ -1,11 +1,11 @@
 //! A device is judged by its words, as its daemon log's replay makes them.
+use crate::device::{FAILED, Row, blank_with, number};
 use pm_model::Host;
 use pud_defs::layout::DEVICE_MAGIC;
 use registry::sound_frames;
 use std::alloc::Global;
 use std::process::Abort;
 use test_device::{blank_device, failures, poke};
-use test_tables::{FAILED, Row, blank_with, number};
 
 /// The number of entries, the sequence number and the order of an undo entry in range and of one value, as its second word,
 /// and the same of a redo entry.

@@ -1,8 +1,8 @@
 //! A device whose newest words are not durable yet is brought up to date.
+use crate::device::{DONE, Row, blank_with, done, has, leaves};
 use pm_model::Host;
 use registry::load_sound;
 use std::process::Abort;
-use test_tables::{DONE, Row, blank_with, done, has, leaves};
 
 /// Stores each of these words and makes none durable.
 fn store_all<H: Host>(rt: &impl Abort, host: &mut H, rows: &[Row]) {

@@ -1,11 +1,11 @@
 //! A device is judged by the records of its pools and puddles.
+use crate::device::{Row, blank_with, has, word};
 use crate::judging::judge;
 use pm_model::Host;
 use pud_defs::layout::DEVICE_MAGIC;
 use registry::{LoadFault, load_sound};
 use std::process::Abort;
 use test_device::poke;
-use test_tables::{Row, blank_with, has, word};
 
 /// The first base, 2^44, and how far one base is from the next.
 const BASE: u64 = 0x1000_0000_0000;

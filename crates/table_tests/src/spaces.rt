@@ -1,4 +1,7 @@
 //! The log-space table: clients' logs registered, freed and closed.
+use crate::device::{
+    DONE, EVERY_OTHER, LOST, NEWEST, NONE, OLDEST, Row, blank_with, done, has, leaves, number, word,
+};
 use log_space::{clear_spaces, close_logs, free_log, is_registered, owner, register, unregister};
 use pm_model::Host;
 use pud_defs::layout::{CLIENTS, MIN_FRAMES, device_words};
@@ -6,9 +9,6 @@ use pud_defs::records::owner_word;
 use registry::load_sound;
 use std::alloc::Global;
 use std::process::Abort;
-use test_tables::{
-    DONE, EVERY_OTHER, LOST, NEWEST, NONE, OLDEST, Row, blank_with, done, has, leaves, number, word,
-};
 
 /// A call for a client.
 #[derive(Clone, Copy)]

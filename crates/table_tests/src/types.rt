@@ -1,11 +1,11 @@
 //! The type table: types found and defined.
+use crate::device::{
+    DONE, EVERY_OTHER, LOST, NEWEST, NONE, OLDEST, Row, blank_with, leaves, number, refused, word,
+};
 use pm_model::Host;
 use pud_defs::layout::POOL_TABLE;
 use std::alloc::Global;
 use std::process::Abort;
-use test_tables::{
-    DONE, EVERY_OTHER, LOST, NEWEST, NONE, OLDEST, Row, blank_with, leaves, number, refused, word,
-};
 use type_maps::{TypeFault, define, find};
 
 /// A call, with the number that it has to answer.

@@ -1,6 +1,4 @@
-//! What tests of the tables share: blank devices with some words, what is found on them, and what a call answers as a number.
-#![tactic(auto)]
-
+//! Blank devices with some words, what is found on them, and what a call answers as a number.
 use pm_mem::{MemHost, Plan};
 use pm_model::{Host, HostFault};
 use std::alloc::Global;
@@ -10,13 +8,11 @@ use test_device::{blank_device, poke};
 /// A word and its value.
 pub type Row = (u32, u64);
 
-/// The pick of a power loss that leaves the durable values.
+/// The picks of a power loss: the durable values, the newest ones, and every other word's.
 pub const OLDEST: u64 = 0;
 
-/// The newest values.
 pub const NEWEST: u64 = 1;
 
-/// The newest value of every other word.
 pub const EVERY_OTHER: u64 = 0x5555_5555_5555_5555;
 
 /// The answer of a call that gives nothing.
@@ -38,7 +34,6 @@ pub fn blank_with(rt: &impl Abort, alloc: Global, rows: &[Row]) -> MemHost {
     host
 }
 
-/// What a fault is as a number.
 pub fn refused(fault: HostFault) -> u64 {
     match fault {
         HostFault::Failed => FAILED,
@@ -46,7 +41,6 @@ pub fn refused(fault: HostFault) -> u64 {
     }
 }
 
-/// What a call that gives a number answers, as a number.
 pub fn number(outcome: Result<u64, HostFault>) -> u64 {
     match outcome {
         Ok(value) => value,
@@ -54,7 +48,6 @@ pub fn number(outcome: Result<u64, HostFault>) -> u64 {
     }
 }
 
-/// What a call that gives nothing answers, as a number.
 pub fn done(outcome: Result<(), HostFault>) -> u64 {
     match outcome {
         Ok(()) => DONE,
