@@ -1,16 +1,12 @@
 -- What sound tables list is the text of the pools that they stand for.
-use Rattle.std.proofs.Common.{◌≡◌, ℕ, ◌%◌, ◌^◌, ◌<◌, List, ◌++◌, map, Option, Some, None, option_map, codes, refl, sym, ap, ap₂, ◌∙◌, subst, arith, true, ◌&&◌, leb, leb-true, eqb, ◌/◌}
-use Rattle.std.specs.List.{AllByRecursion, flat_map}
-use Rattle.std.proofs.lemmas.Bool.{and_parts}
-use Rattle.std.proofs.lemmas.Option.{none-some, same_Some}
+use Rattle.std.proofs.Common.{◌≡◌, ℕ, List, ◌++◌, map, Option, Some, None, option_map, codes, refl, sym, ap, ap₂, ◌∙◌}
+use Rattle.std.specs.List.{flat_map}
 use Rattle.std.proofs.lemmas.List.Folds.{flat_map-map}
-use Rattle.pud_defs.specs.declared.layout.TheConstants.{MAX_OWNER_ID}
-use Rattle.pud_defs.specs.declared.records.TheConstants.{POOL_RECORDS, MAX_MODE}
+use Rattle.pud_defs.specs.declared.records.TheConstants.{POOL_RECORDS}
 use Rattle.pud_defs.specs.declared.records.PoolRec.{PoolRec}
-use Rattle.pud_defs.specs.Names.{name_cmp, is_legal_name}
-use Rattle.pud_defs.specs.Modes.{is_legal_mode}
+use Rattle.pud_defs.specs.Names.{name_cmp}
 use Rattle.pud_defs.specs.Keyed.{keyed}
-use Rattle.pud_defs.specs.Pools.{pool_read, is_given}
+use Rattle.pud_defs.specs.Pools.{pool_read}
 use Rattle.pud_defs.specs.Spaces.{owner}
 use Rattle.pud_defs.specs.Tables.{Tables, Pool, puddles_of, named, records_of, pool_of, entries, pools_of}
 use Rattle.pud_defs.specs.SoundTables.{is_sound_pool, HasSoundTables}
@@ -18,43 +14,13 @@ use Rattle.pud_defs.specs.World.{StoredWorld}
 use Rattle.pud_defs.specs.Step.Answer.{of_text}
 use Rattle.pud_defs.specs.Texts.{line_of, answer_text}
 use Rattle.pud_defs.specs.Listing.{pool_text, pools_text}
-use Rattle.pud_defs.proofs.KeyedEach.{each-keyed, flat_map-each, each-weaker}
+use Rattle.pud_defs.proofs.KeyedEach.{flat_map-each, each-weaker}
 use Rattle.pud_defs.proofs.KeyedMaps.{of_entry, keyed-mapped}
 use Rattle.pud_defs.proofs.Listing.{in_one_line-pools_text}
-use Rattle.pud_defs.proofs.PoolsChanged.{same_name}
 use Rattle.pud_defs.proofs.PoolsCounted.{length_puddles}
+use Rattle.pud_defs.proofs.RecordsPlaced.{IsPlaced, each_placed, legal_mode, mode_read}
 use Rattle.pud_defs.proofs.SoundChanged.{legal_pool}
 use Rattle.pool_list.specs.Listed.{record_text, puddles_counted, listed_text}
-
--- ---- the records of the list stand in the table
-
-record IsPlaced (t : Tables) (e : List ℕ × (ℕ × PoolRec)) : Type 0 where
-  below : e.1.0 < POOL_RECORDS
-  used : t.pools e.1.0 ≡ Some e.1.1
-  name : e.1.1.name ≡ e.0
-
-placed : (t : Tables) (slot : ℕ) → slot < POOL_RECORDS → (o : Option PoolRec) → t.pools slot ≡ o → (e : List ℕ × (ℕ × PoolRec)) → option_map (λ r. (r.name, (slot, r))) o ≡ Some e → IsPlaced t e
-placed t slot below None is e there = absurd (none-some e there)
-placed t slot below (Some r) is e there = subst (IsPlaced t) (same_Some (r.name, (slot, r)) e there) (record { below = below; used = is; name = refl })
-
-each_placed : (t : Tables) → AllByRecursion (IsPlaced t) (records_of t)
-unfolding records_of
-each_placed t = each-keyed name_cmp same_name (IsPlaced t) (named t) 0 POOL_RECORDS (λ slot low high e is. placed t slot (omega arith) (t.pools slot) refl e is)
-
--- ---- a legal record is read as it is
-
-mode_read : (mode : ℕ) → is_legal_mode mode ≡ true → mode % 2 ^ 32 ≡ mode
-mode_read mode legal =
-    let three = and_parts (leb mode MAX_MODE && eqb (mode % 2) 0 && eqb (mode / 8 % 2) 0) (eqb (mode / 64 % 2) 0) legal in
-    let two = and_parts (leb mode MAX_MODE && eqb (mode % 2) 0) (eqb (mode / 8 % 2) 0) three.0 in
-    let one = and_parts (leb mode MAX_MODE) (eqb (mode % 2) 0) two.0 in
-    let few = leb-true mode MAX_MODE one.0 in
-    omega arith
-
-legal_mode : (next : ℕ) (r : PoolRec) → is_sound_pool next (Some r) ≡ true → is_legal_mode r.mode ≡ true
-legal_mode next r sound =
-    let four = and_parts (is_legal_name r.name && leb r.uid MAX_OWNER_ID && leb r.gid MAX_OWNER_ID && is_legal_mode r.mode) (is_given next r.number) sound in
-    (and_parts (is_legal_name r.name && leb r.uid MAX_OWNER_ID && leb r.gid MAX_OWNER_ID) (is_legal_mode r.mode) four.0).1
 
 -- ---- the pools are the records, each with its puddles
 

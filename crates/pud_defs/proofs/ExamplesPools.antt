@@ -1,13 +1,10 @@
 -- Lines on pools, each answered in turn, with what is said and the world behind them.
-use Rattle.std.proofs.Common.{◌≡◌, ℕ, true, false, List, [], ◌∷◌, ◌++◌, map, codes, Some, None, refl}
+use Rattle.std.proofs.Common.{◌≡◌, ℕ, List, [], ◌∷◌, ◌++◌, map, codes, Some, None, refl}
 use Rattle.std.specs.Prelude.{flat_map}
 use Rattle.std.specs.List.{range_with_len}
-use Rattle.pud_defs.specs.declared.machine.Refusal.TheVariants as refusals
-use Rattle.pud_defs.specs.Spaces.{Owner, owner}
-use Rattle.pud_defs.specs.Tables.{Pool}
-use Rattle.pud_defs.specs.World.{StoredWorld, World, no_clients, blank_world, restart}
-use Rattle.pud_defs.specs.Step.{Answer, step_answer, step_world, refusal_of}
-use Rattle.pud_defs.specs.Grammar.{command_of}
+use Rattle.pud_defs.specs.Spaces.{owner}
+use Rattle.pud_defs.specs.World.{World, no_clients, blank_world}
+use Rattle.pud_defs.specs.Step.{step_answer, step_world}
 use Rattle.pud_defs.specs.Texts.{answer_text}
 use Rattle.pud_defs.proofs.Opened.{opened}
 
@@ -26,7 +23,7 @@ behind w [] = w
 behind w (line ∷ lines) = behind (step_world w line) lines
 
 -- a text with a newline behind each of these
-abbrev lines_said : List (List ℕ) → List ℕ
+abbrev pub lines_said : List (List ℕ) → List ℕ
 lines_said texts = flat_map (λ text. text ++ 10 ∷ []) texts
 
 -- ---- two pools, one after the other, and a client that is not the owner

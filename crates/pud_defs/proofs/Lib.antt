@@ -8,6 +8,7 @@ pub mod TablesOf
 pub mod PutsMade
 pub mod PoolsChanged
 pub mod SoundChanged
+pub mod RecordsPlaced
 pub mod PoolsCounted
 pub mod Images
 pub mod TypeLists
@@ -38,6 +39,7 @@ pub mod ExamplesRun
 pub mod ExamplesPools
 pub mod ExamplesLogs
 pub mod ExamplesTables
+pub mod ExamplesLayout
 pub mod ExamplesIdentifiers
 pub mod ExamplesPlaces
 pub mod Stands

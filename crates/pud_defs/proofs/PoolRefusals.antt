@@ -1,5 +1,5 @@
 -- Which refusal a line on a pool meets, and what the tables tell of it.
-use Rattle.std.proofs.Common.{◌≡◌, ℕ, ◌+◌, ◌<◌, ◌≤◌, Bool, true, false, not, cond, ◌||◌, leb, ltb, List, [], length, map, sum_by, Option, Some, None, option_map, is_some, is_none, refl, sym, ap, ap₂, subst, ◌∙◌, arith, le-leb, lt-ltb}
+use Rattle.std.proofs.Common.{◌≡◌, ℕ, ◌+◌, ◌<◌, Bool, not, cond, leb, ltb, List, length, map, sum_by, Option, Some, None, option_map, is_some, is_none, refl, sym, ap, subst, ◌∙◌, arith, le-leb, lt-ltb}
 use Rattle.std.specs.FinMap.Entries.{find}
 use Rattle.std.specs.Ordering.{eq_by_cmp}
 use Rattle.std.specs.Cmp.{Equal-is}
@@ -13,7 +13,7 @@ use Rattle.pud_defs.specs.declared.machine.Command.TheVariants as commands
 use Rattle.pud_defs.specs.declared.machine.Refusal.{Refusal}
 use Rattle.pud_defs.specs.declared.machine.Refusal.TheVariants as refusals
 use Rattle.pud_defs.specs.Names.{name_cmp}
-use Rattle.pud_defs.specs.Keyed.{under, keyed, first_free, count_used}
+use Rattle.pud_defs.specs.Keyed.{under, keyed, first_free}
 use Rattle.pud_defs.specs.Spaces.{Owner}
 use Rattle.pud_defs.specs.Tables.{Tables, Pool, named, records_of, pool_in, pool_of, puddles_of, entries, pools_of}
 use Rattle.pud_defs.specs.SoundTables.{HasSoundTables}

@@ -27,4 +27,5 @@ pub mod Step
 pub mod Changing
 pub mod Run
 pub mod Texts
+pub mod LayoutText
 pub mod Stands

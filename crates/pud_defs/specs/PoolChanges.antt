@@ -1,5 +1,5 @@
 -- What makes, changes and drops a pool of a stored world.
-use Rattle.std.specs.Prelude.{ℕ, ◌+◌, Bool, ◌||◌, nat_le, nat_lt, List, length, sum_by, Option, Some, None, option_map, unwrap_or}
+use Rattle.std.specs.Prelude.{ℕ, ◌+◌, Bool, ◌||◌, nat_le, nat_lt, List, length, sum_by, Option, option_map, unwrap_or}
 use Rattle.std.specs.FinMap.Entries.{put, find}
 use Rattle.pud_defs.specs.declared.layout.TheConstants.{NUMBER_LIMIT}
 use Rattle.pud_defs.specs.declared.records.TheConstants.{POOL_RECORDS}
