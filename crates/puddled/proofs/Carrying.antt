@@ -22,7 +22,7 @@ use Rattle.puddled.specs.Faults.Kind.{ordinary, loses, arms}
 use Rattle.puddled.specs.Memory.{Memory}
 use Rattle.puddled.specs.declared.answers.Answered.{Answered}
 use Rattle.puddled.specs.declared.answers.Answered.TheVariants as answers
-use Rattle.puddled.specs.Answered.{as_answered, answer_of}
+use Rattle.puddled.specs.Answered.{as_answered}
 use Rattle.puddled.specs.Daemon.{KeepsRest, KeepsLine, IsReady, Applies, ClosesFirst, ClosesLogs, CarriesOut}
 use Rattle.puddled.proofs.Applying.{Applies-idle}
 

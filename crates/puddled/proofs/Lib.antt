@@ -10,3 +10,4 @@ pub mod Carrying
 pub mod Listed
 pub mod Settling
 pub mod Lines
+pub mod Starting

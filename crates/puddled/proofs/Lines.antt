@@ -9,15 +9,13 @@ use Rattle.pm_model.specs.Calls.{Says}
 use Rattle.pm_model.specs.Changes.{Leaves, Silently}
 use Rattle.pm_model.proofs.Leaves.{Leaves-then, Leaves-weaker, Leaves-now, Leaves-says, IsPrefix}
 use Rattle.pm_model.proofs.Said.{words-all_said, said-all_said, script-all_said, shelf-all_said}
-use Rattle.pud_defs.specs.declared.machine.Reply.{Reply}
 use Rattle.pud_defs.specs.Spaces.{owner_of}
 use Rattle.pud_defs.specs.Image.{Image}
 use Rattle.pud_defs.specs.World.{World, world_of, closed, restart}
 use Rattle.pud_defs.specs.Grammar.{command_of}
 use Rattle.pud_defs.specs.Step.{Answer}
-use Rattle.pud_defs.specs.Step.Answer.{of_reply}
 use Rattle.pud_defs.specs.Run.{Turn, IsTurn, cuts_of, newlines}
-use Rattle.pud_defs.specs.Texts.{start_text, reply_text, answer_text, begins_with_ok}
+use Rattle.pud_defs.specs.Texts.{start_text, answer_text, begins_with_ok}
 use Rattle.pud_defs.specs.Stands.{StandsAfter, StandsWith}
 use Rattle.pud_defs.proofs.Lines.{newlines_part}
 use Rattle.pud_defs.proofs.Said.{newlines-answer_text}

@@ -1,5 +1,5 @@
 -- What is said of a ready device is what the machine answers.
-use Rattle.std.proofs.Common.{◌≡◌, ℕ, List, ◌++◌, codes, Option, refl, ap, subst, ◌∙◌}
+use Rattle.std.proofs.Common.{◌≡◌, ℕ, ◌++◌, codes, Option, refl, ap, subst, ◌∙◌}
 use Rattle.pm_model.specs.Words.{reads}
 use Rattle.pm_model.specs.declared.host.HostFault.{HostFault}
 use Rattle.pm_model.specs.Moments.{State}

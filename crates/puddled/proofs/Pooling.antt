@@ -1,18 +1,18 @@
 -- Pools made, changed and dropped by lines.
-use Rattle.std.proofs.Common.{◌≡◌, ◌⊎◌, inl, inr, ⊎_elim, ℕ, ◌+◌, ◌%◌, ◌^◌, ◌<◌, ◌≤◌, Bool, true, false, not, cond, ◌&&◌, ◌||◌, leb, ltb, eqb, List, [], length, Option, Some, None, Result, Ok, Err, option_map, is_some, is_none, refl, sym, ap, ap₂, sum_by, subst, ◌∙◌, arith, leb-true, eqb-true, eq-eqb, ne_eqb}
+use Rattle.std.proofs.Common.{◌≡◌, ◌⊎◌, inl, inr, ℕ, ◌+◌, ◌%◌, ◌^◌, ◌<◌, ◌≤◌, Bool, true, false, not, cond, ◌&&◌, ◌||◌, leb, ltb, eqb, List, length, Option, Some, None, Result, Ok, Err, option_map, is_some, is_none, refl, sym, ap, ap₂, sum_by, subst, ◌∙◌, arith, leb-true, eq-eqb, ne_eqb}
 use Rattle.std.specs.Prelude.{IfOk, unwrap_or}
 use Rattle.std.specs.FinMap.Entries.{find}
-use Rattle.std.proofs.lemmas.Bool.{cases_Bool, cases_eq, cond-true, cond-false, and_parts}
+use Rattle.std.proofs.lemmas.Bool.{cases_eq, cond-true, cond-false, and_parts}
 use Rattle.std.proofs.lemmas.Option.{none-some, same_Some}
 use Rattle.pm_model.specs.declared.host.HostFault.{HostFault}
 use Rattle.pm_model.specs.declared.host.HostFault.TheVariants.{Cut}
 use Rattle.pm_model.specs.Counts.{fault_of}
 use Rattle.pm_model.specs.Words.{IsRested, reads}
 use Rattle.pm_model.specs.Moments.{State}
-use Rattle.pm_model.specs.Changes.{Changes, Leaves, Silently}
+use Rattle.pm_model.specs.Changes.{Changes, Silently}
 use Rattle.pm_model.proofs.Changes.{Changes-said}
 use Rattle.pm_model.proofs.Leaves.{Leaves-weaker}
-use Rattle.pud_defs.specs.declared.layout.TheConstants.{CLIENTS, MAX_OWNER_ID, NEXT_NUMBER_WORD, DAEMON_LOG, SPACE_TABLE, PUDDLE_TABLE}
+use Rattle.pud_defs.specs.declared.layout.TheConstants.{CLIENTS, MAX_OWNER_ID, NEXT_NUMBER_WORD, SPACE_TABLE, PUDDLE_TABLE}
 use Rattle.pud_defs.specs.declared.records.TheConstants.{POOL_RECORDS}
 use Rattle.pud_defs.specs.declared.records.PoolRec.{PoolRec}
 use Rattle.pud_defs.specs.declared.records.Owner.{Owner}
@@ -23,15 +23,14 @@ use Rattle.pud_defs.specs.declared.machine.Reply.{Reply}
 use Rattle.pud_defs.specs.declared.machine.Refusal.{Refusal}
 use Rattle.pud_defs.specs.declared.machine.Refusal.TheVariants as refusals
 use Rattle.pud_defs.specs.Image.{Image}
-use Rattle.pud_defs.specs.Layout.{IsWithin, tables_end, frames_at}
 use Rattle.pud_defs.specs.Keyed.{first_free}
 use Rattle.pud_defs.specs.Pools.{pool_read}
 use Rattle.pud_defs.specs.Names.{name_cmp}
 use Rattle.pud_defs.specs.Spaces.{owner, owner_by, owner_of, is_space, is_legal_space, space_record_at}
-use Rattle.pud_defs.specs.Tables.{Tables, Pool, tables_of, records_of, pool_in, pool_of, puddles_of, pools_of}
+use Rattle.pud_defs.specs.Tables.{Tables, Pool, tables_of, records_of, pool_in, pool_of}
 use Rattle.pud_defs.specs.PoolChanges.{pool_named, lacks_numbers, is_full_of_pools, lacks_frames, with_new_pool, with_pool_mode, without_pool}
 use Rattle.pud_defs.specs.World.{StoredWorld, World, world_of, closed}
-use Rattle.pud_defs.specs.Step.{owns, refusal_of, after, unless_refused, answer_by, world_by}
+use Rattle.pud_defs.specs.Step.{owns, refusal_of, after, answer_by, world_by}
 use Rattle.pud_defs.specs.Step.Answer.{of_reply}
 use Rattle.pud_defs.proofs.Parts.Part.{Spaces}
 use Rattle.pud_defs.proofs.PoolsCounted.{IsMasked}

@@ -1,5 +1,5 @@
 -- What the daemon's start and one line do, at every moment.
-use Rattle.std.specs.Prelude.{◌≡◌, ◌≢◌, ◌<◌, ◌≤◌, ◌⊎◌, ℕ, Bool, true, cond, List, [], ◌∷◌, ◌++◌, Option, Some, None, is_some, Result, IfOk}
+use Rattle.std.specs.Prelude.{◌≡◌, ◌≢◌, ◌<◌, ◌≤◌, ◌⊎◌, ℕ, Bool, true, false, cond, List, [], ◌∷◌, ◌++◌, Option, Some, None, is_some, Result, IfOk}
 use Rattle.pm_model.specs.declared.host.HostFault.{HostFault}
 use Rattle.pm_model.specs.declared.host.HostFault.TheVariants as hosts
 use Rattle.pm_model.specs.Words.{reads, IsRested}
@@ -7,10 +7,10 @@ use Rattle.pm_model.specs.Counts.{Counts, fault_of}
 use Rattle.pm_model.specs.Moments.{State}
 use Rattle.pm_model.specs.Changes.{Leaves, Silently}
 use Rattle.pud_defs.specs.Step.{Answer, answer_by, world_by}
-use Rattle.pud_defs.specs.declared.layout.TheConstants.{DAEMON_LOG, CLIENTS}
+use Rattle.pud_defs.specs.declared.layout.TheConstants.{DAEMON_LOG, SPACE_TABLE, PUDDLE_TABLE, CLIENTS}
 use Rattle.pud_defs.specs.Layout.{tables_end, frames_at}
 use Rattle.pud_defs.specs.Image.{Image}
-use Rattle.pud_defs.specs.Replay.{settled_by}
+use Rattle.pud_defs.specs.Replay.{is_in_log, settled_by}
 use Rattle.pud_defs.specs.Spaces.{space_record_at, owner_of, has_closed_logs}
 use Rattle.pud_defs.specs.World.{World, world_of, closed, restart}
 use Rattle.pud_defs.specs.declared.machine.Command.{Command}
@@ -128,6 +128,11 @@ pub record Recovers (size : ℕ) (w : World) (result : Result Memory StartFault)
   pub ready : IfOk result (λ memory. IsReady size (restart w) memory new)
   pub script : new.script ≡ old.script
   pub shelf : new.shelf ≡ old.shelf
+
+-- What a device reads behind a start: each word but those of the daemon log and of the log-space table has the value that the daemon log gives
+-- it, or else the one that it had.
+pub record IsReplayed (before now : Image) : Type 0 where
+  pub each : (k : ℕ) → is_in_log DAEMON_LOG k ≡ false → (k < SPACE_TABLE) ⊎ (PUDDLE_TABLE ≤ k) → now k ≡ settled_by DAEMON_LOG before k
 
 -- A rested device that stands for a world was started on: at each moment each image stands for it, and the start text was said, or with a
 -- fault a part of it; without a fault the daemon is ready.

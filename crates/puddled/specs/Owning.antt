@@ -1,5 +1,5 @@
 -- What the daemon finds of a pool, and what is replied by what became of it.
-use Rattle.std.specs.Prelude.{◌≡◌, ℕ, ◌<◌, List, Option, Some, None, Result, Ok, Err}
+use Rattle.std.specs.Prelude.{◌≡◌, ℕ, List, Option, Some, None, Result, Ok, Err}
 use Rattle.pm_model.specs.declared.host.HostFault.{HostFault}
 use Rattle.pud_defs.specs.declared.records.PoolRec.{PoolRec}
 use Rattle.pud_defs.specs.declared.machine.Reply.{Reply}

@@ -5,12 +5,13 @@ ghost use Rattle.pm_model.specs.Counts.{Counts, after_fault, after_arm, after_lo
 ghost use Rattle.pm_model.specs.Moments.{State};
 ghost use Rattle.pud_defs.specs.declared.layout.TheConstants.{MIN_FRAMES};
 ghost use Rattle.pud_defs.specs.Layout.{device_words};
+ghost use Rattle.pud_defs.specs.Registry.{frames_of};
 ghost use Rattle.pud_defs.specs.World.{World, world_of, closed, restart};
 ghost use Rattle.puddled.specs.Faults.{start_fault, run_fault, kind_of, CountsLine, CountsCommand, behind_loss, HasLostPower};
 ghost use Rattle.pud_defs.specs.Grammar.{command_of, IsLegalCommand};
 ghost use Rattle.pud_defs.specs.Changing.{file_of, file_in};
 ghost use Rattle.puddled.specs.Memory.{Memory};
-ghost use Rattle.puddled.specs.Daemon.{KeepsRest, KeepsLine, IsReady, Applies, CarriesOut, Recovers, Settles};
+ghost use Rattle.puddled.specs.Daemon.{KeepsRest, KeepsLine, IsReady, IsReplayed, Applies, CarriesOut, Recovers, Settles};
 
 use crate::answers::{Answered, say_answer, with_reply};
 use crate::clients::{come, leave};
@@ -125,6 +126,10 @@ fn recover<H: Host>(h: &mut H) -> Result<Daemon, StartFault>
     ensures recovers { H.tells → (size : ℕ) → size ≡ (H.counts h.old).size → (w : World) → IsRested (H.state h.old).now.words
         → world_of size (reads (H.state h.old).now.words) ≡ Option.Some (closed w) → (H.state h.old).shelf ≡ w.shelf
         → Recovers size w result (H.state h.old) (H.state h.new) }
+    // Whatever the device holds.
+    ensures replays { H.tells → IfOk result (λ daemon. IsReplayed (reads (H.state h.old).now.words) (reads (H.state h.new).now.words)) }
+    ensures frames { H.tells → IfOk result (λ daemon. daemon.frames ≡ frames_of (reads (H.state h.new).now.words)) }
+    ensures quiet { H.tells → (H.state h.new).now.said ≡ (H.state h.old).now.said }
     ensures enough { IfOk result (λ daemon. MIN_FRAMES ≤ daemon.frames) }
     ensures room { IfOk result (λ daemon. device_words daemon.frames ≤ (H.counts h.old).size) }
     ensures rest { H.tells → KeepsRest (H.state h.old) (H.state h.new) }
@@ -260,13 +265,15 @@ fn settle<H: Host>(daemon: &mut Daemon, h: &mut H, line: &[u8]) -> Result<Answer
 
 impl Daemon {
     ghost use Rattle.pud_defs.specs.declared.layout.TheConstants.{MAX_FRAMES};
-    ghost use Rattle.puddled.specs.Daemon.{Starts, Answers};
+    ghost use Rattle.pud_defs.specs.Texts.{start_text};
+    ghost use Rattle.puddled.specs.Daemon.{SaysPart, Starts, Answers};
 
     /// Starts on the device: applies what its daemon log names, empties the log-space table, and says the start text.
     ///
     /// `NotSound` comes exactly where the device is not a sound registry, where the host does not fail first; then no word
     /// was changed and nothing was said. On a device that is rested each image left at any moment stands for what the
-    /// device did.
+    /// device did. On any device each word but those of the daemon log and of the log-space table then reads as the daemon
+    /// log named it, or else as it was.
     pub fn start<H: Host>(h: &mut H) -> Result<Daemon, StartFault>
         ensures not_sound { H.tells → start_fault result ≡ Option.None
             → (result ≡ Result.Err StartFault.NotSound) ↔ (world_of (H.counts h.old).size (reads (H.state h.old).now.words) ≡ Option.None) }
@@ -274,6 +281,10 @@ impl Daemon {
         ensures starts { H.tells → (size : ℕ) → size ≡ (H.counts h.old).size → (w : World) → IsRested (H.state h.old).now.words
             → world_of size (reads (H.state h.old).now.words) ≡ Option.Some (closed w) → (H.state h.old).shelf ≡ w.shelf
             → Starts size w result (H.state h.old) (H.state h.new) }
+        // Whatever the device holds: what it then reads, and what was said.
+        ensures replays { H.tells → IfOk result (λ daemon. IsReplayed (reads (H.state h.old).now.words) (reads (H.state h.new).now.words)) }
+        ensures frames { H.tells → IfOk result (λ daemon. daemon.frames ≡ frames_of (reads (H.state h.new).now.words)) }
+        ensures says { H.tells → result ≢ Result.Err StartFault.NotSound → SaysPart start_text (start_fault result) (H.state h.old) (H.state h.new) }
         ensures enough { IfOk result (λ daemon. MIN_FRAMES ≤ daemon.frames) }
         ensures room { IfOk result (λ daemon. device_words daemon.frames ≤ (H.counts h.old).size) }
         ensures rest { H.tells → KeepsRest (H.state h.old) (H.state h.new) }

@@ -9,6 +9,7 @@ use Rattle.puddled.specs.declared.daemon.StartFault.TheVariants as starts
 use Rattle.puddled.specs.Memory.{Memory}
 use Rattle.puddled.specs.Faults.{start_fault}
 use Rattle.puddled.proofs.Lines.{Starts-says, Starts-refused, KeepsRest-says}
+use Rattle.puddled.proofs.Starting.{SaysPart-behind}
 use Rattle.puddled.proofs.daemon.Daemon.start.Goals as goal
 
 pub returns-in_err-daemon-clause-starts : goal.returns-in_err-daemon-clause-starts
@@ -72,3 +73,15 @@ returns-in_err-say-clause-cause g c =
 
 pub returns-clause-cause : goal.returns-clause-cause
 returns-clause-cause g c = c.in_ok-say.ensures.cause ∙ c.in_ok-daemon.ensures.cause
+
+-- ---- what was said, whatever the device holds
+
+pub returns-in_err-say-clause-says : goal.returns-in_err-say-clause-says
+unfolding start_text
+returns-in_err-say-clause-says g c =
+    let p = err_from_is_err_and c.from_residual-in_err-say.result c.from_residual-in_err-say.ensures.1 in
+    rw (p.1, p.2) (λ t sound. SaysPart-behind _ _ _ _ _ (c.in_ok-daemon.ensures.quiet t) (c.in_err-say.ensures.said t))
+
+pub returns-clause-says : goal.returns-clause-says
+unfolding start_text
+returns-clause-says g c = λ t sound. SaysPart-behind _ _ _ _ _ (c.in_ok-daemon.ensures.quiet t) (c.in_ok-say.ensures.said t)

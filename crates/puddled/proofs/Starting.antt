@@ -1,0 +1,51 @@
+-- What a device reads behind a start, and what was said, whatever the device held.
+use Rattle.std.proofs.Common.{◌≡◌, inl, ⊎_elim, ℕ, List, ◌++◌, true, false, Option, Some, None, Result, Ok, Err, refl, sym, ap, subst, ◌∙◌, arith}
+use Rattle.pm_model.specs.declared.host.HostFault.{HostFault}
+use Rattle.pm_model.specs.Words.{reads}
+use Rattle.pm_model.specs.Moments.{State}
+use Rattle.pm_model.specs.Calls.{Says}
+use Rattle.pud_defs.specs.declared.layout.TheConstants.{DAEMON_LOG, FRAMES_WORD, CLIENTS}
+use Rattle.pud_defs.specs.Image.{Image}
+use Rattle.pud_defs.specs.Entries.{is_idle_gate}
+use Rattle.pud_defs.specs.Replay.{replayed, is_in_log}
+use Rattle.pud_defs.specs.World.{StoredWorld, world_of}
+use Rattle.pud_defs.proofs.Replay.{settled_by-outside, not_inside, outside_log}
+use Rattle.pud_defs.proofs.Parts.Part.{Header}
+use Rattle.pud_defs.proofs.Worlds.{standing_of_world}
+use Rattle.log_replay.specs.Replaying.{SettlesLog}
+use Rattle.batch.specs.Batches.{ByBatch, HasIdleGate}
+use Rattle.log_space.specs.Clearing.{clearing, Empties}
+use Rattle.log_space.proofs.Cleared.{clearing-outside}
+use Rattle.registry.specs.declared.Geo.{Geo}
+use Rattle.registry.specs.declared.LoadFault.{LoadFault}
+use Rattle.registry.specs.declared.LoadFault.TheVariants as loads
+use Rattle.puddled.specs.Daemon.{SaysPart, IsReplayed}
+use Rattle.puddled.proofs.Lines.{SaysPart-says}
+
+-- the daemon log is closed behind its replay
+pub idle_behind : (a b : State) → SettlesLog DAEMON_LOG None a b → HasIdleGate DAEMON_LOG b.now.words
+idle_behind a b settles = record { each = λ v had. subst (λ (x : ℕ). is_idle_gate x ≡ true) (sym ((settles.closed refl).each v had)) refl }
+
+-- it was applied, and then the log-space table emptied
+pub IsReplayed-cleared : (a b c : State) → SettlesLog DAEMON_LOG None a b → Empties None b c → IsReplayed (reads a.now.words) (reads c.now.words)
+IsReplayed-cleared a b c settles empties = record {
+  each = λ k outside beside.
+      let not_written : (v : ℕ) → ByBatch DAEMON_LOG (clearing CLIENTS) k v → ⊥ = λ v may. ⊎_elim (λ inside. not_inside DAEMON_LOG k outside inside)
+      (λ named. let it : None ≡ Some named.value = sym (clearing-outside CLIENTS k (omega arith) beside) ∙ named.is in absurd (cc)) may in
+      let kept = empties.commits.changes.keeps (λ no. absurd (cc)) k not_written in
+      kept.newest ∙ settles.reads_so refl k (λ at. let gate : is_in_log DAEMON_LOG k ≡ true = ap (is_in_log DAEMON_LOG) at in absurd (let no : true ≡ false = sym gate ∙ outside in cc))
+      ∙ sym (settled_by-outside DAEMON_LOG (reads a.now.words) k outside);
+}
+
+-- the number of frames that a device was loaded with is the one that it reads
+pub frames_told : (size : ℕ) (geo : Geo) (before now : Image) (o : Option StoredWorld) → world_of size before ≡ o → (o ≡ None → ◌≡◌ {A = Result Geo LoadFault} (Ok geo) (Err loads.NotSound))
+    → ((s : StoredWorld) → world_of size before ≡ Some s → geo.frames ≡ s.frames) → IsReplayed before now → geo.frames ≡ now FRAMES_WORD
+frames_told size geo before now None e unsound of_world replayed = absurd (let no = unsound refl in cc)
+frames_told size geo before now (Some s) e unsound of_world replayed =
+    of_world s e ∙ sym ((standing_of_world size before s e).holds Header).frames ∙ sym (replayed.each FRAMES_WORD (outside_log DAEMON_LOG FRAMES_WORD (inl (omega arith))) (inl (omega arith)))
+
+-- a text said behind a silent call
+pub SaysPart-behind : (text : List ℕ) (fault : Option HostFault) (old mid new : State) → mid.now.said ≡ old.now.said → Says text fault mid new → SaysPart text fault old new
+SaysPart-behind text fault old mid new quiet says =
+    let part = SaysPart-says text fault mid new says in
+    record { bytes = part.bytes; rest = part.rest; part = part.part; said = part.said ∙ ap (λ (l : List ℕ). l ++ part.bytes) quiet; whole = part.whole }
