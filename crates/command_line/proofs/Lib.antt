@@ -1,0 +1,6 @@
+pub mod WordKinds
+pub mod Turns
+pub mod Levels
+pub mod ModeLevels
+pub mod Agreement
+pub mod Reading
