@@ -1,13 +1,13 @@
 -- What the parse of a command line gives is what its words ask for.
-use Rattle.std.proofs.Common.{◌≡◌, ◌∙◌, ◌||◌, ℕ, Bool, cond, codes, true, false, true≢false, refl, sym, subst, ap, ap₂, List, [], ◌∷◌, ◌++◌, Option, Some, None}
+use Rattle.std.proofs.Common.{◌≡◌, ◌∙◌, Bool, codes, true, false, true≢false, refl, sym, subst, ap, ap₂, List, [], ◌∷◌, Option, Some, None}
 use Rattle.std.specs.Prelude.{bytes_eq, find, fold, is_some, option_map}
 use Rattle.std.specs.Option.{option_map_or}
 use Rattle.std.proofs.lemmas.Bool.{false_from_ne_true}
 use Rattle.std.proofs.lemmas.Slice.Eq.{bytes_eq-Decides}
-use Rattle.clap.specs.Walk.{Names, Row, Text, Walk, answers_to, finished, idle, nothing_held, settled, subcommand_met, value, walk_from, walked}
+use Rattle.clap.specs.Walk.{Names, Text, Walk, answers_to, finished, idle, nothing_held, settled, subcommand_met, walked}
 use Rattle.clap.specs.Simple.{App, Shape, built, entered, label_of, names_of, rows_at}
 use Rattle.clap.specs.Kinds.{Kinds, or_else}
-use Rattle.clap.specs.Faults.{check_fault, defaults_fault, entered_fault, level_fault, settle_fault, step_fault, turn_fault, walk_fault}
+use Rattle.clap.specs.Faults.{check_fault, defaults_fault, entered_fault, level_fault, settle_fault, turn_fault, walk_fault}
 use Rattle.clap.specs.declared.error.kind.ErrorKind.{ErrorKind}
 use Rattle.clap.specs.declared.error.kind.ErrorKind.TheVariants.{UnknownArgument, InvalidSubcommand}
 use Rattle.clap.proofs.OnLiterals.{clap_on_literals}
@@ -16,10 +16,10 @@ use Rattle.clap.proofs.WalkLemmas.{walk_stopped}
 use Rattle.command_line.specs.declared.modes.Mode.{Mode}
 use Rattle.command_line.specs.declared.modes.Mode.TheVariants.{Layout, Run}
 use Rattle.command_line.specs.CommandLine.{mode_by, mode_of, without_dashes}
-use Rattle.command_line.specs.Parsing.{format_found, mode_found, mode_named, mode_of_words, the_command, where_faultless}
-use Rattle.command_line.proofs.WordKinds.{WordKind, dashes, holding, positional, refused, word_kind}
-use Rattle.command_line.proofs.Turns.{GoesOn, behind_dashes, dashes_lead, dashes_pass, refused_fails, standing, value_goes_on}
-use Rattle.command_line.proofs.Levels.{end_kinds, ending, outcome}
+use Rattle.command_line.specs.Parsing.{mode_found, mode_named, mode_of_words, the_command, where_faultless}
+use Rattle.command_line.proofs.WordKinds.{WordKind, dashes, positional, refused, word_kind}
+use Rattle.command_line.proofs.Turns.{GoesOn, dashes_lead, dashes_pass, refused_fails, standing, value_goes_on}
+use Rattle.command_line.proofs.Levels.{outcome}
 use Rattle.command_line.proofs.ModeLevels.{alone, built_level, format_level, frames_front, if_alone}
 
 abbrev command : App
@@ -63,13 +63,13 @@ module _ (name word : Text) (words : List Text) (s : Shape)
   unfolding outcome walk_fault defaults_fault
   enters =
       let kinds : walk_fault command.top names start (word ∷ words) ≡ [] =
-          ap (λ ks. or_else ks (walk_fault command.top names (step start word) words)) passes ∙ ap (λ w. walk_fault command.top names w words) leads
-          ∙ stopped_fault command.top names start (word, []) words in
+      ap (λ ks. or_else ks (walk_fault command.top names (step start word) words)) passes ∙ ap (λ w. walk_fault command.top names w words) leads
+      ∙ stopped_fault command.top names start (word, []) words in
       let walk : fold step start (word ∷ words) ≡ record start { stopped = Some (word, words) } =
-          ap (λ w. fold step w words) leads ∙ sym (walk_stopped command.top.rules names start word [] words) in
+      ap (λ w. fold step w words) leads ∙ sym (walk_stopped command.top.rules names start word [] words) in
       by_walk name (word ∷ words) ∙ ap₂ whole kinds walk ∙ ap entering found
       ∙ ap (λ ks. where_faultless ks (mode_named s.name (finished s.rules (fold (walked s.rules []) start words).held)))
-          (no_more (level_fault s [] nothing_held words false []))
+      (no_more (level_fault s [] nothing_held words false []))
 
 format_enters : (name : Text) (words : List Text) → mode_of_words (name ∷ codes "format" ∷ words) ≡ mode_of (name ∷ codes "format" ∷ words)
 unfolding clap_on_literals

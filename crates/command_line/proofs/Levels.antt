@@ -1,20 +1,16 @@
 -- What the words at a level of a command without options come to.
-use Rattle.std.proofs.Common.{◌≡◌, ◌∙◌, ◌^◌, ℕ, Bool, cond, codes, true, false, refl, sym, ap, ap₂, List, [], ◌∷◌, Option, Some, None}
-use Rattle.std.specs.Prelude.{bytes_eq, fold, option_and_then, option_map}
-use Rattle.pud_defs.specs.Grammar.{number_within}
-use Rattle.pud_defs.specs.declared.layout.TheConstants.{MIN_FRAMES, MAX_FRAMES}
-use Rattle.clap.specs.Walk.{Held, Row, Rule, Text, Walk, after_step, arg_by_index, finished, idle, settled, used, value, walked}
-use Rattle.clap.specs.Simple.{Shape, filled, new_shape, with_index}
+use Rattle.std.proofs.Common.{◌≡◌, ◌∙◌, ℕ, Bool, codes, true, false, refl, ap, List, [], ◌∷◌, Option, None}
+use Rattle.std.specs.Prelude.{bytes_eq, fold}
+use Rattle.clap.specs.Walk.{Held, Row, Text, Walk, after_step, finished, settled, value, walked}
+use Rattle.clap.specs.Simple.{Shape}
 use Rattle.clap.specs.Kinds.{Kinds, or_else}
 use Rattle.clap.specs.Faults.{check_fault, defaults_fault, settle_fault, step_fault, turn_fault, walk_fault}
 use Rattle.clap.specs.declared.error.kind.ErrorKind.{ErrorKind}
 use Rattle.clap.specs.declared.error.kind.ErrorKind.TheVariants.{UnknownArgument}
 use Rattle.command_line.specs.declared.modes.Mode.{Mode}
-use Rattle.command_line.specs.declared.modes.Mode.TheVariants.{Format}
-use Rattle.command_line.specs.CommandLine.{format_of, mode_by, without_dashes}
-use Rattle.command_line.specs.Parsing.{format_found, number_rule, where_faultless}
-use Rattle.command_line.proofs.WordKinds.{HasNoOptions, IsRefused, WordKind, dashes, holding, positional, refused, word_kind}
-use Rattle.command_line.proofs.Turns.{GoesOn, behind_dashes, dashes_lead, dashes_pass, refused_fails, standing, value_goes_on}
+use Rattle.command_line.specs.Parsing.{where_faultless}
+use Rattle.command_line.proofs.WordKinds.{IsRefused, holding}
+use Rattle.command_line.proofs.Turns.{GoesOn, dashes_lead, dashes_pass, refused_fails, standing}
 
 -- the kinds of the checks behind the last word
 abbrev pub end_kinds : Shape → Held → Kinds

@@ -1,3 +1,4 @@
+mod Examples
 pub mod WordKinds
 pub mod Turns
 pub mod Levels

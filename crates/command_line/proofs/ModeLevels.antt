@@ -3,17 +3,17 @@ use Rattle.std.proofs.Common.{◌≡◌, ◌∙◌, ◌^◌, ◌+◌, ℕ, Bool,
 use Rattle.std.specs.Prelude.{bytes_eq, option_and_then, option_map}
 use Rattle.pud_defs.specs.declared.layout.TheConstants.{MIN_FRAMES, MAX_FRAMES}
 use Rattle.pud_defs.specs.Grammar.{number_within}
-use Rattle.clap.specs.Walk.{Row, Rule, Text, Walk, after_step, used, value}
+use Rattle.clap.specs.Walk.{Row, Rule, Text, Walk, used}
 use Rattle.clap.specs.Simple.{Shape, filled, new_shape, with_index}
 use Rattle.clap.specs.Faults.{defaults_fault}
 use Rattle.clap.specs.declared.error.kind.ErrorKind.TheVariants.{UnknownArgument}
 use Rattle.command_line.specs.declared.modes.Mode.{Mode}
 use Rattle.command_line.specs.declared.modes.Mode.TheVariants.{Format}
-use Rattle.command_line.specs.CommandLine.{format_of, mode_by, without_dashes}
+use Rattle.command_line.specs.CommandLine.{mode_by, without_dashes}
 use Rattle.command_line.specs.Parsing.{format_found, number_rule}
-use Rattle.command_line.proofs.WordKinds.{HasNoOptions, WordKind, dashes, holding, positional, refused, word_kind}
+use Rattle.command_line.proofs.WordKinds.{HasNoOptions, WordKind, dashes, positional, refused, word_kind}
 use Rattle.command_line.proofs.Turns.{GoesOn, behind_dashes, standing, value_goes_on}
-use Rattle.command_line.proofs.Levels.{at_refused, ending, ends, outcome, past_dashes, stray, taken}
+use Rattle.command_line.proofs.Levels.{at_refused, ends, outcome, past_dashes, stray, taken}
 
 -- the subcommand of a mode, as building leaves it
 abbrev pub built_level : Text → List Rule → Shape
@@ -148,7 +148,7 @@ module _ (frames : Text) where
   id_behind [] = ends format_level format_found (at_id frames true)
   id_behind (word ∷ words) =
       taken format_level format_found [] (pending (codes "frames") frames) 2 word words true
-          (behind_dashes format_level [] [] (pending (codes "frames") frames) 2 word) (at_end frames word true) refl refl
+      (behind_dashes format_level [] [] (pending (codes "frames") frames) 2 word) (at_end frames word true) refl refl
       ∙ end_behind frames word words
 
   id_front : (words : List Text) → formats (at_id frames false) words ≡ by_format (frames ∷ without_dashes words)
@@ -165,7 +165,7 @@ module _ (frames : Text) where
           ∙ sym (front (λ args. by_format (frames ∷ args)) word words false test ∙ no_id frames word (without_dashes words) is.number)
       by_kind (positional test is) =
           taken format_level format_found [] (pending (codes "frames") frames) 2 word words false
-              (value_goes_on format_level [] [] (pending (codes "frames") frames) 2 word refl test is) (at_end frames word false) refl refl
+          (value_goes_on format_level [] [] (pending (codes "frames") frames) 2 word refl test is) (at_end frames word false) refl refl
           ∙ end_front frames word words ∙ sym (front (λ args. by_format (frames ∷ args)) word words false test)
 
 -- before the number of frames

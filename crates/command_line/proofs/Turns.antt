@@ -1,5 +1,5 @@
 -- One word of the walk over a command without options.
-use Rattle.std.proofs.Common.{◌≡◌, ◌∙◌, ℕ, Bool, cond, codes, true, false, refl, ap, ap₂, List, [], ◌∷◌, Option, Some, None}
+use Rattle.std.proofs.Common.{◌≡◌, ◌∙◌, ℕ, Bool, cond, codes, true, false, refl, ap, ap₂, List, [], ◌∷◌, Option, None}
 use Rattle.std.specs.Prelude.{bytes_eq}
 use Rattle.clap.specs.Lexer.{long_of}
 use Rattle.clap.specs.Walk.{Held, Names, Row, Step, Text, Walk, after_step, idle, long_or_other, subcommand_met, subcommand_or_other, trailing, value, walked}

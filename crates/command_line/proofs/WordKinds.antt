@@ -5,8 +5,7 @@ use Rattle.std.specs.Option.{option_map_or}
 use Rattle.std.specs.Str.{chars}
 use Rattle.std.proofs.Math.Bool.{and-false}
 use Rattle.clap.specs.Lexer.{long_of, name_and_value, short_of}
-use Rattle.clap.specs.Walk.{Held, Row, Rule, Step, Text, after_flag, arg_by_long, arg_by_short, bundle_met, idle, long_or_other, plain, short_or_plain, value}
-use Rattle.clap.specs.Kinds.{Kinds}
+use Rattle.clap.specs.Walk.{Held, Row, Rule, Text, after_flag, arg_by_long, arg_by_short, idle, long_or_other, plain, short_or_plain, value}
 use Rattle.clap.specs.Faults.{bundle_fault, bundle_step_fault, flag_word_fault, flags_fault, long_fault, short_fault}
 use Rattle.clap.specs.declared.error.kind.ErrorKind.TheVariants.{UnknownArgument}
 use Rattle.clap.proofs.WalkLemmas.{bundle_ends}

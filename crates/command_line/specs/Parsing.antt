@@ -1,5 +1,5 @@
 -- The command as the parser of command lines has it, and the mode that its parse gives.
-use Rattle.std.specs.Prelude.{ℕ, true, false, cond, List, [], ◌∷◌, codes, bytes_eq, Option, Some, None, option_and_then}
+use Rattle.std.specs.Prelude.{true, false, cond, List, [], ◌∷◌, codes, bytes_eq, Option, Some, None, option_and_then}
 use Rattle.clap.specs.Words.{App, Row, Rule, Shape, Text, fault_of, first_of, new_rule, subcommand_of}
 use Rattle.clap.specs.Simple.{new_shape}
 use Rattle.clap.specs.Kinds.{Kinds}

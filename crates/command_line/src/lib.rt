@@ -8,7 +8,7 @@ mod modes;
 ghost use Rattle.std.specs.Prelude.{◌≡◌, ◌≢◌, [], None, Some, IfErr, IfOk, map, string_bytes};
 ghost use Rattle.clap.specs.Words.{fault_of, kind_of, subcommand_of, subcommand_rows_of};
 ghost use Rattle.clap.specs.declared.error.kind.ErrorKind.TheVariants.{OutOfMemory};
-ghost use Rattle.command_line.specs.declared.WordsFault.TheVariants.{Usage};
+ghost use Rattle.command_line.specs.declared.WordsFault.TheVariants.{Memory, Usage};
 ghost use Rattle.command_line.specs.CommandLine.{mode_of};
 ghost use Rattle.command_line.specs.Parsing.{the_command};
 
@@ -41,9 +41,10 @@ impl From<AllocError> for WordsFault {
     }
 }
 
-/// Why words were not taken.
+/// Why words were not taken: `Memory` exactly where the error is for want of memory.
 fn fault_by(error: &Error) -> WordsFault
-    ensures { result ≡ Usage → kind_of error.now ≢ OutOfMemory }
+    ensures memory { result ≡ Memory → kind_of error.now ≡ OutOfMemory }
+    ensures usage { result ≡ Usage → kind_of error.now ≢ OutOfMemory }
 {
     if error.kind() == ErrorKind::OutOfMemory {
         WordsFault::Memory
