@@ -1,4 +1,4 @@
-//! Tests of the formats, of the grammar and of identifiers over their public calls.
+//! Tests of the formats, of the grammar, of identifiers and of command lines over their public calls.
 #![tactic(auto)]
 
 #[cfg(test)]
@@ -13,3 +13,5 @@ mod maps;
 mod places;
 #[cfg(test)]
 mod replies;
+#[cfg(test)]
+mod words;

@@ -1,0 +1,127 @@
+-- What words ask for, by computation.
+use Rattle.std.specs.Prelude.{◌≡◌, [], ◌∷◌, Some, None, codes, refl}
+use Rattle.pud_defs.specs.Grammar.{number_of}
+use Rattle.command_line.specs.declared.modes.Mode.TheVariants.{Format, Run, Layout}
+use Rattle.command_line.specs.CommandLine.{mode_of}
+
+-- each mode
+format : mode_of (codes "puddle" ∷ codes "format" ∷ codes "4" ∷ codes "7" ∷ []) ≡ Some (Format 4 7)
+unfolding number_of
+format = refl
+
+least : mode_of (codes "puddle" ∷ codes "format" ∷ codes "4" ∷ codes "0" ∷ []) ≡ Some (Format 4 0)
+unfolding number_of
+least = refl
+
+most : mode_of (codes "puddle" ∷ codes "format" ∷ codes "1024" ∷ codes "18446744073709551615" ∷ []) ≡ Some (Format 1024 18446744073709551615)
+unfolding number_of
+most = refl
+
+run : mode_of (codes "puddle" ∷ codes "run" ∷ []) ≡ Some Run
+run = refl
+
+layout : mode_of (codes "puddle" ∷ codes "layout" ∷ []) ≡ Some Layout
+layout = refl
+
+-- too few words and too many
+nothing : mode_of [] ≡ None
+nothing = refl
+
+name_alone : mode_of (codes "puddle" ∷ []) ≡ None
+name_alone = refl
+
+frames_alone : mode_of (codes "puddle" ∷ codes "format" ∷ codes "4" ∷ []) ≡ None
+frames_alone = refl
+
+third_number : mode_of (codes "puddle" ∷ codes "format" ∷ codes "4" ∷ codes "7" ∷ codes "7" ∷ []) ≡ None
+third_number = refl
+
+run_now : mode_of (codes "puddle" ∷ codes "run" ∷ codes "now" ∷ []) ≡ None
+run_now = refl
+
+layout_of_a_number : mode_of (codes "puddle" ∷ codes "layout" ∷ codes "4" ∷ []) ≡ None
+layout_of_a_number = refl
+
+-- numbers out of range and in another form
+too_few_frames : mode_of (codes "puddle" ∷ codes "format" ∷ codes "3" ∷ codes "7" ∷ []) ≡ None
+unfolding number_of
+too_few_frames = refl
+
+too_many_frames : mode_of (codes "puddle" ∷ codes "format" ∷ codes "1025" ∷ codes "7" ∷ []) ≡ None
+unfolding number_of
+too_many_frames = refl
+
+too_large_an_id : mode_of (codes "puddle" ∷ codes "format" ∷ codes "4" ∷ codes "18446744073709551616" ∷ []) ≡ None
+unfolding number_of
+too_large_an_id = refl
+
+sign : mode_of (codes "puddle" ∷ codes "format" ∷ codes "+4" ∷ codes "7" ∷ []) ≡ None
+unfolding number_of
+sign = refl
+
+minus : mode_of (codes "puddle" ∷ codes "format" ∷ codes "4" ∷ codes "-7" ∷ []) ≡ None
+unfolding number_of
+minus = refl
+
+leading_zero : mode_of (codes "puddle" ∷ codes "format" ∷ codes "04" ∷ codes "7" ∷ []) ≡ None
+unfolding number_of
+leading_zero = refl
+
+empty_number : mode_of (codes "puddle" ∷ codes "format" ∷ codes "4" ∷ codes "" ∷ []) ≡ None
+unfolding number_of
+empty_number = refl
+
+-- no other word, no help, no version and no option
+abbreviation : mode_of (codes "puddle" ∷ codes "lay" ∷ []) ≡ None
+abbreviation = refl
+
+upper_case : mode_of (codes "puddle" ∷ codes "RUN" ∷ []) ≡ None
+upper_case = refl
+
+long_help : mode_of (codes "puddle" ∷ codes "--help" ∷ []) ≡ None
+long_help = refl
+
+short_help : mode_of (codes "puddle" ∷ codes "-h" ∷ []) ≡ None
+short_help = refl
+
+help : mode_of (codes "puddle" ∷ codes "help" ∷ []) ≡ None
+help = refl
+
+help_of_run : mode_of (codes "puddle" ∷ codes "run" ∷ codes "--help" ∷ []) ≡ None
+help_of_run = refl
+
+version : mode_of (codes "puddle" ∷ codes "--version" ∷ []) ≡ None
+version = refl
+
+option : mode_of (codes "puddle" ∷ codes "format" ∷ codes "--frames=4" ∷ codes "--id=7" ∷ []) ≡ None
+unfolding number_of
+option = refl
+
+-- one `--` behind the mode's word, and none before it
+dashes_before_the_mode : mode_of (codes "puddle" ∷ codes "--" ∷ codes "run" ∷ []) ≡ None
+dashes_before_the_mode = refl
+
+dashes_alone : mode_of (codes "puddle" ∷ codes "--" ∷ []) ≡ None
+dashes_alone = refl
+
+dashes_behind_run : mode_of (codes "puddle" ∷ codes "run" ∷ codes "--" ∷ []) ≡ Some Run
+dashes_behind_run = refl
+
+dashes_before_frames : mode_of (codes "puddle" ∷ codes "format" ∷ codes "--" ∷ codes "4" ∷ codes "7" ∷ []) ≡ Some (Format 4 7)
+unfolding number_of
+dashes_before_frames = refl
+
+dashes_between : mode_of (codes "puddle" ∷ codes "format" ∷ codes "4" ∷ codes "--" ∷ codes "7" ∷ []) ≡ Some (Format 4 7)
+unfolding number_of
+dashes_between = refl
+
+dashes_at_the_end : mode_of (codes "puddle" ∷ codes "format" ∷ codes "4" ∷ codes "7" ∷ codes "--" ∷ []) ≡ Some (Format 4 7)
+unfolding number_of
+dashes_at_the_end = refl
+
+dashes_twice : mode_of (codes "puddle" ∷ codes "run" ∷ codes "--" ∷ codes "--" ∷ []) ≡ None
+dashes_twice = refl
+
+dashes_for_an_id : mode_of (codes "puddle" ∷ codes "format" ∷ codes "4" ∷ codes "--" ∷ codes "--" ∷ []) ≡ None
+unfolding number_of
+dashes_for_an_id = refl

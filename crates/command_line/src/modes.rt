@@ -1,0 +1,50 @@
+//! The modes, and which of them a parse has found.
+
+ghost use Rattle.std.specs.Prelude.{◌≡◌};
+ghost use Rattle.clap.specs.Words.{found_of, rows_of, subcommand_rows_of};
+ghost use Rattle.command_line.specs.CommandLine.{format_of};
+ghost use Rattle.command_line.specs.Parsing.{format_found, mode_found};
+
+use clap::ArgMatches;
+use pud_defs::layout::{MAX_FRAMES, MIN_FRAMES};
+use script::{read_number, read_within};
+
+/// What a command line asks for.
+#[derive(Clone, Copy, Debug, PartialEq, Eq)]
+pub enum Mode {
+    /// `format F ID`: make a device of so many frames, 4 to 1,024, with this machine id.
+    Format { frames: u32, id: u64 },
+    /// `run`: start, and answer the script's lines.
+    Run,
+    /// `layout`: start, then say what stands where.
+    Layout,
+}
+
+/// The mode `format` by the texts of its two numbers. None where one is no such number.
+fn format_of(frames: &str, id: &str) -> Option<Mode>
+    ensures { result ≡ format_of frames.now id.now }
+{
+    let frames = read_within(frames.as_bytes(), MIN_FRAMES, MAX_FRAMES + 1)?;
+    let id = read_number(id.as_bytes())?;
+    Some(Mode::Format { frames, id })
+}
+
+/// The mode `format` by what was found for its arguments. None where one was not found, and where one is no such number.
+fn format_found(arguments: &ArgMatches) -> Option<Mode>
+    ensures { result ≡ format_found (rows_of (found_of arguments.now)) }
+{
+    format_of(arguments.get_str("frames")?, arguments.get_str("id")?)
+}
+
+/// The mode that was found. None where no subcommand was, and where its arguments are not those of its mode.
+pub fn mode_found(matches: &ArgMatches) -> Option<Mode>
+    ensures { result ≡ mode_found (subcommand_rows_of matches.now) }
+{
+    let (name, arguments) = matches.subcommand()?;
+    match name {
+        "format" => format_found(arguments),
+        "run" => Some(Mode::Run),
+        "layout" => Some(Mode::Layout),
+        _ => None,
+    }
+}
