@@ -1,6 +1,6 @@
 //! Where the puddles of all pools stand, as one pass over the table finds them.
 
-ghost use Rattle.std.specs.Prelude.{◌≡◌, ◌≢◌, ◌+◌, ◌*◌, ◌<◌, ◌≤◌, ℕ, Option, IfOk, IfSome};
+ghost use Rattle.std.specs.Prelude.{◌≡◌, ◌≢◌, ◌+◌, ◌*◌, ◌<◌, ◌≤◌, ℕ, Option, IfOk, IfSome, replicate};
 ghost use Rattle.pm_model.specs.Words.{reads};
 ghost use Rattle.pm_model.specs.Counts.{after_fault, fault_of};
 ghost use Rattle.pud_defs.specs.declared.layout.TheConstants.{MAX_FRAMES};
@@ -47,6 +47,18 @@ const fn place(pool: u32, ordinal: u32) -> usize
     ensures within { result < PLACES }
 {
     (MAX_PUDDLES * pool + ordinal) as usize
+}
+
+/// The places of so many frames, before one of them is put.
+const fn no_places(count: u32) -> Places
+    requires { count ≤ MAX_FRAMES }
+    ensures { result ≡ record { count = count; used = 0; frames = replicate PLACES Option.None } }
+{
+    Places {
+        count,
+        used: 0,
+        frames: [None; PLACES],
+    }
 }
 
 /// Puts the frame into the place that the member word names, where it names one.
@@ -121,11 +133,7 @@ pub fn find_places<H: Host>(h: &mut H, frames: u32) -> Result<Places, HostFault>
     ensures cause { H.counts h.new ≡ after_fault (fault_of result) (H.counts h.old) }
     ensures never_cut { fault_of result ≢ Option.Some HostFault.Cut }
 {
-    let mut found = Places {
-        count: frames,
-        used: 0,
-        frames: [None; PLACES],
-    };
+    let mut found = no_places(frames);
     for frame in (0..frames).rev() {
         let member = h.load(record_at(frame))?;
         found.put(frame, member);
