@@ -2,7 +2,7 @@
 #![tactic(auto)]
 
 mod laws;
-mod text;
+pub mod text;
 
 ghost use Rattle.std.specs.Prelude.{◌≡◌, ◌≢◌, ◌≤◌, ◌++◌, ℕ, Option, All, codes, slice_index};
 ghost use Rattle.pm_model.specs.Words.{reads};

@@ -1,4 +1,4 @@
-//! The text of one pool, part by part.
+//! Texts of pools and puddles, part by part: bytes on the stack, to which names, numbers, modes and identifiers are added.
 
 ghost use Rattle.std.specs.Prelude.{◌≡◌, ◌+◌, ◌≤◌, ◌++◌, length, decimal};
 ghost use Rattle.arrayvec.specs.ArrayVec.{array_vec_len};
@@ -13,14 +13,14 @@ use itoa::Buffer;
 use pud_defs::records::{Name, PoolRec};
 use uid_make::{print_uuid, puddle_uuid};
 
-/// The most bytes that a text has here. That of a pool has at most 91.
-const TEXT_LIMIT: usize = 96;
+/// The most bytes that a text has. That of a pool in the list has at most 91, and a line on a puddle at most 103.
+pub const TEXT_LIMIT: usize = 128;
 
-/// The bytes of a text.
+/// The bytes of a text, at most [`TEXT_LIMIT`].
 pub type Text = ArrayVec<u8, TEXT_LIMIT>;
 
-/// Adds the bytes.
-fn add(text: &mut Text, bytes: &[u8])
+/// Adds the bytes, for which the text needs room.
+pub fn add(text: &mut Text, bytes: &[u8])
     requires { array_vec_len text.old + length bytes.now ≤ TEXT_LIMIT }
     ensures { text.new.items ≡ text.old.items ++ bytes.now }
 {
@@ -29,8 +29,8 @@ fn add(text: &mut Text, bytes: &[u8])
     }
 }
 
-/// Adds the name, without the zeros that fill it.
-fn add_name(text: &mut Text, name: &Name)
+/// Adds the name, without the zeros that fill it: at most 16 bytes, for which the text needs room.
+pub fn add_name(text: &mut Text, name: &Name)
     requires { array_vec_len text.old + NAME_BYTES ≤ TEXT_LIMIT }
     ensures name { text.new.items ≡ text.old.items ++ name_text name.now }
     ensures within { array_vec_len text.new ≤ array_vec_len text.old + NAME_BYTES }
@@ -42,11 +42,20 @@ fn add_name(text: &mut Text, name: &Name)
     }
 }
 
-/// Adds the decimal digits of the number, at most 10.
-fn add_number(text: &mut Text, number: u32)
+/// Adds the decimal digits of the number, at most 10, for which the text needs room.
+pub fn add_number(text: &mut Text, number: u32)
     requires { array_vec_len text.old + 10 ≤ TEXT_LIMIT }
     ensures number { text.new.items ≡ text.old.items ++ decimal number }
     ensures within { array_vec_len text.new ≤ array_vec_len text.old + 10 }
+{
+    add(text, Buffer::new().format(number).as_bytes());
+}
+
+/// Adds the decimal digits of a number of 64 bits, at most 20, for which the text needs room.
+pub fn add_long(text: &mut Text, number: u64)
+    requires { array_vec_len text.old + 20 ≤ TEXT_LIMIT }
+    ensures number { text.new.items ≡ text.old.items ++ decimal number }
+    ensures within { array_vec_len text.new ≤ array_vec_len text.old + 20 }
 {
     add(text, Buffer::new().format(number).as_bytes());
 }
@@ -58,8 +67,8 @@ fn octal_digit(number: u32) -> u8
     b'0' + (number % 8) as u8
 }
 
-/// Adds the mode as three octal digits.
-fn add_mode(text: &mut Text, mode: u32)
+/// Adds the lowest nine bits of the mode as three octal digits, for which the text needs room.
+pub fn add_mode(text: &mut Text, mode: u32)
     requires { array_vec_len text.old + 3 ≤ TEXT_LIMIT }
     ensures { text.new.items ≡ text.old.items ++ mode_text mode }
 {
@@ -71,8 +80,8 @@ fn add_mode(text: &mut Text, mode: u32)
     add(text, &digits);
 }
 
-/// Adds the identifier of the UUID number on the machine of this id, which has 36 bytes.
-fn add_identifier(text: &mut Text, id: u64, number: u64)
+/// Adds the identifier of the UUID number on the machine of this id: 36 bytes, for which the text needs room.
+pub fn add_identifier(text: &mut Text, id: u64, number: u64)
     requires { array_vec_len text.old + 36 ≤ TEXT_LIMIT }
     ensures { text.new.items ≡ text.old.items ++ uuid_text (puddle_uuid id number) }
 {
@@ -115,7 +124,7 @@ fn add_puddles(text: &mut Text, id: u64, number: u64, puddles: u32)
 
 /// The text of the pool of this record with so many puddles, on the machine of this id.
 #[tactic(auto, unfolding(pud_defs::specs::Listing::pool_text))]
-pub fn pool_text(id: u64, rec: &PoolRec, puddles: u32) -> Text
+pub(crate) fn pool_text(id: u64, rec: &PoolRec, puddles: u32) -> Text
     ensures { result.items ≡ record_text id rec.now puddles }
 {
     let mut text = Text::new();

@@ -102,7 +102,7 @@ module _ (F : ℕ) (image : Image) (slot ordinal : ℕ) where
       ap (read_found slot ordinal) (find-keyed nat_cmp nat_cmp_total ordinal (members (tables_of F image) slot) 0 (tables_of F image).frames)
       ∙ ap (λ (n : ℕ). read_found slot ordinal (first_from nat_cmp ordinal (members (tables_of F image) slot) 0 n)) (frames_of_tables F image ∙ whole F)
 
-  under_table : (frame : ℕ) → frame < F → under nat_cmp ordinal (members (tables_of F image) slot frame) ≡ cond (is_member (image (puddle_record_at frame)) slot ordinal) (Some (frame, puddle_words_at image frame)) None
+  pub under_table : (frame : ℕ) → frame < F → under nat_cmp ordinal (members (tables_of F image) slot frame) ≡ cond (is_member (image (puddle_record_at frame)) slot ordinal) (Some (frame, puddle_words_at image frame)) None
   under_table frame below = ap (λ o. under nat_cmp ordinal (member_of slot frame o)) (puddles_below F image frame below) ∙ under_words image slot ordinal frame
 
   pub found_from-here : (frame : ℕ) → frame < F → is_member (image (puddle_record_at frame)) slot ordinal ≡ true → found_from frame ≡ Some (frame, puddle_read slot ordinal (puddle_words_at image frame))

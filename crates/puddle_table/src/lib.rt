@@ -4,6 +4,8 @@
 //! call that changes the table writes nothing: it answers the words that make the change, which are to be a part of a batch.
 #![tactic(auto)]
 
+mod places;
+
 ghost use Rattle.std.specs.Prelude.{◌≡◌, ◌≢◌, ◌+◌, ◌-◌, ◌<◌, ◌≤◌, ℕ, Option, IfOk, IfSome, All};
 ghost use Rattle.pm_model.specs.Words.{reads};
 ghost use Rattle.pm_model.specs.Counts.{after_fault, fault_of};
@@ -17,6 +19,7 @@ ghost use Rattle.pud_defs.specs.Tables.{tables_of, puddle_in};
 ghost use Rattle.pud_defs.specs.Puts.{puddle_put, free_puddle_put, with_put, with_puddle_at, member_by};
 ghost use Rattle.puddle_table.specs.Records.{fault_in, frame_by, added, Adds, CountsPools, CountsMember, is_member, puddle_words_at, frontier_of, IsFrame};
 
+pub use places::{Places, find_places};
 use pm_model::{Host, HostFault};
 use pud_defs::layout::{MAX_FRAMES, PUDDLE_RECORD_WORDS, PUDDLE_TABLE};
 use pud_defs::records::{

@@ -1,0 +1,40 @@
+-- The text of what stands where, as the tables of a device list it, sound or not.
+use Rattle.std.specs.Prelude.{ℕ, List, [], ◌++◌, flat_map, Option, Some, None}
+use Rattle.std.specs.List.{range_with_len}
+use Rattle.pud_defs.specs.declared.records.TheConstants.{MAX_PUDDLES}
+use Rattle.pud_defs.specs.declared.records.PoolRec.{PoolRec}
+use Rattle.pud_defs.specs.declared.records.Puddle.{Puddle}
+use Rattle.pud_defs.specs.declared.records.PuddleRec.{PuddleRec}
+use Rattle.pud_defs.specs.Keyed.{count_used}
+use Rattle.pud_defs.specs.Tables.{Tables, puddle_in}
+use Rattle.pud_defs.specs.LayoutText.{frames_line, pool_line, puddle_line}
+use Rattle.pool_table.specs.InOrder.{in_order}
+
+-- what a record says of its puddle
+abbrev pub puddle_of : PuddleRec → Puddle
+puddle_of r = record { number = r.number; base = r.base; old_base = r.old_base; frontier = r.frontier }
+
+-- the line of a record with its frame, of a machine with this id
+abbrev pub record_line : ℕ → ℕ × PuddleRec → List ℕ
+record_line id (frame, r) = puddle_line id (r.ordinal, (frame, puddle_of r))
+
+-- the line of a record with its frame, where there is one
+abbrev pub line_found : ℕ → Option (ℕ × PuddleRec) → List ℕ
+line_found id None = []
+line_found id (Some found) = record_line id found
+
+-- the line of the puddle of this ordinal of the pool of this slot, where the pool has it
+abbrev pub puddle_listed : ℕ → Tables → (slot ordinal : ℕ) → List ℕ
+puddle_listed id t slot ordinal = line_found id (puddle_in t slot ordinal)
+
+-- the lines of the puddles of the pool of this slot, by the ordinals from 0 on
+abbrev pub puddles_listed : ℕ → Tables → ℕ → List ℕ
+puddles_listed id t slot = flat_map (puddle_listed id t slot) (range_with_len 0 MAX_PUDDLES)
+
+-- the lines of a pool by its slot and record
+abbrev pub pool_listed : ℕ → Tables → ℕ × PoolRec → List ℕ
+pool_listed id t (slot, r) = pool_line id r ++ puddles_listed id t slot
+
+-- the line of the frames, and the lines of the used pool records by ascending names, where this UUID number is the next
+unfoldable pub listed_layout : (id next : ℕ) → Tables → List ℕ
+listed_layout id next t = frames_line t.frames (count_used t.puddles 0 t.frames) next ++ flat_map (pool_listed id t) (in_order t)

@@ -1,0 +1,76 @@
+//! The lines on frames, pools and puddles, each as a text.
+
+ghost use Rattle.std.specs.Prelude.{◌≡◌, ◌+◌, ◌≤◌, ◌++◌};
+ghost use Rattle.arrayvec.specs.ArrayVec.{array_vec_len};
+ghost use Rattle.pool_list.specs.declared.text.TheConstants.{TEXT_LIMIT};
+ghost use Rattle.pud_defs.specs.LayoutText.{address_text, frames_line, pool_line};
+ghost use Rattle.pud_check.specs.LayoutListed.{record_line};
+
+use pool_list::text::{Text, add, add_identifier, add_long, add_mode, add_name, add_number};
+use pud_defs::records::{PoolRec, PuddleRec};
+use uid_make::print_uuid;
+
+/// Adds the address as twelve hexadecimal digits, which are the last group of an identifier with that number.
+fn add_address(text: &mut Text, address: u64)
+    requires { array_vec_len text.old + 12 ≤ TEXT_LIMIT }
+    ensures { text.new.items ≡ text.old.items ++ address_text address }
+{
+    let mut identifier = [0; 36];
+    print_uuid(u128::from(address), &mut identifier);
+    add(text, &identifier[24..]);
+}
+
+/// `frames F used U next N`, at most 60 bytes.
+pub fn frames_line(frames: u32, used: u32, next: u64) -> Text
+    ensures { result.items ≡ frames_line frames used next }
+{
+    let mut text = Text::new();
+    add(&mut text, b"frames ");
+    add_number(&mut text, frames);
+    add(&mut text, b" used ");
+    add_number(&mut text, used);
+    add(&mut text, b" next ");
+    add_long(&mut text, next);
+    text.push(b'\n');
+    text
+}
+
+/// `pool NAME uid gid mode identifier`, on the machine of this id: at most 86 bytes.
+pub fn pool_line(id: u64, rec: &PoolRec) -> Text
+    ensures { result.items ≡ pool_line id rec.now }
+{
+    let mut text = Text::new();
+    add(&mut text, b"pool ");
+    add_name(&mut text, &rec.name);
+    text.push(b' ');
+    add_number(&mut text, rec.uid);
+    text.push(b' ');
+    add_number(&mut text, rec.gid);
+    text.push(b' ');
+    add_mode(&mut text, rec.mode);
+    text.push(b' ');
+    add_identifier(&mut text, id, rec.number);
+    text.push(b'\n');
+    text
+}
+
+/// `puddle ordinal frame base old_base frontier identifier`, on the machine of this id: at most 103 bytes.
+pub fn puddle_line(id: u64, frame: u32, rec: &PuddleRec) -> Text
+    ensures { result.items ≡ record_line id (frame, rec.now) }
+{
+    let mut text = Text::new();
+    add(&mut text, b"puddle ");
+    add_number(&mut text, rec.ordinal);
+    text.push(b' ');
+    add_number(&mut text, frame);
+    text.push(b' ');
+    add_address(&mut text, rec.base);
+    text.push(b' ');
+    add_address(&mut text, rec.old_base);
+    text.push(b' ');
+    add_number(&mut text, rec.frontier);
+    text.push(b' ');
+    add_identifier(&mut text, id, rec.number);
+    text.push(b'\n');
+    text
+}

@@ -1,0 +1,142 @@
+//! Where the puddles of all pools stand, as one pass over the table finds them.
+
+ghost use Rattle.std.specs.Prelude.{◌≡◌, ◌≢◌, ◌+◌, ◌*◌, ◌<◌, ◌≤◌, ℕ, Option, IfOk, IfSome, replicate};
+ghost use Rattle.pm_model.specs.Words.{reads};
+ghost use Rattle.pm_model.specs.Counts.{after_fault, fault_of};
+ghost use Rattle.pud_defs.specs.declared.layout.TheConstants.{MAX_FRAMES};
+ghost use Rattle.pud_defs.specs.declared.records.TheConstants.{POOL_RECORDS, MAX_PUDDLES};
+ghost use Rattle.pud_defs.specs.Image.{Image};
+ghost use Rattle.pud_defs.specs.Layout.{tables_end};
+ghost use Rattle.pud_defs.specs.Tables.{tables_of, puddle_in};
+ghost use Rattle.puddle_table.specs.declared.places.TheConstants.{PLACES};
+ghost use Rattle.puddle_table.specs.Records.{IsFrame};
+ghost use Rattle.puddle_table.specs.Placed.{Placed, AreFramesBelow, PutsFrame, PutsMember, HoldsPlaces};
+
+use crate::{read_record, record_at};
+use pm_model::{Host, HostFault};
+use pud_defs::records::{MAX_PUDDLES, POOL_RECORDS, PuddleRec, member_ordinal, member_pool};
+use std::marker::Model;
+
+/// How many puddles all pools have at the most.
+const PLACES: usize = (POOL_RECORDS * MAX_PUDDLES) as usize;
+
+/// Which frame has which puddle of which pool, and how many of the frames have one.
+#[derive(Drop)]
+pub struct Places {
+    /// The frames of the device.
+    count: u32,
+    /// How many of them have a puddle, whose ever it is.
+    used: u32,
+    /// By the pool's slot, and then by the puddle's ordinal.
+    frames: [Option<u32>; PLACES],
+}
+
+impl Model for Places {
+    ghost Value = { Placed };
+
+    ghost view = { λ p. record { count = p.count; used = p.used; frames = p.frames } };
+
+    ghost invariant = { λ p. (p.count ≤ MAX_FRAMES) × (p.used ≤ p.count) × AreFramesBelow p.count p.frames };
+}
+
+/// The place of this ordinal of the pool of this slot.
+const fn place(pool: u32, ordinal: u32) -> usize
+    requires pool { pool < POOL_RECORDS }
+    requires ordinal { ordinal < MAX_PUDDLES }
+    ensures place { result ≡ MAX_PUDDLES * pool + ordinal }
+    ensures within { result < PLACES }
+{
+    (MAX_PUDDLES * pool + ordinal) as usize
+}
+
+/// The places of so many frames, before one of them is put.
+const fn no_places(count: u32) -> Places
+    requires { count ≤ MAX_FRAMES }
+    ensures { result ≡ record { count = count; used = 0; frames = replicate PLACES Option.None } }
+{
+    Places {
+        count,
+        used: 0,
+        frames: [None; PLACES],
+    }
+}
+
+/// Puts the frame into the place that the member word names, where it names one.
+fn put_frame(frames: &mut [Option<u32>; PLACES], frame: u32, member: u64)
+    ensures put { PutsFrame frame member frames.old frames.new }
+    ensures within { (count : ℕ) → frame < count → AreFramesBelow count frames.old → AreFramesBelow count frames.new }
+{
+    let pool = member_pool(member);
+    let ordinal = member_ordinal(member);
+    if pool >= 1 && pool <= POOL_RECORDS && ordinal < MAX_PUDDLES {
+        frames[place(pool - 1, ordinal)] = Some(frame);
+    }
+}
+
+impl Places {
+    /// How many records of the table are used, whatever they name.
+    pub fn used(&self) -> u32
+        ensures { result ≡ (self.now).used }
+    {
+        self.used
+    }
+
+    /// Puts the frame of this member word, which is 0 in a free record, in place of one that was put before.
+    fn put(&mut self, frame: u32, member: u64)
+        requires frame { frame < (self.old).count }
+        requires room { (self.old).used < (self.old).count }
+        ensures { PutsMember frame member self.old self.new }
+    {
+        if member != 0 {
+            self.used += 1;
+        }
+        put_frame(&mut self.frames, frame, member);
+    }
+
+    /// The frame and the record of the puddle of this ordinal of the pool of this slot, or None where no used record has
+    /// them. It loads the words of one record and searches nothing.
+    ///
+    /// The device has the table whose places these are. The only errors are the host's own.
+    pub fn puddle<H: Host>(
+        &self,
+        h: &mut H,
+        pool: u32,
+        ordinal: u32,
+    ) -> Result<Option<(u32, PuddleRec)>, HostFault>
+        requires pool { pool < POOL_RECORDS }
+        requires ordinal { ordinal < MAX_PUDDLES }
+        requires table { tables_end (self.now).count ≤ (H.counts h.old).size }
+        ensures found { H.tells → (image : Image) → reads (H.state h.old).now.words ≡ image → HoldsPlaces (tables_of (self.now).count image) self.now
+            → IfOk result (λ found. found ≡ puddle_in (tables_of (self.now).count image) pool ordinal) }
+        ensures within { IfOk result (λ found. IfSome found (IsFrame (self.now).count)) }
+        ensures stays { H.tells → H.state h.new ≡ H.state h.old }
+        ensures cause { H.counts h.new ≡ after_fault (fault_of result) (H.counts h.old) }
+        ensures never_cut { fault_of result ≢ Option.Some HostFault.Cut }
+    {
+        match self.frames[place(pool, ordinal)] {
+            None => Ok(None),
+            Some(frame) => Ok(Some((frame, read_record(h, frame, pool, ordinal)?))),
+        }
+    }
+}
+
+/// Where the puddles of all pools stand, of so many frames. It loads one word of each frame. Of several records of one pool
+/// and ordinal the lowest frame counts.
+///
+/// The device has the puddle table of so many frames, whatever it holds. The only errors are the host's own.
+pub fn find_places<H: Host>(h: &mut H, frames: u32) -> Result<Places, HostFault>
+    requires few { frames ≤ MAX_FRAMES }
+    requires table { tables_end frames ≤ (H.counts h.old).size }
+    ensures places { H.tells → (image : Image) → reads (H.state h.old).now.words ≡ image → IfOk result (HoldsPlaces (tables_of frames image)) }
+    ensures count { IfOk result (λ places. places.count ≡ frames) }
+    ensures stays { H.tells → H.state h.new ≡ H.state h.old }
+    ensures cause { H.counts h.new ≡ after_fault (fault_of result) (H.counts h.old) }
+    ensures never_cut { fault_of result ≢ Option.Some HostFault.Cut }
+{
+    let mut found = no_places(frames);
+    for frame in (0..frames).rev() {
+        let member = h.load(record_at(frame))?;
+        found.put(frame, member);
+    }
+    Ok(found)
+}
