@@ -2,9 +2,10 @@
 //! it is given the words, the file of the device and the streams.
 #![tactic(auto)]
 
+use command_line::{WordsFault, read_words};
 use pm_file::FileHost;
 use pm_model::FileFault;
-use puddle_cli::{DEVICE_FAULT, NO_MEMORY, USAGE, message_of, mode_of, puddle_main};
+use puddle_cli::{DEVICE_FAULT, NO_MEMORY, USAGE, message_of, puddle_main};
 use std::process::ExitCode;
 use std::{env, io};
 
@@ -30,8 +31,10 @@ fn status_with(rt: &HostRuntime) -> u8 {
         Ok(words) => words,
         Err(status) => return status,
     };
-    if mode_of(&words).is_none() {
-        return USAGE;
+    match read_words(rt.alloc(), &words) {
+        Ok(_mode) => {}
+        Err(WordsFault::Usage) => return USAGE,
+        Err(WordsFault::Memory) => return NO_MEMORY,
     }
     match FileHost::open(rt, rt.alloc()) {
         Ok(mut host) => puddle_main(rt.alloc(), &words, &mut host),

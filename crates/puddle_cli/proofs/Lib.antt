@@ -1,4 +1,5 @@
 pub mod LayingOut
+pub mod Showing
 pub mod Formatted
 pub mod Answering
 pub mod Statuses

@@ -76,6 +76,14 @@ module _ (old new : Counts) where
   goes_on no_fault no_cut faults.CutInStart c sound = no_cut ((Causes-run faults.CutInStart c).cuts refl)
   goes_on no_fault no_cut faults.NotSound c sound = sound refl
 
+-- a mode without lines that is not refused, and in which neither count rose, is done
+pub done_by : (old new : Counts) (status : ℕ) → IsStatusOfMode status → (status ≡ TOO_LONG → ⊥) → new ≡ after_fault (status_fault status) old → (Rose old.faults new.faults → ⊥) → (Rose old.cuts new.cuts → ⊥) → (status ≡ NOT_USABLE → ⊥) → status ≡ DONE
+done_by old new status (inl done) short last no_fault no_cut usable = done
+done_by old new status (inr (inl refused)) short last no_fault no_cut usable = absurd (usable refused)
+done_by old new status (inr (inr (inl failed))) short last no_fault no_cut usable = absurd (no_fault ((Causes-after old new status (inr (inr (inl failed))) last).faults failed))
+done_by old new status (inr (inr (inr (inl cut)))) short last no_fault no_cut usable = absurd (no_cut ((Causes-after old new status (inr (inr (inr (inl cut)))) last).cuts cut))
+done_by old new status (inr (inr (inr (inr long)))) short last no_fault no_cut usable = absurd (short long)
+
 -- a run from a device that stands for a world is never told that it is not sound
 pub stays_sound : (size : ℕ) (image : Image) (world : Option StoredWorld) → world_of size image ≡ world → (world_of size image ≡ None → ⊥) → (fault : RunFault)
     → ((s : StoredWorld) → world_of size image ≡ Some s → Some fault ≡ Some faults.NotSound → ⊥) → Some fault ≡ Some faults.NotSound → ⊥

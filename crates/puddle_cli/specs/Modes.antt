@@ -1,11 +1,18 @@
 -- What the program does, by the mode that its words ask for.
-use Rattle.std.specs.Prelude.{◌≡◌, ◌≢◌, ◌⊎◌, ◌↔◌, ℕ, IsTrue, false, Option, Some, None}
+use Rattle.std.specs.Prelude.{◌≡◌, ◌≢◌, ◌⊎◌, ◌↔◌, ℕ, IsTrue, false, List, ◌++◌, Option, Some, None}
 use Rattle.pm_model.specs.Words.{IsRested, reads}
 use Rattle.pm_model.specs.Moments.{State}
 use Rattle.pm_model.specs.Counts.{Counts, Rose, after_fault}
-use Rattle.pud_defs.specs.World.{World, no_clients, world_of, closed}
-use Rattle.puddle_cli.specs.declared.command_line.Mode.{Mode}
-use Rattle.puddle_cli.specs.declared.command_line.Mode.TheVariants.{Format, Run}
+use Rattle.pm_model.specs.Changes.{Leaves}
+use Rattle.pud_defs.specs.declared.layout.TheConstants.{DAEMON_LOG}
+use Rattle.pud_defs.specs.Image.{Image}
+use Rattle.pud_defs.specs.Replay.{settled_by}
+use Rattle.pud_defs.specs.Texts.{start_text}
+use Rattle.pud_defs.specs.LayoutText.{layout_text}
+use Rattle.pud_defs.specs.World.{StoredWorld, World, no_clients, world_of, closed}
+use Rattle.puddled.specs.Daemon.{KeepsRest, SaysPart}
+use Rattle.command_line.specs.declared.modes.Mode.{Mode}
+use Rattle.command_line.specs.declared.modes.Mode.TheVariants.{Format, Run, Layout}
 use Rattle.puddle_cli.specs.declared.status.TheConstants.{DONE, USAGE, NOT_USABLE, TOO_LONG}
 use Rattle.puddle_cli.specs.Status.{status_fault, IsStatusOfMode}
 use Rattle.puddle_cli.specs.Formatting.{is_refused, Formats}
@@ -39,14 +46,29 @@ pub record RunsScript (status : ℕ) (before after : Counts) (old new : State) :
   pub headline : (w : World) → w.clients ≡ no_clients → IsRested old.now.words → old.shelf ≡ w.shelf
       → world_of before.size (reads old.now.words) ≡ Some (closed w) → Headline before.size w status before after old new
 
--- The statuses of each mode, and what a mode without lines counts: over words that are no mode nothing, and for `format` the host's one fault.
+-- A mode that starts and then says what the device holds, as a text of an image. Whatever the device holds, it is refused exactly where that is
+-- not sound, and the device then stays; where it is sound and neither count rose, the mode is done. But where it is refused the start text is said
+-- and then the text of what the device reads once its daemon log is replayed, with a fault a part of both; and that is the text of what it reads
+-- in the end. Each image left at any moment by a rested device stands for what it stood for.
+pub record Shows (text : Image → List ℕ) (status : ℕ) (before after : Counts) (old new : State) : Type 0 where
+  pub not_usable : status_fault status ≡ None → (status ≡ NOT_USABLE) ↔ (world_of before.size (reads old.now.words) ≡ None)
+  pub stays : status ≡ NOT_USABLE → new ≡ old
+  pub completes : world_of before.size (reads old.now.words) ≢ None → NoneRose before after → status ≡ DONE
+  pub says : status ≢ NOT_USABLE → SaysPart (start_text ++ text (settled_by DAEMON_LOG (reads old.now.words))) (status_fault status) old new
+  pub in_the_end : status ≡ DONE → text (reads new.now.words) ≡ text (settled_by DAEMON_LOG (reads old.now.words))
+  pub moments : IsRested old.now.words → (s : StoredWorld) → world_of before.size (reads old.now.words) ≡ Some s → Leaves (λ bytes image. world_of before.size image ≡ Some s) old new
+  pub rest : KeepsRest old new
+
+-- The statuses of each mode, and what a mode without lines counts: over words that are no mode nothing, and else the host's one fault.
 abbrev pub EndsBy : Option Mode → ℕ → Counts → Counts → Type 0
 EndsBy None status before after = (status ≡ USAGE) × (after ≡ before)
 EndsBy (Some (Format F id)) status before after = IsStatusOfMode status × (status ≢ TOO_LONG) × (after ≡ after_fault (status_fault status) before)
 EndsBy (Some Run) status before after = IsStatusOfMode status
+EndsBy (Some Layout) status before after = IsStatusOfMode status × (status ≢ TOO_LONG) × (after ≡ after_fault (status_fault status) before)
 
 -- what each mode does; words that are no mode leave all as it was
 abbrev pub DoesBy : Option Mode → ℕ → Counts → Counts → State → State → Type 0
 DoesBy None status before after old new = new ≡ old
 DoesBy (Some (Format F id)) status before after old new = FormatsDevice F id status before after old new
 DoesBy (Some Run) status before after old new = RunsScript status before after old new
+DoesBy (Some Layout) status before after old new = Shows layout_text status before after old new

@@ -1,14 +1,13 @@
 //! All that the program does: the modes of its words, formatting, the loop over a script, and the statuses.
 #![tactic(auto)]
 
-mod command_line;
 mod format;
+mod layout;
 mod piece;
 mod run;
 mod status;
 mod top;
 
-pub use command_line::{Mode, mode_of};
 pub use status::{
     DEVICE_FAULT, DONE, NO_MEMORY, NOT_USABLE, POWER_LOST, TOO_LONG, USAGE, message_of,
 };

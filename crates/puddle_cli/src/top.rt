@@ -1,13 +1,14 @@
 //! The top call: all that the program does.
-ghost use Rattle.std.specs.Prelude.{◌≡◌, ◌↔◌, None, map, string_bytes};
-ghost use Rattle.puddle_cli.specs.CommandLine.{mode_of};
+ghost use Rattle.std.specs.Prelude.{◌≡◌, ◌≢◌, ◌↔◌, None, map, string_bytes};
+ghost use Rattle.command_line.specs.CommandLine.{mode_of};
 ghost use Rattle.puddle_cli.specs.Status.{Causes};
 ghost use Rattle.puddle_cli.specs.Modes.{EndsBy, DoesBy};
 
-use crate::command_line::{Mode, mode_of};
 use crate::format::format;
+use crate::layout::layout;
 use crate::run::run;
-use crate::status::USAGE;
+use crate::status::{NO_MEMORY, USAGE};
+use command_line::{Mode, WordsFault, read_words};
 use pm_model::Host;
 use std::alloc::Global;
 
@@ -15,26 +16,30 @@ use std::alloc::Global;
 /// the program ends with.
 ///
 /// The status is 0 where the mode is done, or the script's end was read before 2^20 of its bytes were taken; 2 exactly where
-/// the words are no mode; 5 only where the host failed; 6 only where power was lost; and 7 only where 2^20 bytes of script were
+/// the words are no mode, and 3 only where memory was refused while they were read, whatever they are; 5 only where the host failed; 6 only where power was lost; and 7 only where 2^20 bytes of script were
 /// taken before its end was read: exactly there, where the run was not ended by 4, 5 or 6.
-/// It is 4 where the device is not usable, and no call failed first: for `format` exactly there, and for `run` exactly there
+/// It is 4 where the device is not usable, and no call failed first: for `format` and `layout` exactly there, and for `run` exactly there
 /// on a device that was rested at entry, where each word has one value. On any device `run` gives 4 only where it reads as
-/// not sound at entry, or where power was lost and it reads so at the end. At 2 nothing was said and no word changed; so at 4
-/// for `format`, and for `run` on a device that was rested at entry.
+/// not sound at entry, or where power was lost and it reads so at the end. At 2 and 3 nothing was said and no word changed; so at
+/// 4 for `format` and `layout`, and for `run` on a device that was rested at entry.
 pub fn puddle_main<H: Host>(alloc: Global, words: &[String], host: &mut H) -> u8
-    // The words, and nothing else, decide status 2.
-    ensures usage { (result ≡ USAGE) ↔ (mode_of (map string_bytes words.now) ≡ None) }
+    // The words, and nothing else, decide status 2, unless memory was refused while they were read: nothing happened then.
+    ensures usage { result ≢ NO_MEMORY → (result ≡ USAGE) ↔ (mode_of (map string_bytes words.now) ≡ None) }
+    ensures no_memory { result ≡ NO_MEMORY → H.counts host.new ≡ H.counts host.old }
+    ensures stays { H.tells → result ≡ NO_MEMORY → H.state host.new ≡ H.state host.old }
 
     // Of the counts, `faults` rises at 5 alone and `cuts` at 6, and none falls. But for lines of a script nothing else is counted.
     ensures cause { Causes result (H.counts host.old) (H.counts host.new) }
-    ensures ends { EndsBy (mode_of (map string_bytes words.now)) result (H.counts host.old) (H.counts host.new) }
+    ensures ends { result ≢ NO_MEMORY → EndsBy (mode_of (map string_bytes words.now)) result (H.counts host.old) (H.counts host.new) }
 
     // What is said, what the device then reads, and each image left at any moment.
-    ensures does { H.tells → DoesBy (mode_of (map string_bytes words.now)) result (H.counts host.old) (H.counts host.new) (H.state host.old) (H.state host.new) }
+    ensures does { H.tells → result ≢ NO_MEMORY → DoesBy (mode_of (map string_bytes words.now)) result (H.counts host.old) (H.counts host.new) (H.state host.old) (H.state host.new) }
 {
-    match mode_of(words) {
-        None => USAGE,
-        Some(Mode::Format { frames, id }) => format(host, frames, id),
-        Some(Mode::Run) => run(alloc, host),
+    match read_words(alloc, words) {
+        Err(WordsFault::Usage) => USAGE,
+        Err(WordsFault::Memory) => NO_MEMORY,
+        Ok(Mode::Format { frames, id }) => format(host, frames, id),
+        Ok(Mode::Run) => run(alloc, host),
+        Ok(Mode::Layout) => layout(host),
     }
 }

@@ -1,11 +1,13 @@
-use Rattle.std.proofs.Common.{Option, refl, sym, subst}
-use Rattle.puddle_cli.specs.declared.command_line.Mode.{Mode}
-use Rattle.puddle_cli.specs.Modes.{RunsScript, EndsBy, DoesBy}
-use Rattle.puddle_cli.specs.declared.status.TheConstants.{USAGE}
+use Rattle.std.proofs.Common.{Option, refl, sym, ap, subst}
+use Rattle.pud_defs.specs.LayoutText.{layout_text}
+use Rattle.command_line.specs.declared.modes.Mode.{Mode}
+use Rattle.puddle_cli.specs.Status.{status_fault}
+use Rattle.puddle_cli.specs.Modes.{RunsScript, Shows, DoesBy}
+use Rattle.puddle_cli.proofs.Statuses.{done_by}
 use Rattle.puddle_cli.proofs.top.puddle_main.Goals as goal
 
-pub returns-in-Some-Run-clause-does : goal.returns-in-Some-Run-clause-does
-returns-in-Some-Run-clause-does g c = λ t.
+pub returns-in-Ok-Run-clause-does : goal.returns-in-Ok-Run-clause-does
+returns-in-Ok-Run-clause-does g c = λ t told.
     let runs = c.run.ensures in
     let does : RunsScript c.run.result (g.H.Host.counts c.args.host.now) (g.H.Host.counts c.run.new.h) (g.H.Host.state c.args.host.now) (g.H.Host.state c.run.new.h) = record {
       takes = runs.takes t;
@@ -16,10 +18,19 @@ returns-in-Some-Run-clause-does g c = λ t.
       headline = runs.headline t;
     } in
     subst (λ (m : Option Mode). DoesBy m c.run.result (g.H.Host.counts c.args.host.now) (g.H.Host.counts c.run.new.h) (g.H.Host.state c.args.host.now) (g.H.Host.state c.run.new.h))
-    (rw c.in-Some-Run.field-0-is at c.in-Some-Run.ensures) does
+    (sym (rw c.in-Ok-Run.field-0-is at c.in-Ok-Run.ensures.ok)) does
 
-pub returns-in-None-clause-usage : goal.returns-in-None-clause-usage
-returns-in-None-clause-usage g c = (λ _. sym c.in-None.ensures, λ _. refl)
-
-pub returns-in-None-clause-ends : goal.returns-in-None-clause-ends
-returns-in-None-clause-ends g c = subst (λ (m : Option Mode). EndsBy m USAGE (g.H.Host.counts c.args.host.now) (g.H.Host.counts c.args.host.now)) c.in-None.ensures (refl, refl)
+pub returns-in-Ok-Layout-clause-does : goal.returns-in-Ok-Layout-clause-does
+returns-in-Ok-Layout-clause-does g c = λ t told.
+    let shows = c.layout.ensures in
+    let does : Shows layout_text c.layout.result (g.H.Host.counts c.args.host.now) (g.H.Host.counts c.layout.new.h) (g.H.Host.state c.args.host.now) (g.H.Host.state c.layout.new.h) = record {
+      not_usable = shows.not_usable t;
+      stays = shows.unchanged t;
+      completes = λ sound none. done_by _ _ _ shows.status shows.never_too_long shows.cause none.faults none.cuts (λ refused. sound ((shows.not_usable t (ap status_fault refused)).0 refused));
+      says = shows.says t;
+      in_the_end = shows.in_the_end t;
+      moments = λ rested s world. shows.moments t _ refl rested s world;
+      rest = shows.rest t;
+    } in
+    subst (λ (m : Option Mode). DoesBy m c.layout.result (g.H.Host.counts c.args.host.now) (g.H.Host.counts c.layout.new.h) (g.H.Host.state c.args.host.now) (g.H.Host.state c.layout.new.h))
+    (sym (rw c.in-Ok-Layout.field-0-is at c.in-Ok-Layout.ensures.ok)) does

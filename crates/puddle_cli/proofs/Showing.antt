@@ -1,0 +1,105 @@
+-- What the modes show that start and then say what the device holds.
+use Rattle.std.proofs.Common.{◌≡◌, ◌≢◌, inl, inr, ℕ, ◌<◌, ◌≤◌, List, [], ◌++◌, ◌↔◌, Option, Some, None, Result, Ok, Err, refl, sym, ap, subst, ◌∙◌, arith, append_assoc}
+use Rattle.std.proofs.lemmas.List.{append-nil}
+use Rattle.pm_model.specs.declared.host.HostFault.{HostFault}
+use Rattle.pm_model.specs.Words.{IsRested, reads}
+use Rattle.pm_model.specs.Moments.{State}
+use Rattle.pm_model.specs.Calls.{Says}
+use Rattle.pm_model.specs.Changes.{Leaves}
+use Rattle.pm_model.proofs.Leaves.{Leaves-then, Leaves-weaker, Leaves-says}
+use Rattle.pud_defs.specs.declared.layout.TheConstants.{DAEMON_LOG, MACHINE_WORD, FRAMES_WORD, NEXT_NUMBER_WORD, SPACE_TABLE, POOL_TABLE, PUDDLE_TABLE}
+use Rattle.pud_defs.specs.Image.{Image}
+use Rattle.pud_defs.specs.Layout.{tables_end}
+use Rattle.pud_defs.specs.Replay.{settled_by}
+use Rattle.pud_defs.specs.Registry.{frames_of}
+use Rattle.pud_defs.specs.Tables.{Tables, tables_of}
+use Rattle.pud_defs.specs.SoundTables.{are_sound_tables, HasSoundTables}
+use Rattle.pud_defs.specs.LayoutText.{tables_text, layout_text}
+use Rattle.pud_defs.specs.Texts.{start_text}
+use Rattle.pud_defs.specs.World.{StoredWorld, World, no_clients, world_of}
+use Rattle.pud_defs.proofs.Replay.{outside_log}
+use Rattle.pud_defs.proofs.TablesOf.{tables_of-same}
+use Rattle.pud_defs.proofs.SoundChanged.{sound_from}
+use Rattle.pud_defs.proofs.Parts.Part.{Header, Pools}
+use Rattle.pud_defs.proofs.Worlds.{standing_of_world}
+use Rattle.puddled.specs.declared.daemon.StartFault.{StartFault}
+use Rattle.puddled.specs.declared.daemon.StartFault.TheVariants as starts
+use Rattle.puddled.specs.Faults.{start_fault}
+use Rattle.puddled.specs.Memory.{Memory}
+use Rattle.puddled.specs.Daemon.{SaysPart, IsReplayed, Starts}
+use Rattle.puddled.proofs.Lines.{SaysPart-says, SaysPart-nothing}
+
+-- ---- what the device reads behind the start is laid out as what it read with its daemon log replayed
+
+module _ (before now : Image) (r : IsReplayed before now) where
+  low_word : (k : ℕ) → k < DAEMON_LOG → now k ≡ settled_by DAEMON_LOG before k
+  low_word k low = r.each k (outside_log DAEMON_LOG k (inl low)) (inl (omega arith))
+
+  tables_replayed : tables_of (now FRAMES_WORD) now ≡ tables_of (settled_by DAEMON_LOG before FRAMES_WORD) (settled_by DAEMON_LOG before)
+  tables_replayed =
+      ap (λ (F : ℕ). tables_of F now) (low_word FRAMES_WORD (omega arith))
+      ∙ tables_of-same (settled_by DAEMON_LOG before FRAMES_WORD) now (settled_by DAEMON_LOG before)
+      (λ k low high. r.each k (outside_log DAEMON_LOG k (inr (omega arith))) (inl high))
+      (λ k low high. r.each k (outside_log DAEMON_LOG k (inr (omega arith))) (inr low))
+
+  pub layout_text-replayed : layout_text now ≡ layout_text (settled_by DAEMON_LOG before)
+  layout_text-replayed =
+      ap (λ (id : ℕ). tables_text id (now NEXT_NUMBER_WORD) (tables_of (now FRAMES_WORD) now)) (low_word MACHINE_WORD (omega arith))
+      ∙ ap (λ (next : ℕ). tables_text (settled_by DAEMON_LOG before MACHINE_WORD) next (tables_of (now FRAMES_WORD) now)) (low_word NEXT_NUMBER_WORD (omega arith))
+      ∙ ap (λ (t : Tables). tables_text (settled_by DAEMON_LOG before MACHINE_WORD) (settled_by DAEMON_LOG before NEXT_NUMBER_WORD) t) tables_replayed
+
+  -- and its tables are sound, if it stood for a world
+  pub sound_replayed : (size : ℕ) (s : StoredWorld) → world_of size before ≡ Some s → HasSoundTables s.next_number (tables_of (now FRAMES_WORD) now)
+  sound_replayed size s world =
+      let h = standing_of_world size before s world in
+      let frames : settled_by DAEMON_LOG before FRAMES_WORD ≡ s.frames = (h.holds Header).frames in
+      let same : tables_of (now FRAMES_WORD) now ≡ tables_of s.frames (settled_by DAEMON_LOG before) = tables_replayed ∙ ap (λ (F : ℕ). tables_of F (settled_by DAEMON_LOG before)) frames in
+      sound_from s.next_number (tables_of (now FRAMES_WORD) now) (ap (are_sound_tables s.next_number) same ∙ (h.holds Pools).sound)
+
+-- a device stands for a world, if it does not stand for none
+world_there : (size : ℕ) (image : Image) (o : Option StoredWorld) → world_of size image ≡ o → (o ≡ None → ⊥) → (s : StoredWorld) × (world_of size image ≡ Some s)
+world_there size image None e some = absurd (some refl)
+world_there size image (Some s) e some = (s, e)
+
+-- a start that went well was not refused
+pub not_refused : {memory : Memory} (size : ℕ) (image : Image) → (◌≡◌ {A = Result Memory StartFault} (Ok memory) (Err starts.NotSound)) ↔ (world_of size image ≡ None) → world_of size image ≡ None → ⊥
+not_refused size image exact none = let no = exact.1 none in cc
+
+-- ---- what was said
+
+-- what stands where, as the daemon's frames tell
+pub shown : (size F : ℕ) (old mid new : State) (fault : Option HostFault) → (world_of size (reads old.now.words) ≡ None → ⊥) → IsReplayed (reads old.now.words) (reads mid.now.words) → F ≡ frames_of (reads mid.now.words)
+    → ((next : ℕ) → HasSoundTables next (tables_of F (reads mid.now.words)) → F ≡ frames_of (reads mid.now.words) → Says (layout_text (reads mid.now.words)) fault mid new)
+    → Says (layout_text (settled_by DAEMON_LOG (reads old.now.words))) fault mid new
+shown size F old mid new fault sound replayed frames says =
+    let there = world_there size (reads old.now.words) _ refl sound in
+    let tables = subst (λ (n : ℕ). HasSoundTables there.0.next_number (tables_of n (reads mid.now.words))) (sym frames) (sound_replayed (reads old.now.words) (reads mid.now.words) replayed size there.0 there.1) in
+    subst (λ (text : List ℕ). Says text fault mid new) (layout_text-replayed (reads old.now.words) (reads mid.now.words) replayed) (says there.0.next_number tables frames)
+
+-- the start was said whole, and then this text, or a part of it
+pub SaysPart-started : (text : List ℕ) (fault : Option HostFault) (old mid new : State) → SaysPart {Fault = HostFault} start_text None old mid → Says text fault mid new → SaysPart (start_text ++ text) fault old new
+SaysPart-started text fault old mid new s says =
+    let p = SaysPart-says text fault mid new says in
+    let whole : start_text ≡ s.bytes = s.part ∙ ap (λ (l : List ℕ). s.bytes ++ l) (s.whole refl) ∙ append-nil s.bytes in
+    record {
+      bytes = start_text ++ p.bytes;
+      rest = p.rest;
+      part = ap (λ (l : List ℕ). start_text ++ l) p.part ∙ sym (append_assoc start_text p.bytes p.rest);
+      said = p.said ∙ ap (λ (l : List ℕ). l ++ p.bytes) (s.said ∙ ap (λ (l : List ℕ). old.now.said ++ l) (sym whole)) ∙ append_assoc old.now.said start_text p.bytes;
+      whole = p.whole;
+    }
+
+-- ---- what is left at each moment
+
+module _ (size : ℕ) (s : StoredWorld) (old : State) where
+  abbrev pub world_at : State → World
+  world_at start = record { stored = s; clients = no_clients; shelf = start.shelf }
+
+  pub Leaves-start : (result : Result Memory StartFault) (new : State) → Starts size (world_at old) result old new → Leaves (λ bytes image. world_of size image ≡ Some s) old new
+  Leaves-start result new p = Leaves-weaker _ _ old new (λ bytes image m. m.1) p.moments
+
+  pub Leaves-shown : (memory : Memory) (mid new : State) (text : List ℕ) (fault : Option HostFault) → Starts size (world_at old) (Ok memory) old mid → Says text fault mid new → Leaves (λ bytes image. world_of size image ≡ Some s) old new
+  Leaves-shown memory mid new text fault p says =
+      let P : List ℕ → Image → Type 0 = λ bytes image. world_of size image ≡ Some s in
+      Leaves-then P P P p.says.bytes old mid new p.says.said (λ front image m. m) (λ more image m. m) (Leaves-start (Ok memory) mid p)
+      (Leaves-says text fault P mid new (λ front image prefix picked. p.ready.settled.stands image picked) says)

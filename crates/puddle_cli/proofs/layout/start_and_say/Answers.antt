@@ -1,0 +1,57 @@
+use Rattle.std.proofs.Common.{ℕ, Option, Some, None, Ok, Err, refl, ap, ◌∙◌}
+use Rattle.std.proofs.lemmas.Result.{err_from_is_err_and}
+use Rattle.pm_model.specs.declared.host.HostFault.{HostFault}
+use Rattle.pm_model.specs.Words.{Image, reads}
+use Rattle.pm_model.specs.Counts.{fault_of}
+use Rattle.pud_defs.specs.LayoutText.{layout_text}
+use Rattle.puddled.proofs.Lines.{KeepsRest-says, words_said}
+use Rattle.puddle_cli.proofs.Showing.{layout_text-replayed, not_refused, shown, SaysPart-started, world_at, Leaves-start, Leaves-shown}
+use Rattle.puddle_cli.proofs.layout.start_and_say.Goals as goal
+
+-- ---- the start failed
+
+pub returns-in_err-daemon-clause-moments : goal.returns-in_err-daemon-clause-moments
+returns-in_err-daemon-clause-moments g c = λ t size same rested s world.
+    let old = g.H.Host.state c.args.h.now in
+    Leaves-start size s old _ (g.H.Host.state c.start.new.h) (c.in_err-daemon.ensures.starts t size same (world_at size s old old) rested world refl)
+
+-- ---- the layout was said in part
+
+pub returns-in_err-say_layout-clause-says : goal.returns-in_err-say_layout-clause-says
+returns-in_err-say_layout-clause-says g c =
+    let p = err_from_is_err_and c.from_residual-in_err-say_layout.result c.from_residual-in_err-say_layout.ensures.1 in
+    rw (p.1, p.2) (λ t sound.
+    let said = shown (g.H.Host.counts c.args.h.now).size c.frames.result (g.H.Host.state c.args.h.now) (g.H.Host.state c.start.new.h) (g.H.Host.state c.say_layout.new.h) (Some c.in_err-say_layout.field-0.0)
+    (not_refused _ _ (c.in_ok-daemon.ensures.not_sound t refl)) (c.in_ok-daemon.ensures.replays t) (c.frames.ensures.frames ∙ c.in_ok-daemon.ensures.frames t)
+    (λ next tables frames. c.in_err-say_layout.ensures.sound t _ refl next tables frames) in
+    SaysPart-started _ _ _ _ _ (c.in_ok-daemon.ensures.says t (λ no. absurd (cc))) said)
+
+pub returns-in_err-say_layout-clause-moments : goal.returns-in_err-say_layout-clause-moments
+returns-in_err-say_layout-clause-moments g c = λ t size same rested s world.
+    let old = g.H.Host.state c.args.h.now in
+    Leaves-shown size s old _ _ _ _ _ (c.in_ok-daemon.ensures.starts t size same (world_at size s old old) rested world refl) (c.in_err-say_layout.ensures.says t _ refl)
+
+pub returns-in_err-say_layout-clause-rest : goal.returns-in_err-say_layout-clause-rest
+returns-in_err-say_layout-clause-rest g c = λ t. KeepsRest-says _ _ _ _ _ (c.in_ok-daemon.ensures.rest t) (c.in_err-say_layout.ensures.says t _ refl)
+
+-- ---- it was said whole
+
+pub returns-clause-says : goal.returns-clause-says
+returns-clause-says g c = λ t sound.
+    let said = shown (g.H.Host.counts c.args.h.now).size c.frames.result (g.H.Host.state c.args.h.now) (g.H.Host.state c.start.new.h) (g.H.Host.state c.say_layout.new.h) None
+    (not_refused _ _ (c.in_ok-daemon.ensures.not_sound t refl)) (c.in_ok-daemon.ensures.replays t) (c.frames.ensures.frames ∙ c.in_ok-daemon.ensures.frames t)
+    (λ next tables frames. c.in_ok-say_layout.ensures.sound t _ refl next tables frames) in
+    SaysPart-started _ _ _ _ _ (c.in_ok-daemon.ensures.says t (λ no. absurd (cc))) said
+
+pub returns-clause-in_the_end : goal.returns-clause-in_the_end
+returns-clause-in_the_end g c = λ t ok.
+    let same = words_said _ _ _ _ (c.in_ok-say_layout.ensures.says t _ refl) in
+    ap (λ words. layout_text (reads words)) same ∙ layout_text-replayed _ _ (c.in_ok-daemon.ensures.replays t)
+
+pub returns-clause-moments : goal.returns-clause-moments
+returns-clause-moments g c = λ t size same rested s world.
+    let old = g.H.Host.state c.args.h.now in
+    Leaves-shown size s old _ _ _ _ _ (c.in_ok-daemon.ensures.starts t size same (world_at size s old old) rested world refl) (c.in_ok-say_layout.ensures.says t _ refl)
+
+pub returns-clause-rest : goal.returns-clause-rest
+returns-clause-rest g c = λ t. KeepsRest-says _ _ _ _ _ (c.in_ok-daemon.ensures.rest t) (c.in_ok-say_layout.ensures.says t _ refl)
