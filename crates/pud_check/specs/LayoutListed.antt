@@ -1,14 +1,29 @@
 -- The text of what stands where, as the tables of a device list it, sound or not.
-use Rattle.std.specs.Prelude.{ℕ, List, [], ◌++◌, flat_map, Option, Some, None}
+use Rattle.std.specs.Prelude.{ℕ, List, [], ◌∷◌, ◌++◌, flat_map, decimal, Option, Some, None}
 use Rattle.std.specs.List.{range_with_len}
 use Rattle.pud_defs.specs.declared.records.TheConstants.{MAX_PUDDLES}
 use Rattle.pud_defs.specs.declared.records.PoolRec.{PoolRec}
 use Rattle.pud_defs.specs.declared.records.Puddle.{Puddle}
 use Rattle.pud_defs.specs.declared.records.PuddleRec.{PuddleRec}
+use Rattle.pud_defs.specs.Identifiers.{puddle_uuid, uuid_text}
 use Rattle.pud_defs.specs.Keyed.{count_used}
 use Rattle.pud_defs.specs.Tables.{Tables, puddle_in}
+use Rattle.pud_defs.specs.Texts.{line_of}
+use Rattle.pud_defs.specs.Listing.{space}
 use Rattle.pud_defs.specs.LayoutText.{frames_line, pool_line, puddle_line}
 use Rattle.pool_table.specs.InOrder.{in_order}
+
+-- ---- the parts of a line
+
+-- a number behind a space
+abbrev pub field_text : ℕ → List ℕ
+field_text n = space ∷ decimal n
+
+-- the identifier of a UUID number behind a space, and the end of the line
+abbrev pub line_end : (id number : ℕ) → List ℕ
+line_end id number = line_of (space ∷ uuid_text (puddle_uuid id number))
+
+-- ---- what is listed
 
 -- what a record says of its puddle
 abbrev pub puddle_of : PuddleRec → Puddle
@@ -28,7 +43,7 @@ abbrev pub puddle_listed : ℕ → Tables → (slot ordinal : ℕ) → List ℕ
 puddle_listed id t slot ordinal = line_found id (puddle_in t slot ordinal)
 
 -- the lines of the puddles of the pool of this slot, by the ordinals from 0 on
-abbrev pub puddles_listed : ℕ → Tables → ℕ → List ℕ
+unfoldable pub puddles_listed : ℕ → Tables → ℕ → List ℕ
 puddles_listed id t slot = flat_map (puddle_listed id t slot) (range_with_len 0 MAX_PUDDLES)
 
 -- the lines of a pool by its slot and record

@@ -1,23 +1,46 @@
 //! The lines on frames, pools and puddles, each as a text.
 
-ghost use Rattle.std.specs.Prelude.{◌≡◌, ◌+◌, ◌≤◌, ◌++◌};
+ghost use Rattle.std.specs.Prelude.{◌≡◌, ◌+◌, ◌≤◌, ◌∷◌, ◌++◌};
 ghost use Rattle.arrayvec.specs.ArrayVec.{array_vec_len};
 ghost use Rattle.pool_list.specs.declared.text.TheConstants.{TEXT_LIMIT};
 ghost use Rattle.pud_defs.specs.LayoutText.{address_text, frames_line, pool_line};
-ghost use Rattle.pud_check.specs.LayoutListed.{record_line};
+ghost use Rattle.pud_defs.specs.Listing.{space};
+ghost use Rattle.pud_check.specs.LayoutListed.{field_text, line_end, record_line};
 
 use pool_list::text::{Text, add, add_identifier, add_long, add_mode, add_name, add_number};
 use pud_defs::records::{PoolRec, PuddleRec};
 use uid_make::print_uuid;
 
-/// Adds the address as twelve hexadecimal digits, which are the last group of an identifier with that number.
+/// Adds a space and the number.
+fn add_field(text: &mut Text, number: u32)
+    requires { array_vec_len text.old + 11 ≤ TEXT_LIMIT }
+    ensures field { text.new.items ≡ text.old.items ++ field_text number }
+    ensures within { array_vec_len text.new ≤ array_vec_len text.old + 11 }
+{
+    text.push(b' ');
+    add_number(text, number);
+}
+
+/// Adds a space and the address, whose twelve digits are the last group of an identifier.
 fn add_address(text: &mut Text, address: u64)
-    requires { array_vec_len text.old + 12 ≤ TEXT_LIMIT }
-    ensures { text.new.items ≡ text.old.items ++ address_text address }
+    requires { array_vec_len text.old + 13 ≤ TEXT_LIMIT }
+    ensures address { text.new.items ≡ text.old.items ++ space ∷ address_text address }
+    ensures within { array_vec_len text.new ≡ array_vec_len text.old + 13 }
 {
     let mut identifier = [0; 36];
     print_uuid(u128::from(address), &mut identifier);
+    text.push(b' ');
     add(text, &identifier[24..]);
+}
+
+/// Adds a space, the identifier of the UUID number on the machine of this id, and the newline.
+fn add_end(text: &mut Text, id: u64, number: u64)
+    requires { array_vec_len text.old + 38 ≤ TEXT_LIMIT }
+    ensures { text.new.items ≡ text.old.items ++ line_end id number }
+{
+    text.push(b' ');
+    add_identifier(text, id, number);
+    text.push(b'\n');
 }
 
 /// `frames F used U next N`, at most 60 bytes.
@@ -35,22 +58,18 @@ pub fn frames_line(frames: u32, used: u32, next: u64) -> Text
     text
 }
 
-/// `pool NAME uid gid mode identifier`, on the machine of this id: at most 86 bytes.
+/// `pool NAME uid gid mode identifier`, on the machine of this id: at most 85 bytes.
 pub fn pool_line(id: u64, rec: &PoolRec) -> Text
     ensures { result.items ≡ pool_line id rec.now }
 {
     let mut text = Text::new();
     add(&mut text, b"pool ");
     add_name(&mut text, &rec.name);
-    text.push(b' ');
-    add_number(&mut text, rec.uid);
-    text.push(b' ');
-    add_number(&mut text, rec.gid);
+    add_field(&mut text, rec.uid);
+    add_field(&mut text, rec.gid);
     text.push(b' ');
     add_mode(&mut text, rec.mode);
-    text.push(b' ');
-    add_identifier(&mut text, id, rec.number);
-    text.push(b'\n');
+    add_end(&mut text, id, rec.number);
     text
 }
 
@@ -61,16 +80,10 @@ pub fn puddle_line(id: u64, frame: u32, rec: &PuddleRec) -> Text
     let mut text = Text::new();
     add(&mut text, b"puddle ");
     add_number(&mut text, rec.ordinal);
-    text.push(b' ');
-    add_number(&mut text, frame);
-    text.push(b' ');
+    add_field(&mut text, frame);
     add_address(&mut text, rec.base);
-    text.push(b' ');
     add_address(&mut text, rec.old_base);
-    text.push(b' ');
-    add_number(&mut text, rec.frontier);
-    text.push(b' ');
-    add_identifier(&mut text, id, rec.number);
-    text.push(b'\n');
+    add_field(&mut text, rec.frontier);
+    add_end(&mut text, id, rec.number);
     text
 }

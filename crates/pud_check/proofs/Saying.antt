@@ -1,0 +1,56 @@
+-- What is said of puddles and pools, one after another, where the words of the device stay.
+use Rattle.std.proofs.Common.{◌≡◌, ℕ, ◌+◌, ◌<◌, ◌≤◌, List, [], ◌++◌, length, take, get_or, Option, Some, None, refl, sym, ap, ◌∙◌, subst, arith, zero-add}
+use Rattle.std.proofs.Math.Seq.{take-length}
+use Rattle.std.specs.List.{flat_map, range_with_len}
+use Rattle.std.proofs.lemmas.List.FromFn.{get_or-range_with_len}
+use Rattle.pm_model.specs.declared.host.HostFault.{HostFault}
+use Rattle.pm_model.specs.Words.{reads}
+use Rattle.pm_model.specs.Moments.{State}
+use Rattle.pm_model.specs.Calls.{Says}
+use Rattle.pm_model.proofs.Said.{words-all_said}
+use Rattle.pud_defs.specs.Image.{Image}
+use Rattle.pud_defs.specs.declared.layout.TheConstants.{MACHINE_WORD, NEXT_NUMBER_WORD}
+use Rattle.pud_defs.specs.declared.records.TheConstants.{MAX_PUDDLES}
+use Rattle.pud_defs.specs.LayoutText.{tables_text, layout_text}
+use Rattle.pud_defs.specs.Registry.{frames_of}
+use Rattle.pud_defs.specs.SoundTables.{HasSoundTables}
+use Rattle.pud_defs.specs.Tables.{Tables, tables_of}
+use Rattle.pud_check.specs.LayoutListed.{puddle_listed, puddles_listed, listed_layout}
+use Rattle.pud_check.proofs.Laid.{laid_out}
+use Rattle.pool_list.proofs.Saying.{Says-more, Says-until}
+
+-- what is said leaves the words
+pub reads-said : (bytes : List ℕ) (fault : Option HostFault) (a b : State) (image : Image) → Says bytes fault a b → reads a.now.words ≡ image → reads b.now.words ≡ image
+reads-said bytes fault a b image says e = ap (λ (s : State). reads s.now.words) says.is ∙ ap reads (words-all_said (take says.count bytes) a) ∙ e
+
+-- ---- the puddles of a pool
+
+module _ (id : ℕ) (t : Tables) (slot ordinal : ℕ) where
+  at_ordinal : ordinal < MAX_PUDDLES → get_or (range_with_len 0 16) ordinal 0 ≡ ordinal
+  at_ordinal below = get_or-range_with_len 0 16 ordinal 0 below ∙ zero-add ordinal
+
+  -- one puddle more
+  pub Says-puddle : (a b c : State) → ordinal < MAX_PUDDLES → Says (flat_map (puddle_listed id t slot) (take ordinal (range_with_len 0 16))) None a b → Says (puddle_listed id t slot ordinal) None b c
+      → Says (flat_map (puddle_listed id t slot) (take (ordinal + 1) (range_with_len 0 16))) None a c
+  Says-puddle a b c below so_far next =
+      Says-more (puddle_listed id t slot) (range_with_len 0 16) ordinal 0 below None a b c so_far (subst (λ (n : ℕ). Says (puddle_listed id t slot n) None b c) (sym (at_ordinal below)) next)
+
+  -- the fault comes in one of them
+  pub Says-broken : (fault : HostFault) (a b c : State) → ordinal < MAX_PUDDLES → Says (flat_map (puddle_listed id t slot) (take ordinal (range_with_len 0 16))) None a b → Says (puddle_listed id t slot ordinal) (Some fault) b c
+      → Says (puddles_listed id t slot) (Some fault) a c
+  unfolding puddles_listed
+  Says-broken fault a b c below so_far last =
+      Says-until (puddle_listed id t slot) (range_with_len 0 16) ordinal 0 below fault a b c so_far (subst (λ (n : ℕ). Says (puddle_listed id t slot n) (Some fault) b c) (sym (at_ordinal below)) last)
+
+  -- all are said
+  pub Says-puddles : (a b : State) → ordinal ≡ MAX_PUDDLES → Says (flat_map (puddle_listed id t slot) (take ordinal (range_with_len 0 16))) None a b → Says (puddles_listed id t slot) None a b
+  unfolding puddles_listed
+  Says-puddles a b all said = subst (λ (n : ℕ). Says (flat_map (puddle_listed id t slot) (take n (range_with_len 0 16))) None a b) all said
+
+-- ---- all of it
+
+-- what sound tables list is the text of their image
+pub listed_layout-sound : (frames next : ℕ) (image : Image) → HasSoundTables next (tables_of frames image) → frames ≡ frames_of image
+    → listed_layout (image MACHINE_WORD) (image NEXT_NUMBER_WORD) (tables_of frames image) ≡ layout_text image
+listed_layout-sound frames next image sound all =
+    laid_out next (tables_of frames image) (image MACHINE_WORD) (image NEXT_NUMBER_WORD) sound ∙ ap (λ (F : ℕ). tables_text (image MACHINE_WORD) (image NEXT_NUMBER_WORD) (tables_of F image)) all
