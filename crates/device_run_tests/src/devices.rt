@@ -64,10 +64,15 @@ fn a_device_is_formatted_once_and_runs_an_empty_script(rt: HostRuntime) {
 
 #[test]
 fn words_that_are_no_mode_say_nothing(rt: HostRuntime) {
-    let all: [&[&str]; 9] = [
+    let all: [&[&str]; 14] = [
         &[],
         &["puddle"],
         &["puddle", "run", "now"],
+        &["puddle", "layout", "now"],
+        &["puddle", "lay"],
+        &["puddle", "--layout"],
+        &["puddle", "layout", "--help"],
+        &["puddle", "help", "layout"],
         &["puddle", "--help"],
         &["puddle", "format", "3", "7"],
         &["puddle", "format", "1025", "7"],

@@ -1,5 +1,5 @@
 //! Tests of what whole runs of the program leave on a device: formatted, found not sound, with a type defined, with a
-//! client, with pools.
+//! client, with pools, laid out.
 #![tactic(auto)]
 
 #[cfg(test)]
@@ -8,6 +8,8 @@ mod definitions;
 mod devices;
 #[cfg(test)]
 mod formatting;
+#[cfg(test)]
+mod layouts;
 #[cfg(test)]
 mod pools;
 #[cfg(test)]

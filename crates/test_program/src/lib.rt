@@ -13,6 +13,9 @@ use test_device::{blank_device, cuts, failures, newest};
 /// The words of the mode `run`.
 pub const RUN: [&str; 2] = ["puddle", "run"];
 
+/// The words of the mode `layout`.
+pub const LAYOUT: [&str; 2] = ["puddle", "layout"];
+
 /// The words of the mode `format`, for the smallest device.
 pub const FORMAT: [&str; 4] = ["puddle", "format", "4", "7"];
 
