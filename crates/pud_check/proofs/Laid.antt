@@ -1,5 +1,5 @@
 -- The text of what sound tables list, which is that of the pools and puddles that they stand for.
-use Rattle.std.proofs.Common.{◌≡◌, inl, inr, ℕ, zero, suc, ◌+◌, ◌%◌, ◌^◌, ◌<◌, ◌≤◌, Bool, true, false, ◌&&◌, ◌||◌, cond, leb, ltb, eqb, List, [], ◌∷◌, ◌++◌, map, length, nat_cmp, Option, Some, None, option_map, is_none, refl, sym, ap, ap₂, ◌∙◌, subst, arith, eqb-true, eq-eqb, ne_eqb, leb-true, true≢false}
+use Rattle.std.proofs.Common.{◌≡◌, ℕ, zero, suc, ◌+◌, ◌%◌, ◌^◌, ◌<◌, ◌≤◌, Bool, true, false, ◌&&◌, ◌||◌, cond, leb, ltb, eqb, List, [], ◌∷◌, ◌++◌, map, length, nat_cmp, Option, Some, None, option_map, is_none, refl, sym, ap, ap₂, ◌∙◌, subst, arith, eqb-true, eq-eqb, ne_eqb, leb-true, true≢false}
 use Rattle.std.specs.List.{AllByRecursion, flat_map, range_with_len}
 use Rattle.std.specs.declared.cmp.Ordering.TheVariants.{Equal}
 use Rattle.std.specs.Ordering.{is_eq, eq_by_cmp}
@@ -14,7 +14,6 @@ use Rattle.pud_defs.specs.declared.records.Puddle.{Puddle}
 use Rattle.pud_defs.specs.Bases.{is_legal_base, is_legal_frontier}
 use Rattle.pud_defs.specs.Keyed.{count_used}
 use Rattle.pud_defs.specs.LayoutText.{frames_line, pool_line, puddle_line, pool_lines, tables_text}
-use Rattle.pud_defs.specs.Listing.{mode_text}
 use Rattle.pud_defs.specs.Pools.{is_given, pool_read}
 use Rattle.pud_defs.specs.Puddles.{Member, is_legal_puddle, puddle_read}
 use Rattle.pud_defs.specs.SoundTables.{is_pool, is_sound_pool, is_sound_puddle, count_up, are_counted, HasSoundTables}
@@ -22,7 +21,7 @@ use Rattle.pud_defs.specs.Tables.{Tables, member_of, members, puddles_of, record
 use Rattle.pud_defs.proofs.KeyedEach.{each-keyed, flat_map-each, each-weaker}
 use Rattle.pud_defs.proofs.RecordsPlaced.{IsPlaced, each_placed, legal_mode, mode_read}
 use Rattle.pud_defs.proofs.SoundChanged.{legal_pool, legal_puddle, counted_puddles}
-use Rattle.pud_check.specs.LayoutListed.{line_found, puddle_listed, puddles_listed, pool_listed, listed_layout}
+use Rattle.pud_check.specs.LayoutListed.{line_found, puddles_listed, pool_listed, listed_layout}
 
 -- ---- what is found at each of so many ordinals, one after the other
 

@@ -1,5 +1,5 @@
 -- The parts of lines: how long they are, and where an address stands in an identifier.
-use Rattle.std.proofs.Common.{◌≡◌, ℕ, List, length, take, drop, refl}
+use Rattle.std.proofs.Common.{◌≡◌, ℕ, length, take, drop, refl}
 use Rattle.pud_defs.specs.Identifiers.{hex_digits, uuid_text}
 use Rattle.pud_defs.specs.LayoutText.{address_text}
 

@@ -52,12 +52,7 @@ fn say_puddle<H: Host>(
 }
 
 /// Says the lines of the puddles of the pool of this slot, by ascending ordinals.
-fn say_puddles<H: Host>(
-    h: &mut H,
-    id: u64,
-    places: &Places,
-    slot: u32,
-) -> Result<(), HostFault>
+fn say_puddles<H: Host>(h: &mut H, id: u64, places: &Places, slot: u32) -> Result<(), HostFault>
     requires slot { slot < POOL_RECORDS }
     requires table { tables_end (places.now).count ≤ (H.counts h.old).size }
     ensures says { H.tells → (image : Image) → reads (H.state h.old).now.words ≡ image → HoldsPlaces (tables_of (places.now).count image) places.now

@@ -1,5 +1,5 @@
 -- The places of all puddles, from the last frame to the first: a frame that is put later has the place.
-use Rattle.std.proofs.Common.{◌≡◌, inl, inr, ℕ, ◌+◌, ◌-◌, ◌*◌, ◌<◌, ◌≤◌, Bool, true, false, cond, eqb, List, get_or, replicate, Option, Some, None, IfSome, nat_cmp, is_none, option_map, refl, sym, ap, ap₂, ◌∙◌, subst, arith, eq-eqb, ne_eqb}
+use Rattle.std.proofs.Common.{◌≡◌, inl, inr, ℕ, ◌+◌, ◌-◌, ◌*◌, ◌<◌, ◌≤◌, Bool, true, false, cond, eqb, List, replicate, Option, Some, None, IfSome, nat_cmp, is_none, option_map, refl, sym, ap, ap₂, ◌∙◌, subst, arith, eq-eqb, ne_eqb}
 use Rattle.std.specs.Option.{option_or}
 use Rattle.std.specs.FinMap.Entries.{find}
 use Rattle.std.proofs.lemmas.Bool.{cases_eq}
@@ -8,16 +8,15 @@ use Rattle.std.proofs.lemmas.List.{get_or-replicate}
 use Rattle.std.proofs.lemmas.Option.{none-some, same_Some}
 use Rattle.pud_defs.specs.declared.records.TheConstants.{POOL_RECORDS, MAX_PUDDLES}
 use Rattle.pud_defs.specs.declared.records.Puddle.{Puddle}
-use Rattle.pud_defs.specs.declared.records.PuddleRec.{PuddleRec}
 use Rattle.pud_defs.specs.Image.{Image}
-use Rattle.pud_defs.specs.Keyed.{count_used, under, first_from}
-use Rattle.pud_defs.specs.Puddles.{Member, puddle_record_at, puddle_read}
+use Rattle.pud_defs.specs.Keyed.{count_used, first_from}
+use Rattle.pud_defs.specs.Puddles.{puddle_record_at, puddle_read}
 use Rattle.pud_defs.specs.Tables.{tables_of, members, puddles_of, puddle_in}
 use Rattle.pud_defs.proofs.Keyed.{find-keyed, first_from_step, first_from_end, first_from_some, count_used_step}
 use Rattle.pud_defs.proofs.TablesOf.{puddles_below, puddle_at-free, frames_of_tables}
 use Rattle.puddle_table.specs.Records.{is_member, puddle_words_at}
 use Rattle.puddle_table.specs.Placed.{Placed, frame_at, AreFramesBelow, PutsMember, HoldsPlaces}
-use Rattle.puddle_table.proofs.Search.{member_there, used_record, under_table}
+use Rattle.puddle_table.proofs.Search.{used_record, under_table}
 
 -- ---- no frame is put yet
 

@@ -14,8 +14,8 @@ returns-in_err-say-clause-says g c =
     let p = err_from_is_err_and c.from_residual.result c.from_residual.ensures.1 in
     let line = c.as_slice.ensures.value ∙ c.pool_line.ensures in
     rw (p.1, p.2) (λ t image e holds.
-        Says-front (pool_line c.args.id c.args.rec.now) (puddles_listed c.args.id (tables_of c.args.places.now.count image) c.args.slot) c.in_err-say.field-0.0 _ _
-        (subst (λ (bytes : List ℕ). Says bytes (Some c.in_err-say.field-0.0) (g.H.Host.state c.args.h.now) (g.H.Host.state c.say.new.self)) line (c.in_err-say.ensures.said t)))
+    Says-front (pool_line c.args.id c.args.rec.now) (puddles_listed c.args.id (tables_of c.args.places.now.count image) c.args.slot) c.in_err-say.field-0.0 _ _
+    (subst (λ (bytes : List ℕ). Says bytes (Some c.in_err-say.field-0.0) (g.H.Host.state c.args.h.now) (g.H.Host.state c.say.new.self)) line (c.in_err-say.ensures.said t)))
 
 pub returns-clause-says : goal.returns-clause-says
 returns-clause-says g c = λ t image e holds.

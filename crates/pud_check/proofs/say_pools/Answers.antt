@@ -11,9 +11,9 @@ pub returns-in_err-say_pool-clause-says : goal.returns-in_err-say_pool-clause-sa
 returns-in_err-say_pool-clause-says g c =
     let p = err_from_is_err_and c.from_residual.result c.from_residual.ensures.1 in
     rw (p.1, p.2) (λ t image e holds.
-        let so_far = c.loop-slot.invariant.says t image e holds in
-        Says-until (pool_listed c.args.id (tables_of c.args.places.now.count image)) c.args.records.now c.loop-slot.slot-index _ c.loop-slot-test.true c.in_err-say_pool.field-0.0 _ _ _ so_far
-        (c.in_err-say_pool.ensures.says t image (reads-said _ _ _ _ image so_far e) holds))
+    let so_far = c.loop-slot.invariant.says t image e holds in
+    Says-until (pool_listed c.args.id (tables_of c.args.places.now.count image)) c.args.records.now c.loop-slot.slot-index _ c.loop-slot-test.true c.in_err-say_pool.field-0.0 _ _ _ so_far
+    (c.in_err-say_pool.ensures.says t image (reads-said _ _ _ _ image so_far e) holds))
 
 pub loop-slot-preserved : goal.loop-slot-preserved
 loop-slot-preserved g c = record {

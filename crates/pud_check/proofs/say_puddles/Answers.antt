@@ -1,4 +1,4 @@
-use Rattle.std.proofs.Common.{rules, ◌≡◌, ap, ◌∙◌, arith}
+use Rattle.std.proofs.Common.{◌≡◌, ap, ◌∙◌, arith}
 use Rattle.std.proofs.lemmas.Result.{err_from_is_err_and}
 use Rattle.pm_model.specs.Counts.{after_fault, fault_of}
 use Rattle.pud_defs.specs.Tables.{tables_of}
@@ -9,9 +9,9 @@ pub returns-in_err-say_puddle-clause-says : goal.returns-in_err-say_puddle-claus
 returns-in_err-say_puddle-clause-says g c =
     let p = err_from_is_err_and c.from_residual.result c.from_residual.ensures.1 in
     rw (p.1, p.2) (λ t image e holds.
-        let so_far = c.loop-ordinal.invariant.says t image e holds in
-        Says-broken c.args.id (tables_of c.args.places.now.count image) c.args.slot c.loop-ordinal.ordinal c.in_err-say_puddle.field-0.0 _ _ _ c.loop-ordinal-test.true so_far
-        (c.in_err-say_puddle.ensures.says t image (reads-said _ _ _ _ image so_far e) holds))
+    let so_far = c.loop-ordinal.invariant.says t image e holds in
+    Says-broken c.args.id (tables_of c.args.places.now.count image) c.args.slot c.loop-ordinal.ordinal c.in_err-say_puddle.field-0.0 _ _ _ c.loop-ordinal-test.true so_far
+    (c.in_err-say_puddle.ensures.says t image (reads-said _ _ _ _ image so_far e) holds))
 
 pub loop-ordinal-preserved : goal.loop-ordinal-preserved
 loop-ordinal-preserved g c = record {

@@ -4,8 +4,7 @@ use Rattle.pm_model.specs.Moments.{State}
 use Rattle.pm_model.specs.Counts.{after_fault, fault_of}
 use Rattle.pud_defs.specs.Image.{Image}
 use Rattle.pud_defs.specs.Puddles.{puddle_record_at}
-use Rattle.pud_defs.specs.Tables.{tables_of}
-use Rattle.puddle_table.specs.Placed.{Placed, HoldsPlaces}
+use Rattle.puddle_table.specs.Placed.{Placed}
 use Rattle.puddle_table.proofs.Placing.{HoldsFrom, few_used, HoldsFrom-start, HoldsFrom-next, HoldsPlaces-end}
 use Rattle.puddle_table.proofs.places.find_places.Goals as goal
 

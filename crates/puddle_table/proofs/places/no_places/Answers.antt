@@ -1,4 +1,4 @@
-use Rattle.std.proofs.Common.{refl, arith}
+use Rattle.std.proofs.Common.{arith}
 use Rattle.puddle_table.proofs.Placing.{none_put-below}
 use Rattle.puddle_table.proofs.places.no_places.Goals as goal
 

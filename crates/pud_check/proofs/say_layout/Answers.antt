@@ -1,0 +1,62 @@
+use Rattle.std.proofs.Common.{ℕ, List, Some, None, ap, ◌∙◌, subst}
+use Rattle.std.proofs.lemmas.Result.{err_from_is_err_and}
+use Rattle.std.specs.List.{flat_map}
+use Rattle.pm_model.specs.Words.{reads}
+use Rattle.pm_model.specs.Moments.{State}
+use Rattle.pm_model.specs.Counts.{fault_of}
+use Rattle.pm_model.specs.Calls.{Says}
+use Rattle.pm_model.proofs.Saying.{Says-behind}
+use Rattle.pud_defs.specs.declared.layout.TheConstants.{MACHINE_WORD, NEXT_NUMBER_WORD}
+use Rattle.pud_defs.specs.declared.records.PoolRec.{PoolRec}
+use Rattle.pud_defs.specs.LayoutText.{frames_line}
+use Rattle.pud_defs.specs.Tables.{tables_of}
+use Rattle.pud_check.specs.LayoutListed.{pool_listed}
+use Rattle.pud_check.proofs.Saying.{reads-said, holds_counted, Says-no_pools, Says-layout, listed_layout-sound}
+use Rattle.pud_check.proofs.say_layout.Goals as goal
+
+pub returns-in_err-say-clause-says : goal.returns-in_err-say-clause-says
+returns-in_err-say-clause-says g c =
+    let p = err_from_is_err_and c.from_residual-in_err-say.result c.from_residual-in_err-say.ensures.1 in
+    rw (p.1, p.2) (λ t image e.
+    let words = λ (s : State). reads s.now.words in
+    let placing = c.in_ok-places.ensures.stays t in
+    let listing = c.in_ok-records.ensures.stays t ∙ placing in
+    let machine = c.in_ok-id.ensures.state t ∙ listing in
+    let number = c.in_ok-next.ensures.state t ∙ machine in
+    let fault = c.in_err-say.field-0.0 in
+    let line = c.as_slice.ensures.value ∙ c.frames_line.ensures ∙ ap (λ (used : ℕ). frames_line c.args.frames used c.in_ok-next.next) c.used.ensures in
+    Says-no_pools c.args.frames image c.in_ok-places.places c.in_ok-id.id c.in_ok-next.next c.in_ok-records.records.items (c.in_ok-places.ensures.places t image e) c.in_ok-places.ensures.count
+    (c.in_ok-id.ensures.value t ∙ ap (λ (s : State). words s MACHINE_WORD) listing ∙ (λ i. e i MACHINE_WORD))
+    (c.in_ok-next.ensures.value t ∙ ap (λ (s : State). words s NEXT_NUMBER_WORD) machine ∙ (λ i. e i NEXT_NUMBER_WORD))
+    (c.in_ok-records.ensures.listed t image (ap words placing ∙ e) c.args.frames) fault _ _
+    (Says-behind _ (Some fault) _ _ _ number (subst (λ (bytes : List ℕ). Says bytes (Some fault) (g.H.Host.state c.load-2.new.self) (g.H.Host.state c.say.new.self)) line (c.in_err-say.ensures.said t))))
+
+pub returns-in_err-say-clause-sound : goal.returns-in_err-say-clause-sound
+returns-in_err-say-clause-sound g c = λ t image e next sound all.
+    subst (λ (bytes : List ℕ). Says bytes (fault_of c.from_residual-in_err-say.result) (g.H.Host.state c.args.h.now) (g.H.Host.state c.say.new.self)) (listed_layout-sound c.args.frames next image sound all)
+    (returns-in_err-say-clause-says g c t image e)
+
+pub returns-clause-says : goal.returns-clause-says
+returns-clause-says g c = λ t image e.
+    let words = λ (s : State). reads s.now.words in
+    let placing = c.in_ok-places.ensures.stays t in
+    let listing = c.in_ok-records.ensures.stays t ∙ placing in
+    let machine = c.in_ok-id.ensures.state t ∙ listing in
+    let number = c.in_ok-next.ensures.state t ∙ machine in
+    let fault = fault_of c.say_pools.result in
+    let line = c.as_slice.ensures.value ∙ c.frames_line.ensures ∙ ap (λ (used : ℕ). frames_line c.args.frames used c.in_ok-next.next) c.used.ensures in
+    let holds = c.in_ok-places.ensures.places t image e in
+    let count = c.in_ok-places.ensures.count in
+    let id = c.in_ok-id.ensures.value t ∙ ap (λ (s : State). words s MACHINE_WORD) listing ∙ (λ i. e i MACHINE_WORD) in
+    let next = c.in_ok-next.ensures.value t ∙ ap (λ (s : State). words s NEXT_NUMBER_WORD) machine ∙ (λ i. e i NEXT_NUMBER_WORD) in
+    let listed = c.in_ok-records.ensures.listed t image (ap words placing ∙ e) c.args.frames in
+    let said = Says-behind _ None _ _ _ number (subst (λ (bytes : List ℕ). Says bytes None (g.H.Host.state c.load-2.new.self) (g.H.Host.state c.say.new.self)) line (c.in_ok-say.ensures.said t)) in
+    let here = holds_counted c.args.frames image c.in_ok-places.places holds count in
+    Says-layout c.args.frames image c.in_ok-places.places c.in_ok-id.id c.in_ok-next.next c.in_ok-records.records.items holds count id next listed fault _ _ _ said
+    (subst (λ (records : List (ℕ × PoolRec)). Says (flat_map (pool_listed c.in_ok-id.id (tables_of c.in_ok-places.places.count image)) records) fault (g.H.Host.state c.say.new.self) (g.H.Host.state c.say_pools.new.h)) c.as_slice-2.ensures.value
+    (c.say_pools.ensures.says t image (reads-said _ _ _ _ image said e) here))
+
+pub returns-clause-sound : goal.returns-clause-sound
+returns-clause-sound g c = λ t image e next sound all.
+    subst (λ (bytes : List ℕ). Says bytes (fault_of c.say_pools.result) (g.H.Host.state c.args.h.now) (g.H.Host.state c.say_pools.new.h)) (listed_layout-sound c.args.frames next image sound all)
+    (returns-clause-says g c t image e)
