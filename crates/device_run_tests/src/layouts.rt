@@ -168,20 +168,39 @@ fn lines_with(rt: &impl Abort, alloc: Global, call: u32) -> usize {
     lines
 }
 
-// A pool's line is said by one call, and a puddle's behind the loads of four words of its record.
+/// The number of the first call that is behind the layout.
+fn calls_of_a_layout(rt: &impl Abort, alloc: Global) -> u32 {
+    let (mut within, mut behind) = (1u32, 4_097u32);
+    for _halving in 0..12 {
+        let middle = within.midpoint(behind);
+        if lines_with(rt, alloc, middle) == 7 {
+            behind = middle;
+        } else {
+            within = middle;
+        }
+    }
+    behind
+}
+
+/// How many calls there are of a layout: the first words of four puddle records are loaded, five words of each of 32 pool
+/// records and two words more, and the frames are said. A pool's line is said by one call, and a puddle's behind the loads of
+/// four words of its record.
+const CALLS: u32 = 184;
+
 #[test]
 fn a_failing_call_ends_the_layout_behind_a_whole_line(rt: HostRuntime) {
     let mut counts = [0u32; 8];
-    for call in 1..1_000 {
-        if counts[7] == 0 {
-            let lines = lines_with(&rt, rt.alloc(), call);
-            if let Some(count) = counts.get_mut(lines) {
-                *count = count.saturating_add(1);
-            }
+    let behind = calls_of_a_layout(&rt, rt.alloc());
+    for back in 1..21 {
+        let lines = lines_with(&rt, rt.alloc(), behind.saturating_sub(back));
+        if let Some(count) = counts.get_mut(lines) {
+            *count = count.saturating_add(1);
         }
     }
-    assert!(rt; counts[0] > START_STEPS && counts[1] > 38, "{} {} {} {}", counts[0], counts[1], counts[2], counts[3]);
-    assert!(rt; counts[2..] == [1, 5, 5, 1, 5, 1]);
+    assert!(rt; counts == [0, 3, 1, 5, 5, 1, 5, 0]);
+    let first = behind.saturating_sub(CALLS);
+    assert!(rt; lines_with(&rt, rt.alloc(), first) == 1);
+    assert!(rt; lines_with(&rt, rt.alloc(), first.saturating_sub(1)) == 0);
 }
 
 /// The two hexadecimal digits of a number below 256.

@@ -1,8 +1,6 @@
-use Rattle.std.proofs.Common.{ℕ, Option, Some, None, Ok, Err, refl, ap, ◌∙◌}
+use Rattle.std.proofs.Common.{Some, None, refl, ap, ◌∙◌}
 use Rattle.std.proofs.lemmas.Result.{err_from_is_err_and}
-use Rattle.pm_model.specs.declared.host.HostFault.{HostFault}
-use Rattle.pm_model.specs.Words.{Image, reads}
-use Rattle.pm_model.specs.Counts.{fault_of}
+use Rattle.pm_model.specs.Words.{reads}
 use Rattle.pud_defs.specs.LayoutText.{layout_text}
 use Rattle.puddled.proofs.Lines.{KeepsRest-says, words_said}
 use Rattle.puddle_cli.proofs.Showing.{layout_text-replayed, not_refused, shown, SaysPart-started, world_at, Leaves-start, Leaves-shown}
