@@ -3,6 +3,8 @@
 #![tactic(auto)]
 
 #[cfg(test)]
+mod layouts;
+#[cfg(test)]
 mod listed;
 #[cfg(test)]
 mod lists;

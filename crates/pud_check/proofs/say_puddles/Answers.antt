@@ -10,7 +10,7 @@ returns-in_err-say_puddle-clause-says g c =
     let p = err_from_is_err_and c.from_residual.result c.from_residual.ensures.1 in
     rw (p.1, p.2) (λ t image e holds.
     let so_far = c.loop-ordinal.invariant.says t image e holds in
-    Says-broken c.args.id (tables_of c.args.places.now.count image) c.args.slot c.loop-ordinal.ordinal c.in_err-say_puddle.field-0.0 _ _ _ c.loop-ordinal-test.true so_far
+    Says-broken c.args.id (tables_of c.args.places.now.count image) c.args.slot c.loop-ordinal.ordinal c.in_err-say_puddle.field-0.0 _ _ _ (omega (arith, c.loop-ordinal-test.true)) so_far
     (c.in_err-say_puddle.ensures.says t image (reads-said _ _ _ _ image so_far e) holds))
 
 pub loop-ordinal-preserved : goal.loop-ordinal-preserved
@@ -18,7 +18,7 @@ loop-ordinal-preserved g c = record {
   counts = c.say_puddle.ensures.cause ∙ ap (λ r. after_fault (fault_of r) (g.H.Host.counts c.loop-ordinal.h)) c.in_ok-say_puddle.was ∙ c.loop-ordinal.invariant.counts;
   says = λ t image e holds.
       let so_far = c.loop-ordinal.invariant.says t image e holds in
-      Says-puddle c.args.id (tables_of c.args.places.now.count image) c.args.slot c.loop-ordinal.ordinal _ _ _ c.loop-ordinal-test.true so_far
+      Says-puddle c.args.id (tables_of c.args.places.now.count image) c.args.slot c.loop-ordinal.ordinal _ _ _ (omega (arith, c.loop-ordinal-test.true)) so_far
       (c.in_ok-say_puddle.ensures.says t image (reads-said _ _ _ _ image so_far e) holds);
 }
 
