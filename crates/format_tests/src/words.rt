@@ -4,13 +4,13 @@ use std::alloc::Global;
 use std::process::Abort;
 
 // One function for the mode with numbers, so that a row of a table is one line.
-fn format(frames: u32, id: u64) -> Option<Mode> {
-    Some(Mode::Format { frames, id })
+fn format(frames: u32, id: u64) -> Mode {
+    Mode::Format { frames, id }
 }
 
-const RUN: Option<Mode> = Some(Mode::Run);
+const RUN: Mode = Mode::Run;
 
-const LAYOUT: Option<Mode> = Some(Mode::Layout);
+const LAYOUT: Mode = Mode::Layout;
 
 /// What is read of the words of this line, which stand with a `|` between.
 fn read_line(rt: &impl Abort, alloc: Global, line: &str) -> Result<Mode, WordsFault> {
@@ -22,17 +22,20 @@ fn read_line(rt: &impl Abort, alloc: Global, line: &str) -> Result<Mode, WordsFa
     read_words(alloc, words.as_slice())
 }
 
-/// Each line is this mode, or no mode at all; some are, and some are not.
-fn are_read(rt: &impl Abort, alloc: Global, rows: &[(&str, Option<Mode>)]) {
+/// Each line of a row is its mode, and each of the others is no mode. There are lines of both kinds.
+fn are_read(rt: &impl Abort, alloc: Global, rows: &[(&str, Mode)], others: &[&str]) {
     let mut taken = false;
-    let mut refused = false;
     for (line, mode) in rows {
-        let read = read_line(rt, alloc, line);
-        assert!(rt; read == mode.ok_or(WordsFault::Usage), "{line}");
-        taken |= read.is_ok();
-        refused |= read == Err(WordsFault::Usage);
+        assert!(rt; read_line(rt, alloc, line) == Ok(*mode), "{line}");
+        taken = true;
     }
-    assert!(rt; taken && refused, "both outcomes");
+    let mut refused = false;
+    for line in others {
+        let read = read_line(rt, alloc, line);
+        assert!(rt; read == Err(WordsFault::Usage), "{line}");
+        refused = true;
+    }
+    assert!(rt; taken && refused, "lines of both kinds");
 }
 
 #[test]
@@ -52,23 +55,25 @@ fn words_of_modes(rt: HostRuntime) {
             ("|run", RUN),
             ("--help|run", RUN),
             ("run|layout", LAYOUT),
-            ("puddle", None),
-            ("run", None),
-            ("", None),
-            ("puddle|", None),
-            ("puddle||run", None),
-            ("puddle|check", None),
-            ("puddle|puddle|run", None),
-            ("puddle|lay", None),
-            ("puddle|r", None),
-            ("puddle|runs", None),
-            ("puddle|formats|4|7", None),
-            ("puddle|Run", None),
-            ("puddle|LAYOUT", None),
-            ("puddle|Format|4|7", None),
-            ("puddle| run", None),
-            ("puddle|run ", None),
-            ("puddle|format 4 7", None),
+        ],
+        &[
+            "puddle",
+            "run",
+            "",
+            "puddle|",
+            "puddle||run",
+            "puddle|check",
+            "puddle|puddle|run",
+            "puddle|lay",
+            "puddle|r",
+            "puddle|runs",
+            "puddle|formats|4|7",
+            "puddle|Run",
+            "puddle|LAYOUT",
+            "puddle|Format|4|7",
+            "puddle| run",
+            "puddle|run ",
+            "puddle|format 4 7",
         ],
     );
 }
@@ -78,22 +83,22 @@ fn words_too_few_or_too_many(rt: HostRuntime) {
     are_read(
         &rt,
         rt.alloc(),
+        &[("puddle|format|1024|0", format(1024, 0))],
         &[
-            ("puddle|format|1024|0", format(1024, 0)),
-            ("puddle|format", None),
-            ("puddle|format|4", None),
-            ("puddle|format|4|7|7", None),
-            ("puddle|format|4|7|", None),
-            ("puddle|format|4|7|run", None),
-            ("puddle|4|7|format", None),
-            ("puddle|4|format|7", None),
-            ("puddle|run|now", None),
-            ("puddle|run|run", None),
-            ("puddle|run|", None),
-            ("puddle|run|4|7", None),
-            ("puddle|layout|4", None),
-            ("puddle|layout|4|7", None),
-            ("puddle|layout|run", None),
+            "puddle|format",
+            "puddle|format|4",
+            "puddle|format|4|7|7",
+            "puddle|format|4|7|",
+            "puddle|format|4|7|run",
+            "puddle|4|7|format",
+            "puddle|4|format|7",
+            "puddle|run|now",
+            "puddle|run|run",
+            "puddle|run|",
+            "puddle|run|4|7",
+            "puddle|layout|4",
+            "puddle|layout|4|7",
+            "puddle|layout|run",
         ],
     );
 }
@@ -103,33 +108,33 @@ fn help_versions_and_options(rt: HostRuntime) {
     are_read(
         &rt,
         rt.alloc(),
+        &[("puddle|run", RUN)],
         &[
-            ("puddle|run", RUN),
-            ("puddle|help", None),
-            ("puddle|help|run", None),
-            ("puddle|--help", None),
-            ("puddle|-h", None),
-            ("puddle|--version", None),
-            ("puddle|-V", None),
-            ("puddle|-v", None),
-            ("puddle|--run", None),
-            ("puddle|-run", None),
-            ("puddle|-", None),
-            ("puddle|--help|run", None),
-            ("puddle|-h|run", None),
-            ("puddle|run|--help", None),
-            ("puddle|run|-h", None),
-            ("puddle|layout|--version", None),
-            ("puddle|layout|-V", None),
-            ("puddle|layout|-", None),
-            ("puddle|format|--help", None),
-            ("puddle|format|-h", None),
-            ("puddle|format|4|7|--help", None),
-            ("puddle|format|4|-h|7", None),
-            ("puddle|format|--frames=4|--id=7", None),
-            ("puddle|format|--frames|4|--id|7", None),
-            ("puddle|format|frames=4|id=7", None),
-            ("puddle|run=now", None),
+            "puddle|help",
+            "puddle|help|run",
+            "puddle|--help",
+            "puddle|-h",
+            "puddle|--version",
+            "puddle|-V",
+            "puddle|-v",
+            "puddle|--run",
+            "puddle|-run",
+            "puddle|-",
+            "puddle|--help|run",
+            "puddle|-h|run",
+            "puddle|run|--help",
+            "puddle|run|-h",
+            "puddle|layout|--version",
+            "puddle|layout|-V",
+            "puddle|layout|-",
+            "puddle|format|--help",
+            "puddle|format|-h",
+            "puddle|format|4|7|--help",
+            "puddle|format|4|-h|7",
+            "puddle|format|--frames=4|--id=7",
+            "puddle|format|--frames|4|--id|7",
+            "puddle|format|frames=4|id=7",
+            "puddle|run=now",
         ],
     );
 }
@@ -144,30 +149,32 @@ fn numbers_of_frames(rt: HostRuntime) {
             ("puddle|format|5|7", format(5, 7)),
             ("puddle|format|1023|7", format(1023, 7)),
             ("puddle|format|1024|7", format(1024, 7)),
-            ("puddle|format|3|7", None),
-            ("puddle|format|1|7", None),
-            ("puddle|format|0|7", None),
-            ("puddle|format|1025|7", None),
-            ("puddle|format|65540|7", None),
-            ("puddle|format|4294967300|7", None),
-            ("puddle|format|18446744073709551620|7", None),
-            ("puddle|format|+4|7", None),
-            ("puddle|format|-4|7", None),
-            ("puddle|format|-1024|7", None),
-            ("puddle|format|04|7", None),
-            ("puddle|format|0004|7", None),
-            ("puddle|format||7", None),
-            ("puddle|format| 4|7", None),
-            ("puddle|format|4 |7", None),
-            ("puddle|format|1,024|7", None),
-            ("puddle|format|0x10|7", None),
-            ("puddle|format|4.0|7", None),
-            ("puddle|format|four|7", None),
-            ("puddle|format|é|7", None),
-            ("puddle|format|/|7", None),
-            ("puddle|format|:|7", None),
-            ("puddle|format|-|7", None),
-            ("puddle|format|-é|7", None),
+        ],
+        &[
+            "puddle|format|3|7",
+            "puddle|format|1|7",
+            "puddle|format|0|7",
+            "puddle|format|1025|7",
+            "puddle|format|65540|7",
+            "puddle|format|4294967300|7",
+            "puddle|format|18446744073709551620|7",
+            "puddle|format|+4|7",
+            "puddle|format|-4|7",
+            "puddle|format|-1024|7",
+            "puddle|format|04|7",
+            "puddle|format|0004|7",
+            "puddle|format||7",
+            "puddle|format| 4|7",
+            "puddle|format|4 |7",
+            "puddle|format|1,024|7",
+            "puddle|format|0x10|7",
+            "puddle|format|4.0|7",
+            "puddle|format|four|7",
+            "puddle|format|é|7",
+            "puddle|format|/|7",
+            "puddle|format|:|7",
+            "puddle|format|-|7",
+            "puddle|format|-é|7",
         ],
     );
 }
@@ -185,22 +192,21 @@ fn numbers_of_machines(rt: HostRuntime) {
                 "puddle|format|4|18446744073709551615",
                 format(4, 18_446_744_073_709_551_615),
             ),
-            ("puddle|format|4|18446744073709551616", None),
-            ("puddle|format|4|18446744073709551623", None),
-            (
-                "puddle|format|4|1111111111111111111111111111111111111111",
-                None,
-            ),
-            ("puddle|format|4|+7", None),
-            ("puddle|format|4|-7", None),
-            ("puddle|format|4|07", None),
-            ("puddle|format|4|00", None),
-            ("puddle|format|4|", None),
-            ("puddle|format|4| 7", None),
-            ("puddle|format|4|7 ", None),
-            ("puddle|format|4|7a", None),
-            ("puddle|format|4|0x7", None),
-            ("puddle|format|4|-", None),
+        ],
+        &[
+            "puddle|format|4|18446744073709551616",
+            "puddle|format|4|18446744073709551623",
+            "puddle|format|4|1111111111111111111111111111111111111111",
+            "puddle|format|4|+7",
+            "puddle|format|4|-7",
+            "puddle|format|4|07",
+            "puddle|format|4|00",
+            "puddle|format|4|",
+            "puddle|format|4| 7",
+            "puddle|format|4|7 ",
+            "puddle|format|4|7a",
+            "puddle|format|4|0x7",
+            "puddle|format|4|-",
         ],
     );
 }
@@ -217,25 +223,27 @@ fn two_dashes_alone(rt: HostRuntime) {
             ("puddle|format|4|--|7", format(4, 7)),
             ("puddle|format|4|7|--", format(4, 7)),
             ("--|run", RUN),
-            ("puddle|--", None),
-            ("puddle|--|--", None),
-            ("puddle|--|run", None),
-            ("puddle|--|format|4|7", None),
-            ("puddle|run|--|--", None),
-            ("puddle|layout|--|--", None),
-            ("puddle|run|--|now", None),
-            ("puddle|run|--|--help", None),
-            ("puddle|run|---", None),
-            ("puddle|format|--|--|4|7", None),
-            ("puddle|format|--|4|--|7", None),
-            ("puddle|format|4|--|--", None),
-            ("puddle|format|--|4|7|--", None),
-            ("puddle|format|--|4", None),
-            ("puddle|format|4|--", None),
-            ("puddle|format|--", None),
-            ("puddle|format|--|-4|7", None),
-            ("puddle|format|4|--|+7", None),
-            ("puddle|format|--|4|7|7", None),
+        ],
+        &[
+            "puddle|--",
+            "puddle|--|--",
+            "puddle|--|run",
+            "puddle|--|format|4|7",
+            "puddle|run|--|--",
+            "puddle|layout|--|--",
+            "puddle|run|--|now",
+            "puddle|run|--|--help",
+            "puddle|run|---",
+            "puddle|format|--|--|4|7",
+            "puddle|format|--|4|--|7",
+            "puddle|format|4|--|--",
+            "puddle|format|--|4|7|--",
+            "puddle|format|--|4",
+            "puddle|format|4|--",
+            "puddle|format|--",
+            "puddle|format|--|-4|7",
+            "puddle|format|4|--|+7",
+            "puddle|format|--|4|7|7",
         ],
     );
 }
