@@ -182,55 +182,79 @@ fn a_call_that_fails_leaves_the_front_of_the_text(rt: HostRuntime) {
     says(&rt, rt.alloc(), (4, &MOVED), plan, (Ok(()), MOVED_TEXT));
 }
 
-// The pool of slot 31 has the least name, and that of slot 0 the greatest. The second puddle of each lies before the first.
+/// The frame of one of the two puddles of each pool. The second lies before the first.
+fn frame_of(rt: &impl Abort, slot: u32, ordinal: u32) -> u32 {
+    assert!(rt; slot < 32 && ordinal < 2);
+    slot + 32 * (1 - ordinal)
+}
+
+/// Puts the pool of a slot, whose name is the less the later the slot, and its puddles.
+fn put_pool(rt: &impl Abort, host: &mut MemHost, slot: u32) {
+    assert!(rt; slot < 32);
+    let at = 1_216 + 8 * slot;
+    assert!(rt;
+        poke(
+            host,
+            &[(at, u64::from(95 - slot)), (at + 4, u64::from(slot))]
+        )
+    );
+    for ordinal in 0..2u32 {
+        let frame = frame_of(rt, slot, ordinal);
+        assert!(rt; frame < 64);
+        let at = 1_536 + 8 * frame;
+        let member = u64::from(slot) + 1 + UPPER * u64::from(ordinal);
+        let base = START + RANGE * u64::from(frame);
+        assert!(rt;
+            poke(
+                host,
+                &[(at, member), (at + 1, u64::from(frame)), (at + 2, base)]
+            )
+        );
+    }
+}
+
+/// The line of the pool of a slot.
+fn pool_line(rt: &impl Abort, alloc: Global, slot: u8) -> String {
+    let name = char::from(95u8.saturating_sub(slot));
+    format!(in alloc; "pool {name} 0 0 000 00000000-0000-0007-0000-{slot:012x}\n").expect(
+        rt, "memory",
+    )
+}
+
+/// The line of a puddle whose number is its frame's.
+fn puddle_line(rt: &impl Abort, alloc: Global, ordinal: u32, frame: u32) -> String {
+    let base = START.saturating_add(RANGE.saturating_mul(u64::from(frame)));
+    format!(in alloc;
+        "puddle {ordinal} {frame} {base:012x} 000000000000 0 00000000-0000-0007-0000-{frame:012x}\n"
+    ).expect(rt, "memory")
+}
+
+/// The lines of the pools of all slots.
+fn pool_lines(rt: &impl Abort, alloc: Global) -> String {
+    let mut text = String::new(alloc);
+    for slot in (0..32u8).rev() {
+        text.push_str(&pool_line(rt, alloc, slot))
+            .expect(rt, "memory");
+        for ordinal in 0..2u32 {
+            let frame = frame_of(rt, u32::from(slot), ordinal);
+            text.push_str(&puddle_line(rt, alloc, ordinal, frame))
+                .expect(rt, "memory");
+        }
+    }
+    text
+}
+
 #[test]
 fn all_pools_of_a_table_and_their_puddles_are_said(rt: HostRuntime) {
     let alloc = rt.alloc();
-    let mut host = MemHost::new(alloc, tables_end(64), b"", 0, 8_192, Plan::none(alloc)).expect(
-        &rt, "memory",
-    );
-    let mut text = String::new(alloc);
-    writeln!(text, "frames 64 used 64 next 300").expect(&rt, "memory");
+    let plan = Plan::none(alloc);
+    let mut host = MemHost::new(alloc, tables_end(64), b"", 0, 8_192, plan).expect(&rt, "memory");
     assert!(rt; poke(&mut host, &[(2, 7), (4, 300)]));
-    for slot in (0..32u32).rev() {
-        let at = 1_216 + 8 * slot;
-        let name = 95 - slot as u8;
-        assert!(rt;
-            poke(
-                &mut host,
-                &[(at, u64::from(name)), (at + 4, u64::from(slot))]
-            )
-        );
-        let name = char::from(name);
-        writeln!(
-            text,
-            "pool {name} 0 0 000 00000000-0000-0007-0000-{slot:012x}"
-        )
-        .expect(&rt, "memory");
-        for ordinal in 0..2u32 {
-            let frame = slot + 32 * (1 - ordinal);
-            let at = 1_536 + 8 * frame;
-            let member = u64::from(slot) + 1 + UPPER * u64::from(ordinal);
-            let base = START + RANGE * u64::from(frame);
-            let number = 100 + u64::from(frame);
-            assert!(rt;
-                poke(
-                    &mut host,
-                    &[
-                        (at, member),
-                        (at + 1, number),
-                        (at + 2, base),
-                        (at + 3, START)
-                    ]
-                )
-            );
-            writeln!(
-                text,
-                "puddle {ordinal} {frame} {base:012x} 100000000000 0 00000000-0000-0007-0000-{number:012x}"
-            )
-            .expect(&rt, "memory");
-        }
+    for slot in 0..32u32 {
+        put_pool(&rt, &mut host, slot);
     }
     assert!(rt; answer(&rt, &mut host, 64) == Ok(()));
+    let lines = pool_lines(&rt, alloc);
+    let text = format!(in alloc; "frames 64 used 64 next 300\n{lines}").expect(&rt, "memory");
     assert!(rt; host.said() == text.as_bytes(), "{text}");
 }
