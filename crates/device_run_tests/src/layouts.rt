@@ -83,12 +83,19 @@ fn a_device_without_pools_has_one_line(rt: HostRuntime) {
             "ready\nframes 4 used 0 next 1\nready\nframes 4 used 0 next 1\n",
         ),
     ];
-    end_on(&rt, rt.alloc(), ("type 1 2 1\n", &[]), &rows, &[(1_088, 0), (4, 1)]);
+    end_on(
+        &rt,
+        rt.alloc(),
+        ("type 1 2 1\n", &[]),
+        &rows,
+        &[(1_088, 0), (4, 1)],
+    );
 }
 
 #[test]
 fn what_a_script_left_is_laid_out(rt: HostRuntime) {
-    let script = "client 0 5 5\npool 0 a 600\ndrop 0 a\npool 0 b 640\nclient 1 6 6\nchmod 1 b 666\npools\n";
+    let script =
+        "client 0 5 5\npool 0 a 600\ndrop 0 a\npool 0 b 640\nclient 1 6 6\nchmod 1 b 666\npools\n";
     let rows: [(&[&str], u8, &str); 2] = [
         (
             &RUN,
@@ -104,7 +111,13 @@ fn what_a_script_left_is_laid_out(rt: HostRuntime) {
             puddle 0 0 100000000000 100000000000 63 00000000-0000-0007-0000-000000000004\n",
         ),
     ];
-    end_on(&rt, rt.alloc(), (script, &[]), &rows, &[(4, 5), (1_216, 98)]);
+    end_on(
+        &rt,
+        rt.alloc(),
+        (script, &[]),
+        &rows,
+        &[(4, 5), (1_216, 98)],
+    );
 }
 
 #[test]
@@ -123,7 +136,12 @@ fn a_device_that_is_not_sound_is_not_laid_out(rt: HostRuntime) {
         assert!(rt; status_of(rt.alloc(), &mut host, words) == Some(status));
         assert!(rt; host.heard() == said.as_bytes());
     }
-    has_words(&rt, rt.alloc(), &host, &[(64, 197_634), (1_219, 384), (1_472, 1)]);
+    has_words(
+        &rt,
+        rt.alloc(),
+        &host,
+        &[(64, 197_634), (1_219, 384), (1_472, 1)],
+    );
 }
 
 /// Lays the device out, and once more where power was lost meanwhile. The answer is whether it was. Then nothing was said at
@@ -232,7 +250,9 @@ fn many_pools(rt: &impl Abort, alloc: Global) -> (String, String) {
             "pool p{name} 5 5 600 00000000-0000-0007-0000-0000000000{pool}\n\
             puddle 0 {number} 1000000{base}000 1000000{base}000 63 00000000-0000-0007-0000-0000000000{puddle}\n"
         );
-        layout.push_str(&lines.expect(rt, "memory")).expect(rt, "memory");
+        layout
+            .push_str(&lines.expect(rt, "memory"))
+            .expect(rt, "memory");
     }
     (script, layout)
 }
@@ -246,7 +266,11 @@ fn lay_out_64<S: Seen>(rt: &impl Abort, alloc: Global, host: &mut S, layout: &st
     assert!(rt; status_of(alloc, host, &RUN) == Some(DONE));
     let before = host.heard().len();
     assert!(rt; status_of(alloc, host, &LAYOUT) == Some(DONE));
-    assert!(rt; host.heard().get(before..).is_some_and(|said| said.starts_with(b"ready\n")));
+    assert!(rt;
+        host.heard()
+            .get(before..)
+            .is_some_and(|said| said.starts_with(b"ready\n"))
+    );
     let said = host.heard().get(before.saturating_add(6)..);
     assert!(rt; said == Some(layout.as_bytes()));
 }
