@@ -9,10 +9,14 @@ use Rattle.pud_defs.specs.Puddles.{Member, puddle_at}
 abbrev pub slot_word : (F frame slot k : ℕ) → Image → ℕ
 slot_word F frame slot k image = frame_word F frame (slot_at slot + k) image
 
--- a header of these words is that of the record's puddle: the frame magic, its UUID number and its ordinal; a free record has no puddle
+-- a header of these words is that of a puddle: the frame magic, the puddle's UUID number and its place in its pool
+abbrev pub is_header : (given place magic number ordinal : ℕ) → Bool
+is_header given place magic number ordinal = magic == FRAME_MAGIC && number == given && ordinal == place
+
+-- it is that of the record's puddle; a free record has no puddle
 abbrev pub is_header_of : Option Member → (magic number ordinal : ℕ) → Bool
 is_header_of None magic number ordinal = false
-is_header_of (Some m) magic number ordinal = magic == FRAME_MAGIC && number == m.puddle.number && ordinal == m.ordinal
+is_header_of (Some m) magic number ordinal = is_header m.puddle.number m.ordinal magic number ordinal
 
 -- a frame has the header of the puddle that its record says it has
 abbrev pub header_fits : (F frame : ℕ) → Image → Bool

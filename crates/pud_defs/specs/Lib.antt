@@ -13,6 +13,10 @@ pub mod Names
 pub mod Pools
 pub mod Puddles
 pub mod Headers
+pub mod Rights
+pub mod Stored
+pub mod Graph
+pub mod Holdings
 pub mod Tables
 pub mod SoundTables
 pub mod Puts

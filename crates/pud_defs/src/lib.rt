@@ -6,6 +6,7 @@ pub mod laws;
 pub mod layout;
 pub mod log_words;
 pub mod machine;
+pub mod objects;
 pub mod records;
 pub mod space;
 pub mod type_map;

@@ -1,0 +1,30 @@
+-- What is read of a pool: the records of its puddles, and the words of their frames.
+use Rattle.std.specs.Prelude.{ℕ, ◌+◌, ◌*◌, ◌/◌, ◌%◌, nat_lt, cond, List, map, length, slice_get, Option, Some, None}
+use Rattle.pud_defs.specs.declared.layout.TheConstants.{FRAME_WORDS}
+use Rattle.pud_defs.specs.declared.space.TheConstants.{FRAME_SLOTS}
+use Rattle.pud_defs.specs.declared.records.Puddle.{Puddle}
+use Rattle.pud_defs.specs.Image.{Image}
+use Rattle.pud_defs.specs.Frames.{frame_word, slot_at}
+
+-- The records of the puddles by their ordinals, and word k of the frame of ordinal o. They stand apart, so that a store changes the words
+-- alone.
+pub record Stored : Type 0 where
+  pub puddles : List Puddle
+  pub word : ℕ → ℕ → ℕ
+
+-- word k of the frame of a puddle, where there is one, and 0 behind its last word
+abbrev pub word_in_frame : ℕ → Image → ℕ → Option (ℕ × Puddle) → ℕ
+word_in_frame F image k None = 0
+word_in_frame F image k (Some at) = cond (nat_lt k FRAME_WORDS) (frame_word F at.0 k image) 0
+
+-- what an image of so many frames holds in puddles that are given by their ordinals, each with its frame
+abbrev pub stored_in : ℕ → List (ℕ × Puddle) → Image → Stored
+stored_in F at image = record { puddles = map (λ e. e.1) at; word = λ o k. word_in_frame F image k (slice_get at o) }
+
+-- how many places there are: a place is a slot of a puddle, counted over the puddles by their ordinals
+abbrev pub places_of : Stored → ℕ
+places_of st = FRAME_SLOTS * length st.puddles
+
+-- word k of the slot at a place
+abbrev pub place_word : (ℕ → ℕ → ℕ) → ℕ → ℕ → ℕ
+place_word word p k = word (p / FRAME_SLOTS) (slot_at (p % FRAME_SLOTS) + k)

@@ -1,0 +1,24 @@
+//! The objects of a pool: what a field holds, and where a stored pointer leads.
+
+/// The value of a field, as lines name it.
+#[derive(Clone, Copy, Debug, PartialEq, Eq)]
+pub enum Val {
+    /// The number that a field holds which is no pointer.
+    Num(u64),
+    /// The serial of the object that a pointer field names, 0 where it is null.
+    Ref(u64),
+}
+
+/// What a stored pointer stands for, where it stands for something.
+#[derive(Clone, Copy, Debug, PartialEq, Eq)]
+pub enum Pointee {
+    /// Nothing: the pointer is null.
+    Null,
+    /// A slot of the pool, free or not.
+    At {
+        /// The place of the slot's puddle in its pool, 0 to 15.
+        ordinal: u32,
+        /// The number of the slot in the puddle, 0 to 61.
+        slot: u32,
+    },
+}
