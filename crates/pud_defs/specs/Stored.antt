@@ -1,7 +1,8 @@
 -- What is read of a pool: the records of its puddles, and the words of their frames.
-use Rattle.std.specs.Prelude.{ℕ, ◌+◌, ◌*◌, ◌/◌, ◌%◌, nat_lt, cond, List, map, length, slice_get, Option, Some, None}
+use Rattle.std.specs.Prelude.{ℕ, ◌+◌, ◌*◌, ◌/◌, ◌%◌, ◌<◌, ◌≤◌, nat_lt, cond, List, map, length, slice_get, Option, Some, None, All}
 use Rattle.pud_defs.specs.declared.layout.TheConstants.{FRAME_WORDS}
 use Rattle.pud_defs.specs.declared.space.TheConstants.{FRAME_SLOTS}
+use Rattle.pud_defs.specs.declared.records.TheConstants.{MAX_PUDDLES}
 use Rattle.pud_defs.specs.declared.records.Puddle.{Puddle}
 use Rattle.pud_defs.specs.Image.{Image}
 use Rattle.pud_defs.specs.Frames.{frame_word, slot_at}
@@ -28,3 +29,8 @@ places_of st = FRAME_SLOTS * length st.puddles
 -- word k of the slot at a place
 abbrev pub place_word : (ℕ → ℕ → ℕ) → ℕ → ℕ → ℕ
 place_word word p k = word (p / FRAME_SLOTS) (slot_at (p % FRAME_SLOTS) + k)
+
+-- Puddles by their ordinals, each with its frame, as they are read: no more than a pool may have, in frames of the device.
+pub record IsOnDevice (F : ℕ) (at : List (ℕ × Puddle)) : Type 0 where
+  pub few : length at ≤ MAX_PUDDLES
+  pub frames : All (λ e. e.0 < F) at
