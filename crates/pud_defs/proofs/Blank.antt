@@ -46,7 +46,7 @@ standing_blank size F machine image legal room h =
         number_high = leb-true _ _ refl;
       }
       | Types ↦ no_types image (λ i below. h.rest (type_record_at i) (omega arith) (omega arith))
-      | Pools ↦ empty_tables F 1 image (λ k low high. h.rest k (omega arith) (omega arith)) (λ k low high. h.rest k (omega arith) (omega arith))
+      | Pools ↦ empty_tables [] F 1 image (λ k low high. h.rest k (omega arith) (omega arith)) (λ k low high. h.rest k (omega arith) (omega arith))
       | Spaces ↦ record {
         spaces = are_legal_spaces-none image (λ c below. h.rest (space_record_at c) (omega arith) (omega arith));
         logs = are_closed_logs-none image F (λ c below. h.rest (space_record_at c) (omega arith) (omega arith));

@@ -2,11 +2,11 @@
 use Rattle.std.proofs.Common.{◌≡◌, inl, inr, ℕ, T, List, [], ◌∷◌, ◌++◌, Option, Some, None, nat_cmp, refl, sym, ap, ◌∙◌}
 use Rattle.std.specs.FinMap.Entries.{is_sorted}
 use Rattle.pud_defs.specs.declared.machine.Command.{Command}
-use Rattle.pud_defs.specs.declared.machine.Command.TheVariants.{Client, Leave, Define, Cut, Arm, Chmod, Pools}
+use Rattle.pud_defs.specs.declared.machine.Command.TheVariants.{Client, Leave, Define, Cut, Arm, Chmod, Pools, Get}
 use Rattle.pud_defs.specs.declared.machine.Command.TheVariants as commands
 use Rattle.pud_defs.specs.declared.machine.Refusal.{Refusal}
 use Rattle.pud_defs.specs.World.{World}
-use Rattle.pud_defs.specs.PoolChanges.{with_new_pool, with_pool_mode, without_pool}
+use Rattle.pud_defs.specs.PoolChanges.{with_new_pool, with_pool_mode, without_pool, with_type_defined}
 use Rattle.pud_defs.specs.Grammar.{command_of}
 use Rattle.pud_defs.specs.Step.{refusal_of, after, unless_refused, world_by, step_world}
 use Rattle.pud_defs.specs.Changing.{Part, part_of, with_part, file_in, KeepsFiles, KeepsUnwritable}
@@ -16,20 +16,21 @@ use Rattle.pud_defs.specs.Changing.Part.{types, pools, clients, nothing}
 
 -- a command changes its part alone
 pub after-part : (w : World) (c : Command) → after w c ≡ with_part (part_of c) (after w c) w
-unfolding after with_new_pool with_pool_mode without_pool
+unfolding after with_new_pool with_pool_mode without_pool with_type_defined
 after-part w (Client client uid gid) = refl
 after-part w (Leave client) = refl
 after-part w (Define id map) = refl
 after-part w (commands.Pool client name mode) = refl
 after-part w (Chmod client name mode) = refl
 after-part w (commands.Drop client name) = refl
+after-part w (Get client name s f) = refl
 after-part w Pools = refl
 after-part w (Cut pick) = refl
 after-part w (Arm step pick) = refl
 
 -- types stay by ascending ids
 pub is_sorted-after : (w : World) (c : Command) → T (is_sorted nat_cmp w.stored.types) → T (is_sorted nat_cmp (after w c).stored.types)
-unfolding after with_new_pool with_pool_mode without_pool
+unfolding after with_new_pool with_pool_mode without_pool with_type_defined
 is_sorted-after w (Define id map) h = is_sorted-with_type id map w.stored.types h
 is_sorted-after w c h = h
 

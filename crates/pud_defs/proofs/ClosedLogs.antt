@@ -5,7 +5,7 @@ use Rattle.std.proofs.lemmas.Bool.{cases_Bool, cases_eq, or_left, or_right}
 use Rattle.pud_defs.specs.declared.layout.TheConstants.{DAEMON_LOG, CLIENTS, CLIENT_LOGS, LOG_WORDS}
 use Rattle.pud_defs.specs.declared.log_words.TheConstants.{CLOSED_GATE}
 use Rattle.pud_defs.specs.Image.{Image}
-use Rattle.pud_defs.specs.Layout.{tables_end, log_at}
+use Rattle.pud_defs.specs.Layout.{tables_end, log_at, frames_at}
 use Rattle.pud_defs.specs.Entries.{is_idle_gate, entries_of}
 use Rattle.pud_defs.specs.Replay.{IsInLog, is_in_log, beside_log}
 use Rattle.pud_defs.specs.Spaces.{space_record_at, is_closed_range, is_closed_log, has_closed_logs, are_closed_logs, IsGateOf}
@@ -40,6 +40,10 @@ module _ (F client : ℕ) (i j : Image) (anew : IsClosedAnew F client i j) where
   -- below the logs nothing differs
   pub below_logs : (k : ℕ) → k < tables_end F → j k ≡ i k
   below_logs k below = no_gate k (λ g. let is = g.is in omega arith)
+
+  -- nor behind them
+  pub beyond_logs : client < CLIENTS → (k : ℕ) → frames_at F ≤ k → j k ≡ i k
+  beyond_logs known k above = no_gate k (λ g. let is = g.is in let few = g.below in omega arith)
 
   -- behind its gate nothing of a log differs
   behind_gate : (c n k : ℕ) → log_at F c n < k → k < log_at F c n + LOG_WORDS → j k ≡ i k
@@ -76,9 +80,9 @@ module _ (F client : ℕ) (i j : Image) (anew : IsClosedAnew F client i j) where
       (λ c low. registered c low (all_below-each CLIENTS (λ d. eqb (i (space_record_at d)) 0 || has_closed_logs i F d) closed c low))
 
 -- so it stands for the same world
-pub standing_anew : (size client : ℕ) (i j : Image) (s : StoredWorld) → StandsFor size i s → IsClosedAnew s.frames client i j → StandsFor size j s
-standing_anew size client i j s h anew =
-    standing_logs size i j s h (record { at = λ k below. sym (below_logs s.frames client i j anew k below) }) (logs_stay_closed s.frames client i j anew (h.holds Spaces).logs)
+pub standing_anew : (size client : ℕ) (i j : Image) (s : StoredWorld) → client < CLIENTS → StandsFor size i s → IsClosedAnew s.frames client i j → StandsFor size j s
+standing_anew size client i j s known h anew =
+    standing_logs size i j s h (record { at = λ k below. sym (below_logs s.frames client i j anew k below) }) (λ k low high. beyond_logs s.frames client i j anew known k low) (logs_stay_closed s.frames client i j anew (h.holds Spaces).logs)
 
 anew_beside : (F client : ℕ) (i j : Image) → IsClosedAnew F client i j → IsClosedAnew F client (beside_log DAEMON_LOG i) (beside_log DAEMON_LOG j)
 anew_beside F client i j anew = record {
@@ -89,12 +93,12 @@ anew_beside F client i j anew = record {
 }
 
 -- also where the daemon log is closed and counts no word
-pub world_of-anew : (size client : ℕ) (i j : Image) (s : StoredWorld) → is_idle_gate (i DAEMON_LOG) ≡ true → world_of size i ≡ Some s → IsClosedAnew s.frames client i j → world_of size j ≡ Some s
-world_of-anew size client i j s closed world anew =
+pub world_of-anew : (size client : ℕ) (i j : Image) (s : StoredWorld) → client < CLIENTS → is_idle_gate (i DAEMON_LOG) ≡ true → world_of size i ≡ Some s → IsClosedAnew s.frames client i j → world_of size j ≡ Some s
+world_of-anew size client i j s known closed world anew =
     let gate : is_idle_gate (j DAEMON_LOG) ≡ true = ap is_idle_gate (below_logs s.frames client i j anew DAEMON_LOG (omega arith)) ∙ closed in
     world_of-idle size j gate
     ∙ registry_world_standing size (beside_log DAEMON_LOG j) s
-    (standing_anew size client (beside_log DAEMON_LOG i) (beside_log DAEMON_LOG j) s (standing_idle size i s closed world) (anew_beside s.frames client i j anew))
+    (standing_anew size client (beside_log DAEMON_LOG i) (beside_log DAEMON_LOG j) s known (standing_idle size i s closed world) (anew_beside s.frames client i j anew))
 
 -- with each of its gates closed the client's logs are
 pub has_closed_logs-gates : (F client : ℕ) (image : Image) → ((n : ℕ) → n < CLIENT_LOGS → image (log_at F client n) ≡ CLOSED_GATE) → has_closed_logs image F client ≡ true

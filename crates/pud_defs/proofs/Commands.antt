@@ -7,14 +7,14 @@ use Rattle.std.proofs.lemmas.List.Sums.{sum_by-cons}
 use Rattle.std.proofs.lemmas.Nat.{div-mul-add, mod-mul-add}
 use Rattle.pud_defs.specs.declared.layout.TheConstants.{LINE_LIMIT, CLIENTS, MAX_OWNER_ID, MAX_TYPE_ID, MAX_FIELDS, MAX_ARMED_STEP}
 use Rattle.pud_defs.specs.declared.machine.Command.{Command}
-use Rattle.pud_defs.specs.declared.machine.Command.TheVariants.{Client, Leave, Define, Cut, Arm, Chmod, Pools}
+use Rattle.pud_defs.specs.declared.machine.Command.TheVariants.{Client, Leave, Define, Cut, Arm, Chmod, Pools, Get}
 use Rattle.pud_defs.specs.declared.machine.Command.TheVariants as commands
 use Rattle.std.specs.Prelude.{IsTrue}
 use Rattle.pud_defs.specs.Modes.{is_legal_mode}
 use Rattle.pud_defs.specs.Names.{IsName, is_legal_name}
 use Rattle.pud_defs.proofs.NamesRead.{pool_name-legal, pool_mode-legal}
 use Rattle.pud_defs.specs.TypeMap.{map_fields, map_word, is_legal_map, is_legal_type_id}
-use Rattle.pud_defs.specs.Grammar.{split_at, number_of, in_range, number_within, fields_from, pointers_of, listed_map, Parser, taking, at_end, pool_name, pool_mode, client_by, leave_by, define_by, pool_line_by, chmod_by, drop_by, pools_by, cut_by, arm_by, lines, command_among, command_with, command_by, command_of, IsLegalCommand}
+use Rattle.pud_defs.specs.Grammar.{split_at, number_of, in_range, number_within, fields_from, pointers_of, listed_map, Parser, taking, at_end, pool_name, pool_mode, object_serial, field_number, field_by, field_place, get_by, client_by, leave_by, define_by, pool_line_by, chmod_by, drop_by, pools_by, cut_by, arm_by, lines, command_among, command_with, command_by, command_of, IsLegalCommand}
 
 -- a longer line is no command
 pub command_of-long : (line : List ℕ) → LINE_LIMIT < length line → command_of line ≡ None
@@ -145,6 +145,31 @@ name_taken next after = taken pool_name (λ name. IsName name × IsTrue (is_lega
 mode_taken : (next : ℕ → Parser) → ((mode : ℕ) → IsTrue (is_legal_mode mode) → IsLegalParser (next mode)) → IsLegalParser (taking pool_mode next)
 mode_taken next after = taken pool_mode (λ mode. IsTrue (is_legal_mode mode)) next pool_mode-legal after
 
+-- the serial of an object, and the number of one of its fields
+record IsFieldPlace (field : ℕ × ℕ) : Type 0 where
+  serial : 1 ≤ field.0
+  word : field.0 < 2 ^ 64
+  number : field.1 < MAX_FIELDS
+
+field_by-place : (pieces : List (List ℕ)) (field : ℕ × ℕ) → field_by pieces ≡ Some field → IsFieldPlace field
+field_by-place [] field e = absurd (none-some field e)
+field_by-place (object ∷ []) field e = absurd (none-some field e)
+field_by-place (object ∷ number ∷ more ∷ pieces) field e = absurd (none-some field e)
+field_by-place (object ∷ number ∷ []) field e =
+    let s = and_then_parts (λ s. option_map (λ f. (s, f)) (field_number number)) (object_serial object) field e in
+    let f = option_map_parts (λ f. (s.value, f)) (field_number number) field s.gives in
+    let serial = number_within-bounds 1 (2 ^ 64) object s.value s.is in
+    let below = number_within-bounds 0 MAX_FIELDS number f.value f.is in
+    subst IsFieldPlace f.gives (record { serial = serial.0; word = serial.1; number = below.1 })
+
+field_place-place : (bytes : List ℕ) (field : ℕ × ℕ) → field_place bytes ≡ Some field → IsFieldPlace field
+unfolding field_place
+field_place-place bytes field e = field_by-place (split_at 46 bytes) field e
+
+-- a field of an object
+field_taken : (next : ℕ × ℕ → Parser) → ((field : ℕ × ℕ) → IsFieldPlace field → IsLegalParser (next field)) → IsLegalParser (taking field_place next)
+field_taken next after = taken field_place IsFieldPlace next field_place-place after
+
 ended : (command : Command) → IsLegalCommand command → IsLegalParser (at_end command)
 unfolding at_end
 ended command legal = record { legal = λ arguments c e. legal_ended arguments c e }
@@ -177,6 +202,11 @@ drop_by-legal : IsLegalParser drop_by
 unfolding drop_by
 drop_by-legal = number_taken 0 CLIENTS _ (λ client _ known. name_taken _ (λ name is. ended (commands.Drop client name) (known, is.0, is.1)))
 
+get_by-legal : IsLegalParser get_by
+unfolding get_by
+get_by-legal =
+    number_taken 0 CLIENTS _ (λ client _ known. name_taken _ (λ name is. field_taken _ (λ field at. ended (Get client name field.0 field.1) (known, is.0, is.1, at.serial, at.word, at.number))))
+
 pools_by-legal : IsLegalParser pools_by
 unfolding pools_by
 pools_by-legal = ended Pools tt
@@ -198,7 +228,7 @@ AreLegalLines (line ∷ others) = IsLegalParser line.1 × AreLegalLines others
 
 are_legal_lines : AreLegalLines lines
 are_legal_lines =
-    (client_by-legal, (leave_by-legal, (define_by-legal, (pool_line_by-legal, (chmod_by-legal, (drop_by-legal, (pools_by-legal, (cut_by-legal, (arm_by-legal, tt)))))))))
+    (client_by-legal, (leave_by-legal, (define_by-legal, (pool_line_by-legal, (chmod_by-legal, (drop_by-legal, (get_by-legal, (pools_by-legal, (cut_by-legal, (arm_by-legal, tt))))))))))
 
 -- of two choices one is taken
 legal_choice : (b : Bool) (o p : Option Command) (c : Command) → (o ≡ Some c → IsLegalCommand c) → (p ≡ Some c → IsLegalCommand c)

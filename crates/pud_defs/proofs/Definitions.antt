@@ -5,7 +5,9 @@ use Rattle.pud_defs.specs.declared.layout.TheConstants.{TYPE_RECORDS, DAEMON_LOG
 use Rattle.pud_defs.specs.Image.{Image, written}
 use Rattle.pud_defs.specs.TypeMap.{is_legal_map, is_legal_type_id}
 use Rattle.pud_defs.specs.Types.{type_record_at, type_at, map_of, with_type}
-use Rattle.pud_defs.specs.World.{StoredWorld, registry_world, world_of}
+use Rattle.pud_defs.specs.Tables.{Pool}
+use Rattle.pud_defs.specs.World.{StoredWorld, pools_in, registry_world, world_of}
+use Rattle.pud_defs.specs.PoolChanges.{pools_read, with_type_defined}
 use Rattle.pud_defs.specs.Entries.{is_idle_gate}
 use Rattle.pud_defs.specs.Replay.{is_in_log, beside_log}
 use Rattle.pud_defs.proofs.Replay.{beside_log-outside, outside_log}
@@ -13,14 +15,15 @@ use Rattle.pud_defs.proofs.Images.{written_there, written_other}
 use Rattle.pud_defs.proofs.Keyed.{keyed-same}
 use Rattle.pud_defs.proofs.TypeTable.{type_at-map_written, are_legal_types-fewer, types_of-written, are_legal_types-written}
 use Rattle.pud_defs.proofs.Parts.{StandsFor, HasTypes, standing_with_types}
-use Rattle.pud_defs.proofs.Parts.Part.{Types}
+use Rattle.pud_defs.proofs.Parts.Part.{Types, Pools}
+use Rattle.pud_defs.proofs.Held.{pools_in-more}
 use Rattle.pud_defs.proofs.Worlds.{registry_world_standing, standing_idle, world_of-idle, map_of_world}
 
 -- a word of the type table is written: what else is read stays
-type_written : (size : ℕ) (image : Image) (s : StoredWorld) (ts : List (ℕ × ℕ)) (w v : ℕ) → type_record_at 0 ≤ w → w < type_record_at TYPE_RECORDS → StandsFor size image s
-    → HasTypes ts (written w v image) → StandsFor size (written w v image) (record s { types = ts })
-type_written size image s ts w v low high h now =
-    standing_with_types size image (written w v image) s ts h (λ k not. written_other w v image k (λ e. not (omega arith) (omega arith))) now
+type_written : (size : ℕ) (image : Image) (s : StoredWorld) (ts : List (ℕ × ℕ)) (ps : List (List ℕ × Pool)) (w v : ℕ) → type_record_at 0 ≤ w → w < type_record_at TYPE_RECORDS → StandsFor size image s
+    → HasTypes ts (written w v image) → pools_in ts s.frames image ≡ ps → StandsFor size (written w v image) (record s { types = ts; pools = ps })
+type_written size image s ts ps w v low high h now read =
+    standing_with_types size image (written w v image) s ts ps h (λ k not. written_other w v image k (λ e. not (omega arith) (omega arith))) now read
 
 -- the map word of a free record is written: the image stands for the same world
 pub standing-map_written : (size : ℕ) (image : Image) (s : StoredWorld) (r v : ℕ) → StandsFor size image s → r < TYPE_RECORDS → image (type_record_at r) ≡ 0 → StandsFor size (written (type_record_at r + 1) v image) s
@@ -28,23 +31,24 @@ standing-map_written size image s r v h within free =
     let now = written (type_record_at r + 1) v image in
     let same : (n : ℕ) → type_at now n ≡ type_at image n = λ n. type_at-map_written image r v n free in
     let types = h.holds Types in
-    type_written size image s s.types (type_record_at r + 1) v (omega arith) (omega arith) h (record {
+    type_written size image s s.types s.pools (type_record_at r + 1) v (omega arith) (omega arith) h (record {
       types = keyed-same nat_cmp (type_at now) (type_at image) 0 TYPE_RECORDS (λ n low high. same n) ∙ types.types;
       legal = are_legal_types-fewer (type_at image) (type_at now) (λ n below. inl (same n)) types.legal;
-    })
+    }) (h.holds Pools).pools
 
 -- the id word of a free record is written where its map word is in place: the type is defined
 pub standing-id_written : (size : ℕ) (image : Image) (s : StoredWorld) (r id map : ℕ) → StandsFor size image s → r < TYPE_RECORDS → image (type_record_at r) ≡ 0 → image (type_record_at r + 1) ≡ map
     → is_legal_type_id id ≡ true → is_legal_map map ≡ true → map_of id s.types ≡ None
-    → StandsFor size (written (type_record_at r) id image) (record s { types = with_type id map s.types })
+    → StandsFor size (written (type_record_at r) id image) (with_type_defined id map s)
+unfolding with_type_defined
 standing-id_written size image s r id map h within free there legal_id legal_map none =
     let above : 0 < id = leb-true 1 id ((and_parts _ _ legal_id).0) in
     let missing = map_of_world size image s id h ∙ none in
     let types = h.holds Types in
-    type_written size image s (with_type id map s.types) (type_record_at r) id (omega arith) (omega arith) h (record {
+    type_written size image s (with_type id map s.types) (pools_read (with_type id map s.types) s.pools) (type_record_at r) id (omega arith) (omega arith) h (record {
       types = types_of-written image r id map within above free there missing ∙ ap (with_type id map) types.types;
       legal = are_legal_types-written image r id map within above free there missing legal_id legal_map types.legal;
-    })
+    }) (pools_in-more id map s.types s.frames image none ∙ ap (pools_read (with_type id map s.types)) (h.holds Pools).pools)
 
 -- ---- the same two, of an image whose daemon log is closed and counts no word
 
@@ -77,7 +81,7 @@ world_of-map_written size image s r v closed h within free =
 
 pub world_of-id_written : (size : ℕ) (image : Image) (s : StoredWorld) (r id map : ℕ) → is_idle_gate (image DAEMON_LOG) ≡ true → world_of size image ≡ Some s → r < TYPE_RECORDS → image (type_record_at r) ≡ 0
     → image (type_record_at r + 1) ≡ map → is_legal_type_id id ≡ true → is_legal_map map ≡ true → map_of id s.types ≡ None
-    → world_of size (written (type_record_at r) id image) ≡ Some (record s { types = with_type id map s.types })
+    → world_of size (written (type_record_at r) id image) ≡ Some (with_type_defined id map s)
 world_of-id_written size image s r id map closed h within free there legal_id legal_map none =
     let low : type_record_at 0 ≤ type_record_at r = omega arith in
     world_of-idle size (written (type_record_at r) id image) (gate_written image (type_record_at r) id low closed)
@@ -89,7 +93,7 @@ world_of-id_written size image s r id map closed h within free there legal_id le
 -- both writes
 pub world_of-defined : (size : ℕ) (image : Image) (s : StoredWorld) (r id map : ℕ) → is_idle_gate (image DAEMON_LOG) ≡ true → world_of size image ≡ Some s → r < TYPE_RECORDS → image (type_record_at r) ≡ 0
     → is_legal_type_id id ≡ true → is_legal_map map ≡ true → map_of id s.types ≡ None
-    → world_of size (written (type_record_at r) id (written (type_record_at r + 1) map image)) ≡ Some (record s { types = with_type id map s.types })
+    → world_of size (written (type_record_at r) id (written (type_record_at r + 1) map image)) ≡ Some (with_type_defined id map s)
 world_of-defined size image s r id map closed h within free legal_id legal_map none =
     let placed = written (type_record_at r + 1) map image in
     world_of-id_written size placed s r id map (gate_written image (type_record_at r + 1) map (omega arith) closed) (world_of-map_written size image s r map closed h within free) within

@@ -3,6 +3,8 @@ use Rattle.std.proofs.Common.{◌≡◌, ℕ, List, [], ◌∷◌, ◌++◌, map
 use Rattle.std.specs.Prelude.{flat_map}
 use Rattle.std.specs.List.{range_with_len}
 use Rattle.pud_defs.specs.Spaces.{owner}
+use Rattle.pud_defs.specs.Graph.{empty_graph}
+use Rattle.pud_defs.specs.Holdings.Holding.{Sound}
 use Rattle.pud_defs.specs.World.{World, no_clients, blank_world}
 use Rattle.pud_defs.specs.Step.{step_answer, step_world}
 use Rattle.pud_defs.specs.Texts.{answer_text}
@@ -39,7 +41,7 @@ unfolding opened behind
 numbers_go_up = refl
 
 one_pool : (behind (blank_of 4) (codes "client 0 5 6" ∷ codes "pool 0 a 640" ∷ [])).stored
-    ≡ record (blank_world 4 7) { next_number = 3; pools = ((97 ∷ 0 ∷ 0 ∷ 0 ∷ 0 ∷ 0 ∷ 0 ∷ 0 ∷ 0 ∷ 0 ∷ 0 ∷ 0 ∷ 0 ∷ 0 ∷ 0 ∷ 0 ∷ []), record { owner = owner 5 6; mode = 416; number = 1; puddles = 1 }) ∷ [] }
+    ≡ record (blank_world 4 7) { next_number = 3; pools = ((97 ∷ 0 ∷ 0 ∷ 0 ∷ 0 ∷ 0 ∷ 0 ∷ 0 ∷ 0 ∷ 0 ∷ 0 ∷ 0 ∷ 0 ∷ 0 ∷ 0 ∷ 0 ∷ []), record { owner = owner 5 6; mode = 416; number = 1; puddles = 1; holding = Sound empty_graph }) ∷ [] }
 unfolding opened behind
 one_pool = refl
 
@@ -78,7 +80,7 @@ fifth_pool = refl
 -- a world of 64 frames with pools of one puddle, whose names have one byte each
 abbrev many_pools : ℕ → World
 many_pools n = record {
-  stored = record (blank_world 64 7) { next_number = 65; pools = map (λ k. ((k ∷ 0 ∷ 0 ∷ 0 ∷ 0 ∷ 0 ∷ 0 ∷ 0 ∷ 0 ∷ 0 ∷ 0 ∷ 0 ∷ 0 ∷ 0 ∷ 0 ∷ 0 ∷ []), record { owner = owner 5 5; mode = 384; number = k; puddles = 1 })) (range_with_len 1 n) };
+  stored = record (blank_world 64 7) { next_number = 65; pools = map (λ k. ((k ∷ 0 ∷ 0 ∷ 0 ∷ 0 ∷ 0 ∷ 0 ∷ 0 ∷ 0 ∷ 0 ∷ 0 ∷ 0 ∷ 0 ∷ 0 ∷ 0 ∷ 0 ∷ []), record { owner = owner 5 5; mode = 384; number = k; puddles = 1; holding = Sound empty_graph })) (range_with_len 1 n) };
   clients = λ _. Some (owner 5 5);
   shelf = λ _. None;
 }

@@ -2,13 +2,15 @@
 use Rattle.std.proofs.Common.{ℕ, ◌≡◌, ◌+◌, ◌-◌, ◌^◌, true, false, List, [], ◌∷◌, Some, None, replicate, refl}
 use Rattle.pud_defs.specs.Image.{Image, written}
 use Rattle.pud_defs.specs.Spaces.{owner, all_below}
+use Rattle.pud_defs.specs.Graph.{empty_graph}
+use Rattle.pud_defs.specs.Holdings.Holding.{Sound}
 use Rattle.pud_defs.specs.Keyed.{first_free, count_used, keyed, first_from, are_distinct}
 use Rattle.pud_defs.specs.Bases.{base_at, is_legal_base}
 use Rattle.pud_defs.specs.Modes.{is_legal_mode}
 use Rattle.pud_defs.specs.Names.{name_by, is_filled, is_legal_name}
 use Rattle.pud_defs.specs.Pools.{pool_by, pool_at}
 use Rattle.pud_defs.specs.Puddles.{puddle_record_at, puddle_by, puddle_at, member_word}
-use Rattle.pud_defs.specs.Tables.{Pool, tables_of, puddles_of, puddle_in, records_of, pool_of, pools_of}
+use Rattle.pud_defs.specs.Tables.{Pool, Reader, tables_of, puddles_of, puddle_in, records_of, pool_of, pools_of}
 use Rattle.pud_defs.specs.SoundTables.{has_legal_pools, has_distinct_names, has_legal_puddles, has_distinct_bases, has_distinct_old_bases, has_distinct_ordinals, count_up, has_counted_puddles, are_sound_tables}
 use Rattle.pud_defs.specs.Puts.{with_put, pool_put, mode_put, free_pool_put, puddle_put}
 
@@ -48,13 +50,17 @@ puddle_there frame slot ordinal number base old_base frontier image =
     with_put (puddle_put frame (record { pool = slot; ordinal = ordinal; number = number; base = base; old_base = old_base; frontier = frontier })) image
 
 abbrev pub pool_with : (mode number puddles : ℕ) → Pool
-pool_with mode number puddles = record { owner = owner 5 5; mode = mode; number = number; puddles = puddles }
+pool_with mode number puddles = record { owner = owner 5 5; mode = mode; number = number; puddles = puddles; holding = Sound empty_graph }
+
+-- whatever they hold is the empty graph
+abbrev pub nothing_made : Reader
+nothing_made at = Sound empty_graph
 
 -- a pool of one puddle
 abbrev pub one_pool : Image
 one_pool = puddle_there 0 0 0 4 (2 ^ 44) (2 ^ 44) 63 (pool_there 0 98 416 3 (λ _. 0))
 
-one_pool_is_read : pools_of (tables_of 4 one_pool) ≡ (short 98, pool_with 416 3 1) ∷ []
+one_pool_is_read : pools_of nothing_made (tables_of 4 one_pool) ≡ (short 98, pool_with 416 3 1) ∷ []
 unfolding opened_tables
 one_pool_is_read = refl
 
@@ -65,10 +71,10 @@ one_pool_is_sound = (refl, refl)
 -- two pools, one of two puddles that were imported and moved; the later slot has the lesser name
 abbrev pub moved : Image
 moved =
-    puddle_there 2 1 1 8 (base_at 2) (base_at 1) 0 (puddle_there 1 1 0 7 (base_at 1) (base_at 0) 0 (puddle_there 0 0 0 5 (base_at 0) (base_at 0) 63
+    puddle_there 2 1 1 8 (base_at 2) (base_at 1) 63 (puddle_there 1 1 0 7 (base_at 1) (base_at 0) 63 (puddle_there 0 0 0 5 (base_at 0) (base_at 0) 63
     (pool_there 1 97 384 6 (pool_there 0 113 384 4 (λ _. 0)))))
 
-moved_is_read : pools_of (tables_of 4 moved) ≡ (short 97, pool_with 384 6 2) ∷ (short 113, pool_with 384 4 1) ∷ []
+moved_is_read : pools_of nothing_made (tables_of 4 moved) ≡ (short 97, pool_with 384 6 2) ∷ (short 113, pool_with 384 4 1) ∷ []
 unfolding opened_tables
 moved_is_read = refl
 
@@ -76,7 +82,7 @@ moved_is_sound : are_sound_tables 9 (tables_of 4 moved) ≡ true
 unfolding opened_tables
 moved_is_sound = refl
 
-second_puddle : puddle_in (tables_of 4 moved) 1 1 ≡ Some (2, record { pool = 1; ordinal = 1; number = 8; base = base_at 2; old_base = base_at 1; frontier = 0 })
+second_puddle : puddle_in (tables_of 4 moved) 1 1 ≡ Some (2, record { pool = 1; ordinal = 1; number = 8; base = base_at 2; old_base = base_at 1; frontier = 63 })
 unfolding opened_tables
 second_puddle = refl
 
@@ -85,17 +91,17 @@ unfolding opened_tables
 no_third_puddle = refl
 
 -- a record beyond the frames is not read
-beyond_the_frames : pools_of (tables_of 2 moved) ≡ (short 97, pool_with 384 6 1) ∷ (short 113, pool_with 384 4 1) ∷ []
+beyond_the_frames : pools_of nothing_made (tables_of 2 moved) ≡ (short 97, pool_with 384 6 1) ∷ (short 113, pool_with 384 4 1) ∷ []
 unfolding opened_tables
 beyond_the_frames = refl
 
 -- ---- changes
 
-mode_changed : pools_of (tables_of 4 (with_put (mode_put 0 438) one_pool)) ≡ (short 98, pool_with 438 3 1) ∷ []
+mode_changed : pools_of nothing_made (tables_of 4 (with_put (mode_put 0 438) one_pool)) ≡ (short 98, pool_with 438 3 1) ∷ []
 unfolding opened_tables
 mode_changed = refl
 
-pool_freed : pools_of (tables_of 4 (with_put (free_pool_put 1) moved)) ≡ (short 113, pool_with 384 4 1) ∷ []
+pool_freed : pools_of nothing_made (tables_of 4 (with_put (free_pool_put 1) moved)) ≡ (short 113, pool_with 384 4 1) ∷ []
 unfolding opened_tables
 pool_freed = refl
 
@@ -149,6 +155,7 @@ ordinal_left_out : has_counted_puddles (tables_of 4 (written (puddle_record_at 2
 unfolding opened_tables
 ordinal_left_out = refl
 
-frontier_too_large : has_legal_puddles 9 (tables_of 4 (written (puddle_record_at 2 + 4) 64 moved)) ≡ false
+-- a puddle that is not rewritten whole, or more than whole
+other_frontiers : (has_legal_puddles 9 (tables_of 4 (written (puddle_record_at 2 + 4) 62 moved)) ≡ false) × (has_legal_puddles 9 (tables_of 4 (written (puddle_record_at 2 + 4) 64 moved)) ≡ false)
 unfolding opened_tables
-frontier_too_large = refl
+other_frontiers = (refl, refl)

@@ -2,6 +2,9 @@ pub mod Words
 pub mod Keyed
 pub mod KeyedKeys
 pub mod KeyedMaps
+pub mod Graphs
+pub mod TypeMore
+pub mod Held
 pub mod KeyedEach
 pub mod KeyedPlaces
 pub mod TablesOf

@@ -12,7 +12,7 @@ use Rattle.pud_defs.specs.Names.{name_cmp, is_name_byte, is_filled, is_legal_nam
 use Rattle.pud_defs.specs.Identifiers.{puddle_uuid, hex_digit, hex_digits, hyphen, uuid_text}
 use Rattle.pud_defs.specs.Modes.{is_legal_mode}
 use Rattle.pud_defs.specs.Pools.{is_given}
-use Rattle.pud_defs.specs.Tables.{Tables, Pool, puddles_of, pool_of, entries, pools_of}
+use Rattle.pud_defs.specs.Tables.{Tables, Pool, Reader, puddles_of, pool_of, entries, pools_of}
 use Rattle.pud_defs.specs.SoundTables.{is_sound_pool, HasSoundTables}
 use Rattle.pud_defs.specs.World.{StoredWorld}
 use Rattle.pud_defs.specs.Run.{newlines}
@@ -139,21 +139,21 @@ of_pools : (id : ℕ) (pools : List (List ℕ × Pool)) → AllByRecursion HasPl
 of_pools id [] names = nothing
 of_pools id (e ∷ pools) names = joined (pool_text id e) _ (of_pool id e names.0) (of_pools id pools names.1)
 
-plain_name : (next : ℕ) (t : Tables) (slot : ℕ) (o : Option PoolRec) → is_sound_pool next o ≡ true → (e : List ℕ × Pool) → entry_of (puddles_of t slot) o ≡ Some e → HasPlainName e
-plain_name next t slot None sound e is = absurd (none-some e is)
-plain_name next t slot (Some r) sound e is =
+plain_name : (hold : Reader) (next : ℕ) (t : Tables) (slot : ℕ) (o : Option PoolRec) → is_sound_pool next o ≡ true → (e : List ℕ × Pool) → entry_of hold (puddles_of t slot) o ≡ Some e → HasPlainName e
+plain_name hold next t slot None sound e is = absurd (none-some e is)
+plain_name hold next t slot (Some r) sound e is =
     let four = and_parts (is_legal_name r.name && leb r.uid MAX_OWNER_ID && leb r.gid MAX_OWNER_ID && is_legal_mode r.mode) (is_given next r.number) sound in
     let three = and_parts (is_legal_name r.name && leb r.uid MAX_OWNER_ID && leb r.gid MAX_OWNER_ID) (is_legal_mode r.mode) four.0 in
     let two = and_parts (is_legal_name r.name && leb r.uid MAX_OWNER_ID) (leb r.gid MAX_OWNER_ID) three.0 in
     let one = and_parts (is_legal_name r.name) (leb r.uid MAX_OWNER_ID) two.0 in
-    subst HasPlainName (same_Some (r.name, pool_of r (puddles_of t slot)) e is) (of_name r.name one.0)
+    subst HasPlainName (same_Some (r.name, pool_of hold r (puddles_of t slot)) e is) (of_name r.name one.0)
 
-plain_names : (next : ℕ) (t : Tables) → HasSoundTables next t → AllByRecursion HasPlainName (pools_of t)
+plain_names : (hold : Reader) (next : ℕ) (t : Tables) → HasSoundTables next t → AllByRecursion HasPlainName (pools_of hold t)
 unfolding pools_of
-plain_names next t h = each-keyed name_cmp same_name HasPlainName (entries t) 0 POOL_RECORDS (λ slot low high e is. plain_name next t slot (t.pools slot) (legal_pool next t h slot (omega arith)) e is)
+plain_names hold next t h = each-keyed name_cmp same_name HasPlainName (entries hold t) 0 POOL_RECORDS (λ slot low high e is. plain_name hold next t slot (t.pools slot) (legal_pool next t h slot (omega arith)) e is)
 
 -- the text of the pools of sound tables is one line
-pub in_one_line-pools_text : (next : ℕ) (t : Tables) (s : StoredWorld) → HasSoundTables next t → pools_of t ≡ s.pools → in_one_line (pools_text s) ≡ pools_text s
+pub in_one_line-pools_text : (hold : Reader) (next : ℕ) (t : Tables) (s : StoredWorld) → HasSoundTables next t → pools_of hold t ≡ s.pools → in_one_line (pools_text s) ≡ pools_text s
 unfolding pools_text
-in_one_line-pools_text next t s h is =
-    one_line (pools_text s) (subst (λ (pools : List (List ℕ × Pool)). HasNoNewline (flat_map (λ e. pool_text s.machine e) pools)) is (of_pools s.machine (pools_of t) (plain_names next t h)))
+in_one_line-pools_text hold next t s h is =
+    one_line (pools_text s) (subst (λ (pools : List (List ℕ × Pool)). HasNoNewline (flat_map (λ e. pool_text s.machine e) pools)) is (of_pools s.machine (pools_of hold t) (plain_names hold next t h)))

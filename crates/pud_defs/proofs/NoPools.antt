@@ -1,5 +1,5 @@
 -- Tables without a used record are sound, and stand for no pool.
-use Rattle.std.proofs.Common.{◌≡◌, ℕ, zero, suc, ◌+◌, ◌<◌, ◌≤◌, Bool, true, false, nat_lt, cond, [], Option, None, nat_cmp, refl, ap, ◌∙◌}
+use Rattle.std.proofs.Common.{◌≡◌, ℕ, zero, suc, ◌+◌, ◌<◌, ◌≤◌, Bool, true, false, nat_lt, cond, List, [], Option, None, nat_cmp, refl, ap, ◌∙◌}
 use Rattle.std.proofs.lemmas.Bool.{and_from}
 use Rattle.std.specs.declared.cmp.Ordering.{Ordering}
 use Rattle.pud_defs.specs.declared.layout.TheConstants.{POOL_TABLE, SPACE_TABLE, PUDDLE_TABLE}
@@ -9,7 +9,8 @@ use Rattle.pud_defs.specs.Image.{Image}
 use Rattle.pud_defs.specs.Keyed.{keyed, are_distinct}
 use Rattle.pud_defs.specs.Pools.{pool_at, pool_by}
 use Rattle.pud_defs.specs.Puddles.{puddle_at, puddle_by}
-use Rattle.pud_defs.specs.Tables.{Tables, tables_of, pools_of}
+use Rattle.pud_defs.specs.Tables.{Tables, Reader, tables_of, pools_of}
+use Rattle.pud_defs.specs.Holdings.{holding_in}
 use Rattle.pud_defs.specs.SoundTables.{are_sound_tables, has_legal_pools, has_distinct_names, has_legal_puddles, has_distinct_bases, has_distinct_old_bases, has_distinct_ordinals, has_counted_puddles}
 use Rattle.pud_defs.proofs.Spaces.{all_below-from}
 use Rattle.pud_defs.proofs.TablesOf.{tables_of-same}
@@ -45,12 +46,12 @@ sound_none number F =
     (all_below-from POOL_RECORDS _ (λ slot below. distinct_none _ nat_cmp 0 F)))
     (all_below-from POOL_RECORDS _ (λ slot below. refl))
 
-no_pools : (F : ℕ) → pools_of (no_records F) ≡ []
+no_pools : (hold : Reader) (F : ℕ) → pools_of hold (no_records F) ≡ []
 unfolding pools_of keyed
-no_pools F = refl
+no_pools hold F = refl
 
 -- an image whose words of the two tables are 0
-pub empty_tables : (F number : ℕ) (image : Image) → ((k : ℕ) → POOL_TABLE ≤ k → k < SPACE_TABLE → image k ≡ 0) → ((k : ℕ) → PUDDLE_TABLE ≤ k → k < tables_end F → image k ≡ 0) → HasPools F number [] image
-empty_tables F number image pools puddles =
+pub empty_tables : (types : List (ℕ × ℕ)) (F number : ℕ) (image : Image) → ((k : ℕ) → POOL_TABLE ≤ k → k < SPACE_TABLE → image k ≡ 0) → ((k : ℕ) → PUDDLE_TABLE ≤ k → k < tables_end F → image k ≡ 0) → HasPools types F number [] image
+empty_tables types F number image pools puddles =
     let none : tables_of F image ≡ no_records F = tables_of-same F image (λ k. 0) pools puddles ∙ all_zero F in
-    record { pools = ap pools_of none ∙ no_pools F; sound = ap (are_sound_tables number) none ∙ sound_none number F }
+    record { pools = ap (pools_of (holding_in types F image)) none ∙ no_pools (holding_in types F image) F; sound = ap (are_sound_tables number) none ∙ sound_none number F }

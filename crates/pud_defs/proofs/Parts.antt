@@ -6,13 +6,14 @@ use Rattle.pud_defs.specs.Layout.{IsWithin, tables_end, frames_at, device_words}
 use Rattle.pud_defs.specs.Image.{Image}
 use Rattle.pud_defs.specs.Types.{type_record_at, type_at, types_of, are_legal_types}
 use Rattle.pud_defs.specs.Spaces.{are_legal_spaces, are_closed_logs}
-use Rattle.pud_defs.specs.Tables.{Pool, tables_of, pools_of}
+use Rattle.pud_defs.specs.Tables.{Pool, tables_of}
 use Rattle.pud_defs.specs.SoundTables.{are_sound_tables}
-use Rattle.pud_defs.specs.World.{StoredWorld}
+use Rattle.pud_defs.specs.World.{StoredWorld, pools_in}
 use Rattle.pud_defs.proofs.Spaces.{are_legal_spaces-same, are_closed_logs-same}
 use Rattle.pud_defs.proofs.Keyed.{keyed-same}
 use Rattle.pud_defs.proofs.TypeTable.{type_at-same, are_legal_types-fewer}
 use Rattle.pud_defs.proofs.TablesOf.{tables_of-same}
+use Rattle.pud_defs.proofs.Held.{pools_in-same, frame_among}
 
 -- the words that describe the device; the types; the pools, with their puddles; the log spaces, with the clients' logs
 pub data Part : Type 0 where
@@ -25,7 +26,7 @@ pub data Part : Type 0 where
 abbrev pub IsReadBy : ℕ → Part → ℕ → Type 0
 IsReadBy F Header k = IsWithin 0 DAEMON_LOG k
 IsReadBy F Types k = IsWithin TYPE_TABLE POOL_TABLE k
-IsReadBy F Pools k = IsWithin POOL_TABLE SPACE_TABLE k ⊎ IsWithin PUDDLE_TABLE (tables_end F) k
+IsReadBy F Pools k = IsWithin POOL_TABLE SPACE_TABLE k ⊎ (IsWithin PUDDLE_TABLE (tables_end F) k ⊎ IsWithin (frames_at F) (device_words F) k)
 IsReadBy F Spaces k = IsWithin SPACE_TABLE PUDDLE_TABLE k ⊎ IsWithin (tables_end F) (frames_at F) k
 
 pub record HasHeader (size F id number : ℕ) (image : Image) : Type 0 where
@@ -48,15 +49,15 @@ pub record HasSpaces (F : ℕ) (image : Image) : Type 0 where
   pub spaces : are_legal_spaces image ≡ true
   pub logs : are_closed_logs image F ≡ true
 
-pub record HasPools (F number : ℕ) (ps : List (List ℕ × Pool)) (image : Image) : Type 0 where
-  pub pools : pools_of (tables_of F image) ≡ ps
+pub record HasPools (types : List (ℕ × ℕ)) (F number : ℕ) (ps : List (List ℕ × Pool)) (image : Image) : Type 0 where
+  pub pools : pools_in types F image ≡ ps
   pub sound : are_sound_tables number (tables_of F image) ≡ true
 
 -- what the part holds of a world, on a device of so many words
 abbrev pub Holds : Part → ℕ → StoredWorld → Image → Type 0
 Holds Header size s image = HasHeader size s.frames s.machine s.next_number image
 Holds Types size s image = HasTypes s.types image
-Holds Pools size s image = HasPools s.frames s.next_number s.pools image
+Holds Pools size s image = HasPools s.types s.frames s.next_number s.pools image
 Holds Spaces size s image = HasSpaces s.frames image
 
 -- the same words, the same part
@@ -84,25 +85,27 @@ Holds-same Types size s i j same h =
     }
 Holds-same Pools size s i j same h =
     let tables : tables_of s.frames j ≡ tables_of s.frames i =
-    tables_of-same s.frames j i (λ k low high. same k (inl (record { low = low; high = high }))) (λ k low high. same k (inr (record { low = low; high = high }))) in
-    record { pools = ap pools_of tables ∙ h.pools; sound = ap (are_sound_tables s.next_number) tables ∙ h.sound }
+    tables_of-same s.frames j i (λ k low high. same k (inl (record { low = low; high = high }))) (λ k low high. same k (inr (inl (record { low = low; high = high })))) in
+    let frames : (k : ℕ) → frames_at s.frames ≤ k → k < device_words s.frames → j k ≡ i k = λ k low high. same k (inr (inr (record { low = low; high = high }))) in
+    record { pools = pools_in-same s.types s.frames i j tables (λ frame below used. frame_among s.frames frame i j below frames) ∙ h.pools; sound = ap (are_sound_tables s.next_number) tables ∙ h.sound }
 Holds-same Spaces size s i j same h = record {
   spaces = are_legal_spaces-same j i (λ k low high. same k (inl (record { low = low; high = high }))) ∙ h.spaces;
   logs = are_closed_logs-same j i s.frames (λ k low high. same k (inl (record { low = low; high = high }))) (λ k low high. same k (inr (record { low = low; high = high }))) ∙ h.logs;
 }
 
--- each part is read from words beside the daemon log and before the frames
+-- each part is read from words of the device beside the daemon log
 pub record IsOfParts (F k : ℕ) : Type 0 where
   pub beside : (k < DAEMON_LOG) ⊎ (TYPE_TABLE ≤ k)
-  pub before : k < frames_at F
+  pub before : k < device_words F
 
 pub part_place : (F : ℕ) (p : Part) (k : ℕ) → IsReadBy F p k → IsOfParts F k
 part_place F Header k of = let high = of.high in record { beside = inl high; before = omega arith }
 part_place F Types k of = let low = of.low in let high = of.high in record { beside = inr low; before = omega arith }
 part_place F Pools k (inl of) = let low = of.low in let high = of.high in record { beside = inr (omega arith); before = omega arith }
-part_place F Pools k (inr of) = let low = of.low in let high = of.high in record { beside = inr (omega arith); before = omega arith }
+part_place F Pools k (inr (inl of)) = let low = of.low in let high = of.high in record { beside = inr (omega arith); before = omega arith }
+part_place F Pools k (inr (inr of)) = let low = of.low in let high = of.high in record { beside = inr (omega arith); before = high }
 part_place F Spaces k (inl of) = let low = of.low in let high = of.high in record { beside = inr (omega arith); before = omega arith }
-part_place F Spaces k (inr of) = let low = of.low in let high = of.high in record { beside = inr (omega arith); before = high }
+part_place F Spaces k (inr of) = let low = of.low in let high = of.high in record { beside = inr (omega arith); before = omega arith }
 
 -- An image with nothing to replay stands for this world, on a device of so many words.
 pub record StandsFor (size : ℕ) (image : Image) (s : StoredWorld) : Type 0 where
@@ -111,32 +114,35 @@ pub record StandsFor (size : ℕ) (image : Image) (s : StoredWorld) : Type 0 whe
 -- ---- images that agree
 
 -- on all that is read
-pub standing_same : (size : ℕ) (i j : Image) (s : StoredWorld) → StandsFor size i s → ((k : ℕ) → (k < DAEMON_LOG) ⊎ (TYPE_TABLE ≤ k) → k < frames_at s.frames → j k ≡ i k) → StandsFor size j s
+pub standing_same : (size : ℕ) (i j : Image) (s : StoredWorld) → StandsFor size i s → ((k : ℕ) → (k < DAEMON_LOG) ⊎ (TYPE_TABLE ≤ k) → k < device_words s.frames → j k ≡ i k) → StandsFor size j s
 standing_same size i j s h same = record {
   holds = λ p. Holds-same p size s i j (λ k of. let at = part_place s.frames p k of in same k at.beside at.before) (h.holds p);
 }
 
--- but in the type table, which holds these types
-module _ (size : ℕ) (i j : Image) (s : StoredWorld) (ts : List (ℕ × ℕ)) (h : StandsFor size i s) (same : (k : ℕ) → (TYPE_TABLE ≤ k → k < POOL_TABLE → ⊥) → j k ≡ i k) (now : HasTypes ts j) where
-  with_types : (p : Part) → Holds p size (record s { types = ts }) j
+-- but in the type table, which holds these types, by which the pools are read
+module _ (size : ℕ) (i j : Image) (s : StoredWorld) (ts : List (ℕ × ℕ)) (ps : List (List ℕ × Pool)) (h : StandsFor size i s) (same : (k : ℕ) → (TYPE_TABLE ≤ k → k < POOL_TABLE → ⊥) → j k ≡ i k)
+    (now : HasTypes ts j) (read : pools_in ts s.frames i ≡ ps) where
+  elsewhere : (k : ℕ) → IsReadBy s.frames Pools k → j k ≡ i k
+  elsewhere k (inl pools) = let from = pools.low in same k (λ low high. omega arith)
+  elsewhere k (inr (inl puddles)) = let from = puddles.low in same k (λ low high. omega arith)
+  elsewhere k (inr (inr frames)) = let from = frames.low in same k (λ low high. omega arith)
+
+  with_types : (p : Part) → Holds p size (record s { types = ts; pools = ps }) j
   with_types Types = now
   with_types Spaces =
       Holds-same Spaces size s i j
       (λ k of. same k (λ low high. ⊎_elim (λ table. let from = table.low in omega arith) (λ logs. let from = logs.low in omega arith) of))
       (h.holds Spaces)
-  with_types Pools =
-      Holds-same Pools size s i j
-      (λ k of. same k (λ low high. ⊎_elim (λ pools. let from = pools.low in omega arith) (λ puddles. let from = puddles.low in omega arith) of))
-      (h.holds Pools)
-  with_types p = Holds-same p size s i j (λ k of. same k (λ low high. let from = of.low in let to = of.high in omega arith)) (h.holds p)
+  with_types Pools = Holds-same Pools size (record s { types = ts; pools = ps }) i j elsewhere (record { pools = read; sound = (h.holds Pools).sound })
+  with_types Header = Holds-same Header size s i j (λ k of. same k (λ low high. let from = of.low in let to = of.high in omega arith)) (h.holds Header)
 
-  pub standing_with_types : StandsFor size j (record s { types = ts })
+  pub standing_with_types : StandsFor size j (record s { types = ts; pools = ps })
   standing_with_types = record { holds = with_types }
 
 -- but in the next number, in the tables of pools and puddles, and in the frames: these hold other pools, and this number is the next
 module _ (size : ℕ) (i j : Image) (s : StoredWorld) (number : ℕ) (ps : List (List ℕ × Pool)) (h : StandsFor size i s)
     (same : (k : ℕ) → k < frames_at s.frames → (k ≡ NEXT_NUMBER_WORD → ⊥) → (POOL_TABLE ≤ k → k < SPACE_TABLE → ⊥) → (PUDDLE_TABLE ≤ k → k < tables_end s.frames → ⊥) → j k ≡ i k)
-    (next : j NEXT_NUMBER_WORD ≡ number) (low : 1 ≤ number) (high : number ≤ NUMBER_LIMIT) (now : HasPools s.frames number ps j) where
+    (next : j NEXT_NUMBER_WORD ≡ number) (low : 1 ≤ number) (high : number ≤ NUMBER_LIMIT) (now : HasPools s.types s.frames number ps j) where
   with_pools : (p : Part) → Holds p size (record s { next_number = number; pools = ps }) j
   with_pools Pools = now
   with_pools Header =
@@ -168,15 +174,16 @@ module _ (size : ℕ) (i j : Image) (s : StoredWorld) (number : ℕ) (ps : List 
   standing_with_pools = record { holds = with_pools }
 
 -- but in the log-space table and the clients' logs, which hold these spaces
-module _ (size : ℕ) (i j : Image) (s : StoredWorld) (h : StandsFor size i s) (same : (k : ℕ) → k < tables_end s.frames → (SPACE_TABLE ≤ k → k < PUDDLE_TABLE → ⊥) → j k ≡ i k) (now : HasSpaces s.frames j) where
+module _ (size : ℕ) (i j : Image) (s : StoredWorld) (h : StandsFor size i s) (same : (k : ℕ) → k < tables_end s.frames → (SPACE_TABLE ≤ k → k < PUDDLE_TABLE → ⊥) → j k ≡ i k)
+    (frames : (k : ℕ) → frames_at s.frames ≤ k → k < device_words s.frames → j k ≡ i k) (now : HasSpaces s.frames j) where
+  elsewhere_read : (k : ℕ) → IsReadBy s.frames Pools k → j k ≡ i k
+  elsewhere_read k (inl pools) = let from = pools.low in let to = pools.high in same k (omega arith) (λ low high. omega arith)
+  elsewhere_read k (inr (inl puddles)) = let from = puddles.low in let to = puddles.high in same k to (λ low high. omega arith)
+  elsewhere_read k (inr (inr of)) = frames k of.low of.high
+
   with_spaces : (p : Part) → Holds p size s j
   with_spaces Spaces = now
-  with_spaces Pools =
-      Holds-same Pools size s i j
-      (λ k of. ⊎_elim
-      (λ pools. let from = pools.low in let to = pools.high in same k (omega arith) (λ low high. omega arith))
-      (λ puddles. let from = puddles.low in let to = puddles.high in same k to (λ low high. omega arith)) of)
-      (h.holds Pools)
+  with_spaces Pools = Holds-same Pools size s i j elsewhere_read (h.holds Pools)
   with_spaces p =
       Holds-same p size s i j
       (λ k of. let from = of.low in let to = of.high in same k (omega arith) (λ low high. omega arith))
@@ -185,10 +192,10 @@ module _ (size : ℕ) (i j : Image) (s : StoredWorld) (h : StandsFor size i s) (
   pub standing_with_spaces : StandsFor size j s
   standing_with_spaces = record { holds = with_spaces }
 
-pub standing_spaces : (size : ℕ) (i j : Image) (s : StoredWorld) → StandsFor size i s → ((k : ℕ) → k < SPACE_TABLE → j k ≡ i k) → ((k : ℕ) → PUDDLE_TABLE ≤ k → k < frames_at s.frames → j k ≡ i k)
+pub standing_spaces : (size : ℕ) (i j : Image) (s : StoredWorld) → StandsFor size i s → ((k : ℕ) → k < SPACE_TABLE → j k ≡ i k) → ((k : ℕ) → PUDDLE_TABLE ≤ k → k < device_words s.frames → j k ≡ i k)
     → are_legal_spaces j ≡ true → are_closed_logs j s.frames ≡ true → StandsFor size j s
 standing_spaces size i j s h below behind spaces logs =
     standing_with_spaces size i j s h (λ k before not. elim (cases_lt k SPACE_TABLE) [
       | inl low ↦ below k low
       | inr from ↦ elim (cases_lt k PUDDLE_TABLE) [ inl to ↦ absurd (not from to) | inr high ↦ behind k high (omega arith) ]
-    ]) (record { spaces = spaces; logs = logs })
+    ]) (λ k low high. behind k (omega arith) high) (record { spaces = spaces; logs = logs })

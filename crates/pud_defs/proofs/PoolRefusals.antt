@@ -15,7 +15,7 @@ use Rattle.pud_defs.specs.declared.machine.Refusal.TheVariants as refusals
 use Rattle.pud_defs.specs.Names.{name_cmp}
 use Rattle.pud_defs.specs.Keyed.{under, keyed, first_free}
 use Rattle.pud_defs.specs.Spaces.{Owner}
-use Rattle.pud_defs.specs.Tables.{Tables, Pool, named, records_of, pool_in, pool_of, puddles_of, entries, pools_of}
+use Rattle.pud_defs.specs.Tables.{Tables, Pool, Reader, named, records_of, pool_in, pool_of, puddles_of, entries, pools_of}
 use Rattle.pud_defs.specs.SoundTables.{HasSoundTables}
 use Rattle.pud_defs.specs.World.{World}
 use Rattle.pud_defs.specs.PoolChanges.{pool_named, is_full_of_pools, lacks_frames}
@@ -58,53 +58,53 @@ refusal_of-drop w client name = refl
 -- ---- what the tables tell
 
 -- the pool of a record with its slot
-abbrev pub pool_by_record : Tables → ℕ × PoolRec → Pool
-pool_by_record t p = pool_of p.1 (puddles_of t p.0)
+abbrev pub pool_by_record : Reader → Tables → ℕ × PoolRec → Pool
+pool_by_record hold t p = pool_of hold p.1 (puddles_of t p.0)
 
-entry_by_record : (t : Tables) (slot : ℕ) (r : Option PoolRec) → option_map (λ r. (r.name, pool_of r (puddles_of t slot))) r ≡ option_map (of_entry name_cmp (pool_by_record t)) (option_map (λ r. (r.name, (slot, r))) r)
-entry_by_record t slot None = refl
-entry_by_record t slot (Some r) = refl
+entry_by_record : (hold : Reader) (t : Tables) (slot : ℕ) (r : Option PoolRec) → option_map (λ r. (r.name, pool_of hold r (puddles_of t slot))) r ≡ option_map (of_entry name_cmp (pool_by_record hold t)) (option_map (λ r. (r.name, (slot, r))) r)
+entry_by_record hold t slot None = refl
+entry_by_record hold t slot (Some r) = refl
 
 -- the pools are those of the records
-pub pools_by_records : (t : Tables) → pools_of t ≡ map (of_entry name_cmp (pool_by_record t)) (records_of t)
+pub pools_by_records : (hold : Reader) (t : Tables) → pools_of hold t ≡ map (of_entry name_cmp (pool_by_record hold t)) (records_of t)
 unfolding pools_of records_of
-pools_by_records t =
-    let each : (slot : ℕ) → entries t slot ≡ option_map (of_entry name_cmp (pool_by_record t)) (named t slot) = λ slot. entry_by_record t slot (t.pools slot) in
-    (λ p. keyed name_cmp (λ slot. each slot p) 0 POOL_RECORDS) ∙ keyed-mapped name_cmp (pool_by_record t) (named t) 0 POOL_RECORDS
+pools_by_records hold t =
+    let each : (slot : ℕ) → entries hold t slot ≡ option_map (of_entry name_cmp (pool_by_record hold t)) (named t slot) = λ slot. entry_by_record hold t slot (t.pools slot) in
+    (λ p. keyed name_cmp (λ slot. each slot p) 0 POOL_RECORDS) ∙ keyed-mapped name_cmp (pool_by_record hold t) (named t) 0 POOL_RECORDS
 
-pub pool_by_name : (t : Tables) (name : List ℕ) → find name_cmp name (pools_of t) ≡ option_map (pool_by_record t) (find name_cmp name (records_of t))
-pool_by_name t name = ap (find name_cmp name) (pools_by_records t) ∙ find-mapped name_cmp (pool_by_record t) name (records_of t)
+pub pool_by_name : (hold : Reader) (t : Tables) (name : List ℕ) → find name_cmp name (pools_of hold t) ≡ option_map (pool_by_record hold t) (find name_cmp name (records_of t))
+pool_by_name hold t name = ap (find name_cmp name) (pools_by_records hold t) ∙ find-mapped name_cmp (pool_by_record hold t) name (records_of t)
 
 some_either : {A B C : Type 0} (f : A → B) (g : A → C) (o : Option A) → is_some (option_map f o) ≡ is_some (option_map g o)
 some_either f g None = refl
 some_either f g (Some x) = refl
 
 -- a pool is found in the table exactly where the world has it
-pub found_by_table : (t : Tables) (name : List ℕ) → is_some (pool_in t name) ≡ is_some (find name_cmp name (pools_of t))
-found_by_table t name = some_either _ (pool_by_record t) (find name_cmp name (records_of t)) ∙ ap is_some (sym (pool_by_name t name))
+pub found_by_table : (hold : Reader) (t : Tables) (name : List ℕ) → is_some (pool_in t name) ≡ is_some (find name_cmp name (pools_of hold t))
+found_by_table hold t name = some_either _ (pool_by_record hold t) (find name_cmp name (records_of t)) ∙ ap is_some (sym (pool_by_name hold t name))
 
-module _ (next : ℕ) (t : Tables) (sound : HasSoundTables next t) where
-  no_slot : (slot : Option ℕ) → first_free t.pools 0 POOL_RECORDS ≡ slot → is_none slot ≡ leb POOL_RECORDS (length (pools_of t))
-  no_slot None is = sym (le-leb POOL_RECORDS (length (pools_of t)) (omega (arith, length_pools next t sound, count_used_full t.pools 0 POOL_RECORDS is)))
+module _ (hold : Reader) (next : ℕ) (t : Tables) (sound : HasSoundTables next t) where
+  no_slot : (slot : Option ℕ) → first_free t.pools 0 POOL_RECORDS ≡ slot → is_none slot ≡ leb POOL_RECORDS (length (pools_of hold t))
+  no_slot None is = sym (le-leb POOL_RECORDS (length (pools_of hold t)) (omega (arith, length_pools hold next t sound, count_used_full t.pools 0 POOL_RECORDS is)))
   no_slot (Some slot) is =
       let free = first_free_some t.pools 0 POOL_RECORDS slot is in
       let room = count_used_room t.pools 0 POOL_RECORDS slot free.low free.high free.free in
-      sym (lt-leb POOL_RECORDS (length (pools_of t)) (omega (arith, length_pools next t sound)))
+      sym (lt-leb POOL_RECORDS (length (pools_of hold t)) (omega (arith, length_pools hold next t sound)))
 
   -- no record is free exactly where there are as many pools as records
-  pub full_by_table : is_none (first_free t.pools 0 POOL_RECORDS) ≡ leb POOL_RECORDS (length (pools_of t))
+  pub full_by_table : is_none (first_free t.pools 0 POOL_RECORDS) ≡ leb POOL_RECORDS (length (pools_of hold t))
   full_by_table = no_slot (first_free t.pools 0 POOL_RECORDS) refl
 
   abbrev used : ℕ
-  used = sum_by (λ (e : List ℕ × Pool). e.1.puddles) (pools_of t)
+  used = sum_by (λ (e : List ℕ × Pool). e.1.puddles) (pools_of hold t)
 
   module _ (masked : IsMasked t) where
     no_frame : (frame : Option ℕ) → first_free t.puddles 0 t.frames ≡ frame → is_none frame ≡ ltb t.frames (used + 1)
-    no_frame None is = sym (lt-ltb t.frames (used + 1) (omega (arith, sum_puddles next t sound masked, count_used_full t.puddles 0 t.frames is)))
+    no_frame None is = sym (lt-ltb t.frames (used + 1) (omega (arith, sum_puddles next t sound hold masked, count_used_full t.puddles 0 t.frames is)))
     no_frame (Some frame) is =
         let free = first_free_some t.puddles 0 t.frames frame is in
         let room = count_used_room t.puddles 0 t.frames frame free.low free.high free.free in
-        sym (le-ltb t.frames (used + 1) (omega (arith, sum_puddles next t sound masked)))
+        sym (le-ltb t.frames (used + 1) (omega (arith, sum_puddles next t sound hold masked)))
 
     -- no frame is free exactly where one puddle more is too many
     pub space_by_table : is_none (first_free t.puddles 0 t.frames) ≡ ltb t.frames (used + 1)

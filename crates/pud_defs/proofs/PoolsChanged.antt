@@ -17,7 +17,7 @@ use Rattle.pud_defs.specs.Names.{name_cmp}
 use Rattle.pud_defs.specs.Keyed.{under, keyed, first_from, without}
 use Rattle.pud_defs.specs.Pools.{IsHeld}
 use Rattle.pud_defs.specs.Puddles.{Member}
-use Rattle.pud_defs.specs.Tables.{Tables, Pool, tables_of, member_of, members, puddles_of, named, pool_of, entries, pools_of}
+use Rattle.pud_defs.specs.Tables.{Tables, Pool, Reader, tables_of, member_of, members, puddles_of, named, pool_of, entries, pools_of}
 use Rattle.pud_defs.specs.Puts.{with_put, pool_put, puddle_put, member_by, changed_at, with_pool_at, with_puddle_at, is_of_pool, without_pool_at}
 use Rattle.pud_defs.proofs.Keyed.{HasDistinctKeys, HasDistinctKeys-keys, no_key, is_free_for, alone_there, first_from_none_each, keyed-put, keyed-without, keyed-none}
 use Rattle.pud_defs.proofs.PutsMade.{pool_put_made, puddle_put_made}
@@ -35,17 +35,17 @@ changed_elsewhere i now at j other = cond-false (eqb j i) now (at j) (ne_eqb j i
 pub same_name : (x y : List ℕ) → name_cmp x y ≡ Equal → x ≡ y
 same_name x y e = slice_cmp-IsAntisymmetric nat_cmp-IsAntisymmetric x y e
 
-abbrev pub entry_of : List (ℕ × (ℕ × Puddle)) → Option PoolRec → Option (List ℕ × Pool)
-entry_of puddles r = option_map (λ r. (r.name, pool_of r puddles)) r
+abbrev pub entry_of : Reader → List (ℕ × (ℕ × Puddle)) → Option PoolRec → Option (List ℕ × Pool)
+entry_of hold puddles r = option_map (λ r. (r.name, pool_of hold r puddles)) r
 
-entry_key : (slot : ℕ) (puddles : List (ℕ × (ℕ × Puddle))) (r : Option PoolRec)
-    → option_map (λ (p : List ℕ × (ℕ × PoolRec)). p.0) (option_map (λ r. (r.name, (slot, r))) r) ≡ option_map (λ (p : List ℕ × Pool). p.0) (entry_of puddles r)
-entry_key slot puddles None = refl
-entry_key slot puddles (Some r) = refl
+entry_key : (hold : Reader) (slot : ℕ) (puddles : List (ℕ × (ℕ × Puddle))) (r : Option PoolRec)
+    → option_map (λ (p : List ℕ × (ℕ × PoolRec)). p.0) (option_map (λ r. (r.name, (slot, r))) r) ≡ option_map (λ (p : List ℕ × Pool). p.0) (entry_of hold puddles r)
+entry_key hold slot puddles None = refl
+entry_key hold slot puddles (Some r) = refl
 
 -- the pools have distinct names where the records have
-pub distinct_entries : (t : Tables) → HasDistinctKeys name_cmp (named t) 0 POOL_RECORDS → HasDistinctKeys name_cmp (entries t) 0 POOL_RECORDS
-distinct_entries t h = HasDistinctKeys-keys name_cmp (named t) (entries t) 0 POOL_RECORDS (λ j. entry_key j (puddles_of t j) (t.pools j)) h
+pub distinct_entries : (hold : Reader) (t : Tables) → HasDistinctKeys name_cmp (named t) 0 POOL_RECORDS → HasDistinctKeys name_cmp (entries hold t) 0 POOL_RECORDS
+distinct_entries hold t h = HasDistinctKeys-keys name_cmp (named t) (entries hold t) 0 POOL_RECORDS (λ j. entry_key hold j (puddles_of t j) (t.pools j)) h
 
 itself_free_for : (name : List ℕ) (e : Option (List ℕ × Pool)) (p : Pool) → e ≡ Some (name, p) → is_free_for name_cmp name e ≡ true
 itself_free_for name e p is = ap (is_free_for name_cmp name) is ∙ ap is_eq (tied_itself nat_list_cmp_total name)
@@ -57,25 +57,25 @@ unfolding puddles_of
 puddles_of-pool t slot now s = refl
 
 module _ (t : Tables) (slot : ℕ) (r : PoolRec) (distinct : HasDistinctKeys name_cmp (named t) 0 POOL_RECORDS) (within : slot < POOL_RECORDS) (used : t.pools slot ≡ Some r) where
-  entry_there : entries t slot ≡ Some (r.name, pool_of r (puddles_of t slot))
-  entry_there = ap (entry_of (puddles_of t slot)) used
+  entry_there : (hold : Reader) → entries hold t slot ≡ Some (r.name, pool_of hold r (puddles_of t slot))
+  entry_there hold = ap (entry_of hold (puddles_of t slot)) used
 
   -- no other pool has the name
-  name_alone : (j : ℕ) → 0 ≤ j → j < 0 + POOL_RECORDS → (j ≡ slot → ⊥) → under name_cmp r.name (entries t j) ≡ None
-  name_alone = alone_there name_cmp nat_list_cmp_total (entries t) 0 POOL_RECORDS slot (r.name, pool_of r (puddles_of t slot)) (distinct_entries t distinct) (omega arith) (omega arith) entry_there
+  name_alone : (hold : Reader) (j : ℕ) → 0 ≤ j → j < 0 + POOL_RECORDS → (j ≡ slot → ⊥) → under name_cmp r.name (entries hold t j) ≡ None
+  name_alone hold = alone_there name_cmp nat_list_cmp_total (entries hold t) 0 POOL_RECORDS slot (r.name, pool_of hold r (puddles_of t slot)) (distinct_entries hold t distinct) (omega arith) (omega arith) (entry_there hold)
 
   -- the record is changed, but for its name
-  pub pools_changed : (now : PoolRec) → now.name ≡ r.name → pools_of (with_pool_at slot (Some now) t) ≡ put name_cmp r.name (pool_of now (puddles_of t slot)) (pools_of t)
+  pub pools_changed : (hold : Reader) (now : PoolRec) → now.name ≡ r.name → pools_of hold (with_pool_at slot (Some now) t) ≡ put name_cmp r.name (pool_of hold now (puddles_of t slot)) (pools_of hold t)
   unfolding pools_of
-  pools_changed now name =
+  pools_changed hold now name =
       let after = with_pool_at slot (Some now) t in
-      keyed-put name_cmp nat_list_cmp_total same_name (entries t) (entries after) 0 POOL_RECORDS slot r.name (pool_of now (puddles_of t slot)) (record {
+      keyed-put name_cmp nat_list_cmp_total same_name (entries hold t) (entries hold after) 0 POOL_RECORDS slot r.name (pool_of hold now (puddles_of t slot)) (record {
         low = omega arith;
         high = omega arith;
-        others = λ j other. ap₂ entry_of (puddles_of-pool t slot (Some now) j) (changed_elsewhere slot (Some now) t.pools j other);
-        is = ap₂ entry_of (puddles_of-pool t slot (Some now) slot) (changed_here slot (Some now) t.pools) ∙ ap (λ n. Some (n, pool_of now (puddles_of t slot))) name;
-        was = itself_free_for r.name (entries t slot) (pool_of r (puddles_of t slot)) entry_there;
-        alone = name_alone;
+        others = λ j other. ap₂ (entry_of hold) (puddles_of-pool t slot (Some now) j) (changed_elsewhere slot (Some now) t.pools j other);
+        is = ap₂ (entry_of hold) (puddles_of-pool t slot (Some now) slot) (changed_here slot (Some now) t.pools) ∙ ap (λ n. Some (n, pool_of hold now (puddles_of t slot))) name;
+        was = itself_free_for r.name (entries hold t slot) (pool_of hold r (puddles_of t slot)) (entry_there hold);
+        alone = name_alone hold;
       })
 
   -- ---- a pool is dropped
@@ -95,17 +95,17 @@ module _ (t : Tables) (slot : ℕ) (r : PoolRec) (distinct : HasDistinctKeys nam
       let each : (frame : ℕ) → members (without_pool_at slot t) s frame ≡ members t s frame = λ frame. other_pool s frame other (t.puddles frame) in
       λ p. keyed nat_cmp (λ frame. each frame p) 0 t.frames
 
-  pub pools_dropped : pools_of (without_pool_at slot t) ≡ without name_cmp r.name (pools_of t)
+  pub pools_dropped : (hold : Reader) → pools_of hold (without_pool_at slot t) ≡ without name_cmp r.name (pools_of hold t)
   unfolding pools_of
-  pools_dropped =
+  pools_dropped hold =
       let after = without_pool_at slot t in
-      keyed-without name_cmp nat_list_cmp_total same_name (entries t) (entries after) 0 POOL_RECORDS slot r.name (record {
+      keyed-without name_cmp nat_list_cmp_total same_name (entries hold t) (entries hold after) 0 POOL_RECORDS slot r.name (record {
         low = omega arith;
         high = omega arith;
-        others = λ j other. ap₂ entry_of (puddles_of-dropped j other) (changed_elsewhere slot None t.pools j other);
-        is = ap (entry_of (puddles_of after slot)) (changed_here slot None t.pools);
-        was = itself_free_for r.name (entries t slot) (pool_of r (puddles_of t slot)) entry_there;
-        alone = name_alone;
+        others = λ j other. ap₂ (entry_of hold) (puddles_of-dropped j other) (changed_elsewhere slot None t.pools j other);
+        is = ap (entry_of hold (puddles_of after slot)) (changed_here slot None t.pools);
+        was = itself_free_for r.name (entries hold t slot) (pool_of hold r (puddles_of t slot)) (entry_there hold);
+        alone = name_alone hold;
       })
 
 -- ---- a pool is made
@@ -159,21 +159,21 @@ module _ (t : Tables) (slot frame : ℕ) (r : PoolRec) (m : Member) (h : IsMade 
       })
       ∙ ap (put nat_cmp m.ordinal (frame, m.puddle)) (keyed-none nat_cmp (members t slot) 0 t.frames before)
 
-  entry_none : (j : ℕ) → under name_cmp r.name (named t j) ≡ None → under name_cmp r.name (entries t j) ≡ None
-  entry_none j none = no_key name_cmp r.name (named t j) (entries t j) (entry_key j (puddles_of t j) (t.pools j)) none
+  entry_none : (hold : Reader) (j : ℕ) → under name_cmp r.name (named t j) ≡ None → under name_cmp r.name (entries hold t j) ≡ None
+  entry_none hold j none = no_key name_cmp r.name (named t j) (entries hold t j) (entry_key hold j (puddles_of t j) (t.pools j)) none
 
-  pub pools_made : pools_of (made slot frame r m t) ≡ put name_cmp r.name (pool_of r ((m.ordinal, (frame, m.puddle)) ∷ [])) (pools_of t)
+  pub pools_made : (hold : Reader) → pools_of hold (made slot frame r m t) ≡ put name_cmp r.name (pool_of hold r ((m.ordinal, (frame, m.puddle)) ∷ [])) (pools_of hold t)
   unfolding pools_of
-  pools_made =
+  pools_made hold =
       let after = made slot frame r m t in
       let below = h.slot_below in
-      keyed-put name_cmp nat_list_cmp_total same_name (entries t) (entries after) 0 POOL_RECORDS slot r.name (pool_of r ((m.ordinal, (frame, m.puddle)) ∷ [])) (record {
+      keyed-put name_cmp nat_list_cmp_total same_name (entries hold t) (entries hold after) 0 POOL_RECORDS slot r.name (pool_of hold r ((m.ordinal, (frame, m.puddle)) ∷ [])) (record {
         low = omega arith;
         high = omega arith;
-        others = λ j other. ap₂ entry_of (puddles_elsewhere j other) (changed_elsewhere slot (Some r) t.pools j other);
-        is = ap₂ entry_of puddles_of-made (changed_here slot (Some r) t.pools);
-        was = ap (is_free_for name_cmp r.name) (ap (entry_of (puddles_of t slot)) h.slot_free);
-        alone = λ j low high other. entry_none j (first_from_none_each name_cmp r.name (named t) 0 POOL_RECORDS h.new_name j low high);
+        others = λ j other. ap₂ (entry_of hold) (puddles_elsewhere j other) (changed_elsewhere slot (Some r) t.pools j other);
+        is = ap₂ (entry_of hold) puddles_of-made (changed_here slot (Some r) t.pools);
+        was = ap (is_free_for name_cmp r.name) (ap (entry_of hold (puddles_of t slot)) h.slot_free);
+        alone = λ j low high other. entry_none hold j (first_from_none_each name_cmp r.name (named t) 0 POOL_RECORDS h.new_name j low high);
       })
 
 -- the words of both records make it of an image

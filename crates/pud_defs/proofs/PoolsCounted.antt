@@ -16,7 +16,7 @@ use Rattle.pud_defs.specs.declared.records.Puddle.{Puddle}
 use Rattle.pud_defs.specs.Names.{name_cmp}
 use Rattle.pud_defs.specs.Keyed.{put_entry, keyed, count_used}
 use Rattle.pud_defs.specs.Puddles.{Member, is_legal_puddle}
-use Rattle.pud_defs.specs.Tables.{Tables, Pool, member_of, members, puddles_of, pool_of, entries, pools_of}
+use Rattle.pud_defs.specs.Tables.{Tables, Pool, Reader, member_of, members, puddles_of, pool_of, entries, pools_of}
 use Rattle.pud_defs.specs.SoundTables.{is_pool, is_sound_puddle, are_counted, HasSoundTables}
 use Rattle.pud_defs.proofs.Keyed.{HasDistinctKeys, find-keyed, first_from_none, length-keyed}
 use Rattle.pud_defs.proofs.PoolsChanged.{distinct_entries, entry_of}
@@ -102,16 +102,16 @@ count_used-same f g from (suc count) same =
 
 -- ---- the pools
 
-entry_used : (puddles : List (ℕ × (ℕ × Puddle))) (r : Option PoolRec) → is_none (entry_of puddles r) ≡ is_none r
-entry_used puddles None = refl
-entry_used puddles (Some r) = refl
+entry_used : (hold : Reader) (puddles : List (ℕ × (ℕ × Puddle))) (r : Option PoolRec) → is_none (entry_of hold puddles r) ≡ is_none r
+entry_used hold puddles None = refl
+entry_used hold puddles (Some r) = refl
 
 -- there are as many pools as used records
-pub length_pools : (next : ℕ) (t : Tables) → HasSoundTables next t → length (pools_of t) ≡ count_used t.pools 0 POOL_RECORDS
+pub length_pools : (hold : Reader) (next : ℕ) (t : Tables) → HasSoundTables next t → length (pools_of hold t) ≡ count_used t.pools 0 POOL_RECORDS
 unfolding pools_of
-length_pools next t h =
-    length-keyed name_cmp nat_list_cmp_total (entries t) 0 POOL_RECORDS (distinct_entries t (distinct_names next t h))
-    ∙ count_used-same (entries t) t.pools 0 POOL_RECORDS (λ j low high. entry_used (puddles_of t j) (t.pools j))
+length_pools hold next t h =
+    length-keyed name_cmp nat_list_cmp_total (entries hold t) 0 POOL_RECORDS (distinct_entries hold t (distinct_names next t h))
+    ∙ count_used-same (entries hold t) t.pools 0 POOL_RECORDS (λ j low high. entry_used hold (puddles_of t j) (t.pools j))
 
 -- a pool has from 1 to 16 puddles
 pub record HasFewPuddles (t : Tables) (slot : ℕ) : Type 0 where
@@ -214,15 +214,15 @@ module _ (next : ℕ) (t : Tables) (h : HasSoundTables next t) where
   unfolding puddles_of
   length_puddles slot below = length-keyed nat_cmp nat_cmp_total (members t slot) 0 t.frames (distinct_ordinals next t h slot below)
 
-  worth_of : (slot : ℕ) → slot < POOL_RECORDS → (o : Option PoolRec) → t.pools slot ≡ o → worth name_cmp (λ (p : Pool). p.puddles) (entry_of (puddles_of t slot) o) ≡ count_used (members t slot) 0 t.frames
+  worth_of : (hold : Reader) (slot : ℕ) → slot < POOL_RECORDS → (o : Option PoolRec) → t.pools slot ≡ o → worth name_cmp (λ (p : Pool). p.puddles) (entry_of hold (puddles_of t slot) o) ≡ count_used (members t slot) 0 t.frames
   unfolding pool_of
-  worth_of slot below None is = sym (count_used-none (members t slot) 0 t.frames (λ f low high. no_member slot f (omega arith) is))
-  worth_of slot below (Some r) is = length_puddles slot below
+  worth_of hold slot below None is = sym (count_used-none (members t slot) 0 t.frames (λ f low high. no_member slot f (omega arith) is))
+  worth_of hold slot below (Some r) is = length_puddles slot below
 
   -- the used frames are the puddles of all pools
-  pub sum_puddles : IsMasked t → sum_by (λ (e : List ℕ × Pool). e.1.puddles) (pools_of t) ≡ count_used t.puddles 0 t.frames
+  pub sum_puddles : (hold : Reader) → IsMasked t → sum_by (λ (e : List ℕ × Pool). e.1.puddles) (pools_of hold t) ≡ count_used t.puddles 0 t.frames
   unfolding pools_of
-  sum_puddles masked =
-      sum-keyed name_cmp (λ (p : Pool). p.puddles) nat_list_cmp_total (entries t) 0 POOL_RECORDS (distinct_entries t (distinct_names next t h))
-      ∙ sum_places-same (λ j. worth name_cmp (λ (p : Pool). p.puddles) (entries t j)) (λ s. count_used (members t s) 0 t.frames) 0 POOL_RECORDS (λ s low high. worth_of s (omega arith) (t.pools s) refl)
+  sum_puddles hold masked =
+      sum-keyed name_cmp (λ (p : Pool). p.puddles) nat_list_cmp_total (entries hold t) 0 POOL_RECORDS (distinct_entries hold t (distinct_names next t h))
+      ∙ sum_places-same (λ j. worth name_cmp (λ (p : Pool). p.puddles) (entries hold t j)) (λ s. count_used (members t s) 0 t.frames) 0 POOL_RECORDS (λ s low high. worth_of hold s (omega arith) (t.pools s) refl)
       ∙ count-classes t 0 t.frames (known_slots masked)

@@ -11,8 +11,11 @@ use Rattle.pud_defs.specs.declared.machine.Refusal.TheVariants as refusals
 use Rattle.pud_defs.specs.Types.{map_of}
 use Rattle.pud_defs.specs.Spaces.{Owner}
 use Rattle.pud_defs.specs.World.{World}
+use Rattle.pud_defs.specs.PoolChanges.{pools_read, with_type_defined}
+use Rattle.pud_defs.specs.declared.objects.Val.{Val}
+use Rattle.pud_defs.specs.declared.objects.Val.TheVariants.{Num, Ref}
 use Rattle.pud_defs.specs.Grammar.{command_of}
-use Rattle.pud_defs.specs.Step.{Answer, step_answer, is_other, is_clash, is_full, holds, refusal_of, after, text_for, text_or_ok, answer, answer_unless, answer_by, world_by, unless_refused, Step}
+use Rattle.pud_defs.specs.Step.{Answer, step_answer, is_other, is_clash, is_full, holds, refusal_of, after, text_for, field_for, value_or_ok, text_or, answer, answer_unless, answer_by, world_by, unless_refused, Step}
 use Rattle.pud_defs.specs.Step.Answer.{of_reply}
 use Rattle.pud_defs.specs.Run.{is_cut}
 use Rattle.pud_defs.proofs.TypeLists.{with_type-same}
@@ -45,9 +48,11 @@ pub define-new : (w : World) (id map : ℕ) → map_of id w.stored.types ≡ Non
 define-new w id map e h = refused_by w id map None false e (lt-leb TYPE_RECORDS _ h)
 
 -- a definition that stands leaves the world
-pub after-same : (w : World) (id map : ℕ) → T (is_sorted nat_cmp w.stored.types) → map_of id w.stored.types ≡ Some map → after w (Define id map) ≡ w
-unfolding after
-after-same w id map sorted e = ap (λ types. record w { stored = record w.stored { types = types } }) (with_type-same id map w.stored.types sorted e)
+pub after-same : (w : World) (id map : ℕ) → T (is_sorted nat_cmp w.stored.types) → pools_read w.stored.types w.stored.pools ≡ w.stored.pools → map_of id w.stored.types ≡ Some map → after w (Define id map) ≡ w
+unfolding after with_type_defined
+after-same w id map sorted read e =
+    ap (λ types. record w { stored = record w.stored { types = types; pools = pools_read types w.stored.pools } }) (with_type-same id map w.stored.types sorted e)
+    ∙ ap (λ pools. record w { stored = record w.stored { pools = pools } }) read
 
 -- ---- clients
 
@@ -89,10 +94,10 @@ done_answer w c h = ap (λ o. answer_unless o (answer w c)) h
 pub done_world : (w : World) (c : Command) → refusal_of w c ≡ None → world_by w (Some c) ≡ after w c
 done_world w c h = ap (λ o. unless_refused o w (after w c)) h
 
--- and is answered `ok` alone, where it asks for no text
-pub answer_is_ok : (w : World) (c : Command) → text_for w c ≡ None → refusal_of w c ≡ None → answer_by w (Some c) ≡ of_reply replies.Ok
+-- and is answered `ok` alone, where it asks for no field and no text
+pub answer_is_ok : (w : World) (c : Command) → text_for w c ≡ None → field_for w c ≡ None → refusal_of w c ≡ None → answer_by w (Some c) ≡ of_reply replies.Ok
 unfolding answer
-answer_is_ok w c none h = done_answer w c h ∙ ap text_or_ok none
+answer_is_ok w c no_text no_field h = done_answer w c h ∙ ap₂ (λ field text. text_or (value_or_ok field) text) no_field no_text
 
 -- a line that is no command
 pub step-bad : (w : World) (line : List ℕ) → command_of line ≡ None → Step w line (of_reply (replies.No refusals.Bad)) w
@@ -111,14 +116,16 @@ no_cut_unless : (r : Option Refusal) (done : Answer) → is_cut done ≡ false �
 no_cut_unless None done none = none
 no_cut_unless (Some r) done none = refl
 
-no_cut_in : (text : Option (List ℕ)) → is_cut (text_or_ok text) ≡ false
-no_cut_in None = refl
-no_cut_in (Some text) = refl
+no_cut_in : (field : Option Val) (text : Option (List ℕ)) → is_cut (text_or (value_or_ok field) text) ≡ false
+no_cut_in None None = refl
+no_cut_in (Some (Num v)) None = refl
+no_cut_in (Some (Ref serial)) None = refl
+no_cut_in field (Some text) = refl
 
 no_cut_by : (w : World) (c : Option Command) → is_cut (answer_by w c) ≡ false
 unfolding answer
 no_cut_by w None = refl
-no_cut_by w (Some c) = no_cut_unless (refusal_of w c) (answer w c) (no_cut_in (text_for w c))
+no_cut_by w (Some c) = no_cut_unless (refusal_of w c) (answer w c) (no_cut_in (field_for w c) (text_for w c))
 
 pub step_is_no_cut : (w : World) (line : List ℕ) → is_cut (step_answer w line) ≡ false
 step_is_no_cut w line = no_cut_by w (command_of line)

@@ -1,18 +1,18 @@
 -- What it says that an image stands for a world, point by point: an image with nothing to replay first, and then any.
-use Rattle.std.proofs.Common.{◌≡◌, ◌⊎◌, ◌+◌, inl, inr, Bool, ℕ, ◌<◌, ◌≤◌, true, ◌&&◌, T, length, Option, Some, None, nat_cmp, refl, sym, ap, ◌∙◌, arith, eqb-true, eq-eqb, leb-true, le-leb, subst, false}
+use Rattle.std.proofs.Common.{◌≡◌, ◌⊎◌, ◌+◌, inl, inr, Bool, ℕ, ◌<◌, ◌≤◌, true, ◌&&◌, T, List, length, Option, Some, None, nat_cmp, refl, sym, ap, ap₂, ◌∙◌, arith, eqb-true, eq-eqb, leb-true, le-leb, subst, false}
 use Rattle.std.specs.FinMap.Entries.{is_sorted}
 use Rattle.std.proofs.lemmas.Bool.{and_parts, and_from, cond-true, cond-false, cases_Bool}
 use Rattle.std.proofs.lemmas.Cmp.{nat_cmp_total}
 use Rattle.std.proofs.lemmas.Option.{cond_some}
 use Rattle.pud_defs.specs.declared.layout.TheConstants.{DEVICE_MAGIC, MIN_FRAMES, MAX_FRAMES, NUMBER_LIMIT, MAGIC_WORD, FRAMES_WORD, NEXT_NUMBER_WORD, DAEMON_LOG, LOG_WORDS, TYPE_TABLE, TYPE_RECORDS}
-use Rattle.pud_defs.specs.Layout.{tables_end, device_words}
+use Rattle.pud_defs.specs.Layout.{tables_end, frames_at, device_words}
 use Rattle.pud_defs.specs.Image.{Image, IsSameBelow}
 use Rattle.pud_defs.specs.Keyed.{are_distinct}
 use Rattle.pud_defs.specs.Types.{type_at, types_of, free_type, used_types, map_of, is_sound_type}
 use Rattle.pud_defs.specs.Registry.{frames_of, is_sound, has_magic, has_version, has_room, has_legal_number, has_legal_types, has_sound_tables, has_legal_spaces, has_closed_logs, is_registry, has_legal_log, are_allowed}
-use Rattle.pud_defs.specs.Tables.{tables_of, pools_of}
+use Rattle.pud_defs.specs.Tables.{tables_of}
 use Rattle.pud_defs.specs.SoundTables.{are_sound_tables}
-use Rattle.pud_defs.specs.World.{StoredWorld, stored_by, registry_world, world_of}
+use Rattle.pud_defs.specs.World.{StoredWorld, pools_in, stored_by, registry_world, world_of}
 use Rattle.pud_defs.specs.Entries.{is_idle_gate, log_of}
 use Rattle.pud_defs.specs.Replay.{settled_by, beside_log}
 use Rattle.pud_defs.specs.Spaces.{all_below, are_closed_logs}
@@ -52,7 +52,7 @@ sound_from size image s h =
 stored_from : (size : ℕ) (image : Image) (s : StoredWorld) → StandsFor size image s → stored_by image ≡ s
 unfolding stored_by
 stored_from size image s h =
-    let pools : pools_of (tables_of (frames_of image) image) ≡ s.pools = ap (λ (F : ℕ). pools_of (tables_of F image)) (h.holds Header).frames ∙ (h.holds Pools).pools in
+    let pools : pools_in (types_of image) (frames_of image) image ≡ s.pools = ap₂ (λ (types : List (ℕ × ℕ)) (F : ℕ). pools_in types F image) (h.holds Types).types (h.holds Header).frames ∙ (h.holds Pools).pools in
     λ i. record { frames = (h.holds Header).frames i; machine = (h.holds Header).machine i; next_number = (h.holds Header).next_number i; types = (h.holds Types).types i; pools = pools i }
 
 pub registry_world_standing : (size : ℕ) (image : Image) (s : StoredWorld) → StandsFor size image s → registry_world size image ≡ Some s
@@ -171,9 +171,9 @@ standing_beside size image s h =
     standing_same size (beside_log DAEMON_LOG image) image s h (λ k beside below. sym (beside_log-outside DAEMON_LOG image k (outside_log DAEMON_LOG k (around_log k beside))))
 
 -- an image that is the same up to the clients' logs, and whose registered logs are closed, stands for the same world
-pub standing_logs : (size : ℕ) (i j : Image) (s : StoredWorld) → StandsFor size i s → IsSameBelow (tables_end s.frames) i j → are_closed_logs j s.frames ≡ true → StandsFor size j s
-standing_logs size i j s h same logs =
-    standing_with_spaces size i j s h (λ k below not. sym (same.at k below))
+pub standing_logs : (size : ℕ) (i j : Image) (s : StoredWorld) → StandsFor size i s → IsSameBelow (tables_end s.frames) i j → ((k : ℕ) → frames_at s.frames ≤ k → k < device_words s.frames → j k ≡ i k) → are_closed_logs j s.frames ≡ true → StandsFor size j s
+standing_logs size i j s h same frames logs =
+    standing_with_spaces size i j s h (λ k below not. sym (same.at k below)) frames
     (record { spaces = are_legal_spaces-same j i (λ k low high. sym (same.at k (omega arith))) ∙ (h.holds Spaces).spaces; logs = logs })
 
 -- ---- an image without the device magic stands for nothing

@@ -10,6 +10,6 @@ base_at k = SPACE_START + RANGE_BYTES * k
 abbrev pub is_legal_base : ℕ → Bool
 is_legal_base v = nat_le SPACE_START v && nat_lt v (SPACE_START + SPACE_BYTES) && (v % RANGE_BYTES) == 0
 
--- so many steps of a puddle may be rewritten
+-- all steps of a puddle are rewritten: no other frontier is sound as long as nothing rewrites on demand
 abbrev pub is_legal_frontier : ℕ → Bool
-is_legal_frontier v = nat_le v LAST_FRONTIER
+is_legal_frontier v = v == LAST_FRONTIER

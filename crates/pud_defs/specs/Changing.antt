@@ -1,7 +1,7 @@
 -- Which part of the world a command may change, and which file it may write.
 use Rattle.std.specs.Prelude.{◌≡◌, ℕ, List, Option, Some, None}
 use Rattle.pud_defs.specs.declared.machine.Command.{Command}
-use Rattle.pud_defs.specs.declared.machine.Command.TheVariants.{Client, Leave, Define, Cut, Arm, Chmod, Pools}
+use Rattle.pud_defs.specs.declared.machine.Command.TheVariants.{Client, Leave, Define, Cut, Arm, Chmod, Pools, Get}
 use Rattle.pud_defs.specs.declared.machine.Command.TheVariants as commands
 use Rattle.pud_defs.specs.World.{World}
 use Rattle.pud_defs.specs.Grammar.{command_of}
@@ -19,13 +19,14 @@ part_of (Define id map) = types
 part_of (commands.Pool client name mode) = pools
 part_of (Chmod client name mode) = pools
 part_of (commands.Drop client name) = pools
+part_of (Get client name s f) = nothing
 part_of Pools = nothing
 part_of (Cut pick) = clients
 part_of (Arm step pick) = nothing
 
 -- the world w, but for this part, which is as v has it
 abbrev pub with_part : Part → World → World → World
-with_part types v w = record w { stored = record w.stored { types = v.stored.types } }
+with_part types v w = record w { stored = record w.stored { types = v.stored.types; pools = v.stored.pools } }
 with_part pools v w = record w { stored = record w.stored { next_number = v.stored.next_number; pools = v.stored.pools } }
 with_part clients v w = record w { clients = v.clients }
 with_part nothing v w = w

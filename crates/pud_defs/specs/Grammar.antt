@@ -3,7 +3,7 @@ use Rattle.std.specs.Prelude.{IsTrue, ℕ, ◌<◌, ◌≤◌, ◌+◌, ◌-◌,
 use Rattle.std.specs.List.{list_all, slice_split}
 use Rattle.pud_defs.specs.declared.layout.TheConstants.{LINE_LIMIT, CLIENTS, MAX_OWNER_ID, MAX_TYPE_ID, MAX_FIELDS, MAX_ARMED_STEP}
 use Rattle.pud_defs.specs.declared.machine.Command.{Command}
-use Rattle.pud_defs.specs.declared.machine.Command.TheVariants.{Client, Leave, Define, Cut, Arm, Chmod, Pools}
+use Rattle.pud_defs.specs.declared.machine.Command.TheVariants.{Client, Leave, Define, Cut, Arm, Chmod, Pools, Get}
 use Rattle.pud_defs.specs.declared.machine.Command.TheVariants as commands
 use Rattle.pud_defs.specs.declared.records.TheConstants.{NAME_BYTES}
 use Rattle.pud_defs.specs.Modes.{is_legal_mode}
@@ -92,6 +92,22 @@ armed_step bytes = number_within 1 (MAX_ARMED_STEP + 1) bytes
 abbrev pub loss_pick : List ℕ → Option ℕ
 loss_pick bytes = number_within 0 (2 ^ 64) bytes
 
+-- the serial of an object, in 64 bits
+abbrev pub object_serial : List ℕ → Option ℕ
+object_serial bytes = number_within 1 (2 ^ 64) bytes
+
+abbrev pub field_number : List ℕ → Option ℕ
+field_number bytes = number_within 0 MAX_FIELDS bytes
+
+-- a field by the pieces of its place: the serial of its object, and its number
+abbrev pub field_by : List (List ℕ) → Option (ℕ × ℕ)
+field_by (object ∷ field ∷ []) = option_and_then (λ s. option_map (λ f. (s, f)) (field_number field)) (object_serial object)
+field_by pieces = None
+
+-- a field of an object: both joined by a point
+unfoldable pub field_place : List ℕ → Option (ℕ × ℕ)
+field_place bytes = field_by (split_at 46 bytes)
+
 -- the command that the arguments of a line are
 abbrev pub Parser : Type 0
 Parser = List (List ℕ) → Option Command
@@ -130,6 +146,10 @@ chmod_by arguments = taking client_number (λ client. taking pool_name (λ name.
 unfoldable pub drop_by : Parser
 drop_by arguments = taking client_number (λ client. taking pool_name (λ name. at_end (commands.Drop client name))) arguments
 
+-- `get C P o.f`
+unfoldable pub get_by : Parser
+get_by arguments = taking client_number (λ client. taking pool_name (λ name. taking field_place (λ field. at_end (Get client name field.0 field.1)))) arguments
+
 -- `pools`
 unfoldable pub pools_by : Parser
 pools_by arguments = at_end Pools arguments
@@ -151,6 +171,7 @@ lines =
     ∷ (codes "pool", pool_line_by)
     ∷ (codes "chmod", chmod_by)
     ∷ (codes "drop", drop_by)
+    ∷ (codes "get", get_by)
     ∷ (codes "pools", pools_by)
     ∷ (codes "cut", cut_by)
     ∷ (codes "arm", arm_by)
@@ -181,6 +202,7 @@ IsLegalCommand (Define id map) = IsTrue (is_legal_type_id id) × IsTrue (is_lega
 IsLegalCommand (commands.Pool client name mode) = (client < CLIENTS) × IsName name × IsTrue (is_legal_name name) × IsTrue (is_legal_mode mode)
 IsLegalCommand (Chmod client name mode) = (client < CLIENTS) × IsName name × IsTrue (is_legal_name name) × IsTrue (is_legal_mode mode)
 IsLegalCommand (commands.Drop client name) = (client < CLIENTS) × IsName name × IsTrue (is_legal_name name)
+IsLegalCommand (Get client name s f) = (client < CLIENTS) × IsName name × IsTrue (is_legal_name name) × (1 ≤ s) × (s < 2 ^ 64) × (f < MAX_FIELDS)
 IsLegalCommand Pools = Unit {0}
 IsLegalCommand (Cut pick) = pick < 2 ^ 64
 IsLegalCommand (Arm step pick) = (1 ≤ step) × (step ≤ MAX_ARMED_STEP) × (pick < 2 ^ 64)

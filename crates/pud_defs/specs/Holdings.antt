@@ -18,6 +18,11 @@ held_as st (Some g) = Sound g
 abbrev pub held_by : List (ℕ × ℕ) → Stored → Holding
 held_by types st = held_as st (graph_of types st)
 
+-- the graph, where there is one
+abbrev pub graph_held : Holding → Option Graph
+graph_held (Sound g) = Some g
+graph_held (Wild st) = None
+
 -- a graph, or what is stored read anew by these types
 abbrev pub read_anew : List (ℕ × ℕ) → Holding → Holding
 read_anew types (Sound g) = Sound g

@@ -32,4 +32,5 @@ pub mod Changing
 pub mod Run
 pub mod Texts
 pub mod LayoutText
+pub mod CheckText
 pub mod Stands

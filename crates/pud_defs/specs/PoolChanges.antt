@@ -1,11 +1,15 @@
 -- What makes, changes and drops a pool of a stored world.
-use Rattle.std.specs.Prelude.{ℕ, ◌+◌, Bool, ◌||◌, nat_le, nat_lt, List, length, sum_by, Option, option_map, unwrap_or}
+use Rattle.std.specs.Prelude.{ℕ, ◌+◌, Bool, ◌||◌, nat_le, nat_lt, List, length, map, sum_by, Option, option_map, unwrap_or}
 use Rattle.std.specs.FinMap.Entries.{put, find}
 use Rattle.pud_defs.specs.declared.layout.TheConstants.{NUMBER_LIMIT}
 use Rattle.pud_defs.specs.declared.records.TheConstants.{POOL_RECORDS}
 use Rattle.pud_defs.specs.Spaces.{Owner}
 use Rattle.pud_defs.specs.Names.{name_cmp}
 use Rattle.pud_defs.specs.Keyed.{without}
+use Rattle.pud_defs.specs.Graph.{empty_graph}
+use Rattle.pud_defs.specs.Holdings.{read_anew}
+use Rattle.pud_defs.specs.Holdings.Holding.{Sound}
+use Rattle.pud_defs.specs.Types.{with_type}
 use Rattle.pud_defs.specs.Tables.{Pool}
 use Rattle.pud_defs.specs.World.{StoredWorld}
 
@@ -35,9 +39,9 @@ used_frames s = sum_by (λ e. e.1.puddles) s.pools
 abbrev pub lacks_frames : StoredWorld → ℕ → Bool
 lacks_frames s more = nat_lt s.frames (used_frames s + more)
 
--- a pool of one puddle
+-- a pool of one puddle, in which nothing was made yet
 abbrev pub new_pool : Owner → (mode number : ℕ) → Pool
-new_pool owner mode number = record { owner = owner; mode = mode; number = number; puddles = 1 }
+new_pool owner mode number = record { owner = owner; mode = mode; number = number; puddles = 1; holding = Sound empty_graph }
 
 -- the world with a new pool of this name
 unfoldable pub with_new_pool : List ℕ → Owner → ℕ → StoredWorld → StoredWorld
@@ -56,3 +60,17 @@ with_pool_mode name mode s = record s { pools = changed_pool name (λ p. record 
 -- the world without the pool of this name
 unfoldable pub without_pool : List ℕ → StoredWorld → StoredWorld
 without_pool name s = record s { pools = without name_cmp name s.pools }
+
+-- ---- a type is defined
+
+-- the pool as these types read it
+abbrev pub read_by : List (ℕ × ℕ) → Pool → Pool
+read_by types p = record p { holding = read_anew types p.holding }
+
+-- the pools as these types read them
+abbrev pub pools_read : List (ℕ × ℕ) → List (List ℕ × Pool) → List (List ℕ × Pool)
+pools_read types pools = map (λ e. (e.0, read_by types e.1)) pools
+
+-- the world with a type defined, which may make a graph of what a wild pool holds
+unfoldable pub with_type_defined : (id map : ℕ) → StoredWorld → StoredWorld
+with_type_defined id map s = let types = with_type id map s.types in record s { types = types; pools = pools_read types s.pools }

@@ -1,18 +1,23 @@
 -- What a line does to the world, and what is answered.
-use Rattle.std.specs.Prelude.{◌≡◌, ℕ, Bool, false, not, ◌&&◌, nat_le, ◌==◌, List, [], ◌∷◌, length, find, Option, Some, None, is_none, is_some, unwrap_or}
+use Rattle.std.specs.Prelude.{◌≡◌, ℕ, Bool, false, not, ◌&&◌, nat_le, ◌==◌, List, [], ◌∷◌, length, find, slice_get, Option, Some, None, is_none, is_some, unwrap_or}
 use Rattle.pud_defs.specs.declared.layout.TheConstants.{TYPE_RECORDS}
 use Rattle.pud_defs.specs.declared.machine.Command.{Command}
-use Rattle.pud_defs.specs.declared.machine.Command.TheVariants.{Client, Leave, Define, Cut, Arm, Chmod, Pools}
+use Rattle.pud_defs.specs.declared.machine.Command.TheVariants.{Client, Leave, Define, Cut, Arm, Chmod, Pools, Get}
 use Rattle.pud_defs.specs.declared.machine.Command.TheVariants as commands
 use Rattle.pud_defs.specs.declared.machine.Reply.{Reply}
 use Rattle.pud_defs.specs.declared.machine.Reply.TheVariants as replies
 use Rattle.pud_defs.specs.declared.machine.Refusal.{Refusal}
 use Rattle.pud_defs.specs.declared.machine.Refusal.TheVariants as refusals
-use Rattle.pud_defs.specs.Types.{map_of, with_type}
+use Rattle.pud_defs.specs.Types.{map_of}
 use Rattle.pud_defs.specs.Spaces.{Owner, owner, with_owner}
+use Rattle.pud_defs.specs.declared.objects.Val.{Val}
+use Rattle.pud_defs.specs.declared.objects.Val.TheVariants.{Num, Ref}
+use Rattle.pud_defs.specs.Rights.{may_read}
+use Rattle.pud_defs.specs.Graph.{Graph, Object, object_in}
+use Rattle.pud_defs.specs.Holdings.{graph_held}
 use Rattle.pud_defs.specs.Tables.{Pool}
 use Rattle.pud_defs.specs.World.{StoredWorld, World, restart}
-use Rattle.pud_defs.specs.PoolChanges.{pool_named, is_full_of_pools, lacks_frames, with_new_pool, with_pool_mode, without_pool}
+use Rattle.pud_defs.specs.PoolChanges.{pool_named, is_full_of_pools, lacks_frames, with_new_pool, with_pool_mode, without_pool, with_type_defined}
 use Rattle.pud_defs.specs.Listing.{pools_text}
 use Rattle.pud_defs.specs.Grammar.{command_of}
 
@@ -29,6 +34,7 @@ causes (Define id map) = refusals.Clash ∷ refusals.Full ∷ []
 causes (commands.Pool client name mode) = refusals.Client ∷ refusals.Exists ∷ refusals.Full ∷ refusals.Space ∷ []
 causes (Chmod client name mode) = refusals.Client ∷ refusals.Pool ∷ refusals.Denied ∷ []
 causes (commands.Drop client name) = refusals.Client ∷ refusals.Pool ∷ refusals.Denied ∷ []
+causes (Get client name s f) = refusals.Client ∷ refusals.Pool ∷ refusals.Wild ∷ refusals.Denied ∷ refusals.Object ∷ refusals.Field ∷ []
 causes Pools = []
 causes (Cut pick) = []
 causes (Arm step pick) = []
@@ -41,6 +47,7 @@ client_of (Define id map) = None
 client_of (commands.Pool client name mode) = Some client
 client_of (Chmod client name mode) = Some client
 client_of (commands.Drop client name) = Some client
+client_of (Get client name s f) = Some client
 client_of Pools = None
 client_of (Cut pick) = None
 client_of (Arm step pick) = None
@@ -60,6 +67,7 @@ abbrev pub name_in : Command → Option (List ℕ)
 name_in (commands.Pool client name mode) = Some name
 name_in (Chmod client name mode) = Some name
 name_in (commands.Drop client name) = Some name
+name_in (Get client name s f) = Some name
 name_in c = None
 
 -- the pool of the name, where one is named and is there
@@ -72,6 +80,46 @@ abbrev pub owns : Option Owner → Option Pool → Bool
 owns None pool = false
 owns (Some who) None = false
 owns (Some who) (Some pool) = who.uid == pool.owner.uid
+
+-- the pool's mode lets the client read it
+abbrev pub reads : Option Owner → Option Pool → Bool
+reads None pool = false
+reads (Some who) None = false
+reads (Some who) (Some pool) = may_read pool.mode pool.owner who
+
+-- the command is allowed: one that reads a pool by the pool's mode, any other by its owner
+abbrev pub is_allowed : Command → Option Owner → Option Pool → Bool
+is_allowed (Get client name s f) who pool = reads who pool
+is_allowed c who pool = owns who pool
+
+-- the graph of the pool, where there is one that is not wild
+abbrev pub graph_in : Option Pool → Option Graph
+graph_in None = None
+graph_in (Some pool) = graph_held pool.holding
+
+-- the object that a command names, where the graph has it
+abbrev pub object_named : Option Graph → Command → Option Object
+object_named None c = None
+object_named (Some g) (Get client name s f) = object_in s g
+object_named (Some g) c = None
+
+-- what the field holds that a command names, where the object has it
+abbrev pub field_named : Option Object → Command → Option Val
+field_named None c = None
+field_named (Some object) (Get client name s f) = slice_get object.fields f
+field_named (Some object) c = None
+
+-- the pool that a command names
+abbrev pub pool_for : World → Command → Option Pool
+pool_for w c = pool_by_name w.stored (name_in c)
+
+-- the object that it names
+abbrev pub object_for : World → Command → Option Object
+object_for w c = object_named (graph_in (pool_for w c)) c
+
+-- what the field holds that it names
+abbrev pub field_for : World → Command → Option Val
+field_for w c = field_named (object_for w c) c
 
 abbrev pub is_other : ℕ → Option ℕ → Bool
 is_other map None = false
@@ -106,9 +154,12 @@ unfoldable pub holds : World → Command → Refusal → Bool
 holds w c refusals.Bad = false
 holds w c refusals.Client = not (is_present w.clients (client_of c))
 holds w c refusals.Taken = is_present w.clients (client_of c)
-holds w c refusals.Pool = is_none (pool_by_name w.stored (name_in c))
-holds w c refusals.Exists = is_some (pool_by_name w.stored (name_in c))
-holds w c refusals.Denied = not (owns (acting w.clients (client_of c)) (pool_by_name w.stored (name_in c)))
+holds w c refusals.Pool = is_none (pool_for w c)
+holds w c refusals.Exists = is_some (pool_for w c)
+holds w c refusals.Wild = is_none (graph_in (pool_for w c))
+holds w c refusals.Denied = not (is_allowed c (acting w.clients (client_of c)) (pool_for w c))
+holds w c refusals.Object = is_none (object_for w c)
+holds w c refusals.Field = is_none (field_for w c)
 holds w c refusals.Clash = clashes w.stored.types c
 holds w c refusals.Full = overfills w.stored c
 holds w c refusals.Space = overflows w.stored c
@@ -125,10 +176,11 @@ owner_acting clients client = unwrap_or (clients client) (owner 0 0)
 unfoldable pub after : World → Command → World
 after w (Client client uid gid) = record w { clients = with_owner client (Some (owner uid gid)) w.clients }
 after w (Leave client) = record w { clients = with_owner client None w.clients }
-after w (Define id map) = record w { stored = record w.stored { types = with_type id map w.stored.types } }
+after w (Define id map) = record w { stored = with_type_defined id map w.stored }
 after w (commands.Pool client name mode) = record w { stored = with_new_pool name (owner_acting w.clients client) mode w.stored }
 after w (Chmod client name mode) = record w { stored = with_pool_mode name mode w.stored }
 after w (commands.Drop client name) = record w { stored = without_pool name w.stored }
+after w (Get client name s f) = w
 after w Pools = w
 after w (Cut pick) = restart w
 after w (Arm step pick) = w
@@ -138,14 +190,20 @@ abbrev pub text_for : World → Command → Option (List ℕ)
 text_for w Pools = Some (pools_text w.stored)
 text_for w c = None
 
--- the text, or else `ok` alone
-abbrev pub text_or_ok : Option (List ℕ) → Answer
-text_or_ok None = of_reply replies.Ok
-text_or_ok (Some text) = of_text text
+-- the value that a field holds, or else `ok` alone
+abbrev pub value_or_ok : Option Val → Reply
+value_or_ok None = replies.Ok
+value_or_ok (Some (Num v)) = replies.Num v
+value_or_ok (Some (Ref serial)) = replies.Ref serial
+
+-- the text, or else the reply
+abbrev pub text_or : Reply → Option (List ℕ) → Answer
+text_or reply None = of_reply reply
+text_or reply (Some text) = of_text text
 
 -- the answer to a command that is not refused
 unfoldable pub answer : World → Command → Answer
-answer w c = text_or_ok (text_for w c)
+answer w c = text_or (value_or_ok (field_for w c)) (text_for w c)
 
 -- the answer: the refusal, where there is one
 abbrev pub answer_unless : Option Refusal → Answer → Answer

@@ -1,5 +1,5 @@
 -- All that is read of the pool table and the puddle table, and the pools that they stand for.
-use Rattle.std.specs.Prelude.{ℕ, ◌+◌, nat_lt, ◌==◌, cond, List, length, Option, Some, None, option_map}
+use Rattle.std.specs.Prelude.{ℕ, ◌+◌, nat_lt, ◌==◌, cond, List, length, map, Option, Some, None, option_map}
 use Rattle.std.specs.Ordering.{nat_cmp}
 use Rattle.std.specs.FinMap.Entries.{find}
 use Rattle.pud_defs.specs.declared.records.TheConstants.{POOL_RECORDS}
@@ -8,6 +8,7 @@ use Rattle.pud_defs.specs.declared.records.PuddleRec.{PuddleRec}
 use Rattle.pud_defs.specs.declared.records.Puddle.{Puddle}
 use Rattle.pud_defs.specs.Image.{Image}
 use Rattle.pud_defs.specs.Spaces.{Owner, owner}
+use Rattle.pud_defs.specs.Holdings.{Holding}
 use Rattle.pud_defs.specs.Names.{name_cmp}
 use Rattle.pud_defs.specs.Keyed.{keyed}
 use Rattle.pud_defs.specs.Pools.{pool_at, pool_read}
@@ -60,21 +61,30 @@ records_of t = keyed name_cmp (named t) 0 POOL_RECORDS
 abbrev pub pool_in : Tables → List ℕ → Option (ℕ × PoolRec)
 pool_in t name = option_map (λ p. (p.0, pool_read p.1)) (find name_cmp name (records_of t))
 
--- A pool: its owner and group, its mode, its UUID number, and how many puddles it has.
+-- A pool: its owner and group, its mode, its UUID number, how many puddles it has, and what they hold.
 pub record Pool : Type 0 where
   pub owner : Owner
   pub mode : ℕ
   pub number : ℕ
   pub puddles : ℕ
+  pub holding : Holding
+
+-- what puddles hold that are given by their ordinals, each with its frame
+abbrev pub Reader : Type 0
+Reader = List (ℕ × Puddle) → Holding
+
+-- a pool's puddles without their ordinals
+abbrev pub listed : List (ℕ × (ℕ × Puddle)) → List (ℕ × Puddle)
+listed puddles = map (λ e. e.1) puddles
 
 -- the pool of this record and these puddles
-unfoldable pub pool_of : PoolRec → List (ℕ × (ℕ × Puddle)) → Pool
-pool_of r puddles = record { owner = owner r.uid r.gid; mode = r.mode; number = r.number; puddles = length puddles }
+unfoldable pub pool_of : Reader → PoolRec → List (ℕ × (ℕ × Puddle)) → Pool
+pool_of hold r puddles = record { owner = owner r.uid r.gid; mode = r.mode; number = r.number; puddles = length puddles; holding = hold (listed puddles) }
 
 -- the pool of a slot, under its name
-abbrev pub entries : Tables → ℕ → Option (List ℕ × Pool)
-entries t slot = option_map (λ r. (r.name, pool_of r (puddles_of t slot))) (t.pools slot)
+abbrev pub entries : Reader → Tables → ℕ → Option (List ℕ × Pool)
+entries hold t slot = option_map (λ r. (r.name, pool_of hold r (puddles_of t slot))) (t.pools slot)
 
 -- the pools by ascending names
-unfoldable pub pools_of : Tables → List (List ℕ × Pool)
-pools_of t = keyed name_cmp (entries t) 0 POOL_RECORDS
+unfoldable pub pools_of : Reader → Tables → List (List ℕ × Pool)
+pools_of hold t = keyed name_cmp (entries hold t) 0 POOL_RECORDS

@@ -5,6 +5,7 @@ use Rattle.pud_defs.specs.Layout.{frames_at}
 use Rattle.pud_defs.specs.Image.{Image}
 use Rattle.pud_defs.specs.Replay.{settled_by}
 use Rattle.pud_defs.specs.Types.{types_of}
+use Rattle.pud_defs.specs.Holdings.{holding_in}
 use Rattle.pud_defs.specs.Tables.{Pool, tables_of, pools_of}
 use Rattle.pud_defs.specs.Spaces.{Owner}
 use Rattle.pud_defs.specs.Registry.{frames_of, has_legal_log, is_registry}
@@ -18,9 +19,19 @@ pub record StoredWorld : Type 0 where
   pub types : List (ℕ × ℕ)
   pub pools : List (List ℕ × Pool)
 
+-- the pools of an image of so many frames, by these types
+abbrev pub pools_in : List (ℕ × ℕ) → ℕ → Image → List (List ℕ × Pool)
+pools_in types F image = pools_of (holding_in types F image) (tables_of F image)
+
 -- what the words of an image with nothing to replay stand for, where it is sound
 unfoldable pub stored_by : Image → StoredWorld
-stored_by image = record { frames = frames_of image; machine = image MACHINE_WORD; next_number = image NEXT_NUMBER_WORD; types = types_of image; pools = pools_of (tables_of (frames_of image) image) }
+stored_by image = record {
+  frames = frames_of image;
+  machine = image MACHINE_WORD;
+  next_number = image NEXT_NUMBER_WORD;
+  types = types_of image;
+  pools = pools_in (types_of image) (frames_of image) image;
+}
 
 -- what an image with nothing to replay stands for, on a device of so many words: nothing exactly where it is no sound registry
 unfoldable pub registry_world : ℕ → Image → Option StoredWorld

@@ -21,6 +21,9 @@ pub enum Command {
     Chmod { client: u8, name: Name, mode: u32 },
     /// `drop C P`: the client, from 0 to 7, drops the pool of this name, with its puddles.
     Drop { client: u8, name: Name },
+    /// `get C P o.f`: the client, from 0 to 7, reads field `f`, from 0 to 29, of the object with serial `s`, at least 1, in the pool
+    /// of this name.
+    Get { client: u8, name: Name, s: u64, f: u32 },
     /// `pools`: what pools are there.
     Pools,
     /// `cut N`: power is lost at once, and what is left of words that are not durable is chosen by `pick`.
@@ -71,8 +74,15 @@ pub enum Refusal {
     Pool,
     /// There is a pool of the name.
     Exists,
-    /// The client's user is not the pool's owner.
+    /// What is stored of the pool is no graph.
+    Wild,
+    /// The pool's mode does not allow the client to read it, or where the line changes or drops the pool, the client's user is not its
+    /// owner.
     Denied,
+    /// The pool has no object of the serial.
+    Object,
+    /// The object's type has no such field.
+    Field,
     /// The type is defined with another map.
     Clash,
     /// So many others are there that no further one fits, or so many UUID numbers were given out that too few are left.
