@@ -12,7 +12,7 @@ use Rattle.pm_model.proofs.Changes.{Changes-still, Changes-then, Changes-wider, 
 use Rattle.pm_model.proofs.Words.{HasOnly-fenced}
 use Rattle.pm_persist.proofs.Ranges.{placed_at, placed_within}
 use Rattle.pm_model.proofs.Leaves.{Leaves-changes, Leaves-now}
-use Rattle.pud_defs.specs.declared.layout.TheConstants.{CLIENT_LOGS, DAEMON_LOG}
+use Rattle.pud_defs.specs.declared.layout.TheConstants.{CLIENTS, CLIENT_LOGS, DAEMON_LOG}
 use Rattle.pud_defs.specs.declared.log_words.TheConstants.{CLOSED_GATE}
 use Rattle.pud_defs.specs.Image.{Image}
 use Rattle.pud_defs.specs.Layout.{log_at}
@@ -93,11 +93,11 @@ module _ (F slot : ℕ) where
   closed_anew before image from = record { at = from.each }
 
 -- what is done to gates of a device that stands for a world
-pub Closes-gates : (size : ℕ) (s : StoredWorld) (slot : ℕ) (fault : Option HostFault) (a b : State) → IsSettled size s a.now.words → ClosesGates s.frames slot fault a b → Closes size s slot fault a b
-Closes-gates size s slot fault a b settled p =
+pub Closes-gates : (size : ℕ) (s : StoredWorld) (slot : ℕ) (fault : Option HostFault) (a b : State) → slot < CLIENTS → IsSettled size s a.now.words → ClosesGates s.frames slot fault a b → Closes size s slot fault a b
+Closes-gates size s slot fault a b known settled p =
     let moments = Leaves-changes (λ (image : Image). world_of size image ≡ Some s) (ByClosing s.frames slot) fault a b
     (λ before image picked from.
-    world_of-anew size slot before image s (settled.idle (before DAEMON_LOG) (picked.each DAEMON_LOG)) (settled.stands before picked) (closed_anew s.frames slot before image from))
+    world_of-anew size slot before image s known (settled.idle (before DAEMON_LOG) (picked.each DAEMON_LOG)) (settled.stands before picked) (closed_anew s.frames slot before image from))
     p.changes in
     record {
       changes = p.changes;

@@ -95,18 +95,23 @@ unfolding pools_of
 pools_of-same hold other t same =
     keyed-same name_cmp (entries hold t) (entries other t) 0 POOL_RECORDS (λ slot low high. entry_same hold other (puddles_of t slot) (t.pools slot) (same slot (omega arith)))
 
-frames_are : (F : ℕ) (image : Image) → (tables_of F image).frames ≡ F
+pub frames_are : (F : ℕ) (image : Image) → (tables_of F image).frames ≡ F
 unfolding tables_of
 frames_are F image = refl
 
--- each frame that is used stays
+-- each frame that has a puddle stays
+pub pools_of-held : (types : List (ℕ × ℕ)) (F : ℕ) (i j : Image) (t : Tables) → ((frame : ℕ) → frame < t.frames → is_some (t.puddles frame) ≡ true → HasSameFrame F i j frame)
+    → pools_of (holding_in types F j) t ≡ pools_of (holding_in types F i) t
+pools_of-held types F i j t same =
+    pools_of-same (holding_in types F j) (holding_in types F i) t (λ slot below used.
+    ap (held_by types) (stored_in-same F i j (listed (puddles_of t slot)) (each-weaker (λ e. IsFrameOf t slot e.0) (λ e. HasSameFrame F i j e.0) (listed (puddles_of t slot))
+    (λ e of. same e.0 of.below (ap is_some of.used)) (frames_listed t slot))))
+
+-- and the tables do
 pub pools_in-same : (types : List (ℕ × ℕ)) (F : ℕ) (i j : Image) → tables_of F j ≡ tables_of F i
     → ((frame : ℕ) → frame < F → is_some ((tables_of F i).puddles frame) ≡ true → HasSameFrame F i j frame) → pools_in types F j ≡ pools_in types F i
 pools_in-same types F i j tables same =
-    let t = tables_of F i in
-    ap (pools_of (holding_in types F j)) tables ∙ pools_of-same (holding_in types F j) (holding_in types F i) t (λ slot below used.
-    ap (held_by types) (stored_in-same F i j (listed (puddles_of t slot)) (each-weaker (λ e. IsFrameOf t slot e.0) (λ e. HasSameFrame F i j e.0) (listed (puddles_of t slot))
-    (λ e of. let below = of.below in same e.0 (omega (arith, frames_are F i)) (ap is_some of.used)) (frames_listed t slot))))
+    ap (pools_of (holding_in types F j)) tables ∙ pools_of-held types F i j (tables_of F i) (λ frame below used. same frame (omega (arith, frames_are F i)) used)
 
 -- ---- one type more
 

@@ -4,6 +4,7 @@ pub mod KeyedKeys
 pub mod KeyedMaps
 pub mod Graphs
 pub mod TypeMore
+pub mod FreshGraph
 pub mod Held
 pub mod KeyedEach
 pub mod KeyedPlaces

@@ -1,5 +1,5 @@
 -- What an image with nothing to replay holds of a world, part by part, and the words that each part is read from.
-use Rattle.std.proofs.Common.{◌≡◌, ◌⊎◌, inl, inr, ⊎_elim, ℕ, ◌<◌, ◌≤◌, ◌+◌, true, List, nat_cmp, ap, ◌∙◌, arith, zero-le}
+use Rattle.std.proofs.Common.{◌≡◌, ◌⊎◌, inl, inr, ⊎_elim, ℕ, ◌<◌, ◌≤◌, ◌+◌, true, List, Option, None, is_some, nat_cmp, sym, ap, ◌∙◌, arith, zero-le, true≢false}
 use Rattle.std.proofs.lemmas.Bool.{cases_lt}
 use Rattle.pud_defs.specs.declared.layout.TheConstants.{DEVICE_MAGIC, VERSION, MIN_FRAMES, MAX_FRAMES, NUMBER_LIMIT, MAGIC_WORD, VERSION_WORD, MACHINE_WORD, FRAMES_WORD, NEXT_NUMBER_WORD, DAEMON_LOG, TYPE_TABLE, POOL_TABLE, SPACE_TABLE, PUDDLE_TABLE, TYPE_RECORDS}
 use Rattle.pud_defs.specs.Layout.{IsWithin, tables_end, frames_at, device_words}
@@ -13,7 +13,7 @@ use Rattle.pud_defs.proofs.Spaces.{are_legal_spaces-same, are_closed_logs-same}
 use Rattle.pud_defs.proofs.Keyed.{keyed-same}
 use Rattle.pud_defs.proofs.TypeTable.{type_at-same, are_legal_types-fewer}
 use Rattle.pud_defs.proofs.TablesOf.{tables_of-same}
-use Rattle.pud_defs.proofs.Held.{pools_in-same, frame_among}
+use Rattle.pud_defs.proofs.Held.{HasSameFrame, pools_in-same, frame_among}
 
 -- the words that describe the device; the types; the pools, with their puddles; the log spaces, with the clients' logs
 pub data Part : Type 0 where
@@ -118,6 +118,27 @@ pub standing_same : (size : ℕ) (i j : Image) (s : StoredWorld) → StandsFor s
 standing_same size i j s h same = record {
   holds = λ p. Holds-same p size s i j (λ k of. let at = part_place s.frames p k of in same k at.beside at.before) (h.holds p);
 }
+
+-- but in the frame of no puddle
+pub standing_filled : (size frame : ℕ) (i j : Image) (s : StoredWorld) → StandsFor size i s → (tables_of s.frames i).puddles frame ≡ None → ((k : ℕ) → (k < DAEMON_LOG) ⊎ (TYPE_TABLE ≤ k) → k < frames_at s.frames → j k ≡ i k)
+    → ((other : ℕ) → other < s.frames → (other ≡ frame → ⊥) → HasSameFrame s.frames i j other) → StandsFor size j s
+standing_filled size frame i j s h free same frames = record { holds = held }
+  where
+    read : (p : Part) (k : ℕ) → IsReadBy s.frames p k → k < frames_at s.frames → j k ≡ i k
+    read p k of below = let at = part_place s.frames p k of in same k at.beside below
+
+    held : (p : Part) → Holds p size s j
+    held Header = Holds-same Header size s i j (λ k of. let high = of.high in read Header k of (omega arith)) (h.holds Header)
+    held Types = Holds-same Types size s i j (λ k of. let high = of.high in read Types k of (omega arith)) (h.holds Types)
+    held Spaces = Holds-same Spaces size s i j (λ k of. read Spaces k of (⊎_elim (λ table. let high = table.high in omega arith) (λ logs. logs.high) of)) (h.holds Spaces)
+    held Pools =
+        let tables : tables_of s.frames j ≡ tables_of s.frames i = tables_of-same s.frames j i
+        (λ k low high. read Pools k (inl (record { low = low; high = high })) (omega arith)) (λ k low high. read Pools k (inr (inl (record { low = low; high = high }))) (omega arith)) in
+        let was = h.holds Pools in
+        record {
+          pools = pools_in-same s.types s.frames i j tables (λ other below used. frames other below (λ here. true≢false (sym used ∙ ap (λ (n : ℕ). is_some ((tables_of s.frames i).puddles n)) here ∙ ap is_some free))) ∙ was.pools;
+          sound = ap (are_sound_tables s.next_number) tables ∙ was.sound;
+        }
 
 -- but in the type table, which holds these types, by which the pools are read
 module _ (size : ℕ) (i j : Image) (s : StoredWorld) (ts : List (ℕ × ℕ)) (ps : List (List ℕ × Pool)) (h : StandsFor size i s) (same : (k : ℕ) → (TYPE_TABLE ≤ k → k < POOL_TABLE → ⊥) → j k ≡ i k)

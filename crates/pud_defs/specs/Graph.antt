@@ -4,7 +4,7 @@ use Rattle.std.specs.Ordering.{nat_cmp}
 use Rattle.std.specs.List.{list_all, list_any, range_with_len}
 use Rattle.std.specs.Option.{option_or}
 use Rattle.std.specs.FinMap.Entries.{find}
-use Rattle.pud_defs.specs.declared.layout.TheConstants.{MAX_FIELDS, NUMBER_LIMIT}
+use Rattle.pud_defs.specs.declared.layout.TheConstants.{MAX_FIELDS}
 use Rattle.pud_defs.specs.declared.space.TheConstants.{WORD_BYTES, SLOT_WORDS, FRAME_SLOTS, SLOT_SERIAL_WORD, SLOT_TYPE_WORD, SLOT_FIELDS_WORD, NEXT_SERIAL_WORD, ROOT_WORD, FRAME_MAGIC_WORD, FRAME_NUMBER_WORD, FRAME_ORDINAL_WORD}
 use Rattle.pud_defs.specs.declared.records.Puddle.{Puddle}
 use Rattle.pud_defs.specs.declared.objects.Val.{Val}
@@ -14,6 +14,7 @@ use Rattle.pud_defs.specs.Types.{map_of}
 use Rattle.pud_defs.specs.Spaces.{all_below}
 use Rattle.pud_defs.specs.Keyed.{keyed, are_distinct, first_from}
 use Rattle.pud_defs.specs.Frames.{slot_at}
+use Rattle.pud_defs.specs.Identifiers.{is_number}
 use Rattle.pud_defs.specs.Headers.{is_header}
 use Rattle.pud_defs.specs.Stored.{Stored, places_of, place_word}
 
@@ -160,7 +161,7 @@ is_sound_place next t p = t.serial p == 0 || (nat_lt (t.serial p) next && all_st
 
 -- the next serial is from 1 to 2^63
 abbrev pub is_next_serial : ℕ → Bool
-is_next_serial v = nat_le 1 v && nat_le v NUMBER_LIMIT
+is_next_serial v = is_number v
 
 -- the slots at so many places are a graph, with this next serial and this root
 unfoldable pub is_graph : (next : ℕ) → Content → Table → ℕ → Bool

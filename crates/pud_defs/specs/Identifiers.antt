@@ -1,5 +1,10 @@
--- The identifiers of pools and puddles, and their text.
-use Rattle.std.specs.Prelude.{ℕ, zero, suc, ◌+◌, ◌*◌, ◌/◌, ◌%◌, ◌^◌, nat_lt, if◌then◌else◌, List, [], ◌∷◌, ◌++◌}
+-- The numbers of which identifiers are made, the identifiers of pools and puddles, and their text.
+use Rattle.std.specs.Prelude.{ℕ, zero, suc, ◌+◌, ◌*◌, ◌/◌, ◌%◌, ◌^◌, Bool, ◌&&◌, nat_le, nat_lt, if◌then◌else◌, List, [], ◌∷◌, ◌++◌}
+use Rattle.pud_defs.specs.declared.layout.TheConstants.{NUMBER_LIMIT}
+
+-- a number that is the next to be given out, of a row of which each is given once: from 1 to 2^63
+abbrev pub is_number : ℕ → Bool
+is_number v = nat_le 1 v && nat_le v NUMBER_LIMIT
 
 -- the machine id above the UUID number, each of 64 bits; no version and no variant is forced in
 abbrev pub puddle_uuid : ℕ → ℕ → ℕ

@@ -1,8 +1,9 @@
 -- When an image is a sound registry.
 use Rattle.std.specs.Prelude.{ℕ, ◌+◌, Bool, false, not, ◌&&◌, ◌||◌, nat_le, ◌==◌, List, length, Option, Some, None}
 use Rattle.std.specs.List.{list_all}
-use Rattle.pud_defs.specs.declared.layout.TheConstants.{DEVICE_MAGIC, VERSION, MAGIC_WORD, VERSION_WORD, FRAMES_WORD, NEXT_NUMBER_WORD, DAEMON_LOG, TYPE_TABLE, NUMBER_LIMIT}
+use Rattle.pud_defs.specs.declared.layout.TheConstants.{DEVICE_MAGIC, VERSION, MAGIC_WORD, VERSION_WORD, FRAMES_WORD, NEXT_NUMBER_WORD, DAEMON_LOG, TYPE_TABLE}
 use Rattle.pud_defs.specs.Image.{Image}
+use Rattle.pud_defs.specs.Identifiers.{is_number}
 use Rattle.pud_defs.specs.Layout.{tables_end, frames_at, device_words, is_legal_frame_count}
 use Rattle.pud_defs.specs.Entries.{Entry, Log, log_of}
 use Rattle.pud_defs.specs.Replay.{is_in_range, settled_by}
@@ -24,10 +25,6 @@ has_version image = image VERSION_WORD == VERSION
 -- the number of frames is legal, and the device has the words that they need
 abbrev pub has_room : ℕ → Image → Bool
 has_room size image = is_legal_frame_count (frames_of image) && nat_le (device_words (frames_of image)) size
-
--- the next UUID number is from 1 to 2^63
-abbrev pub is_number : ℕ → Bool
-is_number v = nat_le 1 v && nat_le v NUMBER_LIMIT
 
 abbrev pub has_legal_number : Image → Bool
 has_legal_number image = is_number (image NEXT_NUMBER_WORD)

@@ -154,7 +154,7 @@ fn is_legal_puddle(next: u64, words: &RecordWords) -> bool
         && is_given(next, words[PUDDLE_NUMBER_WORD as usize])
         && is_legal_base(words[PUDDLE_BASE_WORD as usize])
         && is_legal_base(words[PUDDLE_OLD_BASE_WORD as usize])
-        && words[PUDDLE_FRONTIER_WORD as usize] <= u64::from(LAST_FRONTIER)
+        && words[PUDDLE_FRONTIER_WORD as usize] == u64::from(LAST_FRONTIER)
 }
 
 /// Whether the record of this pool, given by its slot plus 1, is used.

@@ -11,7 +11,7 @@ returns-clause-closes g c = λ t size same s frames settled.
     let old = g.H.Host.state c.args.h.now in
     let new = g.H.Host.state c.close_gates.new.h in
     let fault = fault_of c.close_gates.result in
-    Closes-gates size s c.args.slot fault old new settled (subst (λ (F : ℕ). ClosesGates F c.args.slot fault old new) frames (c.close_gates.ensures.closes t))
+    Closes-gates size s c.args.slot fault old new c.requires.known settled (subst (λ (F : ℕ). ClosesGates F c.args.slot fault old new) frames (c.close_gates.ensures.closes t))
 
 pub returns-clause-any : goal.returns-clause-any
 returns-clause-any g c = λ t.
