@@ -1,6 +1,6 @@
 -- A pool's mode changed, and a pool dropped: what the batch makes of the tables.
 use Rattle.std.proofs.Common.{◌≡◌, ◌⊎◌, inl, inr, ℕ, zero, suc, ◌+◌, ◌*◌, ◌%◌, ◌^◌, ◌<◌, ◌≤◌, Bool, true, false, cond, ◌&&◌, leb, ltb, eqb, List, [], ◌∷◌, length, Option, Some, None, option_map, is_none, refl, sym, ap, ap₂, subst, ◌∙◌, arith}
-use Rattle.std.specs.Prelude.{unwrap_or}
+use Rattle.std.specs.Prelude.{unwrap_or, ⊤}
 use Rattle.std.specs.FinMap.Entries.{put, find}
 use Rattle.std.specs.Cmp.Lexicographic.{nat_list_cmp_total}
 use Rattle.std.proofs.lemmas.Bool.{cases_lt, cases_eq, cases_Bool, cond-true, cond-false, and_parts, and_from}
@@ -15,10 +15,11 @@ use Rattle.pud_defs.specs.Names.{name_cmp, is_legal_name}
 use Rattle.pud_defs.specs.Keyed.{without}
 use Rattle.pud_defs.specs.Pools.{is_given, is_legal_pool, pool_at}
 use Rattle.pud_defs.specs.Puddles.{Member, puddle_record_at}
-use Rattle.pud_defs.specs.Tables.{Tables, Pool, tables_of, puddles_of, pool_of, entries, pools_of}
+use Rattle.pud_defs.specs.Tables.{Tables, Pool, Reader, tables_of, puddles_of, pool_of, entries, pools_of}
 use Rattle.pud_defs.specs.SoundTables.{is_sound_pool, HasSoundTables}
 use Rattle.pud_defs.specs.Puts.{with_put, mode_put, free_pool_put, free_puddle_put, with_pool_at, with_puddle_at, with_mode, is_of_pool, without_pool_at}
 use Rattle.pud_defs.specs.PoolChanges.{changed_pool, with_pool_mode, without_pool}
+use Rattle.pud_defs.specs.Holdings.{holding_in}
 use Rattle.pud_defs.specs.World.{StoredWorld}
 use Rattle.pud_defs.proofs.Keyed.{find-keyed_place}
 use Rattle.pud_defs.proofs.TablesOf.{pools_below, puddles_beyond}
@@ -30,11 +31,11 @@ use Rattle.registry.specs.Pools.{changing, put_if, freeing, dropping}
 use Rattle.registry.proofs.Moved.{ReadsWorld, MakesPools, pools_next}
 
 -- the pool of a used record is found under its name
-pub found_pool : (next : ℕ) (t : Tables) (slot : ℕ) (r : PoolRec) → HasSoundTables next t → slot < POOL_RECORDS → t.pools slot ≡ Some r → find name_cmp r.name (pools_of t) ≡ Some (pool_of r (puddles_of t slot))
+pub found_pool : (hold : Reader) (next : ℕ) (t : Tables) (slot : ℕ) (r : PoolRec) → HasSoundTables next t → slot < POOL_RECORDS → t.pools slot ≡ Some r → find name_cmp r.name (pools_of hold t) ≡ Some (pool_of hold r (puddles_of t slot))
 unfolding pools_of
-found_pool next t slot r sound within used =
-    find-keyed_place name_cmp nat_list_cmp_total (entries t) 0 POOL_RECORDS slot (r.name, pool_of r (puddles_of t slot)) (distinct_entries t (distinct_names next t sound)) (omega arith) (omega arith)
-    (ap (entry_of (puddles_of t slot)) used)
+found_pool hold next t slot r sound within used =
+    find-keyed_place name_cmp nat_list_cmp_total (entries hold t) 0 POOL_RECORDS slot (r.name, pool_of hold r (puddles_of t slot)) (distinct_entries hold t (distinct_names next t sound)) (omega arith) (omega arith)
+    (ap (entry_of hold (puddles_of t slot)) used)
 
 -- ---- a mode
 
@@ -48,9 +49,9 @@ legal_with_mode next mode r legal is =
     let old = and_parts _ (is_legal_mode r.mode) given.0 in
     and_from _ _ (and_from _ _ old.0 is) given.1
 
-pool_with_mode : (mode : ℕ) (r : PoolRec) (t : Tables) (slot : ℕ) → pool_of (record r { mode = mode }) (puddles_of t slot) ≡ record (pool_of r (puddles_of t slot)) { mode = mode }
+pool_with_mode : (hold : Reader) (mode : ℕ) (r : PoolRec) (t : Tables) (slot : ℕ) → pool_of hold (record r { mode = mode }) (puddles_of t slot) ≡ record (pool_of hold r (puddles_of t slot)) { mode = mode }
 unfolding pool_of
-pool_with_mode mode r t slot = refl
+pool_with_mode hold mode r t slot = refl
 
 changed_there : (name : List ℕ) (change : Pool → Pool) (pools : List (List ℕ × Pool)) (p : Pool) → find name_cmp name pools ≡ Some p → changed_pool name change pools ≡ put name_cmp name (change p) pools
 changed_there name change pools p is = ap (λ o. unwrap_or (option_map (λ p. put name_cmp name (change p) pools) o) pools) is
@@ -72,7 +73,7 @@ module _ (s : StoredWorld) (image : Image) (slot mode : ℕ) (r : PoolRec) (worl
   unfolding with_puts
   mode_next i same = with_put-outside (mode_put slot mode) i NEXT_NUMBER_WORD (λ low high. omega arith) ∙ same
 
-  pub MakesPools-mode : MakesPools s s.next_number (changed_pool r.name (λ p. record p { mode = mode }) s.pools) (changing slot mode) t
+  pub MakesPools-mode : MakesPools s s.next_number (changed_pool r.name (λ p. record p { mode = mode }) s.pools) (changing slot mode) (λ _. ⊤) t
   MakesPools-mode = record {
     of = changing_of s.frames slot mode within;
     low = world.low;
@@ -80,10 +81,11 @@ module _ (s : StoredWorld) (image : Image) (slot mode : ℕ) (r : PoolRec) (worl
     next = mode_next;
     now = with_pool_at slot (Some now) t;
     tables = mode_tables;
-    pools =
-        pools_changed t slot r (distinct_names s.next_number t world.sound) within used now refl
-        ∙ ap₂ (λ p ps. put name_cmp r.name p ps) (pool_with_mode mode r t slot) world.pools
-        ∙ sym (changed_there r.name (λ p. record p { mode = mode }) s.pools (pool_of r (puddles_of t slot)) (ap (find name_cmp r.name) (sym world.pools) ∙ found_pool s.next_number t slot r world.sound within used));
+    pools = λ i _ pools.
+        let hold = holding_in s.types s.frames i in
+        pools_changed t slot r (distinct_names s.next_number t world.sound) within used hold now refl
+        ∙ ap₂ (λ p ps. put name_cmp r.name p ps) (pool_with_mode hold mode r t slot) pools
+        ∙ sym (changed_there r.name (λ p. record p { mode = mode }) s.pools (pool_of hold r (puddles_of t slot)) (ap (find name_cmp r.name) (sym pools) ∙ found_pool hold s.next_number t slot r world.sound within used));
     sound = sound_changed s.next_number t slot r now world.sound within used refl
         (legal_with_mode s.next_number mode r (sym (ap (is_sound_pool s.next_number) used) ∙ legal_pool s.next_number t world.sound slot within) legal);
   }
@@ -222,7 +224,7 @@ module _ (s : StoredWorld) (image : Image) (slot : ℕ) (r : PoolRec) (world : R
       freeing_behind dropped_from.puddles slot 0 dropped_from.frames (with_put (free_pool_put slot) i) NEXT_NUMBER_WORD (omega arith)
       ∙ with_put-outside (free_pool_put slot) i NEXT_NUMBER_WORD (λ low high. omega arith) ∙ same
 
-  pub MakesPools-drop : MakesPools s s.next_number (without name_cmp r.name s.pools) (dropping dropped_from slot) dropped_from
+  pub MakesPools-drop : MakesPools s s.next_number (without name_cmp r.name s.pools) (dropping dropped_from slot) (λ _. ⊤) dropped_from
   MakesPools-drop = record {
     of = dropping_of s.frames dropped_from slot within (omega (arith, same_frames));
     low = world.low;
@@ -230,7 +232,7 @@ module _ (s : StoredWorld) (image : Image) (slot : ℕ) (r : PoolRec) (world : R
     next = drop_next;
     now = without_pool_at slot dropped_from;
     tables = drop_tables;
-    pools = pools_dropped dropped_from slot r (distinct_names s.next_number dropped_from world.sound) within used ∙ ap (without name_cmp r.name) world.pools;
+    pools = λ i _ pools. pools_dropped dropped_from slot r (distinct_names s.next_number dropped_from world.sound) within used (holding_in s.types s.frames i) ∙ ap (without name_cmp r.name) pools;
     sound = sound_dropped s.next_number dropped_from slot r world.sound within used;
   }
 

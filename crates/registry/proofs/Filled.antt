@@ -17,10 +17,11 @@ use Rattle.pud_defs.specs.Image.{Image}
 use Rattle.pud_defs.specs.Layout.{IsWithin, tables_end, frames_at, device_words}
 use Rattle.pud_defs.specs.Frames.{frame_at, frame_word, fresh_frame, IsFreshFrame}
 use Rattle.pud_defs.specs.Entries.{is_idle_gate}
-use Rattle.pud_defs.specs.Replay.{is_in_log, beside_log}
+use Rattle.pud_defs.specs.Replay.{is_in_log, beside_log, settled_by}
 use Rattle.pud_defs.specs.World.{StoredWorld, world_of}
-use Rattle.pud_defs.proofs.Replay.{outside_log}
-use Rattle.pud_defs.proofs.Parts.{standing_same}
+use Rattle.pud_defs.proofs.Replay.{outside_log, settled_by-beside}
+use Rattle.pud_defs.specs.Tables.{Tables, tables_of}
+use Rattle.pud_defs.proofs.Parts.{standing_filled}
 use Rattle.pud_defs.proofs.Worlds.{registry_world_standing, world_of-idle, standing_idle}
 use Rattle.batch.specs.Batches.{HasIdleGate, IsBatched}
 use Rattle.batch.specs.Worlds.{IsSettled, IsBetween}
@@ -29,13 +30,25 @@ use Rattle.batch.proofs.Tables.{HasDurableTables-kept}
 use Rattle.registry.specs.Puts.{puts_batch, AreOfPools, IsPoolsWord, ByPools}
 use Rattle.registry.specs.Pools.{frame_write, MayStand, ChangesPools}
 use Rattle.registry.proofs.PutBatches.{puts_write-none}
+use Rattle.registry.proofs.Moved.{settled_tables, settled_frames}
 
--- images that agree before the frames stand for the same
-pub world_before_frames : (size : ℕ) (s : StoredWorld) (i j : Image) → is_idle_gate (i DAEMON_LOG) ≡ true → world_of size i ≡ Some s → ((k : ℕ) → k < frames_at s.frames → j k ≡ i k) → world_of size j ≡ Some s
-world_before_frames size s i j idle stands same =
-    world_of-idle size j (ap is_idle_gate (same DAEMON_LOG (omega arith)) ∙ idle)
+-- images that agree but in the frame of no puddle stand for the same
+pub world_beside_frame : (size : ℕ) (s : StoredWorld) (frame : ℕ) (i j : Image) → is_idle_gate (i DAEMON_LOG) ≡ true → world_of size i ≡ Some s → (tables_of s.frames (beside_log DAEMON_LOG i)).puddles frame ≡ None
+    → ((k : ℕ) → (IsWithin (frame_at s.frames frame) (frame_at s.frames (frame + 1)) k → ⊥) → j k ≡ i k) → world_of size j ≡ Some s
+world_beside_frame size s frame i j idle stands free same =
+    let before : (k : ℕ) → k < frames_at s.frames → j k ≡ i k = λ k below. same k (λ of. let low = of.low in absurd (omega arith)) in
+    world_of-idle size j (ap is_idle_gate (before DAEMON_LOG (omega arith)) ∙ idle)
     ∙ registry_world_standing size (beside_log DAEMON_LOG j) s
-    (standing_same size (beside_log DAEMON_LOG i) (beside_log DAEMON_LOG j) s (standing_idle size i s idle stands) (λ k outside below. ap (cond (is_in_log DAEMON_LOG k) 0) (same k below)))
+    (standing_filled size frame (beside_log DAEMON_LOG i) (beside_log DAEMON_LOG j) s (standing_idle size i s idle stands) free (λ k outside below. ap (cond (is_in_log DAEMON_LOG k) 0) (before k below))
+    (λ other below apart. record {
+      each = λ k high. ap (cond (is_in_log DAEMON_LOG (frame_at s.frames other + k)) 0)
+          (same (frame_at s.frames other + k) (λ of. let low = of.low in let to = of.high in apart (omega arith)));
+    }))
+
+-- the tables of a device of so many frames are durable, and the record of the frame is free
+pub record IsFreeFrame (F frame : ℕ) (words : Words) : Type 0 where
+  pub tables : HasDurableTables F words
+  pub free : (tables_of F (reads words)).puddles frame ≡ None
 
 length-fresh_frame : (number ordinal : ℕ) → length (fresh_frame number ordinal) ≡ FRAME_WORDS
 unfolding fresh_frame
@@ -46,19 +59,21 @@ module _ (F frame number ordinal : ℕ) (known : frame < F) where
   write = frame_write F frame number ordinal
 
   -- the words that are filled are words of the frame
-  fills : (k v : ℕ) → written write k v → IsWithin (frames_at F) (device_words F) k
-  fills k v may =
+  fills_frame : (k v : ℕ) → written write k v → IsWithin (frame_at F frame) (frame_at F (frame + 1)) k
+  fills_frame k v may =
       let within = placed_within (frame_at F frame) k v (fresh_frame number ordinal) may in
-      let low = within.0 in
       let high = within.1 in
-      record { low = omega arith; high = omega (arith, length-fresh_frame number ordinal) }
+      record { low = within.0; high = omega (arith, length-fresh_frame number ordinal) }
+
+  fills : (k v : ℕ) → written write k v → IsWithin (frames_at F) (device_words F) k
+  fills k v may = let of = fills_frame k v may in let low = of.low in let high = of.high in record { low = omega arith; high = omega arith }
 
   -- so they are none before the frames
   pub not_filled : (k v : ℕ) → k < frames_at F → written write k v → ⊥
   not_filled k v below may = let of = fills k v may in let low = of.low in absurd (omega arith)
 
-  filled_from : (before image : Image) → IsFrom (written write) before image → (k : ℕ) → k < frames_at F → image k ≡ before k
-  filled_from before image from k below = elim (from.each k) [ inl same ↦ same | inr may ↦ absurd (not_filled k (image k) below may) ]
+  filled_from : (before image : Image) → IsFrom (written write) before image → (k : ℕ) → (IsWithin (frame_at F frame) (frame_at F (frame + 1)) k → ⊥) → image k ≡ before k
+  filled_from before image from k outside = elim (from.each k) [ inl same ↦ same | inr may ↦ absurd (outside (fills_frame k (image k) may)) ]
 
   ByPools-filled : (k v : ℕ) → written write k v → ByPools F k v
   ByPools-filled k v may = inr (inr (fills k v may))
@@ -82,16 +97,26 @@ module _ (F frame number ordinal : ℕ) (known : frame < F) where
     abbrev stands : Image → Type 0
     stands image = world_of size image ≡ Some s
 
-    still : (words : Words) → IsSettled size s words → (before image : Image) → Picks words before → IsFrom (written write) before image → stands image
-    still words settled before image picked from =
-        world_before_frames size s before image (settled.idle (before DAEMON_LOG) (picked.each DAEMON_LOG)) (settled.stands before picked) (λ k below. filled_from before image from k (omega (arith, same)))
+    -- its record is free in each image
+    still_free : (words : Words) → IsSettled size s words → IsFreeFrame F frame words → (before : Image) → Picks words before → (tables_of s.frames (beside_log DAEMON_LOG before)).puddles frame ≡ None
+    still_free words settled is before picked =
+        let here = subst (λ (n : ℕ). IsFreeFrame n frame words) same is in
+        let idle = settled.idle (before DAEMON_LOG) (picked.each DAEMON_LOG) in
+        ap (λ (i : Image). (tables_of s.frames i).puddles frame) (sym (settled_by-beside DAEMON_LOG before idle))
+        ∙ ap (λ (t : Tables). t.puddles frame) (settled_tables size s words before settled here.tables picked)
+        ∙ here.free
 
-    pub Leaves-filled : (fault : Option HostFault) (a b : State) → IsSettled size s a.now.words → Changes (written write) fault a b → Leaves (Silently stands) a b
-    Leaves-filled fault a b settled c = Leaves-changes stands (written write) fault a b (still a.now.words settled) c
+    still : (words : Words) → IsSettled size s words → IsFreeFrame F frame words → (before image : Image) → Picks words before → IsFrom (written write) before image → stands image
+    still words settled is before image picked from =
+        world_beside_frame size s frame before image (settled.idle (before DAEMON_LOG) (picked.each DAEMON_LOG)) (settled.stands before picked) (still_free words settled is before picked)
+        (λ k outside. filled_from before image from k (λ of. let low = of.low in let high = of.high in outside (record { low = omega (arith, same); high = omega (arith, same) })))
 
-    pub IsSettled-filled : (fault : Option HostFault) (a b : State) → IsSettled size s a.now.words → Changes (written write) fault a b → IsSettled size s b.now.words
-    IsSettled-filled fault a b settled c = record {
-      stands = λ image picked. (Leaves-now (Silently stands) [] a b (Changes-said (written write) fault a b c ∙ sym (append-nil a.now.said)) (Leaves-filled fault a b settled c) image picked).1;
+    pub Leaves-filled : (fault : Option HostFault) (a b : State) → IsSettled size s a.now.words → IsFreeFrame F frame a.now.words → Changes (written write) fault a b → Leaves (Silently stands) a b
+    Leaves-filled fault a b settled is c = Leaves-changes stands (written write) fault a b (still a.now.words settled is) c
+
+    pub IsSettled-filled : (fault : Option HostFault) (a b : State) → IsSettled size s a.now.words → IsFreeFrame F frame a.now.words → Changes (written write) fault a b → IsSettled size s b.now.words
+    IsSettled-filled fault a b settled is c = record {
+      stands = λ image picked. (Leaves-now (Silently stands) [] a b (Changes-said (written write) fault a b c ∙ sym (append-nil a.now.said)) (Leaves-filled fault a b settled is c) image picked).1;
       idle = (HasIdleGate-filled fault a b c (record { each = settled.idle })).each;
     }
 
@@ -115,23 +140,32 @@ module _ (F frame number ordinal : ℕ) (known : frame < F) where
         not_pools k behind (inr (inl word)) = let high = word.high in absurd (omega arith)
         not_pools k behind (inr (inr word)) = let high = word.high in absurd (omega arith)
 
+    -- it is so in each image before the batch, with the daemon log replayed
+    pub fresh_before : (b : State) (image : Image) → IsSettled size s b.now.words → ((k v : ℕ) → write k ≡ Some v → HasOnly (b.now.words k) v) → Picks b.now.words image
+        → IsFreshFrame F frame number ordinal (settled_by DAEMON_LOG image)
+    fresh_before b image settled durable picked = record {
+      each = λ k below.
+          let at = frame_at F frame + k in
+          settled_frames size s b.now.words image at settled picked (omega (arith, same)) ∙ (fresh_word b durable k below).each (image at) (picked.each at);
+    }
+
     -- the frame could not be filled
-    pub ChangesPools-unfilled : (next : StoredWorld) (also : Image → Type 0) (fault : HostFault) (a b : State) → IsSettled size s a.now.words → Changes (written write) (Some fault) a b
+    pub ChangesPools-unfilled : (next : StoredWorld) (also : Image → Type 0) (fault : HostFault) (a b : State) → IsSettled size s a.now.words → IsFreeFrame F frame a.now.words → Changes (written write) (Some fault) a b
         → ChangesPools size s next also (Some fault) a b
-    ChangesPools-unfilled next also fault a b settled c = record {
+    ChangesPools-unfilled next also fault a b settled is c = record {
       changes = subst (λ (n : ℕ). Changes (ByPools n) (Some fault) a b) same (Changes-wider (written write) (ByPools F) (Some fault) a b ByPools-filled c);
-      moments = Leaves-weaker (Silently stands) (Silently (MayStand size s next also)) a b (λ bytes image p. (p.0, inl p.1)) (Leaves-filled (Some fault) a b settled c);
+      moments = Leaves-weaker (Silently stands) (Silently (MayStand size s next also)) a b (λ bytes image p. (p.0, inl p.1)) (Leaves-filled (Some fault) a b settled is c);
       settled = λ none. absurd (let no : Some fault ≡ None = none in cc);
       tables = λ none. absurd (let no : Some fault ≡ None = none in cc);
     }
 
     -- it was, and then pools were changed
-    pub ChangesPools-filled : (next : StoredWorld) (also : Image → Type 0) (fault : Option HostFault) (a b c : State) → IsSettled size s a.now.words → Changes (written write) None a b
+    pub ChangesPools-filled : (next : StoredWorld) (also : Image → Type 0) (fault : Option HostFault) (a b c : State) → IsSettled size s a.now.words → IsFreeFrame F frame a.now.words → Changes (written write) None a b
         → ChangesPools size s next also fault b c → ChangesPools size s next also fault a c
-    ChangesPools-filled next also fault a b c settled p q = record {
+    ChangesPools-filled next also fault a b c settled is p q = record {
       changes = Changes-then (ByPools s.frames) fault a b c (subst (λ (n : ℕ). Changes (ByPools n) None a b) same (Changes-wider (written write) (ByPools F) None a b ByPools-filled p)) q.changes;
       moments = Leaves-then (Silently stands) (Silently (MayStand size s next also)) (Silently (MayStand size s next also)) [] a b c (Changes-said (written write) None a b p ∙ sym (append-nil a.now.said))
-          (λ bytes image m. (m.0, inl m.1)) (λ bytes image m. m) (Leaves-filled None a b settled p) q.moments;
+          (λ bytes image m. (m.0, inl m.1)) (λ bytes image m. m) (Leaves-filled None a b settled is p) q.moments;
       settled = q.settled;
       tables = q.tables;
     }

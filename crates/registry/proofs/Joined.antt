@@ -2,7 +2,7 @@
 use Rattle.std.proofs.Common.{◌≡◌, ◌⊎◌, inl, inr, ℕ, ◌+◌, ◌<◌, ◌≤◌, true, List, Option, Some, None, refl, sym, ap, subst, ◌∙◌, arith}
 use Rattle.std.specs.Prelude.{⊤}
 use Rattle.pm_model.specs.declared.host.HostFault.{HostFault}
-use Rattle.pm_model.specs.Words.{HasOnly, reads}
+use Rattle.pm_model.specs.Words.{HasOnly, Picks, reads}
 use Rattle.pm_model.specs.Moments.{State}
 use Rattle.pm_model.specs.Changes.{written, Persists, Silently}
 use Rattle.pm_model.proofs.Leaves.{Leaves-weaker}
@@ -13,7 +13,9 @@ use Rattle.pud_defs.specs.declared.records.Put.{Put}
 use Rattle.pud_defs.specs.Image.{Image}
 use Rattle.pud_defs.specs.Entries.{Entry}
 use Rattle.pud_defs.specs.Frames.{IsFreshFrame}
-use Rattle.pud_defs.specs.Keyed.{count_used, without}
+use Rattle.pud_defs.specs.Keyed.{first_free, count_used, without}
+use Rattle.pud_defs.specs.Replay.{settled_by}
+use Rattle.pud_defs.proofs.Keyed.{first_free_some}
 use Rattle.pud_defs.specs.Modes.{is_legal_mode}
 use Rattle.pud_defs.specs.Names.{name_cmp}
 use Rattle.pud_defs.specs.Spaces.{owner}
@@ -36,17 +38,18 @@ use Rattle.registry.proofs.PutBatches.{IsFree-puts}
 use Rattle.registry.proofs.Moved.{ReadsWorld, reads_world, MakesPools, MovesBy-puts, pools_next, ChangesPools-moves}
 use Rattle.registry.proofs.Changed.{MakesPools-mode, mode_world, MakesPools-drop, drop_world}
 use Rattle.registry.proofs.Made.{MakesPools-made, made_world}
-use Rattle.registry.proofs.Filled.{not_filled, IsSettled-filled, HasDurableTables-filled, fresh_behind, ChangesPools-filled}
+use Rattle.registry.proofs.Filled.{not_filled, IsSettled-filled, HasDurableTables-filled, IsFreeFrame, fresh_before, fresh_behind, ChangesPools-filled}
 
 -- the batch of changes that makes these pools
-changes_by : (size : ℕ) (s next : StoredWorld) (number : ℕ) (ps : List (List ℕ × Pool)) (puts : List Put) (also : Image → Type 0) (fault : Option HostFault) (a b : State) → pools_next s number ps ≡ next
-    → IsSettled size s a.now.words → HasDurableTables s.frames a.now.words → MakesPools s number ps puts (tables_of s.frames (reads a.now.words))
+changes_by : (size : ℕ) (s next : StoredWorld) (number : ℕ) (ps : List (List ℕ × Pool)) (puts : List Put) (has also : Image → Type 0) (fault : Option HostFault) (a b : State) → pools_next s number ps ≡ next
+    → IsSettled size s a.now.words → HasDurableTables s.frames a.now.words → MakesPools s number ps puts has (tables_of s.frames (reads a.now.words))
+    → ((image : Image) → Picks a.now.words image → has (settled_by DAEMON_LOG image))
     → ((image : Image) → IsBetween size s next (puts_batch puts) a.now.words image → also image)
     → (MovesBy size s next (puts_batch puts) a.now.words → Moves size s next (puts_batch puts) fault a b)
     → ChangesPools size s next also fault a b
-changes_by size s next number ps puts also fault a b is settled tables makes besides moves =
+changes_by size s next number ps puts has also fault a b is settled tables makes before besides moves =
     ChangesPools-moves size s next puts also fault a b makes.of tables besides
-    (moves (subst (λ (n : StoredWorld). MovesBy size s n (puts_batch puts) a.now.words) is (MovesBy-puts size s number ps puts a.now.words settled tables makes)))
+    (moves (subst (λ (n : StoredWorld). MovesBy size s n (puts_batch puts) a.now.words) is (MovesBy-puts size s number ps puts a.now.words settled tables has makes before)))
 
 -- a pool's mode is changed
 pub ChangesPools-mode : (size : ℕ) (s : StoredWorld) (slot mode : ℕ) (r : PoolRec) (es : List Entry) (fault : Option HostFault) (a b : State) → slot < POOL_RECORDS → IsSettled size s a.now.words
@@ -55,8 +58,8 @@ pub ChangesPools-mode : (size : ℕ) (s : StoredWorld) (slot mode : ℕ) (r : Po
     → ChangesPools size s (with_pool_mode r.name mode s) (λ _. ⊤) fault a b
 ChangesPools-mode size s slot mode r es fault a b within settled at legal is moves =
     let world = reads_world size s a.now.words settled at.tables in
-    changes_by size s (with_pool_mode r.name mode s) s.next_number (changed_pool r.name (λ p. record p { mode = mode }) s.pools) (changing slot mode) (λ _. ⊤) fault a b (mode_world s r.name mode)
-    settled at.tables (MakesPools-mode s (reads a.now.words) slot mode r world within at.used legal) (λ image between. tt)
+    changes_by size s (with_pool_mode r.name mode s) s.next_number (changed_pool r.name (λ p. record p { mode = mode }) s.pools) (changing slot mode) (λ _. ⊤) (λ _. ⊤) fault a b (mode_world s r.name mode)
+    settled at.tables (MakesPools-mode s (reads a.now.words) slot mode r world within at.used legal) (λ image picked. tt) (λ image between. tt)
     (subst (λ (es : List Entry). MovesBy size s (with_pool_mode r.name mode s) es a.now.words → Moves size s (with_pool_mode r.name mode s) es fault a b) is moves)
 
 -- a pool that is there has few puddles
@@ -76,8 +79,8 @@ pub ChangesPools-drop : (size : ℕ) (s : StoredWorld) (slot : ℕ) (r : PoolRec
     → ChangesPools size s (without_pool r.name s) (λ _. ⊤) fault a b
 ChangesPools-drop size s slot r es fault a b within settled at is moves =
     let world = reads_world size s a.now.words settled at.tables in
-    changes_by size s (without_pool r.name s) s.next_number (without name_cmp r.name s.pools) (dropping (tables_of s.frames (reads a.now.words)) slot) (λ _. ⊤) fault a b (drop_world s r.name)
-    settled at.tables (MakesPools-drop s (reads a.now.words) slot r world within at.used) (λ image between. tt)
+    changes_by size s (without_pool r.name s) s.next_number (without name_cmp r.name s.pools) (dropping (tables_of s.frames (reads a.now.words)) slot) (λ _. ⊤) (λ _. ⊤) fault a b (drop_world s r.name)
+    settled at.tables (MakesPools-drop s (reads a.now.words) slot r world within at.used) (λ image picked. tt) (λ image between. tt)
     (subst (λ (es : List Entry). MovesBy size s (without_pool r.name s) es a.now.words → Moves size s (without_pool r.name s) es fault a b) is moves)
 
 -- behind the search for its puddles
@@ -90,6 +93,10 @@ ChangesPools-dropped size s F slot r es fault a b c same frames within settled a
     let here = subst (λ (b : State). IsSettled size s b.now.words → MovesBy size s (without_pool r.name s) es b.now.words → Moves size s (without_pool r.name s) es fault b c) same moves in
     let batch = subst (λ (n : ℕ). count_used (members (tables_of n (reads a.now.words)) slot) 0 n ≤ MAX_PUDDLES → es ≡ puts_batch (dropping (tables_of n (reads a.now.words)) slot)) frames gathered in
     ChangesPools-drop size s slot r es fault a c within settled at (batch (few_puddles size s slot r a within settled at)) (here settled)
+
+-- the lowest free frame is free
+pub free_there : (F : ℕ) (image : Image) (frame : ℕ) → first_free (tables_of F image).puddles 0 (tables_of F image).frames ≡ Some frame → (tables_of F image).puddles frame ≡ None
+free_there F image frame is = (first_free_some (tables_of F image).puddles 0 (tables_of F image).frames frame is).free
 
 -- a pool is made: its frame was filled, and then its batch is written
 module _ (size : ℕ) (s : StoredWorld) (p : Place) (r : PoolRec) (es : List Entry) (fault : Option HostFault) (a b c : State) (number : r.number ≡ p.number) (settled : IsSettled size s a.now.words)
@@ -107,16 +114,18 @@ module _ (size : ℕ) (s : StoredWorld) (p : Place) (r : PoolRec) (es : List Ent
       let F = s.frames in
       let drawn = p.number + 1 in
       let write = frame_write F p.frame drawn 0 in
-      let settled_then = IsSettled-filled F p.frame drawn 0 known size s refl None a b settled filled.changes in
+      let free : IsFreeFrame F p.frame a.now.words = record { tables = tables; free = free_there F (reads a.now.words) p.frame place.frame } in
+      let settled_then = IsSettled-filled F p.frame drawn 0 known size s refl None a b settled free filled.changes in
       let tables_then = HasDurableTables-filled F p.frame drawn 0 known size s refl None a b filled.changes tables in
       let kept : (k : ℕ) → k < tables_end F → reads b.now.words k ≡ reads a.now.words k = λ k below. reads_kept (written write) a b k filled.changes (λ v. not_filled F p.frame drawn 0 known k v (omega arith)) in
       let same : tables_of F (reads b.now.words) ≡ tables_of F (reads a.now.words) =
       tables_of-same F (reads b.now.words) (reads a.now.words) (λ k low high. kept k (omega arith)) (λ k low high. kept k high) in
       let place_then = subst (λ t. IsPlaceFor t s.next_number r.name p) (sym same) place in
       let makes = MakesPools-made s (reads b.now.words) p r (reads_world size s b.now.words settled_then tables_then) place_then legal number in
-      ChangesPools-filled F p.frame drawn 0 known size s refl next (IsFreshFrame F p.frame drawn 0) fault a b c settled filled.changes
-      (changes_by size s next (s.next_number + NUMBERS_DRAWN) (put name_cmp r.name (new_pool (owner r.uid r.gid) r.mode s.next_number) s.pools) (making p r) (IsFreshFrame F p.frame drawn 0) fault b c
+      ChangesPools-filled F p.frame drawn 0 known size s refl next (IsFreshFrame F p.frame drawn 0) fault a b c settled free filled.changes
+      (changes_by size s next (s.next_number + NUMBERS_DRAWN) (put name_cmp r.name (new_pool (owner r.uid r.gid) r.mode s.next_number) s.pools) (making p r) (IsFreshFrame F p.frame drawn 0) (IsFreshFrame F p.frame drawn 0) fault b c
       (made_world s r.name (owner r.uid r.gid) r.mode) settled_then tables_then makes
+      (λ image picked. fresh_before F p.frame drawn 0 known size s refl b image settled_then (filled.durable refl) picked)
       (λ image between. fresh_behind F p.frame drawn 0 known size s refl (making p r) b image makes.of (filled.durable refl) between.batched)
       (subst (λ (es : List Entry). MovesBy size s next es b.now.words → Moves size s next es fault b c) is (moves settled_then)))
 

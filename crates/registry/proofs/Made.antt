@@ -1,6 +1,6 @@
 -- A pool that is made: what the batch makes of the tables, and the frame that is filled before it.
 use Rattle.std.proofs.Common.{◌≡◌, ◌⊎◌, inl, inr, ⊎_elim, ℕ, ◌+◌, ◌-◌, ◌*◌, ◌^◌, ◌<◌, ◌≤◌, Bool, true, false, not, cond, ◌&&◌, leb, ltb, eqb, List, [], ◌∷◌, length, Option, Some, None, option_map, nat_cmp, is_some, is_none, refl, sym, ap, ap₂, subst, ◌∙◌, arith, length-append, le-leb, lt-ltb, eq-eqb, ne_eqb}
-use Rattle.std.specs.Prelude.{replicate, slice_index}
+use Rattle.std.specs.Prelude.{replicate, slice_index, slice_get}
 use Rattle.std.specs.FinMap.Entries.{put}
 use Rattle.std.specs.Cmp.Lexicographic.{nat_list_cmp_total}
 use Rattle.std.proofs.lemmas.Cmp.{nat_cmp_total}
@@ -21,10 +21,16 @@ use Rattle.pud_defs.specs.Pools.{IsHeld, is_given, is_legal_pool}
 use Rattle.pud_defs.specs.Puddles.{Member, is_legal_puddle}
 use Rattle.pud_defs.specs.Places.{has_other_bases, is_free_base, IsLowestBase}
 use Rattle.pud_defs.specs.Spaces.{Owner, owner, all_below}
-use Rattle.pud_defs.specs.Tables.{Tables, tables_of, member_of, named, records_of, pool_in, pool_of, pools_of}
+use Rattle.pud_defs.specs.Tables.{Tables, Reader, tables_of, member_of, named, records_of, pool_in, pool_of, pools_of}
 use Rattle.pud_defs.specs.SoundTables.{bases, HasSoundTables}
 use Rattle.pud_defs.specs.Puts.{with_put, pool_put, puddle_put, member_by, is_of_pool}
 use Rattle.pud_defs.specs.PoolChanges.{NUMBERS_DRAWN, lacks_numbers, new_pool, with_new_pool}
+use Rattle.pud_defs.specs.Frames.{IsFreshFrame}
+use Rattle.pud_defs.specs.Stored.{word_in_frame, stored_in}
+use Rattle.pud_defs.specs.Graph.{empty_graph}
+use Rattle.pud_defs.specs.Holdings.{held_as, holding_in}
+use Rattle.pud_defs.specs.Holdings.Holding.{Sound}
+use Rattle.pud_defs.proofs.FreshGraph.{graph_of-fresh}
 use Rattle.pud_defs.specs.World.{StoredWorld}
 use Rattle.pud_defs.proofs.Spaces.{all_below-each}
 use Rattle.pud_defs.proofs.Keyed.{first_free_some, first_from_none, under_apart, find-keyed}
@@ -167,11 +173,17 @@ module _ (s : StoredWorld) (image : Image) (p : Place) (r : PoolRec) (world : Re
       ∙ with_put-inside put i NEXT_NUMBER_WORD 0 (omega arith) (omega arith)
       ∙ ap (λ (n : ℕ). n + NUMBERS_DRAWN) drawn
 
-  pool_is_new : pool_of r ((m.ordinal, (p.frame, m.puddle)) ∷ []) ≡ new_pool (owner r.uid r.gid) r.mode s.next_number
-  unfolding pool_of
-  pool_is_new = let same : r.number ≡ s.next_number = number ∙ drawn in λ i. record { owner = owner r.uid r.gid; mode = r.mode; number = same i; puddles = 1 }
+  -- its frame holds the empty graph
+  nothing_made : (i : Image) → IsFreshFrame s.frames p.frame (p.number + 1) 0 i → holding_in s.types s.frames i ((p.frame, m.puddle) ∷ []) ≡ Sound empty_graph
+  nothing_made i fresh =
+      ap (held_as (stored_in s.frames ((p.frame, m.puddle) ∷ []) i)) (graph_of-fresh s.types m.puddle (λ o k. word_in_frame s.frames i k (slice_get ((p.frame, m.puddle) ∷ []) o))
+      (λ k below. cond-true (ltb k FRAME_WORDS) _ _ (lt-ltb k FRAME_WORDS below) ∙ fresh.each k below))
 
-  pub MakesPools-made : MakesPools s (s.next_number + NUMBERS_DRAWN) (put name_cmp r.name (new_pool (owner r.uid r.gid) r.mode s.next_number) s.pools) (making p r) t
+  pool_is_new : (hold : Reader) → hold ((p.frame, m.puddle) ∷ []) ≡ Sound empty_graph → pool_of hold r ((m.ordinal, (p.frame, m.puddle)) ∷ []) ≡ new_pool (owner r.uid r.gid) r.mode s.next_number
+  unfolding pool_of
+  pool_is_new hold empty = let same : r.number ≡ s.next_number = number ∙ drawn in λ i. record { owner = owner r.uid r.gid; mode = r.mode; number = same i; puddles = 1; holding = empty i }
+
+  pub MakesPools-made : MakesPools s (s.next_number + NUMBERS_DRAWN) (put name_cmp r.name (new_pool (owner r.uid r.gid) r.mode s.next_number) s.pools) (making p r) (IsFreshFrame s.frames p.frame (p.number + 1) 0) t
   MakesPools-made =
       let frame : p.frame < s.frames = omega (arith, frame_below, same_frames) in
       record {
@@ -181,6 +193,6 @@ module _ (s : StoredWorld) (image : Image) (p : Place) (r : PoolRec) (world : Re
         next = made_next;
         now = made p.slot p.frame r m t;
         tables = made_tables;
-        pools = pools_made t p.slot p.frame r m is_made ∙ ap₂ (put name_cmp r.name) pool_is_new world.pools;
+        pools = λ i fresh pools. let hold = holding_in s.types s.frames i in pools_made t p.slot p.frame r m is_made hold ∙ ap₂ (put name_cmp r.name) (pool_is_new hold (nothing_made i fresh)) pools;
         sound = sound_made s.next_number (s.next_number + NUMBERS_DRAWN) (omega arith) t p.slot p.frame r m world.sound is_made is_added;
       }

@@ -1,5 +1,5 @@
 -- A batch of changes of pools, on a device whose tables are durable: each image that it leaves stands for the world before or for the next.
-use Rattle.std.proofs.Common.{◌≡◌, ◌⊎◌, inl, inr, ⊎_elim, ℕ, ◌+◌, ◌<◌, ◌≤◌, true, false, List, [], Option, Some, None, refl, sym, ap, subst, ◌∙◌, arith}
+use Rattle.std.proofs.Common.{◌≡◌, ◌⊎◌, inl, inr, ⊎_elim, ℕ, ◌+◌, ◌<◌, ◌≤◌, true, false, List, [], Option, Some, None, is_some, refl, sym, ap, subst, ◌∙◌, arith}
 use Rattle.pm_model.specs.declared.host.HostFault.{HostFault}
 use Rattle.pm_model.specs.declared.host.HostFault.TheVariants.{Cut}
 use Rattle.pm_model.specs.Words.{Words, HasOnly, Picks, reads}
@@ -15,11 +15,13 @@ use Rattle.pud_defs.specs.Layout.{IsWithin, tables_end, frames_at}
 use Rattle.pud_defs.specs.Entries.{is_idle_gate}
 use Rattle.pud_defs.specs.Replay.{settled_by}
 use Rattle.pud_defs.specs.Tables.{Tables, Pool, tables_of, pools_of}
+use Rattle.pud_defs.specs.Holdings.{holding_in}
 use Rattle.pud_defs.specs.SoundTables.{are_sound_tables, HasSoundTables}
-use Rattle.pud_defs.specs.World.{StoredWorld, world_of, registry_world}
+use Rattle.pud_defs.specs.World.{StoredWorld, pools_in, world_of, registry_world}
 use Rattle.pud_defs.proofs.Replay.{settled_by-idle, outside_log}
 use Rattle.pud_defs.proofs.TablesOf.{tables_of-same}
 use Rattle.pud_defs.proofs.SoundChanged.{sound_from, sound_test}
+use Rattle.pud_defs.proofs.Held.{HasSameFrame, frame_among, frames_are, pools_of-held, pools_in-same}
 use Rattle.pud_defs.proofs.Parts.{HasPools, StandsFor, standing_with_pools}
 use Rattle.pud_defs.proofs.Parts.Part.{Header, Pools}
 use Rattle.pud_defs.proofs.Worlds.{standing_of_world, registry_world_standing}
@@ -40,6 +42,10 @@ settled_word size s words image k settled tables picked outside below =
     settled_by-idle DAEMON_LOG image k (settled.idle (image DAEMON_LOG) (picked.each DAEMON_LOG)) (outside_log DAEMON_LOG k (⊎_elim (λ low. inl low) (λ high. inr (omega arith)) outside))
     ∙ (tables.each k outside below).each (image k) (picked.each k)
 
+-- a word of a frame is as it is
+pub settled_frames : (size : ℕ) (s : StoredWorld) (words : Words) (image : Image) (k : ℕ) → IsSettled size s words → Picks words image → frames_at s.frames ≤ k → settled_by DAEMON_LOG image k ≡ image k
+settled_frames size s words image k settled picked above = settled_by-idle DAEMON_LOG image k (settled.idle (image DAEMON_LOG) (picked.each DAEMON_LOG)) (outside_log DAEMON_LOG k (inr (omega arith)))
+
 pub settled_tables : (size : ℕ) (s : StoredWorld) (words : Words) (image : Image) → IsSettled size s words → HasDurableTables s.frames words → Picks words image
     → tables_of s.frames (settled_by DAEMON_LOG image) ≡ tables_of s.frames (reads words)
 settled_tables size s words image settled tables picked =
@@ -52,7 +58,7 @@ pub record ReadsWorld (s : StoredWorld) (image : Image) : Type 0 where
   pub number : image NEXT_NUMBER_WORD ≡ s.next_number
   pub low : 1 ≤ s.next_number
   pub high : s.next_number ≤ NUMBER_LIMIT
-  pub pools : pools_of (tables_of s.frames image) ≡ s.pools
+  pub pools : pools_in s.types s.frames image ≡ s.pools
   pub sound : HasSoundTables s.next_number (tables_of s.frames image)
 
 pub reads_world : (size : ℕ) (s : StoredWorld) (words : Words) → IsSettled size s words → HasDurableTables s.frames words → ReadsWorld s (reads words)
@@ -65,25 +71,34 @@ reads_world size s words settled tables =
       number = sym (settled_word size s words image NEXT_NUMBER_WORD settled tables picked (inl (omega arith)) (omega arith)) ∙ (stands.holds Header).next_number;
       low = (stands.holds Header).number_low;
       high = (stands.holds Header).number_high;
-      pools = ap pools_of (sym same) ∙ (stands.holds Pools).pools;
+      pools =
+          sym (pools_in-same s.types s.frames image (settled_by DAEMON_LOG image) same (λ frame below used. frame_among s.frames frame image (settled_by DAEMON_LOG image) below (λ k low high. settled_frames size s words image k settled picked low)))
+          ∙ (stands.holds Pools).pools;
       sound = sound_from s.next_number (tables_of s.frames image) (ap (are_sound_tables s.next_number) (sym same) ∙ (stands.holds Pools).sound);
     }
 
 -- ---- a batch that changes pools
 
--- With these changes each image that has these tables and the world's next number has this next number, and sound tables of these pools.
-pub record MakesPools (s : StoredWorld) (number : ℕ) (ps : List (List ℕ × Pool)) (puts : List Put) (t : Tables) : Type 0 where
+-- With these changes each image that has these tables, the world's pools and next number, and this besides, has this next number, and sound
+-- tables of these pools.
+pub record MakesPools (s : StoredWorld) (number : ℕ) (ps : List (List ℕ × Pool)) (puts : List Put) (besides : Image → Type 0) (t : Tables) : Type 0 where
   pub of : AreOfPools s.frames puts
   pub low : 1 ≤ number
   pub high : number ≤ NUMBER_LIMIT
   pub next : (image : Image) → image NEXT_NUMBER_WORD ≡ s.next_number → with_puts puts image NEXT_NUMBER_WORD ≡ number
   pub now : Tables
   pub tables : (image : Image) → tables_of s.frames image ≡ t → tables_of s.frames (with_puts puts image) ≡ now
-  pub pools : pools_of now ≡ ps
+  pub pools : (image : Image) → besides image → pools_of (holding_in s.types s.frames image) t ≡ s.pools → pools_of (holding_in s.types s.frames image) now ≡ ps
   pub sound : HasSoundTables number now
 
 abbrev pub pools_next : StoredWorld → ℕ → List (List ℕ × Pool) → StoredWorld
 pools_next s number ps = record s { next_number = number; pools = ps }
+
+-- no word of a frame is a word of pools
+frames_apart : (F k : ℕ) → frames_at F ≤ k → IsPoolsWord F k → ⊥
+frames_apart F k above (inl of) = let high = of.high in absurd (omega arith)
+frames_apart F k above (inr (inl of)) = let high = of.high in absurd (omega arith)
+frames_apart F k above (inr (inr of)) = let high = of.high in absurd (omega arith)
 
 not_of_pools : (F k : ℕ) → k < frames_at F → (k ≡ NEXT_NUMBER_WORD → ⊥) → (POOL_TABLE ≤ k → k < SPACE_TABLE → ⊥) → (PUDDLE_TABLE ≤ k → k < tables_end F → ⊥) → IsPoolsWord F k → ⊥
 not_of_pools F k below number pools puddles (inl of) = let low = of.low in let high = of.high in number (omega arith)
@@ -91,14 +106,20 @@ not_of_pools F k below number pools puddles (inr (inl of)) = pools of.low of.hig
 not_of_pools F k below number pools puddles (inr (inr of)) = puddles of.low of.high
 
 module _ (size : ℕ) (s : StoredWorld) (number : ℕ) (ps : List (List ℕ × Pool)) (puts : List Put) (words : Words) (settled : IsSettled size s words) (tables : HasDurableTables s.frames words)
-    (m : MakesPools s number ps puts (tables_of s.frames (reads words))) where
+    (has : Image → Type 0) (m : MakesPools s number ps puts has (tables_of s.frames (reads words))) (besides : (image : Image) → Picks words image → has (settled_by DAEMON_LOG image)) where
   makes : (image : Image) → Picks words image → registry_world size (with_batch (puts_batch puts) image) ≡ Some (pools_next s number ps)
   makes image picked =
       let i = settled_by DAEMON_LOG image in
       let j = with_puts puts i in
       let stands = standing_of_world size image s (settled.stands image picked) in
-      let tables_now = m.tables i (settled_tables size s words image settled tables picked) in
-      let pools : HasPools s.frames number ps j = record { pools = ap pools_of tables_now ∙ m.pools; sound = ap (are_sound_tables number) tables_now ∙ sound_test number m.now m.sound } in
+      let tables_before = settled_tables size s words image settled tables picked in
+      let tables_now = m.tables i tables_before in
+      let hold = holding_in s.types s.frames in
+      let kept : (frame : ℕ) → frame < m.now.frames → is_some (m.now.puddles frame) ≡ true → HasSameFrame s.frames i j frame = λ frame below used.
+      frame_among s.frames frame i j (let F = frames_are s.frames j in let same = ap (λ (t : Tables). t.frames) tables_now in omega (arith, F, same))
+      (λ k low high. with_puts-stays s.frames puts i k m.of (frames_apart s.frames k low)) in
+      let pools_now : pools_of (hold i) m.now ≡ ps = m.pools i (besides image picked) (ap (pools_of (hold i)) (sym tables_before) ∙ (stands.holds Pools).pools) in
+      let pools : HasPools s.types s.frames number ps j = record { pools = ap (pools_of (hold j)) tables_now ∙ pools_of-held s.types s.frames i j m.now kept ∙ pools_now; sound = ap (are_sound_tables number) tables_now ∙ sound_test number m.now m.sound } in
       ap (registry_world size) (overwritten-puts s.frames puts i m.of)
       ∙ registry_world_standing size j (pools_next s number ps)
       (standing_with_pools size i j s number ps stands

@@ -7,14 +7,14 @@ use Rattle.log_replay.specs.Replaying.{Anything}
 use Rattle.registry.specs.Pools.{frame_write, making}
 use Rattle.registry.proofs.Made.{making_of}
 use Rattle.registry.proofs.Filled.{HasIdleGate-filled, ChangesPools-unfilled}
-use Rattle.registry.proofs.Joined.{ChangesPools-made, Commits-puts}
+use Rattle.registry.proofs.Joined.{free_there, ChangesPools-made, Commits-puts}
 use Rattle.registry.proofs.making.make_at.Goals as goal
 
 pub returns-in_err-fill_frame-clause-makes : goal.returns-in_err-fill_frame-clause-makes
 returns-in_err-fill_frame-clause-makes g c =
     let p = err_from_is_err_and c.from_residual.result c.from_residual.ensures.1 in
     rw (p.1, p.2) (λ t size same s frames number settled tables place legal.
-    ChangesPools-unfilled c.args.frames c.args.place.frame (c.args.place.number + 1) 0 c.requires.within.frame size s frames _ _ c.in_err-fill_frame.field-0.0 _ _ settled (c.in_err-fill_frame.ensures.fills t).changes)
+    ChangesPools-unfilled c.args.frames c.args.place.frame (c.args.place.number + 1) 0 c.requires.within.frame size s frames _ _ c.in_err-fill_frame.field-0.0 _ _ settled (record { tables = tables; free = free_there c.args.frames _ c.args.place.frame place.frame }) (c.in_err-fill_frame.ensures.fills t).changes)
 
 pub returns-in_err-fill_frame-clause-any : goal.returns-in_err-fill_frame-clause-any
 returns-in_err-fill_frame-clause-any g c =
