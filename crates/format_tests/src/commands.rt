@@ -28,6 +28,10 @@ fn drop_pool(client: u8, name: Name) -> Command {
     Command::Drop { client, name }
 }
 
+fn get(client: u8, name: Name, s: u64, f: u32) -> Command {
+    Command::Get { client, name, s, f }
+}
+
 fn cut(pick: u64) -> Command {
     Command::Cut { pick }
 }
@@ -104,6 +108,13 @@ fn lines_of_pools(rt: HostRuntime) {
             ("drop 1 7", drop_pool(1, seven)),
             ("drop 2 _", drop_pool(2, low_line)),
             ("pools", Command::Pools),
+            ("get 0 p 1.0", get(0, p, 1, 0)),
+            ("get 1 7 10.10", get(1, seven, 10, 10)),
+            ("get 2 _ 4294967296.1", get(2, low_line, 4_294_967_296, 1)),
+            (
+                "get 7 abcdefghijklmnop 18446744073709551615.29",
+                get(7, sixteen, u64::MAX, 29),
+            ),
         ],
     );
 }
@@ -134,6 +145,14 @@ fn words_and_spaces_that_are_wrong(rt: HostRuntime) {
             "dropp 0 p",
             "pools ",
             " pools",
+            "Get 0 p 1.0",
+            "gets 0 p 1.0",
+            "get  0 p 1.0",
+            "get 0  p 1.0",
+            "get 0 p  1.0",
+            "get 0 p 1.0 ",
+            "get 0 p 1 .0",
+            "get 0 p 1. 0",
         ],
     );
 }
@@ -161,6 +180,11 @@ fn arguments_too_few_or_too_many(rt: HostRuntime) {
             "drop 0 p 600",
             "pools 0",
             "pools p",
+            "get",
+            "get 0 p",
+            "get 0 p ",
+            "get 0 1.0",
+            "get 0 p 1.0 1.0",
             "cut",
             "cut 0 0",
             "arm 1",
@@ -233,6 +257,48 @@ fn lists_of_fields_that_are_none(rt: HostRuntime) {
             "type 1 2 -,1",
             "type 1 2 --",
             "type 1 2 1000000000000000000000000000000000000000000000000000000000000000000000000000000000000000000000000000",
+        ],
+    );
+}
+
+#[test]
+fn places_of_fields_that_are_none(rt: HostRuntime) {
+    are_none(
+        &rt,
+        &[
+            "get 0 p 1",
+            "get 0 p .",
+            "get 0 p 1.",
+            "get 0 p .1",
+            "get 0 p 1..0",
+            "get 0 p 1.0.",
+            "get 0 p 1.0.0",
+            "get 0 p .1.0",
+            "get 0 p 1,0",
+            "get 0 p 1:0",
+            "get 0 p @1.0",
+            "get 0 p 1.@0",
+            "get 0 p 0.0",
+            "get 0 p 01.0",
+            "get 0 p 00.0",
+            "get 0 p +1.0",
+            "get 0 p -1.0",
+            "get 0 p 1a.0",
+            "get 0 p é.0",
+            "get 0 p 18446744073709551616.0",
+            "get 0 p 18446744073709551617.0",
+            "get 0 p 1.30",
+            "get 0 p 1.00",
+            "get 0 p 1.01",
+            "get 0 p 1.+0",
+            "get 0 p 1.-0",
+            "get 0 p 1.-",
+            "get 0 p 1.a",
+            "get 0 p 1.4294967296",
+            "get 0 p 1.18446744073709551616",
+            "get 8 p 1.0",
+            "get 0 P 1.0",
+            "get 0 abcdefghijklmnopq 1.0",
         ],
     );
 }

@@ -1,6 +1,6 @@
 -- Lines that are commands, and lines that are not.
 use Rattle.std.proofs.Common.{◌≡◌, true, [], ◌∷◌, ◌++◌, replicate, codes, Some, None, refl}
-use Rattle.pud_defs.specs.declared.machine.Command.TheVariants.{Client, Leave, Define, Cut, Arm}
+use Rattle.pud_defs.specs.declared.machine.Command.TheVariants.{Client, Leave, Define, Get, Cut, Arm}
 use Rattle.pud_defs.specs.TypeMap.{map_word, is_legal_map}
 use Rattle.pud_defs.specs.Grammar.{number_of, command_of}
 use Rattle.pud_defs.proofs.Opened.{opened}
@@ -39,6 +39,14 @@ comes = refl
 goes : command_of (codes "leave 0") ≡ Some (Leave 0)
 unfolding opened
 goes = refl
+
+reads_a_field : command_of (codes "get 0 a 1.0") ≡ Some (Get 0 (97 ∷ replicate 15 0) 1 0)
+unfolding opened
+reads_a_field = refl
+
+reads_the_last_field : command_of (codes "get 7 abcdefghijklmnop 18446744073709551615.29") ≡ Some (Get 7 (codes "abcdefghijklmnop") 18446744073709551615 29)
+unfolding opened
+reads_the_last_field = refl
 
 loses_power : command_of (codes "cut 18446744073709551615") ≡ Some (Cut 18446744073709551615)
 unfolding opened
@@ -181,3 +189,47 @@ step_zero = refl
 step_too_far : command_of (codes "arm 1000001 0") ≡ None
 unfolding opened
 step_too_far = refl
+
+no_point : command_of (codes "get 0 a 1") ≡ None
+unfolding opened
+no_point = refl
+
+no_field_behind_the_point : command_of (codes "get 0 a 1.") ≡ None
+unfolding opened
+no_field_behind_the_point = refl
+
+no_object_before_the_point : command_of (codes "get 0 a .1") ≡ None
+unfolding opened
+no_object_before_the_point = refl
+
+second_point : command_of (codes "get 0 a 1.0.0") ≡ None
+unfolding opened
+second_point = refl
+
+comma_for_the_point : command_of (codes "get 0 a 1,0") ≡ None
+unfolding opened
+comma_for_the_point = refl
+
+object_zero : command_of (codes "get 0 a 0.0") ≡ None
+unfolding opened
+object_zero = refl
+
+object_too_large : command_of (codes "get 0 a 18446744073709551616.0") ≡ None
+unfolding opened
+object_too_large = refl
+
+leading_zero_in_an_object : command_of (codes "get 0 a 01.0") ≡ None
+unfolding opened
+leading_zero_in_an_object = refl
+
+field_too_large : command_of (codes "get 0 a 1.30") ≡ None
+unfolding opened
+field_too_large = refl
+
+leading_zero_in_a_field : command_of (codes "get 0 a 1.00") ≡ None
+unfolding opened
+leading_zero_in_a_field = refl
+
+place_missing : command_of (codes "get 0 a") ≡ None
+unfolding opened
+place_missing = refl

@@ -11,16 +11,16 @@ use Rattle.pud_defs.specs.Texts.{answer_text}
 use Rattle.pud_defs.proofs.Opened.{opened}
 
 -- a device of so many frames that was just formatted, with no clients and no files
-abbrev blank_of : ℕ → World
+abbrev pub blank_of : ℕ → World
 blank_of F = record { stored = blank_world F 7; clients = no_clients; shelf = λ _. None }
 
 -- what is said in answer to some lines, one after the other
-unfoldable said : World → List (List ℕ) → List ℕ
+unfoldable pub said : World → List (List ℕ) → List ℕ
 said w [] = []
 said w (line ∷ lines) = answer_text (step_answer w line) ++ said (step_world w line) lines
 
 -- the world behind them
-unfoldable behind : World → List (List ℕ) → World
+unfoldable pub behind : World → List (List ℕ) → World
 behind w [] = w
 behind w (line ∷ lines) = behind (step_world w line) lines
 

@@ -41,6 +41,7 @@ pub mod ExamplesGrammar
 pub mod ExamplesImage
 pub mod ExamplesRun
 pub mod ExamplesPools
+pub mod ExamplesChecks
 pub mod ExamplesLogs
 pub mod ExamplesTables
 pub mod ExamplesLayout

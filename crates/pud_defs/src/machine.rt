@@ -10,26 +10,56 @@ use crate::records::Name;
 #[derive(Clone, Copy, Debug, PartialEq, Eq)]
 pub enum Command {
     /// `client C uid gid`: the client, from 0 to 7, comes and acts as this owner and this group, from 0 to 65,535.
-    Client { client: u8, uid: u32, gid: u32 },
+    Client {
+        client: u8,
+        uid: u32,
+        gid: u32,
+    },
     /// `leave C`: the client, from 0 to 7, goes.
-    Leave { client: u8 },
+    Leave {
+        client: u8,
+    },
     /// `type T n list`: the type `t` has the fields and pointers that the map word `map` gives.
-    Define { t: u32, map: u64 },
+    Define {
+        t: u32,
+        map: u64,
+    },
     /// `pool C P mode`: the client, from 0 to 7, makes the pool of this name with this mode.
-    Pool { client: u8, name: Name, mode: u32 },
+    Pool {
+        client: u8,
+        name: Name,
+        mode: u32,
+    },
     /// `chmod C P mode`: the client, from 0 to 7, gives the pool of this name this mode.
-    Chmod { client: u8, name: Name, mode: u32 },
+    Chmod {
+        client: u8,
+        name: Name,
+        mode: u32,
+    },
     /// `drop C P`: the client, from 0 to 7, drops the pool of this name, with its puddles.
-    Drop { client: u8, name: Name },
+    Drop {
+        client: u8,
+        name: Name,
+    },
     /// `get C P o.f`: the client, from 0 to 7, reads field `f`, from 0 to 29, of the object with serial `s`, at least 1, in the pool
     /// of this name.
-    Get { client: u8, name: Name, s: u64, f: u32 },
+    Get {
+        client: u8,
+        name: Name,
+        s: u64,
+        f: u32,
+    },
     /// `pools`: what pools are there.
     Pools,
     /// `cut N`: power is lost at once, and what is left of words that are not durable is chosen by `pick`.
-    Cut { pick: u64 },
+    Cut {
+        pick: u64,
+    },
     /// `arm K N`: power is lost in the device step that is number `step` from now on, from 1 to 1,000,000, with this pick.
-    Arm { step: u32, pick: u64 },
+    Arm {
+        step: u32,
+        pick: u64,
+    },
 }
 
 /// The answer to a line, where it is no text that the line asks for.

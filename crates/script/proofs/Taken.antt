@@ -13,8 +13,8 @@ unfolding taking
 taking-none kind next = refl
 
 -- what is split has a piece
-has_piece : (bytes : List ℕ) → 0 < length (split_at 32 bytes)
-has_piece bytes = omega (arith, length-slice_split (λ x. x == 32) bytes)
+pub has_piece : (separator : ℕ) (bytes : List ℕ) → 0 < length (split_at separator bytes)
+has_piece separator bytes = omega (arith, length-slice_split (λ x. x == separator) bytes)
 
 pub at_end-none : (command : Command) → at_end command [] ≡ Some command
 unfolding at_end
@@ -26,7 +26,7 @@ at_end-more command [] h = absurd (omega arith)
 at_end-more command (argument ∷ arguments) h = refl
 
 pub at_end-split : (command : Command) (bytes : List ℕ) → at_end command (split_at 32 bytes) ≡ None
-at_end-split command bytes = at_end-more command (split_at 32 bytes) (has_piece bytes)
+at_end-split command bytes = at_end-more command (split_at 32 bytes) (has_piece 32 bytes)
 
 -- what is taken from the front, and what is at the end
 pub ruleset taken = (taking-front, taking-none, at_end-none, at_end-split)

@@ -7,6 +7,7 @@ mod lines;
 mod names;
 mod numbers;
 mod pieces;
+mod places;
 mod replies;
 
 pub use lines::{Bad, parse_line};

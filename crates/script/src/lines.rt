@@ -10,13 +10,14 @@
 //!   three digits out of 0, 2, 4 and 6;
 //! - `chmod C P mode`;
 //! - `drop C P`;
+//! - `get C P o.f`: the serial o of an object from 1 to 2^64 - 1, and the number f of a field from 0 to 29;
 //! - `pools`;
 //! - `cut N`: the pick N, any number below 2^64;
 //! - `arm K N`: the step K from 1 to 1,000,000, and the pick N.
 
 ghost use Rattle.std.specs.Prelude.{◌≡◌, IfOk};
 ghost use Rattle.std.specs.Result.{result_ok};
-ghost use Rattle.pud_defs.specs.Grammar.{split_at, client_by, leave_by, define_by, pool_line_by, chmod_by, drop_by, pools_by, cut_by, arm_by, command_with, command_by, command_of, IsLegalCommand};
+ghost use Rattle.pud_defs.specs.Grammar.{split_at, client_by, leave_by, define_by, pool_line_by, chmod_by, drop_by, get_by, pools_by, cut_by, arm_by, command_with, command_by, command_of, IsLegalCommand};
 
 use crate::arguments::Arguments;
 use crate::pieces::cut;
@@ -91,6 +92,17 @@ fn read_drop(mut arguments: Arguments) -> Option<Command>
     arguments.end(Command::Drop { client, name })
 }
 
+/// The reading of a field.
+#[tactic(auto, unfolding(pud_defs::specs::Grammar::get_by))]
+fn read_get(mut arguments: Arguments) -> Option<Command>
+    ensures { result ≡ get_by arguments.entry }
+{
+    let client = arguments.client()?;
+    let name = arguments.name()?;
+    let (s, f) = arguments.place()?;
+    arguments.end(Command::Get { client, name, s, f })
+}
+
 /// The list of the pools.
 #[tactic(auto, unfolding(pud_defs::specs::Grammar::pools_by))]
 fn read_pools(arguments: Arguments) -> Option<Command>
@@ -135,6 +147,8 @@ fn read_with(word: &[u8], arguments: Arguments) -> Option<Command>
         read_chmod(arguments)
     } else if word == b"drop".as_slice() {
         read_drop(arguments)
+    } else if word == b"get".as_slice() {
+        read_get(arguments)
     } else if word == b"pools".as_slice() {
         read_pools(arguments)
     } else if word == b"cut".as_slice() {

@@ -1,0 +1,30 @@
+//! The places of fields.
+
+ghost use Rattle.std.specs.Prelude.{◌≡◌};
+ghost use Rattle.pud_defs.specs.Grammar.{field_place, object_serial};
+
+use crate::numbers::{read_number, read_within};
+use crate::pieces::cut;
+use pud_defs::layout::MAX_FIELDS;
+
+/// The serial that the bytes are: a number from 1 to 2^64 - 1. None where they are no such number.
+fn read_serial(bytes: &[u8]) -> Option<u64>
+    ensures { result ≡ object_serial bytes.now }
+{
+    let serial = read_number(bytes)?;
+    (serial >= 1).then_some(serial)
+}
+
+/// The serial of an object and the number of a field, from 0 to 29, of the place that the bytes are: both joined by one point. None
+/// where they are no place.
+#[tactic(auto, unfolding(pud_defs::specs::Grammar::field_place), using(crate::proofs::Points::second_point))]
+pub(crate) fn read_place(bytes: &[u8]) -> Option<(u64, u32)>
+    ensures { result ≡ field_place bytes.now }
+{
+    let (object, behind) = cut(bytes, b'.');
+    let (field, further) = cut(behind?, b'.');
+    if further.is_some() {
+        return None;
+    }
+    Some((read_serial(object)?, read_within(field, 0, MAX_FIELDS)?))
+}
