@@ -8,57 +8,43 @@ use Rattle.pud_defs.specs.Names.{name_cmp}
 use Rattle.pud_defs.specs.Keyed.{keyed}
 use Rattle.pud_defs.specs.Pools.{pool_read}
 use Rattle.pud_defs.specs.Spaces.{owner}
-use Rattle.pud_defs.specs.Tables.{Tables, Pool, puddles_of, named, records_of, pool_of, entries, pools_of}
+use Rattle.pud_defs.specs.Tables.{Tables, Pool, Reader, records_of, pool_of, pools_of}
 use Rattle.pud_defs.specs.SoundTables.{is_sound_pool, HasSoundTables}
 use Rattle.pud_defs.specs.World.{StoredWorld}
 use Rattle.pud_defs.specs.Step.Answer.{of_text}
 use Rattle.pud_defs.specs.Texts.{line_of, answer_text}
-use Rattle.pud_defs.specs.Listing.{pool_text, pools_text}
+use Rattle.pud_defs.specs.Listing.{described, pool_text, pools_text}
 use Rattle.pud_defs.proofs.KeyedEach.{flat_map-each, each-weaker}
-use Rattle.pud_defs.proofs.KeyedMaps.{of_entry, keyed-mapped}
+use Rattle.pud_defs.proofs.KeyedMaps.{of_entry}
+use Rattle.pud_defs.proofs.PoolRefusals.{pool_by_record, pools_by_records}
 use Rattle.pud_defs.proofs.Listing.{in_one_line-pools_text}
 use Rattle.pud_defs.proofs.PoolsCounted.{length_puddles}
 use Rattle.pud_defs.proofs.RecordsPlaced.{IsPlaced, each_placed, legal_mode, mode_read}
 use Rattle.pud_defs.proofs.SoundChanged.{legal_pool}
 use Rattle.pool_list.specs.Listed.{record_text, puddles_counted, listed_text}
 
--- ---- the pools are the records, each with its puddles
-
-abbrev pool_here : Tables → ℕ × PoolRec → Pool
-pool_here t e = pool_of e.1 (puddles_of t e.0)
-
-entry_here : (t : Tables) (slot : ℕ) (o : Option PoolRec) → option_map (λ r. (r.name, pool_of r (puddles_of t slot))) o ≡ option_map (of_entry name_cmp (pool_here t)) (option_map (λ r. (r.name, (slot, r))) o)
-entry_here t slot None = refl
-entry_here t slot (Some r) = refl
-
-pools_of-records : (t : Tables) → pools_of t ≡ map (of_entry name_cmp (pool_here t)) (records_of t)
-unfolding pools_of records_of
-pools_of-records t =
-    let each : (slot : ℕ) → entries t slot ≡ option_map (of_entry name_cmp (pool_here t)) (named t slot) = λ slot. entry_here t slot (t.pools slot) in
-    (λ p. keyed name_cmp (λ slot. each slot p) 0 POOL_RECORDS) ∙ keyed-mapped name_cmp (pool_here t) (named t) 0 POOL_RECORDS
-
-module _ (next : ℕ) (t : Tables) (sound : HasSoundTables next t) (id : ℕ) where
+module _ (hold : Reader) (next : ℕ) (t : Tables) (sound : HasSoundTables next t) (id : ℕ) where
   -- the text of a record, as it was read and counted
-  text_here : (e : List ℕ × (ℕ × PoolRec)) → IsPlaced t e → record_text id (pool_read e.1.1) (puddles_counted t e.1.0) ≡ pool_text id (e.0, pool_here t e.1)
+  text_here : (e : List ℕ × (ℕ × PoolRec)) → IsPlaced t e → record_text id (pool_read e.1.1) (puddles_counted t e.1.0) ≡ pool_text id (e.0, pool_by_record hold t e.1)
   unfolding pool_of
   text_here e p =
       let r = e.1.1 in
       let legal = ap (is_sound_pool next) (sym p.used) ∙ legal_pool next t sound e.1.0 p.below in
-      ap₂ (λ (mode puddles : ℕ). pool_text id (r.name, record { owner = owner r.uid r.gid; mode = mode; number = r.number; puddles = puddles }))
+      ap₂ (λ (mode puddles : ℕ). described id r.name (owner r.uid r.gid) mode r.number puddles)
       (mode_read r.mode (legal_mode next r legal)) (sym (length_puddles next t sound e.1.0 p.below))
-      ∙ ap (λ (name : List ℕ). pool_text id (name, pool_here t e.1)) p.name
+      ∙ ap (λ (name : List ℕ). pool_text id (name, pool_by_record hold t e.1)) p.name
 
-  listed_pools : listed_text id t ≡ flat_map (pool_text id) (pools_of t)
+  listed_pools : listed_text id t ≡ flat_map (pool_text id) (pools_of hold t)
   unfolding listed_text
   listed_pools =
       flat_map-map (λ e. record_text id e.1 (puddles_counted t e.0)) (λ e. (e.1.0, pool_read e.1.1)) (records_of t)
       ∙ flat_map-each _ _ (records_of t) (each-weaker (IsPlaced t) _ (records_of t) text_here (each_placed t))
-      ∙ sym (flat_map-map (pool_text id) (of_entry name_cmp (pool_here t)) (records_of t))
-      ∙ sym (ap (flat_map (pool_text id)) (pools_of-records t))
+      ∙ sym (flat_map-map (pool_text id) (of_entry name_cmp (pool_by_record hold t)) (records_of t))
+      ∙ sym (ap (flat_map (pool_text id)) (pools_by_records hold t))
 
 -- the list of sound tables is the answer of the world that they stand for
-pub line_of-listed_text : (next : ℕ) (t : Tables) (s : StoredWorld) (id : ℕ) → HasSoundTables next t → pools_of t ≡ s.pools → id ≡ s.machine → line_of (codes "ok" ++ listed_text id t) ≡ answer_text (of_text (pools_text s))
+pub line_of-listed_text : (hold : Reader) (next : ℕ) (t : Tables) (s : StoredWorld) (id : ℕ) → HasSoundTables next t → pools_of hold t ≡ s.pools → id ≡ s.machine → line_of (codes "ok" ++ listed_text id t) ≡ answer_text (of_text (pools_text s))
 unfolding pools_text
-line_of-listed_text next t s id sound pools machine =
-    let same : listed_text id t ≡ pools_text s = listed_pools next t sound id ∙ ap₂ (λ (n : ℕ) (ps : List (List ℕ × Pool)). flat_map (pool_text n) ps) machine pools in
-    ap (λ text. line_of (codes "ok" ++ text)) (same ∙ sym (in_one_line-pools_text next t s sound pools))
+line_of-listed_text hold next t s id sound pools machine =
+    let same : listed_text id t ≡ pools_text s = listed_pools hold next t sound id ∙ ap₂ (λ (n : ℕ) (ps : List (List ℕ × Pool)). flat_map (pool_text n) ps) machine pools in
+    ap (λ text. line_of (codes "ok" ++ text)) (same ∙ sym (in_one_line-pools_text hold next t s sound pools))

@@ -4,8 +4,8 @@ use Rattle.pud_defs.specs.declared.records.PoolRec.{PoolRec}
 use Rattle.pud_defs.specs.Identifiers.{puddle_uuid, uuid_text}
 use Rattle.pud_defs.specs.Keyed.{count_used}
 use Rattle.pud_defs.specs.Spaces.{owner}
-use Rattle.pud_defs.specs.Listing.{mode_text, colon, pool_text}
-use Rattle.pud_defs.specs.Tables.{Tables, Pool, members}
+use Rattle.pud_defs.specs.Listing.{mode_text, colon, described}
+use Rattle.pud_defs.specs.Tables.{Tables, members}
 use Rattle.pool_table.specs.InOrder.{in_order}
 
 -- ---- the parts of a pool's text
@@ -24,13 +24,9 @@ puddles_text id number puddles = field_text puddles ++ colon ∷ uuid_text (pudd
 
 -- ---- the list
 
--- the pool of this record, with so many puddles
-abbrev pub pool_with : PoolRec → ℕ → Pool
-pool_with r puddles = record { owner = owner r.uid r.gid; mode = r.mode; number = r.number; puddles = puddles }
-
 -- the text of a record with so many puddles, of a machine with this id
 abbrev pub record_text : ℕ → PoolRec → ℕ → List ℕ
-record_text id r puddles = pool_text id (r.name, pool_with r puddles)
+record_text id r puddles = described id r.name (owner r.uid r.gid) r.mode r.number puddles
 
 -- the texts of records with their slots, where this is how many puddles each slot has
 abbrev pub records_text : ℕ → (ℕ → ℕ) → List (ℕ × PoolRec) → List ℕ

@@ -3,7 +3,7 @@
 ghost use Rattle.std.specs.Prelude.{◌≡◌, ◌++◌, ℕ, codes};
 ghost use Rattle.pud_defs.specs.SoundTables.{HasSoundTables};
 ghost use Rattle.pud_defs.specs.Step.Answer.{of_text};
-ghost use Rattle.pud_defs.specs.Tables.{Tables, pools_of};
+ghost use Rattle.pud_defs.specs.Tables.{Tables, Reader, pools_of};
 ghost use Rattle.pud_defs.specs.Texts.{line_of, answer_text};
 ghost use Rattle.pud_defs.specs.Listing.{pools_text};
 ghost use Rattle.pud_defs.specs.World.{StoredWorld};
@@ -11,6 +11,6 @@ ghost use Rattle.pool_list.specs.Listed.{listed_text};
 
 /// What is said of sound tables is the machine's answer to the command that lists the pools.
 pub fn sound_tables_list_their_pools()
-    ensures { (next : ℕ) (t : Tables) (s : StoredWorld) (id : ℕ) → HasSoundTables next t → pools_of t ≡ s.pools → id ≡ s.machine
+    ensures { (hold : Reader) (next : ℕ) (t : Tables) (s : StoredWorld) (id : ℕ) → HasSoundTables next t → pools_of hold t ≡ s.pools → id ≡ s.machine
         → line_of (codes "ok" ++ listed_text id t) ≡ answer_text (of_text (pools_text s)) }
 {}

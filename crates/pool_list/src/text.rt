@@ -123,7 +123,7 @@ fn add_puddles(text: &mut Text, id: u64, number: u64, puddles: u32)
 }
 
 /// The text of the pool of this record with so many puddles, on the machine of this id.
-#[tactic(auto, unfolding(pud_defs::specs::Listing::pool_text))]
+#[tactic(auto, unfolding(pud_defs::specs::Listing::described))]
 pub(crate) fn pool_text(id: u64, rec: &PoolRec, puddles: u32) -> Text
     ensures { result.items ≡ record_text id rec.now puddles }
 {

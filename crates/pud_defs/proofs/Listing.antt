@@ -17,7 +17,7 @@ use Rattle.pud_defs.specs.SoundTables.{is_sound_pool, HasSoundTables}
 use Rattle.pud_defs.specs.World.{StoredWorld}
 use Rattle.pud_defs.specs.Run.{newlines}
 use Rattle.pud_defs.specs.Texts.{in_one_line, reply_text}
-use Rattle.pud_defs.specs.Listing.{name_text, octal_digit, mode_text, space, colon, pool_text, pools_text}
+use Rattle.pud_defs.specs.Listing.{name_text, octal_digit, mode_text, space, colon, described, pool_text, pools_text}
 use Rattle.pud_defs.proofs.Lines.{newlines-append, newlines_one, newlines_other}
 use Rattle.pud_defs.proofs.Said.{newlines-reply_text}
 use Rattle.pud_defs.proofs.KeyedEach.{each-keyed}
@@ -123,7 +123,7 @@ behind_colon front rest h k = joined front (colon ∷ rest) h (behind_byte colon
 -- ---- the text of a pool, and of all
 
 of_pool : (id : ℕ) (e : List ℕ × Pool) → HasNoNewline (name_text e.0) → HasNoNewline (pool_text id e)
-unfolding pool_text
+unfolding described
 of_pool id e name =
     let named = behind_byte space (name_text e.0) (λ s. absurd (omega arith)) name in
     let uid = behind_colon _ _ named (of_decimal e.1.owner.uid) in

@@ -1,6 +1,7 @@
 -- The list of the pools, as a text.
 use Rattle.std.specs.Prelude.{ℕ, ◌+◌, ◌/◌, ◌%◌, not, ◌==◌, List, [], ◌∷◌, ◌++◌, filter, flat_map, decimal}
 use Rattle.pud_defs.specs.Identifiers.{puddle_uuid, uuid_text}
+use Rattle.pud_defs.specs.Spaces.{Owner}
 use Rattle.pud_defs.specs.Tables.{Pool}
 use Rattle.pud_defs.specs.World.{StoredWorld}
 
@@ -22,11 +23,14 @@ space = 32
 abbrev pub colon : ℕ
 colon = 58
 
--- a pool of the machine with this id: ` name:uid:gid:mode:puddles:identifier`
-unfoldable pub pool_text : ℕ → List ℕ × Pool → List ℕ
-pool_text id e =
-    space ∷ name_text e.0 ++ colon ∷ decimal e.1.owner.uid ++ colon ∷ decimal e.1.owner.gid ++ colon ∷ mode_text e.1.mode ++ colon ∷ decimal e.1.puddles
-    ++ colon ∷ uuid_text (puddle_uuid id e.1.number)
+-- a pool by its name and by what is said of it, on the machine with this id: ` name:uid:gid:mode:puddles:identifier`
+unfoldable pub described : (id : ℕ) → List ℕ → Owner → (mode number puddles : ℕ) → List ℕ
+described id name owner mode number puddles =
+    space ∷ name_text name ++ colon ∷ decimal owner.uid ++ colon ∷ decimal owner.gid ++ colon ∷ mode_text mode ++ colon ∷ decimal puddles
+    ++ colon ∷ uuid_text (puddle_uuid id number)
+
+abbrev pub pool_text : ℕ → List ℕ × Pool → List ℕ
+pool_text id e = described id e.0 e.1.owner e.1.mode e.1.number e.1.puddles
 
 -- the pools by ascending names
 unfoldable pub pools_text : StoredWorld → List ℕ

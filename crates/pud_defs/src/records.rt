@@ -90,7 +90,7 @@ pub struct Puddle {
     pub base: u64,
     /// The base over which those pointers stand that are not rewritten yet.
     pub old_base: u64,
-    /// How many steps of the puddle are rewritten, 0 to 63 in a legal record.
+    /// How many steps of the puddle are rewritten, 63 in a legal record.
     pub frontier: u64,
 }
 
@@ -107,7 +107,7 @@ pub struct PuddleRec {
     pub base: u64,
     /// The base over which those pointers stand that are not rewritten yet.
     pub old_base: u64,
-    /// How many steps of the puddle are rewritten, 0 to 63 in a legal record.
+    /// How many steps of the puddle are rewritten, 63 in a legal record.
     pub frontier: u32,
 }
 
