@@ -6,6 +6,10 @@
 //! of the device. Nothing changes, and the only errors are the host's own.
 #![tactic(auto)]
 
+mod asking;
+pub mod holders;
+pub mod judge;
 pub mod places;
 pub mod pointers;
+mod serials;
 mod types;
