@@ -1,2 +1,3 @@
+pub mod Found
 pub mod Mapped
 pub mod Placed

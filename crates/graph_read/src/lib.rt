@@ -6,4 +6,6 @@
 //! of the device. Nothing changes, and the only errors are the host's own.
 #![tactic(auto)]
 
+pub mod places;
+pub mod pointers;
 mod types;
