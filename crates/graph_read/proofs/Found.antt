@@ -12,7 +12,7 @@ use Rattle.pud_defs.specs.Image.{Image}
 use Rattle.pud_defs.specs.Keyed.{first_from, under}
 use Rattle.pud_defs.specs.Types.{types_of}
 use Rattle.pud_defs.specs.Stored.{Stored, stored_in, places_of}
-use Rattle.pud_defs.specs.Graph.{Table, table_of, under_serial, placed, place_of, Object, object_at, live, Graph, has_graph, graph_stored, graph_of, object_in}
+use Rattle.pud_defs.specs.Graph.{Table, under_serial, placed, place_of, object_at, live, Graph, has_graph, graph_stored, graph_of, object_in}
 use Rattle.pud_defs.proofs.Keyed.{find-keyed, first_from_here, first_from_other, first_from_end, first_from_none}
 use Rattle.pud_defs.proofs.TypeLists.{same_test}
 use Rattle.graph_read.specs.Reading.{table_in, place_in_pool}

@@ -1,4 +1,4 @@
-use Rattle.std.proofs.Common.{◌≡◌, sym, ap, ◌∙◌}
+use Rattle.std.proofs.Common.{sym, ap, ◌∙◌}
 use Rattle.std.specs.Prelude.{is_none}
 use Rattle.graph_read.proofs.Found.{none_in_graph}
 use Rattle.graph_read.proofs.places.find_serial.Goals as goal
