@@ -1,3 +1,4 @@
+pub mod Fielded
 pub mod Found
 pub mod Mapped
 pub mod Placed

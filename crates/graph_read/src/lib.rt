@@ -6,6 +6,7 @@
 //! of the device. Nothing changes, and the only errors are the host's own.
 #![tactic(auto)]
 
+pub mod fields;
 pub mod places;
 pub mod pointers;
 mod types;
