@@ -1,0 +1,5 @@
+pub mod Fielded
+pub mod Found
+pub mod Mapped
+pub mod Placed
+pub mod Pointed
