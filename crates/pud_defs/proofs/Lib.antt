@@ -47,5 +47,7 @@ pub mod ExamplesTables
 pub mod ExamplesLayout
 pub mod ExamplesIdentifiers
 pub mod ExamplesPlaces
+pub mod ExamplesGraph
+pub mod ExamplesRights
 pub mod Stands
 pub mod DistinctKeys
