@@ -44,3 +44,5 @@ pub mod ExamplesIdentifiers
 pub mod ExamplesPlaces
 pub mod Stands
 pub mod DistinctKeys
+pub mod Graphs
+pub mod TypeMore

@@ -1,0 +1,57 @@
+-- One type more: what has a graph keeps it, and what has none is read anew.
+use Rattle.std.proofs.Common.{◌≡◌, ℕ, true, List, Option, Some, None, nat_cmp, refl, sym, ap, ◌∙◌, ne_eqb}
+use Rattle.std.specs.FinMap.Entries.{find-put}
+use Rattle.std.proofs.lemmas.Bool.{cond-false}
+use Rattle.std.proofs.lemmas.Cmp.{nat_cmp_total}
+use Rattle.std.proofs.lemmas.Option.{none-some}
+use Rattle.pud_defs.specs.Types.{map_of, with_type}
+use Rattle.pud_defs.specs.Stored.{Stored, places_of}
+use Rattle.pud_defs.specs.Graph.{Graph, table_of, contents_by, all_stand, graph_of, next_serial_of, root_of}
+use Rattle.pud_defs.specs.Holdings.{held_as, held_by, read_anew}
+use Rattle.pud_defs.proofs.TypeLists.{same_test}
+use Rattle.pud_defs.proofs.Graphs.{IsGraph, IsSameTable, IsGraph-same, graph_by-same, graph_of-each, graph_of-from}
+
+-- a type that was defined has its map still
+map_of-more : (id map other m : ℕ) (types : List (ℕ × ℕ)) → map_of id types ≡ None → map_of other types ≡ Some m → map_of other (with_type id map types) ≡ map_of other types
+map_of-more id map other m types none there =
+    find-put nat_cmp nat_cmp_total other id map types ∙ cond-false _ _ _ (same_test other id ∙ ne_eqb other id (λ e. none-some m (sym none ∙ ap (λ k. map_of k types) (sym e) ∙ there)))
+
+-- where all fields stand for something the type is defined
+defined_there : (serial : ℕ → ℕ) (st : Stored) (p : ℕ) (o : Option ℕ) → all_stand serial (contents_by st p o) ≡ true → (m : ℕ) × (o ≡ Some m)
+defined_there serial st p None stand = cc
+defined_there serial st p (Some m) stand = (m, refl)
+
+module _ (id map : ℕ) (types : List (ℕ × ℕ)) (st : Stored) where
+  abbrev more : List (ℕ × ℕ)
+  more = with_type id map types
+
+  table_of-more : (next : ℕ) → map_of id types ≡ None → IsGraph next (root_of st) (table_of types st) (places_of st) → IsSameTable (table_of types st) (table_of more st) (places_of st)
+  table_of-more next none h = record {
+    serial = λ p. refl;
+    type_id = λ p below live. refl;
+    contents = λ p below live.
+        let t = table_of types st in
+        let found = defined_there t.serial st p (map_of (t.type_id p) types) (h.sound p below live).stand in
+        ap (contents_by st p) (map_of-more id map (t.type_id p) found.0 types none found.1);
+  }
+
+  pub graph_of-more : (g : Graph) → map_of id types ≡ None → graph_of types st ≡ Some g → graph_of more st ≡ Some g
+  graph_of-more g none is =
+      let h = graph_of-each types st g is in
+      let same = table_of-more (next_serial_of st) none h.graph in
+      graph_of-from more st g (record { headers = h.headers; graph = IsGraph-same _ _ _ _ _ same h.graph; is = graph_by-same _ _ _ _ _ same ∙ h.is })
+
+  held_more : (o : Option Graph) → map_of id types ≡ None → graph_of types st ≡ o → held_by more st ≡ read_anew more (held_as st o)
+  held_more None none is = refl
+  held_more (Some g) none is = ap (held_as st) (graph_of-more g none is)
+
+  pub held_by-more : map_of id types ≡ None → held_by more st ≡ read_anew more (held_by types st)
+  held_by-more none = held_more (graph_of types st) none refl
+
+settled : (types : List (ℕ × ℕ)) (st : Stored) (o : Option Graph) → graph_of types st ≡ o → read_anew types (held_as st o) ≡ held_as st o
+settled types st None is = ap (held_as st) is
+settled types st (Some g) is = refl
+
+-- what was read by these types is not read anew
+pub held_by-settled : (types : List (ℕ × ℕ)) (st : Stored) → read_anew types (held_by types st) ≡ held_by types st
+held_by-settled types st = settled types st (graph_of types st) refl
