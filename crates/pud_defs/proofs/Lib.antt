@@ -46,3 +46,4 @@ pub mod Stands
 pub mod DistinctKeys
 pub mod Graphs
 pub mod TypeMore
+pub mod FreshGraph
