@@ -1,0 +1,5 @@
+pub mod ContentLists
+pub mod TableChanges
+pub mod Words
+pub mod Pointers
+pub mod Fields
