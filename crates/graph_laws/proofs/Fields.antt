@@ -16,11 +16,11 @@ use Rattle.pud_defs.specs.Frames.{slot_at}
 use Rattle.pud_defs.specs.Stored.{Stored, places_of, place_word}
 use Rattle.pud_defs.specs.Graph.{Content, Number, Null, At, Table, table_of, contents_by, contents_or_none, content, field_count, slot_address, pointee_at, place_of, live, object_at, named_by, value_of, stands, all_stand, Object, Graph, next_serial_of, root_of, graph_stored, graph_of}
 use Rattle.pud_defs.proofs.Graphs.{HasGraph, graph_of-each}
-use Rattle.graph_laws.specs.Changes.{AreBases, with_word, with_words, object_with, with_some_object, with_field}
+use Rattle.graph_laws.specs.Changes.{IsAddress, IsField, with_field_word, with_word, with_words, object_with, with_some_object, with_field}
 use Rattle.graph_laws.proofs.ContentLists.{list_all-set}
 use Rattle.graph_laws.proofs.TableChanges.{IsSameBut, find-live, serials_still, IsGraph-in_place, objects-in_place}
 use Rattle.graph_laws.proofs.Words.{with_word-there, with_word-other, few_fields, KeepsOthers, same_but, IsLive, place_of-some, graph_of-words}
-use Rattle.graph_laws.proofs.Pointers.{pointee_at-null, pointee_at-there}
+use Rattle.graph_laws.proofs.Pointers.{pointee_at-null, pointee_at-address}
 
 -- one of the values of a range is another
 map-range_set : {X : Type 0} (f g : ℕ → X) (n i : ℕ) → ((k : ℕ) → k < n → (k ≡ i → ⊥) → f k ≡ g k) → map f (range_with_len 0 n) ≡ set (map g (range_with_len 0 n)) i (f i)
@@ -133,14 +133,13 @@ module _ (types : List (ℕ × ℕ)) (st : Stored) (p m f v : ℕ) (below : f < 
             ∙ ap (λ (k : Graph). Some (with_field (before.serial p) f x k)) h.is
 
 -- A field's word is stored: what it stands for stands, and is the value x.
-pub graph_of-field : (types : List (ℕ × ℕ)) (st : Stored) (g : Graph) (s p m f v : ℕ) (x : Val) → graph_of types st ≡ Some g → place_of s (table_of types st) (places_of st) ≡ Some p
-    → map_of (place_word st.word p SLOT_TYPE_WORD) types ≡ Some m → f < field_count m
+graph_of-field : (types : List (ℕ × ℕ)) (st : Stored) (g : Graph) (s p m f v : ℕ) (x : Val) → graph_of types st ≡ Some g → IsField types st s p m f
     → stands (table_of types st).serial (content st.puddles m p f v) ≡ true → value_of (table_of types st).serial (content st.puddles m p f v) ≡ x
-    → graph_of types (with_words (with_word (p / FRAME_SLOTS) (slot_at (p % FRAME_SLOTS) + SLOT_FIELDS_WORD + f) v st.word) st) ≡ Some (with_field s f x g)
-graph_of-field types st g s p m f v x is found defined below stand value =
+    → graph_of types (with_field_word p f v st) ≡ Some (with_field s f x g)
+graph_of-field types st g s p m f v x is field stand value =
     let t = table_of types st in
-    let there = place_of-some t (places_of st) s p found in
-    field_after types st p m f v below defined (record { within = there.within; is = refl; used = there.used }) g x (graph_of-each types st g is) stand value
+    let there = place_of-some t (places_of st) s p field.place in
+    field_after types st p m f v field.below field.defined (record { within = there.within; is = refl; used = there.used }) g x (graph_of-each types st g is) stand value
     ∙ ap (λ k. Some (with_field k f x g)) there.is
 
 -- ---- the three kinds of words
@@ -151,32 +150,27 @@ content_number puddles m p f v number = cond-false _ _ _ number
 content_pointer : (puddles : List Puddle) (m p f v : ℕ) → is_pointer m f ≡ true → content puddles m p f v ≡ pointee_at puddles (p / FRAME_SLOTS) (p % FRAME_SLOTS + 1) v
 content_pointer puddles m p f v pointer = cond-true _ _ _ pointer
 
-pub graph_of-number : (types : List (ℕ × ℕ)) (st : Stored) (g : Graph) (s p m f v : ℕ) → graph_of types st ≡ Some g → place_of s (table_of types st) (places_of st) ≡ Some p
-    → map_of (place_word st.word p SLOT_TYPE_WORD) types ≡ Some m → f < field_count m → is_pointer m f ≡ false
-    → graph_of types (with_words (with_word (p / FRAME_SLOTS) (slot_at (p % FRAME_SLOTS) + SLOT_FIELDS_WORD + f) v st.word) st) ≡ Some (with_field s f (Num v) g)
-graph_of-number types st g s p m f v is found defined below number =
+pub graph_of-number : (types : List (ℕ × ℕ)) (st : Stored) (g : Graph) (s p m f v : ℕ) → graph_of types st ≡ Some g → IsField types st s p m f → is_pointer m f ≡ false
+    → graph_of types (with_field_word p f v st) ≡ Some (with_field s f (Num v) g)
+graph_of-number types st g s p m f v is field number =
     let serial = (table_of types st).serial in
     let content = content_number st.puddles m p f v number in
-    graph_of-field types st g s p m f v (Num v) is found defined below (ap (stands serial) content) (ap (value_of serial) content)
+    graph_of-field types st g s p m f v (Num v) is field (ap (stands serial) content) (ap (value_of serial) content)
 
-pub graph_of-null : (types : List (ℕ × ℕ)) (st : Stored) (g : Graph) (s p m f : ℕ) → graph_of types st ≡ Some g → place_of s (table_of types st) (places_of st) ≡ Some p
-    → map_of (place_word st.word p SLOT_TYPE_WORD) types ≡ Some m → f < field_count m → is_pointer m f ≡ true
-    → graph_of types (with_words (with_word (p / FRAME_SLOTS) (slot_at (p % FRAME_SLOTS) + SLOT_FIELDS_WORD + f) 0 st.word) st) ≡ Some (with_field s f (Ref 0) g)
-graph_of-null types st g s p m f is found defined below pointer =
+pub graph_of-null : (types : List (ℕ × ℕ)) (st : Stored) (g : Graph) (s p m f : ℕ) → graph_of types st ≡ Some g → IsField types st s p m f → is_pointer m f ≡ true
+    → graph_of types (with_field_word p f 0 st) ≡ Some (with_field s f (Ref 0) g)
+graph_of-null types st g s p m f is field pointer =
     let serial = (table_of types st).serial in
     let content = content_pointer st.puddles m p f 0 pointer ∙ pointee_at-null st.puddles (p / FRAME_SLOTS) (p % FRAME_SLOTS + 1) 0 refl in
-    graph_of-field types st g s p m f 0 (Ref 0) is found defined below (ap (stands serial) content) (ap (value_of serial) content)
+    graph_of-field types st g s p m f 0 (Ref 0) is field (ap (stands serial) content) (ap (value_of serial) content)
 
-pub graph_of-reference : (types : List (ℕ × ℕ)) (st : Stored) (g : Graph) (s p m f r q : ℕ) (home away : Puddle) → graph_of types st ≡ Some g → place_of s (table_of types st) (places_of st) ≡ Some p
-    → map_of (place_word st.word p SLOT_TYPE_WORD) types ≡ Some m → f < field_count m → is_pointer m f ≡ true
-    → place_of r (table_of types st) (places_of st) ≡ Some q
-    → AreBases (map (λ d. d.base) st.puddles) → slice_get st.puddles (p / FRAME_SLOTS) ≡ Some home → p % FRAME_SLOTS + 1 < home.frontier → slice_get st.puddles (q / FRAME_SLOTS) ≡ Some away
-    → graph_of types (with_words (with_word (p / FRAME_SLOTS) (slot_at (p % FRAME_SLOTS) + SLOT_FIELDS_WORD + f) (slot_address away.base (q % FRAME_SLOTS)) st.word) st) ≡ Some (with_field s f (Ref r) g)
-graph_of-reference types st g s p m f r q home away is found defined below pointer named bases here moved there =
+pub graph_of-reference : (types : List (ℕ × ℕ)) (st : Stored) (g : Graph) (s p m f v r q : ℕ) → graph_of types st ≡ Some g → IsField types st s p m f → is_pointer m f ≡ true
+    → place_of r (table_of types st) (places_of st) ≡ Some q → IsAddress st.puddles (p / FRAME_SLOTS) (p % FRAME_SLOTS + 1) q v
+    → graph_of types (with_field_word p f v st) ≡ Some (with_field s f (Ref r) g)
+graph_of-reference types st g s p m f v r q is field pointer named address =
     let t = table_of types st in
     let target = place_of-some t (places_of st) r q named in
-    let v = slot_address away.base (q % FRAME_SLOTS) in
-    let content = content_pointer st.puddles m p f v pointer ∙ pointee_at-there st.puddles (p / FRAME_SLOTS) (p % FRAME_SLOTS + 1) q home away bases here moved there in
-    graph_of-field types st g s p m f v (Ref r) is found defined below
+    let content = content_pointer st.puddles m p f v pointer ∙ pointee_at-address st.puddles (p / FRAME_SLOTS) (p % FRAME_SLOTS + 1) q v address in
+    graph_of-field types st g s p m f v (Ref r) is field
     (ap (stands t.serial) content ∙ ap not (ne_eqb (t.serial q) 0 target.used))
     (ap (value_of t.serial) content ∙ ap (λ k. Ref k) target.is)

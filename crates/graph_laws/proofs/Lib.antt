@@ -3,3 +3,6 @@ pub mod TableChanges
 pub mod Words
 pub mod Pointers
 pub mod Fields
+pub mod NewObjects
+pub mod FreedObjects
+pub mod Roots

@@ -9,7 +9,7 @@ use Rattle.pud_defs.specs.declared.records.Puddle.{Puddle}
 use Rattle.pud_defs.specs.Frames.{slot_at}
 use Rattle.pud_defs.specs.Graph.{Content, Null, At, slot_address, slot_in, place_in, at_place, target, bases_for, bases_by, pointee_at}
 use Rattle.pud_defs.proofs.FreshGraph.{target-null}
-use Rattle.graph_laws.specs.Changes.{AreBases}
+use Rattle.graph_laws.specs.Changes.{AreBases, IsAddress}
 
 -- ---- one puddle
 
@@ -84,11 +84,10 @@ pub pointee_at-null : (puddles : List Puddle) (ordinal step v : ℕ) → v ≡ 0
 pointee_at-null puddles ordinal step v null = target-null (bases_by puddles (slice_get puddles ordinal) step) v null
 
 -- below its puddle's frontier it is read over the pool's bases
-pub pointee_at-there : (puddles : List Puddle) (ordinal step q : ℕ) (home away : Puddle) → AreBases (map (λ d. d.base) puddles) → slice_get puddles ordinal ≡ Some home → step < home.frontier → slice_get puddles (q / FRAME_SLOTS) ≡ Some away
-    → pointee_at puddles ordinal step (slot_address away.base (q % FRAME_SLOTS)) ≡ At q
-pointee_at-there puddles ordinal step q home away h here below there =
-    let v = slot_address away.base (q % FRAME_SLOTS) in
-    let base = slice_get-map (λ (d : Puddle). d.base) puddles (q / FRAME_SLOTS) ∙ ap (option_map (λ (d : Puddle). d.base)) there in
-    ap (λ (o : Option Puddle). target (bases_by puddles o step) v) here
-    ∙ ap (λ (bases : List ℕ). target bases v) (cond-true _ _ _ (lt-ltb _ _ below))
-    ∙ target-there (map (λ d. d.base) puddles) q away.base h base
+pub pointee_at-address : (puddles : List Puddle) (ordinal step q v : ℕ) → IsAddress puddles ordinal step q v → pointee_at puddles ordinal step v ≡ At q
+pointee_at-address puddles ordinal step q v h =
+    let base = slice_get-map (λ (d : Puddle). d.base) puddles (q / FRAME_SLOTS) ∙ ap (option_map (λ (d : Puddle). d.base)) h.there in
+    ap (λ (o : Option Puddle). target (bases_by puddles o step) v) h.here
+    ∙ ap (λ (bases : List ℕ). target bases v) (cond-true _ _ _ (lt-ltb _ _ h.rewritten))
+    ∙ ap (target (map (λ d. d.base) puddles)) h.address
+    ∙ target-there (map (λ d. d.base) puddles) q h.away.base h.bases base
