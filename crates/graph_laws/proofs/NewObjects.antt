@@ -12,6 +12,7 @@ use Rattle.pud_defs.specs.Types.{map_of}
 use Rattle.pud_defs.specs.Frames.{slot_at}
 use Rattle.pud_defs.specs.Stored.{Stored, places_of, place_word}
 use Rattle.pud_defs.specs.Graph.{Content, Table, table_of, contents_by, contents_or_none, content, field_count, pointee_at, object_at, named_by, value_of, stands, all_stand, is_next_serial, Object, Graph, next_serial_of, root_of, graph_stored, graph_of}
+use Rattle.pud_defs.proofs.Contents.{list_all-range}
 use Rattle.pud_defs.proofs.Graphs.{IsGraph, HasGraph, graph_of-each}
 use Rattle.graph_laws.specs.Changes.{with_words, blank_value, blank_object, with_new, IsMade}
 use Rattle.graph_laws.proofs.ContentLists.{names_no_free, name_no_free}
@@ -20,10 +21,6 @@ use Rattle.graph_laws.proofs.Words.{few_fields, map-range_same, KeepsOthers, sam
 use Rattle.graph_laws.proofs.Pointers.{pointee_at-null}
 
 -- ---- fields of 0
-
-list_all-range : {X : Type 0} (test : X → Bool) (f : ℕ → X) (each : (k : ℕ) → test (f k) ≡ true) (from count : ℕ) → list_all test (map f (range_with_len from count)) ≡ true
-list_all-range test f each from zero = refl
-list_all-range test f each from (suc count) = and_from _ _ (each from) (list_all-range test f each (from + 1) count)
 
 map-map_each : {X Y : Type 0} (f : ℕ → X) (h : X → Y) (g : ℕ → Y) (each : (k : ℕ) → h (f k) ≡ g k) (ks : List ℕ) → map h (map f ks) ≡ map g ks
 map-map_each f h g each [] = refl

@@ -1,10 +1,11 @@
 -- The root pointer is stored: the graph has another root.
-use Rattle.std.proofs.Common.{◌≡◌, ℕ, ◌+◌, ◌*◌, ◌/◌, ◌%◌, ◌<◌, ◌≤◌, Bool, true, false, not, List, map, Option, Some, None, refl, sym, ap, ap₂, ◌∙◌, arith, ne_eqb}
+use Rattle.std.proofs.Common.{◌≡◌, ℕ, ◌+◌, ◌*◌, ◌/◌, ◌%◌, ◌<◌, ◌≤◌, Bool, true, false, not, ltb, List, map, Option, Some, None, refl, sym, ap, ap₂, ◌∙◌, arith, ne_eqb}
 use Rattle.pud_defs.specs.declared.space.TheConstants.{FRAME_SLOTS, ROOT_WORD}
 use Rattle.pud_defs.specs.Types.{map_of}
 use Rattle.pud_defs.specs.Frames.{slot_at}
 use Rattle.pud_defs.specs.Stored.{Stored, places_of, place_word}
 use Rattle.pud_defs.specs.Graph.{Content, Table, table_of, contents_by, pointee_at, place_of, named_by, stands, Graph, next_serial_of, root_of, graph_by, graph_stored, graph_of}
+use Rattle.pud_defs.proofs.Contents.{names_only, pointee_at_within, contents_by_within}
 use Rattle.pud_defs.proofs.Graphs.{IsGraph, HasGraph, IsSameTable, IsGraph-same, graph_by-same, graph_of-each}
 use Rattle.graph_laws.specs.Changes.{IsAddress, with_word, with_words, with_root_word, with_root}
 use Rattle.graph_laws.proofs.Words.{with_word-there, with_word-other, contents_by-same, few_fields, place_of-some, graph_of-words}
@@ -19,11 +20,12 @@ module _ (types : List (ℕ × ℕ)) (st : Stored) (v : ℕ) where
 
   slots_kept : IsSameTable (table_of types st) (table_of types (with_words later st)) (places_of st)
   slots_kept = record {
-    serial = λ p. kept (p / FRAME_SLOTS) (slot_at (p % FRAME_SLOTS) + 0) (λ at. absurd (omega arith));
+    serial = λ p below. kept (p / FRAME_SLOTS) (slot_at (p % FRAME_SLOTS) + 0) (λ at. absurd (omega arith));
     type_id = λ p below used. kept (p / FRAME_SLOTS) (slot_at (p % FRAME_SLOTS) + 1) (λ at. absurd (omega arith));
     contents = λ p below used.
         ap (λ k. contents_by (with_words later st) p (map_of k types)) (kept (p / FRAME_SLOTS) (slot_at (p % FRAME_SLOTS) + 1) (λ at. absurd (omega arith)))
         ∙ contents_by-same st later p (map_of (place_word st.word p 1) types) (λ m f is low. kept (p / FRAME_SLOTS) (slot_at (p % FRAME_SLOTS) + (2 + f)) (λ at. absurd (omega arith)));
+    within = λ p below used. contents_by_within st p (map_of (place_word st.word p 1) types);
   }
 
   graph_after : (g : Graph) (s : ℕ) (top : Content) → HasGraph types st g → pointee_at st.puddles 0 0 v ≡ top → stands (table_of types st).serial top ≡ true → named_by (table_of types st).serial top ≡ s
@@ -32,13 +34,14 @@ module _ (types : List (ℕ × ℕ)) (st : Stored) (v : ℕ) where
       let t = table_of types st in
       let n = places_of st in
       let next = next_serial_of st in
+      let within = ap (names_only (λ q. ltb q n)) (sym is) ∙ pointee_at_within st.puddles 0 0 v in
       let graph : IsGraph next top t n = record { legal = h.graph.legal; top_stands = stand; distinct = h.graph.distinct; sound = h.graph.sound } in
       graph_of-words types st later next top (with_root s (graph_stored types st)) h.headers
       (λ o k low few. kept o k (λ at. absurd (omega arith)))
       (kept 0 3 (λ at. absurd (omega arith)))
       (ap (pointee_at st.puddles 0 0) (with_word-there 0 ROOT_WORD v st.word) ∙ is)
-      (IsGraph-same next top t (table_of types (with_words later st)) n slots_kept graph)
-      (graph_by-same next top t (table_of types (with_words later st)) n slots_kept ∙ ap (λ k. with_root k (graph_stored types st)) names)
+      (IsGraph-same t (table_of types (with_words later st)) n slots_kept next top within graph)
+      (graph_by-same t (table_of types (with_words later st)) n slots_kept next top within ∙ ap (λ k. with_root k (graph_stored types st)) names)
       ∙ ap (λ (k : Graph). Some (with_root s k)) h.is
 
 pub graph_of-no_root : (types : List (ℕ × ℕ)) (st : Stored) (g : Graph) → graph_of types st ≡ Some g → graph_of types (with_root_word 0 st) ≡ Some (with_root 0 g)

@@ -2,14 +2,15 @@
 use Rattle.std.proofs.Common.{◌≡◌, ◌⊎◌, inl, inr, ℕ, ◌+◌, ◌<◌, ◌≤◌, Bool, true, false, cond, eqb, List, map, Option, Some, None, nat_cmp, option_map, refl, sym, ap, ap₂, subst, ◌∙◌, ⊎_elim, arith, eq-eqb, ne_eqb, zero-le}
 use Rattle.std.specs.Ordering.{eq_by_cmp}
 use Rattle.std.specs.FinMap.Entries.{put, find}
-use Rattle.std.proofs.lemmas.Bool.{cases_eq, cond-true, cond-false, eqb-false, eqb-true}
+use Rattle.std.proofs.lemmas.Bool.{cases_eq, cond-true, cond-false, not-true, eqb-false, eqb-true}
 use Rattle.std.proofs.lemmas.Cmp.{nat_cmp_total}
 use Rattle.pud_defs.specs.Keyed.{keyed, under, without}
 use Rattle.pud_defs.specs.Graph.{Content, Table, Object, under_serial, placed, object_at, live, named_by, value_of, stands, all_stand, contents_or_none, is_next_serial}
 use Rattle.pud_defs.proofs.TypeLists.{same_test, same_number}
 use Rattle.pud_defs.proofs.Keyed.{HasDistinctKeys, IsSetAt, is_free_for, under_apart, under_none, alone_there, keyed-same, keyed-put, keyed-without, HasDistinctKeys-set, HasDistinctKeys-keys, find-keyed_place}
 use Rattle.pud_defs.proofs.Graphs.{IsSoundPlace, IsGraph}
-use Rattle.graph_laws.proofs.ContentLists.{names_place, name_place, stands-other, named_by-other, all_stand-other, values-other}
+use Rattle.pud_defs.proofs.Contents.{names_only, name_only, stands-same, named_by-same, all_stand-same, values-same}
+use Rattle.graph_laws.proofs.ContentLists.{is_other}
 
 -- ---- a keyed list of which one record is changed, by what stands below its end
 
@@ -99,10 +100,13 @@ pub record IsSameBut (t u : Table) (n p : ℕ) : Type 0 where
 
 -- no other live place names the place
 pub record IsUnnamed (top : Content) (t : Table) (n p : ℕ) : Type 0 where
-  pub root : names_place p top ≡ false
-  pub each : (q : ℕ) → q < n → (q ≡ p → ⊥) → (t.serial q ≡ 0 → ⊥) → name_place p (t.contents q) ≡ false
+  pub root : names_only (is_other p) top ≡ true
+  pub each : (q : ℕ) → q < n → (q ≡ p → ⊥) → (t.serial q ≡ 0 → ⊥) → name_only (is_other p) (t.contents q) ≡ true
 
 module _ (t u : Table) (n p : ℕ) (same : IsSameBut t u n p) where
+  agree : (q : ℕ) → is_other p q ≡ true → u.serial q ≡ t.serial q
+  agree q other = same.serial q (eqb-false q p (not-true _ other))
+
   -- another place holds what it held, where the values are the same
   live-other : (q : ℕ) → q < n → (q ≡ p → ⊥)
       → ((t.serial q ≡ 0 → ⊥) → map (value_of u.serial) (contents_or_none (t.contents q)) ≡ map (value_of t.serial) (contents_or_none (t.contents q)))
@@ -156,15 +160,15 @@ module _ (t u : Table) (n p : ℕ) (same : IsSameBut t u n p) where
 
   module _ (next : ℕ) (top : Content) (h : IsGraph next top t n) (unnamed : IsUnnamed top t n p) where
     live-unnamed : (q : ℕ) → q < n → (q ≡ p → ⊥) → live u q ≡ live t q
-    live-unnamed q below other = live-other q below other (λ used. values-other t.serial u.serial p same.serial (contents_or_none (t.contents q)) (unnamed.each q below other used))
+    live-unnamed q below other = live-other q below other (λ used. values-same t.serial u.serial (is_other p) agree (contents_or_none (t.contents q)) (unnamed.each q below other used))
 
     pub root-unnamed : named_by u.serial top ≡ named_by t.serial top
-    root-unnamed = named_by-other t.serial u.serial p same.serial top unnamed.root
+    root-unnamed = named_by-same t.serial u.serial (is_other p) agree top unnamed.root
 
     pub IsGraph-unnamed : (later : ℕ) → next ≤ later → is_next_serial later ≡ true → HasDistinctKeys nat_cmp (placed u) 0 n → ((u.serial p ≡ 0 → ⊥) → IsSoundPlace later u p) → IsGraph later top u n
     IsGraph-unnamed later more legal distinct here = record {
       legal = legal;
-      top_stands = stands-other t.serial u.serial p same.serial top unnamed.root ∙ h.top_stands;
+      top_stands = stands-same t.serial u.serial (is_other p) agree top unnamed.root ∙ h.top_stands;
       distinct = distinct;
       sound = λ q below used. ⊎_elim
       (λ e. subst (λ k. IsSoundPlace later u k) (sym e) (here (λ free. used (ap u.serial e ∙ free))))
@@ -175,7 +179,7 @@ module _ (t u : Table) (n p : ℕ) (same : IsSameBut t u n p) where
       let low = sound.below in
       record {
         below = omega arith;
-        stand = ap (all_stand u.serial) (same.contents q below other live) ∙ all_stand-other t.serial u.serial p same.serial (t.contents q) (unnamed.each q below other live) ∙ sound.stand;
+        stand = ap (all_stand u.serial) (same.contents q below other live) ∙ all_stand-same t.serial u.serial (is_other p) agree (t.contents q) (unnamed.each q below other live) ∙ sound.stand;
       })
       (cases_eq q p);
     }

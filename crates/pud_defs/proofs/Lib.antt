@@ -44,6 +44,7 @@ pub mod ExamplesIdentifiers
 pub mod ExamplesPlaces
 pub mod Stands
 pub mod DistinctKeys
+pub mod Contents
 pub mod Graphs
 pub mod TypeMore
 pub mod FreshGraph
