@@ -6,3 +6,6 @@ pub mod Fields
 pub mod NewObjects
 pub mod FreedObjects
 pub mod Roots
+pub mod Same
+pub mod Unread
+pub mod Grown

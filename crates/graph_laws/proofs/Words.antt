@@ -36,7 +36,7 @@ with_word-other o k v word other at apart = ⊎_elim
 
 -- ---- headers
 
-has_header-same : (ordinal : ℕ) (f g : ℕ → ℕ) (p : Option Puddle) → f 0 ≡ g 0 → f 1 ≡ g 1 → f 2 ≡ g 2 → has_header ordinal f p ≡ has_header ordinal g p
+pub has_header-same : (ordinal : ℕ) (f g : ℕ → ℕ) (p : Option Puddle) → f 0 ≡ g 0 → f 1 ≡ g 1 → f 2 ≡ g 2 → has_header ordinal f p ≡ has_header ordinal g p
 has_header-same ordinal f g None magic number place = refl
 has_header-same ordinal f g (Some p) magic number place = λ i. is_header p.number ordinal (magic i) (number i) (place i)
 

@@ -24,13 +24,17 @@ with_word o k v word other at = cond (other == o && at == k) v (word other at)
 abbrev pub with_words : (ℕ → ℕ → ℕ) → Stored → Stored
 with_words word st = record { puddles = st.puddles; word = word }
 
--- field f of the slot at a place, as a word
+-- word j of the slot at a place
+abbrev pub with_slot_word : (p j v : ℕ) → Stored → Stored
+with_slot_word p j v st = with_words (with_word (p / FRAME_SLOTS) (slot_at (p % FRAME_SLOTS) + j) v st.word) st
+
+-- its serial
+abbrev pub with_serial_word : (p v : ℕ) → Stored → Stored
+with_serial_word p v st = with_slot_word p SLOT_SERIAL_WORD v st
+
+-- the word of field f of the slot at a place
 abbrev pub with_field_word : (p f v : ℕ) → Stored → Stored
 with_field_word p f v st = with_words (with_word (p / FRAME_SLOTS) (slot_at (p % FRAME_SLOTS) + SLOT_FIELDS_WORD + f) v st.word) st
-
--- the serial of the slot at a place
-abbrev pub with_serial_word : (p v : ℕ) → Stored → Stored
-with_serial_word p v st = with_words (with_word (p / FRAME_SLOTS) (slot_at (p % FRAME_SLOTS) + SLOT_SERIAL_WORD) v st.word) st
 
 -- the root pointer
 abbrev pub with_root_word : ℕ → Stored → Stored
