@@ -110,3 +110,65 @@ module _ (u : Table) (n more : ℕ) (free : (p : ℕ) → n ≤ p → p < n + mo
   graph_by-longer : graph_by next top u (n + more) ≡ graph_by next top u n
   graph_by-longer = ap (λ es. record { next_serial = next; root = named_by u.serial top; objects = es })
     (keyed-longer (live u) 0 n more (λ p low high. under_serial-free u.serial (object_at u) p (free p (omega arith) (omega arith))))
+
+-- ---- the graph
+
+module _ (types : List (ℕ × ℕ)) (st : Stored) (d : Puddle) (word : ℕ → ℕ → ℕ) (grown : IsGrown st d word) where
+  abbrev later : Stored
+  later = with_puddle d word st
+
+  abbrev before : Table
+  before = table_of types st
+
+  abbrev after : Table
+  after = table_of types later
+
+  headers_after : headers_fit st ≡ true → headers_fit later ≡ true
+  unfolding headers_fit
+  headers_after fit =
+      let size = length_push st.puddles d in
+      let count = length st.puddles in
+      all_below-from (length later.puddles) (λ o. has_header o (word o) (slice_get later.puddles o)) (λ o below. ⊎_elim
+      (λ low.
+      ap (has_header o (word o)) (slice_get-front st.puddles (d ∷ []) o low)
+      ∙ has_header-same o (word o) (st.word o) (slice_get st.puddles o) (grown.others o 0 low) (grown.others o 1 low) (grown.others o 2 low)
+      ∙ all_below-each count (λ k. has_header k (st.word k) (slice_get st.puddles k)) fit o low)
+      (λ high.
+      let last : o ≡ count = omega arith in
+      ap (λ k. has_header k (word k) (slice_get later.puddles k)) last ∙ ap (has_header count (word count)) (slice_get-push st.puddles d) ∙ grown.header)
+      (cases_lt o count))
+
+  kept : (p k : ℕ) → p < places_of st → place_word word p k ≡ place_word st.word p k
+  kept p k below = grown.others (p / FRAME_SLOTS) _ (omega arith)
+
+  same_table : (next : ℕ) → IsGraph next (root_of st) before (places_of st) → IsSameTable before after (places_of st)
+  same_table next h = record {
+    serial = λ p below. kept p 0 below;
+    type_id = λ p below used. kept p 1 below;
+    contents = λ p below used.
+        ap (λ k. contents_by later p (map_of k types)) (kept p 1 below)
+        ∙ contents_by-stands st later p before.serial (map_of (place_word st.word p SLOT_TYPE_WORD) types) (h.sound p below used).stand
+        (λ m f is low stand. ap (content later.puddles m p f) (kept p (SLOT_FIELDS_WORD + f) below) ∙ content-longer before.serial st.puddles d m p f (place_word st.word p (SLOT_FIELDS_WORD + f)) (omega arith) stand);
+    within = λ p below used. contents_by_within st p (map_of (place_word st.word p SLOT_TYPE_WORD) types);
+  }
+
+  pub graph_of-grown : (g : Graph) → graph_of types st ≡ Some g → graph_of types later ≡ Some g
+  graph_of-grown g is =
+      let h = graph_of-each types st g is in
+      let n = places_of st in
+      let next = next_serial_of st in
+      let top = root_of st in
+      let places : places_of later ≡ n + FRAME_SLOTS = omega (arith, length_push st.puddles d) in
+      let slots = same_table next h.graph in
+      let within = pointee_at_within st.puddles 0 0 (st.word 0 ROOT_WORD) in
+      let first : word 0 NEXT_SERIAL_WORD ≡ next = grown.others 0 NEXT_SERIAL_WORD grown.some in
+      let root : root_of later ≡ top = ap (pointee_at later.puddles 0 0) (grown.others 0 ROOT_WORD grown.some) ∙ pointee_at-longer before.serial st.puddles d 0 0 (st.word 0 ROOT_WORD) grown.some h.graph.top_stands in
+      graph_of-from types later g (record {
+        headers = headers_after h.headers;
+        graph =
+            subst (λ (k : ℕ). IsGraph (next_serial_of later) (root_of later) after k) (sym places)
+            (subst (λ (k : ℕ). IsGraph k (root_of later) after (n + FRAME_SLOTS)) (sym first)
+            (subst (λ (c : Content). IsGraph next c after (n + FRAME_SLOTS)) (sym root)
+            (IsGraph-longer after n FRAME_SLOTS grown.free next top (IsGraph-same before after n slots next top within h.graph))));
+        is = (λ i. graph_by (first i) (root i) after (places i)) ∙ graph_by-longer after n FRAME_SLOTS grown.free next top ∙ graph_by-same before after n slots next top within ∙ h.is;
+      })

@@ -9,3 +9,4 @@ pub mod Roots
 pub mod Same
 pub mod Unread
 pub mod Grown
+pub mod Rewritten

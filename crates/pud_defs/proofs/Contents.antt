@@ -82,7 +82,7 @@ first_or_later : (first base v p end : ℕ) (o later : Option ℕ) → slot_in b
 first_or_later first base v p end None later here room rest is = rest is
 first_or_later first base v p end (Some slot) later here room rest is = let within = slot_in_within base v slot here in let same = same_Some (first + slot) p is in omega arith
 
-place_in_within : (first : ℕ) (bases : List ℕ) (v p : ℕ) → place_in first bases v ≡ Some p → p < first + FRAME_SLOTS * length bases
+pub place_in_within : (first : ℕ) (bases : List ℕ) (v p : ℕ) → place_in first bases v ≡ Some p → p < first + FRAME_SLOTS * length bases
 unfolding place_in
 place_in_within first [] v p is = absurd (none-some p is)
 place_in_within first (base ∷ bases) v p is =
