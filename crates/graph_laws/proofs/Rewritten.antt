@@ -18,9 +18,9 @@ use Rattle.pud_defs.proofs.FreshGraph.{target-null}
 use Rattle.pud_defs.proofs.Graphs.{IsGraph, HasGraph, graph_of-each}
 use Rattle.graph_laws.specs.Changes.{AreBases, with_word}
 use Rattle.graph_laws.specs.Rewriting.{base_of, address_of, rewritten, rewritten_field, moved_to, with_some_puddle, with_frontier, stepped, RewritesSlot}
-use Rattle.graph_laws.proofs.Words.{few_fields, has_header-same, with_word-there, with_word-other}
+use Rattle.graph_laws.proofs.Words.{few_fields, contents_by-each, has_header-same, with_word-there, with_word-other}
 use Rattle.graph_laws.proofs.Pointers.{target-there}
-use Rattle.graph_laws.proofs.Same.{StandsSame, graph_of-kept, graph_of-same, contents_by-each, contents_by-stands}
+use Rattle.graph_laws.proofs.Same.{StandsSame, graph_of-kept, graph_of-same, contents_by-stands}
 
 -- ---- a list of which one is set
 

@@ -33,17 +33,6 @@ contents_by-stands st later p serial (Some m) stand same =
     (map-range_same (λ f. content later.puddles m p f (place_word later.word p (SLOT_FIELDS_WORD + f))) was (field_count m)
     (λ f below. same m f refl below (list_all-range_each (stands serial) was 0 (field_count m) stand f (omega arith) (omega arith))))
 
--- fields of which each stands for the same
-pub contents_by-each : (st later : Stored) (p : ℕ) (type : Option ℕ)
-    → ((m f : ℕ) → type ≡ Some m → f < field_count m
-    → content later.puddles m p f (place_word later.word p (SLOT_FIELDS_WORD + f)) ≡ content st.puddles m p f (place_word st.word p (SLOT_FIELDS_WORD + f)))
-    → contents_by later p type ≡ contents_by st p type
-contents_by-each st later p None same = refl
-contents_by-each st later p (Some m) same =
-    ap (λ (cs : List Content). Some cs)
-    (map-range_same (λ f. content later.puddles m p f (place_word later.word p (SLOT_FIELDS_WORD + f))) (λ f. content st.puddles m p f (place_word st.word p (SLOT_FIELDS_WORD + f))) (field_count m)
-    (λ f below. same m f refl below))
-
 -- ---- what is read
 
 -- The same is read of the second pool as of the first.

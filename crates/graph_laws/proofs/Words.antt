@@ -58,12 +58,22 @@ map-range_same f g n same = same_lists _ _
   let within : k < n = omega (arith, length-map-range_with_len f 0 n) in
   get_or-map-range_with_len f 0 n k k d within (omega arith) ∙ same k within ∙ sym (get_or-map-range_with_len g 0 n k k d within (omega arith)))
 
--- the fields of a type stand for the same over the same words
+-- fields of which each stands for the same
+pub contents_by-each : (st later : Stored) (p : ℕ) (type : Option ℕ)
+    → ((m f : ℕ) → type ≡ Some m → f < field_count m
+    → content later.puddles m p f (place_word later.word p (SLOT_FIELDS_WORD + f)) ≡ content st.puddles m p f (place_word st.word p (SLOT_FIELDS_WORD + f)))
+    → contents_by later p type ≡ contents_by st p type
+contents_by-each st later p None same = refl
+contents_by-each st later p (Some m) same =
+    ap (λ (cs : List Content). Some cs)
+    (map-range_same (λ f. content later.puddles m p f (place_word later.word p (SLOT_FIELDS_WORD + f))) (λ f. content st.puddles m p f (place_word st.word p (SLOT_FIELDS_WORD + f))) (field_count m)
+    (λ f below. same m f refl below))
+
+-- as they do over the same words
 pub contents_by-same : (st : Stored) (later : ℕ → ℕ → ℕ) (p : ℕ) (type : Option ℕ)
     → ((m f : ℕ) → type ≡ Some m → f < field_count m → place_word later p (SLOT_FIELDS_WORD + f) ≡ place_word st.word p (SLOT_FIELDS_WORD + f))
     → contents_by (with_words later st) p type ≡ contents_by st p type
-contents_by-same st later p None same = refl
-contents_by-same st later p (Some m) same = ap (λ (cs : List Content). Some cs) (map-range_same _ _ (field_count m) (λ f below. ap (content st.puddles m p f) (same m f refl below)))
+contents_by-same st later p type same = contents_by-each st (with_words later st) p type (λ m f is below. ap (content st.puddles m p f) (same m f is below))
 
 -- ---- the table
 
