@@ -16,11 +16,10 @@ use Rattle.pud_defs.specs.Graph.{Content, Number, Null, At, Nowhere, Table, tabl
 use Rattle.pud_defs.proofs.Spaces.{all_below-each, all_below-from}
 use Rattle.pud_defs.proofs.Keyed.{HasDistinctKeys, keyed-none}
 use Rattle.pud_defs.proofs.Contents.{pointee_at_within, contents_by_within}
-use Rattle.pud_defs.proofs.Graphs.{IsGraph, IsSameTable, IsGraph-same, graph_by-same, graph_of-each, graph_of-from}
+use Rattle.pud_defs.proofs.Graphs.{under_serial-free, under_serial-used, IsGraph, IsSameTable, IsGraph-same, graph_by-same, graph_of-each, graph_of-from}
 use Rattle.graph_laws.specs.Reads.{with_puddle, IsGrown}
 use Rattle.graph_laws.proofs.Words.{has_header-same}
 use Rattle.graph_laws.proofs.Same.{contents_by-stands}
-use Rattle.graph_laws.proofs.TableChanges.{under_serial-free}
 
 -- ---- a list with one more at its end
 

@@ -58,22 +58,19 @@ module _ (types : List (ℕ × ℕ)) (st : Stored) (word : ℕ → ℕ → ℕ) 
     (λ first at. absurd (omega arith));
   }
 
-  blanks : List Content
+  abbrev blanks : List Content
   blanks = map (λ f. content st.puddles m p f 0) (range_with_len 0 (field_count m))
 
   contents_after : after.contents p ≡ Some blanks
-  unfolding blanks
   contents_after =
       ap (λ t. contents_by (with_words word st) p (map_of t types)) made.type_word
       ∙ ap (contents_by (with_words word st) p) made.defined
       ∙ ap (λ (cs : List Content). Some cs) (map-range_same _ _ (field_count m) (λ f below. ap (content st.puddles m p f) (made.fields f below)))
 
   stand_after : all_stand after.serial (after.contents p) ≡ true
-  unfolding blanks
   stand_after = ap (all_stand after.serial) contents_after ∙ list_all-range (stands after.serial) (λ f. content st.puddles m p f 0) (blank_stands st.puddles m p after.serial) 0 (field_count m)
 
   object_after : object_at after p ≡ blank_object type_id m
-  unfolding blanks
   object_after =
       let fields =
       ap (λ o. map (value_of after.serial) (contents_or_none o)) contents_after
@@ -103,7 +100,7 @@ module _ (types : List (ℕ × ℕ)) (st : Stored) (word : ℕ → ℕ → ℕ) 
     legal : is_next_serial (next_serial_of st + 1) ≡ true
     legal = and_from _ _ (le-leb 1 (next_serial_of st + 1) (omega arith)) (le-leb (next_serial_of st + 1) NUMBER_LIMIT (omega arith))
 
-    pub graph_after : graph_of types (with_words word st) ≡ Some (with_new (blank_object type_id m) g)
+    graph_after : graph_of types (with_words word st) ≡ Some (with_new (blank_object type_id m) g)
     graph_after =
         let n = places_of st in
         let next = next_serial_of st in

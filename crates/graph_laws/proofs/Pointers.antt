@@ -8,17 +8,16 @@ use Rattle.pud_defs.specs.declared.space.TheConstants.{FRAME_SLOTS, RANGE_BYTES,
 use Rattle.pud_defs.specs.declared.records.Puddle.{Puddle}
 use Rattle.pud_defs.specs.Frames.{slot_at}
 use Rattle.pud_defs.specs.Graph.{Content, Null, At, slot_address, slot_in, place_in, at_place, target, bases_for, bases_by, pointee_at}
-use Rattle.pud_defs.proofs.FreshGraph.{target-null}
+use Rattle.pud_defs.proofs.Contents.{target-null}
 use Rattle.graph_laws.specs.Changes.{AreBases, IsAddress}
 
 -- ---- one puddle
 
-slot_by : (base v slot : ℕ) → Option ℕ
+abbrev slot_by : (base v slot : ℕ) → Option ℕ
 slot_by base v slot = cond (ltb slot FRAME_SLOTS && eqb (slot_address base slot) v) (Some slot) None
 
 -- the address of a slot is found
 slot_in-there : (base slot : ℕ) → slot < FRAME_SLOTS → slot_in base (slot_address base slot) ≡ Some slot
-unfolding slot_by
 slot_in-there base slot within =
     let v = slot_address base slot in
     let is : (v - slot_address base 0) / (WORD_BYTES * SLOT_WORDS) ≡ slot = omega arith in

@@ -14,7 +14,7 @@ use Rattle.pud_defs.specs.Frames.{slot_at}
 use Rattle.pud_defs.specs.Spaces.{all_below}
 use Rattle.pud_defs.proofs.Spaces.{all_below-same}
 use Rattle.pud_defs.proofs.Contents.{place_in_within}
-use Rattle.pud_defs.proofs.FreshGraph.{target-null}
+use Rattle.pud_defs.proofs.Contents.{target-null}
 use Rattle.pud_defs.proofs.Graphs.{IsGraph, HasGraph, graph_of-each}
 use Rattle.graph_laws.specs.Changes.{AreBases, with_word}
 use Rattle.graph_laws.specs.Rewriting.{base_of, address_of, rewritten, rewritten_field, moved_to, with_some_puddle, with_frontier, stepped, RewritesSlot}

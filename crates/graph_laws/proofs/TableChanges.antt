@@ -8,7 +8,7 @@ use Rattle.pud_defs.specs.Keyed.{keyed, under, without}
 use Rattle.pud_defs.specs.Graph.{Content, Table, Object, under_serial, placed, object_at, live, named_by, value_of, stands, all_stand, contents_or_none, is_next_serial}
 use Rattle.pud_defs.proofs.TypeLists.{same_test, same_number}
 use Rattle.pud_defs.proofs.Keyed.{HasDistinctKeys, IsSetAt, is_free_for, under_apart, under_none, alone_there, keyed-same, keyed-put, keyed-without, HasDistinctKeys-set, HasDistinctKeys-keys, find-keyed_place}
-use Rattle.pud_defs.proofs.Graphs.{IsSoundPlace, IsGraph}
+use Rattle.pud_defs.proofs.Graphs.{IsSoundPlace, IsGraph, under_serial-free, under_serial-used, under_serial-same}
 use Rattle.pud_defs.proofs.Contents.{names_only, name_only, stands-same, named_by-same, all_stand-same, values-same}
 use Rattle.graph_laws.proofs.ContentLists.{is_other}
 
@@ -52,23 +52,17 @@ module _ {X : Type 0} where
 -- ---- what stands under a serial
 
 module _ {A : Type 0} (serial : ℕ → ℕ) (value : ℕ → A) where
-  pub under_serial-free : (p : ℕ) → serial p ≡ 0 → under_serial serial value p ≡ None
-  under_serial-free p free = cond-true _ _ _ (eq-eqb _ 0 free)
-
-  pub under_serial-used : (p : ℕ) → (serial p ≡ 0 → ⊥) → under_serial serial value p ≡ Some (serial p, value p)
-  under_serial-used p used = cond-false _ _ _ (ne_eqb _ 0 used)
-
   -- a place of another serial is not under this one
   pub under_other : (k p : ℕ) → (serial p ≡ k → ⊥) → under nat_cmp k (under_serial serial value p) ≡ None
   under_other k p other = ⊎_elim
-    (λ free. ap (under nat_cmp k) (under_serial-free p free))
-    (λ used. ap (under nat_cmp k) (under_serial-used p used) ∙ under_apart nat_cmp k (serial p, value p) (same_test k (serial p) ∙ ne_eqb _ _ (λ e. other (sym e))))
+    (λ free. ap (under nat_cmp k) (under_serial-free serial value p free))
+    (λ used. ap (under nat_cmp k) (under_serial-used serial value p used) ∙ under_apart nat_cmp k (serial p, value p) (same_test k (serial p) ∙ ne_eqb _ _ (λ e. other (sym e))))
     (cases_eq (serial p) 0)
 
   pub key_of_serial : (p : ℕ) → option_map (λ (e : ℕ × A). e.0) (under_serial serial value p) ≡ cond (eqb (serial p) 0) None (Some (serial p))
   key_of_serial p = ⊎_elim
-    (λ free. ap (option_map (λ (e : ℕ × A). e.0)) (under_serial-free p free) ∙ sym (cond-true _ _ _ (eq-eqb _ 0 free)))
-    (λ used. ap (option_map (λ (e : ℕ × A). e.0)) (under_serial-used p used) ∙ sym (cond-false _ _ _ (ne_eqb _ 0 used)))
+    (λ free. ap (option_map (λ (e : ℕ × A). e.0)) (under_serial-free serial value p free) ∙ sym (cond-true _ _ _ (eq-eqb _ 0 free)))
+    (λ used. ap (option_map (λ (e : ℕ × A). e.0)) (under_serial-used serial value p used) ∙ sym (cond-false _ _ _ (ne_eqb _ 0 used)))
     (cases_eq (serial p) 0)
 
 -- two live places have different serials
@@ -111,16 +105,10 @@ module _ (t u : Table) (n p : ℕ) (same : IsSameBut t u n p) where
   live-other : (q : ℕ) → q < n → (q ≡ p → ⊥)
       → ((t.serial q ≡ 0 → ⊥) → map (value_of u.serial) (contents_or_none (t.contents q)) ≡ map (value_of t.serial) (contents_or_none (t.contents q)))
       → live u q ≡ live t q
-  live-other q below other values = ⊎_elim
-    (λ free. under_serial-free u.serial (object_at u) q (same.serial q other ∙ free) ∙ sym (under_serial-free t.serial (object_at t) q free))
-    (λ used.
-    let serial = same.serial q other in
-    let type = same.type_id q below other used in
-    let fields = ap (λ c. map (value_of u.serial) (contents_or_none c)) (same.contents q below other used) ∙ values used in
-    under_serial-used u.serial (object_at u) q (λ free. used (sym serial ∙ free))
-    ∙ (λ i. Some (serial i, record { type_id = type i; fields = fields i }))
-    ∙ sym (under_serial-used t.serial (object_at t) q used))
-    (cases_eq (t.serial q) 0)
+  live-other q below other values = under_serial-same t.serial u.serial (object_at t) (object_at u) q (same.serial q other) (λ used.
+      let type = same.type_id q below other used in
+      let fields = ap (λ c. map (value_of u.serial) (contents_or_none c)) (same.contents q below other used) ∙ values used in
+      λ i. record { type_id = type i; fields = fields i })
 
   -- ---- the serial stays
 

@@ -19,9 +19,9 @@ use Rattle.pud_defs.specs.Graph.{Content, Table, table_of, contents_by, content,
 use Rattle.pud_defs.proofs.Spaces.{all_below-same}
 use Rattle.pud_defs.proofs.TypeLists.{same_test, same_number}
 use Rattle.pud_defs.proofs.Keyed.{first_from_some}
-use Rattle.pud_defs.proofs.Graphs.{IsGraph, graph_of-from}
+use Rattle.pud_defs.proofs.Graphs.{under_serial-free, under_serial-used, IsGraph, graph_of-from}
 use Rattle.graph_laws.specs.Changes.{with_word, with_words}
-use Rattle.graph_laws.proofs.TableChanges.{IsSameBut, under_serial-free, under_serial-used}
+use Rattle.graph_laws.proofs.TableChanges.{IsSameBut}
 
 -- ---- one word
 

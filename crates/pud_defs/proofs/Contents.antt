@@ -1,9 +1,9 @@
 -- What stored words stand for: the places that they name are those of the pool, and serials that agree on these give the same values.
-use Rattle.std.proofs.Common.{◌≡◌, ℕ, zero, suc, ◌+◌, ◌*◌, ◌/◌, ◌%◌, ◌<◌, ◌≤◌, Bool, true, false, not, ◌&&◌, cond, eqb, ltb, List, [], ◌∷◌, map, length, Option, Some, None, option_map, refl, sym, ap, ap₂, ◌∙◌, arith, zero-le, ◌-◌}
+use Rattle.std.proofs.Common.{◌≡◌, ℕ, zero, suc, ◌+◌, ◌*◌, ◌/◌, ◌%◌, ◌<◌, ◌≤◌, Bool, true, false, not, ◌&&◌, cond, eqb, ltb, List, [], ◌∷◌, map, length, Option, Some, None, option_map, refl, sym, ap, ap₂, ◌∙◌, arith, eq-eqb, zero-le, ◌-◌}
 use Rattle.std.specs.Prelude.{slice_get}
 use Rattle.std.specs.Option.{option_or}
 use Rattle.std.specs.List.{list_all, range_with_len}
-use Rattle.std.proofs.lemmas.Bool.{and_parts, and_from, cond_both, lt-ltb, ltb-true}
+use Rattle.std.proofs.lemmas.Bool.{and_parts, and_from, cond-true, cond_both, lt-ltb, ltb-true}
 use Rattle.std.proofs.lemmas.List.{length-map}
 use Rattle.std.proofs.lemmas.Option.{none-some, same_Some, cond_some}
 use Rattle.pud_defs.specs.declared.space.TheConstants.{FRAME_SLOTS, WORD_BYTES, SLOT_WORDS, SLOT_FIELDS_WORD}
@@ -61,6 +61,12 @@ module _ (s r : ℕ → ℕ) (test : ℕ → Bool) (same : (p : ℕ) → test p 
   values-same (c ∷ cs) only =
       let parts = and_parts (names_only test c) (list_all (names_only test) cs) only in
       ap₂ (λ (x : Val) (xs : List Val). x ∷ xs) (value_of-same c parts.0) (values-same cs parts.1)
+
+-- ---- a pointer of 0
+
+pub target-null : (bases : List ℕ) (v : ℕ) → v ≡ 0 → target bases v ≡ Null
+unfolding target
+target-null bases v null = cond-true _ _ _ (eq-eqb v 0 null)
 
 -- ---- a test of each value of a range
 

@@ -1,5 +1,5 @@
 -- When slots are a graph, and when what is stored has one, fact by fact; and tables that are read the same.
-use Rattle.std.proofs.Common.{◌≡◌, inl, ℕ, ◌+◌, ◌<◌, ◌≤◌, true, ltb, List, map, Some, nat_cmp, refl, sym, ap, ap₂, ◌∙◌, ⊎_elim, arith, eq-eqb, ne_eqb}
+use Rattle.std.proofs.Common.{◌≡◌, inl, ℕ, ◌+◌, ◌<◌, ◌≤◌, true, ltb, List, map, Some, None, nat_cmp, refl, sym, ap, ap₂, ◌∙◌, ⊎_elim, arith, eq-eqb, ne_eqb}
 use Rattle.std.proofs.lemmas.Bool.{cases_eq, cond-true, cond-false, and_parts, and_from, or_left, or_right, or_cases, eqb-true, ltb-true, lt-ltb}
 use Rattle.std.proofs.lemmas.Option.{cond_some}
 use Rattle.pud_defs.specs.Stored.{Stored, places_of}
@@ -71,6 +71,23 @@ pub graph_of-from : (types : List (ℕ × ℕ)) (st : Stored) (g : Graph) → Ha
 unfolding graph_of
 graph_of-from types st g h = cond-true _ _ _ (and_from _ _ h.headers (is_graph-from _ _ _ _ h.graph)) ∙ ap (λ (x : Graph). Some x) h.is
 
+-- ---- what stands under a serial
+
+module _ {A : Type 0} (serial : ℕ → ℕ) (value : ℕ → A) where
+  pub under_serial-free : (p : ℕ) → serial p ≡ 0 → under_serial serial value p ≡ None
+  under_serial-free p free = cond-true _ _ _ (eq-eqb _ 0 free)
+
+  pub under_serial-used : (p : ℕ) → (serial p ≡ 0 → ⊥) → under_serial serial value p ≡ Some (serial p, value p)
+  under_serial-used p used = cond-false _ _ _ (ne_eqb _ 0 used)
+
+-- it is the same where the serial is, and where the values are if there is one
+pub under_serial-same : {A : Type 0} (s r : ℕ → ℕ) (f g : ℕ → A) (p : ℕ) → r p ≡ s p → ((s p ≡ 0 → ⊥) → g p ≡ f p) → under_serial r g p ≡ under_serial s f p
+under_serial-same s r f g p serial value =
+    ⊎_elim
+    (λ free. under_serial-free r g p (serial ∙ free) ∙ sym (under_serial-free s f p free))
+    (λ used. under_serial-used r g p (λ free. used (sym serial ∙ free)) ∙ ap₂ (λ k x. Some (k, x)) serial (value used) ∙ sym (under_serial-used s f p used))
+    (cases_eq (s p) 0)
+
 -- ---- tables that are read the same
 
 -- the serials are the same, so is what stands at each live place, and no place is named but these
@@ -79,17 +96,6 @@ pub record IsSameTable (t u : Table) (n : ℕ) : Type 0 where
   pub type_id : (p : ℕ) → p < n → (t.serial p ≡ 0 → ⊥) → u.type_id p ≡ t.type_id p
   pub contents : (p : ℕ) → p < n → (t.serial p ≡ 0 → ⊥) → u.contents p ≡ t.contents p
   pub within : (p : ℕ) → p < n → (t.serial p ≡ 0 → ⊥) → name_only (λ q. ltb q n) (t.contents p) ≡ true
-
--- what stands under a serial, where it is the same wherever there is one
-under_serial-same : {A : Type 0} (s r : ℕ → ℕ) (f g : ℕ → A) (p : ℕ) → r p ≡ s p → ((s p ≡ 0 → ⊥) → g p ≡ f p) → under_serial r g p ≡ under_serial s f p
-under_serial-same {A = A} s r f g p serial value =
-    ⊎_elim
-    (λ free. cond-true _ _ _ (eq-eqb _ 0 (serial ∙ free)) ∙ sym (cond-true _ _ _ (eq-eqb _ 0 free)))
-    (λ used.
-    cond-false _ _ _ (ne_eqb _ 0 (λ free. used (sym serial ∙ free)))
-    ∙ ap₂ (λ (k : ℕ) (x : A). Some (k, x)) serial (value used)
-    ∙ sym (cond-false _ _ _ (ne_eqb _ 0 used)))
-    (cases_eq (s p) 0)
 
 module _ (t u : Table) (n : ℕ) (same : IsSameTable t u n) where
   agree : (p : ℕ) → ltb p n ≡ true → u.serial p ≡ t.serial p
