@@ -6,7 +6,7 @@ use Rattle.std.specs.FinMap.Entries.{put}
 use Rattle.std.proofs.lemmas.Bool.{cases_eq, cond-true, cond-false}
 use Rattle.std.proofs.lemmas.List.{same_lists, length-set, get_or-set_same, get_or-set_other, map-set}
 use Rattle.std.proofs.lemmas.List.FromFn.{get_or-map-range_with_len, length-map-range_with_len}
-use Rattle.pud_defs.specs.declared.space.TheConstants.{FRAME_SLOTS, SLOT_TYPE_WORD, SLOT_FIELDS_WORD}
+use Rattle.pud_defs.specs.declared.space.TheConstants.{FRAME_SLOTS, FRAME_HEADER_WORDS, SLOT_WORDS, SLOT_TYPE_WORD, SLOT_FIELDS_WORD}
 use Rattle.pud_defs.specs.declared.records.Puddle.{Puddle}
 use Rattle.pud_defs.specs.declared.objects.Val.{Val}
 use Rattle.pud_defs.specs.declared.objects.Val.TheVariants.{Num, Ref}
@@ -19,7 +19,7 @@ use Rattle.pud_defs.proofs.Graphs.{HasGraph, graph_of-each}
 use Rattle.graph_laws.specs.Changes.{IsAddress, IsField, with_field_word, with_word, with_words, object_with, with_some_object, with_field}
 use Rattle.graph_laws.proofs.ContentLists.{list_all-set}
 use Rattle.graph_laws.proofs.TableChanges.{IsSameBut, find-live, serials_still, IsGraph-in_place, objects-in_place}
-use Rattle.graph_laws.proofs.Words.{with_word-there, with_word-other, few_fields, KeepsOthers, same_but, IsLive, place_of-some, graph_of-words}
+use Rattle.graph_laws.proofs.Words.{slot_word-header, slot_word-there, slot_word-other, slot_word-others, few_fields, same_but, IsLive, place_of-some, graph_of-words}
 use Rattle.graph_laws.proofs.Pointers.{pointee_at-null, pointee_at-address}
 
 -- one of the values of a range is another
@@ -40,7 +40,7 @@ map-range_set f g n i same = same_lists _ _
 module _ (types : List (ℕ × ℕ)) (st : Stored) (p m f v : ℕ) (below : f < field_count m) where
   -- the words after the store
   abbrev later : ℕ → ℕ → ℕ
-  later = with_word (p / FRAME_SLOTS) (slot_at (p % FRAME_SLOTS) + SLOT_FIELDS_WORD + f) v st.word
+  later = with_word (p / FRAME_SLOTS) (slot_at (p % FRAME_SLOTS) + (SLOT_FIELDS_WORD + f)) v st.word
 
   abbrev before : Table
   before = table_of types st
@@ -48,28 +48,20 @@ module _ (types : List (ℕ × ℕ)) (st : Stored) (p m f v : ℕ) (below : f < 
   abbrev after : Table
   after = table_of types (with_words later st)
 
-  header_kept : (o k : ℕ) → k < 64 → later o k ≡ st.word o k
-  header_kept o k low = with_word-other _ _ v st.word o k (λ same at. absurd (omega arith))
+  few : SLOT_FIELDS_WORD + f < SLOT_WORDS
+  few = let most = few_fields m in omega arith
 
-  word_kept : (q k : ℕ) → k < 32 → (q ≡ p → k ≡ SLOT_FIELDS_WORD + f → ⊥) → place_word later q k ≡ place_word st.word q k
-  word_kept q k low apart =
-      let most = few_fields m in
-      with_word-other _ _ v st.word (q / FRAME_SLOTS) (slot_at (q % FRAME_SLOTS) + k)
-      (λ same at. let here : q ≡ p = omega arith in let word : k ≡ SLOT_FIELDS_WORD + f = omega arith in apart here word)
+  header_kept : (o k : ℕ) → k < FRAME_HEADER_WORDS → later o k ≡ st.word o k
+  header_kept o k low = slot_word-header p (SLOT_FIELDS_WORD + f) v st.word few o k low
 
-  word_now : place_word later p (SLOT_FIELDS_WORD + f) ≡ v
-  word_now =
-      let k : slot_at (p % FRAME_SLOTS) + (SLOT_FIELDS_WORD + f) ≡ slot_at (p % FRAME_SLOTS) + SLOT_FIELDS_WORD + f = omega arith in
-      ap (later (p / FRAME_SLOTS)) k ∙ with_word-there (p / FRAME_SLOTS) (slot_at (p % FRAME_SLOTS) + SLOT_FIELDS_WORD + f) v st.word
-
-  others_kept : KeepsOthers st.word later p
-  others_kept = record { each = λ q k other low. word_kept q k low (λ same word. other same) }
+  word_kept : (k : ℕ) → k < SLOT_WORDS → (k ≡ SLOT_FIELDS_WORD + f → ⊥) → place_word later p k ≡ place_word st.word p k
+  word_kept k low other = slot_word-other p (SLOT_FIELDS_WORD + f) v st.word few p k low (λ same at. other at)
 
   serial_kept : after.serial p ≡ before.serial p
-  serial_kept = word_kept p 0 (omega arith) (λ same word. absurd (omega arith))
+  serial_kept = word_kept 0 (omega arith) (λ at. absurd (omega arith))
 
   type_kept : after.type_id p ≡ before.type_id p
-  type_kept = word_kept p 1 (omega arith) (λ same word. absurd (omega arith))
+  type_kept = word_kept 1 (omega arith) (λ at. absurd (omega arith))
 
   -- what the fields stood for
   abbrev contents : List Content
@@ -87,8 +79,8 @@ module _ (types : List (ℕ × ℕ)) (st : Stored) (p m f v : ℕ) (below : f < 
         ap (λ t. contents_by (with_words later st) p (map_of t types)) type_kept
         ∙ ap (contents_by (with_words later st) p) defined
         ∙ ap (λ (cs : List Content). Some cs)
-        (map-range_set now was (field_count m) f (λ k low other. ap (content st.puddles m p k) (word_kept p (SLOT_FIELDS_WORD + k) (omega arith) (λ same word. other (omega arith))))
-        ∙ ap (set contents f) (ap (content st.puddles m p f) word_now))
+        (map-range_set now was (field_count m) f (λ k low other. ap (content st.puddles m p k) (word_kept (SLOT_FIELDS_WORD + k) (omega arith) (λ at. other (omega arith))))
+        ∙ ap (set contents f) (ap (content st.puddles m p f) (slot_word-there p (SLOT_FIELDS_WORD + f) v st.word few)))
 
     -- the object of the place has another value in the field
     object_after : (x : Val) → after.serial ≡ before.serial → value_of before.serial (content st.puddles m p f v) ≡ x → object_at after p ≡ object_with f x (object_at before p)
@@ -104,7 +96,7 @@ module _ (types : List (ℕ × ℕ)) (st : Stored) (p m f v : ℕ) (below : f < 
 
     module _ (is_live : IsLive before (places_of st) (before.serial p) p) where
       same : IsSameBut before after (places_of st) p
-      same = same_but types st later p is_live.within others_kept
+      same = same_but types st later p is_live.within (slot_word-others p (SLOT_FIELDS_WORD + f) v st.word few)
 
       -- what the field stands for now, and the value that it is
       module _ (g : Graph) (x : Val) (h : HasGraph types st g) (stand : stands before.serial (content st.puddles m p f v) ≡ true) (value : value_of before.serial (content st.puddles m p f v) ≡ x) where
@@ -139,7 +131,9 @@ graph_of-field : (types : List (ℕ × ℕ)) (st : Stored) (g : Graph) (s p m f 
 graph_of-field types st g s p m f v x is field stand value =
     let t = table_of types st in
     let there = place_of-some t (places_of st) s p field.place in
-    field_after types st p m f v field.below field.defined (record { within = there.within; is = refl; used = there.used }) g x (graph_of-each types st g is) stand value
+    let word : slot_at (p % FRAME_SLOTS) + SLOT_FIELDS_WORD + f ≡ slot_at (p % FRAME_SLOTS) + (SLOT_FIELDS_WORD + f) = omega arith in
+    ap (λ k. graph_of types (with_words (with_word (p / FRAME_SLOTS) k v st.word) st)) word
+    ∙ field_after types st p m f v field.below field.defined (record { within = there.within; is = refl; used = there.used }) g x (graph_of-each types st g is) stand value
     ∙ ap (λ k. Some (with_field k f x g)) there.is
 
 -- ---- the three kinds of words

@@ -5,7 +5,7 @@ use Rattle.std.specs.List.{list_any}
 use Rattle.std.specs.FinMap.Entries.{find}
 use Rattle.std.proofs.lemmas.Bool.{cases_Bool, cond-true, cond-false, or_parts}
 use Rattle.std.proofs.lemmas.Option.{none-some, same_Some}
-use Rattle.pud_defs.specs.declared.space.TheConstants.{FRAME_SLOTS, SLOT_SERIAL_WORD}
+use Rattle.pud_defs.specs.declared.space.TheConstants.{FRAME_SLOTS, FRAME_HEADER_WORDS, SLOT_SERIAL_WORD}
 use Rattle.pud_defs.specs.Frames.{slot_at}
 use Rattle.pud_defs.specs.Stored.{Stored, places_of, place_word}
 use Rattle.pud_defs.specs.Graph.{Table, table_of, contents_or_none, pointee_at, place_of, object_at, names_serial, Object, Graph, next_serial_of, root_of, graph_stored, graph_of, is_held}
@@ -13,7 +13,7 @@ use Rattle.pud_defs.proofs.Graphs.{IsGraph, HasGraph, graph_of-each}
 use Rattle.graph_laws.specs.Changes.{with_word, with_words, with_serial_word, without_object}
 use Rattle.graph_laws.proofs.ContentLists.{name_no_serial, names_no_root}
 use Rattle.graph_laws.proofs.TableChanges.{IsSameBut, IsUnnamed, find-live, root-unnamed, IsGraph-unnamed, distinct-freed, objects-freed}
-use Rattle.graph_laws.proofs.Words.{with_word-there, with_word-other, KeepsOthers, same_but, IsLive, place_of-some, graph_of-words}
+use Rattle.graph_laws.proofs.Words.{slot_word-header, slot_word-there, slot_word-others, same_but, IsLive, place_of-some, graph_of-words}
 
 -- a test that fails of each entry fails of the one that is found
 none_of_found : {X : Type 0} (test : X → Bool) (es : List (ℕ × X)) (k : ℕ) (x : X) → list_any (λ (e : ℕ × X). test e.1) es ≡ false → find nat_cmp k es ≡ Some x → test x ≡ false
@@ -49,23 +49,18 @@ module _ (types : List (ℕ × ℕ)) (st : Stored) (p : ℕ) where
   abbrev after : Table
   after = table_of types (with_words later st)
 
-  header_kept : (o k : ℕ) → k < 64 → later o k ≡ st.word o k
-  header_kept o k low = with_word-other _ _ 0 st.word o k (λ same at. absurd (omega arith))
-
-  others_kept : KeepsOthers st.word later p
-  others_kept = record {
-    each = λ q k other low. with_word-other _ _ 0 st.word (q / FRAME_SLOTS) (slot_at (q % FRAME_SLOTS) + k) (λ same at. let here : q ≡ p = omega arith in other here);
-  }
-
   now_free : after.serial p ≡ 0
-  now_free = with_word-there (p / FRAME_SLOTS) (slot_at (p % FRAME_SLOTS) + SLOT_SERIAL_WORD) 0 st.word
+  now_free = slot_word-there p SLOT_SERIAL_WORD 0 st.word (omega arith)
+
+  header_kept : (o k : ℕ) → k < FRAME_HEADER_WORDS → later o k ≡ st.word o k
+  header_kept o k low = slot_word-header p SLOT_SERIAL_WORD 0 st.word (omega arith) o k low
 
   graph_after : (g : Graph) → HasGraph types st g → IsLive before (places_of st) (before.serial p) p → is_held (before.serial p) (graph_stored types st) ≡ false → graph_of types (with_words later st) ≡ Some (without_object (before.serial p) g)
   graph_after g h is_live apart =
       let n = places_of st in
       let next = next_serial_of st in
       let top = root_of st in
-      let same = same_but types st later p is_live.within others_kept in
+      let same = same_but types st later p is_live.within (slot_word-others p SLOT_SERIAL_WORD 0 st.word (omega arith)) in
       let unnamed = unnamed_if_not_held types st p h.graph apart in
       let root = root-unnamed before after n p same next top h.graph unnamed in
       let objects = objects-freed before after n p same next top h.graph unnamed is_live.used now_free in

@@ -9,7 +9,7 @@ use Rattle.pud_defs.specs.Stored.{Stored, places_of, place_word}
 use Rattle.pud_defs.specs.Graph.{contents_by, field_count, pointee_at, graph_of}
 use Rattle.graph_laws.specs.Changes.{with_word, with_words, with_slot_word, with_field_word}
 use Rattle.graph_laws.specs.Reads.{KeepsSlots, ReadsSame}
-use Rattle.graph_laws.proofs.Words.{with_word-other, headers_fit-same, contents_by-same, few_fields}
+use Rattle.graph_laws.proofs.Words.{with_word-other, slot_word-header, slot_word-other, headers_fit-same, contents_by-same, few_fields}
 use Rattle.graph_laws.proofs.Same.{StandsSame, graph_of-same}
 
 pub stands_same : (types : List (ℕ × ℕ)) (st : Stored) (word : ℕ → ℕ → ℕ) → ReadsSame types st word → StandsSame types st (with_words word st)
@@ -48,9 +48,8 @@ unread_slot : (types : List (ℕ × ℕ)) (st : Stored) (p j v : ℕ) → 0 < j 
     → graph_of types (with_slot_word p j v st) ≡ graph_of types st
 unread_slot types st p j v low high no_type no_field =
     let word = with_word (p / FRAME_SLOTS) (slot_at (p % FRAME_SLOTS) + j) v st.word in
-    let header = λ (o k : ℕ) (few : k < FRAME_HEADER_WORDS). with_word-other (p / FRAME_SLOTS) (slot_at (p % FRAME_SLOTS) + j) v st.word o k (λ same at. absurd (omega arith)) in
-    let slot = λ (q k : ℕ) (few : k < SLOT_WORDS) (apart : q ≡ p → k ≡ j → ⊥). with_word-other (p / FRAME_SLOTS) (slot_at (p % FRAME_SLOTS) + j) v st.word (q / FRAME_SLOTS) (slot_at (q % FRAME_SLOTS) + k)
-    (λ same at. let here : q ≡ p = omega arith in let there : k ≡ j = omega arith in apart here there) in
+    let header = slot_word-header p j v st.word high in
+    let slot = slot_word-other p j v st.word high in
     graph_of-read types st word (record {
       headers = λ o k within few. header o k (omega arith);
       next = header 0 3 (omega arith);

@@ -7,7 +7,7 @@ use Rattle.std.proofs.lemmas.List.{same_lists}
 use Rattle.std.proofs.lemmas.List.FromFn.{get_or-map-range_with_len, length-map-range_with_len}
 use Rattle.std.proofs.lemmas.Option.{none-some, cond_some}
 use Rattle.pud_defs.specs.declared.layout.TheConstants.{MAX_FIELDS}
-use Rattle.pud_defs.specs.declared.space.TheConstants.{FRAME_SLOTS, SLOT_WORDS, SLOT_FIELDS_WORD, NEXT_SERIAL_WORD, ROOT_WORD}
+use Rattle.pud_defs.specs.declared.space.TheConstants.{FRAME_SLOTS, FRAME_HEADER_WORDS, SLOT_WORDS, SLOT_FIELDS_WORD, NEXT_SERIAL_WORD, ROOT_WORD}
 use Rattle.pud_defs.specs.declared.records.Puddle.{Puddle}
 use Rattle.pud_defs.specs.TypeMap.{map_fields}
 use Rattle.pud_defs.specs.Types.{map_of}
@@ -33,6 +33,24 @@ with_word-other o k v word other at apart = ⊎_elim
   (λ same. cond-false _ _ _ (and_right _ _ (ne_eqb at k (apart same))))
   (λ differs. cond-false _ _ _ (and_left _ _ (ne_eqb other o differs)))
   (cases_eq other o)
+
+-- ---- one word of a slot
+
+module _ (p j v : ℕ) (word : ℕ → ℕ → ℕ) (few : j < SLOT_WORDS) where
+  abbrev slot_written : ℕ → ℕ → ℕ
+  slot_written = with_word (p / FRAME_SLOTS) (slot_at (p % FRAME_SLOTS) + j) v word
+
+  -- no word of a header changes
+  pub slot_word-header : (o k : ℕ) → k < FRAME_HEADER_WORDS → slot_written o k ≡ word o k
+  slot_word-header o k low = with_word-other _ _ v word o k (λ same at. absurd (omega arith))
+
+  pub slot_word-there : place_word slot_written p j ≡ v
+  slot_word-there = with_word-there (p / FRAME_SLOTS) (slot_at (p % FRAME_SLOTS) + j) v word
+
+  pub slot_word-other : (q k : ℕ) → k < SLOT_WORDS → (q ≡ p → k ≡ j → ⊥) → place_word slot_written q k ≡ place_word word q k
+  slot_word-other q k low apart =
+      with_word-other _ _ v word (q / FRAME_SLOTS) (slot_at (q % FRAME_SLOTS) + k)
+      (λ same at. let here : q ≡ p = omega arith in let there : k ≡ j = omega arith in apart here there)
 
 -- ---- headers
 
@@ -80,6 +98,9 @@ contents_by-same st later p type same = contents_by-each st (with_words later st
 -- one place may hold other words
 pub record KeepsOthers (word later : ℕ → ℕ → ℕ) (p : ℕ) : Type 0 where
   pub each : (q k : ℕ) → (q ≡ p → ⊥) → k < SLOT_WORDS → place_word later q k ≡ place_word word q k
+
+pub slot_word-others : (p j v : ℕ) (word : ℕ → ℕ → ℕ) → j < SLOT_WORDS → KeepsOthers word (with_word (p / FRAME_SLOTS) (slot_at (p % FRAME_SLOTS) + j) v word) p
+slot_word-others p j v word few = record { each = λ q k other low. slot_word-other p j v word few q k low (λ same at. other same) }
 
 pub same_but : (types : List (ℕ × ℕ)) (st : Stored) (later : ℕ → ℕ → ℕ) (p : ℕ) → p < places_of st → KeepsOthers st.word later p → IsSameBut (table_of types st) (table_of types (with_words later st)) (places_of st) p
 same_but types st later p within h = record {
