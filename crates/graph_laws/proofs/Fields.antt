@@ -1,6 +1,5 @@
 -- A word of a field is stored: the object of the place has another value in the field, and nothing else changes.
-use Rattle.std.proofs.Common.{◌≡◌, ℕ, ◌+◌, ◌*◌, ◌/◌, ◌%◌, ◌<◌, ◌≤◌, Bool, true, false, cond, List, map, set, length, Option, Some, None, get_or, not, ne_eqb, nat_cmp, option_map, refl, sym, ap, ap₂, ◌∙◌, ⊎_elim, arith}
-use Rattle.std.specs.Prelude.{slice_get}
+use Rattle.std.proofs.Common.{◌≡◌, ℕ, ◌+◌, ◌/◌, ◌%◌, ◌<◌, true, false, List, map, set, length, Option, Some, get_or, not, ne_eqb, nat_cmp, option_map, refl, sym, ap, ap₂, ◌∙◌, ⊎_elim, arith}
 use Rattle.std.specs.List.{range_with_len}
 use Rattle.std.specs.FinMap.Entries.{put}
 use Rattle.std.proofs.lemmas.Bool.{cases_eq, cond-true, cond-false}
@@ -14,7 +13,7 @@ use Rattle.pud_defs.specs.TypeMap.{is_pointer}
 use Rattle.pud_defs.specs.Types.{map_of}
 use Rattle.pud_defs.specs.Frames.{slot_at}
 use Rattle.pud_defs.specs.Stored.{Stored, places_of, place_word}
-use Rattle.pud_defs.specs.Graph.{Content, Number, Null, At, Table, table_of, contents_by, contents_or_none, content, field_count, slot_address, pointee_at, place_of, live, object_at, named_by, value_of, stands, all_stand, Object, Graph, next_serial_of, root_of, graph_stored, graph_of}
+use Rattle.pud_defs.specs.Graph.{Content, Number, Table, table_of, contents_by, contents_or_none, content, field_count, pointee_at, place_of, object_at, named_by, value_of, stands, all_stand, Object, Graph, next_serial_of, root_of, graph_stored, graph_of}
 use Rattle.pud_defs.proofs.Graphs.{HasGraph, graph_of-each}
 use Rattle.graph_laws.specs.Changes.{IsAddress, IsField, with_field_word, with_word, with_words, object_with, with_some_object, with_field}
 use Rattle.graph_laws.proofs.ContentLists.{list_all-set}

@@ -1,5 +1,5 @@
 -- A fresh puddle behind the others: each pointer leads where it led, and the graph is the same.
-use Rattle.std.proofs.Common.{◌≡◌, ◌⊎◌, inl, inr, ℕ, zero, suc, ◌+◌, ◌*◌, ◌/◌, ◌%◌, ◌<◌, ◌≤◌, Bool, true, false, cond, eqb, ltb, List, [], ◌∷◌, ◌++◌, map, length, Option, Some, None, nat_cmp, option_map, refl, sym, ap, ap₂, subst, ◌∙◌, ⊎_elim, arith, zero-le}
+use Rattle.std.proofs.Common.{◌≡◌, ℕ, zero, suc, ◌+◌, ◌/◌, ◌%◌, ◌<◌, ◌≤◌, true, eqb, ltb, List, [], ◌∷◌, ◌++◌, length, Option, Some, None, nat_cmp, option_map, refl, sym, ap, subst, ◌∙◌, ⊎_elim, arith}
 use Rattle.std.specs.Prelude.{slice_get}
 use Rattle.std.specs.Option.{option_or}
 use Rattle.std.proofs.lemmas.Bool.{cases_lt, cases_Bool, cond-true, cond-false}
@@ -9,14 +9,13 @@ use Rattle.pud_defs.specs.declared.space.TheConstants.{FRAME_SLOTS, SLOT_TYPE_WO
 use Rattle.pud_defs.specs.declared.records.Puddle.{Puddle}
 use Rattle.pud_defs.specs.TypeMap.{is_pointer}
 use Rattle.pud_defs.specs.Types.{map_of}
-use Rattle.pud_defs.specs.Spaces.{all_below}
 use Rattle.pud_defs.specs.Keyed.{put_entry, keyed, under}
 use Rattle.pud_defs.specs.Stored.{Stored, places_of, place_word}
-use Rattle.pud_defs.specs.Graph.{Content, Number, Null, At, Nowhere, Table, table_of, contents_by, slot_in, place_in, at_place, target, bases_by, pointee_at, content, placed, live, object_at, named_by, stands, has_header, headers_fit, Graph, next_serial_of, root_of, graph_by, graph_of}
+use Rattle.pud_defs.specs.Graph.{Content, Number, Null, Table, table_of, contents_by, slot_in, place_in, at_place, target, bases_by, pointee_at, content, live, object_at, named_by, stands, has_header, headers_fit, Graph, next_serial_of, root_of, graph_by, graph_of}
 use Rattle.pud_defs.proofs.Spaces.{all_below-each, all_below-from}
-use Rattle.pud_defs.proofs.Keyed.{HasDistinctKeys, keyed-none}
+use Rattle.pud_defs.proofs.Keyed.{keyed-none}
 use Rattle.pud_defs.proofs.Contents.{pointee_at_within, contents_by_within}
-use Rattle.pud_defs.proofs.Graphs.{under_serial-free, under_serial-used, IsGraph, IsSameTable, IsGraph-same, graph_by-same, graph_of-each, graph_of-from}
+use Rattle.pud_defs.proofs.Graphs.{under_serial-free, IsGraph, IsSameTable, IsGraph-same, graph_by-same, graph_of-each, graph_of-from}
 use Rattle.graph_laws.specs.Reads.{with_puddle, IsGrown}
 use Rattle.graph_laws.proofs.Words.{has_header-same}
 use Rattle.graph_laws.proofs.Same.{contents_by-stands}

@@ -10,3 +10,5 @@ pub mod Same
 pub mod Unread
 pub mod Grown
 pub mod Rewritten
+pub mod Places
+pub mod ExamplesGraphs

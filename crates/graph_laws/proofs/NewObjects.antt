@@ -1,23 +1,22 @@
 -- A free slot is filled under the next serial: the graph has one object more, each of whose fields is 0 or null.
-use Rattle.std.proofs.Common.{◌≡◌, ℕ, zero, suc, ◌+◌, ◌*◌, ◌/◌, ◌%◌, ◌<◌, ◌≤◌, Bool, true, false, cond, List, [], ◌∷◌, map, length, Option, Some, None, nat_cmp, refl, sym, ap, ap₂, subst, ◌∙◌, ⊎_elim, arith, ne_eqb}
-use Rattle.std.specs.List.{range_with_len, list_all}
+use Rattle.std.proofs.Common.{◌≡◌, ℕ, ◌+◌, ◌/◌, ◌%◌, ◌<◌, ◌≤◌, true, List, [], ◌∷◌, map, Some, nat_cmp, refl, sym, ap, ap₂, ◌∙◌, ⊎_elim, arith}
+use Rattle.std.specs.List.{range_with_len}
 use Rattle.std.specs.FinMap.Entries.{put}
 use Rattle.std.proofs.lemmas.Bool.{cases_Bool, cond-true, cond-false, and_parts, and_from, leb-true, le-leb}
 use Rattle.pud_defs.specs.declared.layout.TheConstants.{NUMBER_LIMIT}
-use Rattle.pud_defs.specs.declared.space.TheConstants.{FRAME_SLOTS, SLOT_FIELDS_WORD}
+use Rattle.pud_defs.specs.declared.space.TheConstants.{FRAME_SLOTS}
 use Rattle.pud_defs.specs.declared.records.Puddle.{Puddle}
-use Rattle.pud_defs.specs.declared.objects.Val.{Val}
 use Rattle.pud_defs.specs.TypeMap.{is_pointer}
 use Rattle.pud_defs.specs.Types.{map_of}
 use Rattle.pud_defs.specs.Frames.{slot_at}
-use Rattle.pud_defs.specs.Stored.{Stored, places_of, place_word}
-use Rattle.pud_defs.specs.Graph.{Content, Table, table_of, contents_by, contents_or_none, content, field_count, pointee_at, object_at, named_by, value_of, stands, all_stand, is_next_serial, Object, Graph, next_serial_of, root_of, graph_stored, graph_of}
+use Rattle.pud_defs.specs.Stored.{Stored, places_of}
+use Rattle.pud_defs.specs.Graph.{Content, Table, table_of, contents_by, contents_or_none, content, field_count, pointee_at, object_at, value_of, stands, all_stand, is_next_serial, Object, Graph, next_serial_of, root_of, graph_stored, graph_of}
 use Rattle.pud_defs.proofs.Contents.{list_all-range}
-use Rattle.pud_defs.proofs.Graphs.{IsGraph, HasGraph, graph_of-each}
+use Rattle.pud_defs.proofs.Graphs.{HasGraph, graph_of-each}
 use Rattle.graph_laws.specs.Changes.{with_words, blank_value, blank_object, with_new, IsMade}
 use Rattle.graph_laws.proofs.ContentLists.{names_no_free, name_no_free}
 use Rattle.graph_laws.proofs.TableChanges.{IsSameBut, IsUnnamed, root-unnamed, IsGraph-unnamed, distinct-new, objects-new}
-use Rattle.graph_laws.proofs.Words.{few_fields, map-range_same, KeepsOthers, same_but, graph_of-words}
+use Rattle.graph_laws.proofs.Words.{map-range_same, KeepsOthers, same_but, graph_of-words}
 use Rattle.graph_laws.proofs.Pointers.{pointee_at-null}
 
 -- ---- fields of 0

@@ -1,13 +1,12 @@
 -- Where a stored pointer leads: the address of a slot is read as the slot's place.
-use Rattle.std.proofs.Common.{◌≡◌, ℕ, zero, suc, ◌+◌, ◌-◌, ◌*◌, ◌/◌, ◌%◌, ◌<◌, ◌≤◌, Bool, true, false, ◌&&◌, cond, eqb, ltb, List, [], ◌∷◌, map, length, Option, Some, None, option_map, refl, sym, ap, ap₂, ◌∙◌, ⊎_elim, arith, eq-eqb, ne_eqb}
+use Rattle.std.proofs.Common.{◌≡◌, ℕ, zero, suc, ◌+◌, ◌-◌, ◌*◌, ◌/◌, ◌%◌, ◌<◌, ◌&&◌, cond, eqb, ltb, List, [], ◌∷◌, map, Option, Some, None, option_map, refl, ap, ◌∙◌, ⊎_elim, arith, eq-eqb, ne_eqb}
 use Rattle.std.specs.Prelude.{slice_get}
 use Rattle.std.specs.Option.{option_or}
-use Rattle.std.proofs.lemmas.Bool.{cases_eq, cond-true, cond-false, cases_Bool, and_parts, and_from, ltb-true, lt-ltb, eqb-true}
+use Rattle.std.proofs.lemmas.Bool.{cond-true, cond-false, cases_Bool, and_parts, and_from, ltb-true, lt-ltb, eqb-true}
 use Rattle.std.proofs.lemmas.Option.{none-some, same_Some, slice_get-map}
 use Rattle.pud_defs.specs.declared.space.TheConstants.{FRAME_SLOTS, RANGE_BYTES, WORD_BYTES, SLOT_WORDS}
 use Rattle.pud_defs.specs.declared.records.Puddle.{Puddle}
-use Rattle.pud_defs.specs.Frames.{slot_at}
-use Rattle.pud_defs.specs.Graph.{Content, Null, At, slot_address, slot_in, place_in, at_place, target, bases_for, bases_by, pointee_at}
+use Rattle.pud_defs.specs.Graph.{Null, At, slot_address, slot_in, place_in, at_place, target, bases_by, pointee_at}
 use Rattle.pud_defs.proofs.Contents.{target-null}
 use Rattle.graph_laws.specs.Changes.{AreBases, IsAddress}
 

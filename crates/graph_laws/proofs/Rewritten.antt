@@ -1,21 +1,20 @@
 -- A step of rewriting keeps the graph: what was read over the old bases is read over the pool's bases as the same.
-use Rattle.std.proofs.Common.{◌≡◌, ◌⊎◌, inl, inr, ℕ, zero, suc, ◌+◌, ◌*◌, ◌/◌, ◌%◌, ◌<◌, ◌≤◌, Bool, true, false, cond, eqb, ltb, List, [], ◌∷◌, map, set, length, Option, Some, None, option_map, get_or, subst, refl, sym, ap, ap₂, ◌∙◌, ⊎_elim, arith}
+use Rattle.std.proofs.Common.{◌≡◌, ℕ, zero, suc, ◌+◌, ◌*◌, ◌/◌, ◌%◌, ◌<◌, ◌≤◌, true, false, cond, eqb, ltb, List, [], ◌∷◌, map, set, length, Option, Some, None, option_map, get_or, subst, refl, sym, ap, ap₂, ◌∙◌, ⊎_elim, arith}
 use Rattle.std.specs.Prelude.{slice_get}
 use Rattle.std.proofs.lemmas.Bool.{cases_eq, cases_lt, cases_Bool, cond-true, cond-false, lt-ltb, le-ltb}
 use Rattle.std.proofs.lemmas.List.{length-map, length-set}
-use Rattle.std.proofs.lemmas.Option.{none-some, same_Some, slice_get-map, slice_get_within, slice_get-get_or}
-use Rattle.pud_defs.specs.declared.space.TheConstants.{FRAME_SLOTS, FRAME_HEADER_WORDS, SLOT_TYPE_WORD, SLOT_FIELDS_WORD, NEXT_SERIAL_WORD, ROOT_WORD}
+use Rattle.std.proofs.lemmas.Option.{same_Some, slice_get-map, slice_get_within, slice_get-get_or}
+use Rattle.pud_defs.specs.declared.space.TheConstants.{FRAME_SLOTS, SLOT_TYPE_WORD, SLOT_FIELDS_WORD, NEXT_SERIAL_WORD, ROOT_WORD}
 use Rattle.pud_defs.specs.declared.records.Puddle.{Puddle}
 use Rattle.pud_defs.specs.TypeMap.{is_pointer}
 use Rattle.pud_defs.specs.Types.{map_of}
 use Rattle.pud_defs.specs.Stored.{Stored, places_of, place_word}
-use Rattle.pud_defs.specs.Graph.{Content, Number, Null, At, Nowhere, Table, table_of, contents_by, slot_address, place_in, at_place, target, bases_for, bases_by, pointee_at, content, field_count, stands, all_stand, has_header, headers_fit, Graph, next_serial_of, root_of, graph_of}
+use Rattle.pud_defs.specs.Graph.{Content, Number, Null, At, Table, table_of, contents_by, slot_address, place_in, at_place, target, bases_by, pointee_at, content, field_count, stands, has_header, headers_fit, Graph, next_serial_of, root_of, graph_of}
 use Rattle.pud_defs.specs.Frames.{slot_at}
 use Rattle.pud_defs.specs.Spaces.{all_below}
 use Rattle.pud_defs.proofs.Spaces.{all_below-same}
 use Rattle.pud_defs.proofs.Contents.{place_in_within}
-use Rattle.pud_defs.proofs.Contents.{target-null}
-use Rattle.pud_defs.proofs.Graphs.{IsGraph, HasGraph, graph_of-each}
+use Rattle.pud_defs.proofs.Graphs.{IsGraph, graph_of-each}
 use Rattle.graph_laws.specs.Changes.{AreBases, with_word}
 use Rattle.graph_laws.specs.Rewriting.{base_of, address_of, rewritten, rewritten_field, moved_to, with_some_puddle, with_frontier, stepped, RewritesSlot}
 use Rattle.graph_laws.proofs.Words.{few_fields, contents_by-each, has_header-same, with_word-there, with_word-other}

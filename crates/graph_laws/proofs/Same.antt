@@ -1,11 +1,11 @@
 -- Two pools of which the same is read have the same graph.
-use Rattle.std.proofs.Common.{◌≡◌, ℕ, zero, suc, ◌+◌, ◌*◌, ◌/◌, ◌%◌, ◌<◌, ◌≤◌, Bool, true, false, cond, List, map, length, Option, Some, None, refl, sym, ap, ap₂, subst, ◌∙◌, ⊎_elim, arith}
+use Rattle.std.proofs.Common.{◌≡◌, ℕ, zero, suc, ◌+◌, ◌*◌, ◌<◌, ◌≤◌, Bool, true, List, map, length, Option, Some, None, refl, sym, ap, subst, ◌∙◌, ⊎_elim, arith}
 use Rattle.std.specs.List.{range_with_len, list_all}
 use Rattle.std.proofs.lemmas.Bool.{cases_eq, and_parts}
 use Rattle.pud_defs.specs.declared.space.TheConstants.{FRAME_SLOTS, SLOT_TYPE_WORD, SLOT_FIELDS_WORD, ROOT_WORD}
 use Rattle.pud_defs.specs.Types.{map_of}
 use Rattle.pud_defs.specs.Stored.{Stored, places_of, place_word}
-use Rattle.pud_defs.specs.Graph.{Content, Table, table_of, contents_by, content, field_count, stands, all_stand, headers_fit, Graph, next_serial_of, root_of, graph_by, graph_of}
+use Rattle.pud_defs.specs.Graph.{Content, table_of, contents_by, content, field_count, stands, all_stand, headers_fit, Graph, next_serial_of, root_of, graph_by, graph_of}
 use Rattle.pud_defs.proofs.Contents.{pointee_at_within, contents_by_within}
 use Rattle.pud_defs.proofs.Graphs.{IsGraph, IsSameTable, IsGraph-same, graph_by-same, graph_of-each, graph_of-from}
 use Rattle.graph_laws.proofs.Words.{map-range_same}

@@ -1,14 +1,13 @@
 -- Tables of slots of which one place is changed: they are a graph still, and what becomes of the list of objects.
-use Rattle.std.proofs.Common.{◌≡◌, ◌⊎◌, inl, inr, ℕ, ◌+◌, ◌<◌, ◌≤◌, Bool, true, false, cond, eqb, List, map, Option, Some, None, nat_cmp, option_map, refl, sym, ap, ap₂, subst, ◌∙◌, ⊎_elim, arith, eq-eqb, ne_eqb, zero-le}
-use Rattle.std.specs.Ordering.{eq_by_cmp}
+use Rattle.std.proofs.Common.{◌≡◌, ℕ, ◌<◌, ◌≤◌, true, cond, eqb, map, Option, Some, None, nat_cmp, option_map, refl, sym, ap, ap₂, subst, ◌∙◌, ⊎_elim, arith, eq-eqb, ne_eqb, zero-le}
 use Rattle.std.specs.FinMap.Entries.{put, find}
-use Rattle.std.proofs.lemmas.Bool.{cases_eq, cond-true, cond-false, not-true, eqb-false, eqb-true}
+use Rattle.std.proofs.lemmas.Bool.{cases_eq, cond-true, cond-false, not-true, eqb-false}
 use Rattle.std.proofs.lemmas.Cmp.{nat_cmp_total}
 use Rattle.pud_defs.specs.Keyed.{keyed, under, without}
-use Rattle.pud_defs.specs.Graph.{Content, Table, Object, under_serial, placed, object_at, live, named_by, value_of, stands, all_stand, contents_or_none, is_next_serial}
+use Rattle.pud_defs.specs.Graph.{Content, Table, under_serial, placed, object_at, live, named_by, value_of, stands, all_stand, contents_or_none, is_next_serial}
 use Rattle.pud_defs.proofs.TypeLists.{same_test, same_number}
 use Rattle.pud_defs.proofs.Keyed.{HasDistinctKeys, IsSetAt, is_free_for, under_apart, under_none, alone_there, keyed-same, keyed-put, keyed-without, HasDistinctKeys-set, HasDistinctKeys-keys, find-keyed_place}
-use Rattle.pud_defs.proofs.Graphs.{IsSoundPlace, IsGraph, under_serial-free, under_serial-used, under_serial-same}
+use Rattle.pud_defs.proofs.Graphs.{IsSoundPlace, IsGraph, under_serial-free, under_serial-used, live-alike}
 use Rattle.pud_defs.proofs.Contents.{names_only, name_only, stands-same, named_by-same, all_stand-same, values-same}
 use Rattle.graph_laws.proofs.ContentLists.{is_other}
 
@@ -105,10 +104,7 @@ module _ (t u : Table) (n p : ℕ) (same : IsSameBut t u n p) where
   live-other : (q : ℕ) → q < n → (q ≡ p → ⊥)
       → ((t.serial q ≡ 0 → ⊥) → map (value_of u.serial) (contents_or_none (t.contents q)) ≡ map (value_of t.serial) (contents_or_none (t.contents q)))
       → live u q ≡ live t q
-  live-other q below other values = under_serial-same t.serial u.serial (object_at t) (object_at u) q (same.serial q other) (λ used.
-      let type = same.type_id q below other used in
-      let fields = ap (λ c. map (value_of u.serial) (contents_or_none c)) (same.contents q below other used) ∙ values used in
-      λ i. record { type_id = type i; fields = fields i })
+  live-other q below other values = live-alike t u q (same.serial q other) (same.type_id q below other) (same.contents q below other) values
 
   -- ---- the serial stays
 

@@ -1,14 +1,13 @@
 -- Words that are the same wherever they are read stand for the same, and one that is not read changes nothing.
-use Rattle.std.proofs.Common.{◌≡◌, ℕ, ◌+◌, ◌*◌, ◌/◌, ◌%◌, ◌<◌, ◌≤◌, true, List, length, Option, Some, None, refl, sym, ap, ap₂, ◌∙◌, arith}
+use Rattle.std.proofs.Common.{◌≡◌, ℕ, ◌+◌, ◌/◌, ◌%◌, ◌<◌, ◌≤◌, List, Some, refl, sym, ap, ◌∙◌, arith}
 use Rattle.std.proofs.lemmas.Option.{same_Some}
-use Rattle.pud_defs.specs.declared.layout.TheConstants.{MAX_FIELDS}
 use Rattle.pud_defs.specs.declared.space.TheConstants.{FRAME_SLOTS, FRAME_HEADER_WORDS, FRAME_ORDINAL_WORD, ROOT_WORD, SLOT_WORDS, SLOT_SERIAL_WORD, SLOT_TYPE_WORD, SLOT_FIELDS_WORD}
 use Rattle.pud_defs.specs.Types.{map_of}
 use Rattle.pud_defs.specs.Frames.{slot_at}
 use Rattle.pud_defs.specs.Stored.{Stored, places_of, place_word}
 use Rattle.pud_defs.specs.Graph.{contents_by, field_count, pointee_at, graph_of}
-use Rattle.graph_laws.specs.Changes.{with_word, with_words, with_slot_word, with_field_word}
-use Rattle.graph_laws.specs.Reads.{KeepsSlots, ReadsSame}
+use Rattle.graph_laws.specs.Changes.{with_word, with_words, with_slot_word}
+use Rattle.graph_laws.specs.Reads.{ReadsSame}
 use Rattle.graph_laws.proofs.Words.{with_word-other, slot_word-header, slot_word-other, headers_fit-same, contents_by-same, few_fields}
 use Rattle.graph_laws.proofs.Same.{StandsSame, graph_of-same}
 

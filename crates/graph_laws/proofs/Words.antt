@@ -1,5 +1,5 @@
 -- What is read of a pool over other words: its headers, its table of slots, and its graph.
-use Rattle.std.proofs.Common.{◌≡◌, ◌⊎◌, inl, inr, ℕ, ◌+◌, ◌*◌, ◌/◌, ◌%◌, ◌<◌, ◌≤◌, Bool, true, false, ◌&&◌, cond, eqb, leb, List, map, length, Option, Some, None, nat_cmp, refl, sym, ap, ap₂, subst, ◌∙◌, ⊎_elim, arith, eq-eqb, ne_eqb, zero-le}
+use Rattle.std.proofs.Common.{◌≡◌, ℕ, ◌+◌, ◌/◌, ◌%◌, ◌<◌, ◌≤◌, true, leb, List, map, length, Option, Some, None, nat_cmp, refl, sym, ap, ap₂, subst, ◌∙◌, ⊎_elim, arith, eq-eqb, ne_eqb}
 use Rattle.std.specs.Prelude.{slice_get}
 use Rattle.std.specs.List.{range_with_len}
 use Rattle.std.proofs.lemmas.Bool.{cases_eq, cond-true, cond-false, cond_both, and_left, and_right, and_from, leb-true, eqb-true}
@@ -17,7 +17,7 @@ use Rattle.pud_defs.specs.Headers.{is_header}
 use Rattle.pud_defs.specs.Stored.{Stored, places_of, place_word}
 use Rattle.pud_defs.specs.Graph.{Content, Table, table_of, contents_by, content, field_count, pointee_at, placed, place_of, has_header, headers_fit, Graph, graph_by, graph_of}
 use Rattle.pud_defs.proofs.Spaces.{all_below-same}
-use Rattle.pud_defs.proofs.TypeLists.{same_test, same_number}
+use Rattle.pud_defs.proofs.TypeLists.{same_test}
 use Rattle.pud_defs.proofs.Keyed.{first_from_some}
 use Rattle.pud_defs.proofs.Graphs.{under_serial-free, under_serial-used, IsGraph, graph_of-from}
 use Rattle.graph_laws.specs.Changes.{with_word, with_words}

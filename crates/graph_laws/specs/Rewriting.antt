@@ -1,10 +1,10 @@
 -- A step of rewriting: the pointers at the frontier of a puddle are stored over the pool's bases, and the frontier is one more.
 use Rattle.std.specs.Prelude.{◌≡◌, ℕ, ◌+◌, ◌/◌, ◌%◌, ◌<◌, cond, List, map, set, slice_get, Option, Some, None, option_map}
-use Rattle.pud_defs.specs.declared.space.TheConstants.{FRAME_SLOTS, FRAME_HEADER_WORDS, ROOT_WORD, SLOT_WORDS, SLOT_SERIAL_WORD, SLOT_TYPE_WORD, SLOT_FIELDS_WORD}
+use Rattle.pud_defs.specs.declared.space.TheConstants.{FRAME_SLOTS, FRAME_HEADER_WORDS, SLOT_WORDS, SLOT_SERIAL_WORD, SLOT_TYPE_WORD, SLOT_FIELDS_WORD}
 use Rattle.pud_defs.specs.declared.records.Puddle.{Puddle}
 use Rattle.pud_defs.specs.TypeMap.{is_pointer}
 use Rattle.pud_defs.specs.Types.{map_of}
-use Rattle.pud_defs.specs.Stored.{Stored, places_of, place_word}
+use Rattle.pud_defs.specs.Stored.{Stored, place_word}
 use Rattle.pud_defs.specs.Graph.{Content, Number, Null, At, Nowhere, slot_address, target, field_count}
 
 -- ---- pointers

@@ -1,6 +1,6 @@
 //! The laws. Each function here does nothing; its contract is the law.
 
-ghost use Rattle.std.specs.Prelude.{◌≡◌, ◌+◌, ◌*◌, ◌/◌, ◌%◌, ◌<◌, ◌≤◌, ℕ, true, false, List, map, slice_get, slice_index, Option};
+ghost use Rattle.std.specs.Prelude.{◌≡◌, ◌+◌, ◌*◌, ◌/◌, ◌%◌, ◌<◌, ◌≤◌, ℕ, true, false, List, map, slice_get, slice_index, Option, option_map};
 ghost use Rattle.pud_defs.specs.declared.layout.TheConstants.{FRAME_WORDS, NUMBER_LIMIT};
 ghost use Rattle.pud_defs.specs.declared.space.TheConstants.{FRAME_SLOTS, FRAME_HEADER_WORDS, FRAME_ORDINAL_WORD, ROOT_WORD, SLOT_WORDS, SLOT_SERIAL_WORD, SLOT_TYPE_WORD, SLOT_FIELDS_WORD};
 ghost use Rattle.pud_defs.specs.declared.records.Puddle.{Puddle};
@@ -9,10 +9,16 @@ ghost use Rattle.pud_defs.specs.TypeMap.{is_pointer};
 ghost use Rattle.pud_defs.specs.Types.{map_of, with_type};
 ghost use Rattle.pud_defs.specs.Frames.{fresh_frame};
 ghost use Rattle.pud_defs.specs.Stored.{Stored, places_of, place_word};
-ghost use Rattle.pud_defs.specs.Graph.{Graph, table_of, place_of, field_count, next_serial_of, is_held, graph_of, empty_graph};
+ghost use Rattle.pud_defs.specs.Graph.{Graph, table_of, place_of, object_at, field_count, object_in, next_serial_of, is_held, graph_of, empty_graph};
 ghost use Rattle.graph_laws.specs.Changes.{with_word, with_words, with_slot_word, with_field_word, with_serial_word, with_root_word, AreBases, IsAddress, IsField, IsMade, blank_object, with_field, with_new, without_object, with_root};
 ghost use Rattle.graph_laws.specs.Reads.{ReadsSame, with_puddle, alone, IsGrown};
 ghost use Rattle.graph_laws.specs.Rewriting.{rewritten, stepped, RewritesSlot};
+
+/// The object of a serial is what stands at the place of the serial.
+pub fn object_stands_at_the_place_of_its_serial()
+    ensures { (types : List (ℕ × ℕ)) (st : Stored) (g : Graph) (s : ℕ) → graph_of types st ≡ Option.Some g
+        → object_in s g ≡ option_map (object_at (table_of types st)) (place_of s (table_of types st) (places_of st)) }
+{}
 
 /// A word that is stored in a number field is its value.
 pub fn stored_number_is_the_fields_value()

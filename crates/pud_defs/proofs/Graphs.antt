@@ -88,6 +88,14 @@ under_serial-same s r f g p serial value =
     (λ used. under_serial-used r g p (λ free. used (sym serial ∙ free)) ∙ ap₂ (λ k x. Some (k, x)) serial (value used) ∙ sym (under_serial-used s f p used))
     (cases_eq (s p) 0)
 
+-- what stands at a place that is the same
+pub live-alike : (t u : Table) (p : ℕ) → u.serial p ≡ t.serial p → ((t.serial p ≡ 0 → ⊥) → u.type_id p ≡ t.type_id p) → ((t.serial p ≡ 0 → ⊥) → u.contents p ≡ t.contents p)
+    → ((t.serial p ≡ 0 → ⊥) → map (value_of u.serial) (contents_or_none (t.contents p)) ≡ map (value_of t.serial) (contents_or_none (t.contents p)))
+    → live u p ≡ live t p
+live-alike t u p serial type contents values = under_serial-same t.serial u.serial (object_at t) (object_at u) p serial (λ used.
+    let fields = ap (λ c. map (value_of u.serial) (contents_or_none c)) (contents used) ∙ values used in
+    λ i. record { type_id = type used i; fields = fields i })
+
 -- ---- tables that are read the same
 
 -- the serials are the same, so is what stands at each live place, and no place is named but these
@@ -105,12 +113,9 @@ module _ (t u : Table) (n : ℕ) (same : IsSameTable t u n) where
   placed-same p low high = under_serial-same t.serial u.serial (λ q. q) (λ q. q) p (same.serial p (omega arith)) (λ used. refl)
 
   pub live-same : (p : ℕ) → p < n → live u p ≡ live t p
-  live-same p below = under_serial-same t.serial u.serial (object_at t) (object_at u) p (same.serial p below) (λ used.
-      let type = same.type_id p below used in
-      let fields =
-      ap (λ c. map (value_of u.serial) (contents_or_none c)) (same.contents p below used)
-      ∙ values-same t.serial u.serial (λ q. ltb q n) agree (contents_or_none (t.contents p)) (same.within p below used) in
-      λ i. record { type_id = type i; fields = fields i })
+  live-same p below =
+      live-alike t u p (same.serial p below) (same.type_id p below) (same.contents p below)
+      (λ used. values-same t.serial u.serial (λ q. ltb q n) agree (contents_or_none (t.contents p)) (same.within p below used))
 
   module _ (next : ℕ) (top : Content) (top_within : names_only (λ q. ltb q n) top ≡ true) where
     pub IsGraph-same : IsGraph next top t n → IsGraph next top u n
