@@ -7,10 +7,16 @@
 #![tactic(auto)]
 
 mod asking;
-pub mod fields;
-pub mod holders;
-pub mod judge;
-pub mod places;
-pub mod pointers;
+mod fields;
+mod holders;
+mod judge;
+mod places;
+mod pointers;
 mod serials;
 mod types;
+
+pub use fields::{FieldRead, read_field};
+pub use holders::is_held;
+pub use judge::pool_is_sound;
+pub use places::{find_place, find_serial};
+pub use pointers::read_pointer;

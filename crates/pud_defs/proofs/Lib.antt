@@ -51,3 +51,4 @@ pub mod ExamplesGraph
 pub mod ExamplesRights
 pub mod Stands
 pub mod DistinctKeys
+pub mod Contents
