@@ -11,7 +11,6 @@ use Rattle.pud_defs.proofs.Contents.{names_only, name_only}
 abbrev pub is_other : ℕ → ℕ → Bool
 is_other p q = not (eqb q p)
 
-
 module _ (s : ℕ → ℕ) (p : ℕ) where
   -- what stands names no free place
   pub names_no_free : s p ≡ 0 → (c : Content) → stands s c ≡ true → names_only (is_other p) c ≡ true

@@ -24,17 +24,17 @@ use Rattle.graph_laws.proofs.Pointers.{pointee_at-null, pointee_at-address}
 -- one of the values of a range is another
 map-range_set : {X : Type 0} (f g : ℕ → X) (n i : ℕ) → ((k : ℕ) → k < n → (k ≡ i → ⊥) → f k ≡ g k) → map f (range_with_len 0 n) ≡ set (map g (range_with_len 0 n)) i (f i)
 map-range_set f g n i same = same_lists _ _
-  (length-map-range_with_len f 0 n ∙ sym (length-set (map g (range_with_len 0 n)) i (f i) ∙ length-map-range_with_len g 0 n))
-  (λ k d below.
-  let size = length-map-range_with_len f 0 n in
-  let other_size = length-map-range_with_len g 0 n in
-  let within : k < n = omega arith in
-  get_or-map-range_with_len f 0 n k k d within (omega arith) ∙ ⊎_elim
-  (λ e.
-  let inside : i < length (map g (range_with_len 0 n)) = omega arith in
-  ap f e ∙ sym (ap (λ j. get_or (set (map g (range_with_len 0 n)) i (f i)) j d) e ∙ get_or-set_same (map g (range_with_len 0 n)) i (f i) d inside))
-  (λ other. same k within other ∙ sym (get_or-set_other (map g (range_with_len 0 n)) i k (f i) d other ∙ get_or-map-range_with_len g 0 n k k d within (omega arith)))
-  (cases_eq k i))
+    (length-map-range_with_len f 0 n ∙ sym (length-set (map g (range_with_len 0 n)) i (f i) ∙ length-map-range_with_len g 0 n))
+    (λ k d below.
+    let size = length-map-range_with_len f 0 n in
+    let other_size = length-map-range_with_len g 0 n in
+    let within : k < n = omega arith in
+    get_or-map-range_with_len f 0 n k k d within (omega arith) ∙ ⊎_elim
+    (λ e.
+    let inside : i < length (map g (range_with_len 0 n)) = omega arith in
+    ap f e ∙ sym (ap (λ j. get_or (set (map g (range_with_len 0 n)) i (f i)) j d) e ∙ get_or-set_same (map g (range_with_len 0 n)) i (f i) d inside))
+    (λ other. same k within other ∙ sym (get_or-set_other (map g (range_with_len 0 n)) i k (f i) d other ∙ get_or-map-range_with_len g 0 n k k d within (omega arith)))
+    (cases_eq k i))
 
 module _ (types : List (ℕ × ℕ)) (st : Stored) (p m f v : ℕ) (below : f < field_count m) where
   -- the words after the store

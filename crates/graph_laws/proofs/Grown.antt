@@ -98,16 +98,18 @@ module _ (u : Table) (n more : ℕ) (free : (p : ℕ) → n ≤ p → p < n + mo
   IsGraph-longer h = record {
     legal = h.legal;
     top_stands = h.top_stands;
-    distinct = record { apart = λ i j low less high e is. ⊎_elim
-    (λ below. h.distinct.apart i j low less (omega arith) e is)
-    (λ behind. ap (under nat_cmp e.0) (under_serial-free u.serial (λ (p : ℕ). p) j (free j behind (omega arith))))
-    (cases_lt j n) };
+    distinct = record {
+      apart = λ i j low less high e is. ⊎_elim
+          (λ below. h.distinct.apart i j low less (omega arith) e is)
+          (λ behind. ap (under nat_cmp e.0) (under_serial-free u.serial (λ (p : ℕ). p) j (free j behind (omega arith))))
+          (cases_lt j n);
+    };
     sound = λ p below used. ⊎_elim (λ low. h.sound p low used) (λ behind. absurd (used (free p behind below))) (cases_lt p n);
   }
 
   graph_by-longer : graph_by next top u (n + more) ≡ graph_by next top u n
   graph_by-longer = ap (λ es. record { next_serial = next; root = named_by u.serial top; objects = es })
-    (keyed-longer (live u) 0 n more (λ p low high. under_serial-free u.serial (object_at u) p (free p (omega arith) (omega arith))))
+      (keyed-longer (live u) 0 n more (λ p low high. under_serial-free u.serial (object_at u) p (free p (omega arith) (omega arith))))
 
 -- ---- the graph
 

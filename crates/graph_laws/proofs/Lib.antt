@@ -12,3 +12,4 @@ pub mod Grown
 pub mod Rewritten
 pub mod Places
 pub mod ExamplesGraphs
+pub mod StoredImages

@@ -28,15 +28,15 @@ map-map_each f h g each (k ∷ ks) = ap₂ (λ x xs. x ∷ xs) (each k) (map-map
 module _ (puddles : List Puddle) (m p : ℕ) (serial : ℕ → ℕ) where
   blank_stands : (f : ℕ) → stands serial (content puddles m p f 0) ≡ true
   blank_stands f = ⊎_elim
-    (λ pointer. ap (stands serial) (cond-true _ _ _ pointer ∙ pointee_at-null puddles (p / FRAME_SLOTS) (p % FRAME_SLOTS + 1) 0 refl))
-    (λ number. ap (stands serial) (cond-false _ _ _ number))
-    (cases_Bool (is_pointer m f))
+      (λ pointer. ap (stands serial) (cond-true _ _ _ pointer ∙ pointee_at-null puddles (p / FRAME_SLOTS) (p % FRAME_SLOTS + 1) 0 refl))
+      (λ number. ap (stands serial) (cond-false _ _ _ number))
+      (cases_Bool (is_pointer m f))
 
   value_of-blank : (f : ℕ) → value_of serial (content puddles m p f 0) ≡ blank_value m f
   value_of-blank f = ⊎_elim
-    (λ pointer. ap (value_of serial) (cond-true _ _ _ pointer ∙ pointee_at-null puddles (p / FRAME_SLOTS) (p % FRAME_SLOTS + 1) 0 refl) ∙ sym (cond-true _ _ _ pointer))
-    (λ number. ap (value_of serial) (cond-false _ _ _ number) ∙ sym (cond-false _ _ _ number))
-    (cases_Bool (is_pointer m f))
+      (λ pointer. ap (value_of serial) (cond-true _ _ _ pointer ∙ pointee_at-null puddles (p / FRAME_SLOTS) (p % FRAME_SLOTS + 1) 0 refl) ∙ sym (cond-true _ _ _ pointer))
+      (λ number. ap (value_of serial) (cond-false _ _ _ number) ∙ sym (cond-false _ _ _ number))
+      (cases_Bool (is_pointer m f))
 
 -- ---- the graph
 
@@ -53,8 +53,8 @@ module _ (types : List (ℕ × ℕ)) (st : Stored) (word : ℕ → ℕ → ℕ) 
   others_kept : KeepsOthers st.word word p
   others_kept = record {
     each = λ q k other low. made.others (q / FRAME_SLOTS) (slot_at (q % FRAME_SLOTS) + k)
-    (λ same above below. let here : q ≡ p = omega arith in other here)
-    (λ first at. absurd (omega arith));
+        (λ same above below. let here : q ≡ p = omega arith in other here)
+        (λ first at. absurd (omega arith));
   }
 
   abbrev blanks : List Content

@@ -127,9 +127,9 @@ module _ (puddles : List Puddle) (o n : ℕ) (home : Puddle) (here : slice_get p
 -- the frontier passes one step alone
 same_side : (step frontier : ℕ) → (step ≡ frontier → ⊥) → ltb step (frontier + 1) ≡ ltb step frontier
 same_side step frontier other = ⊎_elim
-  (λ below. lt-ltb step (frontier + 1) (omega arith) ∙ sym (lt-ltb step frontier below))
-  (λ above. le-ltb step (frontier + 1) (omega arith) ∙ sym (le-ltb step frontier above))
-  (cases_lt step frontier)
+    (λ below. lt-ltb step (frontier + 1) (omega arith) ∙ sym (lt-ltb step frontier below))
+    (λ above. le-ltb step (frontier + 1) (omega arith) ∙ sym (le-ltb step frontier above))
+    (cases_lt step frontier)
 
 headers-stepped : (st : Stored) (o n : ℕ) (home : Puddle) (here : slice_get st.puddles o ≡ Some home) (word : ℕ → ℕ → ℕ) → ((k j : ℕ) → j < 3 → word k j ≡ st.word k j) → headers_fit (stepped o n word st) ≡ headers_fit st
 unfolding headers_fit
@@ -147,8 +147,8 @@ module _ (types : List (ℕ × ℕ)) (st : Stored) (o : ℕ) (home : Puddle) (he
   -- the first step of a puddle passes no slot
   content-first : (m p f v : ℕ) → content (with_frontier o 1 st.puddles) m p f v ≡ content st.puddles m p f v
   content-first m p f v = ap (λ (c : Content). cond (is_pointer m f) c (Number v))
-    (pointee_at-kept st.puddles o 1 home here (p / FRAME_SLOTS) (p % FRAME_SLOTS + 1) v
-    (λ same. le-ltb (p % FRAME_SLOTS + 1) 1 (omega arith) ∙ sym (le-ltb (p % FRAME_SLOTS + 1) home.frontier (omega arith))))
+      (pointee_at-kept st.puddles o 1 home here (p / FRAME_SLOTS) (p % FRAME_SLOTS + 1) v
+      (λ same. le-ltb (p % FRAME_SLOTS + 1) 1 (omega arith) ∙ sym (le-ltb (p % FRAME_SLOTS + 1) home.frontier (omega arith))))
 
   first_step : (word : ℕ → ℕ → ℕ) → ((k j : ℕ) → (k ≡ 0 → j ≡ ROOT_WORD → ⊥) → word k j ≡ st.word k j) → root_of (stepped o 0 word st) ≡ root_of st → StandsSame types st (stepped o 0 word st)
   first_step word same root =
@@ -219,9 +219,9 @@ module _ (types : List (ℕ × ℕ)) (st : Stored) (word : ℕ → ℕ → ℕ) 
 
   type_kept : (q : ℕ) → (place_word st.word q 0 ≡ 0 → ⊥) → place_word word q 1 ≡ place_word st.word q 1
   type_kept q used = ⊎_elim
-    (λ e. ap (λ k. place_word word k 1) e ∙ rewrites.type_id (λ free. used (ap (λ k. place_word st.word k 0) e ∙ free)) ∙ ap (λ k. place_word st.word k 1) (sym e))
-    (λ other. rewrites.others q 1 other (omega arith))
-    (cases_eq q p)
+      (λ e. ap (λ k. place_word word k 1) e ∙ rewrites.type_id (λ free. used (ap (λ k. place_word st.word k 0) e ∙ free)) ∙ ap (λ k. place_word st.word k 1) (sym e))
+      (λ other. rewrites.others q 1 other (omega arith))
+      (cases_eq q p)
 
   module _ (bases : AreBases (map (λ d. d.base) st.puddles)) (h : IsGraph (next_serial_of st) (root_of st) (table_of types st) (places_of st)) where
     abbrev t : Table

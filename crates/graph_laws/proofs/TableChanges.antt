@@ -38,9 +38,9 @@ module _ {X : Type 0} where
 
   keyed-replaced : (f g : ℕ → Option (ℕ × X)) (n i k : ℕ) (now : Option X) → IsSetBelow f g n i k now → keyed nat_cmp g 0 n ≡ keyed nat_cmp (replaced f i (g i)) 0 n
   keyed-replaced f g n i k now h = keyed-same nat_cmp g (replaced f i (g i)) 0 n (λ j low high. ⊎_elim
-    (λ e. ap g e ∙ sym (cond-true _ _ _ (eq-eqb j i e)))
-    (λ other. h.others j (omega arith) other ∙ sym (cond-false _ _ _ (ne_eqb j i other)))
-    (cases_eq j i))
+      (λ e. ap g e ∙ sym (cond-true _ _ _ (eq-eqb j i e)))
+      (λ other. h.others j (omega arith) other ∙ sym (cond-false _ _ _ (ne_eqb j i other)))
+      (cases_eq j i))
 
   pub keyed-put_below : (f g : ℕ → Option (ℕ × X)) (n i k : ℕ) (v : X) → IsSetBelow f g n i k (Some v) → keyed nat_cmp g 0 n ≡ put nat_cmp k v (keyed nat_cmp f 0 n)
   keyed-put_below f g n i k v h = keyed-replaced f g n i k (Some v) h ∙ keyed-put nat_cmp nat_cmp_total same_number f (replaced f i (g i)) 0 n i k v (replaced_is_set f g n i k (Some v) h)
@@ -54,15 +54,15 @@ module _ {A : Type 0} (serial : ℕ → ℕ) (value : ℕ → A) where
   -- a place of another serial is not under this one
   pub under_other : (k p : ℕ) → (serial p ≡ k → ⊥) → under nat_cmp k (under_serial serial value p) ≡ None
   under_other k p other = ⊎_elim
-    (λ free. ap (under nat_cmp k) (under_serial-free serial value p free))
-    (λ used. ap (under nat_cmp k) (under_serial-used serial value p used) ∙ under_apart nat_cmp k (serial p, value p) (same_test k (serial p) ∙ ne_eqb _ _ (λ e. other (sym e))))
-    (cases_eq (serial p) 0)
+      (λ free. ap (under nat_cmp k) (under_serial-free serial value p free))
+      (λ used. ap (under nat_cmp k) (under_serial-used serial value p used) ∙ under_apart nat_cmp k (serial p, value p) (same_test k (serial p) ∙ ne_eqb _ _ (λ e. other (sym e))))
+      (cases_eq (serial p) 0)
 
   pub key_of_serial : (p : ℕ) → option_map (λ (e : ℕ × A). e.0) (under_serial serial value p) ≡ cond (eqb (serial p) 0) None (Some (serial p))
   key_of_serial p = ⊎_elim
-    (λ free. ap (option_map (λ (e : ℕ × A). e.0)) (under_serial-free serial value p free) ∙ sym (cond-true _ _ _ (eq-eqb _ 0 free)))
-    (λ used. ap (option_map (λ (e : ℕ × A). e.0)) (under_serial-used serial value p used) ∙ sym (cond-false _ _ _ (ne_eqb _ 0 used)))
-    (cases_eq (serial p) 0)
+      (λ free. ap (option_map (λ (e : ℕ × A). e.0)) (under_serial-free serial value p free) ∙ sym (cond-true _ _ _ (eq-eqb _ 0 free)))
+      (λ used. ap (option_map (λ (e : ℕ × A). e.0)) (under_serial-used serial value p used) ∙ sym (cond-false _ _ _ (ne_eqb _ 0 used)))
+      (cases_eq (serial p) 0)
 
 -- two live places have different serials
 pub serials_apart : (serial : ℕ → ℕ) (n p : ℕ) → HasDistinctKeys nat_cmp (under_serial serial (λ (q : ℕ). q)) 0 n → p < n → (serial p ≡ 0 → ⊥) → (q : ℕ) → q < n → (q ≡ p → ⊥) → serial q ≡ serial p → ⊥
@@ -124,9 +124,9 @@ module _ (t u : Table) (n p : ℕ) (same : IsSameBut t u n p) where
           let low = sound.below in record {
             below = omega arith;
             stand = ⊎_elim
-            (λ e. ap (λ (s : ℕ → ℕ). all_stand s (u.contents q)) serials_still ∙ ap (λ k. all_stand t.serial (u.contents k)) e ∙ stand)
-            (λ other. ap₂ all_stand serials_still (same.contents q below other (λ free. used (here ∙ free))) ∙ sound.stand)
-            (cases_eq q p);
+                (λ e. ap (λ (s : ℕ → ℕ). all_stand s (u.contents q)) serials_still ∙ ap (λ k. all_stand t.serial (u.contents k)) e ∙ stand)
+                (λ other. ap₂ all_stand serials_still (same.contents q below other (λ free. used (here ∙ free))) ∙ sound.stand)
+                (cases_eq q p);
           };
     }
 
@@ -155,17 +155,17 @@ module _ (t u : Table) (n p : ℕ) (same : IsSameBut t u n p) where
       top_stands = stands-same t.serial u.serial (is_other p) agree top unnamed.root ∙ h.top_stands;
       distinct = distinct;
       sound = λ q below used. ⊎_elim
-      (λ e. subst (λ k. IsSoundPlace later u k) (sym e) (here (λ free. used (ap u.serial e ∙ free))))
-      (λ other.
-      let serial = same.serial q other in
-      let live : t.serial q ≡ 0 → ⊥ = λ free. used (serial ∙ free) in
-      let sound = h.sound q below live in
-      let low = sound.below in
-      record {
-        below = omega arith;
-        stand = ap (all_stand u.serial) (same.contents q below other live) ∙ all_stand-same t.serial u.serial (is_other p) agree (t.contents q) (unnamed.each q below other live) ∙ sound.stand;
-      })
-      (cases_eq q p);
+          (λ e. subst (λ k. IsSoundPlace later u k) (sym e) (here (λ free. used (ap u.serial e ∙ free))))
+          (λ other.
+          let serial = same.serial q other in
+          let live : t.serial q ≡ 0 → ⊥ = λ free. used (serial ∙ free) in
+          let sound = h.sound q below live in
+          let low = sound.below in
+          record {
+            below = omega arith;
+            stand = ap (all_stand u.serial) (same.contents q below other live) ∙ all_stand-same t.serial u.serial (is_other p) agree (t.contents q) (unnamed.each q below other live) ∙ sound.stand;
+          })
+          (cases_eq q p);
     }
 
     -- a free place under a serial that no place has

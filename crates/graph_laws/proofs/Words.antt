@@ -30,9 +30,9 @@ with_word-there o k v word = cond-true _ _ _ (and_from _ _ (eq-eqb o o refl) (eq
 
 pub with_word-other : (o k v : ℕ) (word : ℕ → ℕ → ℕ) (other at : ℕ) → (other ≡ o → at ≡ k → ⊥) → with_word o k v word other at ≡ word other at
 with_word-other o k v word other at apart = ⊎_elim
-  (λ same. cond-false _ _ _ (and_right _ _ (ne_eqb at k (apart same))))
-  (λ differs. cond-false _ _ _ (and_left _ _ (ne_eqb other o differs)))
-  (cases_eq other o)
+    (λ same. cond-false _ _ _ (and_right _ _ (ne_eqb at k (apart same))))
+    (λ differs. cond-false _ _ _ (and_left _ _ (ne_eqb other o differs)))
+    (cases_eq other o)
 
 -- ---- one word of a slot
 
@@ -71,10 +71,10 @@ few_fields m = cond_both (leb (map_fields m) MAX_FIELDS) (map_fields m) MAX_FIEL
 
 pub map-range_same : {X : Type 0} (f g : ℕ → X) (n : ℕ) → ((k : ℕ) → k < n → f k ≡ g k) → map f (range_with_len 0 n) ≡ map g (range_with_len 0 n)
 map-range_same f g n same = same_lists _ _
-  (length-map-range_with_len f 0 n ∙ sym (length-map-range_with_len g 0 n))
-  (λ k d below.
-  let within : k < n = omega (arith, length-map-range_with_len f 0 n) in
-  get_or-map-range_with_len f 0 n k k d within (omega arith) ∙ same k within ∙ sym (get_or-map-range_with_len g 0 n k k d within (omega arith)))
+    (length-map-range_with_len f 0 n ∙ sym (length-map-range_with_len g 0 n))
+    (λ k d below.
+    let within : k < n = omega (arith, length-map-range_with_len f 0 n) in
+    get_or-map-range_with_len f 0 n k k d within (omega arith) ∙ same k within ∙ sym (get_or-map-range_with_len g 0 n k k d within (omega arith)))
 
 -- fields of which each stands for the same
 pub contents_by-each : (st later : Stored) (p : ℕ) (type : Option ℕ)
@@ -122,11 +122,11 @@ pub record IsLive (t : Table) (n s p : ℕ) : Type 0 where
 
 there_is : (t : Table) (n s p i : ℕ) → i < n → under nat_cmp s (placed t i) ≡ Some p → IsLive t n s p
 there_is t n s p i within here = ⊎_elim
-  (λ free. absurd (none-some p (sym (ap (under nat_cmp s) (under_serial-free t.serial (λ (q : ℕ). q) i free)) ∙ here)))
-  (λ used.
-  let found = cond_some _ i p (sym (ap (under nat_cmp s) (under_serial-used t.serial (λ (q : ℕ). q) i used)) ∙ here) in
-  subst (λ q. IsLive t n s q) found.1 (record { within = within; is = sym (eqb-true s (t.serial i) (sym (same_test s (t.serial i)) ∙ found.0)); used = used }))
-  (cases_eq (t.serial i) 0)
+    (λ free. absurd (none-some p (sym (ap (under nat_cmp s) (under_serial-free t.serial (λ (q : ℕ). q) i free)) ∙ here)))
+    (λ used.
+    let found = cond_some _ i p (sym (ap (under nat_cmp s) (under_serial-used t.serial (λ (q : ℕ). q) i used)) ∙ here) in
+    subst (λ q. IsLive t n s q) found.1 (record { within = within; is = sym (eqb-true s (t.serial i) (sym (same_test s (t.serial i)) ∙ found.0)); used = used }))
+    (cases_eq (t.serial i) 0)
 
 pub place_of-some : (t : Table) (n s p : ℕ) → place_of s t n ≡ Some p → IsLive t n s p
 place_of-some t n s p found = let first = first_from_some nat_cmp s (placed t) 0 n p found in let high = first.1.high in there_is t n s p first.0 (omega arith) first.1.here

@@ -1,7 +1,10 @@
 -- What is read of a pool for its graph.
-use Rattle.std.specs.Prelude.{◌≡◌, ℕ, ◌+◌, ◌<◌, ◌≤◌, true, List, [], ◌∷◌, ◌++◌, length, Some}
+use Rattle.std.specs.Prelude.{◌≡◌, ℕ, ◌+◌, ◌<◌, ◌≤◌, true, List, [], ◌∷◌, ◌++◌, length, slice_get, Some}
+use Rattle.pud_defs.specs.declared.layout.TheConstants.{FRAME_WORDS}
 use Rattle.pud_defs.specs.declared.space.TheConstants.{FRAME_SLOTS, FRAME_MAGIC_WORD, FRAME_NUMBER_WORD, FRAME_ORDINAL_WORD, NEXT_SERIAL_WORD, ROOT_WORD, SLOT_SERIAL_WORD, SLOT_TYPE_WORD, SLOT_FIELDS_WORD}
 use Rattle.pud_defs.specs.declared.records.Puddle.{Puddle}
+use Rattle.pud_defs.specs.Image.{Image}
+use Rattle.pud_defs.specs.Frames.{frame_word}
 use Rattle.pud_defs.specs.Types.{map_of}
 use Rattle.pud_defs.specs.Headers.{is_header}
 use Rattle.pud_defs.specs.Stored.{Stored, places_of, place_word}
@@ -35,3 +38,13 @@ pub record IsGrown (st : Stored) (d : Puddle) (word : ℕ → ℕ → ℕ) : Typ
   pub others : (o k : ℕ) → o < length st.puddles → word o k ≡ st.word o k
   pub header : is_header d.number (length st.puddles) (word (length st.puddles) FRAME_MAGIC_WORD) (word (length st.puddles) FRAME_NUMBER_WORD) (word (length st.puddles) FRAME_ORDINAL_WORD) ≡ true
   pub free : (p : ℕ) → places_of st ≤ p → p < places_of st + FRAME_SLOTS → place_word word p SLOT_SERIAL_WORD ≡ 0
+
+-- ---- images
+
+-- The two images hold the same in the frames of these puddles.
+pub record AgreeOnFrames (F : ℕ) (at : List (ℕ × Puddle)) (i j : Image) : Type 0 where
+  pub each : (o k : ℕ) (e : ℕ × Puddle) → slice_get at o ≡ Some e → k < FRAME_WORDS → frame_word F e.0 k j ≡ frame_word F e.0 k i
+
+-- no frame holds two of them
+pub record HasDistinctFrames (at : List (ℕ × Puddle)) : Type 0 where
+  pub each : (i j : ℕ) (e d : ℕ × Puddle) → slice_get at i ≡ Some e → slice_get at j ≡ Some d → e.0 ≡ d.0 → i ≡ j

@@ -7,11 +7,12 @@ ghost use Rattle.pud_defs.specs.declared.records.Puddle.{Puddle};
 ghost use Rattle.pud_defs.specs.declared.objects.Val.TheVariants.{Num, Ref};
 ghost use Rattle.pud_defs.specs.TypeMap.{is_pointer};
 ghost use Rattle.pud_defs.specs.Types.{map_of, with_type};
-ghost use Rattle.pud_defs.specs.Frames.{fresh_frame};
-ghost use Rattle.pud_defs.specs.Stored.{Stored, places_of, place_word};
+ghost use Rattle.pud_defs.specs.Image.{Image, written};
+ghost use Rattle.pud_defs.specs.Frames.{frame_at, fresh_frame};
+ghost use Rattle.pud_defs.specs.Stored.{Stored, stored_in, places_of, place_word};
 ghost use Rattle.pud_defs.specs.Graph.{Graph, table_of, place_of, object_at, field_count, object_in, next_serial_of, is_held, graph_of, empty_graph};
 ghost use Rattle.graph_laws.specs.Changes.{with_word, with_words, with_slot_word, with_field_word, with_serial_word, with_root_word, AreBases, IsAddress, IsField, IsMade, blank_object, with_field, with_new, without_object, with_root};
-ghost use Rattle.graph_laws.specs.Reads.{ReadsSame, with_puddle, alone, IsGrown};
+ghost use Rattle.graph_laws.specs.Reads.{ReadsSame, with_puddle, alone, IsGrown, AgreeOnFrames, HasDistinctFrames};
 ghost use Rattle.graph_laws.specs.Rewriting.{rewritten, stepped, RewritesSlot};
 
 /// The object of a serial is what stands at the place of the serial.
@@ -67,6 +68,17 @@ pub fn stored_address_is_the_root()
 /// Words that are the same wherever they are read have the same graph, or have none either.
 pub fn same_words_read_are_the_same_graph()
     ensures { (types : List (ℕ × ℕ)) (st : Stored) (word : ℕ → ℕ → ℕ) → ReadsSame types st word → graph_of types (with_words word st) ≡ graph_of types st }
+{}
+
+/// Images that agree on the frames of a pool store the same of it.
+pub fn images_that_agree_store_the_same()
+    ensures { (frames : ℕ) (at : List (ℕ × Puddle)) (i : Image) (j : Image) → AgreeOnFrames frames at i j → stored_in frames at j ≡ stored_in frames at i }
+{}
+
+/// A word that is written into the frame of a puddle is that word of what is stored, and no other.
+pub fn written_frame_word_is_a_stored_word()
+    ensures { (frames : ℕ) (at : List (ℕ × Puddle)) (image : Image) (o : ℕ) (k : ℕ) (v : ℕ) (e : ℕ × Puddle) → HasDistinctFrames at → slice_get at o ≡ Option.Some e → k < FRAME_WORDS
+        → stored_in frames at (written (frame_at frames e.0 + k) v image) ≡ with_words (with_word o k v (stored_in frames at image).word) (stored_in frames at image) }
 {}
 
 /// A word of a frame's header is not read behind the header's first three, but for the next serial and the root in the

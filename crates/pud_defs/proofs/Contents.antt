@@ -1,5 +1,5 @@
 -- What stored words stand for: the places that they name are those of the pool, and serials that agree on these give the same values.
-use Rattle.std.proofs.Common.{◌≡◌, ℕ, zero, suc, ◌+◌, ◌*◌, ◌/◌, ◌%◌, ◌<◌, ◌≤◌, Bool, true, false, not, ◌&&◌, cond, eqb, ltb, List, [], ◌∷◌, map, length, Option, Some, None, option_map, refl, sym, ap, ap₂, ◌∙◌, arith, eq-eqb, zero-le, ◌-◌}
+use Rattle.std.proofs.Common.{◌≡◌, ℕ, zero, suc, ◌+◌, ◌*◌, ◌/◌, ◌%◌, ◌<◌, ◌≤◌, Bool, true, not, ◌&&◌, eqb, ltb, List, [], ◌∷◌, map, length, Option, Some, None, option_map, refl, ap, ap₂, arith, eq-eqb, zero-le, ◌-◌}
 use Rattle.std.specs.Prelude.{slice_get}
 use Rattle.std.specs.Option.{option_or}
 use Rattle.std.specs.List.{list_all, range_with_len}
@@ -11,7 +11,7 @@ use Rattle.pud_defs.specs.declared.records.Puddle.{Puddle}
 use Rattle.pud_defs.specs.declared.objects.Val.{Val}
 use Rattle.pud_defs.specs.TypeMap.{is_pointer}
 use Rattle.pud_defs.specs.Stored.{Stored, places_of, place_word}
-use Rattle.pud_defs.specs.Graph.{Content, Number, Null, At, Nowhere, slot_address, slot_in, place_in, at_place, target, bases_for, bases_by, pointee_at, content, field_count, contents_by, contents_or_none, named_by, value_of, stands, all_stand}
+use Rattle.pud_defs.specs.Graph.{Content, Number, Null, At, Nowhere, slot_address, slot_in, place_in, at_place, target, bases_by, pointee_at, content, field_count, contents_by, contents_or_none, named_by, value_of, stands, all_stand}
 
 -- ---- which places are named
 

@@ -3,7 +3,7 @@ use Rattle.std.proofs.Common.{◌≡◌, inl, ℕ, ◌+◌, ◌<◌, ◌≤◌, 
 use Rattle.std.proofs.lemmas.Bool.{cases_eq, cond-true, cond-false, and_parts, and_from, or_left, or_right, or_cases, eqb-true, ltb-true, lt-ltb}
 use Rattle.std.proofs.lemmas.Option.{cond_some}
 use Rattle.pud_defs.specs.Stored.{Stored, places_of}
-use Rattle.pud_defs.specs.Graph.{Content, Table, table_of, Object, Graph, under_serial, placed, object_at, live, graph_by, stands, all_stand, is_sound_place, is_next_serial, is_graph, headers_fit, named_by, value_of, contents_or_none, next_serial_of, root_of, graph_stored, graph_of}
+use Rattle.pud_defs.specs.Graph.{Content, Table, table_of, Graph, under_serial, placed, object_at, live, graph_by, stands, all_stand, is_sound_place, is_next_serial, is_graph, headers_fit, value_of, contents_or_none, next_serial_of, root_of, graph_stored, graph_of}
 use Rattle.pud_defs.proofs.Contents.{names_only, name_only, stands-same, named_by-same, all_stand-same, values-same}
 use Rattle.pud_defs.proofs.Keyed.{HasDistinctKeys, HasDistinctKeys-fewer, distinct_keys, are_distinct_keys, keyed-same}
 use Rattle.pud_defs.proofs.Spaces.{all_below-from, all_below-each}
