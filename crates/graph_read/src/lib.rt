@@ -6,7 +6,11 @@
 //! of the device. Nothing changes, and the only errors are the host's own.
 #![tactic(auto)]
 
+mod asking;
 pub mod fields;
+pub mod holders;
+pub mod judge;
 pub mod places;
 pub mod pointers;
+mod serials;
 mod types;
