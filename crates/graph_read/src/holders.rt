@@ -24,8 +24,9 @@ fn holds(root: u64, s: u64, spared: bool) -> bool
     root == s || !spared
 }
 
-/// Whether the root or a pointer of a live slot leads to the object with serial `s`, where the pool stores a graph. Where it
-/// stores none the answer says nothing.
+/// Whether the root or a pointer of a live slot leads to the object with serial `s`, where the pool stores a graph: with 0 for
+/// `s`, whether one of them is null. Where the pool stores none the answer says nothing. Each serial and each field is read
+/// once.
 pub fn is_held<H: Host>(
     h: &mut H,
     frames: u32,
