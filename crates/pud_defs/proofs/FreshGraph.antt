@@ -1,7 +1,7 @@
 -- A pool of one fresh puddle has the graph in which nothing was made yet.
 use Rattle.std.proofs.Common.{◌≡◌, ℕ, ◌+◌, ◌-◌, ◌/◌, ◌%◌, ◌<◌, ◌≤◌, true, List, [], ◌∷◌, Some, None, nat_cmp, replicate, refl, sym, ap, ◌∙◌, arith, eq-eqb}
 use Rattle.std.specs.Prelude.{slice_index}
-use Rattle.std.proofs.lemmas.Bool.{and_from, cond-true}
+use Rattle.std.proofs.lemmas.Bool.{and_from}
 use Rattle.std.proofs.lemmas.List.{get_or_append_left, get_or-append_right, get_or-replicate}
 use Rattle.std.proofs.lemmas.Option.{none-some}
 use Rattle.pud_defs.specs.declared.layout.TheConstants.{FRAME_WORDS}
@@ -10,9 +10,10 @@ use Rattle.pud_defs.specs.declared.records.Puddle.{Puddle}
 use Rattle.pud_defs.specs.Spaces.{all_below}
 use Rattle.pud_defs.specs.Frames.{slot_at, fresh_header, fresh_frame}
 use Rattle.pud_defs.specs.Stored.{Stored, place_word}
-use Rattle.pud_defs.specs.Graph.{Null, target, table_of, live, named_by, stands, is_next_serial, headers_fit, root_of, graph_stored, graph_of, empty_graph}
+use Rattle.pud_defs.specs.Graph.{Null, table_of, object_at, live, named_by, stands, is_next_serial, headers_fit, root_of, graph_stored, graph_of, empty_graph}
 use Rattle.pud_defs.proofs.Keyed.{keyed-none}
-use Rattle.pud_defs.proofs.Graphs.{IsGraph, graph_of-from}
+use Rattle.pud_defs.proofs.Contents.{target-null}
+use Rattle.pud_defs.proofs.Graphs.{IsGraph, under_serial-free, graph_of-from}
 
 -- ---- the words of a fresh frame
 
@@ -26,12 +27,6 @@ fresh_word number ordinal k low high =
 pub fresh_header_words : (number ordinal k : ℕ) → k < 4 → slice_index (fresh_frame number ordinal) k ≡ slice_index (fresh_header number ordinal) k
 unfolding fresh_frame
 fresh_header_words number ordinal k below = get_or_append_left (fresh_header number ordinal) (replicate (FRAME_WORDS - 4) 0) 0 k below
-
--- ---- a pointer of 0
-
-pub target-null : (bases : List ℕ) (v : ℕ) → v ≡ 0 → target bases v ≡ Null
-unfolding target
-target-null bases v zero = cond-true _ _ _ (eq-eqb v 0 zero)
 
 -- ---- the graph
 
@@ -60,13 +55,13 @@ module _ (types : List (ℕ × ℕ)) (p : Puddle) (word : ℕ → ℕ → ℕ) (
       ap (λ o. word o k) ordinal ∙ fresh k (omega arith) ∙ fresh_word p.number 0 k (omega arith) (omega arith)
 
   free_place : (q : ℕ) → q < FRAME_SLOTS → live (table_of types alone) q ≡ None
-  free_place q below = cond-true _ _ _ (eq-eqb _ 0 (free_serial q below))
+  free_place q below = let t = table_of types alone in under_serial-free t.serial (object_at t) q (free_serial q below)
 
   is_graph : IsGraph (word 0 NEXT_SERIAL_WORD) (root_of alone) (table_of types alone) FRAME_SLOTS
   is_graph = record {
     legal = ap is_next_serial first_next;
     top_stands = ap (stands (table_of types alone).serial) no_root;
-    distinct = record { apart = λ i j low less high e is. absurd (none-some e (sym (cond-true _ _ _ (eq-eqb _ 0 (free_serial i (omega arith)))) ∙ is)) };
+    distinct = record { apart = λ i j low less high e is. absurd (none-some e (sym (under_serial-free (table_of types alone).serial (λ (q : ℕ). q) i (free_serial i (omega arith))) ∙ is)) };
     sound = λ q below used. absurd (used (free_serial q below));
   }
 

@@ -1,10 +1,11 @@
 -- When slots are a graph, and when what is stored has one, fact by fact; and tables that are read the same.
-use Rattle.std.proofs.Common.{◌≡◌, ℕ, ◌<◌, true, List, Some, nat_cmp, sym, ap, ap₂, subst, ◌∙◌, ⊎_elim, arith, eq-eqb}
-use Rattle.std.proofs.lemmas.Bool.{cases_eq, cond-true, and_parts, and_from, or_left, or_right, or_cases, eqb-true, ltb-true, lt-ltb}
+use Rattle.std.proofs.Common.{◌≡◌, inl, ℕ, ◌+◌, ◌<◌, ◌≤◌, true, ltb, List, map, Some, None, nat_cmp, refl, sym, ap, ap₂, ◌∙◌, ⊎_elim, arith, eq-eqb, ne_eqb}
+use Rattle.std.proofs.lemmas.Bool.{cases_eq, cond-true, cond-false, and_parts, and_from, or_left, or_right, or_cases, eqb-true, ltb-true, lt-ltb}
 use Rattle.std.proofs.lemmas.Option.{cond_some}
 use Rattle.pud_defs.specs.Stored.{Stored, places_of}
-use Rattle.pud_defs.specs.Graph.{Content, Table, table_of, Object, Graph, under_serial, placed, object_at, live, graph_by, stands, all_stand, is_sound_place, is_next_serial, is_graph, headers_fit, named_by, next_serial_of, root_of, graph_stored, graph_of}
-use Rattle.pud_defs.proofs.Keyed.{HasDistinctKeys, distinct_keys, are_distinct_keys, keyed-same}
+use Rattle.pud_defs.specs.Graph.{Content, Table, table_of, Graph, under_serial, placed, object_at, live, graph_by, stands, all_stand, is_sound_place, is_next_serial, is_graph, headers_fit, value_of, contents_or_none, next_serial_of, root_of, graph_stored, graph_of}
+use Rattle.pud_defs.proofs.Contents.{names_only, name_only, stands-same, named_by-same, all_stand-same, values-same}
+use Rattle.pud_defs.proofs.Keyed.{HasDistinctKeys, HasDistinctKeys-fewer, distinct_keys, are_distinct_keys, keyed-same}
 use Rattle.pud_defs.proofs.Spaces.{all_below-from, all_below-each}
 
 -- ---- the facts
@@ -70,45 +71,71 @@ pub graph_of-from : (types : List (ℕ × ℕ)) (st : Stored) (g : Graph) → Ha
 unfolding graph_of
 graph_of-from types st g h = cond-true _ _ _ (and_from _ _ h.headers (is_graph-from _ _ _ _ h.graph)) ∙ ap (λ (x : Graph). Some x) h.is
 
+-- ---- what stands under a serial
+
+module _ {A : Type 0} (serial : ℕ → ℕ) (value : ℕ → A) where
+  pub under_serial-free : (p : ℕ) → serial p ≡ 0 → under_serial serial value p ≡ None
+  under_serial-free p free = cond-true _ _ _ (eq-eqb _ 0 free)
+
+  pub under_serial-used : (p : ℕ) → (serial p ≡ 0 → ⊥) → under_serial serial value p ≡ Some (serial p, value p)
+  under_serial-used p used = cond-false _ _ _ (ne_eqb _ 0 used)
+
+-- it is the same where the serial is, and where the values are if there is one
+pub under_serial-same : {A : Type 0} (s r : ℕ → ℕ) (f g : ℕ → A) (p : ℕ) → r p ≡ s p → ((s p ≡ 0 → ⊥) → g p ≡ f p) → under_serial r g p ≡ under_serial s f p
+under_serial-same s r f g p serial value =
+    ⊎_elim
+    (λ free. under_serial-free r g p (serial ∙ free) ∙ sym (under_serial-free s f p free))
+    (λ used. under_serial-used r g p (λ free. used (sym serial ∙ free)) ∙ ap₂ (λ k x. Some (k, x)) serial (value used) ∙ sym (under_serial-used s f p used))
+    (cases_eq (s p) 0)
+
+-- what stands at a place that is the same
+pub live-alike : (t u : Table) (p : ℕ) → u.serial p ≡ t.serial p → ((t.serial p ≡ 0 → ⊥) → u.type_id p ≡ t.type_id p) → ((t.serial p ≡ 0 → ⊥) → u.contents p ≡ t.contents p)
+    → ((t.serial p ≡ 0 → ⊥) → map (value_of u.serial) (contents_or_none (t.contents p)) ≡ map (value_of t.serial) (contents_or_none (t.contents p)))
+    → live u p ≡ live t p
+live-alike t u p serial type contents values = under_serial-same t.serial u.serial (object_at t) (object_at u) p serial (λ used.
+    let fields = ap (λ c. map (value_of u.serial) (contents_or_none c)) (contents used) ∙ values used in
+    λ i. record { type_id = type used i; fields = fields i })
+
 -- ---- tables that are read the same
 
--- the serials are the same, and so is what stands at each live place
+-- the serials are the same, so is what stands at each live place, and no place is named but these
 pub record IsSameTable (t u : Table) (n : ℕ) : Type 0 where
-  pub serial : (p : ℕ) → u.serial p ≡ t.serial p
+  pub serial : (p : ℕ) → p < n → u.serial p ≡ t.serial p
   pub type_id : (p : ℕ) → p < n → (t.serial p ≡ 0 → ⊥) → u.type_id p ≡ t.type_id p
   pub contents : (p : ℕ) → p < n → (t.serial p ≡ 0 → ⊥) → u.contents p ≡ t.contents p
+  pub within : (p : ℕ) → p < n → (t.serial p ≡ 0 → ⊥) → name_only (λ q. ltb q n) (t.contents p) ≡ true
 
-pub same_serials : (t u : Table) (n : ℕ) → IsSameTable t u n → u.serial ≡ t.serial
-same_serials t u n h = λ i p. h.serial p i
+module _ (t u : Table) (n : ℕ) (same : IsSameTable t u n) where
+  agree : (p : ℕ) → ltb p n ≡ true → u.serial p ≡ t.serial p
+  agree p below = same.serial p (ltb-true p n below)
 
-pub IsGraph-same : (next : ℕ) (top : Content) (t u : Table) (n : ℕ) → IsSameTable t u n → IsGraph next top t n → IsGraph next top u n
-IsGraph-same next top t u n same h =
-    let serials = same_serials t u n same in
-    record {
+  placed-same : (p : ℕ) → 0 ≤ p → p < 0 + n → placed u p ≡ placed t p
+  placed-same p low high = under_serial-same t.serial u.serial (λ q. q) (λ q. q) p (same.serial p (omega arith)) (λ used. refl)
+
+  pub live-same : (p : ℕ) → p < n → live u p ≡ live t p
+  live-same p below =
+      live-alike t u p (same.serial p below) (same.type_id p below) (same.contents p below)
+      (λ used. values-same t.serial u.serial (λ q. ltb q n) agree (contents_or_none (t.contents p)) (same.within p below used))
+
+  module _ (next : ℕ) (top : Content) (top_within : names_only (λ q. ltb q n) top ≡ true) where
+    pub IsGraph-same : IsGraph next top t n → IsGraph next top u n
+    IsGraph-same h = record {
       legal = h.legal;
-      top_stands = ap (λ (s : ℕ → ℕ). stands s top) serials ∙ h.top_stands;
-      distinct = subst (λ (s : ℕ → ℕ). HasDistinctKeys nat_cmp (under_serial s (λ p. p)) 0 n) (sym serials) h.distinct;
+      top_stands = stands-same t.serial u.serial (λ q. ltb q n) agree top top_within ∙ h.top_stands;
+      distinct = HasDistinctKeys-fewer nat_cmp (placed t) (placed u) 0 n (λ p low high. inl (placed-same p low high)) h.distinct;
       sound = λ p below used.
-          let live : t.serial p ≡ 0 → ⊥ = λ free. used (same.serial p ∙ free) in
+          let here = same.serial p below in
+          let live : t.serial p ≡ 0 → ⊥ = λ free. used (here ∙ free) in
           let sound = h.sound p below live in
           let low = sound.below in
-          let here = same.serial p in
-          record { below = omega arith; stand = ap₂ all_stand serials (same.contents p below live) ∙ sound.stand };
+          record {
+            below = omega arith;
+            stand = ap (all_stand u.serial) (same.contents p below live) ∙ all_stand-same t.serial u.serial (λ q. ltb q n) agree (t.contents p) (same.within p below live) ∙ sound.stand;
+          };
     }
 
--- the same stands there
-pub live-same : (t u : Table) (n p : ℕ) → IsSameTable t u n → p < n → live u p ≡ live t p
-live-same t u n p same below = ⊎_elim
-    (λ free. cond-true _ _ _ (eq-eqb _ 0 (same.serial p ∙ free)) ∙ sym (cond-true _ _ _ (eq-eqb _ 0 free)))
-    (λ used.
-    let serials = same_serials t u n same in
-    let type = same.type_id p below used in
-    let contents = same.contents p below used in
-    λ i. under_serial (serials i) (λ q. object_at (record { serial = serials i; type_id = λ r. type i; contents = λ r. contents i }) q) p)
-    (cases_eq (t.serial p) 0)
-
-pub graph_by-same : (next : ℕ) (top : Content) (t u : Table) (n : ℕ) → IsSameTable t u n → graph_by next top u n ≡ graph_by next top t n
-graph_by-same next top t u n same =
-    let serials = same_serials t u n same in
-    let objects = keyed-same nat_cmp (live u) (live t) 0 n (λ p low high. live-same t u n p same (omega arith)) in
-    ap₂ (λ (s : ℕ → ℕ) (es : List (ℕ × Object)). record { next_serial = next; root = named_by s top; objects = es }) serials objects
+    pub graph_by-same : graph_by next top u n ≡ graph_by next top t n
+    graph_by-same =
+        let root = named_by-same t.serial u.serial (λ q. ltb q n) agree top top_within in
+        let objects = keyed-same nat_cmp (live u) (live t) 0 n (λ p low high. live-same p (omega arith)) in
+        λ i. record { next_serial = next; root = root i; objects = objects i }

@@ -48,5 +48,8 @@ pub mod ExamplesTables
 pub mod ExamplesLayout
 pub mod ExamplesIdentifiers
 pub mod ExamplesPlaces
+pub mod ExamplesGraph
+pub mod ExamplesRights
 pub mod Stands
 pub mod DistinctKeys
+pub mod Contents

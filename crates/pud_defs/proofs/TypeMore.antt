@@ -5,7 +5,9 @@ use Rattle.std.proofs.lemmas.Bool.{cond-false}
 use Rattle.std.proofs.lemmas.Cmp.{nat_cmp_total}
 use Rattle.std.proofs.lemmas.Option.{none-some}
 use Rattle.pud_defs.specs.Types.{map_of, with_type}
-use Rattle.pud_defs.specs.Stored.{Stored, places_of}
+use Rattle.pud_defs.specs.Stored.{Stored, places_of, place_word}
+use Rattle.pud_defs.specs.declared.space.TheConstants.{SLOT_TYPE_WORD, ROOT_WORD}
+use Rattle.pud_defs.proofs.Contents.{pointee_at_within, contents_by_within}
 use Rattle.pud_defs.specs.Graph.{Graph, table_of, contents_by, all_stand, graph_of, next_serial_of, root_of}
 use Rattle.pud_defs.specs.Holdings.{held_as, held_by, read_anew}
 use Rattle.pud_defs.proofs.TypeLists.{same_test}
@@ -27,19 +29,21 @@ module _ (id map : ℕ) (types : List (ℕ × ℕ)) (st : Stored) where
 
   table_of-more : (next : ℕ) → map_of id types ≡ None → IsGraph next (root_of st) (table_of types st) (places_of st) → IsSameTable (table_of types st) (table_of more st) (places_of st)
   table_of-more next none h = record {
-    serial = λ p. refl;
+    serial = λ p below. refl;
     type_id = λ p below live. refl;
     contents = λ p below live.
         let t = table_of types st in
         let found = defined_there t.serial st p (map_of (t.type_id p) types) (h.sound p below live).stand in
         ap (contents_by st p) (map_of-more id map (t.type_id p) found.0 types none found.1);
+    within = λ p below live. contents_by_within st p (map_of (place_word st.word p SLOT_TYPE_WORD) types);
   }
 
   pub graph_of-more : (g : Graph) → map_of id types ≡ None → graph_of types st ≡ Some g → graph_of more st ≡ Some g
   graph_of-more g none is =
       let h = graph_of-each types st g is in
+      let top = pointee_at_within st.puddles 0 0 (st.word 0 ROOT_WORD) in
       let same = table_of-more (next_serial_of st) none h.graph in
-      graph_of-from more st g (record { headers = h.headers; graph = IsGraph-same _ _ _ _ _ same h.graph; is = graph_by-same _ _ _ _ _ same ∙ h.is })
+      graph_of-from more st g (record { headers = h.headers; graph = IsGraph-same _ _ _ same _ _ top h.graph; is = graph_by-same _ _ _ same _ _ top ∙ h.is })
 
   held_more : (o : Option Graph) → map_of id types ≡ None → graph_of types st ≡ o → held_by more st ≡ read_anew more (held_as st o)
   held_more None none is = refl

@@ -13,6 +13,8 @@ use Rattle.pud_defs.specs.Registry.{frames_of, is_sound, has_magic, has_version,
 use Rattle.pud_defs.specs.Tables.{tables_of}
 use Rattle.pud_defs.specs.SoundTables.{are_sound_tables}
 use Rattle.pud_defs.specs.World.{StoredWorld, pools_in, stored_by, registry_world, world_of}
+use Rattle.pud_defs.specs.PoolChanges.{pools_read}
+use Rattle.pud_defs.proofs.Held.{pools_in-anew}
 use Rattle.pud_defs.specs.Entries.{is_idle_gate, log_of}
 use Rattle.pud_defs.specs.Replay.{settled_by, beside_log}
 use Rattle.pud_defs.specs.Spaces.{all_below, are_closed_logs}
@@ -192,6 +194,10 @@ types_sorted size image s h = subst (λ ts. T (is_sorted nat_cmp ts)) (h.holds T
 
 pub map_of_world : (size : ℕ) (image : Image) (s : StoredWorld) (id : ℕ) → StandsFor size image s → map_of id (types_of image) ≡ map_of id s.types
 map_of_world size image s id h = ap (map_of id) (h.holds Types).types
+
+-- what the pools hold is what they hold read anew by the world's types
+pub pools_settled : (size : ℕ) (image : Image) (s : StoredWorld) → StandsFor size image s → pools_read s.types s.pools ≡ s.pools
+pools_settled size image s h = let is = (h.holds Pools).pools in ap (pools_read s.types) (sym is) ∙ pools_in-anew s.types s.frames image ∙ is
 
 -- as many records are used as types are defined
 pub length_of_world : (size : ℕ) (image : Image) (s : StoredWorld) → StandsFor size image s → used_types image ≡ length s.types

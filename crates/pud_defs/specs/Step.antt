@@ -97,17 +97,25 @@ abbrev pub graph_in : Option Pool → Option Graph
 graph_in None = None
 graph_in (Some pool) = graph_held pool.holding
 
+-- the object of a serial, where there is a graph that has it
+abbrev pub object_of : ℕ → Option Graph → Option Object
+object_of s None = None
+object_of s (Some g) = object_in s g
+
+-- what a field holds, where there is an object that has it
+abbrev pub field_of : ℕ → Option Object → Option Val
+field_of f None = None
+field_of f (Some object) = slice_get object.fields f
+
 -- the object that a command names, where the graph has it
-abbrev pub object_named : Option Graph → Command → Option Object
-object_named None c = None
-object_named (Some g) (Get client name s f) = object_in s g
-object_named (Some g) c = None
+abbrev pub object_named : Command → Option Graph → Option Object
+object_named (Get client name s f) g = object_of s g
+object_named c g = None
 
 -- what the field holds that a command names, where the object has it
-abbrev pub field_named : Option Object → Command → Option Val
-field_named None c = None
-field_named (Some object) (Get client name s f) = slice_get object.fields f
-field_named (Some object) c = None
+abbrev pub field_named : Command → Option Object → Option Val
+field_named (Get client name s f) object = field_of f object
+field_named c object = None
 
 -- the pool that a command names
 abbrev pub pool_for : World → Command → Option Pool
@@ -115,11 +123,11 @@ pool_for w c = pool_by_name w.stored (name_in c)
 
 -- the object that it names
 abbrev pub object_for : World → Command → Option Object
-object_for w c = object_named (graph_in (pool_for w c)) c
+object_for w c = object_named c (graph_in (pool_for w c))
 
 -- what the field holds that it names
 abbrev pub field_for : World → Command → Option Val
-field_for w c = field_named (object_for w c) c
+field_for w c = field_named c (object_for w c)
 
 abbrev pub is_other : ℕ → Option ℕ → Bool
 is_other map None = false

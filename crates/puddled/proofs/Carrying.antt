@@ -67,7 +67,7 @@ pub record IsRestart (w : World) (command : Option Command) : Type 0 where
   pub given : world_by w command ≡ restart w
 
 pub restart_line : (w : World) (command : Option Command) (pick : ℕ) → kind_of command ≡ loses pick → IsRestart w command
-restart_line w (Some (Cut p)) pick is = record { answered = answer_is_ok w (Cut p) refl (cut_is_free w p); given = world_of_cut w p }
+restart_line w (Some (Cut p)) pick is = record { answered = answer_is_ok w (Cut p) refl refl (cut_is_free w p); given = world_of_cut w p }
 restart_line w (Some (Arm step p)) pick is = absurd (let no : arms step p ≡ loses pick = is in cc)
 restart_line w command pick is = absurd (let no : ordinary ≡ loses pick = is in cc)
 
@@ -142,7 +142,7 @@ module _ (size : ℕ) (w : World) (memory : Memory) (before after : Counts) (old
   pub CarriesOut-armed : (step pick : ℕ) (done : Result Reply HostFault) → done ≡ Ok replies.Ok → IsReady size w memory old → new ≡ old
       → after ≡ after_arm step pick before → CarriesOut size w memory (Some (Arm step pick)) (as_answered done) before after old new
   CarriesOut-armed step pick done is ready same cause = subst (λ (r : Result Reply HostFault). CarriesOut size w memory (Some (Arm step pick)) (as_answered r) before after old new) (sym is) (record {
-    replied = sym (answer_is_ok w (Arm step pick) refl (arm_is_free w step pick));
+    replied = sym (answer_is_ok w (Arm step pick) refl refl (arm_is_free w step pick));
     applies = subst (λ (v : World). Applies size w v memory None old new) (sym (world_of_arm w step pick)) (Applies-idle size w memory old new ready same);
     files = KeepsFiles-still None old.shelf new.shelf (ap (λ (s : State). s.shelf) same);
     no_file = λ _. refl;

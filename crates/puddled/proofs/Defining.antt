@@ -18,13 +18,14 @@ use Rattle.pud_defs.specs.Image.{Image}
 use Rattle.pud_defs.specs.TypeMap.{is_legal_map, is_legal_type_id}
 use Rattle.pud_defs.specs.Types.{type_record_at, type_at, free_type, map_of, with_type}
 use Rattle.pud_defs.specs.Entries.{is_idle_gate}
+use Rattle.pud_defs.specs.PoolChanges.{with_type_defined}
 use Rattle.pud_defs.specs.World.{World, world_of, closed}
 use Rattle.pud_defs.specs.Step.{is_other, answer_by, refusal_of, after, unless_refused, world_by}
 use Rattle.pud_defs.proofs.Keyed.{IsLowestFree, first_free_some}
 use Rattle.pud_defs.proofs.TypeTable.{free_word}
 use Rattle.pud_defs.proofs.Spaces.{owner_of-same}
 use Rattle.pud_defs.proofs.Parts.{StandsFor}
-use Rattle.pud_defs.proofs.Worlds.{standing_beside, standing_idle, types_sorted, map_of_world, length_of_world, full_of_world, room_of_world}
+use Rattle.pud_defs.proofs.Worlds.{standing_beside, standing_idle, types_sorted, pools_settled, map_of_world, length_of_world, full_of_world, room_of_world}
 use Rattle.pud_defs.proofs.Definitions.{world_of-map_written, world_of-defined}
 use Rattle.pud_defs.specs.Step.Answer.{of_reply}
 use Rattle.pud_defs.proofs.Steps.{refused_answer, answer_is_ok, refusal_of-define, define-same, define-clash, define-full, define-new, after-same}
@@ -52,7 +53,7 @@ module _ (size : ℕ) (w : World) (image : Image) (id map : ℕ) (stands : Stand
 
   found_by : (found : Option ℕ) → map_of id types ≡ found → cond (is_some found) None (free_type image) ≡ None → unless_refused (refusal_of w (Define id map)) w (after w (Define id map)) ≡ w
   found_by (Some other) e none = ⊎_elim
-      (λ same. ap (λ (o : Option Refusal). unless_refused o w (after w (Define id map))) (define-same w id map (e ∙ ap Some same)) ∙ after-same w id map (types_sorted size image (closed w) stands) (e ∙ ap Some same))
+      (λ same. ap (λ (o : Option Refusal). unless_refused o w (after w (Define id map))) (define-same w id map (e ∙ ap Some same)) ∙ after-same w id map (types_sorted size image (closed w) stands) (pools_settled size image (closed w) stands) (e ∙ ap Some same))
       (λ apart. ap (λ (o : Option Refusal). unless_refused o w (after w (Define id map))) (define-clash w id map other e apart))
       (cases_eq other map)
   found_by None e none =
@@ -82,7 +83,7 @@ module _ (size : ℕ) (w : World) (image : Image) (id map : ℕ) (stands : Stand
         world = ap (λ (o : Option Refusal). unless_refused o w (after w (Define id map))) (define-new w id map parts.0 (room_of_world size image (closed w) r stands parts.1));
       }
 
-closed_after : (w : World) (id map : ℕ) → closed (after w (Define id map)) ≡ record w.stored { types = with_type id map w.stored.types }
+closed_after : (w : World) (id map : ℕ) → closed (after w (Define id map)) ≡ with_type_defined id map w.stored
 unfolding after
 closed_after w id map = refl
 
@@ -121,7 +122,7 @@ module _ (size : ℕ) (w : World) (memory : Memory) (id map r : ℕ) (old : Stat
   half_gives : (image : Image) → Picks old.now.words image → world_of size (half_defined r map image) ≡ Some (closed w)
   half_gives image picked = world_of-map_written size image (closed w) r map (gate image picked) (ready.settled.stands image picked) within (free image picked)
 
-  gives : (image : Image) → Picks old.now.words image → world_of size (defined r id map image) ≡ Some (record w.stored { types = with_type id map w.stored.types })
+  gives : (image : Image) → Picks old.now.words image → world_of size (defined r id map image) ≡ Some (with_type_defined id map w.stored)
   gives image picked = world_of-defined size image (closed w) r id map (gate image picked) (ready.settled.stands image picked) within (free image picked) legal_id legal_map is_new.missing
 
   still_closed : (new : State) → Defines r id map None old new → (v : ℕ) → Has (values (new.now.words DAEMON_LOG)) v → is_idle_gate v ≡ true
@@ -131,7 +132,7 @@ module _ (size : ℕ) (w : World) (memory : Memory) (id map r : ℕ) (old : Stat
   ]
 
   ready_defined : (new : State) → Defines r id map None old new → IsReady size (after w (Define id map)) memory new
-  unfolding after
+  unfolding after with_type_defined
   ready_defined new d = record {
     settled = record { stands = λ image picked. let h = d.done refl image picked in ap (world_of size) h.is ∙ gives h.before h.picked; idle = still_closed new d };
     tables = HasDurableTables-persisted w.stored.frames (record_write r id map) old new d.persists ready.tables;
@@ -192,7 +193,7 @@ fault_of_reply (Err (faults.Host fault)) = refl
 
 pub reply_when_ready : (size : ℕ) (w : World) (memory : Memory) (id map : ℕ) (done : Result (Unit {0}) TypeFault) (old : State) → IsReady size w memory old
     → (fault_in done ≡ None → refusal_in done ≡ table_refusal (reads old.now.words) id map) → IfOk (reply_of done) (λ reply. of_reply reply ≡ answer_by w (Some (Define id map)))
-reply_when_ready size w memory id map (Ok x) old ready told = sym (answer_is_ok w (Define id map) refl (sym (told refl ∙ refusal_when_ready size w memory id map old ready)))
+reply_when_ready size w memory id map (Ok x) old ready told = sym (answer_is_ok w (Define id map) refl refl (sym (told refl ∙ refusal_when_ready size w memory id map old ready)))
 reply_when_ready size w memory id map (Err faults.Clash) old ready told = sym (refused_answer w (Define id map) Clash (sym (told refl ∙ refusal_when_ready size w memory id map old ready)))
 reply_when_ready size w memory id map (Err faults.Full) old ready told = sym (refused_answer w (Define id map) Full (sym (told refl ∙ refusal_when_ready size w memory id map old ready)))
 reply_when_ready size w memory id map (Err (faults.Host fault)) old ready told = tt

@@ -7,6 +7,7 @@ use Rattle.pm_model.specs.Calls.{Says}
 use Rattle.pud_defs.specs.declared.layout.TheConstants.{MACHINE_WORD}
 use Rattle.pud_defs.specs.Image.{Image}
 use Rattle.pud_defs.specs.Tables.{tables_of}
+use Rattle.pud_defs.specs.Holdings.{holding_in}
 use Rattle.pud_defs.specs.World.{World}
 use Rattle.pud_defs.specs.Texts.{line_of, answer_text}
 use Rattle.pud_defs.proofs.Parts.Part.{Header}
@@ -27,7 +28,7 @@ said_when_ready size w memory s answers.Pools ready =
     let world = reads_world size w.stored s.now.words ready.settled ready.tables in
     let machine = ((standing size w memory s ready).holds Header).machine in
     ap (λ (n : ℕ). line_of (codes "ok" ++ listed_text (image MACHINE_WORD) (tables_of n image))) ready.frames
-    ∙ line_of-listed_text w.stored.next_number (tables_of w.stored.frames image) w.stored (image MACHINE_WORD) world.sound world.pools machine
+    ∙ line_of-listed_text (holding_in w.stored.types w.stored.frames image) w.stored.next_number (tables_of w.stored.frames image) w.stored (image MACHINE_WORD) world.sound world.pools machine
 
 -- what is said on so many frames
 pub said_by : (frames now : ℕ) (image : Image) (answered : Answered) (fault : Option HostFault) (old new : State) → frames ≡ now → Says (said_text frames image answered) fault old new → Says (said_text now image answered) fault old new

@@ -27,8 +27,9 @@ use Rattle.pud_defs.specs.Keyed.{first_free}
 use Rattle.pud_defs.specs.Pools.{pool_read}
 use Rattle.pud_defs.specs.Names.{name_cmp}
 use Rattle.pud_defs.specs.Spaces.{owner, owner_by, owner_of, is_space, is_legal_space, space_record_at}
-use Rattle.pud_defs.specs.Tables.{Tables, Pool, tables_of, records_of, pool_in, pool_of}
+use Rattle.pud_defs.specs.Tables.{Tables, Pool, Reader, tables_of, records_of, pool_in, pool_of}
 use Rattle.pud_defs.specs.PoolChanges.{pool_named, lacks_numbers, is_full_of_pools, lacks_frames, with_new_pool, with_pool_mode, without_pool}
+use Rattle.pud_defs.specs.Holdings.{holding_in}
 use Rattle.pud_defs.specs.World.{StoredWorld, World, world_of, closed}
 use Rattle.pud_defs.specs.Step.{owns, refusal_of, after, answer_by, world_by}
 use Rattle.pud_defs.specs.Step.Answer.{of_reply}
@@ -140,6 +141,9 @@ module _ (size : ℕ) (w : World) (memory : Memory) (s : State) (ready : IsReady
   abbrev tables : Tables
   tables = tables_of w.stored.frames read
 
+  abbrev hold : Reader
+  hold = holding_in w.stored.types w.stored.frames read
+
   abbrev refused : Option MakeFault
   refused = make_refusal tables (read NEXT_NUMBER_WORD) name
 
@@ -151,12 +155,12 @@ module _ (size : ℕ) (w : World) (memory : Memory) (s : State) (ready : IsReady
   refusal_made =
       let known = world size w memory s ready in
       let there : not (is_some (w.clients client)) ≡ false = ap (λ o. not (is_some o)) who.is in
-      let found : is_some (pool_named name w.stored) ≡ is_some (pool_in tables name) = ap (λ ps. is_some (find name_cmp name ps)) (sym known.pools) ∙ sym (found_by_table tables name) in
-      let slots : leb POOL_RECORDS (length w.stored.pools) ≡ is_none (first_free tables.pools 0 POOL_RECORDS) = ap (λ ps. leb POOL_RECORDS (length ps)) (sym known.pools) ∙ sym (full_by_table w.stored.next_number tables known.sound) in
+      let found : is_some (pool_named name w.stored) ≡ is_some (pool_in tables name) = ap (λ ps. is_some (find name_cmp name ps)) (sym known.pools) ∙ sym (found_by_table hold tables name) in
+      let slots : leb POOL_RECORDS (length w.stored.pools) ≡ is_none (first_free tables.pools 0 POOL_RECORDS) = ap (λ ps. leb POOL_RECORDS (length ps)) (sym known.pools) ∙ sym (full_by_table hold w.stored.next_number tables known.sound) in
       let numbers : lacks_numbers w.stored.next_number ≡ lacks_numbers (read NEXT_NUMBER_WORD) = ap lacks_numbers (sym known.number) in
       let frames : lacks_frames w.stored 1 ≡ is_none (first_free tables.puddles 0 tables.frames) =
       ap₂ (λ n ps. ltb n (sum_by (λ (e : List ℕ × Pool). e.1.puddles) ps + 1)) (sym (frames_of_tables w.stored.frames read)) (sym known.pools)
-      ∙ sym (space_by_table w.stored.next_number tables known.sound (masked size w memory s ready)) in
+      ∙ sym (space_by_table hold w.stored.next_number tables known.sound (masked size w memory s ready)) in
       refusal_of-pool w client mode name
       ∙ (λ p. cond (there p) (Some refusals.Client) (cond (found p) (Some refusals.Exists) (cond (slots p || numbers p) (Some refusals.Full) (cond (frames p) (Some refusals.Space) None))))
       ∙ sym (refusal_by (is_some (pool_in tables name)) (is_none (first_free tables.pools 0 POOL_RECORDS) || lacks_numbers (read NEXT_NUMBER_WORD)) (is_none (first_free tables.puddles 0 tables.frames)))
@@ -164,7 +168,7 @@ module _ (size : ℕ) (w : World) (memory : Memory) (s : State) (ready : IsReady
   -- the reply is the machine's
   pub reply_made : (done : Result (Unit {0}) MakeFault) → (make_fault done ≡ None → refusal_in done ≡ refused) → IfOk (reply_of_making done) (λ reply. of_reply reply ≡ answer_by w (Some c))
   unfolding as_refusal
-  reply_made (Ok x) told = sym (answer_is_ok w c refl (refusal_made ∙ ap as_refusal (sym (told refl))))
+  reply_made (Ok x) told = sym (answer_is_ok w c refl refl (refusal_made ∙ ap as_refusal (sym (told refl))))
   reply_made (Err faults.Exists) told = sym (refused_answer w c refusals.Exists (refusal_made ∙ ap as_refusal (sym (told refl))))
   reply_made (Err faults.Full) told = sym (refused_answer w c refusals.Full (refusal_made ∙ ap as_refusal (sym (told refl))))
   reply_made (Err faults.NoSpace) told = sym (refused_answer w c refusals.Space (refusal_made ∙ ap as_refusal (sym (told refl))))
@@ -294,6 +298,9 @@ module _ (size : ℕ) (w : World) (memory : Memory) (s : State) (ready : IsReady
   abbrev found_tables : Tables
   found_tables = tables_of w.stored.frames (reads s.now.words)
 
+  abbrev held : Reader
+  held = holding_in w.stored.types w.stored.frames (reads s.now.words)
+
   abbrev asked : Command
   asked = commands.Drop client name
 
@@ -308,8 +315,8 @@ module _ (size : ℕ) (w : World) (memory : Memory) (s : State) (ready : IsReady
       refusal_of-drop w client name
       ∙ ap₂ (λ who pool. cond (not (is_some who)) (Some refusals.Client) (cond (is_none pool) (Some refusals.Pool) (cond (not (owns who pool)) (Some refusals.Denied) None))) there is
 
-  pool_there : pool_named name w.stored ≡ option_map (pool_by_record found_tables) (find name_cmp name (records_of found_tables))
-  pool_there = ap (find name_cmp name) (sym (world size w memory s ready).pools) ∙ pool_by_name found_tables name
+  pub pool_there : pool_named name w.stored ≡ option_map (pool_by_record held found_tables) (find name_cmp name (records_of found_tables))
+  pool_there = ap (find name_cmp name) (sym (world size w memory s ready).pools) ∙ pool_by_name held found_tables name
 
   -- a record as it is read
   abbrev read_record : ℕ × PoolRec → ℕ × PoolRec
@@ -321,20 +328,20 @@ module _ (size : ℕ) (w : World) (memory : Memory) (s : State) (ready : IsReady
 
   pub refused_pool : (uid gid : ℕ) → w.clients client ≡ Some (owner uid gid) → None ≡ pool_in found_tables name → refusal_of w asked ≡ Some refusals.Pool
   refused_pool uid gid there none =
-      by_owner uid gid None there (pool_there ∙ ap (option_map (pool_by_record found_tables)) (no_record (find name_cmp name (records_of found_tables)) none))
+      by_owner uid gid None there (pool_there ∙ ap (option_map (pool_by_record held found_tables)) (no_record (find name_cmp name (records_of found_tables)) none))
 
   -- the record that was found
-  record IsRecord (slot : ℕ) (rec : PoolRec) : Type 0 where
-    r : PoolRec
-    found : find name_cmp name (records_of found_tables) ≡ Some (slot, r)
-    uid : rec.uid ≡ r.uid
+  pub record IsRecord (slot : ℕ) (rec : PoolRec) : Type 0 where
+    pub r : PoolRec
+    pub found : find name_cmp name (records_of found_tables) ≡ Some (slot, r)
+    pub same : rec ≡ pool_read r
 
-  the_record : (slot : ℕ) (rec : PoolRec) (o : Option (ℕ × PoolRec)) → find name_cmp name (records_of found_tables) ≡ o → ◌≡◌ {A = Option (ℕ × PoolRec)} (Some (slot, rec)) (option_map read_record o) → IsRecord slot rec
+  pub the_record : (slot : ℕ) (rec : PoolRec) (o : Option (ℕ × PoolRec)) → find name_cmp name (records_of found_tables) ≡ o → ◌≡◌ {A = Option (ℕ × PoolRec)} (Some (slot, rec)) (option_map read_record o) → IsRecord slot rec
   the_record slot rec None e is = absurd (none-some {A = ℕ × PoolRec} (slot, rec) (sym is))
   the_record slot rec (Some x) e is =
       let same : ◌≡◌ {A = ℕ × PoolRec} (slot, rec) (read_record x) = same_Some {A = ℕ × PoolRec} (slot, rec) (read_record x) is in
       let place : slot ≡ x.0 = ap (λ (p : ℕ × PoolRec). p.0) same in
-      record { r = x.1; found = e ∙ ap (λ n. Some (n, x.1)) (sym place); uid = ap (λ (p : ℕ × PoolRec). p.1.uid) same }
+      record { r = x.1; found = e ∙ ap (λ n. Some (n, x.1)) (sym place); same = ap (λ (p : ℕ × PoolRec). p.1) same }
 
   module _ (uid gid slot : ℕ) (rec : PoolRec) (there : w.clients client ≡ Some (owner uid gid)) (is : ◌≡◌ {A = Option (ℕ × PoolRec)} (Some (slot, rec)) (pool_in found_tables name)) where
     rec_of : IsRecord slot rec
@@ -343,8 +350,8 @@ module _ (size : ℕ) (w : World) (memory : Memory) (s : State) (ready : IsReady
     by_uid : refusal_of w asked ≡ cond (not (eqb uid rec.uid)) (Some refusals.Denied) None
     unfolding pool_of
     by_uid =
-        by_owner uid gid (Some (pool_by_record found_tables (slot, rec_of.r))) there (pool_there ∙ ap (option_map (pool_by_record found_tables)) rec_of.found)
-        ∙ ap (λ n. cond (not (eqb uid n)) (Some refusals.Denied) None) (sym rec_of.uid)
+        by_owner uid gid (Some (pool_by_record held found_tables (slot, rec_of.r))) there (pool_there ∙ ap (option_map (pool_by_record held found_tables)) rec_of.found)
+        ∙ ap (λ n. cond (not (eqb uid n)) (Some refusals.Denied) None) (sym (ap (λ (x : PoolRec). x.uid) rec_of.same))
 
     pub refused_denied : eqb uid rec.uid ≡ false → refusal_of w asked ≡ Some refusals.Denied
     refused_denied other = by_uid ∙ ap (λ b. cond (not b) (Some refusals.Denied) None) other

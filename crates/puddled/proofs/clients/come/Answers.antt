@@ -20,7 +20,7 @@ returns-then-branch-clause-applies g c = λ t size e w memory frames ready.
 
 pub returns-clause-reply : goal.returns-clause-reply
 returns-clause-reply g c = λ t size e w memory frames ready.
-    sym (answer_is_ok w (Client c.args.client c.args.uid c.args.gid) refl (is_new w c.args.client c.args.uid c.args.gid (sym c.if-branch.false ∙ presence_read size w memory _ c.args.client _ c.requires.known ready (c.in_ok-is_registered.ensures.registered t))))
+    sym (answer_is_ok w (Client c.args.client c.args.uid c.args.gid) refl refl (is_new w c.args.client c.args.uid c.args.gid (sym c.if-branch.false ∙ presence_read size w memory _ c.args.client _ c.requires.known ready (c.in_ok-is_registered.ensures.registered t))))
 
 pub returns-in_err-admit-clause-applies : goal.returns-in_err-admit-clause-applies
 returns-in_err-admit-clause-applies g c =

@@ -20,7 +20,7 @@ returns-then-not-branch-clause-applies g c = λ t size e w memory frames ready.
 
 pub returns-clause-reply : goal.returns-clause-reply
 returns-clause-reply g c = λ t size e w memory frames ready.
-    sym (answer_is_ok w (Leave c.args.client) refl (is_there w c.args.client 0 0 (sym c.if-not-branch.false ∙ presence_read size w memory _ c.args.client _ c.requires.known ready (c.in_ok-is_registered.ensures.registered t))))
+    sym (answer_is_ok w (Leave c.args.client) refl refl (is_there w c.args.client 0 0 (sym c.if-not-branch.false ∙ presence_read size w memory _ c.args.client _ c.requires.known ready (c.in_ok-is_registered.ensures.registered t))))
 
 pub returns-in_err-dismiss-clause-applies : goal.returns-in_err-dismiss-clause-applies
 returns-in_err-dismiss-clause-applies g c =

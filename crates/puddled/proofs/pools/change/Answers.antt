@@ -23,7 +23,7 @@ returns-in-Err-clause-applies g c = λ t size e w memory ready legal.
 
 pub returns-in_ok-change_mode-in-Ok-clause-reply : goal.returns-in_ok-change_mode-in-Ok-clause-reply
 returns-in_ok-change_mode-in-Ok-clause-reply g c = λ t size w memory ready.
-    sym (answer_is_ok w (Chmod c.args.client c.args.name c.args.mode) refl (refusal_of-owned w c.args.client c.args.mode c.args.name ∙ (sym (c.in_ok-refusal.ensures.refusal t size w memory ready) ∙ ap refusal_found c.in-Ok.is)))
+    sym (answer_is_ok w (Chmod c.args.client c.args.name c.args.mode) refl refl (refusal_of-owned w c.args.client c.args.mode c.args.name ∙ (sym (c.in_ok-refusal.ensures.refusal t size w memory ready) ∙ ap refusal_found c.in-Ok.is)))
 
 pub returns-in_err-change_mode-in-Ok-clause-applies : goal.returns-in_err-change_mode-in-Ok-clause-applies
 returns-in_err-change_mode-in-Ok-clause-applies g c =

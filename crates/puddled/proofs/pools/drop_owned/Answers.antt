@@ -21,7 +21,7 @@ returns-in-Err-clause-applies g c = λ t size e w memory frames ready.
 
 pub returns-in_ok-drop_pool-in-Ok-clause-reply : goal.returns-in_ok-drop_pool-in-Ok-clause-reply
 returns-in_ok-drop_pool-in-Ok-clause-reply g c = λ t size w memory ready.
-    sym (answer_is_ok w (commands.Drop c.args.client c.args.name) refl (sym (c.in_ok-refusal.ensures.refusal t size w memory ready) ∙ ap refusal_found c.in-Ok.is))
+    sym (answer_is_ok w (commands.Drop c.args.client c.args.name) refl refl (sym (c.in_ok-refusal.ensures.refusal t size w memory ready) ∙ ap refusal_found c.in-Ok.is))
 
 pub returns-in_err-drop_pool-in-Ok-clause-applies : goal.returns-in_err-drop_pool-in-Ok-clause-applies
 returns-in_err-drop_pool-in-Ok-clause-applies g c =

@@ -1,0 +1,82 @@
+-- A pool of two objects, and what stores make of it, by computation.
+use Rattle.std.proofs.Common.{◌≡◌, ℕ, ◌+◌, ◌*◌, ◌^◌, false, cond, eqb, List, [], ◌∷◌, Some, refl}
+use Rattle.pud_defs.specs.declared.space.TheConstants.{FRAME_MAGIC}
+use Rattle.pud_defs.specs.declared.records.Puddle.{Puddle}
+use Rattle.pud_defs.specs.declared.objects.Val.TheVariants.{Num, Ref}
+use Rattle.pud_defs.specs.TypeMap.{map_word}
+use Rattle.pud_defs.specs.Spaces.{all_below}
+use Rattle.pud_defs.specs.Keyed.{keyed, first_from, are_distinct}
+use Rattle.pud_defs.specs.Stored.{Stored}
+use Rattle.pud_defs.specs.Graph.{place_in, target, is_graph, headers_fit, graph_of, is_held, Graph}
+use Rattle.graph_laws.specs.Changes.{with_field_word, with_serial_word, with_root_word, with_field, with_root, without_object, with_new, blank_object}
+use Rattle.graph_laws.specs.Rewriting.{rewritten}
+
+-- what a graph is read by
+unfoldable opened : Unit {0}
+unfolding graph_of headers_fit is_graph all_below are_distinct first_from keyed place_in target
+opened = tt
+
+abbrev base : ℕ
+base = 2 ^ 44
+
+abbrev old_base : ℕ
+old_base = 2 ^ 44 + 5 * 16384
+
+-- two fields, of which the second is a pointer
+abbrev types : List (ℕ × ℕ)
+types = (1, map_word 2 (1 ∷ [])) ∷ []
+
+abbrev home : Puddle
+home = record { number = 7; base = base; old_base = old_base; frontier = 63 }
+
+-- object 1 at slot 0 names object 2 at slot 1, which is the root
+abbrev word_at : ℕ → ℕ
+word_at k =
+    cond (eqb k 0) FRAME_MAGIC
+    (cond (eqb k 1) 7
+    (cond (eqb k 3) 3
+    (cond (eqb k 4) (base + 768)
+    (cond (eqb k 64) 1 (cond (eqb k 65) 1 (cond (eqb k 66) 5 (cond (eqb k 67) (base + 768) (cond (eqb k 96) 2 (cond (eqb k 97) 1 0)))))))))
+
+abbrev pool : Stored
+pool = record { puddles = home ∷ []; word = λ o k. cond (eqb o 0) (word_at k) 0 }
+
+abbrev graph : Graph
+graph = record {
+  next_serial = 3;
+  root = 2;
+  objects = (1, record { type_id = 1; fields = Num 5 ∷ Ref 2 ∷ [] }) ∷ (2, record { type_id = 1; fields = Num 0 ∷ Ref 0 ∷ [] }) ∷ [];
+}
+
+pool_has_graph : graph_of types pool ≡ Some graph
+unfolding opened
+pool_has_graph = refl
+
+number_stored : graph_of types (with_field_word 0 0 9 pool) ≡ Some (with_field 1 0 (Num 9) graph)
+unfolding opened
+number_stored = refl
+
+pointer_stored : graph_of types (with_field_word 1 1 (base + 512) pool) ≡ Some (with_field 2 1 (Ref 1) graph)
+unfolding opened
+pointer_stored = refl
+
+root_stored : graph_of types (with_root_word (base + 512) pool) ≡ Some (with_root 1 graph)
+unfolding opened
+root_stored = refl
+
+-- object 1 is named by nothing
+first_freed : graph_of types (with_serial_word 0 0 pool) ≡ Some (without_object 1 graph)
+unfolding opened
+first_freed = refl
+
+first_is_not_held : is_held 1 graph ≡ false
+unfolding is_held
+first_is_not_held = refl
+
+new_object_comes_last : (with_new (blank_object 1 (map_word 2 (1 ∷ []))) graph).objects ≡ (1, record { type_id = 1; fields = Num 5 ∷ Ref 2 ∷ [] }) ∷ (2, record { type_id = 1; fields = Num 0 ∷ Ref 0 ∷ [] }) ∷ (3, record { type_id = 1; fields = Num 0 ∷ Ref 0 ∷ [] }) ∷ []
+new_object_comes_last = refl
+
+-- a pointer over the old base to slot 1
+old_pointer_rewritten : rewritten (home ∷ []) (old_base + 768) ≡ base + 768
+unfolding target place_in
+old_pointer_rewritten = refl

@@ -1,0 +1,15 @@
+pub mod ContentLists
+pub mod TableChanges
+pub mod Words
+pub mod Pointers
+pub mod Fields
+pub mod NewObjects
+pub mod FreedObjects
+pub mod Roots
+pub mod Same
+pub mod Unread
+pub mod Grown
+pub mod Rewritten
+pub mod Places
+pub mod ExamplesGraphs
+pub mod StoredImages

@@ -1,0 +1,121 @@
+-- A free slot is filled under the next serial: the graph has one object more, each of whose fields is 0 or null.
+use Rattle.std.proofs.Common.{◌≡◌, ℕ, ◌+◌, ◌/◌, ◌%◌, ◌<◌, ◌≤◌, true, List, [], ◌∷◌, map, Some, nat_cmp, refl, sym, ap, ap₂, ◌∙◌, ⊎_elim, arith}
+use Rattle.std.specs.List.{range_with_len}
+use Rattle.std.specs.FinMap.Entries.{put}
+use Rattle.std.proofs.lemmas.Bool.{cases_Bool, cond-true, cond-false, and_parts, and_from, leb-true, le-leb}
+use Rattle.pud_defs.specs.declared.layout.TheConstants.{NUMBER_LIMIT}
+use Rattle.pud_defs.specs.declared.space.TheConstants.{FRAME_SLOTS}
+use Rattle.pud_defs.specs.declared.records.Puddle.{Puddle}
+use Rattle.pud_defs.specs.TypeMap.{is_pointer}
+use Rattle.pud_defs.specs.Types.{map_of}
+use Rattle.pud_defs.specs.Frames.{slot_at}
+use Rattle.pud_defs.specs.Stored.{Stored, places_of}
+use Rattle.pud_defs.specs.Graph.{Content, Table, table_of, contents_by, contents_or_none, content, field_count, pointee_at, object_at, value_of, stands, all_stand, is_next_serial, Object, Graph, next_serial_of, root_of, graph_stored, graph_of}
+use Rattle.pud_defs.proofs.Contents.{list_all-range}
+use Rattle.pud_defs.proofs.Graphs.{HasGraph, graph_of-each}
+use Rattle.graph_laws.specs.Changes.{with_words, blank_value, blank_object, with_new, IsMade}
+use Rattle.graph_laws.proofs.ContentLists.{names_no_free, name_no_free}
+use Rattle.graph_laws.proofs.TableChanges.{IsSameBut, IsUnnamed, root-unnamed, IsGraph-unnamed, distinct-new, objects-new}
+use Rattle.graph_laws.proofs.Words.{map-range_same, KeepsOthers, same_but, graph_of-words}
+use Rattle.graph_laws.proofs.Pointers.{pointee_at-null}
+
+-- ---- fields of 0
+
+map-map_each : {X Y : Type 0} (f : ℕ → X) (h : X → Y) (g : ℕ → Y) (each : (k : ℕ) → h (f k) ≡ g k) (ks : List ℕ) → map h (map f ks) ≡ map g ks
+map-map_each f h g each [] = refl
+map-map_each f h g each (k ∷ ks) = ap₂ (λ x xs. x ∷ xs) (each k) (map-map_each f h g each ks)
+
+module _ (puddles : List Puddle) (m p : ℕ) (serial : ℕ → ℕ) where
+  blank_stands : (f : ℕ) → stands serial (content puddles m p f 0) ≡ true
+  blank_stands f = ⊎_elim
+      (λ pointer. ap (stands serial) (cond-true _ _ _ pointer ∙ pointee_at-null puddles (p / FRAME_SLOTS) (p % FRAME_SLOTS + 1) 0 refl))
+      (λ number. ap (stands serial) (cond-false _ _ _ number))
+      (cases_Bool (is_pointer m f))
+
+  value_of-blank : (f : ℕ) → value_of serial (content puddles m p f 0) ≡ blank_value m f
+  value_of-blank f = ⊎_elim
+      (λ pointer. ap (value_of serial) (cond-true _ _ _ pointer ∙ pointee_at-null puddles (p / FRAME_SLOTS) (p % FRAME_SLOTS + 1) 0 refl) ∙ sym (cond-true _ _ _ pointer))
+      (λ number. ap (value_of serial) (cond-false _ _ _ number) ∙ sym (cond-false _ _ _ number))
+      (cases_Bool (is_pointer m f))
+
+-- ---- the graph
+
+module _ (types : List (ℕ × ℕ)) (st : Stored) (word : ℕ → ℕ → ℕ) (p type_id m : ℕ) (made : IsMade types st word p type_id m) where
+  abbrev before : Table
+  before = table_of types st
+
+  abbrev after : Table
+  after = table_of types (with_words word st)
+
+  header_kept : (o k : ℕ) → k < 64 → (o ≡ 0 → k ≡ 3 → ⊥) → word o k ≡ st.word o k
+  header_kept o k low apart = made.others o k (λ same above below. absurd (omega arith)) apart
+
+  others_kept : KeepsOthers st.word word p
+  others_kept = record {
+    each = λ q k other low. made.others (q / FRAME_SLOTS) (slot_at (q % FRAME_SLOTS) + k)
+        (λ same above below. let here : q ≡ p = omega arith in other here)
+        (λ first at. absurd (omega arith));
+  }
+
+  abbrev blanks : List Content
+  blanks = map (λ f. content st.puddles m p f 0) (range_with_len 0 (field_count m))
+
+  contents_after : after.contents p ≡ Some blanks
+  contents_after =
+      ap (λ t. contents_by (with_words word st) p (map_of t types)) made.type_word
+      ∙ ap (contents_by (with_words word st) p) made.defined
+      ∙ ap (λ (cs : List Content). Some cs) (map-range_same _ _ (field_count m) (λ f below. ap (content st.puddles m p f) (made.fields f below)))
+
+  stand_after : all_stand after.serial (after.contents p) ≡ true
+  stand_after = ap (all_stand after.serial) contents_after ∙ list_all-range (stands after.serial) (λ f. content st.puddles m p f 0) (blank_stands st.puddles m p after.serial) 0 (field_count m)
+
+  object_after : object_at after p ≡ blank_object type_id m
+  object_after =
+      let fields =
+      ap (λ o. map (value_of after.serial) (contents_or_none o)) contents_after
+      ∙ map-map_each (λ f. content st.puddles m p f 0) (value_of after.serial) (blank_value m) (value_of-blank st.puddles m p after.serial) (range_with_len 0 (field_count m)) in
+      let type = made.type_word in
+      λ i. record { type_id = type i; fields = fields i }
+
+  module _ (g : Graph) (h : HasGraph types st g) (room : next_serial_of st < NUMBER_LIMIT) where
+    positive : 1 ≤ next_serial_of st
+    positive = leb-true _ _ (and_parts _ _ h.graph.legal).0
+
+    same : IsSameBut before after (places_of st) p
+    same = same_but types st word p made.within others_kept
+
+    unnamed : IsUnnamed (root_of st) before (places_of st) p
+    unnamed = record {
+      root = names_no_free before.serial p made.free (root_of st) h.graph.top_stands;
+      each = λ q below other used. name_no_free before.serial p made.free (before.contents q) (h.graph.sound q below used).stand;
+    }
+
+    fresh : (q : ℕ) → q < places_of st → (before.serial q ≡ 0 → ⊥) → before.serial q ≡ after.serial p → ⊥
+    fresh q below used e = let low = (h.graph.sound q below used).below in let now = made.serial_word in absurd (omega arith)
+
+    now_used : after.serial p ≡ 0 → ⊥
+    now_used free = let low = positive in let now = made.serial_word in absurd (omega arith)
+
+    legal : is_next_serial (next_serial_of st + 1) ≡ true
+    legal = and_from _ _ (le-leb 1 (next_serial_of st + 1) (omega arith)) (le-leb (next_serial_of st + 1) NUMBER_LIMIT (omega arith))
+
+    graph_after : graph_of types (with_words word st) ≡ Some (with_new (blank_object type_id m) g)
+    graph_after =
+        let n = places_of st in
+        let next = next_serial_of st in
+        let top = root_of st in
+        let serial = made.serial_word in
+        let root = root-unnamed before after n p same next top h.graph unnamed in
+        let objects = objects-new before after n p same next top h.graph unnamed made.free fresh now_used ∙ ap₂ (λ (k : ℕ) (o : Object). put nat_cmp k o (graph_stored types st).objects) serial object_after in
+        graph_of-words types st word (next + 1) top _ h.headers
+        (λ o k low few. header_kept o k (omega arith) (λ first at. absurd (omega arith)))
+        made.next_word
+        (ap (pointee_at st.puddles 0 0) (header_kept 0 4 (omega arith) (λ first at. absurd (omega arith))))
+        (IsGraph-unnamed before after n p same next top h.graph unnamed (next + 1) (omega arith) legal (distinct-new before after n p same next top h.graph unnamed made.free fresh now_used)
+        (λ used. record { below = let now = serial in omega arith; stand = stand_after }))
+        (λ i. record { next_serial = next + 1; root = root i; objects = objects i })
+        ∙ ap (λ (k : Graph). Some (with_new (blank_object type_id m) k)) h.is
+
+pub graph_of-new : (types : List (ℕ × ℕ)) (st : Stored) (g : Graph) (word : ℕ → ℕ → ℕ) (p type_id m : ℕ) → graph_of types st ≡ Some g → next_serial_of st < NUMBER_LIMIT → IsMade types st word p type_id m
+    → graph_of types (with_words word st) ≡ Some (with_new (blank_object type_id m) g)
+graph_of-new types st g word p type_id m is room made = graph_after types st word p type_id m made g (graph_of-each types st g is) room

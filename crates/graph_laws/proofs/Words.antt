@@ -1,0 +1,149 @@
+-- What is read of a pool over other words: its headers, its table of slots, and its graph.
+use Rattle.std.proofs.Common.{◌≡◌, ℕ, ◌+◌, ◌/◌, ◌%◌, ◌<◌, ◌≤◌, true, leb, List, map, length, Option, Some, None, nat_cmp, refl, sym, ap, ap₂, subst, ◌∙◌, ⊎_elim, arith, eq-eqb, ne_eqb}
+use Rattle.std.specs.Prelude.{slice_get}
+use Rattle.std.specs.List.{range_with_len}
+use Rattle.std.proofs.lemmas.Bool.{cases_eq, cond-true, cond-false, cond_both, and_left, and_right, and_from, leb-true, eqb-true}
+use Rattle.std.proofs.lemmas.List.{same_lists}
+use Rattle.std.proofs.lemmas.List.FromFn.{get_or-map-range_with_len, length-map-range_with_len}
+use Rattle.std.proofs.lemmas.Option.{none-some, cond_some}
+use Rattle.pud_defs.specs.declared.layout.TheConstants.{MAX_FIELDS}
+use Rattle.pud_defs.specs.declared.space.TheConstants.{FRAME_SLOTS, FRAME_HEADER_WORDS, SLOT_WORDS, SLOT_FIELDS_WORD, NEXT_SERIAL_WORD, ROOT_WORD}
+use Rattle.pud_defs.specs.declared.records.Puddle.{Puddle}
+use Rattle.pud_defs.specs.TypeMap.{map_fields}
+use Rattle.pud_defs.specs.Types.{map_of}
+use Rattle.pud_defs.specs.Keyed.{under}
+use Rattle.pud_defs.specs.Frames.{slot_at}
+use Rattle.pud_defs.specs.Headers.{is_header}
+use Rattle.pud_defs.specs.Stored.{Stored, places_of, place_word}
+use Rattle.pud_defs.specs.Graph.{Content, Table, table_of, contents_by, content, field_count, pointee_at, placed, place_of, has_header, headers_fit, Graph, graph_by, graph_of}
+use Rattle.pud_defs.proofs.Spaces.{all_below-same}
+use Rattle.pud_defs.proofs.TypeLists.{same_test}
+use Rattle.pud_defs.proofs.Keyed.{first_from_some}
+use Rattle.pud_defs.proofs.Graphs.{under_serial-free, under_serial-used, IsGraph, graph_of-from}
+use Rattle.graph_laws.specs.Changes.{with_word, with_words}
+use Rattle.graph_laws.proofs.TableChanges.{IsSameBut}
+
+-- ---- one word
+
+pub with_word-there : (o k v : ℕ) (word : ℕ → ℕ → ℕ) → with_word o k v word o k ≡ v
+with_word-there o k v word = cond-true _ _ _ (and_from _ _ (eq-eqb o o refl) (eq-eqb k k refl))
+
+pub with_word-other : (o k v : ℕ) (word : ℕ → ℕ → ℕ) (other at : ℕ) → (other ≡ o → at ≡ k → ⊥) → with_word o k v word other at ≡ word other at
+with_word-other o k v word other at apart = ⊎_elim
+    (λ same. cond-false _ _ _ (and_right _ _ (ne_eqb at k (apart same))))
+    (λ differs. cond-false _ _ _ (and_left _ _ (ne_eqb other o differs)))
+    (cases_eq other o)
+
+-- ---- one word of a slot
+
+module _ (p j v : ℕ) (word : ℕ → ℕ → ℕ) (few : j < SLOT_WORDS) where
+  abbrev slot_written : ℕ → ℕ → ℕ
+  slot_written = with_word (p / FRAME_SLOTS) (slot_at (p % FRAME_SLOTS) + j) v word
+
+  -- no word of a header changes
+  pub slot_word-header : (o k : ℕ) → k < FRAME_HEADER_WORDS → slot_written o k ≡ word o k
+  slot_word-header o k low = with_word-other _ _ v word o k (λ same at. absurd (omega arith))
+
+  pub slot_word-there : place_word slot_written p j ≡ v
+  slot_word-there = with_word-there (p / FRAME_SLOTS) (slot_at (p % FRAME_SLOTS) + j) v word
+
+  pub slot_word-other : (q k : ℕ) → k < SLOT_WORDS → (q ≡ p → k ≡ j → ⊥) → place_word slot_written q k ≡ place_word word q k
+  slot_word-other q k low apart =
+      with_word-other _ _ v word (q / FRAME_SLOTS) (slot_at (q % FRAME_SLOTS) + k)
+      (λ same at. let here : q ≡ p = omega arith in let there : k ≡ j = omega arith in apart here there)
+
+-- ---- headers
+
+pub has_header-same : (ordinal : ℕ) (f g : ℕ → ℕ) (p : Option Puddle) → f 0 ≡ g 0 → f 1 ≡ g 1 → f 2 ≡ g 2 → has_header ordinal f p ≡ has_header ordinal g p
+has_header-same ordinal f g None magic number place = refl
+has_header-same ordinal f g (Some p) magic number place = λ i. is_header p.number ordinal (magic i) (number i) (place i)
+
+pub headers_fit-same : (st : Stored) (later : ℕ → ℕ → ℕ) → ((o k : ℕ) → o < length st.puddles → k < 3 → later o k ≡ st.word o k) → headers_fit (with_words later st) ≡ headers_fit st
+unfolding headers_fit
+headers_fit-same st later same =
+    all_below-same (length st.puddles) (λ o. has_header o (later o) (slice_get st.puddles o)) (λ o. has_header o (st.word o) (slice_get st.puddles o))
+    (λ o below. has_header-same o (later o) (st.word o) (slice_get st.puddles o) (same o 0 below (omega arith)) (same o 1 below (omega arith)) (same o 2 below (omega arith)))
+
+-- ---- fields
+
+pub few_fields : (m : ℕ) → field_count m ≤ MAX_FIELDS
+few_fields m = cond_both (leb (map_fields m) MAX_FIELDS) (map_fields m) MAX_FIELDS (λ n. n ≤ MAX_FIELDS) (λ few. leb-true _ _ few) (λ many. let all : MAX_FIELDS ≤ MAX_FIELDS = omega arith in all)
+
+pub map-range_same : {X : Type 0} (f g : ℕ → X) (n : ℕ) → ((k : ℕ) → k < n → f k ≡ g k) → map f (range_with_len 0 n) ≡ map g (range_with_len 0 n)
+map-range_same f g n same = same_lists _ _
+    (length-map-range_with_len f 0 n ∙ sym (length-map-range_with_len g 0 n))
+    (λ k d below.
+    let within : k < n = omega (arith, length-map-range_with_len f 0 n) in
+    get_or-map-range_with_len f 0 n k k d within (omega arith) ∙ same k within ∙ sym (get_or-map-range_with_len g 0 n k k d within (omega arith)))
+
+-- fields of which each stands for the same
+pub contents_by-each : (st later : Stored) (p : ℕ) (type : Option ℕ)
+    → ((m f : ℕ) → type ≡ Some m → f < field_count m
+    → content later.puddles m p f (place_word later.word p (SLOT_FIELDS_WORD + f)) ≡ content st.puddles m p f (place_word st.word p (SLOT_FIELDS_WORD + f)))
+    → contents_by later p type ≡ contents_by st p type
+contents_by-each st later p None same = refl
+contents_by-each st later p (Some m) same =
+    ap (λ (cs : List Content). Some cs)
+    (map-range_same (λ f. content later.puddles m p f (place_word later.word p (SLOT_FIELDS_WORD + f))) (λ f. content st.puddles m p f (place_word st.word p (SLOT_FIELDS_WORD + f))) (field_count m)
+    (λ f below. same m f refl below))
+
+-- as they do over the same words
+pub contents_by-same : (st : Stored) (later : ℕ → ℕ → ℕ) (p : ℕ) (type : Option ℕ)
+    → ((m f : ℕ) → type ≡ Some m → f < field_count m → place_word later p (SLOT_FIELDS_WORD + f) ≡ place_word st.word p (SLOT_FIELDS_WORD + f))
+    → contents_by (with_words later st) p type ≡ contents_by st p type
+contents_by-same st later p type same = contents_by-each st (with_words later st) p type (λ m f is below. ap (content st.puddles m p f) (same m f is below))
+
+-- ---- the table
+
+-- one place may hold other words
+pub record KeepsOthers (word later : ℕ → ℕ → ℕ) (p : ℕ) : Type 0 where
+  pub each : (q k : ℕ) → (q ≡ p → ⊥) → k < SLOT_WORDS → place_word later q k ≡ place_word word q k
+
+pub slot_word-others : (p j v : ℕ) (word : ℕ → ℕ → ℕ) → j < SLOT_WORDS → KeepsOthers word (with_word (p / FRAME_SLOTS) (slot_at (p % FRAME_SLOTS) + j) v word) p
+slot_word-others p j v word few = record { each = λ q k other low. slot_word-other p j v word few q k low (λ same at. other same) }
+
+pub same_but : (types : List (ℕ × ℕ)) (st : Stored) (later : ℕ → ℕ → ℕ) (p : ℕ) → p < places_of st → KeepsOthers st.word later p → IsSameBut (table_of types st) (table_of types (with_words later st)) (places_of st) p
+same_but types st later p within h = record {
+  within = within;
+  serial = λ q other. h.each q 0 other (omega arith);
+  type_id = λ q below other used. h.each q 1 other (omega arith);
+  contents = λ q below other used.
+      ap (λ k. contents_by (with_words later st) q (map_of k types)) (h.each q 1 other (omega arith))
+      ∙ contents_by-same st later q (map_of (place_word st.word q 1) types) (λ m f is few. let most = few_fields m in h.each q (SLOT_FIELDS_WORD + f) other (omega arith));
+}
+
+-- ---- a live place
+
+-- the place is that of the object of a serial
+pub record IsLive (t : Table) (n s p : ℕ) : Type 0 where
+  pub within : p < n
+  pub is : t.serial p ≡ s
+  pub used : t.serial p ≡ 0 → ⊥
+
+there_is : (t : Table) (n s p i : ℕ) → i < n → under nat_cmp s (placed t i) ≡ Some p → IsLive t n s p
+there_is t n s p i within here = ⊎_elim
+    (λ free. absurd (none-some p (sym (ap (under nat_cmp s) (under_serial-free t.serial (λ (q : ℕ). q) i free)) ∙ here)))
+    (λ used.
+    let found = cond_some _ i p (sym (ap (under nat_cmp s) (under_serial-used t.serial (λ (q : ℕ). q) i used)) ∙ here) in
+    subst (λ q. IsLive t n s q) found.1 (record { within = within; is = sym (eqb-true s (t.serial i) (sym (same_test s (t.serial i)) ∙ found.0)); used = used }))
+    (cases_eq (t.serial i) 0)
+
+pub place_of-some : (t : Table) (n s p : ℕ) → place_of s t n ≡ Some p → IsLive t n s p
+place_of-some t n s p found = let first = first_from_some nat_cmp s (placed t) 0 n p found in let high = first.1.high in there_is t n s p first.0 (omega arith) first.1.here
+
+-- ---- the graph
+
+-- What is stored over other words has a graph, by its next serial and by what its root stands for.
+pub graph_of-words : (types : List (ℕ × ℕ)) (st : Stored) (later : ℕ → ℕ → ℕ) (next : ℕ) (top : Content) (g : Graph)
+    → headers_fit st ≡ true → ((o k : ℕ) → o < length st.puddles → k < 3 → later o k ≡ st.word o k)
+    → later 0 NEXT_SERIAL_WORD ≡ next → pointee_at st.puddles 0 0 (later 0 ROOT_WORD) ≡ top
+    → IsGraph next top (table_of types (with_words later st)) (places_of st) → graph_by next top (table_of types (with_words later st)) (places_of st) ≡ g
+    → graph_of types (with_words later st) ≡ Some g
+graph_of-words types st later next top g headers same is_next is_top graph is =
+    let u = table_of types (with_words later st) in
+    let n = places_of st in
+    graph_of-from types (with_words later st) g (record {
+      headers = headers_fit-same st later same ∙ headers;
+      graph = subst (λ (k : ℕ). IsGraph k (pointee_at st.puddles 0 0 (later 0 ROOT_WORD)) u n) (sym is_next) (subst (λ (c : Content). IsGraph next c u n) (sym is_top) graph);
+      is = ap₂ (λ (k : ℕ) (c : Content). graph_by k c u n) is_next is_top ∙ is;
+    })

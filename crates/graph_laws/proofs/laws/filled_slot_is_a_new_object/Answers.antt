@@ -1,0 +1,5 @@
+use Rattle.graph_laws.proofs.NewObjects.{graph_of-new}
+use Rattle.graph_laws.proofs.laws.filled_slot_is_a_new_object.Goals as goal
+
+pub returns : goal.returns
+returns c = graph_of-new

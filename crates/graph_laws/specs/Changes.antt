@@ -1,0 +1,113 @@
+-- How graphs change, and the words that are stored of them.
+use Rattle.std.specs.Prelude.{◌≡◌, ℕ, ◌+◌, ◌/◌, ◌%◌, ◌<◌, ◌≤◌, ◌&&◌, ◌==◌, cond, List, map, set, slice_get, Option, Some, None, option_map}
+use Rattle.std.specs.Ordering.{nat_cmp}
+use Rattle.std.specs.List.{range_with_len}
+use Rattle.std.specs.FinMap.Entries.{put}
+use Rattle.pud_defs.specs.declared.space.TheConstants.{RANGE_BYTES, FRAME_SLOTS, SLOT_WORDS, SLOT_SERIAL_WORD, SLOT_TYPE_WORD, SLOT_FIELDS_WORD, NEXT_SERIAL_WORD, ROOT_WORD}
+use Rattle.pud_defs.specs.declared.records.Puddle.{Puddle}
+use Rattle.pud_defs.specs.declared.objects.Val.{Val}
+use Rattle.pud_defs.specs.declared.objects.Val.TheVariants.{Num, Ref}
+use Rattle.pud_defs.specs.TypeMap.{is_pointer}
+use Rattle.pud_defs.specs.Types.{map_of}
+use Rattle.pud_defs.specs.Keyed.{without}
+use Rattle.pud_defs.specs.Frames.{slot_at}
+use Rattle.pud_defs.specs.Stored.{Stored, places_of, place_word}
+use Rattle.pud_defs.specs.Graph.{slot_address, field_count, table_of, place_of, Object, Graph, next_serial_of, object_in}
+
+-- ---- words
+
+-- word k of the frame of ordinal o changed
+abbrev pub with_word : (o k v : ℕ) → (ℕ → ℕ → ℕ) → ℕ → ℕ → ℕ
+with_word o k v word other at = cond (other == o && at == k) v (word other at)
+
+-- the puddles as they are, over these words
+abbrev pub with_words : (ℕ → ℕ → ℕ) → Stored → Stored
+with_words word st = record { puddles = st.puddles; word = word }
+
+-- word j of the slot at a place
+abbrev pub with_slot_word : (p j v : ℕ) → Stored → Stored
+with_slot_word p j v st = with_words (with_word (p / FRAME_SLOTS) (slot_at (p % FRAME_SLOTS) + j) v st.word) st
+
+-- its serial
+abbrev pub with_serial_word : (p v : ℕ) → Stored → Stored
+with_serial_word p v st = with_slot_word p SLOT_SERIAL_WORD v st
+
+-- the word of field f of the slot at a place
+abbrev pub with_field_word : (p f v : ℕ) → Stored → Stored
+with_field_word p f v st = with_words (with_word (p / FRAME_SLOTS) (slot_at (p % FRAME_SLOTS) + SLOT_FIELDS_WORD + f) v st.word) st
+
+-- the root pointer
+abbrev pub with_root_word : ℕ → Stored → Stored
+with_root_word v st = with_words (with_word 0 ROOT_WORD v st.word) st
+
+-- Bases as a pool has them: no two of its ranges meet.
+pub record AreBases (bases : List ℕ) : Type 0 where
+  pub multiples : (i base : ℕ) → slice_get bases i ≡ Some base → base % RANGE_BYTES ≡ 0
+  pub distinct : (i j base : ℕ) → slice_get bases i ≡ Some base → slice_get bases j ≡ Some base → i ≡ j
+
+-- The value is the address of the slot at place q over the pool's bases, and the pointer at this step of the puddle of the ordinal is read over them.
+pub record IsAddress (puddles : List Puddle) (ordinal step q v : ℕ) : Type 0 where
+  pub bases : AreBases (map (λ d. d.base) puddles)
+  pub home : Puddle
+  pub here : slice_get puddles ordinal ≡ Some home
+  pub rewritten : step < home.frontier
+  pub away : Puddle
+  pub there : slice_get puddles (q / FRAME_SLOTS) ≡ Some away
+  pub address : v ≡ slot_address away.base (q % FRAME_SLOTS)
+
+-- ---- where words are stored
+
+-- The place is that of the object of serial s, whose type has map m, and that has a field f.
+pub record IsField (types : List (ℕ × ℕ)) (st : Stored) (s p m f : ℕ) : Type 0 where
+  pub place : place_of s (table_of types st) (places_of st) ≡ Some p
+  pub defined : map_of (place_word st.word p SLOT_TYPE_WORD) types ≡ Some m
+  pub below : f < field_count m
+
+-- By these words a free slot holds a new object under the next serial, each of whose fields is 0, and the next serial is one more; all else is as it was.
+pub record IsMade (types : List (ℕ × ℕ)) (st : Stored) (word : ℕ → ℕ → ℕ) (p type_id m : ℕ) : Type 0 where
+  pub within : p < places_of st
+  pub free : place_word st.word p SLOT_SERIAL_WORD ≡ 0
+  pub serial_word : place_word word p SLOT_SERIAL_WORD ≡ next_serial_of st
+  pub type_word : place_word word p SLOT_TYPE_WORD ≡ type_id
+  pub defined : map_of type_id types ≡ Some m
+  pub fields : (f : ℕ) → f < field_count m → place_word word p (SLOT_FIELDS_WORD + f) ≡ 0
+  pub next_word : word 0 NEXT_SERIAL_WORD ≡ next_serial_of st + 1
+  pub others : (o k : ℕ) → (o ≡ p / FRAME_SLOTS → slot_at (p % FRAME_SLOTS) ≤ k → k < slot_at (p % FRAME_SLOTS) + SLOT_WORDS → ⊥) → (o ≡ 0 → k ≡ NEXT_SERIAL_WORD → ⊥) → word o k ≡ st.word o k
+
+-- ---- objects
+
+-- a field with another value
+abbrev pub object_with : (f : ℕ) → Val → Object → Object
+object_with f x o = record { type_id = o.type_id; fields = set o.fields f x }
+
+abbrev pub blank_value : (map f : ℕ) → Val
+blank_value map f = cond (is_pointer map f) (Ref 0) (Num 0)
+
+-- an object of a type with this map, each of whose fields is 0 or null
+abbrev pub blank_object : (type_id map : ℕ) → Object
+blank_object type_id m = record { type_id = type_id; fields = map (blank_value m) (range_with_len 0 (field_count m)) }
+
+-- ---- graphs
+
+-- the object under a serial
+abbrev pub with_object : ℕ → Object → Graph → Graph
+with_object s o g = record { next_serial = g.next_serial; root = g.root; objects = put nat_cmp s o g.objects }
+
+-- the same, where there is one
+abbrev pub with_some_object : ℕ → Option Object → Graph → Graph
+with_some_object s None g = g
+with_some_object s (Some o) g = with_object s o g
+
+-- field f of the object of a serial with another value, where there is such an object
+abbrev pub with_field : (s f : ℕ) → Val → Graph → Graph
+with_field s f x g = with_some_object s (option_map (object_with f x) (object_in s g)) g
+
+abbrev pub with_root : ℕ → Graph → Graph
+with_root s g = record { next_serial = g.next_serial; root = s; objects = g.objects }
+
+abbrev pub without_object : ℕ → Graph → Graph
+without_object s g = record { next_serial = g.next_serial; root = g.root; objects = without nat_cmp s g.objects }
+
+-- one object more, under the next serial
+abbrev pub with_new : Object → Graph → Graph
+with_new o g = record { next_serial = g.next_serial + 1; root = g.root; objects = put nat_cmp g.next_serial o g.objects }

@@ -1,0 +1,139 @@
+//! The laws. Each function here does nothing; its contract is the law.
+
+ghost use Rattle.std.specs.Prelude.{◌≡◌, ◌+◌, ◌*◌, ◌/◌, ◌%◌, ◌<◌, ◌≤◌, ℕ, true, false, List, map, slice_get, slice_index, Option, option_map};
+ghost use Rattle.pud_defs.specs.declared.layout.TheConstants.{FRAME_WORDS, NUMBER_LIMIT};
+ghost use Rattle.pud_defs.specs.declared.space.TheConstants.{FRAME_SLOTS, FRAME_HEADER_WORDS, FRAME_ORDINAL_WORD, ROOT_WORD, SLOT_WORDS, SLOT_SERIAL_WORD, SLOT_TYPE_WORD, SLOT_FIELDS_WORD};
+ghost use Rattle.pud_defs.specs.declared.records.Puddle.{Puddle};
+ghost use Rattle.pud_defs.specs.declared.objects.Val.TheVariants.{Num, Ref};
+ghost use Rattle.pud_defs.specs.TypeMap.{is_pointer};
+ghost use Rattle.pud_defs.specs.Types.{map_of, with_type};
+ghost use Rattle.pud_defs.specs.Image.{Image, written};
+ghost use Rattle.pud_defs.specs.Frames.{frame_at, fresh_frame};
+ghost use Rattle.pud_defs.specs.Stored.{Stored, stored_in, places_of, place_word};
+ghost use Rattle.pud_defs.specs.Graph.{Graph, table_of, place_of, object_at, field_count, object_in, next_serial_of, is_held, graph_of, empty_graph};
+ghost use Rattle.graph_laws.specs.Changes.{with_word, with_words, with_slot_word, with_field_word, with_serial_word, with_root_word, AreBases, IsAddress, IsField, IsMade, blank_object, with_field, with_new, without_object, with_root};
+ghost use Rattle.graph_laws.specs.Reads.{ReadsSame, with_puddle, alone, IsGrown, AgreeOnFrames, HasDistinctFrames};
+ghost use Rattle.graph_laws.specs.Rewriting.{rewritten, stepped, RewritesSlot};
+
+/// The object of a serial is what stands at the place of the serial.
+pub fn object_stands_at_the_place_of_its_serial()
+    ensures { (types : List (ℕ × ℕ)) (st : Stored) (g : Graph) (s : ℕ) → graph_of types st ≡ Option.Some g
+        → object_in s g ≡ option_map (object_at (table_of types st)) (place_of s (table_of types st) (places_of st)) }
+{}
+
+/// A word that is stored in a number field is its value.
+pub fn stored_number_is_the_fields_value()
+    ensures { (types : List (ℕ × ℕ)) (st : Stored) (g : Graph) (s : ℕ) (p : ℕ) (m : ℕ) (f : ℕ) (v : ℕ) → graph_of types st ≡ Option.Some g → IsField types st s p m f → is_pointer m f ≡ false
+        → graph_of types (with_field_word p f v st) ≡ Option.Some (with_field s f (Num v) g) }
+{}
+
+/// A pointer field in which 0 is stored is null.
+pub fn stored_zero_is_null()
+    ensures { (types : List (ℕ × ℕ)) (st : Stored) (g : Graph) (s : ℕ) (p : ℕ) (m : ℕ) (f : ℕ) → graph_of types st ≡ Option.Some g → IsField types st s p m f → is_pointer m f ≡ true
+        → graph_of types (with_field_word p f 0 st) ≡ Option.Some (with_field s f (Ref 0) g) }
+{}
+
+/// A pointer field in which the address of an object is stored, over the pool's bases, names the object, where the
+/// frontier is past the field's slot.
+pub fn stored_address_names_the_object()
+    ensures { (types : List (ℕ × ℕ)) (st : Stored) (g : Graph) (s : ℕ) (p : ℕ) (m : ℕ) (f : ℕ) (v : ℕ) (r : ℕ) (q : ℕ) → graph_of types st ≡ Option.Some g → IsField types st s p m f → is_pointer m f ≡ true
+        → place_of r (table_of types st) (places_of st) ≡ Option.Some q → IsAddress st.puddles (p / FRAME_SLOTS) (p % FRAME_SLOTS + 1) q v
+        → graph_of types (with_field_word p f v st) ≡ Option.Some (with_field s f (Ref r) g) }
+{}
+
+/// A free slot that is filled under the next serial, which then is one more, is a new object.
+pub fn filled_slot_is_a_new_object()
+    ensures { (types : List (ℕ × ℕ)) (st : Stored) (g : Graph) (word : ℕ → ℕ → ℕ) (p : ℕ) (id : ℕ) (m : ℕ) → graph_of types st ≡ Option.Some g → next_serial_of st < NUMBER_LIMIT → IsMade types st word p id m
+        → graph_of types (with_words word st) ≡ Option.Some (with_new (blank_object id m) g) }
+{}
+
+/// A slot whose serial is cleared is no object any more, where nothing named it.
+pub fn cleared_serial_frees_the_object()
+    ensures { (types : List (ℕ × ℕ)) (st : Stored) (g : Graph) (s : ℕ) (p : ℕ) → graph_of types st ≡ Option.Some g → place_of s (table_of types st) (places_of st) ≡ Option.Some p → is_held s g ≡ false
+        → graph_of types (with_serial_word p 0 st) ≡ Option.Some (without_object s g) }
+{}
+
+/// A pool in whose root 0 is stored has no root.
+pub fn stored_zero_is_no_root()
+    ensures { (types : List (ℕ × ℕ)) (st : Stored) (g : Graph) → graph_of types st ≡ Option.Some g → graph_of types (with_root_word 0 st) ≡ Option.Some (with_root 0 g) }
+{}
+
+/// A pool in whose root the address of an object is stored, over the pool's bases, has this root, where the frontier is
+/// past the header.
+pub fn stored_address_is_the_root()
+    ensures { (types : List (ℕ × ℕ)) (st : Stored) (g : Graph) (s : ℕ) (q : ℕ) (v : ℕ) → graph_of types st ≡ Option.Some g → place_of s (table_of types st) (places_of st) ≡ Option.Some q → IsAddress st.puddles 0 0 q v
+        → graph_of types (with_root_word v st) ≡ Option.Some (with_root s g) }
+{}
+
+/// Words that are the same wherever they are read have the same graph, or have none either.
+pub fn same_words_read_are_the_same_graph()
+    ensures { (types : List (ℕ × ℕ)) (st : Stored) (word : ℕ → ℕ → ℕ) → ReadsSame types st word → graph_of types (with_words word st) ≡ graph_of types st }
+{}
+
+/// Images that agree on the frames of a pool store the same of it.
+pub fn images_that_agree_store_the_same()
+    ensures { (frames : ℕ) (at : List (ℕ × Puddle)) (i : Image) (j : Image) → AgreeOnFrames frames at i j → stored_in frames at j ≡ stored_in frames at i }
+{}
+
+/// A word that is written into the frame of a puddle is that word of what is stored, and no other.
+pub fn written_frame_word_is_a_stored_word()
+    ensures { (frames : ℕ) (at : List (ℕ × Puddle)) (image : Image) (o : ℕ) (k : ℕ) (v : ℕ) (e : ℕ × Puddle) → HasDistinctFrames at → slice_get at o ≡ Option.Some e → k < FRAME_WORDS
+        → stored_in frames at (written (frame_at frames e.0 + k) v image) ≡ with_words (with_word o k v (stored_in frames at image).word) (stored_in frames at image) }
+{}
+
+/// A word of a frame's header is not read behind the header's first three, but for the next serial and the root in the
+/// frame of ordinal 0.
+pub fn other_header_words_are_not_read()
+    ensures { (types : List (ℕ × ℕ)) (st : Stored) (o : ℕ) (k : ℕ) (v : ℕ) → FRAME_ORDINAL_WORD < k → k < FRAME_HEADER_WORDS → (o ≡ 0 → ROOT_WORD < k)
+        → graph_of types (with_words (with_word o k v st.word) st) ≡ graph_of types st }
+{}
+
+/// Of a free slot the serial alone is read.
+pub fn other_words_of_a_free_slot_are_not_read()
+    ensures { (types : List (ℕ × ℕ)) (st : Stored) (p : ℕ) (j : ℕ) (v : ℕ) → place_word st.word p SLOT_SERIAL_WORD ≡ 0 → SLOT_SERIAL_WORD < j → j < SLOT_WORDS
+        → graph_of types (with_slot_word p j v st) ≡ graph_of types st }
+{}
+
+/// Behind the fields of its type no word of a slot is read.
+pub fn words_behind_the_fields_are_not_read()
+    ensures { (types : List (ℕ × ℕ)) (st : Stored) (p : ℕ) (m : ℕ) (j : ℕ) (v : ℕ) → map_of (place_word st.word p SLOT_TYPE_WORD) types ≡ Option.Some m → SLOT_FIELDS_WORD + field_count m ≤ j → j < SLOT_WORDS
+        → graph_of types (with_slot_word p j v st) ≡ graph_of types st }
+{}
+
+/// A pool of one fresh puddle has the graph in which nothing was made yet.
+pub fn fresh_puddle_alone_is_the_empty_graph()
+    ensures { (types : List (ℕ × ℕ)) (d : Puddle) (word : ℕ → ℕ → ℕ) → ((k : ℕ) → k < FRAME_WORDS → word 0 k ≡ slice_index (fresh_frame d.number 0) k)
+        → graph_of types (alone d word) ≡ Option.Some empty_graph }
+{}
+
+/// A puddle with no live slot that comes behind the others changes nothing.
+pub fn fresh_puddle_behind_others_keeps_the_graph()
+    ensures { (types : List (ℕ × ℕ)) (st : Stored) (g : Graph) (d : Puddle) (word : ℕ → ℕ → ℕ) → graph_of types st ≡ Option.Some g → IsGrown st d word
+        → graph_of types (with_puddle d word st) ≡ Option.Some g }
+{}
+
+/// A slot whose pointers are rewritten as the frontier passes it holds the same object.
+pub fn rewritten_slot_keeps_the_graph()
+    ensures { (types : List (ℕ × ℕ)) (st : Stored) (g : Graph) (word : ℕ → ℕ → ℕ) (p : ℕ) (home : Puddle) → graph_of types st ≡ Option.Some g → AreBases (map (λ d. d.base) st.puddles)
+        → slice_get st.puddles (p / FRAME_SLOTS) ≡ Option.Some home → home.frontier ≡ p % FRAME_SLOTS + 1 → RewritesSlot types st word p
+        → graph_of types (stepped (p / FRAME_SLOTS) (p % FRAME_SLOTS + 1) word st) ≡ Option.Some g }
+{}
+
+/// A root that is rewritten as the frontier passes it is the same root.
+pub fn rewritten_root_keeps_the_graph()
+    ensures { (types : List (ℕ × ℕ)) (st : Stored) (g : Graph) (home : Puddle) → graph_of types st ≡ Option.Some g → AreBases (map (λ d. d.base) st.puddles)
+        → slice_get st.puddles 0 ≡ Option.Some home → home.frontier ≡ 0
+        → graph_of types (stepped 0 0 (with_word 0 ROOT_WORD (rewritten st.puddles (st.word 0 ROOT_WORD)) st.word) st) ≡ Option.Some g }
+{}
+
+/// A frontier that passes the header of a puddle behind the first passes no pointer.
+pub fn empty_step_keeps_the_graph()
+    ensures { (types : List (ℕ × ℕ)) (st : Stored) (o : ℕ) (home : Puddle) → slice_get st.puddles o ≡ Option.Some home → home.frontier ≡ 0 → 0 < o
+        → graph_of types (stepped o 0 st.word st) ≡ graph_of types st }
+{}
+
+/// What has a graph keeps it when a type is defined that was not.
+pub fn graph_stays_under_one_type_more()
+    ensures { (id : ℕ) (map : ℕ) (types : List (ℕ × ℕ)) (st : Stored) (g : Graph) → map_of id types ≡ Option.None → graph_of types st ≡ Option.Some g
+        → graph_of (with_type id map types) st ≡ Option.Some g }
+{}

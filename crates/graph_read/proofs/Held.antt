@@ -1,0 +1,127 @@
+-- Who holds an object, by what was read of each slot.
+use Rattle.std.proofs.Common.{◌≡◌, ℕ, zero, suc, ◌+◌, Bool, true, false, not, ◌&&◌, ◌||◌, cond, eqb, nat_cmp, List, [], ◌∷◌, map, length, Option, Some, None, is_some, option_map, refl, sym, ap, ap₂, ◌∙◌, arith}
+use Rattle.std.specs.List.{list_any, list_all, range_with_len}
+use Rattle.std.specs.declared.cmp.Ordering.{Ordering}
+use Rattle.std.specs.declared.cmp.Ordering.TheVariants.{Less, Equal, Greater}
+use Rattle.std.specs.Ordering.{is_eq}
+use Rattle.std.specs.Cmp.{IsTotalOrder}
+use Rattle.std.specs.FinMap.Entries.{put, find, by_order}
+use Rattle.std.proofs.lemmas.Bool.{and_parts, false≢true}
+use Rattle.std.proofs.lemmas.Cmp.{nat_cmp_total}
+use Rattle.std.proofs.lemmas.List.Folds.{list_all-map}
+use Rattle.std.proofs.lemmas.Option.{cond_some, none-some}
+use Rattle.pud_defs.specs.Graph.{Content, Table, Object, Graph, stands, names_serial, named_by, value_of, contents_or_none, object_at, live, placed, headers_fit, is_graph, is_next_serial, is_sound_place, graph_of, graph_stored, has_graph, is_held, table_of, next_serial_of, root_of}
+use Rattle.pud_defs.specs.Keyed.{keyed, put_entry, are_distinct}
+use Rattle.pud_defs.specs.Spaces.{all_below}
+use Rattle.pud_defs.specs.Stored.{Stored, stored_in, places_of}
+use Rattle.pud_defs.proofs.Keyed.{HasDistinctKeys, HasDistinctKeys-keys, distinct_keys, find-keyed, first_from_none}
+use Rattle.pud_defs.proofs.Spaces.{all_below-same}
+use Rattle.graph_read.specs.declared.asking.Asked.TheVariants.{Spares}
+use Rattle.graph_read.specs.Asking.{contents_pass, place_passes, serials_in, with_serials}
+use Rattle.graph_read.proofs.Passing.{list_all-below}
+use Rattle.graph_read.proofs.Judging.{none_without_puddles}
+use Rattle.pud_defs.specs.declared.records.Puddle.{Puddle}
+use Rattle.pud_defs.specs.Image.{Image}
+
+-- ---- an entry of a table that is read by its keys
+
+turned : (a b c : Bool) → (a || (b || c)) ≡ (b || (a || c))
+turned true true c = refl
+turned true false c = refl
+turned false true c = refl
+turned false false c = refl
+
+-- what stands there passes the test
+abbrev passes_there : {K X : Type 0} → (K × X → Bool) → Option (K × X) → Bool
+passes_there test None = false
+passes_there test (Some e) = test e
+
+module _ {K X : Type 0} (R : K → K → Ordering) (test : K × X → Bool) where
+  any-ordered : (o : Ordering) (e : K × X) (k : K) (v : X) (es : List (K × X)) → cond (is_eq o) (Some e.1) (find R k es) ≡ None
+      → (find R k es ≡ None → list_any test (put R k v es) ≡ (test (k, v) || list_any test es))
+      → list_any test (by_order o ((k, v) ∷ e ∷ es) ((e.0, v) ∷ es) (e ∷ put R k v es)) ≡ (test (k, v) || (test e || list_any test es))
+  any-ordered Less e k v es none later = refl
+  any-ordered Equal e k v es none later = absurd (none-some e.1 (sym none))
+  any-ordered Greater e k v es none later = ap (λ b. test e || b) (later none) ∙ turned (test e) (test (k, v)) (list_any test es)
+
+  any-put : (k : K) (v : X) (es : List (K × X)) → find R k es ≡ None → list_any test (put R k v es) ≡ (test (k, v) || list_any test es)
+  any-put k v [] none = refl
+  any-put k v (e ∷ es) none = any-ordered (R k e.0) e k v es none (any-put k v es)
+
+  any-put_entry : (e : Option (K × X)) (es : List (K × X)) → ((d : K × X) → e ≡ Some d → find R d.0 es ≡ None) → list_any test (put_entry R e es) ≡ (passes_there test e || list_any test es)
+  any-put_entry None es none = refl
+  any-put_entry (Some e) es none = any-put e.0 e.1 es (none e refl)
+
+  any-keyed : (o : IsTotalOrder R) (f : ℕ → Option (K × X)) (from count : ℕ) → HasDistinctKeys R f from count → list_any test (keyed R f from count) ≡ list_any (λ j. passes_there test (f j)) (range_with_len from count)
+  unfolding keyed
+  any-keyed o f from zero h = refl
+  any-keyed o f from (suc count) h =
+      any-put_entry (f from) (keyed R f (from + 1) count)
+      (λ d is. find-keyed R o d.0 f (from + 1) count ∙ first_from_none R d.0 f (from + 1) count (λ j low high. h.apart from j (omega arith) (omega arith) (omega arith) d is))
+      ∙ ap (λ b. passes_there test (f from) || b) (any-keyed o f (from + 1) count (record { apart = λ i j low less high. h.apart i j (omega arith) less (omega arith) }))
+
+any_by_all : {X : Type 0} (test : X → Bool) (xs : List X) → list_any test xs ≡ not (list_all (λ x. not (test x)) xs)
+any_by_all test [] = refl
+any_by_all test (x ∷ xs) = elim (test x) as (λ b. (b || list_any test xs) ≡ not (not b && list_all (λ y. not (test y)) xs)) [ true ↦ refl | false ↦ any_by_all test xs ]
+
+any-range : (test : ℕ → Bool) (n : ℕ) → list_any test (range_with_len 0 n) ≡ not (all_below n (λ k. not (test k)))
+any-range test n =
+    any_by_all test (range_with_len 0 n)
+    ∙ ap not (sym (list_all-map (λ x. not (test x)) (λ (x : ℕ). x) (range_with_len 0 n)) ∙ list_all-below (λ x. not (test x)) (λ x. x) n)
+
+-- ---- who names a serial
+
+-- a field of the object names the serial
+abbrev names : ℕ → ℕ × Object → Bool
+names s e = list_any (names_serial s) e.1.fields
+
+spared_fields : (s : ℕ) (serial : ℕ → ℕ) (contents : List Content) → not (list_any (names_serial s) (map (value_of serial) contents)) ≡ list_all (λ c. not (names_serial s (value_of serial c))) contents
+spared_fields s serial [] = refl
+spared_fields s serial (x ∷ xs) =
+    elim (names_serial s (value_of serial x))
+    as (λ b. not (b || list_any (names_serial s) (map (value_of serial) xs)) ≡ (not b && list_all (λ c. not (names_serial s (value_of serial c))) xs)) [ true ↦ refl | false ↦ spared_fields s serial xs ]
+
+spared_contents : (s : ℕ) (serial : ℕ → ℕ) (contents : Option (List Content)) → not (list_any (names_serial s) (map (value_of serial) (contents_or_none contents))) ≡ contents_pass (Spares s) serial contents
+spared_contents s serial None = refl
+spared_contents s serial (Some contents) = spared_fields s serial contents
+
+spared_place : (s : ℕ) (t : Table) (p : ℕ) → not (passes_there (names s) (live t p)) ≡ place_passes (Spares s) t p
+spared_place s t p =
+    elim (eqb (t.serial p) 0)
+    as (λ b. not (passes_there (names s) (cond b None (Some (t.serial p, object_at t p)))) ≡ (b || contents_pass (Spares s) t.serial (t.contents p))) [ true ↦ refl | false ↦ spared_contents s t.serial (t.contents p) ]
+
+same_keys : (t : Table) (p : ℕ) → option_map (λ (e : ℕ × ℕ). e.0) (placed t p) ≡ option_map (λ (e : ℕ × Object). e.0) (live t p)
+same_keys t p =
+    elim (eqb (t.serial p) 0)
+    as (λ b. option_map (λ (e : ℕ × ℕ). e.0) (cond b None (Some (t.serial p, p))) ≡ option_map (λ (e : ℕ × Object). e.0) (cond b None (Some (t.serial p, object_at t p)))) [ true ↦ refl | false ↦ refl ]
+
+-- an object names the serial where a slot does
+any_names : (s : ℕ) (t : Table) (n : ℕ) → are_distinct nat_cmp (placed t) 0 n ≡ true → not (all_below n (place_passes (Spares s) t)) ≡ list_any (names s) (keyed nat_cmp (live t) 0 n)
+any_names s t n distinct =
+    sym (any-keyed nat_cmp (names s) nat_cmp_total (live t) 0 n (HasDistinctKeys-keys nat_cmp (placed t) (live t) 0 n (same_keys t) (distinct_keys nat_cmp (placed t) 0 n distinct))
+    ∙ any-range (λ j. passes_there (names s) (live t j)) n
+    ∙ ap not (all_below-same n (λ j. not (passes_there (names s) (live t j))) (place_passes (Spares s) t) (λ k below. spared_place s t k)))
+
+has_distinct : (types : List (ℕ × ℕ)) (st : Stored) → has_graph types st ≡ true → are_distinct nat_cmp (placed (table_of types st)) 0 (places_of st) ≡ true
+unfolding is_graph
+has_distinct types st has =
+    let t = table_of types st in
+    let graph = (and_parts (headers_fit st) (is_graph (next_serial_of st) (root_of st) t (places_of st)) has).1 in
+    let serials = are_distinct nat_cmp (placed t) 0 (places_of st) in
+    let front = (and_parts (is_next_serial (next_serial_of st) && stands t.serial (root_of st) && serials) (all_below (places_of st) (is_sound_place (next_serial_of st) t)) graph).0 in
+    (and_parts (is_next_serial (next_serial_of st) && stands t.serial (root_of st)) serials front).1
+
+-- what was read of a pool that stores a graph tells who holds an object
+pub held : (types : List (ℕ × ℕ)) (st : Stored) (g : Graph) (s : ℕ) (serial : ℕ → ℕ) (root : ℕ) (slots : Bool) → graph_of types st ≡ Some g → serial ≡ serials_in st → root ≡ named_by serial (root_of st)
+    → slots ≡ all_below (places_of st) (place_passes (Spares s) (with_serials serial (table_of types st))) → (eqb root s || not slots) ≡ is_held s g
+unfolding graph_of is_held
+held types st g s serial root slots stored is_serial is_root is_slots =
+    let parts = cond_some (has_graph types st) (graph_stored types st) g stored in
+    ap₂ (λ (r : ℕ) (b : Bool). eqb r s || b) (is_root ∙ ap (λ (f : ℕ → ℕ). named_by f (root_of st)) is_serial)
+    (ap not (is_slots ∙ ap (λ (f : ℕ → ℕ). all_below (places_of st) (place_passes (Spares s) (with_serials f (table_of types st)))) is_serial)
+    ∙ any_names s (table_of types st) (places_of st) (has_distinct types st parts.0))
+    ∙ ap (λ (x : Graph). is_held s x) parts.1
+
+-- a pool without puddles stores no graph
+pub none_held : (types : List (ℕ × ℕ)) (F : ℕ) (at : List (ℕ × Puddle)) (image : Image) (g : Graph) → eqb (length at) 0 ≡ true → graph_of types (stored_in F at image) ≡ Some g → ⊥
+none_held types F at image g none stored = false≢true (sym (none_without_puddles types F at image none) ∙ ap is_some stored)

@@ -1,0 +1,152 @@
+-- What a pool stores is judged: its headers, its serials, and all of it together.
+use Rattle.std.proofs.Common.{◌≡◌, ◌≢◌, ℕ, zero, suc, ◌+◌, ◌-◌, ◌*◌, ◌<◌, ◌≤◌, Bool, true, false, not, ◌&&◌, ◌||◌, cond, eqb, ltb, nat_cmp, List, [], ◌∷◌, map, length, get_or, take, drop, slice_get, slice_index, Option, Some, None, is_some, option_map, eq-eqb, eqb-true, ne_eqb, inl, inr, refl, sym, ap, ap₂, ◌∙◌, arith, add-one, drop-cons}
+use Rattle.std.specs.List.{list_any}
+use Rattle.std.proofs.lemmas.Bool.{cases_eq}
+use Rattle.std.proofs.lemmas.Bool.Decides.{nat_tests}
+use Rattle.std.proofs.lemmas.Option.{slice_get-map, slice_get-get_or}
+use Rattle.std.proofs.lemmas.List.{length-map}
+use Rattle.pud_defs.proofs.DistinctKeys.{some_or, none_by_some, some_under}
+use Rattle.graph_read.proofs.Placed.{stored_word}
+use Rattle.pud_defs.specs.declared.layout.TheConstants.{FRAME_WORDS}
+use Rattle.pud_defs.specs.declared.space.TheConstants.{FRAME_MAGIC_WORD, FRAME_NUMBER_WORD, FRAME_ORDINAL_WORD, ROOT_WORD, FRAME_SLOTS}
+use Rattle.pud_defs.specs.declared.records.Puddle.{Puddle}
+use Rattle.pud_defs.specs.Image.{Image}
+use Rattle.pud_defs.specs.Frames.{frame_word}
+use Rattle.pud_defs.specs.Headers.{is_header}
+use Rattle.pud_defs.specs.Graph.{Content, Table, has_header, headers_fit, is_graph, is_next_serial, stands, all_stand, is_sound_place, has_graph, graph_stored, graph_of, under_serial, table_of, next_serial_of, root_of, pointee_at}
+use Rattle.graph_read.specs.Reading.{pointee_of}
+use Rattle.graph_read.proofs.Pointed.{no_puddle}
+use Rattle.graph_read.proofs.Passing.{pointee_read}
+use Rattle.pud_defs.proofs.Spaces.{all_below-same}
+use Rattle.pud_defs.specs.Keyed.{are_distinct, is_apart, first_from, under}
+use Rattle.pud_defs.specs.Spaces.{all_below}
+use Rattle.pud_defs.specs.Stored.{Stored, stored_in, places_of}
+use Rattle.graph_read.specs.declared.asking.Asked.TheVariants.{IsSound}
+use Rattle.graph_read.specs.Asking.{content_of, serials_in, with_serials, contents_pass, place_passes}
+
+-- the frame and the record of an ordinal
+abbrev pub entry : List (ℕ × Puddle) → ℕ → ℕ × Puddle
+entry at o = get_or at o no_puddle
+
+pub is_header-words : (given place m n o m' n' o' : ℕ) → m ≡ m' → n ≡ n' → o ≡ o' → is_header given place m n o ≡ is_header given place m' n' o'
+is_header-words given place m n o m' n' o' a b c = rw (a, b, c) refl
+
+-- the frame of an ordinal has the header of its puddle
+abbrev pub header_at : Stored → ℕ → Bool
+header_at st o = has_header o (st.word o) (slice_get st.puddles o)
+
+header_of : (F : ℕ) (at : List (ℕ × Puddle)) (image : Image) (o : ℕ) (e : ℕ × Puddle) → slice_get at o ≡ Some e
+    → is_header e.1.number o (frame_word F e.0 FRAME_MAGIC_WORD image) (frame_word F e.0 FRAME_NUMBER_WORD image) (frame_word F e.0 FRAME_ORDINAL_WORD image) ≡ header_at (stored_in F at image) o
+header_of F at image o e there =
+    let word = (stored_in F at image).word o in
+    sym (ap (has_header o word) (slice_get-map (λ (x : ℕ × Puddle). x.1) at o ∙ ap (option_map (λ (x : ℕ × Puddle). x.1)) there)
+    ∙ is_header-words e.1.number o (word FRAME_MAGIC_WORD) (word FRAME_NUMBER_WORD) (word FRAME_ORDINAL_WORD) _ _ _ (stored_word F at image o FRAME_MAGIC_WORD e there (omega arith)) (stored_word F at image o FRAME_NUMBER_WORD e there (omega arith))
+    (stored_word F at image o FRAME_ORDINAL_WORD e there (omega arith)))
+
+-- the same by the words that were read
+pub header_at-read : (F : ℕ) (at : List (ℕ × Puddle)) (image : Image) (o : ℕ) (fits : Bool) → o < length at
+    → fits ≡ is_header (entry at o).1.number o (frame_word F (entry at o).0 FRAME_MAGIC_WORD image) (frame_word F (entry at o).0 FRAME_NUMBER_WORD image) (frame_word F (entry at o).0 FRAME_ORDINAL_WORD image)
+    → fits ≡ header_at (stored_in F at image) o
+header_at-read F at image o fits below is = is ∙ header_of F at image o (entry at o) (slice_get-get_or at o no_puddle below)
+
+pub headers_fit-each : (F : ℕ) (at : List (ℕ × Puddle)) (image : Image) → headers_fit (stored_in F at image) ≡ all_below (length at) (header_at (stored_in F at image))
+unfolding headers_fit
+headers_fit-each F at image = ap (λ n. all_below n (header_at (stored_in F at image))) (length-map at (λ (x : ℕ × Puddle). x.1))
+
+-- ---- distinct serials, from the front
+
+turned : (a b : ℕ) → eqb a b ≡ eqb b a
+turned a b = grind (arith, nat_tests)
+
+-- whether a place has this serial
+under_here : (f : ℕ → ℕ) (s p : ℕ) → s ≢ 0 → is_some (under nat_cmp s (under_serial f (λ q. q) p)) ≡ eqb (f p) s
+under_here f s p live = elim (cases_eq (f p) 0) [
+  | inl free ↦ ap (λ b. is_some (under nat_cmp s (cond b None (Some (f p, p))))) (eq-eqb _ _ free) ∙ sym (ne_eqb (f p) s (λ e. live (sym e ∙ free)))
+  | inr used ↦ ap (λ b. is_some (under nat_cmp s (cond b None (Some (f p, p))))) (ne_eqb _ _ used) ∙ some_under s (f p) p ∙ turned s (f p)
+]
+
+-- the serial stands in a part of the list where it stands at a place of that part
+pub listed : (xs : List ℕ) (s from n : ℕ) → s ≢ 0 → from + n ≤ length xs
+    → list_any (λ y. eqb y s) (take n (drop from xs)) ≡ is_some (first_from nat_cmp s (under_serial (slice_index xs) (λ p. p)) from n)
+unfolding first_from
+listed xs s from zero live within = refl
+listed xs s from (suc n) live within =
+    let below : from < length xs = omega arith in
+    ap (λ ys. list_any (λ y. eqb y s) (take (suc n) ys)) (drop-cons xs from 0 below)
+    ∙ ap₂ (λ (a b : Bool). a || b)
+    (sym (under_here (slice_index xs) s from live))
+    (ap (λ k. list_any (λ y. eqb y s) (take n (drop k xs))) (sym (add-one from)) ∙ listed xs s (from + 1) n live (omega arith))
+    ∙ sym (some_or (under nat_cmp s (under_serial (slice_index xs) (λ p. p) from)) (first_from nat_cmp s (under_serial (slice_index xs) (λ p. p)) (from + 1) n))
+
+-- a live place is apart from those behind it
+pub is_apart-live : (xs : List ℕ) (place n : ℕ) → slice_index xs place ≢ 0 → place + 1 + n ≤ length xs
+    → not (list_any (λ y. eqb y (slice_index xs place)) (take n (drop (place + 1) xs)))
+    ≡ is_apart nat_cmp (under_serial (slice_index xs) (λ p. p) place) (under_serial (slice_index xs) (λ p. p)) (place + 1) n
+is_apart-live xs place n live within =
+    ap not (listed xs (slice_index xs place) (place + 1) n live within)
+    ∙ sym (none_by_some (first_from nat_cmp (slice_index xs place) (under_serial (slice_index xs) (λ p. p)) (place + 1) n))
+    ∙ sym (ap (λ b. is_apart nat_cmp (cond b None (Some (slice_index xs place, place))) (under_serial (slice_index xs) (λ p. p)) (place + 1) n) (ne_eqb _ _ live))
+
+pub are_distinct-step : (f : ℕ → Option (ℕ × ℕ)) (from end : ℕ) → from < end
+    → are_distinct nat_cmp f from (end - from) ≡ (is_apart nat_cmp (f from) f (from + 1) (end - (from + 1)) && are_distinct nat_cmp f (from + 1) (end - (from + 1)))
+unfolding are_distinct
+are_distinct-step f from end below = let e : end - from ≡ suc (end - (from + 1)) = omega arith in ap (are_distinct nat_cmp f from) e
+
+pub are_distinct-end : (f : ℕ → Option (ℕ × ℕ)) (from end : ℕ) → end ≤ from → are_distinct nat_cmp f from (end - from) ≡ true
+unfolding are_distinct
+are_distinct-end f from end past = let e : end - from ≡ 0 = omega arith in ap (are_distinct nat_cmp f from) e
+
+-- ---- all of it
+
+-- a word of the frame of ordinal 0
+pub first_word : (F : ℕ) (at : List (ℕ × Puddle)) (image : Image) (k : ℕ) → 0 < length at → k < FRAME_WORDS → frame_word F (entry at 0).0 k image ≡ (stored_in F at image).word 0 k
+first_word F at image k some below = sym (stored_word F at image 0 k (entry at 0) (slice_get-get_or at 0 no_puddle some) below)
+
+sound_contents : (next : ℕ) (serial : ℕ → ℕ) (contents : Option (List Content)) → contents_pass (IsSound next) serial contents ≡ all_stand serial contents
+sound_contents next serial None = refl
+sound_contents next serial (Some contents) = refl
+
+sound_place : (next : ℕ) (t : Table) (p : ℕ) → place_passes (IsSound next) t p ≡ is_sound_place next t p
+sound_place next t p = ap (λ b. eqb (t.serial p) 0 || (ltb (t.serial p) next && b)) (sound_contents next t.serial (t.contents p))
+
+is_some-chosen : {A : Type 0} (b : Bool) (x : A) → b ≡ is_some (cond b (Some x) None)
+is_some-chosen true x = refl
+is_some-chosen false x = refl
+
+joined : (headers headers' next next' root root' distinct distinct' slots slots' : Bool) → headers ≡ headers' → next ≡ next' → root ≡ root' → distinct ≡ distinct' → slots ≡ slots'
+    → (headers && (next && root && distinct && slots)) ≡ (headers' && (next' && root' && distinct' && slots'))
+joined headers headers' next next' root root' distinct distinct' slots slots' a b c d e = rw (a, b, c, d, e) refl
+
+-- what was read of a pool tells whether it stores a graph
+pub judged : (types : List (ℕ × ℕ)) (st : Stored) (serial : ℕ → ℕ) (next : ℕ) (headers root distinct slots : Bool) → serial ≡ serials_in st → next ≡ next_serial_of st → headers ≡ headers_fit st
+    → root ≡ stands serial (root_of st) → distinct ≡ are_distinct nat_cmp (under_serial serial (λ p. p)) 0 (places_of st)
+    → slots ≡ all_below (places_of st) (place_passes (IsSound next) (with_serials serial (table_of types st)))
+    → (headers && (is_next_serial next && root && distinct && slots)) ≡ is_some (graph_of types st)
+unfolding graph_of is_graph
+judged types st serial next headers root distinct slots is_serial is_next is_headers is_root is_distinct is_slots =
+    joined headers (headers_fit st) (is_next_serial next) (is_next_serial (next_serial_of st)) root (stands (serials_in st) (root_of st)) distinct
+    (are_distinct nat_cmp (under_serial (serials_in st) (λ p. p)) 0 (places_of st)) slots (all_below (places_of st) (is_sound_place (next_serial_of st) (table_of types st)))
+    is_headers (ap is_next_serial is_next) (is_root ∙ ap (λ (f : ℕ → ℕ). stands f (root_of st)) is_serial)
+    (is_distinct ∙ ap (λ (f : ℕ → ℕ). are_distinct nat_cmp (under_serial f (λ p. p)) 0 (places_of st)) is_serial)
+    (is_slots
+    ∙ ap₂ (λ (n : ℕ) (f : ℕ → ℕ). all_below (places_of st) (place_passes (IsSound n) (with_serials f (table_of types st)))) is_next is_serial
+    ∙ all_below-same (places_of st) (place_passes (IsSound (next_serial_of st)) (table_of types st)) (is_sound_place (next_serial_of st) (table_of types st)) (λ k below. sound_place (next_serial_of st) (table_of types st) k))
+    ∙ is_some-chosen (has_graph types st) (graph_stored types st)
+
+-- what was read of the root pointer
+pub root_read : (F : ℕ) (at : List (ℕ × Puddle)) (image : Image) (v : ℕ) → 0 < length at → v ≡ frame_word F (entry at 0).0 ROOT_WORD image
+    → content_of (pointee_of (pointee_at (map (λ e. e.1) at) 0 0 v)) ≡ root_of (stored_in F at image)
+root_read F at image v some is = pointee_read (map (λ e. e.1) at) 0 0 v ∙ ap (pointee_at (map (λ e. e.1) at) 0 0) (is ∙ first_word F at image ROOT_WORD some (omega arith))
+
+pub same_places : (F : ℕ) (at : List (ℕ × Puddle)) (image : Image) → FRAME_SLOTS * length at ≡ places_of (stored_in F at image)
+same_places F at image = ap (λ n. FRAME_SLOTS * n) (sym (length-map at (λ (e : ℕ × Puddle). e.1)))
+
+-- a pool without puddles stores none
+pub none_without_puddles : (types : List (ℕ × ℕ)) (F : ℕ) (at : List (ℕ × Puddle)) (image : Image) → eqb (length at) 0 ≡ true → is_some (graph_of types (stored_in F at image)) ≡ false
+unfolding graph_of is_graph headers_fit all_below
+none_without_puddles types F [] image none = refl
+none_without_puddles types F (x ∷ xs) image none = absurd (let zero = eqb-true (length (x ∷ xs)) 0 none in omega arith)
+
+pub positive_length : (at : List (ℕ × Puddle)) → eqb (length at) 0 ≡ false → 0 < length at
+positive_length [] none = absurd (let some : true ≡ false = none in cc)
+positive_length (x ∷ xs) none = omega arith

@@ -1,0 +1,35 @@
+use Rattle.std.proofs.Common.{◌*◌, length, slice_index, refl, sym, ap, ◌∙◌, arith}
+use Rattle.pm_model.specs.Words.{reads}
+use Rattle.pm_model.specs.Moments.{State}
+use Rattle.pm_model.specs.Counts.{after_fault, fault_of}
+use Rattle.pud_defs.specs.Graph.{table_of}
+use Rattle.pud_defs.specs.declared.space.TheConstants.{FRAME_SLOTS}
+use Rattle.pud_defs.specs.Stored.{stored_in}
+use Rattle.pud_defs.specs.Types.{types_of}
+use Rattle.pud_defs.proofs.Spaces.{all_below-more, all_below-fails}
+use Rattle.graph_read.specs.Asking.{place_passes, with_serials}
+use Rattle.graph_read.proofs.Passing.{all_below-none}
+use Rattle.graph_read.proofs.asking.places_pass.Goals as goal
+
+pub loop-place-init : goal.loop-place-init
+loop-place-init g c = record {
+  counts = refl;
+  stays = λ t. refl;
+  passed = λ t image same. all_below-none _;
+}
+
+pub returns-then-not-branch-clause-pass : goal.returns-then-not-branch-clause-pass
+returns-then-not-branch-clause-pass g c = λ t image same.
+    let test = place_passes c.args.asked (with_serials (slice_index c.args.serials.now) (table_of (types_of image) (stored_in c.args.frames c.args.pool.now image))) in
+    let before = ap (λ (s : State). reads s.now.words) (c.loop-place.invariant.stays t) ∙ same in
+    sym (all_below-fails (FRAME_SLOTS * length c.args.pool.now) c.loop-place.place test (omega arith) (sym (c.in_ok-place_passes.ensures.pass t image before) ∙ c.if-not-branch.true))
+
+pub loop-place-preserved : goal.loop-place-preserved
+loop-place-preserved g c = record {
+  counts = c.place_passes.ensures.cause ∙ ap (λ r. after_fault (fault_of r) (g.H.Host.counts c.loop-place.h)) c.in_ok-place_passes.was ∙ c.loop-place.invariant.counts;
+  stays = λ t. c.place_passes.ensures.stays t ∙ c.loop-place.invariant.stays t;
+  passed = λ t image same.
+      let test = place_passes c.args.asked (with_serials (slice_index c.args.serials.now) (table_of (types_of image) (stored_in c.args.frames c.args.pool.now image))) in
+      let before = ap (λ (s : State). reads s.now.words) (c.loop-place.invariant.stays t) ∙ same in
+      all_below-more c.loop-place.place test (c.loop-place.invariant.passed t image same) (sym (c.in_ok-place_passes.ensures.pass t image before) ∙ c.if-not-branch.false);
+}

@@ -1,0 +1,39 @@
+use Rattle.std.proofs.Common.{◌≡◌, refl, sym, ap, ◌∙◌, arith}
+use Rattle.pm_model.specs.Words.{reads}
+use Rattle.pm_model.specs.Moments.{State}
+use Rattle.graph_read.specs.Reading.{table_in, places_in, place_in_pool}
+use Rattle.graph_read.proofs.Found.{place_from-start, place_from-here, place_from-other, place_from-end, place_of-zero}
+use Rattle.graph_read.proofs.places.find_place.Goals as goal
+
+pub returns-then-s-eq0-clause-found : goal.returns-then-s-eq0-clause-found
+returns-then-s-eq0-clause-found g c = λ t image same.
+    sym (ap (λ s. place_in_pool c.args.frames c.args.pool.now image s) c.if-s-eq0.true ∙ place_of-zero (table_in c.args.frames c.args.pool.now image) (places_in c.args.pool.now))
+
+pub returns-then-branch-s-clause-found : goal.returns-then-branch-s-clause-found
+returns-then-branch-s-clause-found g c = λ t image same.
+    let table = table_in c.args.frames c.args.pool.now image in
+    let before : reads (g.H.Host.state c.loop-place.h).now.words ≡ image = ap (λ (s : State). reads s.now.words) (c.loop-place.invariant.stays t) ∙ same in
+    let here : table.serial c.loop-place.place ≡ c.args.s = sym (c.in_ok-serial_at.ensures.serial t image before) ∙ c.if-branch-s.true in
+    sym (c.loop-place.invariant.found t image same ∙ place_from-here table (places_in c.args.pool.now) c.args.s c.loop-place.place (omega arith) (omega arith) here)
+
+pub loop-place-init : goal.loop-place-init
+loop-place-init g c = record {
+  counts = refl;
+  stays = λ t. refl;
+  found = λ t image same. place_from-start (table_in c.args.frames c.args.pool.now image) (places_in c.args.pool.now) c.args.s;
+}
+
+pub loop-place-preserved : goal.loop-place-preserved
+loop-place-preserved g c = record {
+  counts = c.in_ok-serial_at.ensures.cause ∙ c.loop-place.invariant.counts;
+  stays = λ t. c.serial_at.ensures.stays t ∙ c.loop-place.invariant.stays t;
+  found = λ t image same.
+      let table = table_in c.args.frames c.args.pool.now image in
+      let before : reads (g.H.Host.state c.loop-place.h).now.words ≡ image = ap (λ (s : State). reads s.now.words) (c.loop-place.invariant.stays t) ∙ same in
+      c.loop-place.invariant.found t image same
+      ∙ place_from-other table (places_in c.args.pool.now) c.args.s c.loop-place.place (omega arith) (λ here. c.if-branch-s.false (c.in_ok-serial_at.ensures.serial t image before ∙ here));
+}
+
+pub returns-clause-found : goal.returns-clause-found
+returns-clause-found g c = λ t image same.
+    sym (c.loop-place.invariant.found t image same ∙ place_from-end (table_in c.args.frames c.args.pool.now image) (places_in c.args.pool.now) c.args.s c.loop-place.place (omega arith))

@@ -1,0 +1,14 @@
+use Rattle.std.proofs.Common.{◌≡◌}
+use Rattle.pm_model.specs.Words.{reads}
+use Rattle.pud_defs.specs.Image.{Image}
+use Rattle.graph_read.specs.Reading.{table_in, places_in, place_in_pool}
+use Rattle.graph_read.proofs.Found.{place_from}
+use Rattle.graph_read.proofs.places.find_place.Given as goal
+
+abbrev pub invariant-loop-place : goal.invariant-loop-place
+invariant-loop-place g l = record {
+  counts : g.H.Host.counts l.h ≡ g.H.Host.counts l.initial.h;
+  stays : g.H.Host.tells → g.H.Host.state l.h ≡ g.H.Host.state l.initial.h;
+  found : g.H.Host.tells → (image : Image) → reads (g.H.Host.state l.initial.h).now.words ≡ image
+      → place_in_pool l.frames l.pool image l.s ≡ place_from (table_in l.frames l.pool image) (places_in l.pool) l.s l.place;
+}

@@ -1,0 +1,30 @@
+use Rattle.std.proofs.Common.{sym, ap, ◌∙◌, ltb, arith}
+use Rattle.std.specs.Prelude.{slice_index_or}
+use Rattle.pud_defs.specs.Graph.{slot_in}
+use Rattle.graph_read.specs.Reading.{pointee_of}
+use Rattle.graph_read.proofs.Pointed.{no_puddle, pointer-null, pointer_from-start, pointer_from-here, pointer_from-other, pointer_from-end, pointee_of-slot}
+use Rattle.graph_read.proofs.pointers.read_pointer.Goals as goal
+
+pub returns-then-value-eq0-clause-pointee : goal.returns-then-value-eq0-clause-pointee
+returns-then-value-eq0-clause-pointee c = ap pointee_of (sym (pointer-null c.args.pool.now c.args.ordinal c.args.step c.args.value c.if-value-eq0.true))
+
+pub loop-other-init : goal.loop-other-init
+loop-other-init c = record {
+  pointee = pointer_from-start c.args.pool.now c.args.ordinal c.args.step c.args.value _ c.if-value-eq0.false c.requires.known (ap (λ n. ltb n (slice_index_or c.args.pool.now c.args.ordinal no_puddle).1.frontier) c.from.ensures);
+}
+
+pub returns-in-Some-clause-pointee : goal.returns-in-Some-clause-pointee
+returns-in-Some-clause-pointee c =
+    let is = sym (ap (λ b. slot_in b c.args.value) c.base_for.ensures) ∙ sym c.slot_in.ensures.slot ∙ c.in-Some.is in
+    sym (ap pointee_of (c.loop-other.invariant.pointee ∙ pointer_from-here c.args.pool.now _ c.args.value c.loop-other.other c.in-Some.slot (omega arith) is)
+    ∙ pointee_of-slot c.loop-other.other c.in-Some.slot c.in-Some.ensures.within)
+
+pub loop-other-preserved : goal.loop-other-preserved
+loop-other-preserved c = record {
+  pointee =
+      let is = sym (ap (λ b. slot_in b c.args.value) c.base_for.ensures) ∙ sym c.slot_in.ensures.slot ∙ c.in_default.is in
+      c.loop-other.invariant.pointee ∙ pointer_from-other c.args.pool.now _ c.args.value c.loop-other.other (omega arith) is;
+}
+
+pub returns-clause-pointee : goal.returns-clause-pointee
+returns-clause-pointee c = ap pointee_of (sym (c.loop-other.invariant.pointee ∙ pointer_from-end c.args.pool.now _ c.args.value c.loop-other.other (omega arith)))

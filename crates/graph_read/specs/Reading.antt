@@ -1,0 +1,72 @@
+-- What is read of a pool: slots, pointers and fields, as its table and its graph have them.
+use Rattle.std.specs.Prelude.{◌≡◌, ℕ, ◌+◌, ◌*◌, ◌/◌, ◌%◌, ◌<◌, List, length, slice_get, Option, Some, None, option_map}
+use Rattle.pud_defs.specs.declared.space.TheConstants.{FRAME_SLOTS}
+use Rattle.pud_defs.specs.declared.records.Puddle.{Puddle}
+use Rattle.pud_defs.specs.declared.records.Slot.{Slot}
+use Rattle.pud_defs.specs.declared.objects.Val.{Val}
+use Rattle.pud_defs.specs.declared.objects.Pointee.{Pointee}
+use Rattle.pud_defs.specs.declared.objects.Pointee.TheVariants as pointees
+use Rattle.pud_defs.specs.Image.{Image}
+use Rattle.pud_defs.specs.Types.{types_of}
+use Rattle.pud_defs.specs.Stored.{stored_in}
+use Rattle.pud_defs.specs.Graph.{Table, table_of, place_of, Content, Object, object_at}
+use Rattle.pud_defs.specs.Graph.Content.{Number, Null, At, Nowhere}
+use Rattle.graph_read.specs.declared.fields.FieldRead.{FieldRead}
+use Rattle.graph_read.specs.declared.fields.FieldRead.TheVariants.{NoObject, NoField, Value}
+
+-- how many places the puddles have
+abbrev pub places_in : List (ℕ × Puddle) → ℕ
+places_in at = FRAME_SLOTS * length at
+
+-- the slots of an image's puddles as a table, by the types that are defined
+abbrev pub table_in : (F : ℕ) → List (ℕ × Puddle) → Image → Table
+table_in F at image = table_of (types_of image) (stored_in F at image)
+
+-- the lowest place whose slot has this serial
+abbrev pub place_in_pool : (F : ℕ) → List (ℕ × Puddle) → Image → ℕ → Option ℕ
+place_in_pool F at image s = place_of s (table_in F at image) (places_in at)
+
+-- the place of a slot
+abbrev pub place_at : Slot → ℕ
+place_at s = FRAME_SLOTS * s.ordinal + s.slot
+
+-- a slot of one of these puddles, in its frame
+pub record IsSlotOf (at : List (ℕ × Puddle)) (s : Slot) : Type 0 where
+  pub puddle : Puddle
+  pub there : slice_get at s.ordinal ≡ Some (s.frame, puddle)
+  pub below : s.slot < FRAME_SLOTS
+
+-- ---- pointers
+
+-- what a pointer stands for as an answer, None where it leads nowhere; a number is no pointer
+abbrev pub pointee_of : Content → Option Pointee
+pointee_of (Number v) = None
+pointee_of Null = Some pointees.Null
+pointee_of (At p) = Some (pointees.At (p / FRAME_SLOTS) (p % FRAME_SLOTS))
+pointee_of Nowhere = None
+
+-- a slot of so many puddles
+pub record IsSlotWithin (count ordinal slot : ℕ) : Type 0 where
+  pub ordinal_below : ordinal < count
+  pub slot_below : slot < FRAME_SLOTS
+
+-- a pointer leads to nothing, or to a slot of so many puddles
+abbrev pub LeadsWithin : ℕ → Pointee → Type 0
+LeadsWithin count pointees.Null = Unit {0}
+LeadsWithin count (pointees.At ordinal slot) = IsSlotWithin count ordinal slot
+
+-- ---- fields
+
+-- what is read of an object's field, where it has one
+abbrev pub read_value : Option Val → FieldRead
+read_value None = NoField
+read_value (Some v) = Value v
+
+-- what is read of field f of an object, where there is one
+abbrev pub read_by : Option Object → ℕ → FieldRead
+read_by None f = NoObject
+read_by (Some o) f = read_value (slice_get o.fields f)
+
+-- what is read of field f of the object at the lowest place that has this serial
+abbrev pub field_in : (F : ℕ) → List (ℕ × Puddle) → Image → (s f : ℕ) → FieldRead
+field_in F at image s f = read_by (option_map (object_at (table_in F at image)) (place_in_pool F at image s)) f

@@ -1,0 +1,54 @@
+//! Who holds an object.
+
+ghost use Rattle.std.specs.Prelude.{◌≡◌, ◌≢◌, ◌≤◌, ◌==◌, ◌||◌, not, Option, IfOk};
+ghost use Rattle.pm_model.specs.Words.{reads};
+ghost use Rattle.pm_model.specs.Counts.{after_fault, fault_of};
+ghost use Rattle.pud_defs.specs.Graph.{Graph, graph_of, is_held};
+ghost use Rattle.pud_defs.specs.Image.{Image};
+ghost use Rattle.pud_defs.specs.Layout.{device_words};
+ghost use Rattle.pud_defs.specs.Stored.{IsOnDevice, stored_in};
+ghost use Rattle.pud_defs.specs.Types.{types_of};
+
+use crate::asking::{Asked, places_pass};
+use crate::pointers::read_pointer;
+use crate::serials::{named, read_serials};
+use pm_model::{Host, HostFault};
+use pud_defs::layout::MAX_FRAMES;
+use pud_defs::records::Puddle;
+use puddle_header::root_value;
+
+/// Whether the root is the object with serial `s`, or the slots do not spare it.
+fn holds(root: u64, s: u64, spared: bool) -> bool
+    ensures { result ≡ (root == s || not spared) }
+{
+    root == s || !spared
+}
+
+/// Whether the root or a pointer of a live slot leads to the object with serial `s`, where the pool stores a graph: with 0 for
+/// `s`, whether one of them is null. Where the pool stores none the answer says nothing. Each serial and each field is read
+/// once.
+pub fn is_held<H: Host>(
+    h: &mut H,
+    frames: u32,
+    pool: &[(u32, Puddle)],
+    s: u64,
+) -> Result<bool, HostFault>
+    requires few { frames ≤ MAX_FRAMES }
+    requires room { device_words frames ≤ (H.counts h.old).size }
+    requires known { IsOnDevice frames pool.now }
+    ensures held { H.tells → (image : Image) → reads (H.state h.old).now.words ≡ image → (g : Graph)
+        → graph_of (types_of image) (stored_in frames pool.now image) ≡ Option.Some g → IfOk result (λ held. held ≡ is_held s g) }
+    ensures stays { H.tells → H.state h.new ≡ H.state h.old }
+    ensures cause { H.counts h.new ≡ after_fault (fault_of result) (H.counts h.old) }
+    ensures never_cut { fault_of result ≢ Option.Some HostFault.Cut }
+{
+    if pool.is_empty() {
+        return Ok(false);
+    }
+    let (first, _) = pool[0];
+    let root = root_value(h, frames, first)?;
+    let serials = read_serials(h, frames, pool)?;
+    let slots = places_pass(h, frames, pool, &serials, Asked::Spares(s))?;
+    let root = named(&serials, read_pointer(pool, 0, 0, root));
+    Ok(holds(root, s, slots))
+}

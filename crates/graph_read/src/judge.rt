@@ -1,0 +1,148 @@
+//! Whether what a pool stores is a graph.
+
+ghost use Rattle.std.specs.Prelude.{◌≡◌, ◌≢◌, ◌+◌, ◌-◌, ◌*◌, ◌<◌, ◌≤◌, ◌&&◌, slice_index, Option, is_some, IfOk};
+ghost use Rattle.std.specs.Ordering.{nat_cmp};
+ghost use Rattle.pm_model.specs.Words.{reads};
+ghost use Rattle.pm_model.specs.Counts.{after_fault, fault_of};
+ghost use Rattle.pud_defs.specs.Frames.{frame_word};
+ghost use Rattle.pud_defs.specs.Graph.{graph_of, headers_fit, is_next_serial, under_serial};
+ghost use Rattle.pud_defs.specs.Headers.{is_header};
+ghost use Rattle.pud_defs.specs.Image.{Image};
+ghost use Rattle.pud_defs.specs.Keyed.{are_distinct, is_apart};
+ghost use Rattle.pud_defs.specs.Layout.{device_words};
+ghost use Rattle.pud_defs.specs.Stored.{IsOnDevice, stored_in};
+ghost use Rattle.pud_defs.specs.Types.{types_of};
+
+use crate::asking::{Asked, places_pass};
+use crate::pointers::read_pointer;
+use crate::serials::{PLACES, Serials, read_serials};
+use pm_model::{Host, HostFault};
+use pud_defs::layout::{MAX_FRAMES, NUMBER_LIMIT};
+use pud_defs::records::Puddle;
+use pud_defs::space::{
+    FRAME_MAGIC, FRAME_MAGIC_WORD, FRAME_NUMBER_WORD, FRAME_ORDINAL_WORD, FRAME_SLOTS,
+};
+use puddle_header::{frame_magic, frame_number, frame_ordinal, next_serial, root_value};
+
+/// Whether a header of these words is that of the puddle with this UUID number and ordinal.
+fn is_header(given: u64, place: u32, magic: u64, number: u64, ordinal: u64) -> bool
+    ensures { result ≡ is_header given place magic number ordinal }
+{
+    magic == FRAME_MAGIC && number == given && ordinal == u64::from(place)
+}
+
+/// Whether the frame has the header of the puddle with this UUID number and ordinal.
+fn header_fits<H: Host>(
+    h: &mut H,
+    frames: u32,
+    frame: u32,
+    given: u64,
+    place: u32,
+) -> Result<bool, HostFault>
+    requires few { frames ≤ MAX_FRAMES }
+    requires room { device_words frames ≤ (H.counts h.old).size }
+    requires known { frame < frames }
+    ensures fits { H.tells → (image : Image) → reads (H.state h.old).now.words ≡ image
+        → IfOk result (λ fits. fits ≡ is_header given place (frame_word frames frame FRAME_MAGIC_WORD image) (frame_word frames frame FRAME_NUMBER_WORD image) (frame_word frames frame FRAME_ORDINAL_WORD image)) }
+    ensures stays { H.tells → H.state h.new ≡ H.state h.old }
+    ensures cause { H.counts h.new ≡ after_fault (fault_of result) (H.counts h.old) }
+    ensures never_cut { fault_of result ≢ Option.Some HostFault.Cut }
+{
+    let magic = frame_magic(h, frames, frame)?;
+    let number = frame_number(h, frames, frame)?;
+    let ordinal = frame_ordinal(h, frames, frame)?;
+    Ok(is_header(given, place, magic, number, ordinal))
+}
+
+/// Whether each frame of a pool has the header of its puddle.
+fn headers_fit<H: Host>(h: &mut H, frames: u32, pool: &[(u32, Puddle)]) -> Result<bool, HostFault>
+    requires few { frames ≤ MAX_FRAMES }
+    requires room { device_words frames ≤ (H.counts h.old).size }
+    requires known { IsOnDevice frames pool.now }
+    ensures fit { H.tells → (image : Image) → reads (H.state h.old).now.words ≡ image → IfOk result (λ fit. fit ≡ headers_fit (stored_in frames pool.now image)) }
+    ensures stays { H.tells → H.state h.new ≡ H.state h.old }
+    ensures cause { H.counts h.new ≡ after_fault (fault_of result) (H.counts h.old) }
+    ensures never_cut { fault_of result ≢ Option.Some HostFault.Cut }
+{
+    for ordinal in 0..pool.len() as u32 {
+        let (frame, puddle) = pool[ordinal as usize];
+        if !header_fits(h, frames, frame, puddle.number, ordinal)? {
+            return Ok(false);
+        }
+    }
+    Ok(true)
+}
+
+/// Whether a place is free, or none of the later places of so many has its serial.
+fn is_last(serials: &Serials, count: usize, place: usize) -> bool
+    requires within { count ≤ PLACES }
+    requires below { place < count }
+    ensures { result ≡ is_apart nat_cmp (under_serial (slice_index serials.now) (λ p. p) place) (under_serial (slice_index serials.now) (λ p. p)) (place + 1) (count - (place + 1)) }
+{
+    let serial = serials[place];
+    serial == 0 || !serials[place + 1..count].contains(&serial)
+}
+
+/// Whether no two live places of so many have one serial.
+fn are_distinct(serials: &Serials, count: usize) -> bool
+    requires within { count ≤ PLACES }
+    ensures { result ≡ are_distinct nat_cmp (under_serial (slice_index serials.now) (λ p. p)) 0 count }
+{
+    for place in 0..count {
+        if !is_last(serials, count, place) {
+            return false;
+        }
+    }
+    true
+}
+
+/// Whether the word may be a next serial, from 1 to 2^63.
+fn is_next_serial(v: u64) -> bool
+    ensures { result ≡ is_next_serial v }
+{
+    v >= 1 && v <= NUMBER_LIMIT
+}
+
+/// Whether these hold together: the headers fit, the next serial is one, the root stands, no serial stands twice, and each
+/// slot is sound.
+fn are_all(headers: bool, next: bool, root: bool, distinct: bool, slots: bool) -> bool
+    ensures { result ≡ (headers && (next && root && distinct && slots)) }
+{
+    headers && next && root && distinct && slots
+}
+
+/// Whether what a pool stores is a graph: each frame has the header of its puddle, the next serial is from 1 to 2^63, the
+/// root is null or leads to a live slot, no two live slots have one serial, and each live slot has a serial below the next
+/// one, a type that is defined, and no pointer but to live slots and null. A pool without puddles stores none.
+pub fn pool_is_sound<H: Host>(
+    h: &mut H,
+    frames: u32,
+    pool: &[(u32, Puddle)],
+) -> Result<bool, HostFault>
+    requires few { frames ≤ MAX_FRAMES }
+    requires room { device_words frames ≤ (H.counts h.old).size }
+    requires known { IsOnDevice frames pool.now }
+    ensures sound { H.tells → (image : Image) → reads (H.state h.old).now.words ≡ image
+        → IfOk result (λ sound. sound ≡ is_some (graph_of (types_of image) (stored_in frames pool.now image))) }
+    ensures stays { H.tells → H.state h.new ≡ H.state h.old }
+    ensures cause { H.counts h.new ≡ after_fault (fault_of result) (H.counts h.old) }
+    ensures never_cut { fault_of result ≢ Option.Some HostFault.Cut }
+{
+    if pool.is_empty() {
+        return Ok(false);
+    }
+    let (first, _) = pool[0];
+    let headers = headers_fit(h, frames, pool)?;
+    let next = next_serial(h, frames, first)?;
+    let root = root_value(h, frames, first)?;
+    let serials = read_serials(h, frames, pool)?;
+    let asked = Asked::IsSound(next);
+    let slots = places_pass(h, frames, pool, &serials, asked)?;
+    Ok(are_all(
+        headers,
+        is_next_serial(next),
+        asked.passes(&serials, read_pointer(pool, 0, 0, root)),
+        are_distinct(&serials, FRAME_SLOTS as usize * pool.len()),
+        slots,
+    ))
+}

@@ -1,0 +1,22 @@
+//! The graph of a pool, read from the words of its frames: where an object stands, where a pointer leads, what a field
+//! holds. No memory is taken.
+//!
+//! Each call takes the number of the device's frames, at most 1,024, on a device that has the words which so many frames
+//! need, and the pool: the frames and the records of its puddles by their ordinals, at most 16. It answers on every content
+//! of the device. Nothing changes, and the only errors are the host's own.
+#![tactic(auto)]
+
+mod asking;
+mod fields;
+mod holders;
+mod judge;
+mod places;
+mod pointers;
+mod serials;
+mod types;
+
+pub use fields::{FieldRead, read_field};
+pub use holders::is_held;
+pub use judge::pool_is_sound;
+pub use places::{find_place, find_serial};
+pub use pointers::read_pointer;

@@ -1,0 +1,110 @@
+//! Where an object stands: the lowest place of a pool whose slot has a serial.
+//!
+//! A place is a slot of a puddle, counted over the puddles by their ordinals: 62 times the ordinal, and the slot.
+
+ghost use Rattle.std.specs.Prelude.{◌≡◌, ◌≢◌, ◌*◌, ◌<◌, ◌≤◌, length, Option, IfOk, IfSome, is_none, option_map};
+ghost use Rattle.pm_model.specs.Words.{Image, reads};
+ghost use Rattle.pm_model.specs.Counts.{after_fault, fault_of};
+ghost use Rattle.pud_defs.specs.declared.records.Slot.{Slot};
+ghost use Rattle.pud_defs.specs.Layout.{device_words};
+ghost use Rattle.pud_defs.specs.Types.{types_of};
+ghost use Rattle.pud_defs.specs.Stored.{IsOnDevice, stored_in};
+ghost use Rattle.pud_defs.specs.Graph.{Graph, table_of, place_of, graph_of, object_in};
+ghost use Rattle.graph_read.specs.Reading.{table_in, places_in, place_in_pool, place_at, IsSlotOf};
+
+use pm_model::{Host, HostFault};
+use pud_defs::layout::MAX_FRAMES;
+use pud_defs::records::{Puddle, Slot};
+use pud_defs::space::FRAME_SLOTS;
+use puddle_header::slot_serial;
+
+/// The slot at a place.
+pub(crate) fn slot_at_place(pool: &[(u32, Puddle)], place: u32) -> Slot
+    requires { place < places_in pool.now }
+    ensures place { place_at result ≡ place }
+    ensures within { IsSlotOf pool.now result }
+{
+    let ordinal = place / FRAME_SLOTS;
+    let (frame, _) = pool[ordinal as usize];
+    Slot {
+        frame,
+        ordinal,
+        slot: place % FRAME_SLOTS,
+    }
+}
+
+/// The serial at a place, 0 where the place is free.
+pub(crate) fn serial_at<H: Host>(
+    h: &mut H,
+    frames: u32,
+    pool: &[(u32, Puddle)],
+    place: u32,
+) -> Result<u64, HostFault>
+    requires few { frames ≤ MAX_FRAMES }
+    requires room { device_words frames ≤ (H.counts h.old).size }
+    requires known { IsOnDevice frames pool.now }
+    requires within { place < places_in pool.now }
+    ensures serial { H.tells → (image : Image) → reads (H.state h.old).now.words ≡ image → IfOk result (λ v. v ≡ (table_in frames pool.now image).serial place) }
+    ensures stays { H.tells → H.state h.new ≡ H.state h.old }
+    ensures cause { H.counts h.new ≡ after_fault (fault_of result) (H.counts h.old) }
+    ensures never_cut { fault_of result ≢ Option.Some HostFault.Cut }
+{
+    let at = slot_at_place(pool, place);
+    slot_serial(h, frames, at.frame, at.slot)
+}
+
+/// The lowest place of the pool whose slot has serial `s`, or None exactly where none has, or `s` is 0. Each place is read
+/// once at most.
+pub fn find_place<H: Host>(
+    h: &mut H,
+    frames: u32,
+    pool: &[(u32, Puddle)],
+    s: u64,
+) -> Result<Option<u32>, HostFault>
+    requires few { frames ≤ MAX_FRAMES }
+    requires room { device_words frames ≤ (H.counts h.old).size }
+    requires known { IsOnDevice frames pool.now }
+    ensures found { H.tells → (image : Image) → reads (H.state h.old).now.words ≡ image
+        → IfOk result (λ found. found ≡ place_in_pool frames pool.now image s) }
+    ensures within { IfOk result (λ found. IfSome found (λ p. p < places_in pool.now)) }
+    ensures stays { H.tells → H.state h.new ≡ H.state h.old }
+    ensures cause { H.counts h.new ≡ after_fault (fault_of result) (H.counts h.old) }
+    ensures never_cut { fault_of result ≢ Option.Some HostFault.Cut }
+{
+    if s == 0 {
+        return Ok(None);
+    }
+    for place in 0..FRAME_SLOTS * pool.len() as u32 {
+        if serial_at(h, frames, pool, place)? == s {
+            return Ok(Some(place));
+        }
+    }
+    Ok(None)
+}
+
+/// The slot of the live object of serial `s`, or None exactly where no live object has it. Of several slots with the serial
+/// it is that of the lowest place.
+pub fn find_serial<H: Host>(
+    h: &mut H,
+    frames: u32,
+    pool: &[(u32, Puddle)],
+    s: u64,
+) -> Result<Option<Slot>, HostFault>
+    requires few { frames ≤ MAX_FRAMES }
+    requires room { device_words frames ≤ (H.counts h.old).size }
+    requires known { IsOnDevice frames pool.now }
+    ensures found { H.tells → (image : Image) → reads (H.state h.old).now.words ≡ image
+        → IfOk result (λ found. option_map place_at found ≡ place_in_pool frames pool.now image s) }
+    ensures object { H.tells → (image : Image) → reads (H.state h.old).now.words ≡ image
+        → (g : Graph) → graph_of (types_of image) (stored_in frames pool.now image) ≡ Option.Some g
+        → IfOk result (λ found. is_none found ≡ is_none (object_in s g)) }
+    ensures within { IfOk result (λ found. IfSome found (IsSlotOf pool.now)) }
+    ensures stays { H.tells → H.state h.new ≡ H.state h.old }
+    ensures cause { H.counts h.new ≡ after_fault (fault_of result) (H.counts h.old) }
+    ensures never_cut { fault_of result ≢ Option.Some HostFault.Cut }
+{
+    match find_place(h, frames, pool, s)? {
+        Some(place) => Ok(Some(slot_at_place(pool, place))),
+        None => Ok(None),
+    }
+}

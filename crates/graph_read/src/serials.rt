@@ -1,0 +1,58 @@
+//! The serials of a pool's slots, each read once.
+
+ghost use Rattle.std.specs.Prelude.{◌≡◌, ◌≢◌, ◌≤◌, slice_index, Option, IfOk};
+ghost use Rattle.pm_model.specs.Words.{reads};
+ghost use Rattle.pm_model.specs.Counts.{after_fault, fault_of};
+ghost use Rattle.pud_defs.specs.Graph.{named_by};
+ghost use Rattle.pud_defs.specs.Image.{Image};
+ghost use Rattle.pud_defs.specs.Layout.{device_words};
+ghost use Rattle.pud_defs.specs.Stored.{IsOnDevice, stored_in};
+ghost use Rattle.graph_read.specs.Asking.{content_of, serials_in};
+
+use crate::places::serial_at;
+use pm_model::{Host, HostFault};
+use pud_defs::layout::MAX_FRAMES;
+use pud_defs::objects::Pointee;
+use pud_defs::records::{MAX_PUDDLES, Puddle};
+use pud_defs::space::FRAME_SLOTS;
+
+/// How many places a pool has at most. A place is a slot of a puddle, counted over the puddles by their ordinals.
+pub(crate) const PLACES: usize = (MAX_PUDDLES * FRAME_SLOTS) as usize;
+
+/// The serials of a pool by place, 0 where a place is free, and behind the last place.
+pub(crate) type Serials = [u64; PLACES];
+
+/// The serials of a pool.
+pub(crate) fn read_serials<H: Host>(
+    h: &mut H,
+    frames: u32,
+    pool: &[(u32, Puddle)],
+) -> Result<Serials, HostFault>
+    requires few { frames ≤ MAX_FRAMES }
+    requires room { device_words frames ≤ (H.counts h.old).size }
+    requires known { IsOnDevice frames pool.now }
+    ensures serials { H.tells → (image : Image) → reads (H.state h.old).now.words ≡ image
+        → IfOk result (λ serials. slice_index serials ≡ serials_in (stored_in frames pool.now image)) }
+    ensures stays { H.tells → H.state h.new ≡ H.state h.old }
+    ensures cause { H.counts h.new ≡ after_fault (fault_of result) (H.counts h.old) }
+    ensures never_cut { fault_of result ≢ Option.Some HostFault.Cut }
+{
+    let mut serials = [0; PLACES];
+    for place in 0..FRAME_SLOTS * pool.len() as u32 {
+        serials[place as usize] = serial_at(h, frames, pool, place)?;
+    }
+    Ok(serials)
+}
+
+/// The serial of the object that a pointer leads to, 0 where it leads to none.
+pub(crate) fn named(serials: &Serials, pointee: Option<Pointee>) -> u64
+    ensures { result ≡ named_by (slice_index serials.now) (content_of pointee) }
+{
+    match pointee {
+        Some(Pointee::At { ordinal, slot }) => {
+            let place = FRAME_SLOTS as usize * ordinal as usize + slot as usize;
+            serials.get(place).copied().unwrap_or(0)
+        }
+        Some(Pointee::Null) | None => 0,
+    }
+}
