@@ -1,15 +1,17 @@
-//! Addresses, free bases, and the headers and slots of frames.
+//! Addresses, free bases, the headers and slots of frames, and the puddles of one pool.
 use pm_mem::{MemHost, Plan};
 use pm_model::{Host, HostFault};
-use pud_defs::layout::{MIN_FRAMES, device_words};
+use pud_defs::layout::{MIN_FRAMES, device_words, tables_end};
+use pud_defs::records::Puddle;
 use puddle_header::{
     frame_magic, frame_number, frame_ordinal, header_fits, next_serial, root_value, slot_field,
     slot_serial, slot_type,
 };
 use puddle_space::{free_base, locate};
+use puddle_table::{Puddles, find_places};
 use std::alloc::Global;
 use std::process::Abort;
-use test_device::{blank_device, failures, poke};
+use test_device::{blank_device, failures, poke, zero_device};
 
 /// A word and its value.
 type Row = (u32, u64);
@@ -240,5 +242,105 @@ fn a_failing_load_is_told(rt: HostRuntime) {
         let plan = failures(alloc, &[call]).expect(&rt, "memory");
         let mut host = device(&rt, alloc, plan, &words);
         assert!(rt; fits(&rt, &mut host) == FAULT);
+    }
+}
+
+/// How many frames the devices have whose pools are read.
+const FRAMES: u32 = 20;
+
+/// A frame, and the slot of the pool and the ordinal whose puddle stands in it.
+type Member = (u32, u32, u32);
+
+/// The puddle that stands in a frame. Its frontier is more than a number of 32 bits.
+fn puddle_in(rt: &impl Abort, frame: u32) -> (u32, Puddle) {
+    assert!(rt; frame < FRAMES);
+    let place = u64::from(frame);
+    let puddle = Puddle {
+        number: place + 100,
+        base: START + RANGE * place,
+        old_base: START + RANGE * place + 8,
+        frontier: place + (1 << 40),
+    };
+    (frame, puddle)
+}
+
+/// Puts the record of a frame.
+fn put_puddle(rt: &impl Abort, host: &mut MemHost, (frame, slot, ordinal): Member) {
+    assert!(rt; frame < FRAMES && slot < 32);
+    let (_, puddle) = puddle_in(rt, frame);
+    let at = 1_536 + 8 * frame;
+    assert!(rt;
+        poke(
+            host,
+            &[
+                (at, u64::from(slot + 1) + (u64::from(ordinal) << 32)),
+                (at + 1, puddle.number),
+                (at + 2, puddle.base),
+                (at + 3, puddle.old_base),
+                (at + 4, puddle.frontier),
+            ]
+        )
+    );
+}
+
+/// The puddles of the pool of this slot.
+fn puddles<H: Host>(rt: &impl Abort, host: &mut H, slot: u32) -> Result<Puddles, HostFault> {
+    assert!(rt; tables_end(FRAMES) <= host.words());
+    let places = find_places(host, FRAMES)?;
+    assert!(rt; slot < 32 && tables_end(FRAMES) <= host.words());
+    places.of_pool(host, slot)
+}
+
+/// The pool of this slot has to have the puddles of these frames, in this order.
+fn has_puddles<H: Host>(rt: &impl Abort, host: &mut H, slot: u32, frames: &[u32]) {
+    let found = puddles(rt, host, slot).ok().expect(rt, "no call fails");
+    assert!(rt; found.as_slice().len() == frames.len(), "slot {slot}");
+    for (puddle, frame) in found.as_slice().iter().zip(frames) {
+        assert!(rt; *puddle == puddle_in(rt, *frame), "frame {frame}");
+    }
+}
+
+#[test]
+fn the_puddles_of_a_pool_come_by_their_ordinals(rt: HostRuntime) {
+    let alloc = rt.alloc();
+    let two: [Member; 4] = [(5, 1, 0), (2, 1, 2), (9, 1, 1), (4, 31, 0)];
+    let rows: [(&[Member], u32, &[u32]); 9] = [
+        (&[], 0, &[]),
+        (&[(3, 0, 0)], 0, &[3]),
+        (&[(3, 0, 0)], 1, &[]),
+        (&two, 1, &[5, 9, 2]),
+        (&two, 31, &[4]),
+        (&two, 0, &[]),
+        (&[(5, 1, 0), (2, 1, 2)], 1, &[5]),
+        (&[(2, 1, 1), (3, 1, 2)], 1, &[]),
+        (&[(7, 1, 0), (6, 1, 0), (19, 1, 1)], 1, &[6, 19]),
+    ];
+    for (members, slot, frames) in rows {
+        let plan = Plan::none(alloc);
+        let mut host = zero_device(alloc, tables_end(FRAMES), b"", plan).expect(&rt, "memory");
+        for member in members {
+            put_puddle(&rt, &mut host, *member);
+        }
+        has_puddles(&rt, &mut host, slot, frames);
+    }
+}
+
+// The calls up to number 20 load a word of each frame's record, and those up to 84 four words of each of 16 puddles. What
+// would be ordinal 16 is none of the pool's.
+#[test]
+fn sixteen_puddles_take_four_loads_each(rt: HostRuntime) {
+    let alloc = rt.alloc();
+    let frames = [19, 18, 17, 16, 15, 14, 13, 12, 11, 10, 9, 8, 7, 6, 5, 4];
+    for call in [1, 20, 21, 24, 25, 83, 84, 85] {
+        let plan = failures(alloc, &[call]).expect(&rt, "memory");
+        let mut host = zero_device(alloc, tables_end(FRAMES), b"", plan).expect(&rt, "memory");
+        for ordinal in 0..17 {
+            put_puddle(&rt, &mut host, (19 - ordinal, 3, ordinal));
+        }
+        if call == 85 {
+            has_puddles(&rt, &mut host, 3, &frames);
+        } else {
+            assert!(rt; puddles(&rt, &mut host, 3).is_err(), "{call}");
+        }
     }
 }

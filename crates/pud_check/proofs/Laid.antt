@@ -1,13 +1,10 @@
 -- The text of what sound tables list, which is that of the pools and puddles that they stand for.
-use Rattle.std.proofs.Common.{◌≡◌, ℕ, zero, suc, ◌+◌, ◌%◌, ◌^◌, ◌<◌, ◌≤◌, Bool, true, false, ◌&&◌, ◌||◌, cond, leb, ltb, eqb, List, [], ◌∷◌, ◌++◌, map, length, nat_cmp, Option, Some, None, option_map, is_none, refl, sym, ap, ap₂, ◌∙◌, subst, arith, eqb-true, eq-eqb, ne_eqb, leb-true, true≢false}
+use Rattle.std.proofs.Common.{◌≡◌, ℕ, zero, suc, ◌+◌, ◌%◌, ◌^◌, ◌<◌, ◌≤◌, true, ◌&&◌, ltb, eqb, List, [], ◌∷◌, ◌++◌, map, length, nat_cmp, Option, Some, None, option_map, refl, sym, ap, ap₂, ◌∙◌, subst, arith, eqb-true}
 use Rattle.std.specs.List.{AllByRecursion, flat_map, range_with_len}
-use Rattle.std.specs.declared.cmp.Ordering.TheVariants.{Equal}
-use Rattle.std.specs.Ordering.{is_eq, eq_by_cmp}
 use Rattle.std.specs.FinMap.Entries.{find}
-use Rattle.std.proofs.lemmas.Bool.{and_parts, cond-true, cond-false}
-use Rattle.std.specs.Cmp.{unsigned_tied}
+use Rattle.std.proofs.lemmas.Bool.{and_parts}
 use Rattle.std.proofs.lemmas.List.Folds.{flat_map-map}
-use Rattle.std.proofs.lemmas.Option.{none-some, same_Some}
+use Rattle.std.proofs.lemmas.Option.{none-some}
 use Rattle.pud_defs.specs.declared.records.TheConstants.{POOL_RECORDS, MAX_PUDDLES}
 use Rattle.pud_defs.specs.declared.records.PoolRec.{PoolRec}
 use Rattle.pud_defs.specs.declared.records.Puddle.{Puddle}
@@ -16,11 +13,15 @@ use Rattle.pud_defs.specs.Keyed.{count_used}
 use Rattle.pud_defs.specs.LayoutText.{frames_line, pool_line, puddle_line, pool_lines, tables_text}
 use Rattle.pud_defs.specs.Pools.{is_given, pool_read}
 use Rattle.pud_defs.specs.Puddles.{Member, is_legal_puddle, puddle_read}
-use Rattle.pud_defs.specs.SoundTables.{is_pool, is_sound_pool, is_sound_puddle, count_up, are_counted, HasSoundTables}
+use Rattle.pud_defs.specs.SoundTables.{is_pool, is_sound_pool, is_sound_puddle, count_up, HasSoundTables}
 use Rattle.pud_defs.specs.Tables.{Tables, member_of, members, puddles_of, records_of}
+use Rattle.pud_defs.proofs.Keyed.{chosen_some}
 use Rattle.pud_defs.proofs.KeyedEach.{each-keyed, flat_map-each, each-weaker}
+use Rattle.pud_defs.proofs.PoolsCounted.{few_members}
+use Rattle.pud_defs.proofs.PuddlesListed.{passed_by, found_in_front}
 use Rattle.pud_defs.proofs.RecordsPlaced.{IsPlaced, each_placed, legal_mode, mode_read}
-use Rattle.pud_defs.proofs.SoundChanged.{legal_pool, legal_puddle, counted_puddles}
+use Rattle.pud_defs.proofs.SoundChanged.{legal_pool, legal_puddle}
+use Rattle.pud_defs.proofs.TypeLists.{same_number}
 use Rattle.pud_check.specs.LayoutListed.{line_found, puddles_listed, pool_listed, listed_layout}
 
 -- ---- what is found at each of so many ordinals, one after the other
@@ -35,11 +36,9 @@ module _ {X A : Type 0} (text : ℕ → Option X → List A) where
   none_found none from (suc count) = ap₂ (λ a b. a ++ b) (none from) (none_found none (from + 1) count)
 
   -- an entry in front of all of them is found at none
-  passed_by : (e : ℕ × X) (es : List (ℕ × X)) (from count : ℕ) → e.0 < from → texts_found (e ∷ es) from count ≡ texts_found es from count
-  passed_by e es from zero before = refl
-  passed_by e es from (suc count) before =
-      let other : eq_by_cmp nat_cmp from e.0 ≡ false = unsigned_tied from e.0 ∙ ne_eqb from e.0 (λ same. absurd (omega arith)) in
-      ap₂ (λ (o : Option X) b. text from o ++ b) (cond-false _ _ _ other) (passed_by e es (from + 1) count (omega arith))
+  found_behind : (e : ℕ × X) (es : List (ℕ × X)) (from count : ℕ) → e.0 < from → texts_found (e ∷ es) from count ≡ texts_found es from count
+  found_behind e es from zero before = refl
+  found_behind e es from (suc count) before = ap₂ (λ (o : Option X) b. text from o ++ b) (passed_by from e es before) (found_behind e es (from + 1) count (omega arith))
 
   -- entries whose keys go up by one are found in turn
   found_in_turn : ((i : ℕ) → text i None ≡ []) → (es : List (ℕ × X)) (from count : ℕ) → count_up from (map (λ e. e.0) es) ≡ true → length es ≤ count → texts_found es from count ≡ flat_map (λ e. text e.0 (Some e.1)) es
@@ -49,29 +48,17 @@ module _ {X A : Type 0} (text : ℕ → Option X → List A) where
   found_in_turn none (e ∷ es) from (suc count) up few =
       let parts = and_parts (eqb e.0 from) (count_up (from + 1) (map (λ d. d.0) es)) up in
       let first : e.0 ≡ from = eqb-true e.0 from parts.0 in
-      let here : eq_by_cmp nat_cmp from e.0 ≡ true = unsigned_tied from e.0 ∙ eq-eqb from e.0 (sym first) in
       ap₂ (λ a b. a ++ b)
-      (ap (text from) (cond-true _ _ _ here) ∙ ap (λ i. text i (Some e.1)) (sym first))
-      (passed_by e es (from + 1) count (omega arith) ∙ found_in_turn none es (from + 1) count parts.1 (omega arith))
+      (ap (text from) (found_in_front from e es first) ∙ ap (λ i. text i (Some e.1)) (sym first))
+      (found_behind e es (from + 1) count (omega arith) ∙ found_in_turn none es (from + 1) count parts.1 (omega arith))
 
 -- ---- the puddles of a sound pool
-
-or_right : (a b : Bool) → (a || b) ≡ true → a ≡ false → b ≡ true
-or_right true b h e = absurd (true≢false e)
-or_right false b h e = h
 
 frontier_read : (next : ℕ) (p : Puddle) → is_legal_puddle next p ≡ true → p.frontier % 2 ^ 32 ≡ p.frontier
 frontier_read next p legal =
     let last = and_parts (is_given next p.number && is_legal_base p.base && is_legal_base p.old_base) (is_legal_frontier p.frontier) legal in
-    let few = leb-true p.frontier 63 last.1 in
-    omega arith
-
-of_pool : (b : Bool) (d e : ℕ × (ℕ × Puddle)) → cond b (Some d) None ≡ Some e → d ≡ e
-of_pool true d e is = same_Some d e is
-of_pool false d e is = absurd (none-some e is)
-
-same_number : (n m : ℕ) → nat_cmp n m ≡ Equal → n ≡ m
-same_number n m tied = eqb-true n m (sym (unsigned_tied n m) ∙ ap is_eq tied)
+    let all = eqb-true p.frontier 63 last.1 in
+    omega (arith, all)
 
 module _ (next : ℕ) (t : Tables) (sound : HasSoundTables next t) (id : ℕ) where
   -- the frontier of an entry is read as it is
@@ -82,7 +69,7 @@ module _ (next : ℕ) (t : Tables) (sound : HasSoundTables next t) (id : ℕ) wh
   as_is slot frame None legal e is = absurd (none-some e is)
   as_is slot frame (Some m) legal e is =
       let last = and_parts (is_pool t m.pool && ltb m.ordinal MAX_PUDDLES) (is_legal_puddle next m.puddle) legal in
-      let same : (m.ordinal, (frame, m.puddle)) ≡ e = of_pool (eqb m.pool (slot + 1)) (m.ordinal, (frame, m.puddle)) e is in
+      let same : (m.ordinal, (frame, m.puddle)) ≡ e = chosen_some (eqb m.pool (slot + 1)) (m.ordinal, (frame, m.puddle)) e is in
       subst IsReadAsIs same (frontier_read next m.puddle last.1)
 
   each_as_is : (slot : ℕ) → AllByRecursion IsReadAsIs (puddles_of t slot)
@@ -101,10 +88,8 @@ module _ (next : ℕ) (t : Tables) (sound : HasSoundTables next t) (id : ℕ) wh
   puddles_laid : (slot : ℕ) (r : PoolRec) → slot < POOL_RECORDS → t.pools slot ≡ Some r → puddles_listed id t slot ≡ flat_map (puddle_line id) (puddles_of t slot)
   unfolding puddles_listed
   puddles_laid slot r below used =
-      let counted = or_right (is_none (t.pools slot)) (are_counted (puddles_of t slot)) (counted_puddles next t sound slot below) (ap is_none used) in
-      let parts = and_parts (leb 1 (length (puddles_of t slot)) && leb (length (puddles_of t slot)) MAX_PUDDLES) (count_up 0 (map (λ p. p.0) (puddles_of t slot))) counted in
-      let few = and_parts (leb 1 (length (puddles_of t slot))) (leb (length (puddles_of t slot)) MAX_PUDDLES) parts.0 in
-      found_in_turn (line_read slot) (λ i. refl) (puddles_of t slot) 0 MAX_PUDDLES parts.1 (leb-true (length (puddles_of t slot)) MAX_PUDDLES few.1)
+      let few = few_members next t sound slot r below used in
+      found_in_turn (line_read slot) (λ i. refl) (puddles_of t slot) 0 MAX_PUDDLES few.ordinals few.few
       ∙ flat_map-each (λ e. line_read slot e.0 (Some e.1)) (puddle_line id) (puddles_of t slot) (each-weaker IsReadAsIs _ (puddles_of t slot) (line_as_is slot) (each_as_is slot))
 
   pool_laid : (e : List ℕ × (ℕ × PoolRec)) → IsPlaced t e → pool_listed id t (e.1.0, pool_read e.1.1) ≡ pool_lines id t e.1

@@ -40,6 +40,10 @@ chosen : {A : Type 0} (b : Bool) (x : A) (later : Option A) → cond b (Some x) 
 chosen true x later = refl
 chosen false x later = refl
 
+pub chosen_some : {A : Type 0} (b : Bool) (x y : A) → cond b (Some x) None ≡ Some y → x ≡ y
+chosen_some true x y e = same_Some x y e
+chosen_some false x y e = absurd (none-some y e)
+
 -- ---- keys that tie
 
 module _ {K : Type 0} {R : K → K → Ordering} (o : IsTotalOrder R) where

@@ -14,6 +14,7 @@ pub mod PoolsChanged
 pub mod SoundChanged
 pub mod RecordsPlaced
 pub mod PoolsCounted
+pub mod PuddlesListed
 pub mod Images
 pub mod TypeLists
 pub mod TypeTable

@@ -1,5 +1,5 @@
 -- How many pools there are, how many puddles each has, and how many all have together.
-use Rattle.std.proofs.Common.{◌≡◌, inl, inr, ℕ, zero, suc, ◌+◌, ◌-◌, ◌<◌, ◌≤◌, Bool, true, false, not, cond, ◌&&◌, ◌||◌, leb, ltb, eqb, List, [], ◌∷◌, length, sum_by, Option, Some, None, nat_cmp, is_some, is_none, refl, sym, ap, ap₂, ◌∙◌, arith, ne_eqb, eq-eqb, true≢false, zero-add}
+use Rattle.std.proofs.Common.{◌≡◌, inl, inr, ℕ, zero, suc, ◌+◌, ◌-◌, ◌<◌, ◌≤◌, Bool, true, false, not, cond, ◌&&◌, ◌||◌, leb, ltb, eqb, List, [], ◌∷◌, map, length, sum_by, Option, Some, None, nat_cmp, is_some, is_none, refl, sym, ap, ap₂, ◌∙◌, arith, ne_eqb, eq-eqb, true≢false, zero-add}
 use Rattle.std.specs.declared.cmp.Ordering.{Ordering}
 use Rattle.std.specs.declared.cmp.Ordering.TheVariants.{Less, Equal, Greater}
 use Rattle.std.specs.Ordering.{is_eq}
@@ -17,7 +17,7 @@ use Rattle.pud_defs.specs.Names.{name_cmp}
 use Rattle.pud_defs.specs.Keyed.{put_entry, keyed, count_used}
 use Rattle.pud_defs.specs.Puddles.{Member, is_legal_puddle}
 use Rattle.pud_defs.specs.Tables.{Tables, Pool, Reader, member_of, members, puddles_of, pool_of, entries, pools_of}
-use Rattle.pud_defs.specs.SoundTables.{is_pool, is_sound_puddle, are_counted, HasSoundTables}
+use Rattle.pud_defs.specs.SoundTables.{is_pool, is_sound_puddle, count_up, are_counted, HasSoundTables}
 use Rattle.pud_defs.proofs.Keyed.{HasDistinctKeys, find-keyed, first_from_none, length-keyed}
 use Rattle.pud_defs.proofs.PoolsChanged.{distinct_entries, entry_of}
 use Rattle.pud_defs.proofs.SoundChanged.{distinct_names, distinct_ordinals, counted_puddles, legal_puddle}
@@ -113,10 +113,11 @@ length_pools hold next t h =
     length-keyed name_cmp nat_list_cmp_total (entries hold t) 0 POOL_RECORDS (distinct_entries hold t (distinct_names next t h))
     ∙ count_used-same (entries hold t) t.pools 0 POOL_RECORDS (λ j low high. entry_used hold (puddles_of t j) (t.pools j))
 
--- a pool has from 1 to 16 puddles
+-- a pool has from 1 to 16 puddles, with the ordinals from 0 on
 pub record HasFewPuddles (t : Tables) (slot : ℕ) : Type 0 where
   pub some : 1 ≤ length (puddles_of t slot)
   pub few : length (puddles_of t slot) ≤ MAX_PUDDLES
+  pub ordinals : count_up 0 (map (λ p. p.0) (puddles_of t slot)) ≡ true
 
 or_right : (a b : Bool) → (a || b) ≡ true → a ≡ false → b ≡ true
 or_right true b h e = absurd (true≢false e)
@@ -127,7 +128,7 @@ few_members next t h slot r below used =
     let counted = or_right (is_none (t.pools slot)) (are_counted (puddles_of t slot)) (counted_puddles next t h slot below) (ap is_none used) in
     let parts = and_parts (leb 1 (length (puddles_of t slot)) && leb (length (puddles_of t slot)) MAX_PUDDLES) _ counted in
     let both = and_parts (leb 1 (length (puddles_of t slot))) (leb (length (puddles_of t slot)) MAX_PUDDLES) parts.0 in
-    record { some = leb-true 1 (length (puddles_of t slot)) both.0; few = leb-true (length (puddles_of t slot)) MAX_PUDDLES both.1 }
+    record { some = leb-true 1 (length (puddles_of t slot)) both.0; few = leb-true (length (puddles_of t slot)) MAX_PUDDLES both.1; ordinals = parts.1 }
 
 -- ---- the puddles of all pools
 

@@ -1,8 +1,8 @@
 -- All that is read of the pool table and the puddle table, and the pools that they stand for.
-use Rattle.std.specs.Prelude.{ℕ, ◌+◌, nat_lt, ◌==◌, cond, List, length, map, Option, Some, None, option_map}
+use Rattle.std.specs.Prelude.{ℕ, zero, suc, ◌+◌, nat_lt, ◌==◌, cond, List, [], ◌∷◌, length, map, Option, Some, None, option_map}
 use Rattle.std.specs.Ordering.{nat_cmp}
 use Rattle.std.specs.FinMap.Entries.{find}
-use Rattle.pud_defs.specs.declared.records.TheConstants.{POOL_RECORDS}
+use Rattle.pud_defs.specs.declared.records.TheConstants.{POOL_RECORDS, MAX_PUDDLES}
 use Rattle.pud_defs.specs.declared.records.PoolRec.{PoolRec}
 use Rattle.pud_defs.specs.declared.records.PuddleRec.{PuddleRec}
 use Rattle.pud_defs.specs.declared.records.Puddle.{Puddle}
@@ -46,6 +46,20 @@ puddles_of t slot = keyed nat_cmp (members t slot) 0 t.frames
 -- the record number and the record of a puddle of a pool
 abbrev pub puddle_in : Tables → (slot ordinal : ℕ) → Option (ℕ × PuddleRec)
 puddle_in t slot ordinal = option_map (λ p. (p.0, puddle_read slot ordinal p.1)) (find nat_cmp ordinal (puddles_of t slot))
+
+-- what was found in front of the rest, and no rest where nothing was found
+abbrev pub found_then : {A : Type 0} → Option A → List A → List A
+found_then None rest = []
+found_then (Some x) rest = x ∷ rest
+
+-- what a look-up gives from a number on, up to the first that it does not give: so many at the most
+unfoldable pub in_turn : {A : Type 0} → (ℕ → Option A) → ℕ → ℕ → List A
+in_turn at from zero = []
+in_turn at from (suc count) = found_then (at from) (in_turn at (from + 1) count)
+
+-- the puddles of a pool by their ordinals from 0 on, up to the first that none has, each with its frame
+abbrev pub puddles_in_turn : Tables → ℕ → List (ℕ × Puddle)
+puddles_in_turn t slot = in_turn (λ ordinal. find nat_cmp ordinal (puddles_of t slot)) 0 MAX_PUDDLES
 
 -- ---- the pools
 

@@ -82,7 +82,7 @@ pub struct PoolRec {
 }
 
 /// What a record says of a puddle, beside whose it is.
-#[derive(Clone, Copy)]
+#[derive(Clone, Copy, Debug, Default, PartialEq, Eq)]
 pub struct Puddle {
     /// The UUID number, at least 1 and below the next one in a legal record.
     pub number: u64,

@@ -1,3 +1,4 @@
 pub mod Search
 pub mod Counting
 pub mod Placing
+pub mod Turning

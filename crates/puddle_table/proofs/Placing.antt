@@ -12,7 +12,7 @@ use Rattle.pud_defs.specs.Image.{Image}
 use Rattle.pud_defs.specs.Keyed.{count_used, first_from}
 use Rattle.pud_defs.specs.Puddles.{puddle_record_at, puddle_read}
 use Rattle.pud_defs.specs.Tables.{tables_of, members, puddles_of, puddle_in}
-use Rattle.pud_defs.proofs.Keyed.{find-keyed, first_from_step, first_from_end, first_from_some, count_used_step}
+use Rattle.pud_defs.proofs.Keyed.{chosen_some, find-keyed, first_from_step, first_from_end, first_from_some, count_used_step}
 use Rattle.pud_defs.proofs.TablesOf.{puddles_below, puddle_at-free, frames_of_tables}
 use Rattle.puddle_table.specs.Records.{is_member, puddle_words_at}
 use Rattle.puddle_table.specs.Placed.{Placed, frame_at, AreFramesBelow, PutsMember, HoldsPlaces}
@@ -106,23 +106,22 @@ module _ (F : ℕ) (image : Image) where
 
   -- ---- a puddle by its place
 
-  of_member : (b : Bool) (e x : ℕ × Puddle) → cond b (Some e) None ≡ Some x → e ≡ x
-  of_member true e x is = same_Some e x is
-  of_member false e x is = absurd (none-some x is)
-
   -- what was found in a frame is what its record holds
   found_there : (slot ordinal frame : ℕ) (o : Option (ℕ × Puddle)) → first_from nat_cmp ordinal (members (tables_of F image) slot) 0 F ≡ o → option_map (λ (e : ℕ × Puddle). e.0) o ≡ Some frame → o ≡ Some (frame, puddle_words_at image frame)
   found_there slot ordinal frame None found is = absurd (none-some frame is)
   found_there slot ordinal frame (Some x) found is =
       let first = first_from_some nat_cmp ordinal (members (tables_of F image) slot) 0 F x found in
       let high = first.1.high in
-      let here : (first.0, puddle_words_at image first.0) ≡ x = of_member _ _ x (sym (under_table F image slot ordinal first.0 (omega arith)) ∙ first.1.here) in
+      let here : (first.0, puddle_words_at image first.0) ≡ x = chosen_some _ _ x (sym (under_table F image slot ordinal first.0 (omega arith)) ∙ first.1.here) in
       let place : first.0 ≡ frame = ap (λ (e : ℕ × Puddle). e.0) here ∙ same_Some x.0 frame is in
       ap Some (sym here ∙ ap (λ (i : ℕ). (i, puddle_words_at image i)) place)
+
+  pub puddle_found : (p : Placed) (slot ordinal frame : ℕ) → HoldsPlaces (tables_of F image) p → slot < POOL_RECORDS → ordinal < MAX_PUDDLES → frame_at p.frames slot ordinal ≡ Some frame
+      → find nat_cmp ordinal (puddles_of (tables_of F image) slot) ≡ Some (frame, puddle_words_at image frame)
+  puddle_found p slot ordinal frame h known few is =
+      found_there slot ordinal frame (find nat_cmp ordinal (puddles_of (tables_of F image) slot)) (sym (found_first slot ordinal)) (sym (h.each slot ordinal known few) ∙ is)
 
   pub puddle_placed : (p : Placed) (slot ordinal frame : ℕ) → HoldsPlaces (tables_of F image) p → slot < POOL_RECORDS → ordinal < MAX_PUDDLES → frame_at p.frames slot ordinal ≡ Some frame
       → Some (frame, puddle_read slot ordinal (puddle_words_at image frame)) ≡ puddle_in (tables_of F image) slot ordinal
   puddle_placed p slot ordinal frame h known few is =
-      let found = found_first slot ordinal in
-      let there = found_there slot ordinal frame (find nat_cmp ordinal (puddles_of (tables_of F image) slot)) (sym found) (sym (h.each slot ordinal known few) ∙ is) in
-      sym (ap (option_map (λ (e : ℕ × Puddle). (e.0, puddle_read slot ordinal e.1))) there)
+      sym (ap (option_map (λ (e : ℕ × Puddle). (e.0, puddle_read slot ordinal e.1))) (puddle_found p slot ordinal frame h known few is))

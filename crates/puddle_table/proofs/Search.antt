@@ -1,5 +1,5 @@
 -- The searches of the puddle table, record by record.
-use Rattle.std.proofs.Common.{◌≡◌, inl, inr, ℕ, ◌+◌, ◌-◌, ◌<◌, ◌≤◌, ◌&&◌, Bool, true, false, cond, eqb, Option, Some, None, Ok, Err, nat_cmp, option_map, refl, sym, ap, ◌∙◌, subst, arith, ne_eqb, [], ◌∷◌, ◌%◌, ◌^◌}
+use Rattle.std.proofs.Common.{◌≡◌, inl, inr, ℕ, ◌+◌, ◌-◌, ◌<◌, ◌≤◌, ◌&&◌, Bool, true, false, cond, eqb, Option, Some, None, Ok, Err, nat_cmp, option_map, refl, sym, ap, ◌∙◌, subst, arith, ne_eqb, [], ◌∷◌}
 use Rattle.std.specs.Ordering.{eq_by_cmp}
 use Rattle.std.proofs.lemmas.Bool.{cases_eq, cond-true, cond-false}
 use Rattle.std.proofs.lemmas.Bool.Decides.{nat_tests}
@@ -124,21 +124,21 @@ pub found_moved : (words image : Image) (F slot ordinal frame : ℕ) → words �
     → puddle_in (tables_of F image) slot ordinal ≡ found_from F image slot ordinal frame
 found_moved words image F slot ordinal frame e h = subst (λ (w : Image). puddle_in (tables_of F w) slot ordinal ≡ found_from F w slot ordinal frame) e h
 
--- the record of these words, as it is read
-abbrev pub read_as : (slot ordinal number base old_base frontier : ℕ) → PuddleRec
-read_as slot ordinal number base old_base frontier = record { pool = slot; ordinal = ordinal; number = number; base = base; old_base = old_base; frontier = frontier % 2 ^ 32 }
-
 -- ---- a record read, and a record written
 
+-- the puddle of these words
+abbrev pub puddle_of : (number base old_base frontier : ℕ) → Puddle
+puddle_of number base old_base frontier = record { number = number; base = base; old_base = old_base; frontier = frontier }
+
 -- the words of a frame's record, loaded one by one
-pub words_read : (image : Image) (frame slot ordinal at number base old_base frontier : ℕ) → at ≡ puddle_record_at frame → number ≡ image (at + 1) → base ≡ image (at + 2) → old_base ≡ image (at + 3)
-    → frontier ≡ image (at + 4) → read_as slot ordinal number base old_base frontier ≡ puddle_read slot ordinal (puddle_words_at image frame)
-words_read image frame slot ordinal at number base old_base frontier e n b o f =
+pub words_read : (image : Image) (frame at number base old_base frontier : ℕ) → at ≡ puddle_record_at frame → number ≡ image (at + 1) → base ≡ image (at + 2) → old_base ≡ image (at + 3)
+    → frontier ≡ image (at + 4) → puddle_of number base old_base frontier ≡ puddle_words_at image frame
+words_read image frame at number base old_base frontier e n b o f =
     let n1 = n ∙ ap (λ (k : ℕ). image (k + 1)) e in
     let b1 = b ∙ ap (λ (k : ℕ). image (k + 2)) e in
     let o1 = o ∙ ap (λ (k : ℕ). image (k + 3)) e in
     let f1 = f ∙ ap (λ (k : ℕ). image (k + 4)) e in
-    λ p. read_as slot ordinal (n1 p) (b1 p) (o1 p) (f1 p)
+    λ p. puddle_of (n1 p) (b1 p) (o1 p) (f1 p)
 
 pub put_same : (frame : ℕ) (r : PuddleRec) (w member frontier : ℕ) → w ≡ puddle_record_at frame → member ≡ member_word (r.pool + 1) r.ordinal → frontier ≡ r.frontier
     → put_of w (member ∷ r.number ∷ r.base ∷ r.old_base ∷ frontier ∷ []) ≡ puddle_put frame r

@@ -19,12 +19,12 @@ ghost use Rattle.pud_defs.specs.Tables.{tables_of, puddle_in};
 ghost use Rattle.pud_defs.specs.Puts.{puddle_put, free_puddle_put, with_put, with_puddle_at, member_by};
 ghost use Rattle.puddle_table.specs.Records.{fault_in, frame_by, added, Adds, CountsPools, CountsMember, is_member, puddle_words_at, frontier_of, IsFrame};
 
-pub use places::{Places, find_places};
+pub use places::{Places, Puddles, find_places};
 use pm_model::{Host, HostFault};
 use pud_defs::layout::{MAX_FRAMES, PUDDLE_RECORD_WORDS, PUDDLE_TABLE};
 use pud_defs::records::{
     POOL_RECORDS, PUDDLE_BASE_WORD, PUDDLE_FRONTIER_WORD, PUDDLE_NUMBER_WORD, PUDDLE_OLD_BASE_WORD,
-    PuddleRec, Put, RECORD_WORDS_READ, member_ordinal, member_pool, member_word,
+    Puddle, PuddleRec, Put, RECORD_WORDS_READ, member_ordinal, member_pool, member_word,
 };
 
 /// Why a puddle was not added. Nothing changed.
@@ -147,6 +147,28 @@ fn names(member: u64, pool: u32, ordinal: u32) -> bool
     member_pool(member) == pool + 1 && member_ordinal(member) == ordinal
 }
 
+/// Reads what the record of a frame says of a puddle, whether the record is used or not.
+fn read_puddle<H: Host>(h: &mut H, frame: u32) -> Result<Puddle, HostFault>
+    requires known { frame < MAX_FRAMES }
+    requires table { puddle_record_at (frame + 1) ≤ (H.counts h.old).size }
+    ensures puddle { H.tells → (image : Image) → reads (H.state h.old).now.words ≡ image → IfOk result (λ puddle. puddle ≡ puddle_words_at image frame) }
+    ensures stays { H.tells → H.state h.new ≡ H.state h.old }
+    ensures cause { H.counts h.new ≡ after_fault (fault_of result) (H.counts h.old) }
+    ensures never_cut { fault_of result ≢ Option.Some HostFault.Cut }
+{
+    let at = record_at(frame);
+    let number = h.load(at + PUDDLE_NUMBER_WORD)?;
+    let base = h.load(at + PUDDLE_BASE_WORD)?;
+    let old_base = h.load(at + PUDDLE_OLD_BASE_WORD)?;
+    let frontier = h.load(at + PUDDLE_FRONTIER_WORD)?;
+    Ok(Puddle {
+        number,
+        base,
+        old_base,
+        frontier,
+    })
+}
+
 /// Reads the record of a frame as that of this ordinal of the pool of this slot.
 fn read_record<H: Host>(
     h: &mut H,
@@ -162,18 +184,14 @@ fn read_record<H: Host>(
     ensures cause { H.counts h.new ≡ after_fault (fault_of result) (H.counts h.old) }
     ensures never_cut { fault_of result ≢ Option.Some HostFault.Cut }
 {
-    let at = record_at(frame);
-    let number = h.load(at + PUDDLE_NUMBER_WORD)?;
-    let base = h.load(at + PUDDLE_BASE_WORD)?;
-    let old_base = h.load(at + PUDDLE_OLD_BASE_WORD)?;
-    let frontier = h.load(at + PUDDLE_FRONTIER_WORD)?;
+    let puddle = read_puddle(h, frame)?;
     Ok(PuddleRec {
         pool,
         ordinal,
-        number,
-        base,
-        old_base,
-        frontier: (frontier % (1 << 32)) as u32,
+        number: puddle.number,
+        base: puddle.base,
+        old_base: puddle.old_base,
+        frontier: (puddle.frontier % (1 << 32)) as u32,
     })
 }
 

@@ -1,20 +1,26 @@
 //! Where the puddles of all pools stand, as one pass over the table finds them.
 
-ghost use Rattle.std.specs.Prelude.{◌≡◌, ◌≢◌, ◌+◌, ◌*◌, ◌<◌, ◌≤◌, ℕ, Option, IfOk, IfSome, replicate};
+ghost use Rattle.std.specs.Prelude.{◌≡◌, ◌≢◌, ◌+◌, ◌*◌, ◌<◌, ◌≤◌, ℕ, List, [], ◌∷◌, ◌++◌, length, Option, IfOk, IfSome, replicate};
+ghost use Rattle.arrayvec.specs.ArrayVec.{array_vec_len};
 ghost use Rattle.pm_model.specs.Words.{reads};
 ghost use Rattle.pm_model.specs.Counts.{after_fault, fault_of};
 ghost use Rattle.pud_defs.specs.declared.layout.TheConstants.{MAX_FRAMES};
 ghost use Rattle.pud_defs.specs.declared.records.TheConstants.{POOL_RECORDS, MAX_PUDDLES};
+ghost use Rattle.pud_defs.specs.declared.records.Puddle.{Puddle};
 ghost use Rattle.pud_defs.specs.Image.{Image};
 ghost use Rattle.pud_defs.specs.Layout.{tables_end};
-ghost use Rattle.pud_defs.specs.Tables.{tables_of, puddle_in};
+ghost use Rattle.pud_defs.specs.Tables.{tables_of, puddle_in, puddles_in_turn};
+ghost use Rattle.pud_defs.specs.Stored.{IsOnDevice};
 ghost use Rattle.puddle_table.specs.declared.places.TheConstants.{PLACES};
 ghost use Rattle.puddle_table.specs.Records.{IsFrame};
 ghost use Rattle.puddle_table.specs.Placed.{Placed, AreFramesBelow, PutsFrame, PutsMember, HoldsPlaces};
 
-use crate::{read_record, record_at};
+use crate::{read_puddle, read_record, record_at};
+use arrayvec::ArrayVec;
 use pm_model::{Host, HostFault};
-use pud_defs::records::{MAX_PUDDLES, POOL_RECORDS, PuddleRec, member_ordinal, member_pool};
+use pud_defs::records::{
+    MAX_PUDDLES, POOL_RECORDS, Puddle, PuddleRec, member_ordinal, member_pool,
+};
 use std::marker::Model;
 
 /// How many puddles all pools have at the most.
@@ -37,6 +43,47 @@ impl Model for Places {
     ghost view = { λ p. record { count = p.count; used = p.used; frames = p.frames } };
 
     ghost invariant = { λ p. (p.count ≤ MAX_FRAMES) × (p.used ≤ p.count) × AreFramesBelow p.count p.frames };
+}
+
+/// The puddles of one pool by their ordinals from 0 on, each with its frame, as they are read: at most 16.
+#[derive(Drop)]
+pub struct Puddles {
+    puddles: ArrayVec<(u32, Puddle), 16>,
+}
+
+impl Model for Puddles {
+    ghost Value = { List (ℕ × Puddle) };
+
+    ghost view = { λ p. p.puddles.items };
+
+    ghost invariant = { λ p. array_vec_len p.puddles ≤ MAX_PUDDLES };
+}
+
+impl Puddles {
+    /// No puddle was read yet.
+    fn none() -> Puddles
+        ensures { result ≡ [] }
+    {
+        Puddles {
+            puddles: ArrayVec::new(),
+        }
+    }
+
+    /// Puts the puddle of the next ordinal and its frame behind the others.
+    fn push(&mut self, frame: u32, puddle: Puddle)
+        requires { length self.old < MAX_PUDDLES }
+        ensures { self.new ≡ self.old ++ (frame, puddle) ∷ [] }
+    {
+        self.puddles.push((frame, puddle));
+    }
+
+    /// The puddles, each with its frame, by their ordinals.
+    pub fn as_slice(&self) -> &[(u32, Puddle)]
+        ensures puddles { result.now ≡ self.now }
+        ensures few { length result.now ≤ MAX_PUDDLES }
+    {
+        self.puddles.as_slice()
+    }
 }
 
 /// The place of this ordinal of the pool of this slot.
@@ -117,6 +164,30 @@ impl Places {
             None => Ok(None),
             Some(frame) => Ok(Some((frame, read_record(h, frame, pool, ordinal)?))),
         }
+    }
+
+    /// The puddles of the pool of this slot by their ordinals from 0 on, each with its frame, up to the first ordinal that no
+    /// used record has: all of them where the tables are sound. It loads four words a puddle and searches nothing.
+    ///
+    /// The device has the table whose places these are. The only errors are the host's own.
+    pub fn of_pool<H: Host>(&self, h: &mut H, pool: u32) -> Result<Puddles, HostFault>
+        requires pool { pool < POOL_RECORDS }
+        requires table { tables_end (self.now).count ≤ (H.counts h.old).size }
+        ensures found { H.tells → (image : Image) → reads (H.state h.old).now.words ≡ image → HoldsPlaces (tables_of (self.now).count image) self.now
+            → IfOk result (λ puddles. puddles ≡ puddles_in_turn (tables_of (self.now).count image) pool) }
+        ensures known { IfOk result (IsOnDevice (self.now).count) }
+        ensures stays { H.tells → H.state h.new ≡ H.state h.old }
+        ensures cause { H.counts h.new ≡ after_fault (fault_of result) (H.counts h.old) }
+        ensures never_cut { fault_of result ≢ Option.Some HostFault.Cut }
+    {
+        let mut found = Puddles::none();
+        for ordinal in 0..MAX_PUDDLES {
+            match self.frames[place(pool, ordinal)] {
+                None => return Ok(found),
+                Some(frame) => found.push(frame, read_puddle(h, frame)?),
+            }
+        }
+        Ok(found)
     }
 }
 

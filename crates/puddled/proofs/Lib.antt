@@ -2,6 +2,7 @@ pub mod Applying
 pub mod Defining
 pub mod Coming
 pub mod Pooling
+pub mod Readable
 pub mod Turns
 pub mod Counted
 pub mod Restarts

@@ -315,7 +315,7 @@ module _ (size : ℕ) (w : World) (memory : Memory) (s : State) (ready : IsReady
       refusal_of-drop w client name
       ∙ ap₂ (λ who pool. cond (not (is_some who)) (Some refusals.Client) (cond (is_none pool) (Some refusals.Pool) (cond (not (owns who pool)) (Some refusals.Denied) None))) there is
 
-  pool_there : pool_named name w.stored ≡ option_map (pool_by_record held found_tables) (find name_cmp name (records_of found_tables))
+  pub pool_there : pool_named name w.stored ≡ option_map (pool_by_record held found_tables) (find name_cmp name (records_of found_tables))
   pool_there = ap (find name_cmp name) (sym (world size w memory s ready).pools) ∙ pool_by_name held found_tables name
 
   -- a record as it is read
@@ -331,17 +331,17 @@ module _ (size : ℕ) (w : World) (memory : Memory) (s : State) (ready : IsReady
       by_owner uid gid None there (pool_there ∙ ap (option_map (pool_by_record held found_tables)) (no_record (find name_cmp name (records_of found_tables)) none))
 
   -- the record that was found
-  record IsRecord (slot : ℕ) (rec : PoolRec) : Type 0 where
-    r : PoolRec
-    found : find name_cmp name (records_of found_tables) ≡ Some (slot, r)
-    uid : rec.uid ≡ r.uid
+  pub record IsRecord (slot : ℕ) (rec : PoolRec) : Type 0 where
+    pub r : PoolRec
+    pub found : find name_cmp name (records_of found_tables) ≡ Some (slot, r)
+    pub same : rec ≡ pool_read r
 
-  the_record : (slot : ℕ) (rec : PoolRec) (o : Option (ℕ × PoolRec)) → find name_cmp name (records_of found_tables) ≡ o → ◌≡◌ {A = Option (ℕ × PoolRec)} (Some (slot, rec)) (option_map read_record o) → IsRecord slot rec
+  pub the_record : (slot : ℕ) (rec : PoolRec) (o : Option (ℕ × PoolRec)) → find name_cmp name (records_of found_tables) ≡ o → ◌≡◌ {A = Option (ℕ × PoolRec)} (Some (slot, rec)) (option_map read_record o) → IsRecord slot rec
   the_record slot rec None e is = absurd (none-some {A = ℕ × PoolRec} (slot, rec) (sym is))
   the_record slot rec (Some x) e is =
       let same : ◌≡◌ {A = ℕ × PoolRec} (slot, rec) (read_record x) = same_Some {A = ℕ × PoolRec} (slot, rec) (read_record x) is in
       let place : slot ≡ x.0 = ap (λ (p : ℕ × PoolRec). p.0) same in
-      record { r = x.1; found = e ∙ ap (λ n. Some (n, x.1)) (sym place); uid = ap (λ (p : ℕ × PoolRec). p.1.uid) same }
+      record { r = x.1; found = e ∙ ap (λ n. Some (n, x.1)) (sym place); same = ap (λ (p : ℕ × PoolRec). p.1) same }
 
   module _ (uid gid slot : ℕ) (rec : PoolRec) (there : w.clients client ≡ Some (owner uid gid)) (is : ◌≡◌ {A = Option (ℕ × PoolRec)} (Some (slot, rec)) (pool_in found_tables name)) where
     rec_of : IsRecord slot rec
@@ -351,7 +351,7 @@ module _ (size : ℕ) (w : World) (memory : Memory) (s : State) (ready : IsReady
     unfolding pool_of
     by_uid =
         by_owner uid gid (Some (pool_by_record held found_tables (slot, rec_of.r))) there (pool_there ∙ ap (option_map (pool_by_record held found_tables)) rec_of.found)
-        ∙ ap (λ n. cond (not (eqb uid n)) (Some refusals.Denied) None) (sym rec_of.uid)
+        ∙ ap (λ n. cond (not (eqb uid n)) (Some refusals.Denied) None) (sym (ap (λ (x : PoolRec). x.uid) rec_of.same))
 
     pub refused_denied : eqb uid rec.uid ≡ false → refusal_of w asked ≡ Some refusals.Denied
     refused_denied other = by_uid ∙ ap (λ b. cond (not b) (Some refusals.Denied) None) other

@@ -2,5 +2,6 @@ pub mod Memory
 pub mod Defined
 pub mod Answered
 pub mod Owning
+pub mod Reading
 pub mod Faults
 pub mod Daemon

@@ -19,9 +19,9 @@ reply_of_making (Err faults.Full) = Ok (replies.No refusals.Full)
 reply_of_making (Err faults.NoSpace) = Ok (replies.No refusals.Space)
 reply_of_making (Err (faults.Host fault)) = Err fault
 
--- why a pool was not found for its owner
-abbrev pub refusal_found : Result ℕ Refusal → Option Refusal
-refusal_found (Ok slot) = None
+-- why a pool was not found for a client
+abbrev pub refusal_found : {A : Type 0} → Result A Refusal → Option Refusal
+refusal_found (Ok found) = None
 refusal_found (Err refusal) = Some refusal
 
 -- the record of the slot is that of the pool of this name

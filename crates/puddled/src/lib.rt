@@ -5,6 +5,7 @@ mod answers;
 mod clients;
 mod daemon;
 mod pools;
+mod reading;
 mod types;
 
 pub use daemon::{Daemon, RunFault, StartFault};

@@ -107,7 +107,7 @@ fn a_puddle_is_one_of_a_pool_and_its_record_legal(rt: HostRuntime) {
         (&[(1_538, BASE + (1 << 40))], false),
         (&[(1_538, BASE + (1 << 40) - RANGE)], true),
         (&[(1_539, BASE + 8)], false),
-        (&[(1_540, 0)], true),
+        (&[(1_540, 62)], false),
         (&[(1_540, 64)], false),
     ];
     judge(&rt, rt.alloc(), &TWO_POOLS, &rows);

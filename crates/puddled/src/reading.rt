@@ -1,0 +1,101 @@
+//! Fields of objects that are read.
+ghost use Rattle.std.specs.Prelude.{◌≡◌, ◌≢◌, ◌<◌, ◌≤◌, ℕ, Option, IfOk};
+ghost use Rattle.pm_model.specs.Words.{reads};
+ghost use Rattle.pm_model.specs.Counts.{after_fault, fault_of};
+ghost use Rattle.pud_defs.specs.declared.layout.TheConstants.{CLIENTS, MAX_FRAMES, MAX_FIELDS};
+ghost use Rattle.pud_defs.specs.declared.machine.Command.TheVariants.{Get};
+ghost use Rattle.pud_defs.specs.Layout.{device_words};
+ghost use Rattle.pud_defs.specs.Stored.{IsOnDevice};
+ghost use Rattle.pud_defs.specs.World.{World};
+ghost use Rattle.pud_defs.specs.Step.{answer_by};
+ghost use Rattle.pud_defs.specs.Step.Answer.{of_reply};
+ghost use Rattle.puddled.specs.Memory.{Memory};
+ghost use Rattle.puddled.specs.Owning.{refusal_found};
+ghost use Rattle.puddled.specs.Reading.{refusal_to_read, HoldsGraph, reply_of_read};
+ghost use Rattle.puddled.specs.Daemon.{IsReady};
+
+use graph_read::{FieldRead, pool_is_sound, read_field};
+use log_space::owner;
+use owner_modes::may_read;
+use pm_model::{Host, HostFault};
+use pool_table::find;
+use pud_defs::machine::{Refusal, Reply};
+use pud_defs::objects::Val;
+use pud_defs::records::Name;
+use puddle_table::{Puddles, find_places};
+
+/// The puddles of the pool of this name, where it has a graph that the client may read, or why not. The device has so many frames.
+fn find_readable<H: Host>(
+    h: &mut H,
+    frames: u32,
+    client: u32,
+    name: Name,
+) -> Result<Result<Puddles, Refusal>, HostFault>
+    requires known { client < CLIENTS }
+    requires few { frames ≤ MAX_FRAMES }
+    requires room { device_words frames ≤ (H.counts h.old).size }
+    ensures refusal { H.tells → (size : ℕ) → (w : World) → (memory : Memory) → memory.frames ≡ frames → IsReady size w memory (H.state h.old)
+        → IfOk result (λ found. refusal_found found ≡ refusal_to_read w client name) }
+    ensures graph { H.tells → (size : ℕ) → (w : World) → (memory : Memory) → memory.frames ≡ frames → IsReady size w memory (H.state h.old)
+        → IfOk result (λ found. IfOk found (HoldsGraph w frames name (reads (H.state h.old).now.words))) }
+    ensures known { IfOk result (λ found. IfOk found (IsOnDevice frames)) }
+    ensures stays { H.tells → H.state h.new ≡ H.state h.old }
+    ensures cause { H.counts h.new ≡ after_fault (fault_of result) (H.counts h.old) }
+    ensures never_cut { fault_of result ≢ Option.Some HostFault.Cut }
+{
+    let Some(who) = owner(h, client)? else {
+        return Ok(Err(Refusal::Client));
+    };
+    let Some((slot, rec)) = find(h, name)? else {
+        return Ok(Err(Refusal::Pool));
+    };
+    let puddles = find_places(h, frames)?.of_pool(h, slot)?;
+    if !pool_is_sound(h, frames, puddles.as_slice())? {
+        return Ok(Err(Refusal::Wild));
+    }
+    if !may_read(rec.mode, rec.uid, rec.gid, who.uid, who.gid) {
+        return Ok(Err(Refusal::Denied));
+    }
+    Ok(Ok(puddles))
+}
+
+/// What is replied, by what was read of the field.
+fn reply_of(read: FieldRead) -> Reply
+    ensures { result ≡ reply_of_read read }
+{
+    match read {
+        FieldRead::NoObject => Reply::No(Refusal::Object),
+        FieldRead::NoField => Reply::No(Refusal::Field),
+        FieldRead::Value(Val::Num(v)) => Reply::Num(v),
+        FieldRead::Value(Val::Ref(serial)) => Reply::Ref(serial),
+    }
+}
+
+/// Reads field `f` of the object of serial `s` in the pool of this name for the client, or refuses to. Nothing changes. The device
+/// has so many frames.
+pub fn get<H: Host>(
+    h: &mut H,
+    frames: u32,
+    client: u32,
+    name: Name,
+    s: u64,
+    f: u32,
+) -> Result<Reply, HostFault>
+    requires known { client < CLIENTS }
+    requires few { frames ≤ MAX_FRAMES }
+    requires room { device_words frames ≤ (H.counts h.old).size }
+    requires field { f < MAX_FIELDS }
+    ensures reply { H.tells → (size : ℕ) → (w : World) → (memory : Memory) → memory.frames ≡ frames → IsReady size w memory (H.state h.old)
+        → IfOk result (λ reply. of_reply reply ≡ answer_by w (Option.Some (Get client name s f))) }
+    ensures stays { H.tells → H.state h.new ≡ H.state h.old }
+    ensures cause { H.counts h.new ≡ after_fault (fault_of result) (H.counts h.old) }
+    ensures never_cut { fault_of result ≢ Option.Some HostFault.Cut }
+{
+    match find_readable(h, frames, client, name)? {
+        Err(refusal) => Ok(Reply::No(refusal)),
+        Ok(puddles) => {
+            let read = read_field(h, frames, puddles.as_slice(), s, f)?;
+            Ok(reply_of(read))
+        }
+    }
+}
