@@ -14,8 +14,7 @@ use Rattle.clap.proofs.OnLiterals.{clap_on_literals}
 use Rattle.clap.proofs.FaultLemmas.{stopped_fault}
 use Rattle.clap.proofs.WalkLemmas.{walk_stopped}
 use Rattle.command_line.specs.declared.modes.Mode.{Mode}
-use Rattle.command_line.specs.declared.modes.Mode.TheVariants.{Layout, Run}
-use Rattle.command_line.specs.CommandLine.{mode_by, mode_of, without_dashes}
+use Rattle.command_line.specs.CommandLine.{mode_alone, mode_by, mode_of, without_dashes}
 use Rattle.command_line.specs.Parsing.{mode_found, mode_named, mode_of_words, the_command, where_faultless}
 use Rattle.command_line.proofs.WordKinds.{WordKind, dashes, positional, refused, word_kind}
 use Rattle.command_line.proofs.Turns.{GoesOn, dashes_lead, dashes_pass, refused_fails, standing, value_goes_on}
@@ -75,29 +74,30 @@ format_enters : (name : Text) (words : List Text) → mode_of_words (name ∷ co
 unfolding clap_on_literals
 format_enters name words = enters name (codes "format") words format_level refl refl refl ∙ frames_front words
 
-run_alone : (words : List Text) → if_alone (Some Run) words ≡ mode_by (codes "run") words
-run_alone [] = refl
-run_alone (word ∷ []) = refl
-run_alone (word ∷ second ∷ []) = refl
-run_alone (word ∷ second ∷ third ∷ words) = refl
-
-layout_alone : (words : List Text) → if_alone (Some Layout) words ≡ mode_by (codes "layout") words
-layout_alone [] = refl
-layout_alone (word ∷ []) = refl
-layout_alone (word ∷ second ∷ []) = refl
-layout_alone (word ∷ second ∷ third ∷ words) = refl
+-- a mode's word has no words behind it
+none_behind : (word : Text) (words : List Text) → bytes_eq word (codes "format") ≡ false → if_alone (mode_alone word) words ≡ mode_by word words
+none_behind word [] other = refl
+none_behind word (first ∷ []) other = refl
+none_behind word (first ∷ second ∷ []) other = rw other refl
+none_behind word (first ∷ second ∷ third ∷ words) other = refl
 
 run_enters : (name : Text) (words : List Text) → mode_of_words (name ∷ codes "run" ∷ words) ≡ mode_of (name ∷ codes "run" ∷ words)
 unfolding clap_on_literals
 run_enters name words =
     enters name (codes "run") words (built_level (codes "run") []) refl refl refl ∙ alone (codes "run") (mode_named (codes "run")) words
-    ∙ run_alone (without_dashes words)
+    ∙ none_behind (codes "run") (without_dashes words) refl
 
 layout_enters : (name : Text) (words : List Text) → mode_of_words (name ∷ codes "layout" ∷ words) ≡ mode_of (name ∷ codes "layout" ∷ words)
 unfolding clap_on_literals
 layout_enters name words =
     enters name (codes "layout") words (built_level (codes "layout") []) refl refl refl ∙ alone (codes "layout") (mode_named (codes "layout")) words
-    ∙ layout_alone (without_dashes words)
+    ∙ none_behind (codes "layout") (without_dashes words) refl
+
+check_enters : (name : Text) (words : List Text) → mode_of_words (name ∷ codes "check" ∷ words) ≡ mode_of (name ∷ codes "check" ∷ words)
+unfolding clap_on_literals
+check_enters name words =
+    enters name (codes "check") words (built_level (codes "check") []) refl refl refl ∙ alone (codes "check") (mode_named (codes "check")) words
+    ∙ none_behind (codes "check") (without_dashes words) refl
 
 -- ---- any other word
 
@@ -106,17 +106,18 @@ same_both_ways xs ys differ = false_from_ne_true (bytes_eq ys xs) (λ same.
     true≢false (sym ((bytes_eq-Decides xs ys).1 (sym ((bytes_eq-Decides ys xs).0 same))) ∙ differ))
 
 module _ (name word : Text) (words : List Text) (no_format : bytes_eq word (codes "format") ≡ false) (no_run : bytes_eq word (codes "run") ≡ false)
-    (no_layout : bytes_eq word (codes "layout") ≡ false) where
+    (no_layout : bytes_eq word (codes "layout") ≡ false) (no_check : bytes_eq word (codes "check") ≡ false) where
   -- it is no mode
   is_no_mode : (args : List Text) → mode_by word args ≡ None
-  is_no_mode [] = rw (no_run, no_layout) refl
+  is_no_mode [] = rw (no_run, no_layout, no_check) refl
   is_no_mode (first ∷ []) = refl
   is_no_mode (first ∷ second ∷ []) = rw no_format refl
   is_no_mode (first ∷ second ∷ third ∷ args) = refl
 
   -- it names no subcommand
   is_plain : subcommand_met names idle word ≡ None
-  is_plain = rw (same_both_ways word (codes "format") no_format, same_both_ways word (codes "run") no_run, same_both_ways word (codes "layout") no_layout) refl
+  is_plain =
+      rw (same_both_ways word (codes "format") no_format, same_both_ways word (codes "run") no_run, same_both_ways word (codes "layout") no_layout, same_both_ways word (codes "check") no_check) refl
 
   -- a parse fails where the first word does
   fails_at_once : (kind : ErrorKind) (kinds : Kinds) → turn_fault command.top names start word ≡ kind ∷ kinds → mode_of_words (name ∷ word ∷ words) ≡ None
@@ -154,10 +155,15 @@ module _ (name word : Text) (words : List Text) where
   by_word : (mode : Text) → bytes_eq word mode ≡ true → Agrees mode → Agrees word
   by_word mode same agrees = subst Agrees (sym ((bytes_eq-Decides word mode).0 same)) agrees
 
+  by_check : (b : Bool) → bytes_eq word (codes "check") ≡ b → bytes_eq word (codes "format") ≡ false → bytes_eq word (codes "run") ≡ false → bytes_eq word (codes "layout") ≡ false
+      → Agrees word
+  by_check true same no_format no_run no_layout = by_word (codes "check") same (check_enters name words)
+  by_check false differ no_format no_run no_layout =
+      refuses name word words no_format no_run no_layout differ ∙ sym (is_no_mode name word words no_format no_run no_layout differ (without_dashes words))
+
   by_layout : (b : Bool) → bytes_eq word (codes "layout") ≡ b → bytes_eq word (codes "format") ≡ false → bytes_eq word (codes "run") ≡ false → Agrees word
   by_layout true same no_format no_run = by_word (codes "layout") same (layout_enters name words)
-  by_layout false differ no_format no_run =
-      refuses name word words no_format no_run differ ∙ sym (is_no_mode name word words no_format no_run differ (without_dashes words))
+  by_layout false differ no_format no_run = by_check (bytes_eq word (codes "check")) refl no_format no_run differ
 
   by_run : (b : Bool) → bytes_eq word (codes "run") ≡ b → bytes_eq word (codes "format") ≡ false → Agrees word
   by_run true same no_format = by_word (codes "run") same (run_enters name words)

@@ -1,7 +1,7 @@
 -- What words ask for, by computation.
 use Rattle.std.specs.Prelude.{◌≡◌, [], ◌∷◌, Some, None, codes, refl}
 use Rattle.pud_defs.specs.Grammar.{number_of}
-use Rattle.command_line.specs.declared.modes.Mode.TheVariants.{Format, Run, Layout}
+use Rattle.command_line.specs.declared.modes.Mode.TheVariants.{Format, Run, Layout, Check}
 use Rattle.command_line.specs.CommandLine.{mode_of}
 
 -- each mode
@@ -23,6 +23,9 @@ run = refl
 layout : mode_of (codes "puddle" ∷ codes "layout" ∷ []) ≡ Some Layout
 layout = refl
 
+check : mode_of (codes "puddle" ∷ codes "check" ∷ []) ≡ Some Check
+check = refl
+
 -- too few words and too many
 nothing : mode_of [] ≡ None
 nothing = refl
@@ -41,6 +44,9 @@ run_now = refl
 
 layout_of_a_number : mode_of (codes "puddle" ∷ codes "layout" ∷ codes "4" ∷ []) ≡ None
 layout_of_a_number = refl
+
+check_now : mode_of (codes "puddle" ∷ codes "check" ∷ codes "now" ∷ []) ≡ None
+check_now = refl
 
 -- numbers out of range and in another form
 too_few_frames : mode_of (codes "puddle" ∷ codes "format" ∷ codes "3" ∷ codes "7" ∷ []) ≡ None

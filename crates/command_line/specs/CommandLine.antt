@@ -3,7 +3,7 @@ use Rattle.std.specs.Prelude.{ℕ, ◌+◌, ◌^◌, cond, List, [], ◌∷◌, 
 use Rattle.pud_defs.specs.declared.layout.TheConstants.{MIN_FRAMES, MAX_FRAMES}
 use Rattle.pud_defs.specs.Grammar.{number_within}
 use Rattle.command_line.specs.declared.modes.Mode.{Mode}
-use Rattle.command_line.specs.declared.modes.Mode.TheVariants.{Format, Run, Layout}
+use Rattle.command_line.specs.declared.modes.Mode.TheVariants.{Format, Run, Layout, Check}
 
 -- `format F ID`, by its two arguments
 abbrev pub format_of : List ℕ → List ℕ → Option Mode
@@ -14,9 +14,14 @@ abbrev pub without_dashes : List (List ℕ) → List (List ℕ)
 without_dashes [] = []
 without_dashes (word ∷ words) = cond (bytes_eq word (codes "--")) words (word ∷ without_dashes words)
 
+-- the mode of a word with no words behind it
+abbrev pub mode_alone : List ℕ → Option Mode
+mode_alone word =
+    cond (bytes_eq word (codes "run")) (Some Run) (cond (bytes_eq word (codes "layout")) (Some Layout) (cond (bytes_eq word (codes "check")) (Some Check) None))
+
 -- the mode of the mode's word and the words behind it
 abbrev pub mode_by : List ℕ → List (List ℕ) → Option Mode
-mode_by word [] = cond (bytes_eq word (codes "run")) (Some Run) (cond (bytes_eq word (codes "layout")) (Some Layout) None)
+mode_by word [] = mode_alone word
 mode_by word (frames ∷ id ∷ []) = cond (bytes_eq word (codes "format")) (format_of frames id) None
 mode_by _ _ = None
 

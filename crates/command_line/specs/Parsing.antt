@@ -1,11 +1,10 @@
 -- The command as the parser of command lines has it, and the mode that its parse gives.
-use Rattle.std.specs.Prelude.{true, false, cond, List, [], ◌∷◌, codes, bytes_eq, Option, Some, None, option_and_then}
+use Rattle.std.specs.Prelude.{true, false, cond, List, [], ◌∷◌, codes, bytes_eq, Option, None, option_and_then}
 use Rattle.clap.specs.Words.{App, Row, Rule, Shape, Text, fault_of, first_of, new_rule, subcommand_of}
 use Rattle.clap.specs.Simple.{new_shape}
 use Rattle.clap.specs.Kinds.{Kinds}
 use Rattle.command_line.specs.declared.modes.Mode.{Mode}
-use Rattle.command_line.specs.declared.modes.Mode.TheVariants.{Run, Layout}
-use Rattle.command_line.specs.CommandLine.{format_of}
+use Rattle.command_line.specs.CommandLine.{format_of, mode_alone}
 
 -- an argument that has to be there
 abbrev pub number_rule : Text → Rule
@@ -25,7 +24,7 @@ the_command = record {
     disable_version_flag = true;
     subcommand_required = true;
   };
-  subs = format_shape ∷ new_shape (codes "run") ∷ new_shape (codes "layout") ∷ [];
+  subs = format_shape ∷ new_shape (codes "run") ∷ new_shape (codes "layout") ∷ new_shape (codes "check") ∷ [];
 }
 
 -- the mode `format` by what was found for its arguments
@@ -34,9 +33,7 @@ format_found rows = option_and_then (λ frames. option_and_then (format_of frame
 
 -- the mode of a subcommand, by its name and what was found for its arguments
 abbrev pub mode_named : Text → List Row → Option Mode
-mode_named name rows =
-    cond (bytes_eq name (codes "format")) (format_found rows)
-    (cond (bytes_eq name (codes "run")) (Some Run) (cond (bytes_eq name (codes "layout")) (Some Layout) None))
+mode_named name rows = cond (bytes_eq name (codes "format")) (format_found rows) (mode_alone name)
 
 abbrev pub mode_found : Option (Text × List Row) → Option Mode
 mode_found = option_and_then (λ found. mode_named found.0 found.1)

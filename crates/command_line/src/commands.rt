@@ -38,5 +38,6 @@ pub fn puddle_command<'a>(alloc: Global) -> Result<Command<'a>, AllocError>
         .subcommand_required(true)
         .subcommand(format_command(alloc)?)?
         .subcommand(Command::new(alloc, "run"))?
-        .subcommand(Command::new(alloc, "layout"))
+        .subcommand(Command::new(alloc, "layout"))?
+        .subcommand(Command::new(alloc, "check"))
 }

@@ -65,8 +65,8 @@ fn matches_of<'a>(alloc: Global, words: &'a [String]) -> Result<ArgMatches<'a>, 
     }
 }
 
-/// What the words ask for, the program's name first: `format F ID` with F from 4 to 1,024 and ID from 0 to 2^64 - 1, `run` or
-/// `layout`, in just these letters. A number is digits alone, with no sign and no zero in front of others. One `--` may stand
+/// What the words ask for, the program's name first: `format F ID` with F from 4 to 1,024 and ID from 0 to 2^64 - 1, `run`,
+/// `layout` or `check`, in just these letters. A number is digits alone, with no sign and no zero in front of others. One `--` may stand
 /// behind the mode's word, anywhere; there is no option, no help and no version.
 ///
 /// `Usage` comes exactly where the words are no mode, and memory is not refused first; an empty list is none. `Memory` comes

@@ -18,6 +18,8 @@ pub enum Mode {
     Run,
     /// `layout`: start, then say what stands where.
     Layout,
+    /// `check`: start, then say which pools are sound.
+    Check,
 }
 
 /// The mode `format` by the texts of its two numbers. None where one is no such number.
@@ -45,6 +47,7 @@ pub fn mode_found(matches: &ArgMatches) -> Option<Mode>
         "format" => format_found(arguments),
         "run" => Some(Mode::Run),
         "layout" => Some(Mode::Layout),
+        "check" => Some(Mode::Check),
         _ => None,
     }
 }

@@ -12,6 +12,8 @@ const RUN: Mode = Mode::Run;
 
 const LAYOUT: Mode = Mode::Layout;
 
+const CHECK: Mode = Mode::Check;
+
 /// What is read of the words of this line, which stand with a `|` between.
 fn read_line(rt: &impl Abort, alloc: Global, line: &str) -> Result<Mode, WordsFault> {
     let mut words = Vec::new(alloc);
@@ -51,6 +53,7 @@ fn words_of_modes(rt: HostRuntime) {
         &[
             ("puddle|run", RUN),
             ("puddle|layout", LAYOUT),
+            ("puddle|check", CHECK),
             ("puddle|format|4|7", format(4, 7)),
             ("|run", RUN),
             ("--help|run", RUN),
@@ -62,7 +65,9 @@ fn words_of_modes(rt: HostRuntime) {
             "",
             "puddle|",
             "puddle||run",
-            "puddle|check",
+            "puddle|checks",
+            "puddle|chec",
+            "puddle|Check",
             "puddle|puddle|run",
             "puddle|lay",
             "puddle|r",
@@ -99,6 +104,9 @@ fn words_too_few_or_too_many(rt: HostRuntime) {
             "puddle|layout|4",
             "puddle|layout|4|7",
             "puddle|layout|run",
+            "puddle|check|now",
+            "puddle|check|4|7",
+            "puddle|check|check",
         ],
     );
 }
@@ -127,6 +135,8 @@ fn help_versions_and_options(rt: HostRuntime) {
             "puddle|layout|--version",
             "puddle|layout|-V",
             "puddle|layout|-",
+            "puddle|check|--help",
+            "puddle|check|-",
             "puddle|format|--help",
             "puddle|format|-h",
             "puddle|format|4|7|--help",
@@ -219,6 +229,7 @@ fn two_dashes_alone(rt: HostRuntime) {
         &[
             ("puddle|run|--", RUN),
             ("puddle|layout|--", LAYOUT),
+            ("puddle|check|--", CHECK),
             ("puddle|format|--|4|7", format(4, 7)),
             ("puddle|format|4|--|7", format(4, 7)),
             ("puddle|format|4|7|--", format(4, 7)),
@@ -231,6 +242,8 @@ fn two_dashes_alone(rt: HostRuntime) {
             "puddle|--|format|4|7",
             "puddle|run|--|--",
             "puddle|layout|--|--",
+            "puddle|check|--|--",
+            "puddle|check|--|now",
             "puddle|run|--|now",
             "puddle|run|--|--help",
             "puddle|run|---",

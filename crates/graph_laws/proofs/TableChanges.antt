@@ -7,7 +7,7 @@ use Rattle.pud_defs.specs.Keyed.{keyed, under, without}
 use Rattle.pud_defs.specs.Graph.{Content, Table, under_serial, placed, object_at, live, named_by, value_of, stands, all_stand, contents_or_none, is_next_serial}
 use Rattle.pud_defs.proofs.TypeLists.{same_test, same_number}
 use Rattle.pud_defs.proofs.Keyed.{HasDistinctKeys, IsSetAt, is_free_for, under_apart, under_none, alone_there, keyed-same, keyed-put, keyed-without, HasDistinctKeys-set, HasDistinctKeys-keys, find-keyed_place}
-use Rattle.pud_defs.proofs.Graphs.{IsSoundPlace, IsGraph, under_serial-free, under_serial-used, live-alike}
+use Rattle.pud_defs.proofs.Graphs.{IsSoundPlace, IsGraph, under_serial-free, under_serial-used, distinct_live, live-alike}
 use Rattle.pud_defs.proofs.Contents.{names_only, name_only, stands-same, named_by-same, all_stand-same, values-same}
 use Rattle.graph_laws.proofs.ContentLists.{is_other}
 
@@ -58,12 +58,6 @@ module _ {A : Type 0} (serial : ℕ → ℕ) (value : ℕ → A) where
       (λ used. ap (under nat_cmp k) (under_serial-used serial value p used) ∙ under_apart nat_cmp k (serial p, value p) (same_test k (serial p) ∙ ne_eqb _ _ (λ e. other (sym e))))
       (cases_eq (serial p) 0)
 
-  pub key_of_serial : (p : ℕ) → option_map (λ (e : ℕ × A). e.0) (under_serial serial value p) ≡ cond (eqb (serial p) 0) None (Some (serial p))
-  key_of_serial p = ⊎_elim
-      (λ free. ap (option_map (λ (e : ℕ × A). e.0)) (under_serial-free serial value p free) ∙ sym (cond-true _ _ _ (eq-eqb _ 0 free)))
-      (λ used. ap (option_map (λ (e : ℕ × A). e.0)) (under_serial-used serial value p used) ∙ sym (cond-false _ _ _ (ne_eqb _ 0 used)))
-      (cases_eq (serial p) 0)
-
 -- two live places have different serials
 pub serials_apart : (serial : ℕ → ℕ) (n p : ℕ) → HasDistinctKeys nat_cmp (under_serial serial (λ (q : ℕ). q)) 0 n → p < n → (serial p ≡ 0 → ⊥) → (q : ℕ) → q < n → (q ≡ p → ⊥) → serial q ≡ serial p → ⊥
 serials_apart serial n p h within used q below other same =
@@ -72,10 +66,6 @@ serials_apart serial n p h within used q below other same =
     let here = under_serial-used serial own q (λ free. used (sym same ∙ free)) in
     let apart = under_none nat_cmp (serial p) (serial q, q) (sym (ap (under nat_cmp (serial p)) here) ∙ alone) in
     eqb-false (serial p) (serial q) (sym (same_test (serial p) (serial q)) ∙ apart) (sym same)
-
--- what has distinct serials has them whatever stands there
-pub distinct_live : (t : Table) (n : ℕ) → HasDistinctKeys nat_cmp (placed t) 0 n → HasDistinctKeys nat_cmp (live t) 0 n
-distinct_live t n h = HasDistinctKeys-keys nat_cmp (placed t) (live t) 0 n (λ j. key_of_serial t.serial (λ p. p) j ∙ sym (key_of_serial t.serial (object_at t) j)) h
 
 -- the object of a live place is found under its serial
 pub find-live : (t : Table) (n p : ℕ) → HasDistinctKeys nat_cmp (placed t) 0 n → p < n → (t.serial p ≡ 0 → ⊥) → find nat_cmp (t.serial p) (keyed nat_cmp (live t) 0 n) ≡ Some (object_at t p)

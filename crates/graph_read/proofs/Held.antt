@@ -1,12 +1,12 @@
 -- Who holds an object, by what was read of each slot.
-use Rattle.std.proofs.Common.{◌≡◌, ℕ, zero, suc, ◌+◌, Bool, true, false, not, ◌&&◌, ◌||◌, cond, eqb, nat_cmp, List, [], ◌∷◌, map, length, Option, Some, None, is_some, option_map, refl, sym, ap, ap₂, ◌∙◌, arith}
+use Rattle.std.proofs.Common.{◌≡◌, ℕ, zero, suc, ◌+◌, Bool, true, false, not, ◌&&◌, ◌||◌, cond, eqb, nat_cmp, List, [], ◌∷◌, map, length, Option, Some, None, option_map, refl, sym, ap, ap₂, ◌∙◌, arith}
 use Rattle.std.specs.List.{list_any, list_all, range_with_len}
 use Rattle.std.specs.declared.cmp.Ordering.{Ordering}
 use Rattle.std.specs.declared.cmp.Ordering.TheVariants.{Less, Equal, Greater}
 use Rattle.std.specs.Ordering.{is_eq}
 use Rattle.std.specs.Cmp.{IsTotalOrder}
 use Rattle.std.specs.FinMap.Entries.{put, find, by_order}
-use Rattle.std.proofs.lemmas.Bool.{and_parts, false≢true}
+use Rattle.std.proofs.lemmas.Bool.{and_parts}
 use Rattle.std.proofs.lemmas.Cmp.{nat_cmp_total}
 use Rattle.std.proofs.lemmas.List.Folds.{list_all-map}
 use Rattle.std.proofs.lemmas.Option.{cond_some, none-some}
@@ -124,4 +124,4 @@ held types st g s serial root slots stored is_serial is_root is_slots =
 
 -- a pool without puddles stores no graph
 pub none_held : (types : List (ℕ × ℕ)) (F : ℕ) (at : List (ℕ × Puddle)) (image : Image) (g : Graph) → eqb (length at) 0 ≡ true → graph_of types (stored_in F at image) ≡ Some g → ⊥
-none_held types F at image g none stored = false≢true (sym (none_without_puddles types F at image none) ∙ ap is_some stored)
+none_held types F at image g none stored = none-some g (sym (none_without_puddles types F at image none) ∙ stored)

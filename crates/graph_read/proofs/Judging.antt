@@ -142,7 +142,7 @@ pub same_places : (F : ℕ) (at : List (ℕ × Puddle)) (image : Image) → FRAM
 same_places F at image = ap (λ n. FRAME_SLOTS * n) (sym (length-map at (λ (e : ℕ × Puddle). e.1)))
 
 -- a pool without puddles stores none
-pub none_without_puddles : (types : List (ℕ × ℕ)) (F : ℕ) (at : List (ℕ × Puddle)) (image : Image) → eqb (length at) 0 ≡ true → is_some (graph_of types (stored_in F at image)) ≡ false
+pub none_without_puddles : (types : List (ℕ × ℕ)) (F : ℕ) (at : List (ℕ × Puddle)) (image : Image) → eqb (length at) 0 ≡ true → graph_of types (stored_in F at image) ≡ None
 unfolding graph_of is_graph headers_fit all_below
 none_without_puddles types F [] image none = refl
 none_without_puddles types F (x ∷ xs) image none = absurd (let zero = eqb-true (length (x ∷ xs)) 0 none in omega arith)

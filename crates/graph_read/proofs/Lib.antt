@@ -1,3 +1,4 @@
+pub mod Counted
 pub mod Fielded
 pub mod Found
 pub mod Held

@@ -1,6 +1,6 @@
-//! Whether what a pool stores is a graph.
+//! Whether what a pool stores is a graph, and how many objects it has.
 
-ghost use Rattle.std.specs.Prelude.{◌≡◌, ◌≢◌, ◌+◌, ◌-◌, ◌*◌, ◌<◌, ◌≤◌, ◌&&◌, slice_index, Option, is_some, IfOk};
+ghost use Rattle.std.specs.Prelude.{◌≡◌, ◌≢◌, ◌+◌, ◌-◌, ◌*◌, ◌<◌, ◌≤◌, ◌&&◌, length, slice_index, Option, is_some, option_map, IfOk, IfSome};
 ghost use Rattle.std.specs.Ordering.{nat_cmp};
 ghost use Rattle.pm_model.specs.Words.{reads};
 ghost use Rattle.pm_model.specs.Counts.{after_fault, fault_of};
@@ -8,10 +8,11 @@ ghost use Rattle.pud_defs.specs.Frames.{frame_word};
 ghost use Rattle.pud_defs.specs.Graph.{graph_of, headers_fit, is_next_serial, under_serial};
 ghost use Rattle.pud_defs.specs.Headers.{is_header};
 ghost use Rattle.pud_defs.specs.Image.{Image};
-ghost use Rattle.pud_defs.specs.Keyed.{are_distinct, is_apart};
+ghost use Rattle.pud_defs.specs.Keyed.{are_distinct, count_used, is_apart};
 ghost use Rattle.pud_defs.specs.Layout.{device_words};
 ghost use Rattle.pud_defs.specs.Stored.{IsOnDevice, stored_in};
 ghost use Rattle.pud_defs.specs.Types.{types_of};
+ghost use Rattle.graph_read.specs.Reading.{places_in};
 
 use crate::asking::{Asked, places_pass};
 use crate::pointers::read_pointer;
@@ -111,9 +112,64 @@ fn are_all(headers: bool, next: bool, root: bool, distinct: bool, slots: bool) -
     headers && next && root && distinct && slots
 }
 
-/// Whether what a pool stores is a graph: each frame has the header of its puddle, the next serial is from 1 to 2^63, the
-/// root is null or leads to a live slot, no two live slots have one serial, and each live slot has a serial below the next
-/// one, a type that is defined, and no pointer but to live slots and null. A pool without puddles stores none.
+/// How many of so many places are live.
+fn count_live(serials: &Serials, count: usize) -> u32
+    requires within { count ≤ PLACES }
+    ensures live { result ≡ count_used (under_serial (slice_index serials.now) (λ p. p)) 0 count }
+    ensures most { result ≤ count }
+{
+    let mut live = 0;
+    for place in 0..count {
+        if serials[place] != 0 {
+            live += 1;
+        }
+    }
+    live
+}
+
+/// How many objects the graph of a pool has, or None exactly where what the pool stores is no graph.
+///
+/// It is a graph where each frame has the header of its puddle, the next serial is from 1 to 2^63, the root is null or leads
+/// to a live slot, no two live slots have one serial, and each live slot has a serial below the next one, a type that is
+/// defined, and no pointer but to live slots and null. A pool without puddles stores none. Each serial and each field is read
+/// once.
+pub fn objects_held<H: Host>(
+    h: &mut H,
+    frames: u32,
+    pool: &[(u32, Puddle)],
+) -> Result<Option<u32>, HostFault>
+    requires few { frames ≤ MAX_FRAMES }
+    requires room { device_words frames ≤ (H.counts h.old).size }
+    requires known { IsOnDevice frames pool.now }
+    ensures held { H.tells → (image : Image) → reads (H.state h.old).now.words ≡ image
+        → IfOk result (λ held. held ≡ option_map (λ g. length g.objects) (graph_of (types_of image) (stored_in frames pool.now image))) }
+    ensures within { IfOk result (λ held. IfSome held (λ n. n ≤ places_in pool.now)) }
+    ensures stays { H.tells → H.state h.new ≡ H.state h.old }
+    ensures cause { H.counts h.new ≡ after_fault (fault_of result) (H.counts h.old) }
+    ensures never_cut { fault_of result ≢ Option.Some HostFault.Cut }
+{
+    if pool.is_empty() {
+        return Ok(None);
+    }
+    let (first, _) = pool[0];
+    let headers = headers_fit(h, frames, pool)?;
+    let next = next_serial(h, frames, first)?;
+    let root = root_value(h, frames, first)?;
+    let serials = read_serials(h, frames, pool)?;
+    let asked = Asked::IsSound(next);
+    let slots = places_pass(h, frames, pool, &serials, asked)?;
+    let places = FRAME_SLOTS as usize * pool.len();
+    let sound = are_all(
+        headers,
+        is_next_serial(next),
+        asked.passes(&serials, read_pointer(pool, 0, 0, root)),
+        are_distinct(&serials, places),
+        slots,
+    );
+    Ok(sound.then_some(count_live(&serials, places)))
+}
+
+/// Whether what a pool stores is a graph, as `objects_held` says.
 pub fn pool_is_sound<H: Host>(
     h: &mut H,
     frames: u32,
@@ -128,21 +184,5 @@ pub fn pool_is_sound<H: Host>(
     ensures cause { H.counts h.new ≡ after_fault (fault_of result) (H.counts h.old) }
     ensures never_cut { fault_of result ≢ Option.Some HostFault.Cut }
 {
-    if pool.is_empty() {
-        return Ok(false);
-    }
-    let (first, _) = pool[0];
-    let headers = headers_fit(h, frames, pool)?;
-    let next = next_serial(h, frames, first)?;
-    let root = root_value(h, frames, first)?;
-    let serials = read_serials(h, frames, pool)?;
-    let asked = Asked::IsSound(next);
-    let slots = places_pass(h, frames, pool, &serials, asked)?;
-    Ok(are_all(
-        headers,
-        is_next_serial(next),
-        asked.passes(&serials, read_pointer(pool, 0, 0, root)),
-        are_distinct(&serials, FRAME_SLOTS as usize * pool.len()),
-        slots,
-    ))
+    Ok(objects_held(h, frames, pool)?.is_some())
 }

@@ -17,6 +17,6 @@ mod types;
 
 pub use fields::{FieldRead, read_field};
 pub use holders::is_held;
-pub use judge::pool_is_sound;
+pub use judge::{objects_held, pool_is_sound};
 pub use places::{find_place, find_serial};
 pub use pointers::read_pointer;

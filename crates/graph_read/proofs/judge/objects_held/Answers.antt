@@ -1,22 +1,24 @@
-use Rattle.std.proofs.Common.{◌&&◌, nat_cmp, ◌<◌, length, slice_index, sym, ap, ◌∙◌, arith}
+use Rattle.std.proofs.Common.{◌&&◌, nat_cmp, ◌<◌, length, option_map, slice_index, sym, ap, ◌∙◌, arith}
 use Rattle.pm_model.specs.Words.{reads}
 use Rattle.pm_model.specs.Moments.{State}
 use Rattle.pud_defs.specs.declared.space.TheConstants.{NEXT_SERIAL_WORD}
 use Rattle.pud_defs.specs.Stored.{stored_in}
 use Rattle.pud_defs.specs.Types.{types_of}
-use Rattle.pud_defs.specs.Graph.{stands, under_serial, table_of}
-use Rattle.pud_defs.specs.Keyed.{are_distinct}
+use Rattle.pud_defs.specs.Graph.{Graph, stands, under_serial, table_of}
+use Rattle.pud_defs.specs.Keyed.{are_distinct, count_used}
 use Rattle.pud_defs.specs.Spaces.{all_below}
 use Rattle.graph_read.specs.declared.asking.Asked.TheVariants.{IsSound}
 use Rattle.graph_read.specs.Asking.{content_of, place_passes, with_serials}
+use Rattle.graph_read.proofs.Counted.{objects_counted}
 use Rattle.graph_read.proofs.Judging.{judged, first_word, root_read, same_places, positive_length, none_without_puddles}
-use Rattle.graph_read.proofs.judge.pool_is_sound.Goals as goal
+use Rattle.graph_read.proofs.judge.objects_held.Goals as goal
 
-pub returns-then-is_empty-clause-sound : goal.returns-then-is_empty-clause-sound
-returns-then-is_empty-clause-sound g c = λ t image same. sym (none_without_puddles (types_of image) c.args.frames c.args.pool.now image (sym c.is_empty.ensures ∙ c.if-is_empty.true))
+pub returns-then-is_empty-clause-held : goal.returns-then-is_empty-clause-held
+returns-then-is_empty-clause-held g c = λ t image same.
+    sym (ap (option_map (λ (held : Graph). length held.objects)) (none_without_puddles (types_of image) c.args.frames c.args.pool.now image (sym c.is_empty.ensures ∙ c.if-is_empty.true)))
 
-pub returns-clause-sound : goal.returns-clause-sound
-returns-clause-sound g c = λ t image same.
+pub returns-clause-held : goal.returns-clause-held
+returns-clause-held g c = λ t image same.
     let at = c.args.pool.now in
     let st = stored_in c.args.frames at image in
     let serial = slice_index c.in_ok-serials.serials in
@@ -26,7 +28,7 @@ returns-clause-sound g c = λ t image same.
     let fourth = ap (λ (s : State). reads s.now.words) (c.root_value.ensures.stays t) ∙ third in
     let fifth = ap (λ (s : State). reads s.now.words) (c.read_serials.ensures.stays t) ∙ fourth in
     let places = same_places c.args.frames at image in
-    c.are_all.ensures
+    let sound = c.are_all-sound.ensures
     ∙ ap (λ b. c.in_ok-headers.headers && (b && c.passes.result && c.are_distinct.result && c.in_ok-slots.slots)) c.is_next_serial.ensures
     ∙ judged (types_of image) st serial c.in_ok-next.next c.in_ok-headers.headers c.passes.result c.are_distinct.result c.in_ok-slots.slots
     (c.in_ok-serials.ensures.serials t image fourth)
@@ -34,4 +36,5 @@ returns-clause-sound g c = λ t image same.
     (c.in_ok-headers.ensures.fit t image same)
     (c.passes.ensures ∙ ap (λ p. stands serial (content_of p)) c.read_pointer.ensures.pointee ∙ ap (stands serial) (root_read c.args.frames at image c.in_ok-root.root some (c.in_ok-root.ensures.word t image third)))
     (c.are_distinct.ensures ∙ ap (are_distinct nat_cmp (under_serial serial (λ p. p)) 0) places)
-    (c.in_ok-slots.ensures.pass t image fifth ∙ ap (λ n. all_below n (place_passes (IsSound c.in_ok-next.next) (with_serials serial (table_of (types_of image) st)))) places)
+    (c.in_ok-slots.ensures.pass t image fifth ∙ ap (λ n. all_below n (place_passes (IsSound c.in_ok-next.next) (with_serials serial (table_of (types_of image) st)))) places) in
+    c.then_some.ensures ∙ objects_counted (types_of image) st serial c.are_all-sound.result c.count_live.result (c.in_ok-serials.ensures.serials t image fourth) sound (c.count_live.ensures.live ∙ ap (count_used (under_serial serial (λ p. p)) 0) places)
