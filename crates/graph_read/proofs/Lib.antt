@@ -1,3 +1,4 @@
+pub mod Fielded
 pub mod Found
 pub mod Held
 pub mod Judging

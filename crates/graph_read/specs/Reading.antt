@@ -1,15 +1,18 @@
 -- What is read of a pool: slots, pointers and fields, as its table and its graph have them.
-use Rattle.std.specs.Prelude.{◌≡◌, ℕ, ◌+◌, ◌*◌, ◌/◌, ◌%◌, ◌<◌, List, length, slice_get, Option, Some, None}
+use Rattle.std.specs.Prelude.{◌≡◌, ℕ, ◌+◌, ◌*◌, ◌/◌, ◌%◌, ◌<◌, List, length, slice_get, Option, Some, None, option_map}
 use Rattle.pud_defs.specs.declared.space.TheConstants.{FRAME_SLOTS}
 use Rattle.pud_defs.specs.declared.records.Puddle.{Puddle}
 use Rattle.pud_defs.specs.declared.records.Slot.{Slot}
+use Rattle.pud_defs.specs.declared.objects.Val.{Val}
 use Rattle.pud_defs.specs.declared.objects.Pointee.{Pointee}
 use Rattle.pud_defs.specs.declared.objects.Pointee.TheVariants as pointees
 use Rattle.pud_defs.specs.Image.{Image}
 use Rattle.pud_defs.specs.Types.{types_of}
 use Rattle.pud_defs.specs.Stored.{stored_in}
-use Rattle.pud_defs.specs.Graph.{Table, table_of, place_of, Content}
+use Rattle.pud_defs.specs.Graph.{Table, table_of, place_of, Content, Object, object_at}
 use Rattle.pud_defs.specs.Graph.Content.{Number, Null, At, Nowhere}
+use Rattle.graph_read.specs.declared.fields.FieldRead.{FieldRead}
+use Rattle.graph_read.specs.declared.fields.FieldRead.TheVariants.{NoObject, NoField, Value}
 
 -- how many places the puddles have
 abbrev pub places_in : List (ℕ × Puddle) → ℕ
@@ -22,16 +25,6 @@ table_in F at image = table_of (types_of image) (stored_in F at image)
 -- the lowest place whose slot has this serial
 abbrev pub place_in_pool : (F : ℕ) → List (ℕ × Puddle) → Image → ℕ → Option ℕ
 place_in_pool F at image s = place_of s (table_in F at image) (places_in at)
-
--- the slot at a place, by the puddle that has it
-abbrev pub slot_by : ℕ → Option (ℕ × Puddle) → Option Slot
-slot_by p None = None
-slot_by p (Some e) = Some (record { frame = e.0; ordinal = p / FRAME_SLOTS; slot = p % FRAME_SLOTS })
-
--- the slot at a place of these puddles, where there is one
-abbrev pub slot_of : List (ℕ × Puddle) → Option ℕ → Option Slot
-slot_of at None = None
-slot_of at (Some p) = slot_by p (slice_get at (p / FRAME_SLOTS))
 
 -- the place of a slot
 abbrev pub place_at : Slot → ℕ
@@ -61,3 +54,19 @@ pub record IsSlotWithin (count ordinal slot : ℕ) : Type 0 where
 abbrev pub IsWithin : ℕ → Pointee → Type 0
 IsWithin count pointees.Null = Unit {0}
 IsWithin count (pointees.At ordinal slot) = IsSlotWithin count ordinal slot
+
+-- ---- fields
+
+-- what is read of an object's field, where it has one
+abbrev pub read_value : Option Val → FieldRead
+read_value None = NoField
+read_value (Some v) = Value v
+
+-- what is read of field f of an object, where there is one
+abbrev pub read_by : Option Object → ℕ → FieldRead
+read_by None f = NoObject
+read_by (Some o) f = read_value (slice_get o.fields f)
+
+-- what is read of field f of the object at the lowest place that has this serial
+abbrev pub field_in : (F : ℕ) → List (ℕ × Puddle) → Image → (s f : ℕ) → FieldRead
+field_in F at image s f = read_by (option_map (object_at (table_in F at image)) (place_in_pool F at image s)) f

@@ -7,6 +7,7 @@
 #![tactic(auto)]
 
 mod asking;
+pub mod fields;
 pub mod holders;
 pub mod judge;
 pub mod places;

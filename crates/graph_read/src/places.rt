@@ -2,7 +2,7 @@
 //!
 //! A place is a slot of a puddle, counted over the puddles by their ordinals: 62 times the ordinal, and the slot.
 
-ghost use Rattle.std.specs.Prelude.{◌≡◌, ◌≢◌, ◌*◌, ◌<◌, ◌≤◌, length, Option, IfOk, IfSome, is_none};
+ghost use Rattle.std.specs.Prelude.{◌≡◌, ◌≢◌, ◌*◌, ◌<◌, ◌≤◌, length, Option, IfOk, IfSome, is_none, option_map};
 ghost use Rattle.pm_model.specs.Words.{Image, reads};
 ghost use Rattle.pm_model.specs.Counts.{after_fault, fault_of};
 ghost use Rattle.pud_defs.specs.declared.records.Slot.{Slot};
@@ -10,7 +10,7 @@ ghost use Rattle.pud_defs.specs.Layout.{device_words};
 ghost use Rattle.pud_defs.specs.Types.{types_of};
 ghost use Rattle.pud_defs.specs.Stored.{IsOnDevice, stored_in};
 ghost use Rattle.pud_defs.specs.Graph.{Graph, table_of, place_of, graph_of, object_in};
-ghost use Rattle.graph_read.specs.Reading.{table_in, places_in, place_in_pool, place_at, slot_of, IsSlotOf};
+ghost use Rattle.graph_read.specs.Reading.{table_in, places_in, place_in_pool, place_at, IsSlotOf};
 
 use pm_model::{Host, HostFault};
 use pud_defs::layout::MAX_FRAMES;
@@ -21,7 +21,6 @@ use puddle_header::slot_serial;
 /// The slot at a place.
 pub(crate) fn slot_at_place(pool: &[(u32, Puddle)], place: u32) -> Slot
     requires { place < places_in pool.now }
-    ensures slot { Option.Some result ≡ slot_of pool.now (Option.Some place) }
     ensures place { place_at result ≡ place }
     ensures within { IsSlotOf pool.now result }
 {
@@ -95,7 +94,7 @@ pub fn find_serial<H: Host>(
     requires room { device_words frames ≤ (H.counts h.old).size }
     requires known { IsOnDevice frames pool.now }
     ensures found { H.tells → (image : Image) → reads (H.state h.old).now.words ≡ image
-        → IfOk result (λ found. found ≡ slot_of pool.now (place_in_pool frames pool.now image s)) }
+        → IfOk result (λ found. option_map place_at found ≡ place_in_pool frames pool.now image s) }
     ensures object { H.tells → (image : Image) → reads (H.state h.old).now.words ≡ image
         → (g : Graph) → graph_of (types_of image) (stored_in frames pool.now image) ≡ Option.Some g
         → IfOk result (λ found. is_none found ≡ is_none (object_in s g)) }

@@ -1,0 +1,153 @@
+//! What a field of an object holds.
+
+ghost use Rattle.std.specs.Prelude.{◌≡◌, ◌≢◌, ◌+◌, ◌<◌, ◌≤◌, length, map, Option, IfOk};
+ghost use Rattle.pm_model.specs.Words.{Image, reads};
+ghost use Rattle.pm_model.specs.Counts.{after_fault, fault_of};
+ghost use Rattle.pud_defs.specs.declared.space.TheConstants.{SLOT_FIELDS_WORD};
+ghost use Rattle.pud_defs.specs.Layout.{device_words};
+ghost use Rattle.pud_defs.specs.Types.{types_of};
+ghost use Rattle.pud_defs.specs.Stored.{IsOnDevice, stored_in, place_word};
+ghost use Rattle.pud_defs.specs.Graph.{Graph, pointee_at, content, named_by, value_of, object_at, graph_of, object_in};
+ghost use Rattle.graph_read.specs.Reading.{table_in, place_at, IsSlotOf, read_by, field_in};
+
+use crate::places::find_serial;
+use crate::pointers::read_pointer;
+use crate::types::find_map;
+use pm_model::{Host, HostFault};
+use pud_defs::layout::{MAX_FIELDS, MAX_FRAMES};
+use pud_defs::objects::{Pointee, Val};
+use pud_defs::records::{Puddle, Slot};
+use pud_defs::type_map::{map_fields, map_is_pointer};
+use puddle_header::{slot_field, slot_serial, slot_type};
+
+/// What is read of a field.
+#[derive(Clone, Copy, Debug, PartialEq, Eq)]
+pub enum FieldRead {
+    /// No live object has the serial.
+    NoObject,
+    /// The object's type has fewer fields, or is not defined.
+    NoField,
+    /// The field holds this value.
+    Value(Val),
+}
+
+/// The serial of the slot to which a pointer leads that stands at a step of the puddle of an ordinal, 0 where it leads to
+/// none.
+fn serial_behind<H: Host>(
+    h: &mut H,
+    frames: u32,
+    pool: &[(u32, Puddle)],
+    ordinal: u32,
+    step: u32,
+    value: u64,
+) -> Result<u64, HostFault>
+    requires few { frames ≤ MAX_FRAMES }
+    requires room { device_words frames ≤ (H.counts h.old).size }
+    requires known { IsOnDevice frames pool.now }
+    requires within { ordinal < length pool.now }
+    ensures serial { H.tells → (image : Image) → reads (H.state h.old).now.words ≡ image
+        → IfOk result (λ s. s ≡ named_by (table_in frames pool.now image).serial (pointee_at (map (λ e. e.1) pool.now) ordinal step value)) }
+    ensures stays { H.tells → H.state h.new ≡ H.state h.old }
+    ensures cause { H.counts h.new ≡ after_fault (fault_of result) (H.counts h.old) }
+    ensures never_cut { fault_of result ≢ Option.Some HostFault.Cut }
+{
+    match read_pointer(pool, ordinal, step, value) {
+        Some(Pointee::At { ordinal, slot }) => {
+            let (frame, _) = pool[ordinal as usize];
+            slot_serial(h, frames, frame, slot)
+        }
+        Some(Pointee::Null) | None => Ok(0),
+    }
+}
+
+/// What field `f` of a slot holds by the map word of its type: a number, or the serial that a pointer names, 0 where it
+/// names none.
+fn value_at<H: Host>(
+    h: &mut H,
+    frames: u32,
+    pool: &[(u32, Puddle)],
+    at: &Slot,
+    map_word: u64,
+    f: u32,
+) -> Result<Val, HostFault>
+    requires few { frames ≤ MAX_FRAMES }
+    requires room { device_words frames ≤ (H.counts h.old).size }
+    requires known { IsOnDevice frames pool.now }
+    requires within { IsSlotOf pool.now at.now }
+    requires field { f < MAX_FIELDS }
+    ensures value { H.tells → (image : Image) → reads (H.state h.old).now.words ≡ image
+        → IfOk result (λ v. v ≡ value_of (table_in frames pool.now image).serial
+        (content (map (λ e. e.1) pool.now) map_word (place_at at.now) f (place_word (stored_in frames pool.now image).word (place_at at.now) (SLOT_FIELDS_WORD + f)))) }
+    ensures stays { H.tells → H.state h.new ≡ H.state h.old }
+    ensures cause { H.counts h.new ≡ after_fault (fault_of result) (H.counts h.old) }
+    ensures never_cut { fault_of result ≢ Option.Some HostFault.Cut }
+{
+    let value = slot_field(h, frames, at.frame, at.slot, f)?;
+    if map_is_pointer(map_word, f) {
+        let serial = serial_behind(h, frames, pool, at.ordinal, at.slot + 1, value)?;
+        Ok(Val::Ref(serial))
+    } else {
+        Ok(Val::Num(value))
+    }
+}
+
+/// What is read of field `f` of the object in a slot.
+fn field_at<H: Host>(
+    h: &mut H,
+    frames: u32,
+    pool: &[(u32, Puddle)],
+    at: &Slot,
+    f: u32,
+) -> Result<FieldRead, HostFault>
+    requires few { frames ≤ MAX_FRAMES }
+    requires room { device_words frames ≤ (H.counts h.old).size }
+    requires known { IsOnDevice frames pool.now }
+    requires within { IsSlotOf pool.now at.now }
+    requires field { f < MAX_FIELDS }
+    ensures read { H.tells → (image : Image) → reads (H.state h.old).now.words ≡ image
+        → IfOk result (λ read. read ≡ read_by (Option.Some (object_at (table_in frames pool.now image) (place_at at.now))) f) }
+    ensures stays { H.tells → H.state h.new ≡ H.state h.old }
+    ensures cause { H.counts h.new ≡ after_fault (fault_of result) (H.counts h.old) }
+    ensures never_cut { fault_of result ≢ Option.Some HostFault.Cut }
+{
+    let id = slot_type(h, frames, at.frame, at.slot)?;
+    match find_map(h, id)? {
+        Some(map) if f < map_fields(map) => {
+            let value = value_at(h, frames, pool, at, map, f)?;
+            Ok(FieldRead::Value(value))
+        }
+        _ => Ok(FieldRead::NoField),
+    }
+}
+
+/// What is read of field `f`, 0 to 29, of the object of serial `s`. Of several slots with the serial the one of the lowest
+/// place is read.
+///
+/// Where the pool has a graph, the answer is `NoObject` exactly where the graph has no object of that serial, `NoField` exactly
+/// where the object has no such field, and else the field's value. Where it has none, a type that is not defined has no fields,
+/// and a pointer to no slot names serial 0.
+pub fn read_field<H: Host>(
+    h: &mut H,
+    frames: u32,
+    pool: &[(u32, Puddle)],
+    s: u64,
+    f: u32,
+) -> Result<FieldRead, HostFault>
+    requires few { frames ≤ MAX_FRAMES }
+    requires room { device_words frames ≤ (H.counts h.old).size }
+    requires known { IsOnDevice frames pool.now }
+    requires field { f < MAX_FIELDS }
+    ensures read { H.tells → (image : Image) → reads (H.state h.old).now.words ≡ image
+        → IfOk result (λ read. read ≡ field_in frames pool.now image s f) }
+    ensures object { H.tells → (image : Image) → reads (H.state h.old).now.words ≡ image
+        → (g : Graph) → graph_of (types_of image) (stored_in frames pool.now image) ≡ Option.Some g
+        → IfOk result (λ read. read ≡ read_by (object_in s g) f) }
+    ensures stays { H.tells → H.state h.new ≡ H.state h.old }
+    ensures cause { H.counts h.new ≡ after_fault (fault_of result) (H.counts h.old) }
+    ensures never_cut { fault_of result ≢ Option.Some HostFault.Cut }
+{
+    match find_serial(h, frames, pool, s)? {
+        Some(at) => field_at(h, frames, pool, &at, f),
+        None => Ok(FieldRead::NoObject),
+    }
+}
