@@ -31,7 +31,7 @@ place_named serial false None = refl
 place_named serial false (Some p) = refl
 
 -- a pointer's value is the serial that it names
-pub pointer_value : (serial : ℕ → ℕ) (puddles : List Puddle) (ordinal step v : ℕ) → value_of serial (pointee_at puddles ordinal step v) ≡ Ref (named_by serial (pointee_at puddles ordinal step v))
+pointer_value : (serial : ℕ → ℕ) (puddles : List Puddle) (ordinal step v : ℕ) → value_of serial (pointee_at puddles ordinal step v) ≡ Ref (named_by serial (pointee_at puddles ordinal step v))
 unfolding target
 pointer_value serial puddles ordinal step v = place_named serial (eqb v 0) _
 

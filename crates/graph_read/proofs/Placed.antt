@@ -1,7 +1,5 @@
 -- What is stored at a place is what its frame holds.
-use Rattle.std.proofs.Common.{◌≡◌, ℕ, ◌+◌, ◌*◌, ◌/◌, ◌%◌, ◌<◌, List, slice_get, Some, sym, subst, ap, ap₂, ◌∙◌, arith}
-use Rattle.std.proofs.lemmas.List.Elements.{All-get_or}
-use Rattle.std.proofs.lemmas.Option.{get_or_from_slice_get, slice_get_within}
+use Rattle.std.proofs.Common.{◌≡◌, ℕ, ◌+◌, ◌*◌, ◌/◌, ◌%◌, ◌<◌, List, slice_get, Some, sym, ap, ap₂, ◌∙◌, arith}
 use Rattle.std.proofs.lemmas.Bool.{cond-true, lt-ltb}
 use Rattle.pud_defs.specs.declared.layout.TheConstants.{FRAME_WORDS}
 use Rattle.pud_defs.specs.declared.space.TheConstants.{FRAME_SLOTS, SLOT_WORDS}
@@ -10,7 +8,7 @@ use Rattle.pud_defs.specs.declared.records.Slot.{Slot}
 use Rattle.pud_defs.specs.Image.{Image}
 use Rattle.pud_defs.specs.Frames.{frame_word, slot_at}
 use Rattle.pud_defs.specs.Headers.{slot_word}
-use Rattle.pud_defs.specs.Stored.{stored_in, place_word, word_in_frame, IsOnDevice}
+use Rattle.pud_defs.specs.Stored.{stored_in, place_word, word_in_frame}
 use Rattle.graph_read.specs.Reading.{place_at, IsSlotOf}
 
 -- the ordinal and the slot of a place
@@ -31,13 +29,6 @@ pub stored_slot : (F : ℕ) (at : List (ℕ × Puddle)) (image : Image) (o s k :
 stored_slot F at image o s k e there slot below =
     ap₂ (λ (i j : ℕ). (stored_in F at image).word i (slot_at j + k)) (place_ordinal o s slot) (place_slot o s slot)
     ∙ stored_word F at image o (slot_at s + k) e there (omega arith)
-
--- a puddle of the pool is in a frame of the device
-pub frame_below : (F : ℕ) (at : List (ℕ × Puddle)) (s : Slot) → IsOnDevice F at → IsSlotOf at s → s.frame < F
-frame_below F at s known of =
-    let e : ℕ × Puddle = (s.frame, of.puddle) in
-    subst (λ (d : ℕ × Puddle). d.0 < F) (get_or_from_slice_get at s.ordinal e e of.there)
-    (All-get_or (λ (d : ℕ × Puddle). d.0 < F) at s.ordinal e (slice_get_within at s.ordinal e of.there) known.frames)
 
 -- a word of a slot is that at its place
 pub slot_at_place : (F : ℕ) (at : List (ℕ × Puddle)) (image : Image) (k : ℕ) (s : Slot) → IsSlotOf at s → k < SLOT_WORDS

@@ -51,9 +51,9 @@ pub record IsSlotWithin (count ordinal slot : ℕ) : Type 0 where
   pub slot_below : slot < FRAME_SLOTS
 
 -- a pointer leads to nothing, or to a slot of so many puddles
-abbrev pub IsWithin : ℕ → Pointee → Type 0
-IsWithin count pointees.Null = Unit {0}
-IsWithin count (pointees.At ordinal slot) = IsSlotWithin count ordinal slot
+abbrev pub LeadsWithin : ℕ → Pointee → Type 0
+LeadsWithin count pointees.Null = Unit {0}
+LeadsWithin count (pointees.At ordinal slot) = IsSlotWithin count ordinal slot
 
 -- ---- fields
 

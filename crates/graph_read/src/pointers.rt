@@ -2,7 +2,7 @@
 
 ghost use Rattle.std.specs.Prelude.{◌≡◌, ◌<◌, ◌≤◌, cond, length, map, IfSome};
 ghost use Rattle.pud_defs.specs.Graph.{slot_in, pointee_at};
-ghost use Rattle.graph_read.specs.Reading.{pointee_of, IsWithin};
+ghost use Rattle.graph_read.specs.Reading.{pointee_of, LeadsWithin};
 
 use pud_defs::objects::Pointee;
 use pud_defs::records::{MAX_PUDDLES, Puddle};
@@ -48,7 +48,7 @@ pub fn read_pointer(pool: &[(u32, Puddle)], ordinal: u32, step: u32, value: u64)
     requires few { length pool.now ≤ MAX_PUDDLES }
     requires known { ordinal < length pool.now }
     ensures pointee { result ≡ pointee_of (pointee_at (map (λ e. e.1) pool.now) ordinal step value) }
-    ensures within { IfSome result (IsWithin (length pool.now)) }
+    ensures within { IfSome result (LeadsWithin (length pool.now)) }
 {
     if value == 0 {
         return Some(Pointee::Null);
