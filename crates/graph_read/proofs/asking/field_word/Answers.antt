@@ -1,0 +1,13 @@
+use Rattle.std.proofs.Common.{◌≡◌, ℕ, ◌+◌, ◌∙◌, ap, subst, IfOk, arith}
+use Rattle.pud_defs.specs.declared.space.TheConstants.{SLOT_FIELDS_WORD}
+use Rattle.pud_defs.specs.Stored.{stored_in, place_word}
+use Rattle.graph_read.proofs.Placed.{slot_at_place}
+use Rattle.graph_read.proofs.asking.field_word.Goals as goal
+
+pub returns-clause-word : goal.returns-clause-word
+returns-clause-word g c = λ t image same.
+    let at = c.slot_at_place-at in
+    let word = (stored_in c.args.frames c.args.pool.now image).word in
+    subst (λ (v : ℕ). IfOk c.slot_field.result (λ r. r ≡ v))
+    (slot_at_place c.args.frames c.args.pool.now image (SLOT_FIELDS_WORD + c.args.f) at.result at.ensures.within (omega arith) ∙ ap (λ (p : ℕ). place_word word p (SLOT_FIELDS_WORD + c.args.f)) at.ensures.place)
+    (c.slot_field.ensures.word t image same)
