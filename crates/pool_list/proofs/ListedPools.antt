@@ -1,11 +1,9 @@
 -- What sound tables list is the text of the pools that they stand for.
-use Rattle.std.proofs.Common.{◌≡◌, ℕ, List, ◌++◌, map, Option, Some, None, option_map, codes, refl, sym, ap, ap₂, ◌∙◌}
+use Rattle.std.proofs.Common.{◌≡◌, ℕ, List, ◌++◌, codes, sym, ap, ap₂, ◌∙◌}
 use Rattle.std.specs.List.{flat_map}
 use Rattle.std.proofs.lemmas.List.Folds.{flat_map-map}
-use Rattle.pud_defs.specs.declared.records.TheConstants.{POOL_RECORDS}
 use Rattle.pud_defs.specs.declared.records.PoolRec.{PoolRec}
 use Rattle.pud_defs.specs.Names.{name_cmp}
-use Rattle.pud_defs.specs.Keyed.{keyed}
 use Rattle.pud_defs.specs.Pools.{pool_read}
 use Rattle.pud_defs.specs.Spaces.{owner}
 use Rattle.pud_defs.specs.Tables.{Tables, Pool, Reader, records_of, pool_of, pools_of}
@@ -21,7 +19,17 @@ use Rattle.pud_defs.proofs.Listing.{in_one_line-pools_text}
 use Rattle.pud_defs.proofs.PoolsCounted.{length_puddles}
 use Rattle.pud_defs.proofs.RecordsPlaced.{IsPlaced, each_placed, legal_mode, mode_read}
 use Rattle.pud_defs.proofs.SoundChanged.{legal_pool}
+use Rattle.pool_table.specs.InOrder.{in_order}
 use Rattle.pool_list.specs.Listed.{record_text, puddles_counted, listed_text}
+
+-- what is said of the records in turn is what is said of the pools in turn, where it is so of each
+pub each_listed : (hold : Reader) (t : Tables) (text : ℕ × PoolRec → List ℕ) (line : List ℕ × Pool → List ℕ)
+    → ((e : List ℕ × (ℕ × PoolRec)) → IsPlaced t e → text (e.1.0, pool_read e.1.1) ≡ line (e.0, pool_by_record hold t e.1)) → flat_map text (in_order t) ≡ flat_map line (pools_of hold t)
+each_listed hold t text line each =
+    flat_map-map text (λ e. (e.1.0, pool_read e.1.1)) (records_of t)
+    ∙ flat_map-each _ _ (records_of t) (each-weaker (IsPlaced t) _ (records_of t) each (each_placed t))
+    ∙ sym (flat_map-map line (of_entry name_cmp (pool_by_record hold t)) (records_of t))
+    ∙ sym (ap (flat_map line) (pools_by_records hold t))
 
 module _ (hold : Reader) (next : ℕ) (t : Tables) (sound : HasSoundTables next t) (id : ℕ) where
   -- the text of a record, as it was read and counted
@@ -36,11 +44,7 @@ module _ (hold : Reader) (next : ℕ) (t : Tables) (sound : HasSoundTables next 
 
   listed_pools : listed_text id t ≡ flat_map (pool_text id) (pools_of hold t)
   unfolding listed_text
-  listed_pools =
-      flat_map-map (λ e. record_text id e.1 (puddles_counted t e.0)) (λ e. (e.1.0, pool_read e.1.1)) (records_of t)
-      ∙ flat_map-each _ _ (records_of t) (each-weaker (IsPlaced t) _ (records_of t) text_here (each_placed t))
-      ∙ sym (flat_map-map (pool_text id) (of_entry name_cmp (pool_by_record hold t)) (records_of t))
-      ∙ sym (ap (flat_map (pool_text id)) (pools_by_records hold t))
+  listed_pools = each_listed hold t (λ e. record_text id e.1 (puddles_counted t e.0)) (pool_text id) text_here
 
 -- the list of sound tables is the answer of the world that they stand for
 pub line_of-listed_text : (hold : Reader) (next : ℕ) (t : Tables) (s : StoredWorld) (id : ℕ) → HasSoundTables next t → pools_of hold t ≡ s.pools → id ≡ s.machine → line_of (codes "ok" ++ listed_text id t) ≡ answer_text (of_text (pools_text s))

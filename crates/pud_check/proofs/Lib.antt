@@ -1,3 +1,4 @@
 pub mod Lines
 pub mod Laid
 pub mod Saying
+pub mod Checking

@@ -1,5 +1,5 @@
--- The parts of lines: how long they are, and where an address stands in an identifier.
-use Rattle.std.proofs.Common.{◌≡◌, ℕ, length, take, drop, refl}
+-- The parts of lines: how long they are, where an address stands in an identifier, and texts that are added one by one.
+use Rattle.std.proofs.Common.{◌≡◌, ℕ, List, ◌++◌, length, take, drop, refl, ap, ◌∙◌, append_assoc}
 use Rattle.pud_defs.specs.Identifiers.{hex_digits, uuid_text}
 use Rattle.pud_defs.specs.LayoutText.{address_text}
 
@@ -11,3 +11,7 @@ length_uuid_text u = refl
 pub last_group : (u : ℕ) → take 12 (drop 24 (uuid_text u)) ≡ address_text u
 unfolding uuid_text hex_digits
 last_group u = refl
+
+-- four texts that are added one after the other
+pub four_added : (old a b c d : List ℕ) → old ++ a ++ b ++ c ++ d ≡ old ++ (a ++ b ++ c ++ d)
+four_added old a b c d = ap (λ front. front ++ d) (ap (λ front. front ++ c) (append_assoc old a b) ∙ append_assoc old (a ++ b) c) ∙ append_assoc old (a ++ b ++ c) d

@@ -1,1 +1,2 @@
 pub mod LayoutListed
+pub mod Checked

@@ -1,12 +1,22 @@
-//! The law of the layout. The function here does nothing; its contract is the law.
+//! The laws of what is said. The functions here do nothing; their contracts are the laws.
 
 ghost use Rattle.std.specs.Prelude.{◌≡◌, ℕ};
+ghost use Rattle.pud_defs.specs.CheckText.{check_text};
+ghost use Rattle.pud_defs.specs.Image.{Image};
 ghost use Rattle.pud_defs.specs.LayoutText.{tables_text};
+ghost use Rattle.pud_defs.specs.Registry.{frames_of};
 ghost use Rattle.pud_defs.specs.SoundTables.{HasSoundTables};
-ghost use Rattle.pud_defs.specs.Tables.{Tables};
+ghost use Rattle.pud_defs.specs.Tables.{Tables, tables_of};
+ghost use Rattle.pud_defs.specs.World.{stored_by};
+ghost use Rattle.pud_check.specs.Checked.{listed_check};
 ghost use Rattle.pud_check.specs.LayoutListed.{listed_layout};
 
 /// What is said of sound tables is the text of what stands where.
 pub fn sound_tables_are_laid_out()
     ensures { (next : ℕ) (t : Tables) (id number : ℕ) → HasSoundTables next t → listed_layout id number t ≡ tables_text id number t }
+{}
+
+/// What is said of the pools of sound tables is the check text of the world that their image stands for.
+pub fn sound_tables_are_checked()
+    ensures { (frames next : ℕ) (image : Image) → HasSoundTables next (tables_of frames image) → frames ≡ frames_of image → listed_check frames image ≡ check_text (stored_by image) }
 {}

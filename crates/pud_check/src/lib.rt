@@ -1,6 +1,7 @@
-//! What the program says of a device: which pools it has, and where their puddles stand.
+//! What the program says of a device: which pools it has, where their puddles stand, and what they hold.
 #![tactic(auto)]
 
+mod check;
 mod laws;
 mod text;
 
@@ -21,7 +22,8 @@ ghost use Rattle.pool_table.specs.InOrder.{IsInSlot};
 ghost use Rattle.puddle_table.specs.Placed.{HoldsPlaces};
 ghost use Rattle.pud_check.specs.LayoutListed.{puddle_listed, puddles_listed, pool_listed, listed_layout};
 
-pub use laws::sound_tables_are_laid_out;
+pub use check::check_pools;
+pub use laws::{sound_tables_are_checked, sound_tables_are_laid_out};
 use pm_model::{Host, HostFault};
 use pool_table::in_order;
 use pud_defs::layout::{MACHINE_WORD, NEXT_NUMBER_WORD};

@@ -1,14 +1,16 @@
-//! The lines on frames, pools and puddles, each as a text.
+//! The lines on frames, pools and puddles, and on what pools hold, each as a text.
 
 ghost use Rattle.std.specs.Prelude.{◌≡◌, ◌+◌, ◌≤◌, ◌∷◌, ◌++◌};
 ghost use Rattle.arrayvec.specs.ArrayVec.{array_vec_len};
 ghost use Rattle.pool_list.specs.declared.text.TheConstants.{TEXT_LIMIT};
+ghost use Rattle.pud_defs.specs.CheckText.{count_line};
 ghost use Rattle.pud_defs.specs.LayoutText.{address_text, frames_line, pool_line};
 ghost use Rattle.pud_defs.specs.Listing.{space};
+ghost use Rattle.pud_check.specs.Checked.{objects_text, objects_line};
 ghost use Rattle.pud_check.specs.LayoutListed.{field_text, line_end, record_line};
 
 use pool_list::text::{Text, add, add_identifier, add_long, add_mode, add_name, add_number};
-use pud_defs::records::{PoolRec, PuddleRec};
+use pud_defs::records::{Name, PoolRec, PuddleRec};
 use uid_make::print_uuid;
 
 /// Adds a space and the number.
@@ -85,5 +87,44 @@ pub fn puddle_line(id: u64, frame: u32, rec: &PuddleRec) -> Text
     add_address(&mut text, rec.old_base);
     add_field(&mut text, rec.frontier);
     add_end(&mut text, id, rec.number);
+    text
+}
+
+/// Adds ` sound objects O puddles K`, or ` wild` where it is not said how many objects there are.
+fn add_objects(text: &mut Text, objects: Option<u32>, puddles: u32)
+    requires { array_vec_len text.old + 44 ≤ TEXT_LIMIT }
+    ensures objects { text.new.items ≡ text.old.items ++ objects_text objects puddles }
+    ensures within { array_vec_len text.new ≤ array_vec_len text.old + 44 }
+{
+    match objects {
+        None => add(text, b" wild"),
+        Some(objects) => {
+            add(text, b" sound objects ");
+            add_number(text, objects);
+            add(text, b" puddles ");
+            add_number(text, puddles);
+        }
+    }
+}
+
+/// `NAME sound objects O puddles K`, or `NAME wild` where it is not said how many objects there are: at most 61 bytes.
+pub fn objects_line(name: &Name, objects: Option<u32>, puddles: u32) -> Text
+    ensures { result.items ≡ objects_line name.now objects puddles }
+{
+    let mut text = Text::new();
+    add_name(&mut text, name);
+    add_objects(&mut text, objects, puddles);
+    text.push(b'\n');
+    text
+}
+
+/// `pools P`, at most 17 bytes.
+pub fn count_line(pools: u32) -> Text
+    ensures { result.items ≡ count_line pools }
+{
+    let mut text = Text::new();
+    add(&mut text, b"pools ");
+    add_number(&mut text, pools);
+    text.push(b'\n');
     text
 }

@@ -1,0 +1,42 @@
+-- The text of which pools are sound, as a device lists them, whatever its tables hold.
+use Rattle.std.specs.Prelude.{ℕ, List, ◌++◌, length, codes, decimal, flat_map, Option, Some, None, option_map}
+use Rattle.pud_defs.specs.declared.records.PoolRec.{PoolRec}
+use Rattle.pud_defs.specs.declared.records.Puddle.{Puddle}
+use Rattle.pud_defs.specs.Image.{Image}
+use Rattle.pud_defs.specs.Types.{types_of}
+use Rattle.pud_defs.specs.Stored.{stored_in}
+use Rattle.pud_defs.specs.Graph.{graph_of}
+use Rattle.pud_defs.specs.Tables.{tables_of, puddles_in_turn}
+use Rattle.pud_defs.specs.Texts.{line_of}
+use Rattle.pud_defs.specs.Listing.{name_text}
+use Rattle.pud_defs.specs.CheckText.{count_line}
+use Rattle.pool_table.specs.InOrder.{in_order}
+
+-- what is said of a pool by how many objects its graph has, where it has one, and by how many puddles it has
+abbrev pub objects_text : (objects : Option ℕ) (puddles : ℕ) → List ℕ
+objects_text None puddles = codes " wild"
+objects_text (Some objects) puddles = codes " sound objects " ++ decimal objects ++ codes " puddles " ++ decimal puddles
+
+-- the same under its name
+abbrev pub objects_line : (name : List ℕ) (objects : Option ℕ) (puddles : ℕ) → List ℕ
+objects_line name objects puddles = line_of (name_text name ++ objects_text objects puddles)
+
+-- how many objects the graph has that these puddles hold, each given with its frame, where they hold one
+abbrev pub objects_in : ℕ → Image → List (ℕ × Puddle) → Option ℕ
+objects_in F image at = option_map (λ g. length g.objects) (graph_of (types_of image) (stored_in F at image))
+
+-- the line of a pool with this record and these puddles
+abbrev pub puddles_checked : ℕ → Image → PoolRec → List (ℕ × Puddle) → List ℕ
+puddles_checked F image r at = objects_line r.name (objects_in F image at) (length at)
+
+-- the line of a pool by its slot and record
+abbrev pub pool_checked : ℕ → Image → ℕ × PoolRec → List ℕ
+pool_checked F image e = puddles_checked F image e.1 (puddles_in_turn (tables_of F image) e.0)
+
+-- the lines of these records, each with its slot, and how many they are
+abbrev pub records_checked : ℕ → Image → List (ℕ × PoolRec) → List ℕ
+records_checked F image records = flat_map (pool_checked F image) records ++ count_line (length records)
+
+-- the lines of the used pool records by ascending names, and how many they are
+unfoldable pub listed_check : ℕ → Image → List ℕ
+listed_check F image = records_checked F image (in_order (tables_of F image))

@@ -1,0 +1,94 @@
+//! Which pools are sound, and how many objects and puddles they have.
+
+ghost use Rattle.std.specs.Prelude.{◌≡◌, ◌≢◌, ◌≤◌, ◌<◌, ◌++◌, ℕ, Option, All, decimal, flat_map};
+ghost use Rattle.pm_model.specs.Words.{reads};
+ghost use Rattle.pm_model.specs.Counts.{after_fault, fault_of};
+ghost use Rattle.pm_model.specs.Calls.{Says};
+ghost use Rattle.pud_defs.specs.declared.layout.TheConstants.{MAX_FRAMES};
+ghost use Rattle.pud_defs.specs.declared.records.TheConstants.{POOL_RECORDS};
+ghost use Rattle.pud_defs.specs.CheckText.{check_text};
+ghost use Rattle.pud_defs.specs.Image.{Image};
+ghost use Rattle.pud_defs.specs.Layout.{device_words};
+ghost use Rattle.pud_defs.specs.Registry.{frames_of};
+ghost use Rattle.pud_defs.specs.SoundTables.{HasSoundTables};
+ghost use Rattle.pud_defs.specs.Tables.{tables_of};
+ghost use Rattle.pud_defs.specs.World.{stored_by};
+ghost use Rattle.pool_table.specs.InOrder.{IsInSlot};
+ghost use Rattle.puddle_table.specs.Placed.{HoldsPlaces};
+ghost use Rattle.pud_check.specs.Checked.{pool_checked, listed_check};
+
+use crate::text::{count_line, objects_line};
+use graph_read::objects_held;
+use pm_model::{Host, HostFault};
+use pool_table::in_order;
+use pud_defs::records::PoolRec;
+use puddle_table::{Places, find_places};
+
+/// Says the line of the pool of this slot and record.
+fn say_pool<H: Host>(
+    h: &mut H,
+    frames: u32,
+    places: &Places,
+    slot: u32,
+    rec: &PoolRec,
+) -> Result<(), HostFault>
+    requires few { frames ≤ MAX_FRAMES }
+    requires room { device_words frames ≤ (H.counts h.old).size }
+    requires slot { slot < POOL_RECORDS }
+    requires count { (places.now).count ≡ frames }
+    ensures says { H.tells → (image : Image) → reads (H.state h.old).now.words ≡ image → HoldsPlaces (tables_of frames image) places.now
+        → Says (pool_checked frames image (slot, rec.now)) (fault_of result) (H.state h.old) (H.state h.new) }
+    ensures cause { H.counts h.new ≡ after_fault (fault_of result) (H.counts h.old) }
+    ensures never_cut { fault_of result ≢ Option.Some HostFault.Cut }
+{
+    let puddles = places.of_pool(h, slot)?;
+    let puddles = puddles.as_slice();
+    let objects = objects_held(h, frames, puddles)?;
+    h.say(objects_line(&rec.name, objects, puddles.len() as u32).as_slice())
+}
+
+/// Says the lines of the pools of these records, each with its slot, in turn.
+fn say_pools<H: Host>(
+    h: &mut H,
+    frames: u32,
+    places: &Places,
+    records: &[(u32, PoolRec)],
+) -> Result<(), HostFault>
+    requires few { frames ≤ MAX_FRAMES }
+    requires room { device_words frames ≤ (H.counts h.old).size }
+    requires slots { All IsInSlot records.now }
+    requires count { (places.now).count ≡ frames }
+    ensures says { H.tells → (image : Image) → reads (H.state h.old).now.words ≡ image → HoldsPlaces (tables_of frames image) places.now
+        → Says (flat_map (pool_checked frames image) records.now) (fault_of result) (H.state h.old) (H.state h.new) }
+    ensures cause { H.counts h.new ≡ after_fault (fault_of result) (H.counts h.old) }
+    ensures never_cut { fault_of result ≢ Option.Some HostFault.Cut }
+{
+    for (slot, rec) in records {
+        say_pool(h, frames, places, *slot, rec)?;
+    }
+    Ok(())
+}
+
+/// Says which pools are sound: for each used pool record, by ascending names, `NAME sound objects O puddles K` where its puddles
+/// store a graph, and `NAME wild` where they store none; and then `pools P`, how many lines there were.
+///
+/// Of several pool records of one name the one of the lowest slot counts. The puddles of a pool are those of the ordinals from
+/// 0 on, up to the first that no record has: all of them where the tables are sound.
+///
+/// The device has the words that so many frames need, whatever they hold. Nothing is written, and no memory is taken. The only
+/// errors are the host's own; the front of the text may then have been said.
+pub fn check_pools<H: Host>(h: &mut H, frames: u32) -> Result<(), HostFault>
+    requires few { frames ≤ MAX_FRAMES }
+    requires room { device_words frames ≤ (H.counts h.old).size }
+    ensures says { H.tells → (image : Image) → reads (H.state h.old).now.words ≡ image
+        → Says (listed_check frames image) (fault_of result) (H.state h.old) (H.state h.new) }
+    ensures sound { H.tells → (image : Image) → reads (H.state h.old).now.words ≡ image → (next : ℕ) → HasSoundTables next (tables_of frames image)
+        → frames ≡ frames_of image → Says (check_text (stored_by image)) (fault_of result) (H.state h.old) (H.state h.new) }
+    ensures cause { H.counts h.new ≡ after_fault (fault_of result) (H.counts h.old) }
+    ensures never_cut { fault_of result ≢ Option.Some HostFault.Cut }
+{
+    let places = find_places(h, frames)?;
+    let records = in_order(h)?;
+    say_pools(h, frames, &places, records.as_slice())?;
+    h.say(count_line(records.len() as u32).as_slice())
+}
