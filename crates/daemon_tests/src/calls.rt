@@ -40,7 +40,7 @@ pub fn start_of<H: Host>(host: &mut H) -> u8 {
 }
 
 /// What the daemon answers to the line.
-fn answer_of<H: Host>(
+pub fn answer_of<H: Host>(
     rt: &impl Abort,
     alloc: Global,
     daemon: &mut Daemon,

@@ -8,4 +8,6 @@ mod lines;
 #[cfg(test)]
 mod pools;
 #[cfg(test)]
+mod reading;
+#[cfg(test)]
 mod starts;

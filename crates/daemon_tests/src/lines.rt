@@ -7,7 +7,7 @@ use std::process::Abort;
 use test_device::{blank_device, cuts};
 
 /// How many device steps a line takes that defines a type.
-const DEFINE_STEPS: u32 = 6;
+pub const DEFINE_STEPS: u32 = 6;
 
 /// The last step of such a line behind the start.
 const LINE_END: u32 = START_STEPS + DEFINE_STEPS;

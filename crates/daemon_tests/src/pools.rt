@@ -8,10 +8,10 @@ use std::process::Abort;
 use test_device::{ROOM, STEPS, poke};
 
 /// How many words the smallest device has.
-const WORDS: u32 = 42_528;
+pub const WORDS: u32 = 42_528;
 
 /// The words of a blank device that are not zero.
-const BLANK: [(u32, u64); 5] = [(0, 0x3130_5645_4444_5550), (1, 1), (2, 7), (3, 4), (4, 1)];
+pub const BLANK: [(u32, u64); 5] = [(0, 0x3130_5645_4444_5550), (1, 1), (2, 7), (3, 4), (4, 1)];
 
 #[test]
 fn pools_are_made_changed_listed_and_dropped(rt: HostRuntime) {
@@ -78,9 +78,9 @@ fn a_list_that_cannot_be_said_whole_fails_and_its_front_is_said(rt: HostRuntime)
 }
 
 /// How many device steps a client takes that comes, and a pool that is made.
-const COME_STEPS: u32 = 27;
+pub const COME_STEPS: u32 = 27;
 
-const POOL_STEPS: u32 = 2_347;
+pub const POOL_STEPS: u32 = 2_347;
 
 // The first of its steps fails, one in the frame, the last one, and none.
 #[test]
