@@ -1,6 +1,7 @@
 //! Whether what a pool stores is a graph, and how many objects it has.
 
-ghost use Rattle.std.specs.Prelude.{◌≡◌, ◌≢◌, ◌+◌, ◌-◌, ◌*◌, ◌<◌, ◌≤◌, ◌&&◌, length, slice_index, Option, is_some, option_map, IfOk, IfSome};
+ghost use Rattle.std.specs.Prelude.{◌≡◌, ◌≢◌, ◌+◌, ◌-◌, ◌*◌, ◌<◌, ◌≤◌, ◌==◌, ◌&&◌, length, slice_index, Option, is_some, option_map, IfOk, IfSome};
+ghost use Rattle.std.specs.List.{list_any};
 ghost use Rattle.std.specs.Ordering.{nat_cmp};
 ghost use Rattle.pm_model.specs.Words.{reads};
 ghost use Rattle.pm_model.specs.Counts.{after_fault, fault_of};
@@ -74,6 +75,17 @@ fn headers_fit<H: Host>(h: &mut H, frames: u32, pool: &[(u32, Puddle)]) -> Resul
     Ok(true)
 }
 
+/// Whether a serial is one of these. All are looked at, since a loop without an early end takes several at once.
+fn is_among(serial: u64, serials: &[u64]) -> bool
+    ensures { result ≡ list_any (λ other. other == serial) serials.now }
+{
+    let mut found = false;
+    for other in serials {
+        found |= *other == serial;
+    }
+    found
+}
+
 /// Whether a place is free, or none of the later places of so many has its serial.
 fn is_last(serials: &Serials, count: usize, place: usize) -> bool
     requires within { count ≤ PLACES }
@@ -81,7 +93,7 @@ fn is_last(serials: &Serials, count: usize, place: usize) -> bool
     ensures { result ≡ is_apart nat_cmp (under_serial (slice_index serials.now) (λ p. p) place) (under_serial (slice_index serials.now) (λ p. p)) (place + 1) (count - (place + 1)) }
 {
     let serial = serials[place];
-    serial == 0 || !serials[place + 1..count].contains(&serial)
+    serial == 0 || !is_among(serial, &serials[place + 1..count])
 }
 
 /// Whether no two live places of so many have one serial.

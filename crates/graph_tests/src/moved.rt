@@ -92,7 +92,7 @@ fn the_frontier_decides(rt: HostRuntime) {
             &words(pointer),
             asked,
         );
-        assert!(rt; got == want, "{pointer} {first} {second}");
+        assert!(rt; got == want, "{pointer} {first}");
     }
 }
 

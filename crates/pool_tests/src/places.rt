@@ -291,6 +291,15 @@ fn puddles<H: Host>(rt: &impl Abort, host: &mut H, slot: u32) -> Result<Puddles,
     places.of_pool(host, slot)
 }
 
+/// A device with the records of these puddles.
+fn holding(rt: &impl Abort, alloc: Global, members: &[Member], plan: Plan) -> MemHost {
+    let mut host = zero_device(alloc, tables_end(FRAMES), b"", plan).expect(rt, "memory");
+    for member in members {
+        put_puddle(rt, &mut host, *member);
+    }
+    host
+}
+
 /// The pool of this slot has to have the puddles of these frames, in this order.
 fn has_puddles<H: Host>(rt: &impl Abort, host: &mut H, slot: u32, frames: &[u32]) {
     let found = puddles(rt, host, slot).ok().expect(rt, "no call fails");
@@ -300,47 +309,61 @@ fn has_puddles<H: Host>(rt: &impl Abort, host: &mut H, slot: u32, frames: &[u32]
     }
 }
 
+/// Pool 1 with three puddles, and pool 31 with one.
+const TWO_POOLS: [Member; 4] = [(5, 1, 0), (2, 1, 2), (9, 1, 1), (4, 31, 0)];
+
+/// Pool 3 with the ordinals from 0 to 15. Ordinal 16 is none of its puddles.
+const SIXTEEN: [Member; 17] = [
+    (19, 3, 0),
+    (18, 3, 1),
+    (17, 3, 2),
+    (16, 3, 3),
+    (15, 3, 4),
+    (14, 3, 5),
+    (13, 3, 6),
+    (12, 3, 7),
+    (11, 3, 8),
+    (10, 3, 9),
+    (9, 3, 10),
+    (8, 3, 11),
+    (7, 3, 12),
+    (6, 3, 13),
+    (5, 3, 14),
+    (4, 3, 15),
+    (3, 3, 16),
+];
+
+const SIXTEEN_FRAMES: [u32; 16] = [19, 18, 17, 16, 15, 14, 13, 12, 11, 10, 9, 8, 7, 6, 5, 4];
+
 #[test]
 fn the_puddles_of_a_pool_come_by_their_ordinals(rt: HostRuntime) {
     let alloc = rt.alloc();
-    let two: [Member; 4] = [(5, 1, 0), (2, 1, 2), (9, 1, 1), (4, 31, 0)];
-    let rows: [(&[Member], u32, &[u32]); 9] = [
+    let rows: [(&[Member], u32, &[u32]); 10] = [
         (&[], 0, &[]),
         (&[(3, 0, 0)], 0, &[3]),
         (&[(3, 0, 0)], 1, &[]),
-        (&two, 1, &[5, 9, 2]),
-        (&two, 31, &[4]),
-        (&two, 0, &[]),
+        (&TWO_POOLS, 1, &[5, 9, 2]),
+        (&TWO_POOLS, 31, &[4]),
+        (&TWO_POOLS, 0, &[]),
         (&[(5, 1, 0), (2, 1, 2)], 1, &[5]),
         (&[(2, 1, 1), (3, 1, 2)], 1, &[]),
         (&[(7, 1, 0), (6, 1, 0), (19, 1, 1)], 1, &[6, 19]),
+        (&SIXTEEN, 3, &SIXTEEN_FRAMES),
     ];
     for (members, slot, frames) in rows {
-        let plan = Plan::none(alloc);
-        let mut host = zero_device(alloc, tables_end(FRAMES), b"", plan).expect(&rt, "memory");
-        for member in members {
-            put_puddle(&rt, &mut host, *member);
-        }
+        let mut host = holding(&rt, alloc, members, Plan::none(alloc));
         has_puddles(&rt, &mut host, slot, frames);
     }
 }
 
-// The calls up to number 20 load a word of each frame's record, and those up to 84 four words of each of 16 puddles. What
-// would be ordinal 16 is none of the pool's.
+// The calls up to number 20 load a word of each frame's record, and those up to 84 four words of each of 16 puddles.
 #[test]
 fn sixteen_puddles_take_four_loads_each(rt: HostRuntime) {
     let alloc = rt.alloc();
-    let frames = [19, 18, 17, 16, 15, 14, 13, 12, 11, 10, 9, 8, 7, 6, 5, 4];
     for call in [1, 20, 21, 24, 25, 83, 84, 85] {
         let plan = failures(alloc, &[call]).expect(&rt, "memory");
-        let mut host = zero_device(alloc, tables_end(FRAMES), b"", plan).expect(&rt, "memory");
-        for ordinal in 0..17 {
-            put_puddle(&rt, &mut host, (19 - ordinal, 3, ordinal));
-        }
-        if call == 85 {
-            has_puddles(&rt, &mut host, 3, &frames);
-        } else {
-            assert!(rt; puddles(&rt, &mut host, 3).is_err(), "{call}");
-        }
+        let mut host = holding(&rt, alloc, &SIXTEEN, plan);
+        let found = puddles(&rt, &mut host, 3);
+        assert!(rt; found.is_ok() == (call == 85), "{call}");
     }
 }

@@ -2,4 +2,5 @@ pub mod Status
 pub mod Formatting
 pub mod Serving
 pub mod Headline
+pub mod Views
 pub mod Modes

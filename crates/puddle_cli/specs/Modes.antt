@@ -9,10 +9,11 @@ use Rattle.pud_defs.specs.Image.{Image}
 use Rattle.pud_defs.specs.Replay.{settled_by}
 use Rattle.pud_defs.specs.Texts.{start_text}
 use Rattle.pud_defs.specs.LayoutText.{layout_text}
-use Rattle.pud_defs.specs.World.{StoredWorld, World, no_clients, world_of, closed}
+use Rattle.pud_defs.specs.CheckText.{check_text}
+use Rattle.pud_defs.specs.World.{StoredWorld, World, stored_by, no_clients, world_of, closed}
 use Rattle.puddled.specs.Daemon.{KeepsRest, SaysPart}
 use Rattle.command_line.specs.declared.modes.Mode.{Mode}
-use Rattle.command_line.specs.declared.modes.Mode.TheVariants.{Format, Run, Layout}
+use Rattle.command_line.specs.declared.modes.Mode.TheVariants.{Format, Run, Layout, Check}
 use Rattle.puddle_cli.specs.declared.status.TheConstants.{DONE, USAGE, NOT_USABLE, TOO_LONG}
 use Rattle.puddle_cli.specs.Status.{status_fault, IsStatusOfMode}
 use Rattle.puddle_cli.specs.Formatting.{is_refused, Formats}
@@ -65,6 +66,7 @@ EndsBy None status before after = (status ≡ USAGE) × (after ≡ before)
 EndsBy (Some (Format F id)) status before after = IsStatusOfMode status × (status ≢ TOO_LONG) × (after ≡ after_fault (status_fault status) before)
 EndsBy (Some Run) status before after = IsStatusOfMode status
 EndsBy (Some Layout) status before after = IsStatusOfMode status × (status ≢ TOO_LONG) × (after ≡ after_fault (status_fault status) before)
+EndsBy (Some Check) status before after = IsStatusOfMode status × (status ≢ TOO_LONG) × (after ≡ after_fault (status_fault status) before)
 
 -- what each mode does; words that are no mode leave all as it was
 abbrev pub DoesBy : Option Mode → ℕ → Counts → Counts → State → State → Type 0
@@ -72,3 +74,4 @@ DoesBy None status before after old new = new ≡ old
 DoesBy (Some (Format F id)) status before after old new = FormatsDevice F id status before after old new
 DoesBy (Some Run) status before after old new = RunsScript status before after old new
 DoesBy (Some Layout) status before after old new = Shows layout_text status before after old new
+DoesBy (Some Check) status before after old new = Shows (λ image. check_text (stored_by image)) status before after old new

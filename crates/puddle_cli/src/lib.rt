@@ -2,9 +2,9 @@
 #![tactic(auto)]
 
 mod format;
-mod layout;
 mod piece;
 mod run;
+mod show;
 mod status;
 mod top;
 

@@ -26,6 +26,10 @@ use Rattle.puddled.specs.Answered.{as_answered}
 use Rattle.puddled.specs.Daemon.{KeepsRest, KeepsLine, IsReady, Applies, ClosesFirst, ClosesLogs, CarriesOut}
 use Rattle.puddled.proofs.Applying.{Applies-idle}
 
+-- where nothing happened the rest stays
+pub keeps_still : (old new : State) → new ≡ old → KeepsRest old new
+keeps_still old new same = record { script = ap (λ (s : State). s.script) same; shelf = ap (λ (s : State). s.shelf) same }
+
 -- what keeps the shelf keeps each file
 pub keeps_line : (file : Option (List ℕ)) (old new : State) → KeepsRest old new → KeepsLine file old new
 keeps_line file old new k = record { script = k.script; files = KeepsFiles-still file old.shelf new.shelf k.shelf }

@@ -65,6 +65,10 @@ module _ (size : ℕ) (w : World) (memory : Memory) (s : State) (ready : IsReady
   abbrev hold : Reader
   hold = holding_in w.stored.types F image
 
+  -- a record as it is read
+  abbrev read_record : ℕ × PoolRec → ℕ × PoolRec
+  read_record p = (p.0, pool_read p.1)
+
   -- the client is not there
   pub unread_client : w.clients client ≡ None → refusal_to_read w client name ≡ Some refusals.Client
   unread_client none = ap (λ who. reading_refusal who (pool_named name w.stored)) none
@@ -73,9 +77,9 @@ module _ (size : ℕ) (w : World) (memory : Memory) (s : State) (ready : IsReady
   pub unread_pool : (who : Owner) → w.clients client ≡ Some who → None ≡ pool_in t name → refusal_to_read w client name ≡ Some refusals.Pool
   unread_pool who there none = ap₂ reading_refusal there (pool_there size w memory s ready client name ∙ ap (option_map (pool_by_record hold t)) (no_record (find name_cmp name (records_of t)) none))
     where
-      no_record : (o : Option (ℕ × PoolRec)) → None ≡ option_map (λ p. (p.0, pool_read p.1)) o → o ≡ None
+      no_record : (o : Option (ℕ × PoolRec)) → None ≡ option_map read_record o → o ≡ None
       no_record None e = refl
-      no_record (Some x) e = absurd (none-some {A = ℕ × PoolRec} (x.0, pool_read x.1) e)
+      no_record (Some x) e = let read : ℕ × PoolRec = (x.0, pool_read x.1) in absurd (none-some read e)
 
   module _ (slot : ℕ) (rec : PoolRec) (is : ◌≡◌ {A = Option (ℕ × PoolRec)} (Some (slot, rec)) (pool_in t name)) where
     found : IsRecord size w memory s ready client name slot rec
@@ -122,6 +126,51 @@ module _ (size : ℕ) (w : World) (memory : Memory) (s : State) (ready : IsReady
     refusal_there uid gid g there graph =
         ap₂ reading_refusal there named
         ∙ ap₂ (λ (h : Option Graph) (b : Bool). cond (is_none h) (Some refusals.Wild) (cond (not b) (Some refusals.Denied) None)) (ap graph_in (sym named) ∙ graph) (right_read uid gid)
+
+    -- what was read of it: its puddles, and whether they have a graph
+    pub record GraphRead (frames : ℕ) (puddles : List (ℕ × Puddle)) (sound : Bool) : Type 0 where
+      pub named_graph : graph_in (pool_named name w.stored) ≡ graph_of (types_of image) (stored_in frames puddles image)
+      pub has_graph : sound ≡ is_some (graph_of (types_of image) (stored_in frames puddles image))
+
+    pub graph_was_read : (frames count : ℕ) (puddles slice : List (ℕ × Puddle)) (sound : Bool) → frames ≡ F → count ≡ frames → puddles ≡ puddles_in_turn (tables_of count image) slot → slice ≡ puddles
+        → sound ≡ is_some (graph_of (types_of image) (stored_in frames slice image)) → GraphRead frames puddles sound
+    graph_was_read frames count puddles slice sound on counted turned same is = record {
+      named_graph =
+          graph_read puddles (turned ∙ ap (λ (n : ℕ). puddles_in_turn (tables_of n image) slot) (counted ∙ on))
+          ∙ ap (λ (n : ℕ). graph_of (types_of image) (stored_in n puddles image)) (sym on);
+      has_graph = is ∙ ap (λ at. is_some (graph_of (types_of image) (stored_in frames at image))) same;
+    }
+
+    by_graph : (g : Option Graph) (rest : Option Refusal) → is_some g ≡ true → cond (is_none g) (Some refusals.Wild) rest ≡ rest
+    by_graph None rest is = absurd (let no : false ≡ true = is in cc)
+    by_graph (Some x) rest is = refl
+
+    no_graph : (g : Option Graph) (rest : Option Refusal) → is_some g ≡ false → cond (is_none g) (Some refusals.Wild) rest ≡ Some refusals.Wild
+    no_graph None rest is = refl
+    no_graph (Some x) rest is = absurd (let no : true ≡ false = is in cc)
+
+    module _ (uid gid frames : ℕ) (puddles : List (ℕ × Puddle)) (sound : Bool) (there : w.clients client ≡ Some (owner uid gid)) (read : GraphRead frames puddles sound) where
+      abbrev right : Bool
+      right = may_read rec.mode (owner rec.uid rec.gid) (owner uid gid)
+
+      pub unread_wild : sound ≡ false → refusal_to_read w client name ≡ Some refusals.Wild
+      unread_wild is = refusal_there uid gid _ there read.named_graph ∙ no_graph _ _ (sym read.has_graph ∙ is)
+
+      by_right : sound ≡ true → refusal_to_read w client name ≡ cond (not right) (Some refusals.Denied) None
+      by_right is = refusal_there uid gid _ there read.named_graph ∙ by_graph _ _ (sym read.has_graph ∙ is)
+
+      pub unread_denied : sound ≡ true → right ≡ false → refusal_to_read w client name ≡ Some refusals.Denied
+      unread_denied is no_right = by_right is ∙ ap (λ b. cond (not b) (Some refusals.Denied) None) no_right
+
+      pub is_readable : sound ≡ true → right ≡ true → refusal_to_read w client name ≡ None
+      is_readable is has_right = by_right is ∙ ap (λ b. cond (not b) (Some refusals.Denied) None) has_right
+
+      holds_some : (g : Option Graph) → graph_of (types_of image) (stored_in frames puddles image) ≡ g → is_some g ≡ true → HoldsGraph w frames name image puddles
+      holds_some None is some = absurd (let no : false ≡ true = some in cc)
+      holds_some (Some graph) is some = record { graph = graph; stored = is; is = read.named_graph ∙ is }
+
+      pub holds_graph : sound ≡ true → HoldsGraph w frames name image puddles
+      holds_graph is = holds_some (graph_of (types_of image) (stored_in frames puddles image)) refl (sym read.has_graph ∙ is)
 
 -- ---- what is replied
 
@@ -182,6 +231,13 @@ module _ (w : World) (client : ℕ) (name : List ℕ) (serial f : ℕ) where
   reply_read g read is e free =
       let there : object ≡ object_in serial g = ap (object_of serial) is in
       reply_by (object_in serial g) (field_of f (object_in serial g)) read there (ap (field_of f) there) e refl free
+
+  -- where the field was read over the puddles that have the graph
+  pub reply_when_read : (F : ℕ) (image : Image) (puddles slice : List (ℕ × Puddle)) (read : FieldRead) → HoldsGraph w F name image puddles → slice ≡ puddles
+      → ((graph : Graph) → graph_of (types_of image) (stored_in F slice image) ≡ Some graph → read ≡ read_by (object_in serial graph) f) → refusal_to_read w client name ≡ None
+      → of_reply (reply_of_read read) ≡ answer_by w (Some c)
+  reply_when_read F image puddles slice read holds same told free =
+      reply_read holds.graph read holds.is (told holds.graph (ap (λ at. graph_of (types_of image) (stored_in F at image)) same ∙ holds.stored)) free
 
   -- ---- the line
 

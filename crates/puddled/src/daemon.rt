@@ -16,6 +16,7 @@ ghost use Rattle.puddled.specs.Daemon.{KeepsRest, KeepsLine, IsReady, IsReplayed
 use crate::answers::{Answered, say_answer, with_reply};
 use crate::clients::{come, leave};
 use crate::pools::{change, drop_owned, make};
+use crate::reading::get;
 use crate::types::define_type;
 use log_space::clear_spaces;
 use pm_model::{Host, HostFault};

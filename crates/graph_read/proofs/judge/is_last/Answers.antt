@@ -4,4 +4,4 @@ use Rattle.graph_read.proofs.judge.is_last.Goals as goal
 
 pub returns-else-serial-eq0 : goal.returns-else-serial-eq0
 returns-else-serial-eq0 c =
-    ap not c.contains.ensures.value ∙ is_apart-live c.args.serials.now c.args.place (c.args.count - (c.args.place + 1)) c.if-serial-eq0.false (omega arith)
+    ap not c.is_among.ensures ∙ is_apart-live c.args.serials.now c.args.place (c.args.count - (c.args.place + 1)) c.if-serial-eq0.false (omega arith)

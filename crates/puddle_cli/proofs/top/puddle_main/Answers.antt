@@ -1,5 +1,7 @@
 use Rattle.std.proofs.Common.{Option, refl, sym, ap, subst}
 use Rattle.pud_defs.specs.LayoutText.{layout_text}
+use Rattle.pud_defs.specs.CheckText.{check_text}
+use Rattle.pud_defs.specs.World.{stored_by}
 use Rattle.command_line.specs.declared.modes.Mode.{Mode}
 use Rattle.puddle_cli.specs.Status.{status_fault}
 use Rattle.puddle_cli.specs.Modes.{RunsScript, Shows, DoesBy}
@@ -22,8 +24,8 @@ returns-in-Ok-Run-clause-does g c = λ t told.
 
 pub returns-in-Ok-Layout-clause-does : goal.returns-in-Ok-Layout-clause-does
 returns-in-Ok-Layout-clause-does g c = λ t told.
-    let shows = c.layout.ensures in
-    let does : Shows layout_text c.layout.result (g.H.Host.counts c.args.host.now) (g.H.Host.counts c.layout.new.h) (g.H.Host.state c.args.host.now) (g.H.Host.state c.layout.new.h) = record {
+    let shows = c.show.ensures in
+    let does : Shows layout_text c.show.result (g.H.Host.counts c.args.host.now) (g.H.Host.counts c.show.new.h) (g.H.Host.state c.args.host.now) (g.H.Host.state c.show.new.h) = record {
       not_usable = shows.not_usable t;
       stays = shows.unchanged t;
       completes = λ sound none. done_by _ _ _ shows.status shows.never_too_long shows.cause none.faults none.cuts (λ refused. sound ((shows.not_usable t (ap status_fault refused)).0 refused));
@@ -32,5 +34,20 @@ returns-in-Ok-Layout-clause-does g c = λ t told.
       moments = λ rested s world. shows.moments t _ refl rested s world;
       rest = shows.rest t;
     } in
-    subst (λ (m : Option Mode). DoesBy m c.layout.result (g.H.Host.counts c.args.host.now) (g.H.Host.counts c.layout.new.h) (g.H.Host.state c.args.host.now) (g.H.Host.state c.layout.new.h))
+    subst (λ (m : Option Mode). DoesBy m c.show.result (g.H.Host.counts c.args.host.now) (g.H.Host.counts c.show.new.h) (g.H.Host.state c.args.host.now) (g.H.Host.state c.show.new.h))
     (sym (rw c.in-Ok-Layout.field-0-is at c.in-Ok-Layout.ensures.ok)) does
+
+pub returns-in-Ok-Check-clause-does : goal.returns-in-Ok-Check-clause-does
+returns-in-Ok-Check-clause-does g c = λ t told.
+    let shows = c.show-in-Ok-Check.ensures in
+    let does : Shows (λ image. check_text (stored_by image)) c.show-in-Ok-Check.result (g.H.Host.counts c.args.host.now) (g.H.Host.counts c.show-in-Ok-Check.new.h) (g.H.Host.state c.args.host.now) (g.H.Host.state c.show-in-Ok-Check.new.h) = record {
+      not_usable = shows.not_usable t;
+      stays = shows.unchanged t;
+      completes = λ sound none. done_by _ _ _ shows.status shows.never_too_long shows.cause none.faults none.cuts (λ refused. sound ((shows.not_usable t (ap status_fault refused)).0 refused));
+      says = shows.says t;
+      in_the_end = shows.in_the_end t;
+      moments = λ rested s world. shows.moments t _ refl rested s world;
+      rest = shows.rest t;
+    } in
+    subst (λ (m : Option Mode). DoesBy m c.show-in-Ok-Check.result (g.H.Host.counts c.args.host.now) (g.H.Host.counts c.show-in-Ok-Check.new.h) (g.H.Host.state c.args.host.now) (g.H.Host.state c.show-in-Ok-Check.new.h))
+    (sym (rw c.in-Ok-Check.field-0-is at c.in-Ok-Check.ensures.ok)) does

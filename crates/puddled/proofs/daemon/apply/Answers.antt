@@ -1,12 +1,13 @@
 use Rattle.std.proofs.Common.{◌≡◌, ℕ, Some, Ok, refl, sym, ap, subst, ◌∙◌}
 use Rattle.pud_defs.specs.declared.machine.Command.{Command}
-use Rattle.pud_defs.specs.declared.machine.Command.TheVariants.{Client, Leave, Define, Chmod, Pools, Cut, Arm}
+use Rattle.pud_defs.specs.declared.machine.Command.TheVariants.{Client, Leave, Define, Chmod, Pools, Get, Cut, Arm}
 use Rattle.pud_defs.specs.declared.machine.Command.TheVariants as commands
 use Rattle.pud_defs.specs.Grammar.{IsLegalCommand}
 use Rattle.puddled.specs.Memory.{Memory}
 use Rattle.puddled.specs.declared.answers.Answered.TheVariants as answers
 use Rattle.puddled.specs.Daemon.{CarriesOut}
-use Rattle.puddled.proofs.Carrying.{ClosesLogs-leave, ClosesLogs-other, CarriesOut-plain, CarriesOut-as, CarriesOut-listed, CarriesOut-lost, CarriesOut-armed}
+use Rattle.puddled.proofs.Carrying.{keeps_still, ClosesLogs-leave, ClosesLogs-other, CarriesOut-plain, CarriesOut-as, CarriesOut-listed, CarriesOut-lost, CarriesOut-armed}
+use Rattle.puddled.proofs.Readable.{Applies-get}
 use Rattle.puddled.proofs.daemon.apply.Goals as goal
 
 pub returns-in-Client-clause-carries : goal.returns-in-Client-clause-carries
@@ -59,6 +60,16 @@ returns-in-Drop-clause-carries g c = λ t size e w ready.
     CarriesOut-as size w c.args.daemon.now _ _ _ _ c.args.command (commands.Drop c.from-in-Drop.result c.in-Drop.name) c.with_reply-in-Drop.result c.drop_owned.result is c.with_reply-in-Drop.ensures
     (CarriesOut-plain size w c.args.daemon.now _ _ _ _ (commands.Drop c.from-in-Drop.result c.in-Drop.name) c.drop_owned.result refl refl (c.drop_owned.ensures.reply t size w _ ready) (c.drop_owned.ensures.applies t size e w _ frames ready)
     (ClosesLogs-other w _ _ _ (λ client no. cc)) (c.drop_owned.ensures.rest t) c.drop_owned.ensures.cause)
+
+pub returns-in-Get-clause-carries : goal.returns-in-Get-clause-carries
+returns-in-Get-clause-carries g c = λ t size e w ready.
+    let get = Get c.from-in-Get.result c.in-Get.name c.in-Get.s c.in-Get.f in
+    let is : c.args.command ≡ get = c.in-Get.is ∙ ap (λ (k : ℕ). Get k c.in-Get.name c.in-Get.s c.in-Get.f) (sym c.from-in-Get.ensures) in
+    let frames = sym (ap (λ (m : Memory). m.frames) c.daemon.view_is) in
+    CarriesOut-as size w c.args.daemon.now _ _ _ _ c.args.command get c.with_reply-in-Get.result c.get.result is c.with_reply-in-Get.ensures
+    (CarriesOut-plain size w c.args.daemon.now _ _ _ _ get c.get.result refl refl (c.get.ensures.reply t size w _ frames ready)
+    (Applies-get w c.from-in-Get.result c.in-Get.name c.in-Get.s c.in-Get.f size c.args.daemon.now _ _ _ ready (c.get.ensures.stays t) c.get.ensures.never_cut)
+    (ClosesLogs-other w _ _ _ (λ client no. cc)) (keeps_still _ _ (c.get.ensures.stays t)) c.get.ensures.cause)
 
 pub returns-in-Pools-clause-carries : goal.returns-in-Pools-clause-carries
 returns-in-Pools-clause-carries g c = λ t size e w ready.

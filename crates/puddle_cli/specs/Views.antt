@@ -1,0 +1,21 @@
+-- What the modes say that show a device.
+use Rattle.std.specs.Prelude.{ℕ, List, Option}
+use Rattle.pm_model.specs.declared.host.HostFault.{HostFault}
+use Rattle.pm_model.specs.Moments.{State}
+use Rattle.pm_model.specs.Calls.{Says}
+use Rattle.pud_defs.specs.Image.{Image}
+use Rattle.pud_defs.specs.LayoutText.{layout_text}
+use Rattle.pud_defs.specs.CheckText.{check_text}
+use Rattle.pud_defs.specs.World.{stored_by}
+use Rattle.puddle_cli.specs.declared.show.View.{View}
+use Rattle.puddle_cli.specs.declared.show.View.TheVariants.{Layout, Check}
+
+-- what a view shows of a device that holds this image, with nothing to replay
+abbrev pub text_of : View → Image → List ℕ
+text_of Layout image = layout_text image
+text_of Check image = check_text (stored_by image)
+
+-- some text was said, or with a fault a part of it, and nothing else happened
+pub record SaysSome (fault : Option HostFault) (old new : State) : Type 0 where
+  pub text : List ℕ
+  pub says : Says text fault old new
