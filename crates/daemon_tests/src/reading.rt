@@ -565,33 +565,40 @@ fn no_device_step_is_taken(rt: HostRuntime) {
 
 #[test]
 fn a_power_loss_strikes_in_no_get_and_the_same_is_read_behind_it(rt: HostRuntime) {
-    let armed = [
-        ("client 0 5 5", "ok"),
-        ("arm 1 1", "ok"),
-        ("get 0 a 1.0", "ok 10"),
-        ("get 0 a 1.1", "ok @1"),
-        ("get 0 a 2.0", "no object"),
-        ("type 3 1 -", "cut"),
-        ("get 0 a 1.0", "no client"),
-        ("client 0 5 5", "ok"),
-        ("get 0 a 1.0", "ok 10"),
-        ("get 0 a 1.1", "ok @1"),
+    let cases: [Case; 2] = [
+        (
+            &[(POINTER, AT_0)],
+            &[
+                ("client 0 5 5", "ok"),
+                ("arm 1 1", "ok"),
+                ("get 0 a 1.0", "ok 10"),
+                ("get 0 a 1.1", "ok @1"),
+                ("get 0 a 2.0", "no object"),
+                ("type 3 1 -", "cut"),
+                ("get 0 a 1.0", "no client"),
+                ("client 0 5 5", "ok"),
+                ("get 0 a 1.0", "ok 10"),
+                ("get 0 a 1.1", "ok @1"),
+            ],
+        ),
+        // At once.
+        (
+            &[(POINTER, AT_0)],
+            &[
+                ("client 0 5 5", "ok"),
+                ("get 0 a 1.0", "ok 10"),
+                ("get 0 a 1.1", "ok @1"),
+                ("cut 1", "ok"),
+                ("get 0 a 1.0", "no client"),
+                ("client 0 5 5", "ok"),
+                ("get 0 a 1.0", "ok 10"),
+                ("get 0 a 1.1", "ok @1"),
+                ("cut 0", "ok"),
+                ("client 0 6 6", "ok"),
+                ("get 0 a 1.0", "no denied"),
+            ],
+        ),
     ];
-    let at_once = [
-        ("client 0 5 5", "ok"),
-        ("get 0 a 1.0", "ok 10"),
-        ("get 0 a 1.1", "ok @1"),
-        ("cut 1", "ok"),
-        ("get 0 a 1.0", "no client"),
-        ("client 0 5 5", "ok"),
-        ("get 0 a 1.0", "ok 10"),
-        ("get 0 a 1.1", "ok @1"),
-        ("cut 0", "ok"),
-        ("client 0 6 6", "ok"),
-        ("get 0 a 1.0", "no denied"),
-    ];
-    let words: &[Row] = &[(POINTER, AT_0)];
-    let cases: [Case; 2] = [(words, &armed), (words, &at_once)];
     each(&rt, rt.alloc(), &OBJECT, &cases);
 }
 
