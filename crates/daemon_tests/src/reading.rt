@@ -57,7 +57,7 @@ const MAGIC: u64 = 0x3130_454c_4444_5550;
 /// The object of serial 1: it is of type 1, and has the number 10 and a null pointer.
 const OBJECT: [Row; 4] = [(NEXT, 2), (SLOT_0, 1), (SLOT_0 + 1, 1), (NUMBER, 10)];
 
-/// The reply that a line has whose answer is this one.
+/// The answer to a line that has this reply.
 fn answer_to(reply: &str) -> u8 {
     if reply.is_empty() {
         LINE_FAILED
@@ -155,7 +155,7 @@ fn a_number_is_said_and_a_pointer_by_the_serial_that_it_names(rt: HostRuntime) {
             &[(POINTER, AT_0)],
             &[("client 0 5 5", "ok"), ("get 0 a 1.1", "ok @1")],
         ),
-        // To another object, whose serial is not that of the slot's turn.
+        // To another object, whose serial does not go by its slot.
         (
             &[
                 (NEXT, 8),
@@ -197,7 +197,7 @@ fn a_number_is_said_and_a_pointer_by_the_serial_that_it_names(rt: HostRuntime) {
     each(&rt, rt.alloc(), &OBJECT, &cases);
 }
 
-// Each line but the last has all causes of refusal that come later too.
+// Each cause is first met where all that come later hold too.
 #[test]
 fn refusals_come_in_their_order(rt: HostRuntime) {
     let cases: [Case; 2] = [
@@ -645,7 +645,7 @@ fn first_failing<H: Host>(rt: &impl Abort, alloc: Global, host: &mut H) -> usize
     failing
 }
 
-/// Which of the two lines fails where the call of this number does, which all before are answered without.
+/// Which of the two lines fails where the call of this number does. Those before it are answered.
 fn failing_at(rt: &impl Abort, alloc: Global, call: u32) -> usize {
     let plan = failures(alloc, &[call]).expect(rt, "memory");
     let mut host = blank_device(alloc, b"", plan).expect(rt, "memory");
@@ -666,8 +666,12 @@ fn count_failing(rt: &impl Abort, alloc: Global, turns: u32) -> [u32; 4] {
     counts
 }
 
+// Of the calls of `get` at most one says the reply, and all others load.
 #[test]
 fn a_failing_load_is_failed_and_no_refusal(rt: HostRuntime) {
-    let counts = count_failing(&rt, rt.alloc(), 60);
-    assert!(&rt; counts.iter().all(|count| *count != 0), "{counts:?}");
+    let [start, come, get, none] = count_failing(&rt, rt.alloc(), 60);
+    assert!(&rt;
+        start > 0 && come > 0 && get > 1 && none > 0,
+        "{start} {come} {get} {none}"
+    );
 }
