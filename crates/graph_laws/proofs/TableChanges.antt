@@ -6,7 +6,7 @@ use Rattle.std.proofs.lemmas.Cmp.{nat_cmp_total}
 use Rattle.pud_defs.specs.Keyed.{keyed, under, without}
 use Rattle.pud_defs.specs.Graph.{Content, Table, under_serial, placed, object_at, live, named_by, value_of, stands, all_stand, contents_or_none, is_next_serial}
 use Rattle.pud_defs.proofs.TypeLists.{same_test, same_number}
-use Rattle.pud_defs.proofs.Keyed.{HasDistinctKeys, IsSetAt, is_free_for, under_apart, under_none, alone_there, keyed-same, keyed-put, keyed-without, HasDistinctKeys-set, HasDistinctKeys-keys, find-keyed_place}
+use Rattle.pud_defs.proofs.Keyed.{HasDistinctKeys, IsSetAt, is_free_for, under_apart, under_none, alone_there, keyed-same, keyed-put, keyed-without, HasDistinctKeys-set, find-keyed_place}
 use Rattle.pud_defs.proofs.Graphs.{IsSoundPlace, IsGraph, under_serial-free, under_serial-used, distinct_live, live-alike}
 use Rattle.pud_defs.proofs.Contents.{names_only, name_only, stands-same, named_by-same, all_stand-same, values-same}
 use Rattle.graph_laws.proofs.ContentLists.{is_other}

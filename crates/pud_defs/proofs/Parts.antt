@@ -1,5 +1,5 @@
 -- What an image with nothing to replay holds of a world, part by part, and the words that each part is read from.
-use Rattle.std.proofs.Common.{◌≡◌, ◌⊎◌, inl, inr, ⊎_elim, ℕ, ◌<◌, ◌≤◌, ◌+◌, true, List, Option, None, is_some, nat_cmp, sym, ap, ◌∙◌, arith, zero-le, true≢false}
+use Rattle.std.proofs.Common.{◌≡◌, ◌⊎◌, inl, inr, ⊎_elim, ℕ, ◌<◌, ◌≤◌, ◌+◌, true, List, None, is_some, nat_cmp, sym, ap, ◌∙◌, arith, zero-le, true≢false}
 use Rattle.std.proofs.lemmas.Bool.{cases_lt}
 use Rattle.pud_defs.specs.declared.layout.TheConstants.{DEVICE_MAGIC, VERSION, MIN_FRAMES, MAX_FRAMES, NUMBER_LIMIT, MAGIC_WORD, VERSION_WORD, MACHINE_WORD, FRAMES_WORD, NEXT_NUMBER_WORD, DAEMON_LOG, TYPE_TABLE, POOL_TABLE, SPACE_TABLE, PUDDLE_TABLE, TYPE_RECORDS}
 use Rattle.pud_defs.specs.Layout.{IsWithin, tables_end, frames_at, device_words}

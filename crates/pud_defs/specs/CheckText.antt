@@ -1,6 +1,5 @@
 -- What the mode `check` says: which pools are sound, and how many objects and puddles they have.
 use Rattle.std.specs.Prelude.{ℕ, List, ◌++◌, length, codes, decimal, flat_map}
-use Rattle.pud_defs.specs.Graph.{Graph}
 use Rattle.pud_defs.specs.Holdings.{Holding}
 use Rattle.pud_defs.specs.Holdings.Holding.{Sound, Wild}
 use Rattle.pud_defs.specs.Tables.{Pool}

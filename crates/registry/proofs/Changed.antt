@@ -1,20 +1,18 @@
 -- A pool's mode changed, and a pool dropped: what the batch makes of the tables.
-use Rattle.std.proofs.Common.{◌≡◌, ◌⊎◌, inl, inr, ℕ, zero, suc, ◌+◌, ◌*◌, ◌%◌, ◌^◌, ◌<◌, ◌≤◌, Bool, true, false, cond, ◌&&◌, leb, ltb, eqb, List, [], ◌∷◌, length, Option, Some, None, option_map, is_none, refl, sym, ap, ap₂, subst, ◌∙◌, arith}
+use Rattle.std.proofs.Common.{◌≡◌, ◌⊎◌, inl, inr, ℕ, zero, suc, ◌+◌, ◌<◌, ◌≤◌, Bool, true, false, cond, List, Option, Some, None, option_map, refl, sym, ap, ap₂, subst, ◌∙◌, arith}
 use Rattle.std.specs.Prelude.{unwrap_or, ⊤}
 use Rattle.std.specs.FinMap.Entries.{put, find}
 use Rattle.std.specs.Cmp.Lexicographic.{nat_list_cmp_total}
 use Rattle.std.proofs.lemmas.Bool.{cases_lt, cases_eq, cases_Bool, cond-true, cond-false, and_parts, and_from}
-use Rattle.pud_defs.specs.declared.layout.TheConstants.{NEXT_NUMBER_WORD, POOL_TABLE, SPACE_TABLE, PUDDLE_TABLE}
+use Rattle.pud_defs.specs.declared.layout.TheConstants.{NEXT_NUMBER_WORD, PUDDLE_TABLE}
 use Rattle.pud_defs.specs.declared.records.TheConstants.{POOL_RECORDS}
 use Rattle.pud_defs.specs.declared.records.PoolRec.{PoolRec}
-use Rattle.pud_defs.specs.declared.records.Put.{Put}
 use Rattle.pud_defs.specs.Image.{Image}
-use Rattle.pud_defs.specs.Layout.{tables_end}
 use Rattle.pud_defs.specs.Modes.{is_legal_mode}
-use Rattle.pud_defs.specs.Names.{name_cmp, is_legal_name}
+use Rattle.pud_defs.specs.Names.{name_cmp}
 use Rattle.pud_defs.specs.Keyed.{without}
 use Rattle.pud_defs.specs.Pools.{is_given, is_legal_pool, pool_at}
-use Rattle.pud_defs.specs.Puddles.{Member, puddle_record_at}
+use Rattle.pud_defs.specs.Puddles.{Member}
 use Rattle.pud_defs.specs.Tables.{Tables, Pool, Reader, tables_of, puddles_of, pool_of, entries, pools_of}
 use Rattle.pud_defs.specs.SoundTables.{is_sound_pool, HasSoundTables}
 use Rattle.pud_defs.specs.Puts.{with_put, mode_put, free_pool_put, free_puddle_put, with_pool_at, with_puddle_at, with_mode, is_of_pool, without_pool_at}
@@ -26,8 +24,8 @@ use Rattle.pud_defs.proofs.TablesOf.{pools_below, puddles_beyond}
 use Rattle.pud_defs.proofs.PutsMade.{with_put-outside, mode_put_made, free_pool_put_made, free_puddle_put_made}
 use Rattle.pud_defs.proofs.PoolsChanged.{distinct_entries, entry_of, changed_here, changed_elsewhere, pools_changed, pools_dropped}
 use Rattle.pud_defs.proofs.SoundChanged.{legal_pool, distinct_names, sound_changed, sound_dropped}
-use Rattle.registry.specs.Puts.{with_puts, LiesWithin, AreOfPools}
-use Rattle.registry.specs.Pools.{changing, put_if, freeing, dropping}
+use Rattle.registry.specs.Puts.{with_puts, AreOfPools}
+use Rattle.registry.specs.Pools.{changing, freeing, dropping}
 use Rattle.registry.proofs.Moved.{ReadsWorld, MakesPools, pools_next}
 
 -- the pool of a used record is found under its name

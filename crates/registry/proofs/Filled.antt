@@ -1,21 +1,19 @@
 -- A frame filled while nothing names it: each image stands for the same world, and behind the batch that names it the frame is as it was filled.
-use Rattle.std.proofs.Common.{◌≡◌, ◌⊎◌, inl, inr, ⊎_elim, ℕ, ◌+◌, ◌-◌, ◌*◌, ◌<◌, ◌≤◌, Bool, true, false, cond, List, [], ◌∷◌, ◌++◌, length, get_or, Option, Some, None, refl, sym, ap, ap₂, subst, ◌∙◌, arith, length-append}
-use Rattle.std.specs.Prelude.{replicate, slice_index}
+use Rattle.std.proofs.Common.{◌≡◌, inl, inr, ℕ, ◌+◌, ◌-◌, ◌<◌, ◌≤◌, true, cond, List, [], length, Option, Some, None, refl, sym, ap, subst, ◌∙◌, arith}
+use Rattle.std.specs.Prelude.{slice_index}
 use Rattle.std.proofs.lemmas.List.{append-nil, length-replicate}
-use Rattle.std.proofs.lemmas.Option.{same_Some, slice_get-get_or}
 use Rattle.pm_model.specs.declared.host.HostFault.{HostFault}
-use Rattle.pm_model.specs.declared.host.HostFault.TheVariants.{Cut}
-use Rattle.pm_model.specs.Words.{Words, Has, values, HasOnly, Picks, reads}
+use Rattle.pm_model.specs.Words.{Words, HasOnly, Picks, reads}
 use Rattle.pm_model.specs.Moments.{State}
-use Rattle.pm_model.specs.Changes.{placed, written, IsFrom, Persists, Changes, Leaves, Silently}
+use Rattle.pm_model.specs.Changes.{written, IsFrom, Changes, Leaves, Silently}
 use Rattle.pm_model.proofs.Changes.{Changes-said, Changes-now, Changes-then, Changes-wider}
 use Rattle.pm_model.proofs.Leaves.{Leaves-changes, Leaves-weaker, Leaves-then, Leaves-now}
 use Rattle.pm_persist.proofs.Ranges.{placed_at, placed_within}
-use Rattle.pud_defs.specs.declared.layout.TheConstants.{DAEMON_LOG, TYPE_TABLE, FRAME_WORDS}
+use Rattle.pud_defs.specs.declared.layout.TheConstants.{DAEMON_LOG, FRAME_WORDS}
 use Rattle.pud_defs.specs.declared.records.Put.{Put}
 use Rattle.pud_defs.specs.Image.{Image}
-use Rattle.pud_defs.specs.Layout.{IsWithin, tables_end, frames_at, device_words}
-use Rattle.pud_defs.specs.Frames.{frame_at, frame_word, fresh_frame, IsFreshFrame}
+use Rattle.pud_defs.specs.Layout.{IsWithin, frames_at, device_words}
+use Rattle.pud_defs.specs.Frames.{frame_at, fresh_frame, IsFreshFrame}
 use Rattle.pud_defs.specs.Entries.{is_idle_gate}
 use Rattle.pud_defs.specs.Replay.{is_in_log, beside_log, settled_by}
 use Rattle.pud_defs.specs.World.{StoredWorld, world_of}
@@ -24,7 +22,7 @@ use Rattle.pud_defs.specs.Tables.{Tables, tables_of}
 use Rattle.pud_defs.proofs.Parts.{standing_filled}
 use Rattle.pud_defs.proofs.Worlds.{registry_world_standing, world_of-idle, standing_idle}
 use Rattle.batch.specs.Batches.{HasIdleGate, IsBatched}
-use Rattle.batch.specs.Worlds.{IsSettled, IsBetween}
+use Rattle.batch.specs.Worlds.{IsSettled}
 use Rattle.batch.specs.Tables.{HasDurableTables}
 use Rattle.batch.proofs.Tables.{HasDurableTables-kept}
 use Rattle.registry.specs.Puts.{puts_batch, AreOfPools, IsPoolsWord, ByPools}

@@ -1,7 +1,7 @@
 -- The batch that drops a pool, gathered record by record.
-use Rattle.std.proofs.Common.{◌≡◌, inl, inr, ℕ, zero, suc, ◌+◌, ◌-◌, ◌*◌, ◌/◌, ◌%◌, ◌^◌, ◌<◌, ◌≤◌, Bool, true, false, not, cond, eqb, List, [], ◌∷◌, ◌++◌, length, Option, Some, None, is_none, refl, sym, ap, ap₂, ◌∙◌, arith, append_assoc, append-nil, ne_eqb, eq-eqb}
-use Rattle.std.proofs.lemmas.Bool.{cases_eq, cond-true, cond-false, cases_Bool}
-use Rattle.std.proofs.lemmas.List.Sums.{sum_by-cons, sum_by-append}
+use Rattle.std.proofs.Common.{◌≡◌, inl, inr, ℕ, zero, suc, ◌+◌, ◌-◌, ◌*◌, ◌/◌, ◌^◌, ◌<◌, ◌≤◌, Bool, true, false, not, cond, eqb, List, [], ◌∷◌, ◌++◌, length, Option, Some, None, is_none, refl, sym, ap, ap₂, ◌∙◌, arith, append_assoc, append-nil, ne_eqb, eq-eqb}
+use Rattle.std.proofs.lemmas.Bool.{cases_eq, cond-true, cond-false}
+use Rattle.std.proofs.lemmas.List.Sums.{sum_by-append}
 use Rattle.pud_defs.specs.declared.layout.TheConstants.{LOG_ENTRY_WORDS}
 use Rattle.pud_defs.specs.declared.records.TheConstants.{MAX_PUDDLES}
 use Rattle.pud_defs.specs.declared.records.Puddle.{Puddle}
@@ -12,7 +12,7 @@ use Rattle.pud_defs.specs.Entries.{Entry}
 use Rattle.pud_defs.specs.Puddles.{Member, member_pool, puddle_record_at, puddle_by, puddle_at}
 use Rattle.pud_defs.specs.Tables.{Tables, tables_of, member_of, members}
 use Rattle.pud_defs.specs.Puts.{free_pool_put, free_puddle_put, is_of_pool}
-use Rattle.pud_defs.proofs.TablesOf.{frames_of_tables, puddles_below}
+use Rattle.pud_defs.proofs.TablesOf.{puddles_below}
 use Rattle.batch.specs.Batches.{words_of}
 use Rattle.registry.specs.Puts.{put_entry, puts_batch}
 use Rattle.registry.specs.Pools.{put_if, freeing, dropping}

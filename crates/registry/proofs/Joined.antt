@@ -1,8 +1,8 @@
 -- What the calls owe that change pools, from what their batches do.
-use Rattle.std.proofs.Common.{◌≡◌, ◌⊎◌, inl, inr, ℕ, ◌+◌, ◌<◌, ◌≤◌, true, List, Option, Some, None, refl, sym, ap, subst, ◌∙◌, arith}
+use Rattle.std.proofs.Common.{◌≡◌, inl, inr, ℕ, ◌+◌, ◌<◌, ◌≤◌, true, List, Option, Some, None, refl, sym, ap, subst, ◌∙◌, arith}
 use Rattle.std.specs.Prelude.{⊤}
 use Rattle.pm_model.specs.declared.host.HostFault.{HostFault}
-use Rattle.pm_model.specs.Words.{HasOnly, Picks, reads}
+use Rattle.pm_model.specs.Words.{Picks, reads}
 use Rattle.pm_model.specs.Moments.{State}
 use Rattle.pm_model.specs.Changes.{written, Persists, Silently}
 use Rattle.pm_model.proofs.Leaves.{Leaves-weaker}
@@ -35,7 +35,7 @@ use Rattle.registry.specs.Puts.{puts_batch, AreOfPools}
 use Rattle.registry.specs.Places.{IsPlaceFor}
 use Rattle.registry.specs.Pools.{frame_write, changing, dropping, making, PersistsThenCommits, OrStill, MakesSomewhere, IsLegalPool, IsPoolAt, HasFreshFrame, MayStand, ChangesPools}
 use Rattle.registry.proofs.PutBatches.{IsFree-puts}
-use Rattle.registry.proofs.Moved.{ReadsWorld, reads_world, MakesPools, MovesBy-puts, pools_next, ChangesPools-moves}
+use Rattle.registry.proofs.Moved.{reads_world, MakesPools, MovesBy-puts, pools_next, ChangesPools-moves}
 use Rattle.registry.proofs.Changed.{MakesPools-mode, mode_world, MakesPools-drop, drop_world}
 use Rattle.registry.proofs.Made.{MakesPools-made, made_world}
 use Rattle.registry.proofs.Filled.{not_filled, IsSettled-filled, HasDurableTables-filled, IsFreeFrame, fresh_before, fresh_behind, ChangesPools-filled}

@@ -1,28 +1,22 @@
 -- A pool that is made: what the batch makes of the tables, and the frame that is filled before it.
-use Rattle.std.proofs.Common.{◌≡◌, ◌⊎◌, inl, inr, ⊎_elim, ℕ, ◌+◌, ◌-◌, ◌*◌, ◌^◌, ◌<◌, ◌≤◌, Bool, true, false, not, cond, ◌&&◌, leb, ltb, eqb, List, [], ◌∷◌, length, Option, Some, None, option_map, nat_cmp, is_some, is_none, refl, sym, ap, ap₂, subst, ◌∙◌, arith, length-append, le-leb, lt-ltb, eq-eqb, ne_eqb}
-use Rattle.std.specs.Prelude.{replicate, slice_index, slice_get}
+use Rattle.std.proofs.Common.{◌≡◌, inl, inr, ℕ, ◌+◌, ◌<◌, ◌≤◌, true, false, not, ltb, eqb, List, [], ◌∷◌, Option, Some, None, option_map, nat_cmp, refl, sym, ap, ap₂, ◌∙◌, arith, le-leb, lt-ltb, eq-eqb, ne_eqb}
+use Rattle.std.specs.Prelude.{slice_get}
 use Rattle.std.specs.FinMap.Entries.{put}
 use Rattle.std.specs.Cmp.Lexicographic.{nat_list_cmp_total}
-use Rattle.std.proofs.lemmas.Cmp.{nat_cmp_total}
 use Rattle.std.specs.Cmp.{unsigned_tied}
-use Rattle.std.proofs.lemmas.Bool.{cases_eq, cases_lt, cases_Bool, cond-true, cond-false, and_parts, and_from}
-use Rattle.std.proofs.lemmas.List.{length-replicate}
-use Rattle.pud_defs.specs.declared.layout.TheConstants.{NEXT_NUMBER_WORD, DAEMON_LOG, POOL_TABLE, SPACE_TABLE, PUDDLE_TABLE, NUMBER_LIMIT, MAX_OWNER_ID, FRAME_WORDS}
-use Rattle.pud_defs.specs.declared.space.TheConstants.{LAST_FRONTIER}
+use Rattle.std.proofs.lemmas.Bool.{cases_eq, cases_lt, cases_Bool, cond-true, and_parts, and_from}
+use Rattle.pud_defs.specs.declared.layout.TheConstants.{NEXT_NUMBER_WORD, NUMBER_LIMIT, MAX_OWNER_ID, FRAME_WORDS}
 use Rattle.pud_defs.specs.declared.records.TheConstants.{POOL_RECORDS}
 use Rattle.pud_defs.specs.declared.records.PoolRec.{PoolRec}
-use Rattle.pud_defs.specs.declared.records.PuddleRec.{PuddleRec}
 use Rattle.pud_defs.specs.Image.{Image}
-use Rattle.pud_defs.specs.Bases.{is_legal_base, is_legal_frontier}
-use Rattle.pud_defs.specs.Modes.{is_legal_mode}
-use Rattle.pud_defs.specs.Names.{name_cmp, is_legal_name}
-use Rattle.pud_defs.specs.Keyed.{under, keyed, first_from}
-use Rattle.pud_defs.specs.Pools.{IsHeld, is_given, is_legal_pool}
-use Rattle.pud_defs.specs.Puddles.{Member, is_legal_puddle}
-use Rattle.pud_defs.specs.Places.{has_other_bases, is_free_base, IsLowestBase}
+use Rattle.pud_defs.specs.Names.{name_cmp}
+use Rattle.pud_defs.specs.Keyed.{under, first_from}
+use Rattle.pud_defs.specs.Pools.{IsHeld, is_given}
+use Rattle.pud_defs.specs.Puddles.{Member}
+use Rattle.pud_defs.specs.Places.{has_other_bases, IsLowestBase}
 use Rattle.pud_defs.specs.Spaces.{Owner, owner, all_below}
-use Rattle.pud_defs.specs.Tables.{Tables, Reader, tables_of, member_of, named, records_of, pool_in, pool_of, pools_of}
-use Rattle.pud_defs.specs.SoundTables.{bases, HasSoundTables}
+use Rattle.pud_defs.specs.Tables.{Tables, Reader, tables_of, member_of, named, records_of, pool_in, pool_of}
+use Rattle.pud_defs.specs.SoundTables.{bases}
 use Rattle.pud_defs.specs.Puts.{with_put, pool_put, puddle_put, member_by, is_of_pool}
 use Rattle.pud_defs.specs.PoolChanges.{NUMBERS_DRAWN, lacks_numbers, new_pool, with_new_pool}
 use Rattle.pud_defs.specs.Frames.{IsFreshFrame}

@@ -1,31 +1,30 @@
 -- A batch of changes of pools, on a device whose tables are durable: each image that it leaves stands for the world before or for the next.
-use Rattle.std.proofs.Common.{◌≡◌, ◌⊎◌, inl, inr, ⊎_elim, ℕ, ◌+◌, ◌<◌, ◌≤◌, true, false, List, [], Option, Some, None, is_some, refl, sym, ap, subst, ◌∙◌, arith}
+use Rattle.std.proofs.Common.{◌≡◌, ◌⊎◌, inl, inr, ⊎_elim, ℕ, ◌<◌, ◌≤◌, true, List, Option, Some, None, is_some, refl, sym, ap, ◌∙◌, arith}
 use Rattle.pm_model.specs.declared.host.HostFault.{HostFault}
 use Rattle.pm_model.specs.declared.host.HostFault.TheVariants.{Cut}
-use Rattle.pm_model.specs.Words.{Words, HasOnly, Picks, reads}
+use Rattle.pm_model.specs.Words.{Words, Picks, reads}
 use Rattle.pm_model.specs.Moments.{State}
-use Rattle.pm_model.specs.Changes.{Changes, Leaves, Silently}
+use Rattle.pm_model.specs.Changes.{Silently}
 use Rattle.pm_model.proofs.Words.{Picks-reads}
 use Rattle.pm_model.proofs.Changes.{Changes-wider, Changes-still}
 use Rattle.pm_model.proofs.Leaves.{Leaves-weaker, Leaves-still}
 use Rattle.pud_defs.specs.declared.layout.TheConstants.{NEXT_NUMBER_WORD, DAEMON_LOG, POOL_TABLE, SPACE_TABLE, PUDDLE_TABLE, TYPE_TABLE, NUMBER_LIMIT}
 use Rattle.pud_defs.specs.declared.records.Put.{Put}
 use Rattle.pud_defs.specs.Image.{Image}
-use Rattle.pud_defs.specs.Layout.{IsWithin, tables_end, frames_at}
-use Rattle.pud_defs.specs.Entries.{is_idle_gate}
+use Rattle.pud_defs.specs.Layout.{tables_end, frames_at}
 use Rattle.pud_defs.specs.Replay.{settled_by}
 use Rattle.pud_defs.specs.Tables.{Tables, Pool, tables_of, pools_of}
 use Rattle.pud_defs.specs.Holdings.{holding_in}
 use Rattle.pud_defs.specs.SoundTables.{are_sound_tables, HasSoundTables}
-use Rattle.pud_defs.specs.World.{StoredWorld, pools_in, world_of, registry_world}
+use Rattle.pud_defs.specs.World.{StoredWorld, pools_in, registry_world}
 use Rattle.pud_defs.proofs.Replay.{settled_by-idle, outside_log}
 use Rattle.pud_defs.proofs.TablesOf.{tables_of-same}
 use Rattle.pud_defs.proofs.SoundChanged.{sound_from, sound_test}
 use Rattle.pud_defs.proofs.Held.{HasSameFrame, frame_among, frames_are, pools_of-held, pools_in-same}
-use Rattle.pud_defs.proofs.Parts.{HasPools, StandsFor, standing_with_pools}
+use Rattle.pud_defs.proofs.Parts.{HasPools, standing_with_pools}
 use Rattle.pud_defs.proofs.Parts.Part.{Header, Pools}
 use Rattle.pud_defs.proofs.Worlds.{standing_of_world, registry_world_standing}
-use Rattle.batch.specs.Batches.{batch_write, ByBatch}
+use Rattle.batch.specs.Batches.{ByBatch}
 use Rattle.batch.specs.Worlds.{IsSettled, with_batch, MovesBy, IsBetween, Moves}
 use Rattle.batch.specs.Tables.{HasDurableTables}
 use Rattle.batch.proofs.Tables.{HasDurableTables-committed}

@@ -1,5 +1,5 @@
 -- Why no place is found for a new pool, or that the place found is the one for it.
-use Rattle.std.proofs.Common.{◌≡◌, inl, inr, ℕ, ◌+◌, ◌-◌, ◌<◌, ◌≤◌, Bool, true, false, ◌||◌, cond, ltb, List, [], Option, Some, None, Result, Ok, Err, is_some, is_none, refl, sym, ap, ap₂, ◌∙◌, arith, lt-ltb}
+use Rattle.std.proofs.Common.{◌≡◌, ℕ, ◌+◌, ◌-◌, ◌≤◌, false, ◌||◌, cond, List, [], Option, Some, None, Ok, Err, is_some, is_none, refl, sym, ap, ◌∙◌, arith}
 use Rattle.std.proofs.lemmas.Bool.{le-ltb}
 use Rattle.pud_defs.specs.declared.layout.TheConstants.{NEXT_NUMBER_WORD, NUMBER_LIMIT}
 use Rattle.pud_defs.specs.declared.records.TheConstants.{POOL_RECORDS}
@@ -15,7 +15,6 @@ use Rattle.puddle_table.specs.declared.PuddleFault.{PuddleFault}
 use Rattle.puddle_table.specs.declared.PuddleFault.TheVariants as puddles
 use Rattle.puddle_table.specs.Records.{fault_in, frame_by}
 use Rattle.puddle_table.proofs.Search.{frame_found}
-use Rattle.registry.specs.declared.making.MakeFault.{MakeFault}
 use Rattle.registry.specs.declared.making.MakeFault.TheVariants as faults
 use Rattle.registry.specs.declared.making.Place.{Place}
 use Rattle.registry.specs.Places.{make_fault, of_puddle_fault, make_refusal, IsPlaceFor}

@@ -1,18 +1,18 @@
 -- A batch of changes: the image that it makes, the words that it leaves, and where the daemon log may write it.
-use Rattle.std.proofs.Common.{◌≡◌, ◌⊎◌, inl, inr, ⊎_elim, ℕ, ◌+◌, ◌-◌, ◌<◌, ◌≤◌, Bool, true, false, ◌&&◌, ◌||◌, cond, leb, ltb, eqb, List, [], ◌∷◌, length, take, map, get_or, Option, Some, None, refl, sym, ap, ap₂, ◌∙◌, arith, length-take-le, le-leb, eq-eqb}
-use Rattle.std.specs.Prelude.{All, unwrap_or, slice_get}
+use Rattle.std.proofs.Common.{◌≡◌, ◌⊎◌, inl, inr, ℕ, ◌+◌, ◌-◌, ◌<◌, ◌≤◌, true, List, [], ◌∷◌, length, take, Option, Some, None, refl, sym, ap, ap₂, ◌∙◌, arith, length-take-le, eq-eqb}
+use Rattle.std.specs.Prelude.{All, unwrap_or}
 use Rattle.std.specs.List.{list_all}
 use Rattle.std.specs.Option.{option_or}
-use Rattle.std.proofs.lemmas.Bool.{cases_lt, cond-true, cond-false, and_from, or_left, lt-leb}
-use Rattle.std.proofs.lemmas.Option.{slice_get_past, slice_get-get_or}
+use Rattle.std.proofs.lemmas.Bool.{cases_lt, and_from, or_left}
+use Rattle.std.proofs.lemmas.Option.{slice_get-get_or}
 use Rattle.std.proofs.lemmas.List.{get_or-take}
 use Rattle.std.proofs.lemmas.List.Elements.{All-nil, All-cons}
-use Rattle.pud_defs.specs.declared.layout.TheConstants.{NEXT_NUMBER_WORD, DAEMON_LOG, LOG_WORDS, POOL_TABLE, SPACE_TABLE, PUDDLE_TABLE}
+use Rattle.pud_defs.specs.declared.layout.TheConstants.{NEXT_NUMBER_WORD, DAEMON_LOG}
 use Rattle.pud_defs.specs.declared.records.Put.{Put}
 use Rattle.pud_defs.specs.Image.{Image}
-use Rattle.pud_defs.specs.Layout.{IsWithin, tables_end, frames_at, device_words}
+use Rattle.pud_defs.specs.Layout.{tables_end}
 use Rattle.pud_defs.specs.Entries.{Entry}
-use Rattle.pud_defs.specs.Replay.{value_at, overwritten, over}
+use Rattle.pud_defs.specs.Replay.{value_at, overwritten}
 use Rattle.pud_defs.specs.Puts.{with_put}
 use Rattle.pud_defs.specs.Registry.{may_be_logged, is_allowed}
 use Rattle.pud_defs.proofs.Replay.{overwritten-then, value_at-there, value_at-apart}
@@ -21,9 +21,8 @@ use Rattle.pud_defs.proofs.Logged.{may_be_logged-table, is_allowed-there}
 use Rattle.pm_model.specs.Words.{Words}
 use Rattle.pud_defs.specs.Replay.{device_word}
 use Rattle.batch.specs.Batches.{batch_write, committed, IsBatchEntry, AreBatched, HasIdleGate, IsFree, ByBatch}
-use Rattle.log_replay.specs.Replaying.{IsNamed, NamesApart}
-use Rattle.batch.proofs.Writes.{batch_write-single}
-use Rattle.registry.specs.Puts.{put_entry, puts_batch, with_puts, LiesWithin, IsOfPools, AreOfPools, IsPoolsWord, ByPools}
+use Rattle.log_replay.specs.Replaying.{NamesApart}
+use Rattle.registry.specs.Puts.{put_entry, puts_batch, with_puts, IsOfPools, AreOfPools, IsPoolsWord, ByPools}
 
 -- ---- the image
 

@@ -1,7 +1,5 @@
-use Rattle.std.proofs.Common.{◌≤◌, List, [], ◌∷◌, refl, ap, ◌∙◌, arith}
-use Rattle.pud_defs.specs.Layout.{tables_end}
+use Rattle.std.proofs.Common.{refl, arith}
 use Rattle.pud_defs.specs.Puts.{mode_put}
-use Rattle.registry.specs.Puts.{puts_batch}
 use Rattle.registry.specs.Pools.{changing}
 use Rattle.registry.proofs.Gathered.{first_put}
 use Rattle.registry.proofs.Changed.{changing_of}

@@ -1,18 +1,11 @@
-use Rattle.std.proofs.Common.{◌≡◌, inr, ◌≤◌, List, Option, Some, None, refl, sym, ap, subst, ◌∙◌, arith}
+use Rattle.std.proofs.Common.{inr, Some, refl, sym, ap, ◌∙◌, arith}
 use Rattle.std.proofs.lemmas.Result.{err_from_is_err_and}
-use Rattle.pm_model.specs.declared.host.HostFault.{HostFault}
-use Rattle.pm_model.specs.Counts.{Counts, fault_of}
-use Rattle.pm_model.specs.Words.{reads}
-use Rattle.pm_model.specs.Moments.{State}
-use Rattle.pud_defs.specs.Keyed.{count_used}
-use Rattle.pud_defs.specs.declared.records.TheConstants.{MAX_PUDDLES}
-use Rattle.pud_defs.specs.Tables.{tables_of, members}
-use Rattle.pud_defs.specs.PoolChanges.{without_pool}
-use Rattle.batch.specs.Worlds.{IsSettled}
-use Rattle.registry.specs.Pools.{dropping, IsPoolAt, ChangesPools}
+use Rattle.pm_model.specs.Counts.{Counts}
+use Rattle.pud_defs.specs.Tables.{tables_of}
+use Rattle.registry.specs.Pools.{dropping}
 use Rattle.registry.proofs.Moved.{ChangesPools-still}
 use Rattle.registry.proofs.Changed.{dropping_of}
-use Rattle.registry.proofs.Joined.{few_puddles, ChangesPools-dropped, Commits-puts}
+use Rattle.registry.proofs.Joined.{ChangesPools-dropped, Commits-puts}
 use Rattle.pud_defs.proofs.TablesOf.{frames_of_tables}
 use Rattle.registry.proofs.changing.drop_pool.Goals as goal
 

@@ -1,11 +1,9 @@
-use Rattle.std.proofs.Common.{◌≡◌, ◌-◌, ℕ, refl, sym, ap, subst, ◌∙◌}
+use Rattle.std.proofs.Common.{refl, ap, ◌∙◌}
 use Rattle.std.proofs.lemmas.Result.{err_from_is_err_and}
 use Rattle.pm_model.specs.Words.{reads}
 use Rattle.pm_model.specs.Moments.{State}
 use Rattle.pud_defs.specs.declared.layout.TheConstants.{NEXT_NUMBER_WORD}
 use Rattle.pud_defs.specs.Image.{Image}
-use Rattle.pud_defs.specs.Tables.{tables_of}
-use Rattle.registry.specs.Places.{make_refusal, IsPlaceFor}
 use Rattle.registry.proofs.Placed.{host_fault, refused_for_space, not_refused, place_is}
 use Rattle.registry.proofs.making.find_place.Goals as goal
 
