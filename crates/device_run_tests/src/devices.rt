@@ -64,13 +64,16 @@ fn a_device_is_formatted_once_and_runs_an_empty_script(rt: HostRuntime) {
 
 #[test]
 fn words_that_are_no_mode_say_nothing(rt: HostRuntime) {
-    let all: [&[&str]; 14] = [
+    let all: [&[&str]; 17] = [
         &[],
         &["puddle"],
         &["puddle", "run", "now"],
         &["puddle", "layout", "now"],
+        &["puddle", "check", "now"],
+        &["puddle", "layout", "check"],
         &["puddle", "lay"],
         &["puddle", "--layout"],
+        &["puddle", "--check"],
         &["puddle", "layout", "--help"],
         &["puddle", "help", "layout"],
         &["puddle", "--help"],

@@ -1,7 +1,9 @@
 //! Tests of what whole runs of the program leave on a device: formatted, found not sound, with a type defined, with a
-//! client, with pools, laid out.
+//! client, with pools, laid out, checked.
 #![tactic(auto)]
 
+#[cfg(test)]
+mod checks;
 #[cfg(test)]
 mod definitions;
 #[cfg(test)]
@@ -14,3 +16,5 @@ mod layouts;
 mod pools;
 #[cfg(test)]
 mod run;
+#[cfg(test)]
+mod views;

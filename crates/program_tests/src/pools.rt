@@ -85,3 +85,43 @@ fn what_pools_are_refused(rt: HostRuntime) {
         ],
     );
 }
+
+// Which digit of the mode lets a client read goes by its uid, and then by its group.
+#[test]
+fn what_a_get_is_refused(rt: HostRuntime) {
+    end_with(
+        &rt,
+        rt.alloc(),
+        &[
+            (
+                "get 0 a 1.0\nclient 0 5 5\nget 0 a 1.0\npool 0 a 040\nget 0 a 1.0\nclient 1 6 5\nget 1 a 1.0\n\
+                client 2 6 6\nget 2 a 1.0\nchmod 0 a 604\nget 0 a 1.29\nget 1 a 1.0\nget 2 a 18446744073709551615.0\n\
+                drop 0 a\nget 0 a 1.0\n",
+                DONE,
+                "ready\nno client\nok\nno pool\nok\nno denied\nok\nno object\nok\nno denied\nok\nno object\nno denied\n\
+                no object\nok\nno pool\n",
+            ),
+            (
+                "client 0 5 5\npool 0 a 600\nget 0 a 1\nget 0 a 1.\nget 0 a .0\nget 0 a 0.0\nget 0 a 01.0\nget 0 a 1.30\n\
+                get 0 a 1.0.0\nget 0 a 18446744073709551616.0\nget 8 a 1.0\nget 0 A 1.0\nget 0 a 1.0 \nget 0 a\nget\n",
+                DONE,
+                "ready\nok\nok\nno bad\nno bad\nno bad\nno bad\nno bad\nno bad\nno bad\nno bad\nno bad\nno bad\nno bad\n\
+                no bad\nno bad\n",
+            ),
+        ],
+    );
+}
+
+// A line that only reads takes no device step, so that a loss that is armed stays so.
+#[test]
+fn a_get_is_never_cut(rt: HostRuntime) {
+    end_with(
+        &rt,
+        rt.alloc(),
+        &[(
+            "client 0 5 5\npool 0 a 600\narm 1 0\nget 0 a 1.0\nget 0 b 1.0\nleave 0\nget 0 a 1.0\nclient 0 5 5\nget 0 a 1.0\n",
+            DONE,
+            "ready\nok\nok\nok\nno object\nno pool\ncut\nno client\nok\nno object\n",
+        )],
+    );
+}

@@ -16,6 +16,9 @@ pub const RUN: [&str; 2] = ["puddle", "run"];
 /// The words of the mode `layout`.
 pub const LAYOUT: [&str; 2] = ["puddle", "layout"];
 
+/// The words of the mode `check`.
+pub const CHECK: [&str; 2] = ["puddle", "check"];
+
 /// The words of the mode `format`, for the smallest device.
 pub const FORMAT: [&str; 4] = ["puddle", "format", "4", "7"];
 
