@@ -21,6 +21,7 @@ pub mod TypeTable
 pub mod Entries
 pub mod Replay
 pub mod Spaces
+pub mod Settled
 pub mod Logged
 pub mod Parts
 pub mod NoPools

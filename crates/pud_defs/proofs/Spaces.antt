@@ -5,7 +5,7 @@ use Rattle.std.proofs.lemmas.Bool.{and_parts, and_from, cond-false, cases_Bool, 
 use Rattle.pud_defs.specs.declared.layout.TheConstants.{SPACE_TABLE, CLIENTS, CLIENT_LOGS, LOG_ENTRY_WORDS, PUDDLE_TABLE}
 use Rattle.pud_defs.specs.Image.{Image}
 use Rattle.pud_defs.specs.Layout.{tables_end, log_at, frames_at}
-use Rattle.pud_defs.specs.Entries.{gate_used, is_legal_gate, entries_of}
+use Rattle.pud_defs.specs.Entries.{gate_lo, gate_hi, gate_used, is_legal_gate, entries_of, log_of}
 use Rattle.pud_defs.specs.Replay.{IsInLog}
 use Rattle.pud_defs.specs.Spaces.{Owner, owner, space_record_at, owner_by, all_below, is_space, is_legal_space, is_closed_range, is_closed_log, has_closed_logs, are_legal_spaces, are_closed_logs, owner_of}
 use Rattle.pud_defs.proofs.Entries.{entries_of-same}
@@ -58,6 +58,13 @@ entries_of-within i j at same =
           entries_of-same i j at gate (λ k low high. same k (record { low = omega arith; high = omega arith }))
       | inr illegal ↦ cond-false _ _ _ illegal ∙ sym (cond-false _ _ _ (ap is_legal_gate (sym gate) ∙ illegal))
     ]
+
+-- and the same log
+pub log_of-within : (i j : Image) (at : ℕ) → ((k : ℕ) → IsInLog at k → i k ≡ j k) → log_of i at ≡ log_of j at
+log_of-within i j at same =
+    let gate : i at ≡ j at = same at (record { low = omega arith; high = omega arith }) in
+    let entries = entries_of-within i j at same in
+    λ p. record { lo = gate_lo (gate p); hi = gate_hi (gate p); entries = entries p }
 
 pub is_closed_log-same : (i j : Image) (at : ℕ) → ((k : ℕ) → IsInLog at k → i k ≡ j k) → is_closed_log i at ≡ is_closed_log j at
 is_closed_log-same i j at same = ap₂ (λ (v : ℕ) (x : Bool). is_closed_range v && x) (same at (record { low = omega arith; high = omega arith })) (ap is_some (entries_of-within i j at same))

@@ -22,6 +22,9 @@ pub mod SoundTables
 pub mod Puts
 pub mod Places
 pub mod Types
+pub mod Allowed
+pub mod Settled
+pub mod StartText
 pub mod Registry
 pub mod World
 pub mod PoolChanges

@@ -8,5 +8,6 @@ pub mod log_words;
 pub mod machine;
 pub mod objects;
 pub mod records;
+pub mod settling;
 pub mod space;
 pub mod type_map;

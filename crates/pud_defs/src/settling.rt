@@ -1,0 +1,45 @@
+//! Laws of the image that a start leaves: what clients' logs give to it. Each function here does nothing; its contract is the
+//! law.
+
+ghost use Rattle.std.specs.Prelude.{◌≡◌, ◌+◌, ◌<◌, ◌≤◌, ℕ, false, Option};
+ghost use Rattle.pud_defs.specs.Image.{Image};
+ghost use Rattle.pud_defs.specs.Entries.{Log};
+ghost use Rattle.pud_defs.specs.Replay.{overwritten};
+ghost use Rattle.pud_defs.specs.Spaces.{Owner};
+ghost use Rattle.pud_defs.specs.Tables.{Tables};
+ghost use Rattle.pud_defs.specs.Allowed.{is_allowed_log};
+ghost use Rattle.pud_defs.specs.Settled.{gives_to, ALL_LOGS, given_by_log, given_by_others, alone, is_in_logs, beside_logs, settled_over, AreDisjoint, IsApart, IsBeside};
+
+/// A closed log settles nothing: where no entry can be in its range it gives no word a value.
+pub fn closed_log_gives_nothing()
+    ensures { (t : Tables) (who : Option Owner) (log : Log) (w : ℕ) → log.hi ≤ log.lo + 1 → gives_to t who log w ≡ Option.None }
+{}
+
+/// A log that is not allowed settles nothing, whatever its entries are.
+pub fn refused_log_gives_nothing()
+    ensures { (t : Tables) (who : Owner) (log : Log) (w : ℕ) → is_allowed_log t who log ≡ false → gives_to t (Option.Some who) log w ≡ Option.None }
+{}
+
+/// Where logs give values to words apart, a word has the value of the one log that gives it.
+pub fn word_of_one_log_has_its_value()
+    ensures { (F : ℕ) (image : Image) (number : ℕ) (w : ℕ) (v : ℕ) → AreDisjoint (given_by_log F image) ALL_LOGS → number < ALL_LOGS → is_in_logs F w ≡ false
+        → given_by_log F image number w ≡ Option.Some v → settled_over F image w ≡ v }
+{}
+
+/// A word that no log gives has the image's own value.
+pub fn word_of_no_log_keeps_its_value()
+    ensures { (F : ℕ) (image : Image) (w : ℕ) → is_in_logs F w ≡ false → ((number : ℕ) → number < ALL_LOGS → given_by_log F image number w ≡ Option.None)
+        → settled_over F image w ≡ image w }
+{}
+
+/// What the others give is written over what one log leaves alone, where it gives no word that another gives.
+pub fn one_log_settles_beside_the_others()
+    ensures { (F : ℕ) (number : ℕ) (image : Image) → number < ALL_LOGS → IsApart F number image
+        → settled_over F image ≡ beside_logs F (overwritten (given_by_others F image number) (alone F number image)) }
+{}
+
+/// Images that agree on the tables, and on all logs but one, have the same from these logs: they settle the same but for the
+/// one.
+pub fn images_beside_one_log_have_the_same_from_the_others()
+    ensures { (F : ℕ) (number : ℕ) (i : Image) (j : Image) → IsBeside F number i j → given_by_others F j number ≡ given_by_others F i number }
+{}
