@@ -14,7 +14,6 @@ ghost use Rattle.graph_read.specs.Reading.{places_in, table_in};
 use crate::places::slot_at_place;
 use crate::pointers::read_pointer;
 use crate::serials::{Serials, named};
-use crate::types::find_map;
 use pm_model::{Host, HostFault};
 use pud_defs::layout::{MAX_FIELDS, MAX_FRAMES};
 use pud_defs::objects::Pointee;
@@ -22,6 +21,7 @@ use pud_defs::records::{MAX_PUDDLES, Puddle};
 use pud_defs::space::{FRAME_SLOTS, SLOT_FIELDS_WORD, SLOT_TYPE_WORD};
 use pud_defs::type_map::{map_fields, map_is_pointer};
 use puddle_header::{slot_field, slot_type};
+use type_maps::find;
 
 /// What is asked of a slot that is not free.
 #[derive(Clone, Copy)]
@@ -182,7 +182,7 @@ fn place_passes<H: Host>(
         return Ok(false);
     }
     let id = type_at(h, frames, pool, place)?;
-    match find_map(h, id)? {
+    match find(h, id)? {
         Some(type_map) => fields_pass(h, frames, pool, serials, asked, place, type_map),
         None => Ok(asked.unknown_passes()),
     }

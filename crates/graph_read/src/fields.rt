@@ -12,13 +12,13 @@ ghost use Rattle.graph_read.specs.Reading.{table_in, place_at, IsSlotOf, read_by
 
 use crate::places::find_serial;
 use crate::pointers::read_pointer;
-use crate::types::find_map;
 use pm_model::{Host, HostFault};
 use pud_defs::layout::{MAX_FIELDS, MAX_FRAMES};
 use pud_defs::objects::{Pointee, Val};
 use pud_defs::records::{Puddle, Slot};
 use pud_defs::type_map::{map_fields, map_is_pointer};
 use puddle_header::{slot_field, slot_serial, slot_type};
+use type_maps::find;
 
 /// What is read of a field.
 #[derive(Clone, Copy, Debug, PartialEq, Eq)]
@@ -111,7 +111,7 @@ fn field_at<H: Host>(
     ensures never_cut { fault_of result ≢ Option.Some HostFault.Cut }
 {
     let id = slot_type(h, frames, at.frame, at.slot)?;
-    match find_map(h, id)? {
+    match find(h, id)? {
         Some(map) if f < map_fields(map) => {
             let value = value_at(h, frames, pool, at, map, f)?;
             Ok(FieldRead::Value(value))

@@ -13,7 +13,6 @@ mod judge;
 mod places;
 mod pointers;
 mod serials;
-mod types;
 
 pub use fields::{FieldRead, read_field};
 pub use holders::is_held;

@@ -12,7 +12,7 @@ use type_maps::{TypeFault, define, find};
 #[derive(Clone, Copy)]
 enum Call {
     Define(u32, u64),
-    Find(u32),
+    Find(u64),
     /// The next device step is the last one before power is lost.
     Arm,
 }

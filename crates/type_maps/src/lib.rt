@@ -4,6 +4,7 @@
 ghost use Rattle.std.specs.Prelude.{◌≡◌, ◌≢◌, ◌+◌, ◌*◌, ◌<◌, ◌≤◌, ◌^◌, ℕ, Option, IfOk, IsSome};
 ghost use Rattle.pm_model.specs.Words.{IsRested, reads};
 ghost use Rattle.pm_model.specs.Counts.{after_fault, fault_of};
+ghost use Rattle.pud_defs.specs.Image.{Image};
 ghost use Rattle.pud_defs.specs.Types.{map_of, types_of};
 ghost use Rattle.type_maps.specs.Define.{fault_in, refusal_in, table_refusal, place_for, place_of, IsInTable, Defines};
 
@@ -47,7 +48,7 @@ enum Place {
 }
 
 /// Looks the type up, record by record.
-fn look_up<H: Host>(h: &mut H, id: u32) -> Result<Place, HostFault>
+fn look_up<H: Host>(h: &mut H, id: u64) -> Result<Place, HostFault>
     requires { POOL_TABLE ≤ (H.counts h.old).size }
     ensures place { H.tells → IfOk result (λ place. place ≡ place_of (reads (H.state h.old).now.words) id) }
     ensures within { IfOk result IsInTable }
@@ -61,7 +62,7 @@ fn look_up<H: Host>(h: &mut H, id: u32) -> Result<Place, HostFault>
         let used_by = h.load(at)?;
         if used_by == 0 {
             free = free.or(Some(record));
-        } else if used_by == u64::from(id) {
+        } else if used_by == id {
             return Ok(Place::Defined(h.load(at + 1)?));
         }
     }
@@ -71,12 +72,12 @@ fn look_up<H: Host>(h: &mut H, id: u32) -> Result<Place, HostFault>
     }
 }
 
-/// The map of type `id`, or None exactly where no used record of the table has the id.
+/// The map of the type with this id, which may be any value, or None exactly where no used record of the table has the id.
 ///
 /// The device reaches beyond the type table. The only errors are the host's own.
-pub fn find<H: Host>(h: &mut H, id: u32) -> Result<Option<u64>, HostFault>
+pub fn find<H: Host>(h: &mut H, id: u64) -> Result<Option<u64>, HostFault>
     requires { POOL_TABLE ≤ (H.counts h.old).size }
-    ensures map { H.tells → IfOk result (λ map. map ≡ map_of id (types_of (reads (H.state h.old).now.words))) }
+    ensures map { H.tells → (image : Image) → reads (H.state h.old).now.words ≡ image → IfOk result (λ map. map ≡ map_of id (types_of image)) }
     ensures stays { H.tells → H.state h.new ≡ H.state h.old }
     ensures cause { H.counts h.new ≡ after_fault (fault_of result) (H.counts h.old) }
     ensures never_cut { fault_of result ≢ Option.Some HostFault.Cut }
@@ -114,7 +115,7 @@ pub fn define<H: Host>(h: &mut H, id: u32, map: u64) -> Result<(), TypeFault>
     ensures rests { H.tells → fault_in result ≡ Option.Some HostFault.Cut → IsRested (H.state h.new).now.words }
     ensures cause { H.counts h.new ≡ after_fault (fault_in result) (H.counts h.old) }
 {
-    match look_up(h, id)? {
+    match look_up(h, u64::from(id))? {
         Place::Defined(defined) => {
             if defined == map {
                 Ok(())

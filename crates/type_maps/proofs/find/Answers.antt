@@ -1,7 +1,9 @@
-use Rattle.std.proofs.Common.{sym, ◌∙◌}
+use Rattle.std.proofs.Common.{sym, ap, ◌∙◌}
 use Rattle.pm_model.specs.Words.{reads}
+use Rattle.pud_defs.specs.Image.{Image}
+use Rattle.pud_defs.specs.Types.{map_of, types_of}
 use Rattle.type_maps.proofs.LookUp.{map_defined}
 use Rattle.type_maps.proofs.find.Goals as goal
 
 pub returns-in-Defined-clause-map : goal.returns-in-Defined-clause-map
-returns-in-Defined-clause-map g c = λ t. sym (map_defined (reads (g.H.Host.state c.args.h.now).now.words) c.args.id _ (sym (c.in_ok-map.ensures.place t) ∙ c.in-Defined.is))
+returns-in-Defined-clause-map g c = λ t image same. sym (ap (λ (image : Image). map_of c.args.id (types_of image)) (sym same) ∙ map_defined (reads (g.H.Host.state c.args.h.now).now.words) c.args.id _ (sym (c.in_ok-map.ensures.place t) ∙ c.in-Defined.is))

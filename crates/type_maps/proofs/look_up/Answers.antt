@@ -8,10 +8,10 @@ use Rattle.pud_defs.specs.Types.{type_record_at}
 use Rattle.type_maps.specs.Define.{place_by}
 use Rattle.type_maps.proofs.LookUp.{place_from, place_from-start, place_from-free, place_from-other, place_from-here, place_from-end, either_within}
 use Rattle.type_maps.proofs.look_up.Goals as goal
-use Rattle.type_maps.proofs.look_up.Goals.{then-used_by-eq0, else-used_by-eq0+else-used_by-from}
+use Rattle.type_maps.proofs.look_up.Goals.{then-used_by-eq0, else-used_by-eq0+else-used_by-id}
 
-pub returns-then-used_by-from-clause-place : goal.returns-then-used_by-from-clause-place
-returns-then-used_by-from-clause-place g c = λ t.
+pub returns-then-used_by-id-clause-place : goal.returns-then-used_by-id-clause-place
+returns-then-used_by-id-clause-place g c = λ t.
     let i = c.loop-record.record in
     let stays = c.loop-record.invariant.stays t in
     let image = reads (g.H.Host.state c.args.h.now).now.words in
@@ -33,7 +33,7 @@ pub loop-record-preserved : goal.loop-record-preserved
 loop-record-preserved g c = record {
   within = elim c.if-used_by-eq0.branch [
     | then-used_by-eq0 w ↦ subst (λ (f : Option ℕ). IfSome f (λ r. r < TYPE_RECORDS)) (sym (w.free-is ∙ w.or-free.ensures)) (either_within c.loop-record.free c.loop-record.record c.loop-record.invariant.within (omega arith))
-    | else-used_by-eq0+else-used_by-from w ↦ subst (λ (f : Option ℕ). IfSome f (λ r. r < TYPE_RECORDS)) (sym w.free-is) c.loop-record.invariant.within
+    | else-used_by-eq0+else-used_by-id w ↦ subst (λ (f : Option ℕ). IfSome f (λ r. r < TYPE_RECORDS)) (sym w.free-is) c.loop-record.invariant.within
   ];
   counts = c.load.ensures.cause ∙ ap (λ r. after_fault (fault_of r) (g.H.Host.counts c.loop-record.h)) c.in_ok-used_by.was ∙ c.loop-record.invariant.counts;
   stays = λ t. c.load.ensures.state t ∙ c.loop-record.invariant.stays t;
@@ -45,7 +45,7 @@ loop-record-preserved g c = record {
         | then-used_by-eq0 w ↦
             let empty : image (type_record_at i) ≡ 0 = omega arith in
             place_from-free image c.args.id c.loop-record.free i (omega arith) empty ∙ ap (λ (f : Option ℕ). place_from image c.args.id f (i + 1)) (sym (w.free-is ∙ w.or-free.ensures))
-        | else-used_by-eq0+else-used_by-from w ↦
+        | else-used_by-eq0+else-used_by-id w ↦
             place_from-other image c.args.id c.loop-record.free i (omega arith) (λ zero. absurd (omega arith)) (λ same. absurd (omega arith))
             ∙ ap (λ (f : Option ℕ). place_from image c.args.id f (i + 1)) (sym w.free-is)
       ];
