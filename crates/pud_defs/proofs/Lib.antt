@@ -22,6 +22,8 @@ pub mod Entries
 pub mod Replay
 pub mod Spaces
 pub mod Settled
+pub mod LogsTaken
+pub mod Accepted
 pub mod Logged
 pub mod Parts
 pub mod NoPools

@@ -17,7 +17,7 @@ use Rattle.pud_defs.proofs.Replay.{new_value-closed, overwritten-nothing}
 
 -- ---- what one log gives
 
-gives_nothing : (b : Bool) (o : Option ℕ) → o ≡ None → cond b o None ≡ None
+pub gives_nothing : (b : Bool) (o : Option ℕ) → o ≡ None → cond b o None ≡ None
 gives_nothing true o none = none
 gives_nothing false o none = refl
 
@@ -34,7 +34,7 @@ gives_to-refused t who log w refused = cond-false (is_allowed_log t who log) _ N
 
 -- ---- what they give in turn
 
-or_empty : {A : Type 0} (o : Option A) → option_or o None ≡ o
+pub or_empty : {A : Type 0} (o : Option A) → option_or o None ≡ o
 or_empty None = refl
 or_empty (Some x) = refl
 

@@ -50,6 +50,11 @@ abbrev pub is_refused : Tables → Option Owner → Log → Bool
 is_refused t None log = false
 is_refused t (Some who) log = not (is_allowed_log t who log)
 
+-- a log whose owner is this is registered, and allowed
+abbrev pub is_accepted : Tables → Option Owner → Log → Bool
+is_accepted t None log = false
+is_accepted t (Some who) log = is_allowed_log t who log
+
 -- an entry of the log counts
 abbrev pub counts_any : Log → Bool
 counts_any log = list_any (is_in_range log) (entries_or_none log.entries)

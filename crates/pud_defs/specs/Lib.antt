@@ -25,6 +25,7 @@ pub mod Types
 pub mod Allowed
 pub mod Settled
 pub mod StartText
+pub mod LogsTaken
 pub mod Registry
 pub mod World
 pub mod PoolChanges

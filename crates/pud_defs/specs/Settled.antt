@@ -7,7 +7,7 @@ use Rattle.pud_defs.specs.Entries.{Log, log_of}
 use Rattle.pud_defs.specs.Replay.{new_value, over, overwritten, replayed, settled_by, IsInLog}
 use Rattle.pud_defs.specs.Spaces.{Owner, owner_of}
 use Rattle.pud_defs.specs.Tables.{Tables, tables_of}
-use Rattle.pud_defs.specs.Allowed.{puddle_word, is_allowed_log, is_refused}
+use Rattle.pud_defs.specs.Allowed.{puddle_word, is_allowed_log, is_refused, is_accepted}
 
 -- ---- what one log gives
 
@@ -34,6 +34,10 @@ given_by_log F image number w = gives_to (tables_of F image) (owner_of image (cl
 -- the log of a number is registered, and not allowed by the tables of the same image
 abbrev pub is_refused_log : (F : ℕ) → Image → (number : ℕ) → Bool
 is_refused_log F image number = is_refused (tables_of F image) (owner_of image (client_of_log number)) (log_of image (log_number_at F number))
+
+-- the log of a number is registered, and allowed by the tables of the same image
+abbrev pub is_accepted_log : (F : ℕ) → Image → (number : ℕ) → Bool
+is_accepted_log F image number = is_accepted (tables_of F image) (owner_of image (client_of_log number)) (log_of image (log_number_at F number))
 
 -- ---- all of them
 

@@ -1,0 +1,147 @@
+-- The first logs replayed and closed in turn, and one more.
+use Rattle.std.proofs.Common.{◌≡◌, ◌⊎◌, inl, inr, ℕ, ◌+◌, ◌*◌, ◌/◌, ◌%◌, ◌<◌, ◌≤◌, true, [], Option, Some, None, refl, sym, ap, ◌∙◌, arith}
+use Rattle.std.proofs.lemmas.Bool.{cases_eq}
+use Rattle.std.proofs.lemmas.List.{append-nil}
+use Rattle.pm_model.specs.declared.host.HostFault.{HostFault}
+use Rattle.pm_model.specs.Words.{reads, Picks, IsRested}
+use Rattle.pm_model.specs.Moments.{State}
+use Rattle.pm_model.specs.Changes.{Changes, Leaves, Silently}
+use Rattle.pm_model.proofs.Words.{Picks-reads, reads_only}
+use Rattle.pm_model.proofs.Changes.{Changes-still, Changes-said, Changes-wider, Changes-then}
+use Rattle.pm_model.proofs.Leaves.{Leaves-still, Leaves-now, Leaves-then, Leaves-weaker}
+use Rattle.pud_defs.specs.declared.layout.TheConstants.{CLIENTS, CLIENT_LOGS, POOL_TABLE, SPACE_TABLE, PUDDLE_TABLE}
+use Rattle.pud_defs.specs.Image.{Image}
+use Rattle.pud_defs.specs.Layout.{tables_end, frames_at}
+use Rattle.pud_defs.specs.Entries.{log_of, is_idle_gate}
+use Rattle.pud_defs.specs.Tables.{tables_of}
+use Rattle.pud_defs.specs.Spaces.{owner_of}
+use Rattle.pud_defs.specs.Allowed.{is_accepted}
+use Rattle.pud_defs.specs.Settled.{gives_to, ALL_LOGS, client_of_log, log_number_at, given_by_log, is_refused_log, is_accepted_log, settled_over}
+use Rattle.pud_defs.specs.LogsTaken.{TakesLog, GivesNothingBelow}
+use Rattle.pud_defs.proofs.Spaces.{owner_of-same}
+use Rattle.pud_defs.proofs.TablesOf.{tables_of-same}
+use Rattle.pud_defs.proofs.LogsTaken.{beside_gate, below_logs, other_log, settled_same, refused_same, nothing_below_next}
+use Rattle.log_replay.specs.Replaying.{IsNamed}
+use Rattle.recover.specs.Verdicts.{verdict_by, verdict_of}
+use Rattle.recover.specs.Turns.{IsOfLog, ByLog, IsOfLogs, ByLogs, TakesTurn, IsAlike, TakesTurns}
+
+-- ---- images that are alike
+
+module _ (F : ℕ) (image now : Image) (alike : IsAlike F image now) where
+  alike_tables : tables_of F now ≡ tables_of F image
+  alike_tables = tables_of-same F now image (λ k low high. alike.below k (omega arith)) (λ k low high. alike.below k high)
+
+  alike_owner : (client : ℕ) → client < CLIENTS → owner_of now client ≡ owner_of image client
+  alike_owner client few = owner_of-same now image client few (λ k low high. alike.below k (omega arith))
+
+  module _ (number : ℕ) (known : number < ALL_LOGS) (log : log_of now (log_number_at F number) ≡ log_of image (log_number_at F number)) where
+    pub alike_gives : (w : ℕ) → given_by_log F now number w ≡ given_by_log F image number w
+    alike_gives w = λ p. gives_to (alike_tables p) (alike_owner (client_of_log number) (omega arith) p) (log p) w
+
+    pub alike_accepted : is_accepted_log F now number ≡ is_accepted_log F image number
+    alike_accepted = λ p. is_accepted (alike_tables p) (alike_owner (client_of_log number) (omega arith) p) (log p)
+
+    pub alike_verdict : verdict_of F now number ≡ verdict_of F image number
+    unfolding verdict_of
+    alike_verdict = λ p. verdict_by (alike_tables p) (alike_owner (client_of_log number) (omega arith) p) (log p)
+
+pub IsAlike-itself : (F : ℕ) (image now : Image) → now ≡ image → IsAlike F image now
+IsAlike-itself F image now same = record {
+  below = λ k high. ap (λ (i : Image). i k) same;
+  settled = ap (settled_over F) same;
+  refused = λ number few. ap (λ (i : Image). is_refused_log F i number) same;
+}
+
+-- ---- no log yet, and one more
+
+pub TakesTurns-start : (F : ℕ) (image : Image) (old : State) → IsRested old.now.words → reads old.now.words ≡ image → TakesTurns F 0 image None old old
+TakesTurns-start F image old rested is = record {
+  changes = Changes-still (ByLogs F 0 image) None old old (λ cut. absurd (let it : None ≡ Some _ = cut in cc)) refl;
+  moments = Leaves-still (Silently (IsAlike F image)) old old (λ other picked. (refl, IsAlike-itself F image other (reads_only old.now.words other rested picked ∙ is))) refl;
+  rested = λ none. rested;
+  gone = λ none. record { each = λ other w below. absurd (omega arith) };
+  closed = λ none number below. absurd (omega arith);
+  left = λ none number low few. ap (λ (i : Image). log_of i (log_number_at F number)) is;
+}
+
+module _ (F number : ℕ) (image : Image) (old mid : State) (known : number < ALL_LOGS) (first : TakesTurns F number image None old mid) where
+  abbrev m : Image
+  m = reads mid.now.words
+
+  said_mid : mid.now.said ≡ old.now.said
+  said_mid = Changes-said (ByLogs F number image) None old mid first.changes
+
+  alike_mid : IsAlike F image m
+  alike_mid = (Leaves-now (Silently (IsAlike F image)) [] old mid (said_mid ∙ sym (append-nil old.now.said)) first.moments m (Picks-reads mid.now.words)).1
+
+  log_mid : log_of m (log_number_at F number) ≡ log_of image (log_number_at F number)
+  log_mid = first.left refl number (omega arith) known
+
+  -- the next log is judged as at the start
+  pub verdict_mid : verdict_of F m number ≡ verdict_of F image number
+  verdict_mid = alike_verdict F image m alike_mid number known log_mid
+
+  alike_then : (other : Image) → TakesLog F number m other → IsAlike F image other
+  alike_then other takes = record {
+    below = λ k high. below_logs F number m other known takes k high ∙ alike_mid.below k high;
+    settled = settled_same F number m other known takes (first.gone refl) ∙ alike_mid.settled;
+    refused = λ n few. refused_same F number m other known takes n few ∙ alike_mid.refused n few;
+  }
+
+  widened : (k v : ℕ) → ByLogs F number image k v → ByLogs F (number + 1) image k v
+  widened k v by = record { number = by.number; below = let low = by.below in omega arith; of_log = by.of_log }
+
+  of_this : (k v : ℕ) → ByLog F number m k v → ByLogs F (number + 1) image k v
+  of_this k v by = record {
+    number = number;
+    below = omega arith;
+    of_log = record {
+      accepted = sym (alike_accepted F image m alike_mid number known log_mid) ∙ by.accepted;
+      place = elim by.place [
+        | inl here ↦ inl here
+        | inr named ↦ inr (record { value = named.value; is = sym (alike_gives F image m alike_mid number known log_mid k) ∙ named.is })
+      ];
+    };
+  }
+
+  module _ (fault : Option HostFault) (new : State) (turn : TakesTurn F number m fault mid new) where
+    takes_now : TakesLog F number m (reads new.now.words)
+    takes_now = (Leaves-now (Silently (TakesLog F number m)) [] mid new (Changes-said (ByLog F number m) fault mid new turn.changes ∙ sym (append-nil mid.now.said)) turn.moments
+        (reads new.now.words) (Picks-reads new.now.words)).1
+
+    still_closed : (n : ℕ) → n < number → is_idle_gate (m (log_number_at F n)) ≡ true → is_idle_gate (reads new.now.words (log_number_at F n)) ≡ true
+    still_closed n below idle =
+        ap is_idle_gate (beside_gate F number m (reads new.now.words) known takes_now (log_number_at F n) (omega arith) (λ same. absurd (omega arith))) ∙ idle
+
+    pub TakesTurns-turn : TakesTurns F (number + 1) image fault old new
+    TakesTurns-turn = record {
+      changes = Changes-then (ByLogs F (number + 1) image) fault old mid new
+          (Changes-wider (ByLogs F number image) (ByLogs F (number + 1) image) None old mid widened first.changes)
+          (Changes-wider (ByLog F number m) (ByLogs F (number + 1) image) fault mid new of_this turn.changes);
+      moments = Leaves-then (Silently (IsAlike F image)) (Silently (IsAlike F image)) (Silently (IsAlike F image)) [] old mid new (said_mid ∙ sym (append-nil old.now.said))
+          (λ front other q. q) (λ more other q. q) first.moments
+          (Leaves-weaker (Silently (TakesLog F number m)) (Silently (IsAlike F image)) mid new (λ bytes other q. (q.0, alike_then other q.1)) turn.moments);
+      rested = turn.rested;
+      gone = λ none. nothing_below_next F number m (reads new.now.words) known takes_now (first.gone refl) (turn.gone none);
+      closed = λ none n below accepted. elim (cases_eq n number) [
+        | inl here ↦ ap (λ (x : ℕ). is_idle_gate (reads new.now.words (log_number_at F x))) here
+            ∙ turn.closed none (alike_accepted F image m alike_mid number known log_mid ∙ ap (is_accepted_log F image) (sym here) ∙ accepted)
+        | inr apart ↦ still_closed n (omega arith) (first.closed refl n (omega arith) accepted)
+      ];
+      left = λ none n low few. other_log F number m (reads new.now.words) known takes_now n few (λ same. absurd (omega arith)) ∙ first.left refl n (omega arith) few;
+    }
+
+none_of_fault : {A : Type 0} (fault : HostFault) → Some fault ≡ None → A
+none_of_fault fault none = absurd (let it : None ≡ Some fault = sym none in cc)
+
+-- where a fault came nothing is said of the end
+pub TakesTurns-failed : (F count all : ℕ) (image : Image) (fault : HostFault) (old new : State) → count ≤ all → TakesTurns F count image (Some fault) old new → TakesTurns F all image (Some fault) old new
+TakesTurns-failed F count all image fault old new few t =
+    record {
+      changes = Changes-wider (ByLogs F count image) (ByLogs F all image) (Some fault) old new (λ k v by. record { number = by.number; below = let low = by.below in omega arith; of_log = by.of_log }) t.changes;
+      moments = t.moments;
+      rested = λ none. none_of_fault fault none;
+      gone = λ none. none_of_fault fault none;
+      closed = λ none. none_of_fault fault none;
+      left = λ none. none_of_fault fault none;
+    }

@@ -1,0 +1,43 @@
+use Rattle.std.proofs.Common.{◌≡◌, ◌∙◌, ℕ, Some, None, sym, ap, subst}
+use Rattle.std.proofs.lemmas.Result.{err_from_is_err_and}
+use Rattle.pm_model.specs.declared.host.HostFault.{HostFault}
+use Rattle.pm_model.specs.Words.{reads}
+use Rattle.pm_model.specs.Counts.{fault_of}
+use Rattle.pm_model.specs.Moments.{State}
+use Rattle.pm_model.specs.Changes.{only, Persists, Changes, written}
+use Rattle.pm_model.proofs.Changes.{Changes-wider}
+use Rattle.pud_defs.specs.declared.log_words.TheConstants.{CLOSED_GATE}
+use Rattle.pud_defs.specs.Image.{Image}
+use Rattle.pud_defs.specs.Entries.{is_idle_gate}
+use Rattle.pud_defs.specs.Settled.{log_number_at}
+use Rattle.log_replay.specs.Replaying.{Anything}
+use Rattle.recover.proofs.Judged.{of_closed, closed_gives_nothing}
+use Rattle.recover.proofs.TurnTaken.{idle_gate, TakesTurn-still, TakesTurn-closed}
+use Rattle.recover.proofs.turn.close_idle.Goals as goal
+
+pub returns-in_err-gate-clause-takes : goal.returns-in_err-gate-clause-takes
+returns-in_err-gate-clause-takes g c =
+    let p = err_from_is_err_and c.from_residual.result c.from_residual.ensures.1 in
+    rw (p.1, p.2) (λ t image rested is verdict.
+      TakesTurn-still c.args.frames c.args.number image (g.H.Host.state c.args.h.now) rested is _ _ c.in_err-gate.ensures.never_cut (c.load.ensures.state t)
+      (closed_gives_nothing c.args.frames c.args.number image verdict) (λ none. absurd (let it : None ≡ Some _ = sym none in cc)))
+
+pub returns-then-gate-eq0-clause-takes : goal.returns-then-gate-eq0-clause-takes
+returns-then-gate-eq0-clause-takes g c = λ t image rested is verdict.
+    let gate = ap (λ (k : ℕ). reads (g.H.Host.state c.args.h.now).now.words k) (sym c.log_number_at-at.ensures) ∙ sym (c.in_ok-gate.ensures.value t) in
+    TakesTurn-still c.args.frames c.args.number image (g.H.Host.state c.args.h.now) rested is None _ (λ cut. absurd (let it : None ≡ Some _ = cut in cc)) (c.load.ensures.state t)
+    (closed_gives_nothing c.args.frames c.args.number image verdict)
+    (λ none accepted. ap is_idle_gate (ap (λ (i : Image). i (log_number_at c.args.frames c.args.number)) (sym is) ∙ gate) ∙ idle_gate c.in_ok-gate.gate c.then-gate-eq0.either)
+
+pub returns-clause-takes : goal.returns-clause-takes
+returns-clause-takes g c = λ t image rested is verdict.
+    let persists = subst (λ (k : ℕ). Persists (only k CLOSED_GATE) (fault_of c.persist_word.result) (g.H.Host.state c.load.new.self) (g.H.Host.state c.persist_word.new.h)) c.log_number_at-at.ensures (c.persist_word.ensures.persists t) in
+    TakesTurn-closed c.args.frames c.args.number image (g.H.Host.state c.args.h.now) rested is _ _
+    (subst (λ (s : State). Persists (only (log_number_at c.args.frames c.args.number) CLOSED_GATE) (fault_of c.persist_word.result) s (g.H.Host.state c.persist_word.new.h)) (c.load.ensures.state t) persists)
+    (of_closed c.args.frames c.args.number image verdict).0 (closed_gives_nothing c.args.frames c.args.number image verdict)
+
+pub returns-clause-any : goal.returns-clause-any
+returns-clause-any g c = λ t.
+    let changes = (c.persist_word.ensures.persists t).changes in
+    let wide = Changes-wider (written (only c.log_number_at-at.result CLOSED_GATE)) Anything (fault_of c.persist_word.result) (g.H.Host.state c.load.new.self) (g.H.Host.state c.persist_word.new.h) (λ k v new. tt) changes in
+    subst (λ (s : State). Changes Anything (fault_of c.persist_word.result) s (g.H.Host.state c.persist_word.new.h)) (c.load.ensures.state t) wide

@@ -1,0 +1,55 @@
+-- What it does to replay and close clients' logs one after the other.
+use Rattle.std.specs.Prelude.{◌≡◌, ◌⊎◌, ℕ, ◌<◌, ◌≤◌, true, Option, Some, None}
+use Rattle.pm_model.specs.declared.host.HostFault.{HostFault}
+use Rattle.pm_model.specs.Words.{reads, IsRested}
+use Rattle.pm_model.specs.Moments.{State}
+use Rattle.pm_model.specs.Changes.{Footprint, Changes, Leaves, Silently}
+use Rattle.pud_defs.specs.Image.{Image}
+use Rattle.pud_defs.specs.Layout.{tables_end}
+use Rattle.pud_defs.specs.Entries.{log_of, is_idle_gate}
+use Rattle.pud_defs.specs.Settled.{ALL_LOGS, log_number_at, given_by_log, is_refused_log, is_accepted_log, settled_over}
+use Rattle.pud_defs.specs.LogsTaken.{TakesLog, GivesNothingBelow}
+use Rattle.log_replay.specs.Replaying.{IsNamed}
+
+-- The log of a number is registered and allowed by the image, and the word is its gate, or one that it gives a value.
+pub record IsOfLog (F number : ℕ) (image : Image) (k : ℕ) : Type 0 where
+  pub accepted : is_accepted_log F image number ≡ true
+  pub place : (k ≡ log_number_at F number) ⊎ IsNamed (given_by_log F image number) k
+
+-- any value may come to such a word
+abbrev pub ByLog : (F number : ℕ) → Image → Footprint
+ByLog F number image k v = IsOfLog F number image k
+
+-- the word is one of the first logs
+pub record IsOfLogs (F count : ℕ) (image : Image) (k : ℕ) : Type 0 where
+  pub number : ℕ
+  pub below : number < count
+  pub of_log : IsOfLog F number image k
+
+abbrev pub ByLogs : (F count : ℕ) → Image → Footprint
+ByLogs F count image k v = IsOfLogs F count image k
+
+-- One log of a rested device, which reads as this image, was replayed and closed, where it is registered and allowed; else nothing changed.
+-- Without a fault the device is rested, and the log gives nothing any more.
+pub record TakesTurn (F number : ℕ) (image : Image) (fault : Option HostFault) (old new : State) : Type 0 where
+  pub changes : Changes (ByLog F number image) fault old new
+  pub moments : Leaves (Silently (TakesLog F number image)) old new
+  pub rested : fault ≡ None → IsRested new.now.words
+  pub gone : fault ≡ None → (w : ℕ) → given_by_log F (reads new.now.words) number w ≡ None
+  pub closed : fault ≡ None → is_accepted_log F image number ≡ true → is_idle_gate (reads new.now.words (log_number_at F number)) ≡ true
+
+-- an image from which a start makes the same: below the clients' logs it is the same, it settles to the same, and the same logs are refused
+pub record IsAlike (F : ℕ) (before image : Image) : Type 0 where
+  pub below : (k : ℕ) → k < tables_end F → image k ≡ before k
+  pub settled : settled_over F image ≡ settled_over F before
+  pub refused : (number : ℕ) → number < ALL_LOGS → is_refused_log F image number ≡ is_refused_log F before number
+
+-- The first logs of a rested device, which reads as this image, were replayed and closed in turn, those that are registered and allowed; nothing
+-- else changed. Without a fault the device is rested, and none of them gives anything any more; those behind them are as they were.
+pub record TakesTurns (F count : ℕ) (image : Image) (fault : Option HostFault) (old new : State) : Type 0 where
+  pub changes : Changes (ByLogs F count image) fault old new
+  pub moments : Leaves (Silently (IsAlike F image)) old new
+  pub rested : fault ≡ None → IsRested new.now.words
+  pub gone : fault ≡ None → GivesNothingBelow F count (reads new.now.words)
+  pub closed : fault ≡ None → (number : ℕ) → number < count → is_accepted_log F image number ≡ true → is_idle_gate (reads new.now.words (log_number_at F number)) ≡ true
+  pub left : fault ≡ None → (number : ℕ) → count ≤ number → number < ALL_LOGS → log_of (reads new.now.words) (log_number_at F number) ≡ log_of image (log_number_at F number)
