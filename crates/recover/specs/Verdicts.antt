@@ -1,5 +1,5 @@
 -- What a start finds of the logs of clients.
-use Rattle.std.specs.Prelude.{ℕ, cond, Option, Some, None}
+use Rattle.std.specs.Prelude.{◌≡◌, ℕ, Bool, true, false, cond, Option, Some, None}
 use Rattle.pud_defs.specs.Image.{Image}
 use Rattle.pud_defs.specs.Entries.{Log, log_of}
 use Rattle.pud_defs.specs.Spaces.{Owner, owner, owner_of}
@@ -31,3 +31,14 @@ verdict_of F image number = verdict_by (tables_of F image) (owner_of image (clie
 abbrev pub mark_of : Option Mark → Mark
 mark_of None = Closed
 mark_of (Some mark) = mark
+
+abbrev pub is_refused_mark : Mark → Bool
+is_refused_mark Refused = true
+is_refused_mark Replayed = false
+is_refused_mark Closed = false
+
+-- The log of a number is registered, and allowed by the tables of the same image.
+pub record IsAllowed (F : ℕ) (image : Image) (number : ℕ) : Type 0 where
+  pub who : Owner
+  pub registered : owner_of image (client_of_log number) ≡ Some who
+  pub allowed : is_allowed_log (tables_of F image) who (log_of image (log_number_at F number)) ≡ true
