@@ -53,6 +53,7 @@ pub mod ExamplesIdentifiers
 pub mod ExamplesPlaces
 pub mod ExamplesGraph
 pub mod ExamplesRights
+pub mod ExamplesSettled
 pub mod Stands
 pub mod DistinctKeys
 pub mod Contents

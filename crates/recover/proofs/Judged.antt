@@ -1,113 +1,57 @@
--- What a verdict says of a log.
-use Rattle.std.proofs.Common.{◌≡◌, inl, inr, ℕ, ◌+◌, ◌<◌, ◌≤◌, Bool, true, false, cond, List, [], ◌∷◌, length, Option, Some, None, refl, sym, ap, ◌∙◌, arith}
-use Rattle.std.specs.Prelude.{All}
-use Rattle.std.specs.Bool.{IsTrue}
-use Rattle.std.proofs.lemmas.Bool.{cases_Bool, cond-true, cond-false}
-use Rattle.std.proofs.lemmas.Option.{none-some}
-use Rattle.pud_defs.specs.declared.layout.TheConstants.{LOG_WORDS}
+-- The marks of a client's logs, and their places among all.
+use Rattle.std.proofs.Common.{◌≡◌, ℕ, zero, suc, ◌+◌, ◌-◌, ◌*◌, ◌%◌, ◌<◌, ◌≤◌, List, [], ◌∷◌, ◌++◌, length, get_or, take, drop, length-drop, Option, Some, None, refl, sym, ap, ap₂, ◌∙◌, arith}
+use Rattle.std.proofs.lemmas.List.{get_or-take, get_or_append_left, get_or-append_right, length-take-le}
+use borrow.Rule.Slice.PartMut.{put_mid, post_of, same_len_mid}
+use Rattle.pud_defs.specs.declared.layout.TheConstants.{CLIENT_LOGS}
 use Rattle.pud_defs.specs.Image.{Image}
-use Rattle.pud_defs.specs.Layout.{frames_at, device_words}
-use Rattle.pud_defs.specs.Entries.{Entry, Log, log_of}
-use Rattle.pud_defs.specs.Replay.{Place, is_in_range}
+use Rattle.pud_defs.specs.Layout.{log_at}
+use Rattle.pud_defs.specs.Entries.{log_of}
 use Rattle.pud_defs.specs.Spaces.{Owner, owner_of}
-use Rattle.pud_defs.specs.Tables.{Tables, tables_of}
-use Rattle.pud_defs.specs.Allowed.{puddle_word, is_allowed_log, is_accepted, counts_any}
-use Rattle.pud_defs.specs.Settled.{ALL_LOGS, client_of_log, log_number_at, given_by_log, is_accepted_log}
-use Rattle.pud_defs.proofs.TablesOf.{frames_of_tables}
-use Rattle.pud_defs.proofs.Accepted.{gives_to-none_counts, gives_to-not_accepted, NamesFrame, HasAllowed, accepted_entries}
-use Rattle.log_replay.specs.Replaying.{NamesApart, IsReplayable}
+use Rattle.pud_defs.specs.Tables.{tables_of}
+use Rattle.pud_defs.specs.Settled.{client_of_log}
 use Rattle.recover.specs.declared.judge.Mark.{Mark}
-use Rattle.recover.specs.declared.judge.Mark.TheVariants.{Closed, Replayed, Refused}
 use Rattle.recover.specs.Verdicts.{mark_for, verdict_by, verdict_of}
 
-same_mark : {x y : Mark} → Some x ≡ Some y → x ≡ y
-same_mark same = cc
+-- ---- the verdict of one log of a client
 
--- ---- by the verdict
+by_client : (F : ℕ) (image : Image) (client k : ℕ) → k < CLIENT_LOGS → verdict_of F image (CLIENT_LOGS * client + k) ≡ verdict_by (tables_of F image) (owner_of image client) (log_of image (log_at F client k))
+unfolding verdict_of
+by_client F image client k known =
+    let its : client_of_log (CLIENT_LOGS * client + k) ≡ client = omega arith in
+    let number : (CLIENT_LOGS * client + k) % CLIENT_LOGS ≡ k = omega arith in
+    ap₂ (λ (c n : ℕ). verdict_by (tables_of F image) (owner_of image c) (log_of image (log_at F c n))) its number
 
-module _ (t : Tables) (log : Log) where
-  accepted_replayed : (who : Option Owner) → verdict_by t who log ≡ Some Replayed → is_accepted t who log ≡ true
-  accepted_replayed None is = absurd (none-some Replayed is)
-  accepted_replayed (Some who) is = elim (cases_Bool (is_allowed_log t who log)) [
-    | inl allowed ↦ allowed
-    | inr refused ↦ absurd (let it : Refused ≡ Replayed = sym (cond-false (is_allowed_log t who log) _ Refused refused) ∙ same_mark is in cc)
-  ]
+-- none where the client's logs are not registered
+pub verdict_of-free : (F : ℕ) (image : Image) (client k : ℕ) → k < CLIENT_LOGS → owner_of image client ≡ None → verdict_of F image (CLIENT_LOGS * client + k) ≡ None
+verdict_of-free F image client k known free =
+    by_client F image client k known ∙ ap (λ (o : Option Owner). verdict_by (tables_of F image) o (log_of image (log_at F client k))) free
 
-  accepted_closed : (who : Option Owner) → verdict_by t who log ≡ Some Closed → (is_accepted t who log ≡ true) × (counts_any log ≡ false)
-  accepted_closed None is = absurd (none-some Closed is)
-  accepted_closed (Some who) is = elim (cases_Bool (is_allowed_log t who log)) [
-    | inr refused ↦ absurd (let it : Refused ≡ Closed = sym (cond-false (is_allowed_log t who log) _ Refused refused) ∙ same_mark is in cc)
-    | inl allowed ↦ (allowed, elim (cases_Bool (counts_any log)) [
-      | inr none ↦ none
-      | inl some ↦ absurd (let it : Replayed ≡ Closed = sym (cond-true (is_allowed_log t who log) _ Refused allowed ∙ cond-true (counts_any log) Replayed Closed some) ∙ same_mark is in cc)
-    ])
-  ]
+-- else its mark
+pub verdict_of-registered : (F : ℕ) (image : Image) (client k : ℕ) (who : Owner) → k < CLIENT_LOGS → owner_of image client ≡ Some who
+    → verdict_of F image (CLIENT_LOGS * client + k) ≡ Some (mark_for (tables_of F image) who (log_of image (log_at F client k)))
+verdict_of-registered F image client k who known registered =
+    by_client F image client k known ∙ ap (λ (o : Option Owner). verdict_by (tables_of F image) o (log_of image (log_at F client k))) registered
 
-  not_accepted_none : (who : Option Owner) → verdict_by t who log ≡ None → is_accepted t who log ≡ false
-  not_accepted_none None is = refl
-  not_accepted_none (Some who) is = absurd (none-some (mark_for t who log) (sym is))
+-- ---- lists of marks
 
-  not_accepted_refused : (who : Option Owner) → verdict_by t who log ≡ Some Refused → is_accepted t who log ≡ false
-  not_accepted_refused None is = refl
-  not_accepted_refused (Some who) is = elim (cases_Bool (is_allowed_log t who log)) [
-    | inr refused ↦ refused
-    | inl allowed ↦ elim (cases_Bool (counts_any log)) [
-      | inl some ↦ absurd (let it : Replayed ≡ Refused = sym (cond-true (is_allowed_log t who log) _ Refused allowed ∙ cond-true (counts_any log) Replayed Closed some) ∙ same_mark is in cc)
-      | inr none ↦ absurd (let it : Closed ≡ Refused = sym (cond-true (is_allowed_log t who log) _ Refused allowed ∙ cond-false (counts_any log) Replayed Closed none) ∙ same_mark is in cc)
-    ]
-  ]
+pub no_marks : (k : ℕ) → get_or {A = Option Mark} (None ∷ None ∷ None ∷ None ∷ []) k None ≡ None
+no_marks zero = refl
+no_marks (suc zero) = refl
+no_marks (suc (suc zero)) = refl
+no_marks (suc (suc (suc zero))) = refl
+no_marks (suc (suc (suc (suc k)))) = refl
 
-module _ (F number : ℕ) (image : Image) where
-  abbrev the_log : Log
-  the_log = log_of image (log_number_at F number)
+-- values are copied over a part of a list
+pub length-placed : {X : Type 0} (a k : ℕ) (xs ys : List X) → length ys ≡ k → a + k ≤ length xs → length (put_mid a k xs ys) ≡ length xs
+length-placed a k xs ys many fits = same_len_mid a k xs ys (many ∙ sym (length-take-le k (drop a xs) (omega (arith, length-drop a xs))))
 
-  abbrev its_owner : Option Owner
-  its_owner = owner_of image (client_of_log number)
+pub before_placed : {X : Type 0} (a k i : ℕ) (xs ys : List X) (d : X) → i < a → a ≤ length xs → get_or (put_mid a k xs ys) i d ≡ get_or xs i d
+before_placed a k i xs ys d below fits =
+    get_or_append_left (take a xs) (ys ++ post_of a k xs) d i (omega (arith, length-take-le a xs fits)) ∙ get_or-take a xs i d below
 
-  pub of_replayed : verdict_of F image number ≡ Some Replayed → is_accepted_log F image number ≡ true
-  unfolding verdict_of
-  of_replayed is = accepted_replayed (tables_of F image) the_log its_owner is
-
-  pub of_closed : verdict_of F image number ≡ Some Closed → (is_accepted_log F image number ≡ true) × (counts_any the_log ≡ false)
-  unfolding verdict_of
-  of_closed is = accepted_closed (tables_of F image) the_log its_owner is
-
-  pub of_none : verdict_of F image number ≡ None → is_accepted_log F image number ≡ false
-  unfolding verdict_of
-  of_none is = not_accepted_none (tables_of F image) the_log its_owner is
-
-  pub of_refused : verdict_of F image number ≡ Some Refused → is_accepted_log F image number ≡ false
-  unfolding verdict_of
-  of_refused is = not_accepted_refused (tables_of F image) the_log its_owner is
-
-  -- none of these gives anything
-  pub closed_gives_nothing : verdict_of F image number ≡ Some Closed → (w : ℕ) → given_by_log F image number w ≡ None
-  closed_gives_nothing is w = gives_to-none_counts (tables_of F image) its_owner the_log w (of_closed is).1
-
-  pub not_accepted_gives_nothing : is_accepted_log F image number ≡ false → (w : ℕ) → given_by_log F image number w ≡ None
-  not_accepted_gives_nothing other w = gives_to-not_accepted (tables_of F image) its_owner the_log w other
-
--- ---- an accepted log may be replayed
-
--- some entries are those of the log, and it may be replayed
-pub record MayReplay (F number size : ℕ) (image : Image) : Type 0 where
-  pub es : List Entry
-  pub replayable : IsReplayable (puddle_word (tables_of F image)) size (log_number_at F number) es image
-
-apart_in_frame : (F number size : ℕ) (image : Image) (e : Entry) → number < ALL_LOGS → device_words F ≤ size → NamesFrame (tables_of F image) e → NamesApart (puddle_word (tables_of F image)) size (log_number_at F number) e
-apart_in_frame F number size image e known room names =
-    let frames = frames_of_tables F image in
-    let frame = names.frame in
-    let within = names.within in
-    record { first = _; placed = names.placed; within = omega arith; apart = inr (omega arith) }
-
-pub may_be_replayed : (F number size : ℕ) (image : Image) → number < ALL_LOGS → device_words F ≤ size → is_accepted_log F image number ≡ true → MayReplay F number size image
-may_be_replayed F number size image known room accepted =
-    let a = accepted_entries (tables_of F image) (owner_of image (client_of_log number)) (log_of image (log_number_at F number)) accepted in
-    record {
-      es = a.es;
-      replayable = record {
-        spells = a.are;
-        apart = λ k d below counts. apart_in_frame F number size image _ known room (a.each k d below counts);
-      };
-    }
+pub placed_there : {X : Type 0} (a k i : ℕ) (xs ys : List X) (d : X) → i < length ys → a ≤ length xs → get_or (put_mid a k xs ys) (a + i) d ≡ get_or ys i d
+placed_there a k i xs ys d within fits =
+    let place : a + i - a ≡ i = omega arith in
+    get_or-append_right (take a xs) (ys ++ post_of a k xs) a (a + i) d (length-take-le a xs fits) (omega arith)
+    ∙ ap (λ (n : ℕ). get_or (ys ++ post_of a k xs) n d) place
+    ∙ get_or_append_left ys (post_of a k xs) d i within

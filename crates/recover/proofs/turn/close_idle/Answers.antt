@@ -11,7 +11,7 @@ use Rattle.pud_defs.specs.Image.{Image}
 use Rattle.pud_defs.specs.Entries.{is_idle_gate}
 use Rattle.pud_defs.specs.Settled.{log_number_at}
 use Rattle.log_replay.specs.Replaying.{Anything}
-use Rattle.recover.proofs.Judged.{of_closed, closed_gives_nothing}
+use Rattle.recover.proofs.Accepting.{of_closed, closed_gives_nothing}
 use Rattle.recover.proofs.TurnTaken.{idle_gate, TakesTurn-still, TakesTurn-closed}
 use Rattle.recover.proofs.turn.close_idle.Goals as goal
 

@@ -8,7 +8,7 @@ use Rattle.pud_defs.specs.Allowed.{puddle_word}
 use Rattle.pud_defs.specs.Settled.{log_number_at}
 use Rattle.log_replay.specs.declared.Target.TheVariants.{Puddles}
 use Rattle.log_replay.specs.Replaying.{place_of, IsReplayable, IsSettling, SettlesLog}
-use Rattle.recover.proofs.Judged.{of_replayed, of_none, of_refused, not_accepted_gives_nothing, may_be_replayed}
+use Rattle.recover.proofs.Accepting.{of_replayed, of_none, of_refused, not_accepted_gives_nothing, may_be_replayed}
 use Rattle.recover.proofs.TurnTaken.{TakesTurn-still, TakesTurn-settled, durable_log}
 use Rattle.recover.proofs.turn.take_log.Goals as goal
 

@@ -1,0 +1,4 @@
+pub mod Writable
+pub mod Marked
+pub mod Judged
+pub mod Marks

@@ -1,0 +1,44 @@
+-- What a start finds of the logs of clients.
+use Rattle.std.specs.Prelude.{◌≡◌, ℕ, Bool, true, false, cond, Option, Some, None}
+use Rattle.pud_defs.specs.Image.{Image}
+use Rattle.pud_defs.specs.Entries.{Log, log_of}
+use Rattle.pud_defs.specs.Spaces.{Owner, owner, owner_of}
+use Rattle.pud_defs.specs.Tables.{Tables, tables_of}
+use Rattle.pud_defs.specs.Allowed.{is_allowed_log, counts_any}
+use Rattle.pud_defs.specs.Settled.{client_of_log, log_number_at}
+use Rattle.recover.specs.declared.judge.Registrant.{Registrant}
+use Rattle.recover.specs.declared.judge.Mark.{Mark}
+use Rattle.recover.specs.declared.judge.Mark.TheVariants.{Closed, Replayed, Refused}
+
+-- as whom the logs act
+abbrev pub owner_by_record : Registrant → Owner
+owner_by_record r = owner r.uid r.gid
+
+-- the mark of a log that is registered for this owner: refused where it is not allowed, else replayed where an entry counts
+abbrev pub mark_for : Tables → Owner → Log → Mark
+mark_for t who log = cond (is_allowed_log t who log) (cond (counts_any log) Replayed Closed) Refused
+
+-- the mark of a log whose owner is this, where it is registered
+abbrev pub verdict_by : Tables → Option Owner → Log → Option Mark
+verdict_by t None log = None
+verdict_by t (Some who) log = Some (mark_for t who log)
+
+-- the mark of the log of a number, judged by the tables of the same image
+unfoldable pub verdict_of : (F : ℕ) → Image → (number : ℕ) → Option Mark
+verdict_of F image number = verdict_by (tables_of F image) (owner_of image (client_of_log number)) (log_of image (log_number_at F number))
+
+-- a log that is not registered is as good as closed
+abbrev pub mark_of : Option Mark → Mark
+mark_of None = Closed
+mark_of (Some mark) = mark
+
+abbrev pub is_refused_mark : Mark → Bool
+is_refused_mark Refused = true
+is_refused_mark Replayed = false
+is_refused_mark Closed = false
+
+-- The log of a number is registered, and allowed by the tables of the same image.
+pub record IsAllowed (F : ℕ) (image : Image) (number : ℕ) : Type 0 where
+  pub who : Owner
+  pub registered : owner_of image (client_of_log number) ≡ Some who
+  pub allowed : is_allowed_log (tables_of F image) who (log_of image (log_number_at F number)) ≡ true
