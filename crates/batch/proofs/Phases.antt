@@ -18,6 +18,7 @@ use Rattle.pud_defs.specs.Entries.{Entry, Log, log_of, gate_lo, gate_hi, gate_us
 use Rattle.pud_defs.specs.Replay.{device_word, new_value, overwritten, IsInLog, is_in_log, settled_by}
 use Rattle.pud_defs.proofs.Entries.{words_from-holds, entries_of-is, gate_lo-of, gate_hi-of, gate_used-of, is_legal_gate-of}
 use Rattle.pud_defs.proofs.Replay.{not_inside}
+use Rattle.log_replay.specs.declared.Target.TheVariants as targets
 use Rattle.log_replay.specs.Replaying.{ByLog, SettlesSame, SettlesLog}
 use Rattle.log_replay.proofs.Closing.{gate_apart}
 use Rattle.batch.specs.Batches.{batch_write, committed, AreBatched, IsFree, ByBatch, IsBatched, IsBatchedWholly, IsUntouched, Prepares, Commits}
@@ -156,6 +157,7 @@ module _ (size at : ℕ) (es : List Entry) (words : List ℕ) (s a : State) (fre
                     let below : j < length words = omega arith in
                     let place : k ≡ at + LOG_HEADER_WORDS + j = omega arith in
                     HasOnly-own (b.now.words k) (get_or words j 0) (entry_value k (get_or words j 0) (placed_at (at + LOG_HEADER_WORDS) j k words place below));
+                table = λ k placing. absurd placing;
               };
               replayable = record {
                 spells = ap (λ (l : Log). l.entries) (reads_log none);
@@ -188,7 +190,7 @@ Commits-prepare size at es fault s b p =
     record { changes = p.changes; moments = p.moments; durable = λ e. absurd (let it : None ≡ Some fault = sym e in cc); closed = λ e. absurd (let it : None ≡ Some fault = sym e in cc) }
 
 -- the log that is replayed and closed behind them gives what the batch writes
-pub Commits-settle : (size at : ℕ) (es : List Entry) (fault : Option HostFault) (s b d : State) → AreBatched es → Prepares size at es None s b → SettlesLog at fault b d
+pub Commits-settle : (size at : ℕ) (es : List Entry) (fault : Option HostFault) (s b d : State) → AreBatched es → Prepares size at es None s b → SettlesLog targets.Words at fault b d
     → Leaves (Silently (SettlesSame b.now.words at (log_of (reads b.now.words) at))) b d → Commits at es fault s d
 Commits-settle size at es fault s b d batched p f left =
     let P = Silently (IsBatched s.now.words at es) in

@@ -10,6 +10,7 @@ use Rattle.pud_defs.specs.declared.log_words.TheConstants.{REDO_SEQ, REDO_ORDER,
 use Rattle.pud_defs.specs.Image.{Image}
 use Rattle.pud_defs.specs.Entries.{Entry, Log, log_of, is_idle_gate, entries_in}
 use Rattle.pud_defs.specs.Replay.{device_word, value_at, entries_or_none, overwritten, IsInLog, is_in_log, settled_by}
+use Rattle.log_replay.specs.declared.Target.TheVariants as targets
 use Rattle.log_replay.specs.Replaying.{NamesApart, IsNamed, IsReplayable, HasDurableLog}
 
 -- these values, for the words from w on
@@ -81,7 +82,7 @@ pub record IsUntouched (words : Words) (at : ℕ) (image : Image) : Type 0 where
 -- the log has one value in each word that is read of it, and its range counts the entries of the batch
 pub record IsPrepared (size at : ℕ) (es : List Entry) (words : Words) : Type 0 where
   pub replayable : IsReplayable device_word size at es (reads words)
-  pub durable_log : HasDurableLog at words
+  pub durable_log : HasDurableLog targets.Words at words
   pub log : log_of (reads words) at ≡ committed es
 
 -- an image of these words with the log replayed has all of the batch's words

@@ -16,7 +16,7 @@ ghost use Rattle.batch.specs.Batches.{batch_entry, words_of, AreBatched, IsFree,
 ghost use Rattle.batch.specs.Worlds.{IsSettled, MovesBy, Moves};
 
 use log_entry::encode;
-use log_replay::settle_log;
+use log_replay::{Target, settle_log};
 use pm_model::{Host, HostFault};
 use pm_persist::{persist_range, persist_word};
 use pud_defs::layout::{
@@ -77,7 +77,7 @@ fn commit_by<H: Host>(h: &mut H, at: u32, words: &[u64]) -> Result<(), HostFault
     ensures cause { H.counts h.new ≡ after_fault (fault_of result) (H.counts h.old) }
 {
     prepare(h, at, words)?;
-    settle_log(h, at)
+    settle_log(h, at, Target::Words)
 }
 
 impl Batch {

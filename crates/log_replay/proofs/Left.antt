@@ -1,5 +1,6 @@
 -- Entries that are left to read, while words apart from their log are overwritten.
-use Rattle.std.proofs.Common.{◌≡◌, inl, inr, ⊎_elim, ℕ, ◌&&◌, eqb, List, [], ◌∷◌, Option, Some, None, IsTrue, sym, ap, ap₂, subst, ◌∙◌, arith}
+use Rattle.std.proofs.Common.{◌≡◌, inl, inr, ⊎_elim, ℕ, ◌&&◌, eqb, List, [], ◌∷◌, get_or, Option, Some, None, IsTrue, refl, sym, ap, ap₂, subst, ◌∙◌, arith}
+use Rattle.std.specs.Prelude.{All}
 use Rattle.std.specs.Option.{option_or}
 use Rattle.std.proofs.lemmas.Bool.{and_parts, cond-true, cond-false, cases_Bool}
 use Rattle.std.proofs.lemmas.List.Elements.{All-head, All-tail}
@@ -9,15 +10,40 @@ use Rattle.pm_model.specs.Changes.{Write, Changes}
 use Rattle.pud_defs.specs.declared.log_words.TheConstants.{UNDO_ORDER, REDO_ORDER}
 use Rattle.pud_defs.specs.Image.{Image}
 use Rattle.pud_defs.specs.Entries.{Entry, Log}
-use Rattle.pud_defs.specs.Replay.{Place, is_in_range, value_from, given_by, undone, redone, over, IsInLog}
+use Rattle.pud_defs.specs.Replay.{Place, is_in_range, value_from, value_in, given_by, undone, redone, over, IsInLog}
 use Rattle.pud_defs.proofs.Entries.{words_from-same}
 use Rattle.pud_defs.proofs.Replay.{value_at-apart, undone-first, undone-none, redone-first, redone-none}
 use Rattle.log_entry.specs.declared.Entry.{Entry as Found}
 use Rattle.log_entry.specs.Reading.{Reading, entries_left, entry_from, PassesOne, Passes, left_before}
 use Rattle.log_entry.proofs.Left.{taken, none_left, entries_left-same}
-use Rattle.log_replay.specs.Replaying.{NamesApart, AreApart, IsLeft, Named}
+use Rattle.log_replay.specs.declared.Target.{Target}
+use Rattle.log_replay.specs.Replaying.{place_of, IsPlacing, NamesApart, AreApart, IsLeft, Named}
+use Rattle.log_replay.proofs.Places.{place_above}
 
--- ---- entries give nothing to the words of their log
+-- ---- entries give nothing to a word that none of those in range names
+
+given_by-nothing : (place : Place) (log : Log) (order : ℕ) (e : Entry) (k : ℕ) → (IsTrue (is_in_range log e) → value_in place e k ≡ None) → given_by place log order e k ≡ None
+given_by-nothing place log order e k none =
+    elim (cases_Bool (is_in_range log e && eqb e.order order)) [
+      | inr other ↦ cond-false _ _ _ other
+      | inl counts ↦ cond-true _ _ _ counts ∙ none ((and_parts (is_in_range log e) (eqb e.order order) counts).0)
+    ]
+
+undone-nothing : (place : Place) (log : Log) (es : List Entry) (k : ℕ) → All (λ e. IsTrue (is_in_range log e) → value_in place e k ≡ None) es → undone place log es k ≡ None
+undone-nothing place log [] k none = undone-none place log k
+undone-nothing place log (e ∷ es) k none =
+    undone-first place log e es k
+    ∙ ap₂ option_or (given_by-nothing place log UNDO_ORDER e k (All-head (λ x. IsTrue (is_in_range log x) → value_in place x k ≡ None) e es none))
+    (undone-nothing place log es k (All-tail (λ x. IsTrue (is_in_range log x) → value_in place x k ≡ None) e es none))
+
+redone-nothing : (place : Place) (log : Log) (es : List Entry) (k : ℕ) → All (λ e. IsTrue (is_in_range log e) → value_in place e k ≡ None) es → redone place log es k ≡ None
+redone-nothing place log [] k none = redone-none place log k
+redone-nothing place log (e ∷ es) k none =
+    redone-first place log e es k
+    ∙ ap₂ option_or (redone-nothing place log es k (All-tail (λ x. IsTrue (is_in_range log x) → value_in place x k ≡ None) e es none))
+    (given_by-nothing place log REDO_ORDER e k (All-head (λ x. IsTrue (is_in_range log x) → value_in place x k ≡ None) e es none))
+
+-- ---- they give nothing to the words of their log
 
 pub value_from-apart : (size at k : ℕ) (place : Place) (e : Entry) → NamesApart place size at e → IsInLog at k → value_from (place e.address) e.vals k ≡ None
 value_from-apart size at k place e names inside =
@@ -25,25 +51,29 @@ value_from-apart size at k place e names inside =
     ∙ value_at-apart names.first k e.vals (⊎_elim (λ before. inr (omega arith)) (λ behind. inl (omega arith)) names.apart)
 
 pub given_by-apart : (place : Place) (size at order : ℕ) (log : Log) (e : Entry) → (IsTrue (is_in_range log e) → NamesApart place size at e) → (k : ℕ) → IsInLog at k → given_by place log order e k ≡ None
-given_by-apart place size at order log e apart k inside =
-    elim (cases_Bool (is_in_range log e && eqb e.order order)) [
-      | inr other ↦ cond-false _ _ _ other
-      | inl counts ↦ cond-true _ _ _ counts ∙ value_from-apart size at k place e (apart ((and_parts (is_in_range log e) (eqb e.order order) counts).0)) inside
-    ]
+given_by-apart place size at order log e apart k inside = given_by-nothing place log order e k (λ within. value_from-apart size at k place e (apart within) inside)
 
 pub undone-apart : (place : Place) (size at : ℕ) (log : Log) (es : List Entry) → AreApart place size at log es → (k : ℕ) → IsInLog at k → undone place log es k ≡ None
-undone-apart place size at log [] apart k inside = undone-none place log k
-undone-apart place size at log (e ∷ es) apart k inside =
-    undone-first place log e es k
-    ∙ ap₂ option_or (given_by-apart place size at UNDO_ORDER log e (All-head (λ x. IsTrue (is_in_range log x) → NamesApart place size at x) e es apart) k inside)
-    (undone-apart place size at log es (All-tail (λ x. IsTrue (is_in_range log x) → NamesApart place size at x) e es apart) k inside)
+undone-apart place size at log es apart k inside = undone-nothing place log es k (λ n d below within. value_from-apart size at k place (get_or es n d) (apart n d below within) inside)
 
 pub redone-apart : (place : Place) (size at : ℕ) (log : Log) (es : List Entry) → AreApart place size at log es → (k : ℕ) → IsInLog at k → redone place log es k ≡ None
-redone-apart place size at log [] apart k inside = redone-none place log k
-redone-apart place size at log (e ∷ es) apart k inside =
-    redone-first place log e es k
-    ∙ ap₂ option_or (redone-apart place size at log es (All-tail (λ x. IsTrue (is_in_range log x) → NamesApart place size at x) e es apart) k inside)
-    (given_by-apart place size at REDO_ORDER log e (All-head (λ x. IsTrue (is_in_range log x) → NamesApart place size at x) e es apart) k inside)
+redone-apart place size at log es apart k inside = redone-nothing place log es k (λ n d below within. value_from-apart size at k place (get_or es n d) (apart n d below within) inside)
+
+-- ---- nor to those of which their places are read
+
+module _ (to : Target) (image : Image) (place : Place) (same : place_of to image ≡ place) (log : Log) (k : ℕ) (placing : IsPlacing to k) where
+  value_in-unplaced : (e : Entry) (o : Option ℕ) → place e.address ≡ o → value_from o e.vals k ≡ None
+  value_in-unplaced e None there = refl
+  value_in-unplaced e (Some w) there = value_at-apart w k e.vals (inl (place_above to image place same k placing e.address w there))
+
+  pub given_by-unplaced : (order : ℕ) (e : Entry) → given_by place log order e k ≡ None
+  given_by-unplaced order e = given_by-nothing place log order e k (λ within. value_in-unplaced e (place e.address) refl)
+
+  pub undone-unplaced : (es : List Entry) → undone place log es k ≡ None
+  undone-unplaced es = undone-nothing place log es k (λ n d below within. value_in-unplaced (get_or es n d) (place (get_or es n d).address) refl)
+
+  pub redone-unplaced : (es : List Entry) → redone place log es k ≡ None
+  redone-unplaced es = redone-nothing place log es k (λ n d below within. value_in-unplaced (get_or es n d) (place (get_or es n d).address) refl)
 
 -- ---- one entry is read
 

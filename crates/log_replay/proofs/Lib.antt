@@ -1,4 +1,5 @@
 pub mod Applying
+pub mod Places
 pub mod Left
 pub mod Whole
 pub mod Closing

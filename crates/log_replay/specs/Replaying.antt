@@ -1,21 +1,44 @@
 -- What a replay needs of the words of a device, and what it does to them.
-use Rattle.std.specs.Prelude.{◌≡◌, ◌⊎◌, ℕ, ◌+◌, ◌<◌, ◌≤◌, true, false, IsTrue, List, [], All, length, Option, Some, None, ⊤}
+use Rattle.std.specs.Prelude.{◌≡◌, ◌⊎◌, ℕ, ◌+◌, ◌<◌, ◌≤◌, false, true, IsTrue, List, [], All, length, Option, Some, None, ⊤}
 use Rattle.pm_model.specs.declared.host.HostFault.{HostFault}
 use Rattle.pm_model.specs.Words.{Words, reads, Picks, HasOnly}
 use Rattle.pm_model.specs.Moments.{State}
 use Rattle.pm_model.specs.Changes.{Footprint, Write, Changes, Leaves, Silently}
-use Rattle.pud_defs.specs.declared.layout.TheConstants.{LOG_WORDS, LOG_HEADER_WORDS}
+use Rattle.pud_defs.specs.declared.layout.TheConstants.{LOG_WORDS, LOG_HEADER_WORDS, MAX_FRAMES, PUDDLE_TABLE}
 use Rattle.pud_defs.specs.declared.log_words.TheConstants.{CLOSED_GATE}
 use Rattle.pud_defs.specs.Image.{Image}
+use Rattle.pud_defs.specs.Layout.{tables_end, IsWithin}
 use Rattle.pud_defs.specs.Entries.{Entry, Log, log_of, gate_used, is_idle_gate, entries_of}
-use Rattle.pud_defs.specs.Replay.{Place, device_word, is_in_range, new_value, replayed, is_in_log, settled_by}
+use Rattle.pud_defs.specs.Replay.{Place, device_word, is_in_range, new_value, overwritten, is_in_log, settled_by}
+use Rattle.pud_defs.specs.Tables.{tables_of}
+use Rattle.pud_defs.specs.Allowed.{puddle_word}
 use Rattle.log_entry.specs.Reading.{Reading, entries_left}
 use Rattle.log_replay.specs.declared.Target.{Target}
 use Rattle.log_replay.specs.declared.Target.TheVariants as targets
 
--- which device word an address of the target is
-abbrev pub place_of : Target → Place
-place_of targets.Words = device_word
+-- ---- the places of addresses
+
+-- which device word an address of the target is, as this image has it
+abbrev pub place_of : Target → Image → Place
+place_of targets.Words image = device_word
+place_of (targets.Puddles F) image = puddle_word (tables_of F image)
+
+-- the places of the target are read of this word
+abbrev pub IsPlacing : Target → ℕ → Type 0
+IsPlacing targets.Words k = ⊥
+IsPlacing (targets.Puddles F) k = IsWithin PUDDLE_TABLE (tables_end F) k
+
+-- so many frames are no more than a device has, and one of this size has their table
+pub record HasPuddleTable (F size : ℕ) : Type 0 where
+  pub few : F ≤ MAX_FRAMES
+  pub table : tables_end F ≤ size
+
+-- a device of this size has the words of which the places of the target are read
+abbrev pub HasTables : Target → ℕ → Type 0
+HasTables targets.Words size = ⊤
+HasTables (targets.Puddles F) size = HasPuddleTable F size
+
+-- ---- what a replay needs
 
 -- the entry names words of the device, and none of the log whose gate is this word
 pub record NamesApart (place : Place) (size at : ℕ) (e : Entry) : Type 0 where
@@ -33,15 +56,26 @@ pub record IsReplayable (place : Place) (size at : ℕ) (es : List Entry) (image
   pub spells : entries_of image at ≡ Some es
   pub apart : AreApart place size at (log_of image at) es
 
--- each word that is read of the log whose gate is this word has one value
-pub record HasDurableLog (at : ℕ) (words : Words) : Type 0 where
+-- each word that is read of the log whose gate is this word has one value, and each that places are read of
+pub record HasDurableLog (to : Target) (at : ℕ) (words : Words) : Type 0 where
   pub gate : HasOnly (words at) (reads words at)
   pub counted : (k : ℕ) → at + LOG_HEADER_WORDS ≤ k → k < at + LOG_HEADER_WORDS + gate_used (reads words at) → HasOnly (words k) (reads words k)
+  pub table : (k : ℕ) → IsPlacing to k → HasOnly (words k) (reads words k)
 
 -- these entries are left to read, and those in range name words apart
 pub record IsLeft (place : Place) (size : ℕ) (log : Log) (r : Reading) (es : List Entry) (image : Image) : Type 0 where
   pub left : entries_left image r ≡ Some es
   pub apart : AreApart place size r.log_at log es
+
+-- ---- what a replay does
+
+-- the values that the log whose gate is this word gives to words
+abbrev pub new_values : Target → ℕ → Image → Write
+new_values to at image = new_value (place_of to image) (log_of image at)
+
+-- the image with that log replayed
+abbrev pub replayed_to : Target → ℕ → Image → Image
+replayed_to to at image = overwritten (new_values to at image) image
 
 -- any value may come to any word
 abbrev pub Anything : Footprint
@@ -62,30 +96,45 @@ pub record Applies (write : Write) (fault : Option HostFault) (old new : State) 
   pub newest : fault ≡ None → (k v : ℕ) → write k ≡ Some v → (new.now.words k).newest ≡ v
   pub marked : fault ≡ None → (k v : ℕ) → write k ≡ Some v → (new.now.words k).kept ≡ []
 
--- An image that is one of these words but in words that the log names, with the same log, and replays to the same.
-pub record ReplaysSame (place : Place) (at : ℕ) (words : Words) (image : Image) : Type 0 where
+-- An image that is one of these words but in words that the log names, with the same places and the same log, and replays to the same.
+pub record ReplaysSame (to : Target) (at : ℕ) (words : Words) (image : Image) : Type 0 where
   pub before : Image
   pub picked : Picks words before
-  pub stays : (k : ℕ) → new_value place (log_of before at) k ≡ None → image k ≡ before k
+  pub stays : (k : ℕ) → new_values to at before k ≡ None → image k ≡ before k
+  pub places : place_of to image ≡ place_of to before
   pub log : log_of image at ≡ log_of before at
-  pub same : replayed place (log_of image at) image ≡ replayed place (log_of before at) before
+  pub same : replayed_to to at image ≡ replayed_to to at before
 
 -- The log is replayed: words that it names in range are overwritten, and no other. At Ok each has its new value and no other, and the device
 -- reads as the replayed image.
-pub record Replays (place : Place) (at : ℕ) (fault : Option HostFault) (old new : State) : Type 0 where
-  pub changes : Changes (Named (new_value place (log_of (reads old.now.words) at))) fault old new
-  pub durable : fault ≡ None → (k v : ℕ) → new_value place (log_of (reads old.now.words) at) k ≡ Some v → HasOnly (new.now.words k) v
-  pub reads_so : fault ≡ None → reads new.now.words ≡ replayed place (log_of (reads old.now.words) at) (reads old.now.words)
+pub record Replays (to : Target) (at : ℕ) (fault : Option HostFault) (old new : State) : Type 0 where
+  pub changes : Changes (Named (new_values to at (reads old.now.words))) fault old new
+  pub durable : fault ≡ None → (k v : ℕ) → new_values to at (reads old.now.words) k ≡ Some v → HasOnly (new.now.words k) v
+  pub reads_so : fault ≡ None → reads new.now.words ≡ replayed_to to at (reads old.now.words)
 
 -- At each moment each image replays to the same, and at the end, also behind a fault, the log can be replayed again.
-pub record ReplaysAgain (place : Place) (size at : ℕ) (es : List Entry) (old new : State) : Type 0 where
-  pub moments : Leaves (Silently (ReplaysSame place at old.now.words)) old new
-  pub replayable : IsReplayable place size at es (reads new.now.words)
-  pub durable_log : HasDurableLog at new.now.words
+pub record ReplaysAgain (to : Target) (size at : ℕ) (es : List Entry) (old new : State) : Type 0 where
+  pub moments : Leaves (Silently (ReplaysSame to at old.now.words)) old new
+  pub replayable : IsReplayable (place_of to (reads new.now.words)) size at es (reads new.now.words)
+  pub durable_log : HasDurableLog to at new.now.words
+
+-- ---- what a replay and the closing of its log do
 
 -- any value may come to the gate, which is this word, and to the words that are written
 abbrev pub ByLog : ℕ → Write → Footprint
 ByLog at write k v = (k ≡ at) ⊎ IsNamed write k
+
+-- One image between another and that with the log replayed and closed. But for the gate and the words that the log gives it is the other
+-- one. The gate is as it was; or it is closed, and each word has the value that the log gives it.
+pub record IsClosing (to : Target) (at : ℕ) (before image : Image) : Type 0 where
+  pub stays : (k : ℕ) → (k ≡ at → ⊥) → new_values to at before k ≡ None → image k ≡ before k
+  pub gate : (image at ≡ before at) ⊎ ((image at ≡ CLOSED_GATE) × ((k v : ℕ) → new_values to at before k ≡ Some v → image k ≡ v))
+
+-- an image between one of these words and that with the log replayed and closed
+pub record IsSettling (to : Target) (at : ℕ) (words : Words) (image : Image) : Type 0 where
+  pub before : Image
+  pub picked : Picks words before
+  pub closing : IsClosing to at before image
 
 -- An image that is one of these words but in the log's own and in those that it names. With the log replayed it is the same; the log is as it
 -- was, or closed with no word that counts.
@@ -96,10 +145,10 @@ pub record SettlesSame (words : Words) (at : ℕ) (log : Log) (image : Image) : 
   pub same : settled_by at image ≡ settled_by at before
   pub gate : (log_of image at ≡ log) ⊎ (is_idle_gate (image at) ≡ true)
 
--- The log of device words is replayed and then closed: words that it names in range are overwritten, and its gate, and no other. At Ok each
--- word named has its new value and no other, the log is closed, and but for its gate the device reads as the replayed image.
-pub record SettlesLog (at : ℕ) (fault : Option HostFault) (old new : State) : Type 0 where
-  pub changes : Changes (ByLog at (new_value device_word (log_of (reads old.now.words) at))) fault old new
-  pub durable : fault ≡ None → (k v : ℕ) → new_value device_word (log_of (reads old.now.words) at) k ≡ Some v → HasOnly (new.now.words k) v
+-- The log is replayed and then closed: words that it names in range are overwritten, and its gate, and no other. At Ok each word named has its
+-- new value and no other, the log is closed, and but for its gate the device reads as the replayed image.
+pub record SettlesLog (to : Target) (at : ℕ) (fault : Option HostFault) (old new : State) : Type 0 where
+  pub changes : Changes (ByLog at (new_values to at (reads old.now.words))) fault old new
+  pub durable : fault ≡ None → (k v : ℕ) → new_values to at (reads old.now.words) k ≡ Some v → HasOnly (new.now.words k) v
   pub closed : fault ≡ None → HasOnly (new.now.words at) CLOSED_GATE
-  pub reads_so : fault ≡ None → (k : ℕ) → (k ≡ at → ⊥) → reads new.now.words k ≡ replayed device_word (log_of (reads old.now.words) at) (reads old.now.words) k
+  pub reads_so : fault ≡ None → (k : ℕ) → (k ≡ at → ⊥) → reads new.now.words k ≡ replayed_to to at (reads old.now.words) k

@@ -2,6 +2,10 @@
 //!
 //! Undo entries in range are applied newest first, then redo entries in range oldest first. The words that a log names
 //! do not matter to what its replay makes of an image, so a replay that is cut off anywhere can be done again.
+//!
+//! In the daemon log an address is the number of a device word. In a client's log it is one of the global space: that of the
+//! word of a frame in whose puddle's range it lies, by the puddle table of the device. No such word is one of that table, so a
+//! replay leaves the places of addresses as they are.
 #![tactic(auto)]
 
 ghost use Rattle.std.specs.Prelude.{◌≡◌, ◌≢◌, ◌+◌, ◌-◌, ◌<◌, ◌≤◌, ◌^◌, ℕ, List, Option, IfOk, IfSome, IsTrue, length, take};
@@ -10,23 +14,48 @@ ghost use Rattle.pm_model.specs.Counts.{after_fault, fault_of};
 ghost use Rattle.pm_model.specs.Changes.{placed, Changes, Writes, Leaves, Silently};
 ghost use Rattle.pud_defs.specs.declared.layout.TheConstants.{LOG_WORDS, LOG_ENTRY_WORDS, MAX_ENTRY_VALUES};
 ghost use Rattle.pud_defs.specs.declared.log_words.TheConstants.{UNDO_ORDER, REDO_ORDER};
+ghost use Rattle.pud_defs.specs.Image.{Image};
 ghost use Rattle.pud_defs.specs.Entries.{Entry as LoggedEntry, Log, log_of, words_from};
-ghost use Rattle.pud_defs.specs.Replay.{device_word, is_in_range, given_by, undone, redone, new_value};
+ghost use Rattle.pud_defs.specs.Replay.{Place, device_word, is_in_range, given_by, undone, redone};
 ghost use Rattle.log_entry.specs.Reading.{entry_from};
 ghost use Rattle.log_entry.specs.Ranges.{HasRange};
-ghost use Rattle.log_replay.specs.Replaying.{Anything, place_of, NamesApart, IsLeft, IsReplayable, HasDurableLog, Applies, Replays, ReplaysAgain, SettlesSame, SettlesLog};
+ghost use Rattle.log_replay.specs.Replaying.{place_of, HasTables, NamesApart, IsLeft, IsReplayable, HasDurableLog, new_values, Anything, Applies, Replays, ReplaysAgain, IsSettling, SettlesSame, SettlesLog};
 
 use log_entry::{Entry, EntryReader, LogRange};
 use pm_model::{Host, HostFault};
 use pm_persist::{persist_word, write_range};
 use pud_defs::layout::MAX_ENTRY_VALUES;
 use pud_defs::log_words::{CLOSED_GATE, REDO_ORDER, UNDO_ORDER};
+use pud_defs::space::frame_at;
+use puddle_space::locate;
 
 /// Which places the addresses of a log's entries are.
 #[derive(Clone, Copy)]
 pub enum Target {
     /// Device words, by their numbers: the daemon log's.
     Words,
+    /// Words of puddles, by their global addresses: a client's log's. The number is that of the device's frames, at most
+    /// 1,024, and the device has the puddle table of so many.
+    Puddles(u32),
+}
+
+impl Target {
+    /// The device word that an address is, where it is one. It may lie beyond the device.
+    fn word_of<H: Host>(self, h: &mut H, address: u64) -> Result<Option<u64>, HostFault>
+        requires { HasTables self (H.counts h.old).size }
+        ensures word { H.tells → (image : Image) → reads (H.state h.old).now.words ≡ image → IfOk result (λ word. word ≡ place_of self image address) }
+        ensures stays { H.tells → H.state h.new ≡ H.state h.old }
+        ensures cause { H.counts h.new ≡ after_fault (fault_of result) (H.counts h.old) }
+        ensures never_cut { fault_of result ≢ Option.Some HostFault.Cut }
+    {
+        match self {
+            Target::Words => Ok(Some(address)),
+            Target::Puddles(frames) => match locate(h, frames, address)? {
+                Some((frame, word)) => Ok(Some(u64::from(frame_at(frames, frame) + word))),
+                None => Ok(None),
+            },
+        }
+    }
 }
 
 /// What is applied of a log: the entries within its range, to the places that its addresses are.
@@ -56,38 +85,43 @@ fn copy_words<H: Host>(h: &mut H, from: u32, n: u32, to: u32) -> Result<(), Host
 
 impl Replay {
     /// The first device word that an entry names, where all its words lie in the device.
-    fn first_word<H: Host>(&self, h: &H, entry: &Entry) -> Option<u32>
-        requires { entry.now.n ≤ MAX_ENTRY_VALUES }
-        ensures is { IfSome result (λ first. place_of self.now.to entry.now.addr ≡ Option.Some first) }
-        ensures within { IfSome result (λ first. first + entry.now.n ≤ (H.counts h.now).size) }
-        ensures found { (first : ℕ) → place_of self.now.to entry.now.addr ≡ Option.Some first → first + entry.now.n ≤ (H.counts h.now).size → result ≡ Option.Some first }
+    fn first_word<H: Host>(&self, h: &mut H, entry: &Entry) -> Result<Option<u32>, HostFault>
+        requires few { entry.now.n ≤ MAX_ENTRY_VALUES }
+        requires tables { HasTables self.now.to (H.counts h.old).size }
+        ensures is { H.tells → (image : Image) → reads (H.state h.old).now.words ≡ image
+            → IfOk result (λ found. IfSome found (λ first. place_of self.now.to image entry.now.addr ≡ Option.Some first)) }
+        ensures within { IfOk result (λ found. IfSome found (λ first. first + entry.now.n ≤ (H.counts h.old).size)) }
+        ensures found { H.tells → (image : Image) → reads (H.state h.old).now.words ≡ image → IfOk result (λ found. (first : ℕ) → place_of self.now.to image entry.now.addr ≡ Option.Some first
+            → first + entry.now.n ≤ (H.counts h.old).size → found ≡ Option.Some first) }
+        ensures stays { H.tells → H.state h.new ≡ H.state h.old }
+        ensures cause { H.counts h.new ≡ after_fault (fault_of result) (H.counts h.old) }
+        ensures never_cut { fault_of result ≢ Option.Some HostFault.Cut }
     {
         let words = u64::from(h.words());
-        match self.to {
-            Target::Words => {
-                if entry.addr <= words && u64::from(entry.n) <= words - entry.addr {
-                    Some(entry.addr as u32)
-                } else {
-                    None
-                }
-            }
+        let Some(first) = self.to.word_of(h, entry.addr)? else {
+            return Ok(None);
+        };
+        if first > words || u64::from(entry.n) > words - first {
+            return Ok(None);
         }
+        Ok(Some(first as u32))
     }
 
     /// Applies an entry where it has this order and lies within the range.
     fn apply<H: Host>(&self, h: &mut H, order: u32, entry: &Entry) -> Result<(), HostFault>
         requires few { entry.now.n ≤ MAX_ENTRY_VALUES }
         requires source { entry.now.at + entry.now.n ≤ (H.counts h.old).size }
-        ensures applies { H.tells → (size : ℕ) → size ≡ (H.counts h.old).size → (log : Log) (e : LoggedEntry) (log_at : ℕ) → HasRange self.now.range log
-            → entry_from (reads (H.state h.old).now.words) entry.now ≡ e → (IsTrue (is_in_range log e) → NamesApart (place_of self.now.to) size log_at e)
-            → Applies (given_by (place_of self.now.to) log order e) (fault_of result) (H.state h.old) (H.state h.new) }
+        requires tables { HasTables self.now.to (H.counts h.old).size }
+        ensures applies { H.tells → (size : ℕ) → size ≡ (H.counts h.old).size → (place : Place) → place_of self.now.to (reads (H.state h.old).now.words) ≡ place
+            → (log : Log) (e : LoggedEntry) (log_at : ℕ) → HasRange self.now.range log → entry_from (reads (H.state h.old).now.words) entry.now ≡ e
+            → (IsTrue (is_in_range log e) → NamesApart place size log_at e) → Applies (given_by place log order e) (fault_of result) (H.state h.old) (H.state h.new) }
         ensures any { H.tells → Changes Anything (fault_of result) (H.state h.old) (H.state h.new) }
         ensures cause { H.counts h.new ≡ after_fault (fault_of result) (H.counts h.old) }
     {
         if entry.order != order || !self.range.counts(entry) {
             return Ok(());
         }
-        match self.first_word(h, entry) {
+        match self.first_word(h, entry)? {
             Some(first) => copy_words(h, entry.at, entry.n, first),
             None => Ok(()),
         }
@@ -95,10 +129,11 @@ impl Replay {
 
     /// Applies the undo entries that are left to read, the newest first.
     fn undo<H: Host>(&self, h: &mut H, reader: &mut EntryReader) -> Result<(), HostFault>
-        requires { reader.old.log_at + LOG_WORDS ≤ (H.counts h.old).size }
-        ensures undoes { H.tells → (size : ℕ) → size ≡ (H.counts h.old).size → (log : Log) (es : List LoggedEntry) → HasRange self.now.range log
-            → IsLeft (place_of self.now.to) size log reader.old es (reads (H.state h.old).now.words)
-            → Applies (undone (place_of self.now.to) log es) (fault_of result) (H.state h.old) (H.state h.new) }
+        requires log { reader.old.log_at + LOG_WORDS ≤ (H.counts h.old).size }
+        requires tables { HasTables self.now.to (H.counts h.old).size }
+        ensures undoes { H.tells → (size : ℕ) → size ≡ (H.counts h.old).size → (place : Place) → place_of self.now.to (reads (H.state h.old).now.words) ≡ place
+            → (log : Log) (es : List LoggedEntry) → HasRange self.now.range log → IsLeft place size log reader.old es (reads (H.state h.old).now.words)
+            → Applies (undone place log es) (fault_of result) (H.state h.old) (H.state h.new) }
         ensures any { H.tells → Changes Anything (fault_of result) (H.state h.old) (H.state h.new) }
         ensures cause { H.counts h.new ≡ after_fault (fault_of result) (H.counts h.old) }
     {
@@ -113,10 +148,11 @@ impl Replay {
 
     /// Applies the redo entries that are left to read, the oldest first.
     fn redo<H: Host>(&self, h: &mut H, reader: &mut EntryReader) -> Result<(), HostFault>
-        requires { reader.old.log_at + LOG_WORDS ≤ (H.counts h.old).size }
-        ensures redoes { H.tells → (size : ℕ) → size ≡ (H.counts h.old).size → (log : Log) (es : List LoggedEntry) → HasRange self.now.range log
-            → IsLeft (place_of self.now.to) size log reader.old es (reads (H.state h.old).now.words)
-            → Applies (redone (place_of self.now.to) log es) (fault_of result) (H.state h.old) (H.state h.new) }
+        requires log { reader.old.log_at + LOG_WORDS ≤ (H.counts h.old).size }
+        requires tables { HasTables self.now.to (H.counts h.old).size }
+        ensures redoes { H.tells → (size : ℕ) → size ≡ (H.counts h.old).size → (place : Place) → place_of self.now.to (reads (H.state h.old).now.words) ≡ place
+            → (log : Log) (es : List LoggedEntry) → HasRange self.now.range log → IsLeft place size log reader.old es (reads (H.state h.old).now.words)
+            → Applies (redone place log es) (fault_of result) (H.state h.old) (H.state h.new) }
         ensures any { H.tells → Changes Anything (fault_of result) (H.state h.old) (H.state h.new) }
         ensures cause { H.counts h.new ≡ after_fault (fault_of result) (H.counts h.old) }
     {
@@ -132,9 +168,11 @@ impl Replay {
 
 /// Overwrites the words that the log names, and marks them.
 fn overwrite<H: Host>(h: &mut H, log_at: u32, to: Target) -> Result<(), HostFault>
-    requires { log_at + LOG_WORDS ≤ (H.counts h.old).size }
-    ensures overwrites { H.tells → (size : ℕ) → size ≡ (H.counts h.old).size → (es : List LoggedEntry) → IsReplayable (place_of to) size log_at es (reads (H.state h.old).now.words)
-        → Applies (new_value (place_of to) (log_of (reads (H.state h.old).now.words) log_at)) (fault_of result) (H.state h.old) (H.state h.new) }
+    requires log { log_at + LOG_WORDS ≤ (H.counts h.old).size }
+    requires tables { HasTables to (H.counts h.old).size }
+    ensures overwrites { H.tells → (size : ℕ) → size ≡ (H.counts h.old).size → (es : List LoggedEntry)
+        → IsReplayable (place_of to (reads (H.state h.old).now.words)) size log_at es (reads (H.state h.old).now.words)
+        → Applies (new_values to log_at (reads (H.state h.old).now.words)) (fault_of result) (H.state h.old) (H.state h.new) }
     ensures any { H.tells → Changes Anything (fault_of result) (H.state h.old) (H.state h.new) }
     ensures cause { H.counts h.new ≡ after_fault (fault_of result) (H.counts h.old) }
 {
@@ -149,15 +187,22 @@ fn overwrite<H: Host>(h: &mut H, log_at: u32, to: Target) -> Result<(), HostFaul
 /// Replays the log whose gate is word `log_at`: at `Ok` each word that an entry in range names has the value that the
 /// replay gives it, and no other, and what is read is the replayed image. No other word changes.
 ///
-/// The log lies in the device; it is well formed, and its entries in range name words of the device apart from it. Where
-/// each word that is read of it has one value, each image left meanwhile replays to the same, also where the replay is cut
-/// off; it can be done again then. The only errors are the host's own.
+/// The log lies in the device, and so does the puddle table for [`Target::Puddles`]; the log is well formed, and its entries in
+/// range name words of the device apart from it. Where each word that is read of the log has one value, and each of the puddle
+/// table for puddles, each image left meanwhile replays to the same, also where the replay is cut off; it can be done again then.
+/// The only errors are the host's own.
+///
+/// It loads the gate and the first two words of each entry twice, and the values of an entry in range once. For puddles the
+/// place of an entry in range takes one load for each frame, and one more for each puddle, up to the one that has its address.
 pub fn replay_range<H: Host>(h: &mut H, log_at: u32, to: Target) -> Result<(), HostFault>
-    requires { log_at + LOG_WORDS ≤ (H.counts h.old).size }
-    ensures replays { H.tells → (size : ℕ) → size ≡ (H.counts h.old).size → (es : List LoggedEntry) → IsReplayable (place_of to) size log_at es (reads (H.state h.old).now.words)
-        → Replays (place_of to) log_at (fault_of result) (H.state h.old) (H.state h.new) }
-    ensures again { H.tells → (size : ℕ) → size ≡ (H.counts h.old).size → (es : List LoggedEntry) → IsReplayable (place_of to) size log_at es (reads (H.state h.old).now.words)
-        → HasDurableLog log_at (H.state h.old).now.words → ReplaysAgain (place_of to) size log_at es (H.state h.old) (H.state h.new) }
+    requires log { log_at + LOG_WORDS ≤ (H.counts h.old).size }
+    requires tables { HasTables to (H.counts h.old).size }
+    ensures replays { H.tells → (size : ℕ) → size ≡ (H.counts h.old).size → (es : List LoggedEntry)
+        → IsReplayable (place_of to (reads (H.state h.old).now.words)) size log_at es (reads (H.state h.old).now.words)
+        → Replays to log_at (fault_of result) (H.state h.old) (H.state h.new) }
+    ensures again { H.tells → (size : ℕ) → size ≡ (H.counts h.old).size → (es : List LoggedEntry)
+        → IsReplayable (place_of to (reads (H.state h.old).now.words)) size log_at es (reads (H.state h.old).now.words)
+        → HasDurableLog to log_at (H.state h.old).now.words → ReplaysAgain to size log_at es (H.state h.old) (H.state h.new) }
     ensures any { H.tells → Changes Anything (fault_of result) (H.state h.old) (H.state h.new) }
     ensures cause { H.counts h.new ≡ after_fault (fault_of result) (H.counts h.old) }
 {
@@ -165,21 +210,30 @@ pub fn replay_range<H: Host>(h: &mut H, log_at: u32, to: Target) -> Result<(), H
     h.fence()
 }
 
-/// Replays the log of device words whose gate is word `log_at`, and then closes it. At `Ok` the words that an entry in range
-/// names have their new values and no others, and the log is closed. No other word changes, and of the log only its gate.
+/// Replays the log whose gate is word `log_at`, and then closes it. At `Ok` the words that an entry in range names have their
+/// new values and no others, and the log is closed. No other word changes, and of the log only its gate.
 ///
-/// The log lies in the device; it may be replayed ([`replay_range`]). Where each word that is read of it has one value,
-/// each image left meanwhile is, with the log replayed, as it was. The only errors are the host's own.
-pub fn settle_log<H: Host>(h: &mut H, log_at: u32) -> Result<(), HostFault>
-    requires { log_at + LOG_WORDS ≤ (H.counts h.old).size }
-    ensures settles { H.tells → (size : ℕ) → size ≡ (H.counts h.old).size → (es : List LoggedEntry) → IsReplayable device_word size log_at es (reads (H.state h.old).now.words)
-        → SettlesLog log_at (fault_of result) (H.state h.old) (H.state h.new) }
-    ensures moments { H.tells → (size : ℕ) → size ≡ (H.counts h.old).size → (es : List LoggedEntry) → IsReplayable device_word size log_at es (reads (H.state h.old).now.words)
-        → HasDurableLog log_at (H.state h.old).now.words
+/// What is needed of the device is what [`replay_range`] needs. Where each word that is read of the log has one value, and each
+/// of the puddle table for puddles, each image left meanwhile is as it was but for words that the log gives and the gate, and the
+/// gate is closed only once each of these words has its new value. So for device words each image is, with the log replayed, as
+/// it was. The only errors are the host's own.
+///
+/// It takes the loads of [`replay_range`], and two fences.
+pub fn settle_log<H: Host>(h: &mut H, log_at: u32, to: Target) -> Result<(), HostFault>
+    requires log { log_at + LOG_WORDS ≤ (H.counts h.old).size }
+    requires tables { HasTables to (H.counts h.old).size }
+    ensures settles { H.tells → (size : ℕ) → size ≡ (H.counts h.old).size → (es : List LoggedEntry)
+        → IsReplayable (place_of to (reads (H.state h.old).now.words)) size log_at es (reads (H.state h.old).now.words)
+        → SettlesLog to log_at (fault_of result) (H.state h.old) (H.state h.new) }
+    ensures moments { H.tells → (size : ℕ) → size ≡ (H.counts h.old).size → (es : List LoggedEntry)
+        → IsReplayable (place_of to (reads (H.state h.old).now.words)) size log_at es (reads (H.state h.old).now.words)
+        → HasDurableLog to log_at (H.state h.old).now.words → Leaves (Silently (IsSettling to log_at (H.state h.old).now.words)) (H.state h.old) (H.state h.new) }
+    ensures same { H.tells → to ≡ Target.Words → (size : ℕ) → size ≡ (H.counts h.old).size → (es : List LoggedEntry) → IsReplayable device_word size log_at es (reads (H.state h.old).now.words)
+        → HasDurableLog Target.Words log_at (H.state h.old).now.words
         → Leaves (Silently (SettlesSame (H.state h.old).now.words log_at (log_of (reads (H.state h.old).now.words) log_at))) (H.state h.old) (H.state h.new) }
     ensures any { H.tells → Changes Anything (fault_of result) (H.state h.old) (H.state h.new) }
     ensures cause { H.counts h.new ≡ after_fault (fault_of result) (H.counts h.old) }
 {
-    replay_range(h, log_at, Target::Words)?;
+    replay_range(h, log_at, to)?;
     persist_word(h, log_at, CLOSED_GATE)
 }

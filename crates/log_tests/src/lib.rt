@@ -10,4 +10,6 @@ mod device;
 #[cfg(test)]
 mod entries;
 #[cfg(test)]
+mod puddle_replays;
+#[cfg(test)]
 mod replays;

@@ -18,6 +18,7 @@ use Rattle.pud_defs.specs.Spaces.{space_record_at, owner_by}
 use Rattle.pud_defs.specs.World.{World, StoredWorld, no_clients, world_of, closed, restart}
 use Rattle.pud_defs.proofs.Logged.{IsUnlogged, unlogged, new_value-apart}
 use Rattle.pud_defs.proofs.Worlds.{legal_log_of_world, frames_of_world}
+use Rattle.log_replay.specs.declared.Target.TheVariants as targets
 use Rattle.log_replay.specs.Replaying.{Anything, IsNamed, ByLog, SettlesLog}
 use Rattle.batch.specs.Batches.{batch_write, ByBatch}
 use Rattle.batch.proofs.Tables.{HasDurableTables-rested, HasDurableTables-committed}
@@ -59,7 +60,7 @@ module _ (size : ℕ) (w : World) (a : State) (rested : IsRested a.now.words) (w
       let it : None ≡ Some named.value = sym none ∙ named.is in
       cc
 
-  logs_applied : (fault : Option HostFault) (b : State) → SettlesLog DAEMON_LOG fault a b → Leaves has_logs a b
+  logs_applied : (fault : Option HostFault) (b : State) → SettlesLog targets.Words DAEMON_LOG fault a b → Leaves has_logs a b
   logs_applied fault b p =
       Leaves-weaker _ _ a b (λ bytes image m. m.1)
       (Leaves-changes (HasLogsOf w.stored.frames (reads a.now.words)) (ByLog DAEMON_LOG (new_value device_word (log_of (reads a.now.words) DAEMON_LOG))) fault a b
@@ -74,7 +75,7 @@ module _ (size : ℕ) (w : World) (a : State) (rested : IsRested a.now.words) (w
   not_cleared : (k : ℕ) → tables_end w.stored.frames ≤ k → IsNamed (batch_write (clearing CLIENTS)) k → ⊥
   not_cleared k low named = let it : None ≡ Some named.value = sym (clearing-outside CLIENTS k (omega arith) (inr (omega arith))) ∙ named.is in cc
 
-  logs_cleared : (fault : Option HostFault) (b c : State) → SettlesLog DAEMON_LOG None a b → Clears size (closed w) fault b c → Leaves has_logs a c
+  logs_cleared : (fault : Option HostFault) (b c : State) → SettlesLog targets.Words DAEMON_LOG None a b → Clears size (closed w) fault b c → Leaves has_logs a c
   logs_cleared fault b c p q =
       let said = Changes-said _ None a b p.changes ∙ sym (append-nil a.now.said) in
       let first = logs_applied None b p in
@@ -89,7 +90,7 @@ module _ (size : ℕ) (w : World) (a : State) (rested : IsRested a.now.words) (w
       }) q.changes))
 
 -- the daemon log was to be applied, and was not
-Recovers-applies : (size : ℕ) (w : World) (fault : HostFault) (a b : State) → IsRested a.now.words → world_of size (reads a.now.words) ≡ Some (closed w) → AppliesLog size (closed w) (Some fault) a b → SettlesLog DAEMON_LOG (Some fault) a b
+Recovers-applies : (size : ℕ) (w : World) (fault : HostFault) (a b : State) → IsRested a.now.words → world_of size (reads a.now.words) ≡ Some (closed w) → AppliesLog size (closed w) (Some fault) a b → SettlesLog targets.Words DAEMON_LOG (Some fault) a b
     → Recovers size w (Err (starts.Host fault)) a b
 Recovers-applies size w fault a b rested world p settles =
     record {
@@ -107,7 +108,7 @@ nobody used uid gid free = ap (λ (v : ℕ). owner_by v uid gid) free
 
 -- it was applied, and then the log-space table was to be emptied
 module _ (size : ℕ) (w : World) (fault : Option HostFault) (a b c : State) (rested : IsRested a.now.words) (world : world_of size (reads a.now.words) ≡ Some (closed w)) (shelf : a.shelf ≡ w.shelf)
-    (p : AppliesLog size (closed w) None a b) (settles : SettlesLog DAEMON_LOG None a b) (q : Clears size (closed w) fault b c) where
+    (p : AppliesLog size (closed w) None a b) (settles : SettlesLog targets.Words DAEMON_LOG None a b) (q : Clears size (closed w) fault b c) where
   ready_cleared : (memory : Memory) → memory.frames ≡ w.stored.frames → fault ≡ None → IsReady size (restart w) memory c
   ready_cleared memory frames none = record {
     settled = q.settled none;
@@ -131,13 +132,13 @@ module _ (size : ℕ) (w : World) (fault : Option HostFault) (a b c : State) (re
       }
 
 -- and it was
-pub Recovers-done : (size : ℕ) (w : World) (memory : Memory) (a b c : State) → IsRested a.now.words → world_of size (reads a.now.words) ≡ Some (closed w) → a.shelf ≡ w.shelf → AppliesLog size (closed w) None a b → SettlesLog DAEMON_LOG None a b → Clears size (closed w) None b c → memory.frames ≡ w.stored.frames
+pub Recovers-done : (size : ℕ) (w : World) (memory : Memory) (a b c : State) → IsRested a.now.words → world_of size (reads a.now.words) ≡ Some (closed w) → a.shelf ≡ w.shelf → AppliesLog size (closed w) None a b → SettlesLog targets.Words DAEMON_LOG None a b → Clears size (closed w) None b c → memory.frames ≡ w.stored.frames
     → Recovers size w (Ok memory) a c
 Recovers-done size w memory a b c rested world shelf p settles q frames =
     Recovers-clears size w None a b c rested world shelf p settles q (Ok memory) (ready_cleared size w None a b c rested world shelf p settles q memory frames refl)
 
 -- or a fault came
-pub Recovers-uncleared : (size : ℕ) (w : World) (fault : HostFault) (a b c : State) → IsRested a.now.words → world_of size (reads a.now.words) ≡ Some (closed w) → a.shelf ≡ w.shelf → AppliesLog size (closed w) None a b → SettlesLog DAEMON_LOG None a b → Clears size (closed w) (Some fault) b c
+pub Recovers-uncleared : (size : ℕ) (w : World) (fault : HostFault) (a b c : State) → IsRested a.now.words → world_of size (reads a.now.words) ≡ Some (closed w) → a.shelf ≡ w.shelf → AppliesLog size (closed w) None a b → SettlesLog targets.Words DAEMON_LOG None a b → Clears size (closed w) (Some fault) b c
     → Recovers size w (Err (starts.Host fault)) a c
 Recovers-uncleared size w fault a b c rested world shelf p settles q = Recovers-clears size w (Some fault) a b c rested world shelf p settles q (Err (starts.Host fault)) tt
 
@@ -161,7 +162,7 @@ sound_recovered size result a b ok sound recovers = sound_then size result a b (
 
 -- a load that failed on a device that stands for a world
 pub Recovers-load : (size : ℕ) (w : World) (fault : LoadFault) (a b : State) → (fault ≡ loads.NotSound → ⊥) → IsRested a.now.words → world_of size (reads a.now.words) ≡ Some (closed w)
-    → AppliesLog size (closed w) (load_fault {T = Geo} (Err fault)) a b → SettlesLog DAEMON_LOG (load_fault {T = Geo} (Err fault)) a b
+    → AppliesLog size (closed w) (load_fault {T = Geo} (Err fault)) a b → SettlesLog targets.Words DAEMON_LOG (load_fault {T = Geo} (Err fault)) a b
     → Recovers size w (Err (of_load fault)) a b
 Recovers-load size w loads.NotSound a b sound rested world p settles = absurd (sound refl)
 Recovers-load size w (loads.Host fault) a b sound rested world p settles = Recovers-applies size w fault a b rested world p settles

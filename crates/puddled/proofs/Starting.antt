@@ -12,6 +12,7 @@ use Rattle.pud_defs.specs.World.{StoredWorld, world_of}
 use Rattle.pud_defs.proofs.Replay.{settled_by-outside, not_inside, outside_log}
 use Rattle.pud_defs.proofs.Parts.Part.{Header}
 use Rattle.pud_defs.proofs.Worlds.{standing_of_world}
+use Rattle.log_replay.specs.declared.Target.TheVariants as targets
 use Rattle.log_replay.specs.Replaying.{SettlesLog}
 use Rattle.batch.specs.Batches.{ByBatch, HasIdleGate}
 use Rattle.log_space.specs.Clearing.{clearing, Empties}
@@ -23,11 +24,11 @@ use Rattle.puddled.specs.Daemon.{SaysPart, IsReplayed}
 use Rattle.puddled.proofs.Lines.{SaysPart-says}
 
 -- the daemon log is closed behind its replay
-pub idle_behind : (a b : State) → SettlesLog DAEMON_LOG None a b → HasIdleGate DAEMON_LOG b.now.words
+pub idle_behind : (a b : State) → SettlesLog targets.Words DAEMON_LOG None a b → HasIdleGate DAEMON_LOG b.now.words
 idle_behind a b settles = record { each = λ v had. subst (λ (x : ℕ). is_idle_gate x ≡ true) (sym ((settles.closed refl).each v had)) refl }
 
 -- it was applied, and then the log-space table emptied
-pub IsReplayed-cleared : (a b c : State) → SettlesLog DAEMON_LOG None a b → Empties None b c → IsReplayed (reads a.now.words) (reads c.now.words)
+pub IsReplayed-cleared : (a b c : State) → SettlesLog targets.Words DAEMON_LOG None a b → Empties None b c → IsReplayed (reads a.now.words) (reads c.now.words)
 IsReplayed-cleared a b c settles empties = record {
   each = λ k outside beside.
       let not_written : (v : ℕ) → ByBatch DAEMON_LOG (clearing CLIENTS) k v → ⊥ = λ v may. ⊎_elim (λ inside. not_inside DAEMON_LOG k outside inside)

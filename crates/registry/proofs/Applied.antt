@@ -25,6 +25,7 @@ use Rattle.pud_defs.proofs.Replay.{outside_log, settled_by-inside, settled_by-ou
 use Rattle.pud_defs.proofs.Logged.{legal_entries, allowed_in_range, has_legal_log-of, new_value-unlogged}
 use Rattle.pud_defs.proofs.Parts.Part.{Header}
 use Rattle.pud_defs.proofs.Worlds.{standing_of_world, legal_log_of_world, legal_log_idle, frames_of_world, world_of_legal, world_of-sound}
+use Rattle.log_replay.specs.declared.Target.TheVariants as targets
 use Rattle.log_replay.specs.Replaying.{IsReplayable, HasDurableLog, ByLog, SettlesSame, SettlesLog}
 use Rattle.log_replay.proofs.Closing.{gate_apart}
 use Rattle.batch.specs.Worlds.{IsSettled}
@@ -68,15 +69,15 @@ module _ (size : ℕ) (s : StoredWorld) (image : Image) (world : world_of size i
 
 -- the call that settles it was behind one that changed nothing
 pub settles_sound : (size : ℕ) (fault : Option HostFault) (a b c : State) → b ≡ a → is_sound size (reads a.now.words) ≡ true
-    → ((es : List Entry) → IsReplayable device_word size DAEMON_LOG es (reads b.now.words) → SettlesLog DAEMON_LOG fault b c) → SettlesLog DAEMON_LOG fault a c
+    → ((es : List Entry) → IsReplayable device_word size DAEMON_LOG es (reads b.now.words) → SettlesLog targets.Words DAEMON_LOG fault b c) → SettlesLog targets.Words DAEMON_LOG fault a c
 settles_sound size fault a b c same sound settles =
     let image = reads b.now.words in
     let world = world_of-sound size image (ap (λ (x : State). is_sound size (reads x.now.words)) same ∙ sound) in
     let s = stored_by (settled_by DAEMON_LOG image) in
-    subst (λ (x : State). SettlesLog DAEMON_LOG fault x c) same (settles (entries size s image world) (replayable size s image world))
+    subst (λ (x : State). SettlesLog targets.Words DAEMON_LOG fault x c) same (settles (entries size s image world) (replayable size s image world))
 
 -- nothing was done, since a read failed
-pub SettlesLog-failed : (fault : HostFault) (a b : State) → (Some fault ≡ Some Cut → ⊥) → b ≡ a → SettlesLog DAEMON_LOG (Some fault) a b
+pub SettlesLog-failed : (fault : HostFault) (a b : State) → (Some fault ≡ Some Cut → ⊥) → b ≡ a → SettlesLog targets.Words DAEMON_LOG (Some fault) a b
 SettlesLog-failed fault a b not_cut same =
     record {
       changes = Changes-still (ByLog DAEMON_LOG (new_value device_word (log_of (reads a.now.words) DAEMON_LOG))) (Some fault) a b not_cut same;
@@ -86,7 +87,7 @@ SettlesLog-failed fault a b not_cut same =
     }
 
 -- it was settled, and then a read failed
-pub SettlesLog-unread : (fault : HostFault) (a b c : State) → SettlesLog DAEMON_LOG None a b → (Some fault ≡ Some Cut → ⊥) → c ≡ b → SettlesLog DAEMON_LOG (Some fault) a c
+pub SettlesLog-unread : (fault : HostFault) (a b c : State) → SettlesLog targets.Words DAEMON_LOG None a b → (Some fault ≡ Some Cut → ⊥) → c ≡ b → SettlesLog targets.Words DAEMON_LOG (Some fault) a c
 SettlesLog-unread fault a b c settles not_cut same =
     let may = ByLog DAEMON_LOG (new_value device_word (log_of (reads a.now.words) DAEMON_LOG)) in
     record {
@@ -99,20 +100,20 @@ SettlesLog-unread fault a b c settles not_cut same =
 -- ---- what is read then
 
 -- a word that is none of the log's reads as the log makes it
-pub reads_settled : (a b : State) → SettlesLog DAEMON_LOG None a b → (w : ℕ) → is_in_log DAEMON_LOG w ≡ false → reads b.now.words w ≡ settled_by DAEMON_LOG (reads a.now.words) w
+pub reads_settled : (a b : State) → SettlesLog targets.Words DAEMON_LOG None a b → (w : ℕ) → is_in_log DAEMON_LOG w ≡ false → reads b.now.words w ≡ settled_by DAEMON_LOG (reads a.now.words) w
 reads_settled a b settles w out = settles.reads_so refl w (gate_apart DAEMON_LOG w out) ∙ sym (settled_by-outside DAEMON_LOG (reads a.now.words) w out)
 
-gate_closed : (a b : State) → SettlesLog DAEMON_LOG None a b → is_idle_gate (reads b.now.words DAEMON_LOG) ≡ true
+gate_closed : (a b : State) → SettlesLog targets.Words DAEMON_LOG None a b → is_idle_gate (reads b.now.words DAEMON_LOG) ≡ true
 gate_closed a b settles = ap is_idle_gate (HasOnly-newest (b.now.words DAEMON_LOG) CLOSED_GATE (settles.closed refl))
 
-settled_then : (a b : State) → SettlesLog DAEMON_LOG None a b → (w : ℕ) → settled_by DAEMON_LOG (reads b.now.words) w ≡ settled_by DAEMON_LOG (reads a.now.words) w
+settled_then : (a b : State) → SettlesLog targets.Words DAEMON_LOG None a b → (w : ℕ) → settled_by DAEMON_LOG (reads b.now.words) w ≡ settled_by DAEMON_LOG (reads a.now.words) w
 settled_then a b settles w = elim (cases_Bool (is_in_log DAEMON_LOG w)) [
   | inl inside ↦ settled_by-inside DAEMON_LOG (reads b.now.words) w inside ∙ sym (settled_by-inside DAEMON_LOG (reads a.now.words) w inside)
   | inr out ↦ settled_by-idle DAEMON_LOG (reads b.now.words) w (gate_closed a b settles) out ∙ reads_settled a b settles w out
 ]
 
 -- it stands for what it stood for
-stands_then : (size : ℕ) (a b : State) (o : Option StoredWorld) → world_of size (reads a.now.words) ≡ o → (o ≡ None → ⊥) → SettlesLog DAEMON_LOG None a b
+stands_then : (size : ℕ) (a b : State) (o : Option StoredWorld) → world_of size (reads a.now.words) ≡ o → (o ≡ None → ⊥) → SettlesLog targets.Words DAEMON_LOG None a b
     → world_of size (reads b.now.words) ≡ world_of size (reads a.now.words)
 stands_then size a b None none sound settles = absurd (sound refl)
 stands_then size a b (Some s) world sound settles =
@@ -123,20 +124,20 @@ stands_then size a b (Some s) world sound settles =
     ∙ sym (world_of_legal size before (legal_log_of_world size before s world))
 
 -- also where it was only read behind that
-pub stands_read : (size : ℕ) (a b c : State) → (world_of size (reads a.now.words) ≡ None → ⊥) → SettlesLog DAEMON_LOG None a b → c ≡ b → world_of size (reads c.now.words) ≡ world_of size (reads a.now.words)
+pub stands_read : (size : ℕ) (a b c : State) → (world_of size (reads a.now.words) ≡ None → ⊥) → SettlesLog targets.Words DAEMON_LOG None a b → c ≡ b → world_of size (reads c.now.words) ≡ world_of size (reads a.now.words)
 stands_read size a b c sound settles same =
     ap (λ (x : State). world_of size (reads x.now.words)) same ∙ stands_then size a b (world_of size (reads a.now.words)) refl sound settles
 
 -- so its machine id is that of the world
-pub machine_then : (size : ℕ) (s : StoredWorld) (a b : State) → world_of size (reads a.now.words) ≡ Some s → SettlesLog DAEMON_LOG None a b → reads b.now.words MACHINE_WORD ≡ s.machine
+pub machine_then : (size : ℕ) (s : StoredWorld) (a b : State) → world_of size (reads a.now.words) ≡ Some s → SettlesLog targets.Words DAEMON_LOG None a b → reads b.now.words MACHINE_WORD ≡ s.machine
 machine_then size s a b world settles =
     reads_settled a b settles MACHINE_WORD (outside_log DAEMON_LOG MACHINE_WORD (inl (omega arith))) ∙ ((standing_of_world size (reads a.now.words) s world).holds Header).machine
 
 -- ---- on a rested device, what is left at each moment
 
 module _ (size : ℕ) (s : StoredWorld) (a : State) (rested : IsRested a.now.words) (world : world_of size (reads a.now.words) ≡ Some s) where
-  durable_log : HasDurableLog DAEMON_LOG a.now.words
-  durable_log = record { gate = rested.each DAEMON_LOG; counted = λ k low high. rested.each k }
+  durable_log : HasDurableLog targets.Words DAEMON_LOG a.now.words
+  durable_log = record { gate = rested.each DAEMON_LOG; counted = λ k low high. rested.each k; table = λ k placing. absurd placing }
 
   -- an image whose log is as it was, or closed, and that settles the same stands for the same world
   stands_still : (image : Image) → SettlesSame a.now.words DAEMON_LOG (log_of (reads a.now.words) DAEMON_LOG) image → world_of size image ≡ Some s
@@ -156,7 +157,7 @@ module _ (size : ℕ) (s : StoredWorld) (a : State) (rested : IsRested a.now.wor
       ∙ sym (world_of_legal size i legal_log)
       ∙ world
 
-  one_value : (b : State) → SettlesLog DAEMON_LOG None a b → (k : ℕ) (o : Option ℕ) → new_value device_word (log_of (reads a.now.words) DAEMON_LOG) k ≡ o → (k ≡ DAEMON_LOG → ⊥) → HasOnly (b.now.words k) (reads b.now.words k)
+  one_value : (b : State) → SettlesLog targets.Words DAEMON_LOG None a b → (k : ℕ) (o : Option ℕ) → new_value device_word (log_of (reads a.now.words) DAEMON_LOG) k ≡ o → (k ≡ DAEMON_LOG → ⊥) → HasOnly (b.now.words k) (reads b.now.words k)
   one_value b settles k (Some v) named other = HasOnly-own (b.now.words k) v (settles.durable refl k v named)
   one_value b settles k None none other =
       HasOnly-own (b.now.words k) (reads a.now.words k)
@@ -165,7 +166,7 @@ module _ (size : ℕ) (s : StoredWorld) (a : State) (rested : IsRested a.now.wor
       (rested.each k))
 
   -- each word has one value again: the gate, those that the log named, and the others, to which nothing came
-  rested_then : (b : State) → SettlesLog DAEMON_LOG None a b → IsRested b.now.words
+  rested_then : (b : State) → SettlesLog targets.Words DAEMON_LOG None a b → IsRested b.now.words
   rested_then b settles =
       let write = new_value device_word (log_of (reads a.now.words) DAEMON_LOG) in
       record {
@@ -175,7 +176,7 @@ module _ (size : ℕ) (s : StoredWorld) (a : State) (rested : IsRested a.now.wor
         ];
       }
 
-  AppliesLog-settles : (fault : Option HostFault) (b : State) → SettlesLog DAEMON_LOG fault a b
+  AppliesLog-settles : (fault : Option HostFault) (b : State) → SettlesLog targets.Words DAEMON_LOG fault a b
       → Leaves (Silently (SettlesSame a.now.words DAEMON_LOG (log_of (reads a.now.words) DAEMON_LOG))) a b → AppliesLog size s fault a b
   AppliesLog-settles fault b settles left =
       let moments = Leaves-weaker (Silently (SettlesSame a.now.words DAEMON_LOG (log_of (reads a.now.words) DAEMON_LOG))) (Silently (λ image. world_of size image ≡ Some s)) a b
@@ -187,13 +188,13 @@ module _ (size : ℕ) (s : StoredWorld) (a : State) (rested : IsRested a.now.wor
           stands = λ image picked. (Leaves-now (Silently (λ i. world_of size i ≡ Some s)) [] a b (said ∙ sym (append-nil a.now.said)) moments image picked).1;
           idle = λ v has. ap is_idle_gate ((settles.closed none).each v has);
         };
-        rested = λ none. rested_then b (subst (λ (f : Option HostFault). SettlesLog DAEMON_LOG f a b) none settles);
+        rested = λ none. rested_then b (subst (λ (f : Option HostFault). SettlesLog targets.Words DAEMON_LOG f a b) none settles);
       }
 
 -- the call that settles it was behind one that changed nothing
 pub AppliesLog-sound : (size : ℕ) (s : StoredWorld) (fault : Option HostFault) (a b c : State) → b ≡ a → IsRested a.now.words → world_of size (reads a.now.words) ≡ Some s
-    → ((es : List Entry) → IsReplayable device_word size DAEMON_LOG es (reads b.now.words) → SettlesLog DAEMON_LOG fault b c)
-    → ((es : List Entry) → IsReplayable device_word size DAEMON_LOG es (reads b.now.words) → HasDurableLog DAEMON_LOG b.now.words
+    → ((es : List Entry) → IsReplayable device_word size DAEMON_LOG es (reads b.now.words) → SettlesLog targets.Words DAEMON_LOG fault b c)
+    → ((es : List Entry) → IsReplayable device_word size DAEMON_LOG es (reads b.now.words) → HasDurableLog targets.Words DAEMON_LOG b.now.words
     → Leaves (Silently (SettlesSame b.now.words DAEMON_LOG (log_of (reads b.now.words) DAEMON_LOG))) b c)
     → AppliesLog size s fault a c
 AppliesLog-sound size s fault a b c same rested world settles left =

@@ -18,7 +18,7 @@ mod making;
 mod puts;
 
 pub use changing::{change_mode, drop_pool};
-use log_replay::settle_log;
+use log_replay::{Target, settle_log};
 pub use making::{MakeFault, make_pool};
 use pm_model::{Host, HostFault};
 use pud_defs::layout::{DAEMON_LOG, MACHINE_WORD};
@@ -65,7 +65,7 @@ pub fn load_sound<H: Host>(h: &mut H) -> Result<Geo, LoadFault>
         → (result ≡ Result.Err LoadFault.NotSound) ↔ (world_of (H.counts h.old).size (reads (H.state h.old).now.words) ≡ Option.None) }
     ensures unchanged { H.tells → result ≡ Result.Err LoadFault.NotSound → H.state h.new ≡ H.state h.old }
     ensures room { IfOk result (λ geo. IsRoomFor (H.counts h.old).size geo.frames) }
-    ensures settles { H.tells → result ≢ Result.Err LoadFault.NotSound → SettlesLog DAEMON_LOG (load_fault result) (H.state h.old) (H.state h.new) }
+    ensures settles { H.tells → result ≢ Result.Err LoadFault.NotSound → SettlesLog Target.Words DAEMON_LOG (load_fault result) (H.state h.old) (H.state h.new) }
     ensures stands { H.tells → (size : ℕ) → size ≡ (H.counts h.old).size
         → IfOk result (λ geo. world_of size (reads (H.state h.new).now.words) ≡ world_of size (reads (H.state h.old).now.words)) }
     ensures geo { H.tells → (size : ℕ) → size ≡ (H.counts h.old).size → (s : StoredWorld) → world_of size (reads (H.state h.old).now.words) ≡ Option.Some s
@@ -87,7 +87,7 @@ fn apply_sound<H: Host>(h: &mut H) -> Result<u32, LoadFault>
     ensures unchanged { H.tells → result ≡ Result.Err LoadFault.NotSound → H.state h.new ≡ H.state h.old }
     ensures room { IfOk result (IsRoomFor (H.counts h.old).size) }
     ensures frames { H.tells → IfOk result (λ frames. frames ≡ frames_of (reads (H.state h.old).now.words)) }
-    ensures settles { H.tells → result ≢ Result.Err LoadFault.NotSound → SettlesLog DAEMON_LOG (load_fault result) (H.state h.old) (H.state h.new) }
+    ensures settles { H.tells → result ≢ Result.Err LoadFault.NotSound → SettlesLog Target.Words DAEMON_LOG (load_fault result) (H.state h.old) (H.state h.new) }
     ensures applies { H.tells → (size : ℕ) → size ≡ (H.counts h.old).size → (s : StoredWorld) → IsRested (H.state h.old).now.words
         → world_of size (reads (H.state h.old).now.words) ≡ Option.Some s → AppliesLog size s (load_fault result) (H.state h.old) (H.state h.new) }
     ensures any { H.tells → Changes Anything (load_fault result) (H.state h.old) (H.state h.new) }
@@ -96,6 +96,6 @@ fn apply_sound<H: Host>(h: &mut H) -> Result<u32, LoadFault>
     let Some(frames) = sound_frames(h)? else {
         return Err(LoadFault::NotSound);
     };
-    settle_log(h, DAEMON_LOG)?;
+    settle_log(h, DAEMON_LOG, Target::Words)?;
     Ok(frames)
 }

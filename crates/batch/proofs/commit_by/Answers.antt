@@ -16,7 +16,7 @@ returns-clause-commits g c = λ t size same es spell batched free.
     let log = prepared.prepared refl in
     let after = same ∙ sym (ap (λ (n : Counts). n.size) c.in_ok-prepare.ensures.cause) in
     Commits-settle size c.args.at es (fault_of c.settle_log.result) _ _ _ batched prepared (c.settle_log.ensures.settles t size after es log.replayable)
-    (c.settle_log.ensures.moments t size after es log.replayable log.durable_log)
+    (c.settle_log.ensures.same t refl size after es log.replayable log.durable_log)
 
 pub returns-clause-any : goal.returns-clause-any
 returns-clause-any g c = λ t. any_then (fault_of c.settle_log.result) _ _ _ (c.in_ok-prepare.ensures.any t) (c.settle_log.ensures.any t)

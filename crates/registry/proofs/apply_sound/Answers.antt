@@ -56,7 +56,7 @@ returns-in_err-settle_log-clause-applies g c =
     rw (p.1, p.2) (λ t size same s rested world.
     let after = same ∙ sym (ap (λ (n : Counts). n.size) c.in_ok-frames.ensures.cause) in
     AppliesLog-sound size s _ _ (g.H.Host.state c.sound_frames.new.h) _ (c.in_ok-frames.ensures.stays t) rested world
-    (c.in_err-settle_log.ensures.settles t size after) (c.in_err-settle_log.ensures.moments t size after))
+    (c.in_err-settle_log.ensures.settles t size after) (c.in_err-settle_log.ensures.same t refl size after))
 
 pub returns-clause-not_sound : goal.returns-clause-not_sound
 returns-clause-not_sound g c = λ t _.
@@ -72,7 +72,7 @@ pub returns-clause-applies : goal.returns-clause-applies
 returns-clause-applies g c = λ t size same s rested world.
     let after = same ∙ sym (ap (λ (n : Counts). n.size) c.in_ok-frames.ensures.cause) in
     AppliesLog-sound size s None _ (g.H.Host.state c.sound_frames.new.h) _ (c.in_ok-frames.ensures.stays t) rested world
-    (c.in_ok-settle_log.ensures.settles t size after) (c.in_ok-settle_log.ensures.moments t size after)
+    (c.in_ok-settle_log.ensures.settles t size after) (c.in_ok-settle_log.ensures.same t refl size after)
 
 pub returns-clause-any : goal.returns-clause-any
 returns-clause-any g c = λ t.

@@ -1,0 +1,65 @@
+-- Where the addresses of a target are: in no word of which the places themselves are read.
+use Rattle.std.proofs.Common.{◌≡◌, inl, inr, ℕ, ◌+◌, ◌<◌, ◌≤◌, Option, Some, None, option_map, refl, sym, ap, ◌∙◌, arith}
+use Rattle.std.proofs.lemmas.Bool.{cases_lt}
+use Rattle.pm_model.specs.Words.{reads}
+use Rattle.pm_model.specs.Moments.{State}
+use Rattle.pm_model.specs.Changes.{Write, Changes}
+use Rattle.pud_defs.specs.declared.layout.TheConstants.{PUDDLE_TABLE}
+use Rattle.pud_defs.specs.Image.{Image}
+use Rattle.pud_defs.specs.Layout.{tables_end, frames_at, IsWithin}
+use Rattle.pud_defs.specs.Frames.{frame_at}
+use Rattle.pud_defs.specs.Tables.{tables_of}
+use Rattle.pud_defs.specs.Places.{first_some, place_by, located}
+use Rattle.pud_defs.specs.Replay.{Place}
+use Rattle.pud_defs.specs.Allowed.{puddle_word}
+use Rattle.pud_defs.proofs.TablesOf.{puddles_below, puddles_beyond, puddle_at-same}
+use Rattle.log_replay.specs.declared.Target.{Target}
+use Rattle.log_replay.specs.declared.Target.TheVariants as targets
+use Rattle.log_replay.specs.Replaying.{place_of, IsPlacing, Named}
+
+-- the word of a frame that was located
+abbrev pub word_at : (F : ℕ) → ℕ × ℕ → ℕ
+word_at F at = frame_at F at.0 + at.1
+
+pub place_of-located : (F : ℕ) (image : Image) (address : ℕ) → puddle_word (tables_of F image) address ≡ option_map (word_at F) (located (tables_of F image) address)
+unfolding puddle_word tables_of
+place_of-located F image address = refl
+
+-- ---- images that agree on the words of which places are read
+
+puddles_same : (F : ℕ) (i j : Image) → ((k : ℕ) → IsWithin PUDDLE_TABLE (tables_end F) k → j k ≡ i k) → (frame : ℕ) → (tables_of F j).puddles frame ≡ (tables_of F i).puddles frame
+puddles_same F i j same frame = elim (cases_lt frame F) [
+  | inl below ↦
+      puddles_below F j frame below
+      ∙ puddle_at-same j i frame (λ k low high. same k (record { low = omega arith; high = omega arith }))
+      ∙ sym (puddles_below F i frame below)
+  | inr beyond ↦ puddles_beyond F j frame beyond ∙ sym (puddles_beyond F i frame beyond)
+]
+
+puddle_word-same : (F : ℕ) (i j : Image) → ((frame : ℕ) → (tables_of F j).puddles frame ≡ (tables_of F i).puddles frame) → puddle_word (tables_of F j) ≡ puddle_word (tables_of F i)
+unfolding puddle_word tables_of
+puddle_word-same F i j same = λ p address. option_map (word_at F) (first_some (λ frame. place_by address frame (same frame p)) 0 F)
+
+-- have the same places
+pub places_same : (to : Target) (i j : Image) → ((k : ℕ) → IsPlacing to k → j k ≡ i k) → place_of to j ≡ place_of to i
+places_same targets.Words i j same = refl
+places_same (targets.Puddles F) i j same = puddle_word-same F i j (puddles_same F i j same)
+
+-- ---- places lie above those words
+
+mapped_above : (F w : ℕ) (o : Option (ℕ × ℕ)) → option_map (word_at F) o ≡ Some w → frames_at F ≤ w
+mapped_above F w None is = absurd (cc)
+mapped_above F w (Some at) is = let here : word_at F at ≡ w = cc in omega arith
+
+pub place_above : (to : Target) (image : Image) (place : Place) → place_of to image ≡ place → (k : ℕ) → IsPlacing to k → (address w : ℕ) → place address ≡ Some w → k < w
+place_above targets.Words image place same k placing address w there = absurd placing
+place_above (targets.Puddles F) image place same k placing address w there =
+    let low = mapped_above F w (located (tables_of F image) address) (sym (place_of-located F image address) ∙ ap (λ (f : Place). f address) same ∙ there) in
+    let high = placing.high in
+    omega arith
+
+-- so they stay where nothing is written there
+pub places_kept : (to : Target) (write : Write) (s t : State) → Changes (Named write) None s t → ((k : ℕ) → IsPlacing to k → write k ≡ None) → place_of to (reads t.now.words) ≡ place_of to (reads s.now.words)
+places_kept to write s t changes apart =
+    places_same to (reads s.now.words) (reads t.now.words)
+    (λ k placing. (changes.keeps (λ cut. cc) k (λ v named. absurd (let it : None ≡ Some named.value = sym (apart k placing) ∙ named.is in cc))).newest)
