@@ -26,6 +26,8 @@ pub mod Logged
 pub mod Parts
 pub mod NoPools
 pub mod Worlds
+pub mod IdleWorlds
+pub mod Idle
 pub mod ClosedLogs
 pub mod Definitions
 pub mod Blank
