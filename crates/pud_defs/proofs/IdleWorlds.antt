@@ -78,6 +78,10 @@ pub idle_world_of_legal : (size : ℕ) (image : Image) → has_legal_log image �
 unfolding idle_world_of
 idle_world_of_legal size image legal = cond-true _ _ _ legal
 
+-- images with legal daemon logs whose replay leaves the same stand for the same
+pub idle_world_of-settled : (size : ℕ) (i j : Image) → has_legal_log i ≡ true → has_legal_log j ≡ true → settled_by DAEMON_LOG j ≡ settled_by DAEMON_LOG i → idle_world_of size j ≡ idle_world_of size i
+idle_world_of-settled size i j legal_i legal_j same = idle_world_of_legal size j legal_j ∙ ap (idle_registry size) same ∙ sym (idle_world_of_legal size i legal_i)
+
 -- ---- a daemon log that is closed and counts no word
 
 pub legal_log_idle : (image : Image) → is_idle_gate (image DAEMON_LOG) ≡ true → has_legal_log image ≡ true
