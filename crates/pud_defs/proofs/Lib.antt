@@ -47,6 +47,7 @@ pub mod ExamplesRun
 pub mod ExamplesPools
 pub mod ExamplesChecks
 pub mod ExamplesLogs
+pub mod ExamplesSettled
 pub mod ExamplesTables
 pub mod ExamplesLayout
 pub mod ExamplesIdentifiers
