@@ -18,11 +18,11 @@ use Rattle.pud_defs.specs.Layout.{device_words}
 use Rattle.pud_defs.specs.Entries.{Entry, is_idle_gate}
 use Rattle.pud_defs.specs.Replay.{device_word, overwritten, is_in_log, settled_by}
 use Rattle.pud_defs.specs.Registry.{frames_of, may_be_logged, is_allowed, has_legal_log}
-use Rattle.pud_defs.specs.World.{StoredWorld, registry_world, world_of}
+use Rattle.pud_defs.specs.World.{StoredWorld, idle_registry, idle_world_of}
 use Rattle.pud_defs.proofs.Replay.{overwritten-stays, overwritten-there, settled_by-idle, outside_log, within_log}
 use Rattle.pud_defs.proofs.Logged.{IsUnlogged, unlogged, lies_apart, allowed_in_range, new_value-allowed, has_legal_log-of}
 use Rattle.pud_defs.proofs.Parts.Part.{Header}
-use Rattle.pud_defs.proofs.Worlds.{standing_of_world, legal_log_of_world, legal_log_idle, world_of_legal, frames_of_world}
+use Rattle.pud_defs.proofs.IdleWorlds.{standing_of_idle_world, legal_log_of_idle_world, legal_log_idle, idle_world_of_legal, frames_of_idle_world}
 use Rattle.log_replay.specs.Replaying.{NamesApart}
 use Rattle.batch.specs.Batches.{batch_write, committed, IsBatchEntry, AreBatched, IsFree, ByBatch, IsBatched, Commits}
 use Rattle.batch.specs.Worlds.{IsSettled, with_batch, MovesBy, IsBetween, HasBatch, Moves}
@@ -47,7 +47,7 @@ all_apart F size all (e ∷ es) room batched allowed =
 
 module _ (size : ℕ) (s next : StoredWorld) (es : List Entry) (a : State) (batched : AreBatched es) (settled : IsSettled size s a.now.words) (m : MovesBy size s next es a.now.words) where
   apart : All (NamesApart device_word size DAEMON_LOG) es
-  apart = all_apart s.frames size es es ((standing_of_world size (reads a.now.words) s (settled.stands (reads a.now.words) (Picks-reads a.now.words))).holds Header).room batched m.allowed
+  apart = all_apart s.frames size es es ((standing_of_idle_world size (reads a.now.words) s (settled.stands (reads a.now.words) (Picks-reads a.now.words))).holds Header).room batched m.allowed
 
   pub IsFree-moves : IsFree size DAEMON_LOG es a.now.words
   IsFree-moves = record { idle = settled.idle; apart = apart }
@@ -60,7 +60,7 @@ module _ (size : ℕ) (s next : StoredWorld) (es : List Entry) (a : State) (batc
   frames_stay : (image : Image) → IsBatched a.now.words DAEMON_LOG es image → frames_of image ≡ s.frames
   frames_stay image b =
       b.outside FRAMES_WORD (outside_log DAEMON_LOG FRAMES_WORD (inl (omega arith))) (not_written FRAMES_WORD (unlogged s.frames FRAMES_WORD (λ e. absurd (omega arith)) (inl (omega arith)) (omega arith)))
-      ∙ frames_of_world size b.before s (settled.stands b.before b.picked)
+      ∙ frames_of_idle_world size b.before s (settled.stands b.before b.picked)
 
   legal : (image : Image) → IsBatched a.now.words DAEMON_LOG es image → has_legal_log image ≡ true
   legal image b = elim b.log [
@@ -74,8 +74,8 @@ module _ (size : ℕ) (s next : StoredWorld) (es : List Entry) (a : State) (batc
       record {
         batched = b;
         stands = elim b.settled [
-          | inl same ↦ inl (same, world_of_legal size image (legal image b) ∙ ap (registry_world size) same ∙ sym (world_of_legal size b.before (legal_log_of_world size b.before s stood)) ∙ stood)
-          | inr all ↦ inr (all, world_of_legal size image (legal image b) ∙ ap (registry_world size) all ∙ m.stands b.before b.picked)
+          | inl same ↦ inl (same, idle_world_of_legal size image (legal image b) ∙ ap (idle_registry size) same ∙ sym (idle_world_of_legal size b.before (legal_log_of_idle_world size b.before s stood)) ∙ stood)
+          | inr all ↦ inr (all, idle_world_of_legal size image (legal image b) ∙ ap (idle_registry size) all ∙ m.stands b.before b.picked)
         ];
       }
 
@@ -116,10 +116,10 @@ module _ (size : ℕ) (s next : StoredWorld) (es : List Entry) (a : State) (batc
     pub HasBatch-commits : HasBatch es a.now.words image
     HasBatch-commits = has_batch at_end
 
-    pub next_stands : world_of size image ≡ Some next
+    pub next_stands : idle_world_of size image ≡ Some next
     next_stands =
-        world_of_legal size image (legal image at_end)
-        ∙ ap (registry_world size) HasBatch-commits.settled
+        idle_world_of_legal size image (legal image at_end)
+        ∙ ap (idle_registry size) HasBatch-commits.settled
         ∙ m.stands HasBatch-commits.before HasBatch-commits.picked
 
   -- a committed batch moves the world
@@ -139,5 +139,5 @@ module _ (size : ℕ) (s next : StoredWorld) (es : List Entry) (a : State) (batc
 -- ---- for the calls above
 
 -- a batch behind which the world is the same leaves no image that stands for another
-pub stands_still : (size : ℕ) (s : StoredWorld) (es : List Entry) (words : Words) (image : Image) → IsBetween size s s es words image → world_of size image ≡ Some s
+pub stands_still : (size : ℕ) (s : StoredWorld) (es : List Entry) (words : Words) (image : Image) → IsBetween size s s es words image → idle_world_of size image ≡ Some s
 stands_still size s es words image b = elim b.stands [ inl before ↦ before.1 | inr after ↦ after.1 ]

@@ -1,4 +1,4 @@
--- The world that a device stands for where nothing is under way, and how one batch moves it to the next.
+-- The world that an idle device stands for, on which nothing is under way and each registered log is closed, and how one batch moves it to the next.
 use Rattle.std.specs.Prelude.{◌≡◌, ◌⊎◌, ℕ, true, false, List, Option, Some, None}
 use Rattle.std.specs.List.{list_all}
 use Rattle.pm_model.specs.declared.host.HostFault.{HostFault}
@@ -10,12 +10,12 @@ use Rattle.pud_defs.specs.Image.{Image}
 use Rattle.pud_defs.specs.Entries.{Entry, is_idle_gate}
 use Rattle.pud_defs.specs.Replay.{overwritten, is_in_log, settled_by}
 use Rattle.pud_defs.specs.Registry.{is_allowed}
-use Rattle.pud_defs.specs.World.{StoredWorld, registry_world, world_of}
+use Rattle.pud_defs.specs.World.{StoredWorld, idle_registry, idle_world_of}
 use Rattle.batch.specs.Batches.{batch_write, committed, IsBatched, Commits}
 
--- Each image that may be left stands for this world, and the daemon log counts nothing in it.
+-- Each image that may be left stands for this world, with each registered log closed, and the daemon log counts nothing in it.
 pub record IsSettled (size : ℕ) (s : StoredWorld) (words : Words) : Type 0 where
-  pub stands : (image : Image) → Picks words image → world_of size image ≡ Some s
+  pub stands : (image : Image) → Picks words image → idle_world_of size image ≡ Some s
   pub idle : (v : ℕ) → Has (values (words DAEMON_LOG)) v → is_idle_gate v ≡ true
 
 -- the image with the daemon log replayed, and the words of these entries over it
@@ -23,17 +23,17 @@ abbrev pub with_batch : List Entry → Image → Image
 with_batch es image = overwritten (batch_write es) (settled_by DAEMON_LOG image)
 
 -- What a batch owes that is to make the next world of one: its entries lie where the daemon log may write, and with their words over it each
--- image that may be left stands for the next.
+-- image that may be left stands for the next, with each registered log closed.
 pub record MovesBy (size : ℕ) (s next : StoredWorld) (es : List Entry) (words : Words) : Type 0 where
   pub allowed : list_all (is_allowed s.frames (committed es)) es ≡ true
-  pub stands : (image : Image) → Picks words image → registry_world size (with_batch es image) ≡ Some next
+  pub stands : (image : Image) → Picks words image → idle_registry size (with_batch es image) ≡ Some next
 
 -- An image of the batch that stands for the world before, and is as it was once the daemon log is replayed, or for the next, and then has all of
 -- the batch's words.
 pub record IsBetween (size : ℕ) (s next : StoredWorld) (es : List Entry) (words : Words) (image : Image) : Type 0 where
   pub batched : IsBatched words DAEMON_LOG es image
-  pub stands : ((settled_by DAEMON_LOG image ≡ settled_by DAEMON_LOG batched.before) × (world_of size image ≡ Some s))
-      ⊎ ((settled_by DAEMON_LOG image ≡ with_batch es batched.before) × (world_of size image ≡ Some next))
+  pub stands : ((settled_by DAEMON_LOG image ≡ settled_by DAEMON_LOG batched.before) × (idle_world_of size image ≡ Some s))
+      ⊎ ((settled_by DAEMON_LOG image ≡ with_batch es batched.before) × (idle_world_of size image ≡ Some next))
 
 -- an image that is one of these words but in the daemon log and in words of the batch, and that has all of these
 pub record HasBatch (es : List Entry) (words : Words) (image : Image) : Type 0 where

@@ -16,12 +16,12 @@ use Rattle.pud_defs.specs.Entries.{Entry, Log, is_idle_gate}
 use Rattle.pud_defs.specs.Replay.{value_at, overwritten, settled_by}
 use Rattle.pud_defs.specs.Registry.{is_allowed}
 use Rattle.pud_defs.specs.Spaces.{space_record_at, owner_by, owner_of}
-use Rattle.pud_defs.specs.World.{StoredWorld, world_of}
+use Rattle.pud_defs.specs.World.{StoredWorld, idle_world_of}
 use Rattle.pud_defs.proofs.Replay.{overwritten-stays, overwritten-there, value_at-there, value_at-apart, settled_by-idle, outside_log}
 use Rattle.pud_defs.proofs.Logged.{may_be_logged-table, is_allowed-there}
 use Rattle.pud_defs.proofs.Spaces.{are_legal_spaces-none, are_closed_logs-none}
 use Rattle.pud_defs.proofs.Parts.{StandsFor, standing_spaces}
-use Rattle.pud_defs.proofs.Worlds.{standing_of_world, registry_world_standing}
+use Rattle.pud_defs.proofs.IdleWorlds.{standing_of_idle_world, idle_registry_standing}
 use Rattle.batch.specs.Batches.{batch_entry, words_of, batch_write, committed, IsBatched, Commits}
 use Rattle.batch.specs.Worlds.{IsSettled, with_batch, MovesBy, IsBetween, Moves}
 use Rattle.batch.proofs.Writes.{batch_write-append, batch_write-single}
@@ -135,13 +135,13 @@ module _ (size : ℕ) (s : StoredWorld) where
   MovesBy-clearing words settled = record {
     allowed = clearing-allowed s.frames CLIENTS (committed (clearing CLIENTS)) (omega arith);
     stands = λ image picked.
-        registry_world_standing size (with_batch (clearing CLIENTS) image) s (standing_cleared (settled_by DAEMON_LOG image) (standing_of_world size image s (settled.stands image picked)));
+        idle_registry_standing size (with_batch (clearing CLIENTS) image) s (standing_cleared (settled_by DAEMON_LOG image) (standing_of_idle_world size image s (settled.stands image picked)));
   }
 
   pub Clears-moves : (fault : Option HostFault) (a b : State) → Moves size s s (clearing CLIENTS) fault a b → Clears size s fault a b
   Clears-moves fault a b m = record {
     changes = m.commits.changes;
-    moments = Leaves-weaker (Silently (IsBetween size s s (clearing CLIENTS) a.now.words)) (Silently (λ image. world_of size image ≡ Some s)) a b
+    moments = Leaves-weaker (Silently (IsBetween size s s (clearing CLIENTS) a.now.words)) (Silently (λ image. idle_world_of size image ≡ Some s)) a b
         (λ bytes image p. (p.0, stands_still size s (clearing CLIENTS) a.now.words image p.1)) m.moments;
     settled = m.settled;
     durable = m.commits.durable;

@@ -16,8 +16,8 @@ use Rattle.pud_defs.specs.declared.layout.TheConstants.{CLIENTS, CLIENT_LOGS, DA
 use Rattle.pud_defs.specs.declared.log_words.TheConstants.{CLOSED_GATE}
 use Rattle.pud_defs.specs.Image.{Image}
 use Rattle.pud_defs.specs.Layout.{log_at}
-use Rattle.pud_defs.specs.World.{StoredWorld, world_of}
-use Rattle.pud_defs.proofs.ClosedLogs.{IsClosedAnew, world_of-anew, has_closed_logs-gates}
+use Rattle.pud_defs.specs.World.{StoredWorld, idle_world_of}
+use Rattle.pud_defs.proofs.ClosedLogs.{IsClosedAnew, idle_world_of-anew, has_closed_logs-gates}
 use Rattle.batch.specs.Worlds.{IsSettled}
 use Rattle.log_space.specs.Closed.{ByClosing, WritesGates, ClosesGates, Closes}
 
@@ -95,16 +95,16 @@ module _ (F slot : ℕ) where
 -- what is done to gates of a device that stands for a world
 pub Closes-gates : (size : ℕ) (s : StoredWorld) (slot : ℕ) (fault : Option HostFault) (a b : State) → slot < CLIENTS → IsSettled size s a.now.words → ClosesGates s.frames slot fault a b → Closes size s slot fault a b
 Closes-gates size s slot fault a b known settled p =
-    let moments = Leaves-changes (λ (image : Image). world_of size image ≡ Some s) (ByClosing s.frames slot) fault a b
+    let moments = Leaves-changes (λ (image : Image). idle_world_of size image ≡ Some s) (ByClosing s.frames slot) fault a b
     (λ before image picked from.
-    world_of-anew size slot before image s known (settled.idle (before DAEMON_LOG) (picked.each DAEMON_LOG)) (settled.stands before picked) (closed_anew s.frames slot before image from))
+    idle_world_of-anew size slot before image s known (settled.idle (before DAEMON_LOG) (picked.each DAEMON_LOG)) (settled.stands before picked) (closed_anew s.frames slot before image from))
     p.changes in
     record {
       changes = p.changes;
       moments = moments;
       settled = λ none. record {
         stands = λ image picked.
-            (Leaves-now (Silently (λ (i : Image). world_of size i ≡ Some s)) [] a b (Changes-said (ByClosing s.frames slot) fault a b p.changes ∙ sym (append-nil a.now.said)) moments image picked).1;
+            (Leaves-now (Silently (λ (i : Image). idle_world_of size i ≡ Some s)) [] a b (Changes-said (ByClosing s.frames slot) fault a b p.changes ∙ sym (append-nil a.now.said)) moments image picked).1;
         idle = λ v had. elim (Changes-now (ByClosing s.frames slot) fault a b p.changes DAEMON_LOG v had) [
           | inl was ↦ settled.idle v was
           | inr gate ↦ absurd (let is = gate.0.is in omega arith)

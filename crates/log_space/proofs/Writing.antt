@@ -17,7 +17,7 @@ use Rattle.pud_defs.specs.World.{StoredWorld}
 use Rattle.pud_defs.proofs.Replay.{settled_by-idle, outside_log, overwritten-stays, overwritten-there, value_at-there, value_at-apart}
 use Rattle.pud_defs.proofs.Logged.{may_be_logged-table, is_allowed-there}
 use Rattle.pud_defs.proofs.Spaces.{owner_of-same, has_closed_logs-same}
-use Rattle.pud_defs.proofs.Worlds.{standing_of_world, registry_world_standing}
+use Rattle.pud_defs.proofs.IdleWorlds.{standing_of_idle_world, idle_registry_standing}
 use Rattle.batch.specs.Batches.{batch_entry, batch_write, committed, ByBatch}
 use Rattle.batch.specs.Worlds.{IsSettled, with_batch, MovesBy, IsBetween, Moves}
 use Rattle.batch.proofs.Writes.{batch_write-single}
@@ -67,8 +67,8 @@ module _ (size : ℕ) (s : StoredWorld) (slot : ℕ) (now : Option Owner) (vals 
         and_from (is_allowed s.frames (committed (record_batch slot vals)) e) true allowed refl;
     stands = λ image picked.
         let old = settled_by DAEMON_LOG image in
-        let was = standing_of_world size image s (settled.stands image picked) in
-        registry_world_standing size (with_batch (record_batch slot vals) image) s
+        let was = standing_of_idle_world size image s (settled.stands image picked) in
+        idle_registry_standing size (with_batch (record_batch slot vals) image) s
         (standing_changed slot old (with_batch (record_batch slot vals) image) (is_beside slot vals old g.few) size s g.known was (g.legal old) (g.closed image picked));
   }
 

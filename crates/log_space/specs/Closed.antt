@@ -8,7 +8,7 @@ use Rattle.pud_defs.specs.declared.layout.TheConstants.{CLIENT_LOGS}
 use Rattle.pud_defs.specs.declared.log_words.TheConstants.{CLOSED_GATE}
 use Rattle.pud_defs.specs.Layout.{log_at}
 use Rattle.pud_defs.specs.Spaces.{IsGateOf}
-use Rattle.pud_defs.specs.World.{StoredWorld, world_of}
+use Rattle.pud_defs.specs.World.{StoredWorld, idle_world_of}
 use Rattle.batch.specs.Worlds.{IsSettled}
 use Rattle.log_space.specs.Records.{HasClosedLogs}
 
@@ -30,6 +30,6 @@ pub record ClosesGates (F slot : ℕ) (fault : Option HostFault) (old new : Stat
 -- The client's logs are closed: at each moment each image stands for the world; without a fault they are closed in each, and the device is settled.
 pub record Closes (size : ℕ) (s : StoredWorld) (slot : ℕ) (fault : Option HostFault) (old new : State) : Type 0 where
   pub changes : Changes (ByClosing s.frames slot) fault old new
-  pub moments : Leaves (Silently (λ image. world_of size image ≡ Some s)) old new
+  pub moments : Leaves (Silently (λ image. idle_world_of size image ≡ Some s)) old new
   pub settled : fault ≡ None → IsSettled size s new.now.words
   pub closed : fault ≡ None → HasClosedLogs s.frames slot new.now.words

@@ -9,7 +9,7 @@ use Rattle.pud_defs.specs.Image.{Image}
 use Rattle.pud_defs.specs.Entries.{Entry}
 use Rattle.pud_defs.specs.Replay.{is_in_log, settled_by}
 use Rattle.pud_defs.specs.Spaces.{Owner, owner, with_owner, space_record_at, owner_of, has_closed_logs}
-use Rattle.pud_defs.specs.World.{StoredWorld, world_of}
+use Rattle.pud_defs.specs.World.{StoredWorld, idle_world_of}
 use Rattle.batch.specs.Batches.{batch_entry, batch_write, ByBatch}
 use Rattle.batch.specs.Worlds.{IsSettled}
 
@@ -36,7 +36,7 @@ pub record HasClosedLogs (F slot : ℕ) (words : Words) : Type 0 where
 -- An image that stands for the world, and that is one of these words but in the daemon log and in words of the batch, which are of the
 -- log-space table. Its table is as it was, or has the client's record changed.
 pub record MayHaveOwner (size : ℕ) (s : StoredWorld) (slot : ℕ) (now : Option Owner) (es : List Entry) (words : Words) (image : Image) : Type 0 where
-  pub stands : world_of size image ≡ Some s
+  pub stands : idle_world_of size image ≡ Some s
   pub before : Image
   pub picked : Picks words before
   pub outside : (k : ℕ) → is_in_log DAEMON_LOG k ≡ false → batch_write es k ≡ None → image k ≡ before k

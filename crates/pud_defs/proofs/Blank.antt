@@ -5,7 +5,7 @@ use Rattle.pud_defs.specs.declared.layout.TheConstants.{TYPE_RECORDS, MIN_FRAMES
 use Rattle.pud_defs.specs.Layout.{device_words, is_legal_frame_count}
 use Rattle.pud_defs.specs.Image.{Image}
 use Rattle.pud_defs.specs.Types.{type_record_at, type_at, is_sound_type}
-use Rattle.pud_defs.specs.World.{IsBlank, world_of, blank_world}
+use Rattle.pud_defs.specs.World.{IsBlank, world_of, idle_world_of, blank_world}
 use Rattle.pud_defs.specs.Entries.{is_idle_gate}
 use Rattle.pud_defs.specs.Replay.{is_in_log, beside_log}
 use Rattle.pud_defs.specs.Spaces.{space_record_at}
@@ -16,7 +16,8 @@ use Rattle.pud_defs.proofs.TypeTable.{type_at-free}
 use Rattle.pud_defs.proofs.Parts.{Part, Holds, HasTypes, StandsFor}
 use Rattle.pud_defs.proofs.Parts.Part.{Header, Types, Pools, Spaces}
 use Rattle.pud_defs.proofs.NoPools.{empty_tables}
-use Rattle.pud_defs.proofs.Worlds.{registry_world_standing, world_of-idle}
+use Rattle.pud_defs.proofs.IdleWorlds.{idle_registry_standing, idle_world_of-beside}
+use Rattle.pud_defs.proofs.Idle.{world_of_idle}
 
 -- a table whose id words are 0 has no types
 pub no_types : (image : Image) → ((i : ℕ) → i < TYPE_RECORDS → image (type_record_at i) ≡ 0) → HasTypes [] image
@@ -55,12 +56,12 @@ standing_blank size F machine image legal room h =
     record { holds = held }
 
 -- beside the daemon log, which is closed, it is blank too
-pub world_of-blank : (size F machine : ℕ) (image : Image) → is_legal_frame_count F ≡ true → device_words F ≤ size → IsBlank F machine image → world_of size image ≡ Some (blank_world F machine)
-world_of-blank size F machine image legal room h =
+pub idle_world_of-blank : (size F machine : ℕ) (image : Image) → is_legal_frame_count F ≡ true → device_words F ≤ size → IsBlank F machine image → idle_world_of size image ≡ Some (blank_world F machine)
+idle_world_of-blank size F machine image legal room h =
     let closed : is_idle_gate (image DAEMON_LOG) ≡ true = ap is_idle_gate (h.rest DAEMON_LOG (omega arith) (omega arith)) in
     let read : (k : ℕ) → k < DAEMON_LOG → beside_log DAEMON_LOG image k ≡ image k = λ k low. beside_log-outside DAEMON_LOG image k (outside_log DAEMON_LOG k (inl low)) in
-    world_of-idle size image closed
-    ∙ registry_world_standing size (beside_log DAEMON_LOG image) (blank_world F machine) (standing_blank size F machine (beside_log DAEMON_LOG image) legal room (record {
+    idle_world_of-beside size image closed
+    ∙ idle_registry_standing size (beside_log DAEMON_LOG image) (blank_world F machine) (standing_blank size F machine (beside_log DAEMON_LOG image) legal room (record {
       magic = read MAGIC_WORD (omega arith) ∙ h.magic;
       version = read VERSION_WORD (omega arith) ∙ h.version;
       machine = read MACHINE_WORD (omega arith) ∙ h.machine;
@@ -71,3 +72,6 @@ world_of-blank size F machine image legal room h =
         | inr outside ↦ beside_log-outside DAEMON_LOG image k outside ∙ h.rest k low high
       ];
     }))
+
+pub world_of-blank : (size F machine : ℕ) (image : Image) → is_legal_frame_count F ≡ true → device_words F ≤ size → IsBlank F machine image → world_of size image ≡ Some (blank_world F machine)
+world_of-blank size F machine image legal room h = world_of_idle size image (blank_world F machine) (idle_world_of-blank size F machine image legal room h)

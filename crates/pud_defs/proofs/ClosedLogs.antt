@@ -9,12 +9,12 @@ use Rattle.pud_defs.specs.Layout.{tables_end, log_at, frames_at}
 use Rattle.pud_defs.specs.Entries.{is_idle_gate, entries_of}
 use Rattle.pud_defs.specs.Replay.{IsInLog, is_in_log, beside_log}
 use Rattle.pud_defs.specs.Spaces.{space_record_at, is_closed_range, is_closed_log, has_closed_logs, are_closed_logs, IsGateOf}
-use Rattle.pud_defs.specs.World.{StoredWorld, world_of}
+use Rattle.pud_defs.specs.World.{StoredWorld, idle_world_of}
 use Rattle.pud_defs.proofs.Replay.{entries_of-idle, beside_log-outside, outside_log}
 use Rattle.pud_defs.proofs.Spaces.{all_below-from, all_below-each, is_closed_log-same}
 use Rattle.pud_defs.proofs.Parts.{StandsFor}
 use Rattle.pud_defs.proofs.Parts.Part.{Spaces}
-use Rattle.pud_defs.proofs.Worlds.{standing_logs, standing_idle, world_of-idle, registry_world_standing}
+use Rattle.pud_defs.proofs.IdleWorlds.{standing_logs, standing_idle, idle_world_of-beside, idle_registry_standing}
 
 -- the second image is the first but for gates of this client's logs, which it has closed
 pub record IsClosedAnew (F client : ℕ) (i j : Image) : Type 0 where
@@ -93,11 +93,11 @@ anew_beside F client i j anew = record {
 }
 
 -- also where the daemon log is closed and counts no word
-pub world_of-anew : (size client : ℕ) (i j : Image) (s : StoredWorld) → client < CLIENTS → is_idle_gate (i DAEMON_LOG) ≡ true → world_of size i ≡ Some s → IsClosedAnew s.frames client i j → world_of size j ≡ Some s
-world_of-anew size client i j s known closed world anew =
+pub idle_world_of-anew : (size client : ℕ) (i j : Image) (s : StoredWorld) → client < CLIENTS → is_idle_gate (i DAEMON_LOG) ≡ true → idle_world_of size i ≡ Some s → IsClosedAnew s.frames client i j → idle_world_of size j ≡ Some s
+idle_world_of-anew size client i j s known closed world anew =
     let gate : is_idle_gate (j DAEMON_LOG) ≡ true = ap is_idle_gate (below_logs s.frames client i j anew DAEMON_LOG (omega arith)) ∙ closed in
-    world_of-idle size j gate
-    ∙ registry_world_standing size (beside_log DAEMON_LOG j) s
+    idle_world_of-beside size j gate
+    ∙ idle_registry_standing size (beside_log DAEMON_LOG j) s
     (standing_anew size client (beside_log DAEMON_LOG i) (beside_log DAEMON_LOG j) s known (standing_idle size i s closed world) (anew_beside s.frames client i j anew))
 
 -- with each of its gates closed the client's logs are

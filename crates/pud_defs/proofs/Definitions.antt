@@ -6,7 +6,7 @@ use Rattle.pud_defs.specs.Image.{Image, written}
 use Rattle.pud_defs.specs.TypeMap.{is_legal_map, is_legal_type_id}
 use Rattle.pud_defs.specs.Types.{type_record_at, type_at, map_of, with_type}
 use Rattle.pud_defs.specs.Tables.{Pool}
-use Rattle.pud_defs.specs.World.{StoredWorld, pools_in, registry_world, world_of}
+use Rattle.pud_defs.specs.World.{StoredWorld, pools_in, idle_registry, idle_world_of}
 use Rattle.pud_defs.specs.PoolChanges.{pools_read, with_type_defined}
 use Rattle.pud_defs.specs.Entries.{is_idle_gate}
 use Rattle.pud_defs.specs.Replay.{is_in_log, beside_log}
@@ -17,7 +17,7 @@ use Rattle.pud_defs.proofs.TypeTable.{type_at-map_written, are_legal_types-fewer
 use Rattle.pud_defs.proofs.Parts.{StandsFor, HasTypes, standing_with_types}
 use Rattle.pud_defs.proofs.Parts.Part.{Types, Pools}
 use Rattle.pud_defs.proofs.Held.{pools_in-more}
-use Rattle.pud_defs.proofs.Worlds.{registry_world_standing, standing_idle, world_of-idle, map_of_world}
+use Rattle.pud_defs.proofs.IdleWorlds.{idle_registry_standing, standing_idle, idle_world_of-beside, map_of_world}
 
 -- a word of the type table is written: what else is read stays
 type_written : (size : ℕ) (image : Image) (s : StoredWorld) (ts : List (ℕ × ℕ)) (ps : List (List ℕ × Pool)) (w v : ℕ) → type_record_at 0 ≤ w → w < type_record_at TYPE_RECORDS → StandsFor size image s
@@ -70,33 +70,33 @@ beside_read image k low = beside_log-outside DAEMON_LOG image k (outside_log DAE
 gate_written : (image : Image) (w v : ℕ) → type_record_at 0 ≤ w → is_idle_gate (image DAEMON_LOG) ≡ true → is_idle_gate (written w v image DAEMON_LOG) ≡ true
 gate_written image w v low closed = ap is_idle_gate (written_other w v image DAEMON_LOG (λ e. absurd (omega arith))) ∙ closed
 
-pub world_of-map_written : (size : ℕ) (image : Image) (s : StoredWorld) (r v : ℕ) → is_idle_gate (image DAEMON_LOG) ≡ true → world_of size image ≡ Some s → r < TYPE_RECORDS → image (type_record_at r) ≡ 0
-    → world_of size (written (type_record_at r + 1) v image) ≡ Some s
-world_of-map_written size image s r v closed h within free =
+pub idle_world_of-map_written : (size : ℕ) (image : Image) (s : StoredWorld) (r v : ℕ) → is_idle_gate (image DAEMON_LOG) ≡ true → idle_world_of size image ≡ Some s → r < TYPE_RECORDS → image (type_record_at r) ≡ 0
+    → idle_world_of size (written (type_record_at r + 1) v image) ≡ Some s
+idle_world_of-map_written size image s r v closed h within free =
     let low : type_record_at 0 ≤ type_record_at r + 1 = omega arith in
-    world_of-idle size (written (type_record_at r + 1) v image) (gate_written image (type_record_at r + 1) v low closed)
-    ∙ ap (registry_world size) (beside_written image (type_record_at r + 1) v low)
-    ∙ registry_world_standing size _ s
+    idle_world_of-beside size (written (type_record_at r + 1) v image) (gate_written image (type_record_at r + 1) v low closed)
+    ∙ ap (idle_registry size) (beside_written image (type_record_at r + 1) v low)
+    ∙ idle_registry_standing size _ s
     (standing-map_written size (beside_log DAEMON_LOG image) s r v (standing_idle size image s closed h) within (beside_read image (type_record_at r) (omega arith) ∙ free))
 
-pub world_of-id_written : (size : ℕ) (image : Image) (s : StoredWorld) (r id map : ℕ) → is_idle_gate (image DAEMON_LOG) ≡ true → world_of size image ≡ Some s → r < TYPE_RECORDS → image (type_record_at r) ≡ 0
+pub idle_world_of-id_written : (size : ℕ) (image : Image) (s : StoredWorld) (r id map : ℕ) → is_idle_gate (image DAEMON_LOG) ≡ true → idle_world_of size image ≡ Some s → r < TYPE_RECORDS → image (type_record_at r) ≡ 0
     → image (type_record_at r + 1) ≡ map → is_legal_type_id id ≡ true → is_legal_map map ≡ true → map_of id s.types ≡ None
-    → world_of size (written (type_record_at r) id image) ≡ Some (with_type_defined id map s)
-world_of-id_written size image s r id map closed h within free there legal_id legal_map none =
+    → idle_world_of size (written (type_record_at r) id image) ≡ Some (with_type_defined id map s)
+idle_world_of-id_written size image s r id map closed h within free there legal_id legal_map none =
     let low : type_record_at 0 ≤ type_record_at r = omega arith in
-    world_of-idle size (written (type_record_at r) id image) (gate_written image (type_record_at r) id low closed)
-    ∙ ap (registry_world size) (beside_written image (type_record_at r) id low)
-    ∙ registry_world_standing size _ _
+    idle_world_of-beside size (written (type_record_at r) id image) (gate_written image (type_record_at r) id low closed)
+    ∙ ap (idle_registry size) (beside_written image (type_record_at r) id low)
+    ∙ idle_registry_standing size _ _
     (standing-id_written size (beside_log DAEMON_LOG image) s r id map (standing_idle size image s closed h) within
     (beside_read image (type_record_at r) low ∙ free) (beside_read image (type_record_at r + 1) (omega arith) ∙ there) legal_id legal_map none)
 
 -- both writes
-pub world_of-defined : (size : ℕ) (image : Image) (s : StoredWorld) (r id map : ℕ) → is_idle_gate (image DAEMON_LOG) ≡ true → world_of size image ≡ Some s → r < TYPE_RECORDS → image (type_record_at r) ≡ 0
+pub idle_world_of-defined : (size : ℕ) (image : Image) (s : StoredWorld) (r id map : ℕ) → is_idle_gate (image DAEMON_LOG) ≡ true → idle_world_of size image ≡ Some s → r < TYPE_RECORDS → image (type_record_at r) ≡ 0
     → is_legal_type_id id ≡ true → is_legal_map map ≡ true → map_of id s.types ≡ None
-    → world_of size (written (type_record_at r) id (written (type_record_at r + 1) map image)) ≡ Some (with_type_defined id map s)
-world_of-defined size image s r id map closed h within free legal_id legal_map none =
+    → idle_world_of size (written (type_record_at r) id (written (type_record_at r + 1) map image)) ≡ Some (with_type_defined id map s)
+idle_world_of-defined size image s r id map closed h within free legal_id legal_map none =
     let placed = written (type_record_at r + 1) map image in
-    world_of-id_written size placed s r id map (gate_written image (type_record_at r + 1) map (omega arith) closed) (world_of-map_written size image s r map closed h within free) within
+    idle_world_of-id_written size placed s r id map (gate_written image (type_record_at r + 1) map (omega arith) closed) (idle_world_of-map_written size image s r map closed h within free) within
     (written_other (type_record_at r + 1) map image (type_record_at r) (λ e. absurd (omega arith)) ∙ free)
     (written_there (type_record_at r + 1) map image)
     legal_id legal_map none

@@ -1,12 +1,12 @@
 -- Images, and what they stand for.
-use Rattle.std.proofs.Common.{ℕ, ◌≡◌, ◌+◌, ◌*◌, ◌^◌, true, false, [], ◌∷◌, Some, refl}
+use Rattle.std.proofs.Common.{ℕ, ◌≡◌, ◌+◌, ◌*◌, ◌^◌, true, false, [], ◌∷◌, None, Some, refl}
 use Rattle.pud_defs.specs.declared.layout.TheConstants.{DEVICE_MAGIC}
 use Rattle.pud_defs.specs.Layout.{tables_end, frames_at, device_words}
 use Rattle.pud_defs.specs.Image.{Image, written}
 use Rattle.pud_defs.specs.Entries.{gate_word, entry_word}
 use Rattle.pud_defs.specs.Types.{free_type}
 use Rattle.pud_defs.specs.Registry.{is_sound}
-use Rattle.pud_defs.specs.World.{world_of, blank_world}
+use Rattle.pud_defs.specs.World.{world_of, idle_world_of, blank_world}
 use Rattle.pud_defs.proofs.Opened.{opened}
 
 four_frames : (tables_end 4 ≡ 1568) × (frames_at 4 ≡ 34336) × (device_words 4 ≡ 42528)
@@ -135,15 +135,31 @@ uid_too_large : is_sound 42528 (written 1472 1 (written 1473 65536 blank)) ≡ f
 unfolding opened
 uid_too_large = refl
 
--- a registered log is closed: by its range, also that of a log that was never opened
+-- ---- the logs of clients
+
+-- the first client's logs are registered, and the first of them has this gate
 abbrev pub first_client : ℕ → Image
 first_client gate = written 1472 1 (written 1473 5 (written 1474 5 (written 1568 gate blank)))
 
-registered_logs : (is_sound 42528 (first_client 0) ≡ true) × (is_sound 42528 (first_client 1028) ≡ true) × (is_sound 42528 (first_client 512) ≡ false) × (is_sound 42528 (written 1472 0 (first_client 512)) ≡ true)
+-- they play no part in soundness, whatever they hold
+registered_logs : (is_sound 42528 (first_client 0) ≡ true) × (is_sound 42528 (first_client 1028) ≡ true) × (is_sound 42528 (first_client 512) ≡ true) × (is_sound 42528 (first_client (2 ^ 32)) ≡ true)
 unfolding opened
 registered_logs = (refl, refl, refl, refl)
 
-last_log_of_the_last_client : is_sound 42528 (written 1528 1 (written 33312 512 blank)) ≡ false
+open_log_is_sound : world_of 42528 (first_client 512) ≡ Some (blank_world 4 7)
+unfolding opened
+open_log_is_sound = refl
+
+-- a registered log is closed by its range, also that of a log that was never opened
+closed_logs : (idle_world_of 42528 (first_client 0) ≡ Some (blank_world 4 7)) × (idle_world_of 42528 (first_client 1028) ≡ Some (blank_world 4 7)) × (idle_world_of 42528 (written 1472 0 (first_client 512)) ≡ Some (blank_world 4 7))
+unfolding opened
+closed_logs = (refl, refl, refl)
+
+open_logs : (idle_world_of 42528 (first_client 512) ≡ None) × (idle_world_of 42528 (first_client (2 ^ 32)) ≡ None)
+unfolding opened
+open_logs = (refl, refl)
+
+last_log_of_the_last_client : idle_world_of 42528 (written 1528 1 (written 33312 512 blank)) ≡ None
 unfolding opened
 last_log_of_the_last_client = refl
 

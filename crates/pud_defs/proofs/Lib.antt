@@ -28,6 +28,8 @@ pub mod Logged
 pub mod Parts
 pub mod NoPools
 pub mod Worlds
+pub mod IdleWorlds
+pub mod Idle
 pub mod ClosedLogs
 pub mod Definitions
 pub mod Blank
@@ -47,13 +49,14 @@ pub mod ExamplesRun
 pub mod ExamplesPools
 pub mod ExamplesChecks
 pub mod ExamplesLogs
+pub mod ExamplesSettled
 pub mod ExamplesTables
 pub mod ExamplesLayout
 pub mod ExamplesIdentifiers
 pub mod ExamplesPlaces
 pub mod ExamplesGraph
 pub mod ExamplesRights
-pub mod ExamplesSettled
+pub mod ExamplesOpenLogs
 pub mod Stands
 pub mod DistinctKeys
 pub mod Contents

@@ -111,6 +111,43 @@ part_place F Spaces k (inr of) = let low = of.low in let high = of.high in recor
 pub record StandsFor (size : ℕ) (image : Image) (s : StoredWorld) : Type 0 where
   pub holds : (p : Part) → Holds p size s image
 
+-- ---- the same whatever the clients' logs hold
+
+-- an image with nothing to replay holds this world, on a device of so many words
+pub record HoldsWorld (size : ℕ) (image : Image) (s : StoredWorld) : Type 0 where
+  pub header : HasHeader size s.frames s.machine s.next_number image
+  pub types : HasTypes s.types image
+  pub pools : HasPools s.types s.frames s.next_number s.pools image
+  pub spaces : are_legal_spaces image ≡ true
+
+pub holds_standing : (size : ℕ) (image : Image) (s : StoredWorld) → StandsFor size image s → HoldsWorld size image s
+holds_standing size image s h = record { header = h.holds Header; types = h.holds Types; pools = h.holds Pools; spaces = (h.holds Spaces).spaces }
+
+-- it stands for the world where each registered log is closed besides
+pub standing_closed : (size : ℕ) (image : Image) (s : StoredWorld) → HoldsWorld size image s → are_closed_logs image s.frames ≡ true → StandsFor size image s
+standing_closed size image s h logs = record { holds = held }
+  where
+    held : (p : Part) → Holds p size s image
+    held Header = h.header
+    held Types = h.types
+    held Pools = h.pools
+    held Spaces = record { spaces = h.spaces; logs = logs }
+
+-- images that agree on all that is read beside the clients' logs
+pub HoldsWorld-same : (size : ℕ) (i j : Image) (s : StoredWorld) → HoldsWorld size i s
+    → ((k : ℕ) → (k < DAEMON_LOG) ⊎ (TYPE_TABLE ≤ k) → (k < tables_end s.frames) ⊎ (frames_at s.frames ≤ k) → k < device_words s.frames → j k ≡ i k) → HoldsWorld size j s
+HoldsWorld-same size i j s h same = record {
+  header = Holds-same Header size s i j (λ k of. let at = part_place s.frames Header k of in let high = of.high in same k at.beside (inl (omega arith)) at.before) h.header;
+  types = Holds-same Types size s i j (λ k of. let at = part_place s.frames Types k of in let high = of.high in same k at.beside (inl (omega arith)) at.before) h.types;
+  pools = Holds-same Pools size s i j (λ k of. let at = part_place s.frames Pools k of in same k at.beside (apart k of) at.before) h.pools;
+  spaces = are_legal_spaces-same j i (λ k low high. same k (inr (omega arith)) (inl (omega arith)) (omega arith)) ∙ h.spaces;
+}
+  where
+    apart : (k : ℕ) → IsReadBy s.frames Pools k → (k < tables_end s.frames) ⊎ (frames_at s.frames ≤ k)
+    apart k (inl of) = let high = of.high in inl (omega arith)
+    apart k (inr (inl of)) = inl of.high
+    apart k (inr (inr of)) = inr of.low
+
 -- ---- images that agree
 
 -- on all that is read

@@ -1,5 +1,5 @@
 -- What replay makes of an image: which words stay, in which order, and once more.
-use Rattle.std.proofs.Common.{◌≡◌, ◌⊎◌, inl, inr, ℕ, ◌+◌, ◌-◌, ◌<◌, ◌≤◌, true, false, ◌&&◌, ltb, leb, eqb, List, [], ◌∷◌, ◌++◌, length, Option, Some, None, refl, sym, ap, ap₂, ◌∙◌, arith, ne_eqb}
+use Rattle.std.proofs.Common.{◌≡◌, ◌⊎◌, inl, inr, ℕ, ◌+◌, ◌-◌, ◌<◌, ◌≤◌, true, false, ◌&&◌, cond, ltb, leb, eqb, List, [], ◌∷◌, ◌++◌, length, Option, Some, None, refl, sym, ap, ap₂, ◌∙◌, arith, ne_eqb}
 use Rattle.std.specs.Prelude.{slice_get, unwrap_or}
 use Rattle.std.specs.Option.{option_or}
 use Rattle.std.proofs.lemmas.Bool.{leb-true, eqb-true, ltb-true, le-leb, lt-leb, lt-ltb, and_from, and_parts, and_left, and_right, cond-true, cond-false, cases_Bool}
@@ -9,7 +9,7 @@ use Rattle.pud_defs.specs.declared.log_words.TheConstants.{UNDO_ORDER, REDO_ORDE
 use Rattle.pud_defs.specs.Image.{Image}
 use Rattle.pud_defs.specs.declared.layout.TheConstants.{LOG_WORDS, LOG_HEADER_WORDS}
 use Rattle.pud_defs.specs.Entries.{Entry, Log, log_of, gate_lo, gate_hi, gate_used, is_legal_gate, is_idle_gate, entries_of, words_from}
-use Rattle.pud_defs.specs.Replay.{Place, device_word, is_in_range, value_at, given_by, undone, redone, given, entries_or_none, new_value, over, overwritten, replayed, IsInLog, is_in_log, settled_by, beside_log}
+use Rattle.pud_defs.specs.Replay.{Place, device_word, is_in_range, value_at, value_in, given_by, undone, redone, given, entries_or_none, new_value, over, overwritten, replayed, IsInLog, is_in_log, settled_by, beside_log}
 use Rattle.pud_defs.proofs.Entries.{words_from-none, entries_of-is, entries_in-nothing}
 
 -- ---- words written over an image
@@ -112,7 +112,7 @@ nothing_between lo hi seq closed = elim (leb_tells hi seq) [
   | inr below ↦ grind (arith, nat_tests)
 ]
 
-closed_range : (log : Log) (e : Entry) → log.hi ≤ log.lo + 1 → is_in_range log e ≡ false
+pub closed_range : (log : Log) (e : Entry) → log.hi ≤ log.lo + 1 → is_in_range log e ≡ false
 closed_range log e closed = nothing_between log.lo log.hi e.seq closed
 
 -- an entry that does not count gives nothing
@@ -144,7 +144,26 @@ unfolding new_value
 new_value-closed place log w closed =
     ap₂ option_or (redone-closed place log (entries_or_none log.entries) w closed) (undone-closed place log (entries_or_none log.entries) w closed)
 
--- so its replay changes nothing
+-- nor does one whose entries do not name the word
+given_by-nowhere : (place : Place) (log : Log) (order : ℕ) (e : Entry) (w : ℕ) → value_in place e w ≡ None → given_by place log order e w ≡ None
+given_by-nowhere place log order e w none = elim (is_in_range log e && eqb e.order order) as (λ b. cond b (value_in place e w) None ≡ None) [ true ↦ none | false ↦ refl ]
+
+undone-nowhere : (place : Place) (log : Log) (es : List Entry) (w : ℕ) → ((e : Entry) → value_in place e w ≡ None) → undone place log es w ≡ None
+unfolding undone
+undone-nowhere place log [] w none = refl
+undone-nowhere place log (e ∷ es) w none = ap₂ option_or (given_by-nowhere place log UNDO_ORDER e w (none e)) (undone-nowhere place log es w none)
+
+redone-nowhere : (place : Place) (log : Log) (es : List Entry) (w : ℕ) → ((e : Entry) → value_in place e w ≡ None) → redone place log es w ≡ None
+unfolding redone
+redone-nowhere place log [] w none = refl
+redone-nowhere place log (e ∷ es) w none = ap₂ option_or (redone-nowhere place log es w none) (given_by-nowhere place log REDO_ORDER e w (none e))
+
+pub new_value-nowhere : (place : Place) (log : Log) (w : ℕ) → ((e : Entry) → value_in place e w ≡ None) → new_value place log w ≡ None
+unfolding new_value
+new_value-nowhere place log w none =
+    ap₂ option_or (redone-nowhere place log (entries_or_none log.entries) w none) (undone-nowhere place log (entries_or_none log.entries) w none)
+
+-- the replay of a closed one changes nothing
 pub replayed-none : (place : Place) (log : Log) (image : Image) → log.hi ≤ log.lo + 1 → replayed place log image ≡ image
 replayed-none place log image closed = overwritten-nothing (new_value place log) image (λ w. new_value-closed place log w closed)
 

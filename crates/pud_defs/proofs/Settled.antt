@@ -1,19 +1,22 @@
 -- The image that a start leaves: what one log gives, what they give in turn, and one log beside the others.
-use Rattle.std.proofs.Common.{◌≡◌, ◌⊎◌, inl, inr, ℕ, zero, suc, ◌+◌, ◌*◌, ◌/◌, ◌%◌, ◌<◌, ◌≤◌, Bool, true, false, cond, eqb, Option, Some, None, refl, sym, ap, ap₂, ◌∙◌, arith, eq-eqb, ne_eqb}
+use Rattle.std.proofs.Common.{◌≡◌, inl, inr, ℕ, zero, suc, ◌+◌, ◌<◌, ◌≤◌, Bool, true, false, cond, eqb, leb, ltb, List, Option, Some, None, option_map, refl, sym, ap, ap₂, ◌∙◌, arith, eq-eqb, ne_eqb}
 use Rattle.std.specs.Prelude.{unwrap_or}
 use Rattle.std.specs.Option.{option_or}
-use Rattle.std.proofs.lemmas.Bool.{cases_eq, cond-true, cond-false}
-use Rattle.pud_defs.specs.declared.layout.TheConstants.{CLIENTS, CLIENT_LOGS, LOG_WORDS}
+use Rattle.std.proofs.lemmas.Bool.{cases_eq, cond-true, cond-false, and_left, lt-leb}
 use Rattle.pud_defs.specs.Image.{Image}
-use Rattle.pud_defs.specs.Entries.{Log, log_of}
-use Rattle.pud_defs.specs.Replay.{over, overwritten, new_value}
+use Rattle.pud_defs.specs.Layout.{tables_end, frames_at}
+use Rattle.pud_defs.specs.Frames.{frame_at}
+use Rattle.pud_defs.specs.Places.{located}
+use Rattle.pud_defs.specs.Entries.{Entry, Log, log_of}
+use Rattle.pud_defs.specs.Replay.{overwritten, value_from, value_in, new_value}
 use Rattle.pud_defs.specs.Spaces.{Owner, owner_of}
 use Rattle.pud_defs.specs.Tables.{Tables, tables_of}
 use Rattle.pud_defs.specs.Allowed.{puddle_word, is_allowed_log}
 use Rattle.pud_defs.specs.Settled.{gives_to, ALL_LOGS, client_of_log, log_number_at, given_by_log, given_in_turn, is_in_logs, beside_logs, settled_over, AreDisjoint, given_but, given_by_others, alone, IsApart, IsBeside}
 use Rattle.pud_defs.proofs.Keyed.{or_none}
 use Rattle.pud_defs.proofs.Spaces.{log_of-within}
-use Rattle.pud_defs.proofs.Replay.{new_value-closed, overwritten-nothing}
+use Rattle.pud_defs.proofs.Replay.{value_at-apart, new_value-closed, new_value-nowhere, overwritten-nothing}
+use Rattle.pud_defs.proofs.Held.{frames_are}
 
 -- ---- what one log gives
 
@@ -31,6 +34,21 @@ gives_to-closed t (Some who) log w closed = gives_nothing (is_allowed_log t who 
 pub gives_to-refused : (t : Tables) (who : Owner) (log : Log) (w : ℕ) → is_allowed_log t who log ≡ false → gives_to t (Some who) log w ≡ None
 unfolding gives_to
 gives_to-refused t who log w refused = cond-false (is_allowed_log t who log) _ None refused
+
+-- nor is a word in front of the frames given
+place_beyond : (t : Tables) (o : Option (ℕ × ℕ)) (vals : List ℕ) (w : ℕ) → w < frames_at t.frames → value_from (option_map (λ at. frame_at t.frames at.0 + at.1) o) vals w ≡ None
+place_beyond t None vals w below = refl
+place_beyond t (Some at) vals w below = value_at-apart (frame_at t.frames at.0 + at.1) w vals (inl (omega arith))
+
+value_in-below : (t : Tables) (e : Entry) (w : ℕ) → w < frames_at t.frames → value_in (puddle_word t) e w ≡ None
+unfolding puddle_word
+value_in-below t e w below = place_beyond t (located t e.address) e.vals w below
+
+pub gives_to-below : (t : Tables) (who : Option Owner) (log : Log) (w : ℕ) → w < frames_at t.frames → gives_to t who log w ≡ None
+unfolding gives_to
+gives_to-below t None log w below = refl
+gives_to-below t (Some who) log w below =
+    gives_nothing (is_allowed_log t who log) (new_value (puddle_word t) log w) (new_value-nowhere (puddle_word t) log w (λ e. value_in-below t e w below))
 
 -- ---- what they give in turn
 
@@ -101,6 +119,12 @@ pub settled_over-own : (F : ℕ) (image : Image) (w : ℕ) → is_in_logs F w �
 unfolding settled_over
 settled_over-own F image w outside none =
     cond-false (is_in_logs F w) 0 _ outside ∙ ap (λ o. unwrap_or o (image w)) (given_in_turn-none (given_by_log F image) 0 ALL_LOGS w (λ j low high. none j (omega arith)))
+
+-- a word in front of the clients' logs keeps its value, whatever they are
+pub settled_over-below : (F : ℕ) (image : Image) (w : ℕ) → w < tables_end F → settled_over F image w ≡ image w
+settled_over-below F image w below =
+    settled_over-own F image w (and_left (leb (tables_end F) w) (ltb w (frames_at F)) (lt-leb (tables_end F) w below))
+    (λ number known. gives_to-below (tables_of F image) (owner_of image (client_of_log number)) (log_of image (log_number_at F number)) w (omega (arith, frames_are F image)))
 
 -- ---- one log and the others
 

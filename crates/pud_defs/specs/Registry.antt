@@ -43,11 +43,15 @@ has_legal_spaces image = are_legal_spaces image
 abbrev pub has_closed_logs : Image → Bool
 has_closed_logs image = are_closed_logs image (frames_of image)
 
--- what an image with nothing to replay holds is a sound registry, on a device of so many words
+-- what an image with nothing to replay holds is a sound registry, on a device of so many words: the clients' logs play no part
 unfoldable pub is_registry : ℕ → Image → Bool
 is_registry size image =
     has_magic image && has_version image && has_room size image && has_legal_number image && has_legal_types image
-    && has_sound_tables image && has_legal_spaces image && has_closed_logs image
+    && has_sound_tables image && has_legal_spaces image
+
+-- the same, where each registered log is closed besides
+unfoldable pub is_idle_registry : ℕ → Image → Bool
+is_idle_registry size image = is_registry size image && has_closed_logs image
 
 -- so many words from a word on lie wholly where the daemon log may write: the next number, the tables from that of the types on, the frames
 abbrev pub may_be_logged : ℕ → ℕ → ℕ → Bool

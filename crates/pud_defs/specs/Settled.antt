@@ -1,10 +1,10 @@
 -- The image that a start leaves: the daemon log replayed, and then each log of a registered client that is allowed.
 use Rattle.std.specs.Prelude.{◌≡◌, ◌≢◌, ◌⊎◌, ℕ, zero, suc, ◌+◌, ◌*◌, ◌/◌, ◌%◌, ◌<◌, Bool, ◌&&◌, nat_le, nat_lt, ◌==◌, cond, Option, Some, None}
-use Rattle.pud_defs.specs.declared.layout.TheConstants.{DAEMON_LOG, CLIENTS, CLIENT_LOGS, LOG_WORDS}
+use Rattle.pud_defs.specs.declared.layout.TheConstants.{DAEMON_LOG, CLIENTS, CLIENT_LOGS}
 use Rattle.pud_defs.specs.Image.{Image}
 use Rattle.pud_defs.specs.Layout.{tables_end, log_at, frames_at}
 use Rattle.pud_defs.specs.Entries.{Log, log_of}
-use Rattle.pud_defs.specs.Replay.{new_value, over, overwritten, replayed, settled_by, IsInLog}
+use Rattle.pud_defs.specs.Replay.{new_value, over, overwritten, settled_by, IsInLog}
 use Rattle.pud_defs.specs.Spaces.{Owner, owner_of}
 use Rattle.pud_defs.specs.Tables.{Tables, tables_of}
 use Rattle.pud_defs.specs.Allowed.{puddle_word, is_allowed_log, is_refused, is_accepted}

@@ -8,7 +8,8 @@ use Rattle.pud_defs.specs.Types.{types_of}
 use Rattle.pud_defs.specs.Holdings.{holding_in}
 use Rattle.pud_defs.specs.Tables.{Pool, tables_of, pools_of}
 use Rattle.pud_defs.specs.Spaces.{Owner}
-use Rattle.pud_defs.specs.Registry.{frames_of, has_legal_log, is_registry}
+use Rattle.pud_defs.specs.Settled.{settled}
+use Rattle.pud_defs.specs.Registry.{frames_of, has_legal_log, is_registry, is_idle_registry}
 
 -- What a device stands for: its number of frames, its machine id, the next UUID number, the map of each defined type by
 -- ascending ids, and the pools by ascending names.
@@ -37,9 +38,17 @@ stored_by image = record {
 unfoldable pub registry_world : ℕ → Image → Option StoredWorld
 registry_world size image = cond (is_registry size image) (Some (stored_by image)) None
 
--- what the image of a device of so many words stands for, once the daemon log is replayed
+-- what the image of a device of so many words stands for: what a start leaves of it, with the daemon log replayed and then each allowed log
 unfoldable pub world_of : ℕ → Image → Option StoredWorld
-world_of size image = cond (has_legal_log image) (registry_world size (settled_by DAEMON_LOG image)) None
+world_of size image = cond (has_legal_log image) (registry_world size (settled (frames_of image) image)) None
+
+-- what an image with nothing to replay stands for in which each registered log is closed
+unfoldable pub idle_registry : ℕ → Image → Option StoredWorld
+idle_registry size image = cond (is_idle_registry size image) (Some (stored_by image)) None
+
+-- what an image stands for in which each registered log is closed: behind the daemon log nothing else is to be replayed
+unfoldable pub idle_world_of : ℕ → Image → Option StoredWorld
+idle_world_of size image = cond (has_legal_log image) (idle_registry size (settled_by DAEMON_LOG image)) None
 
 -- the stored world; the clients that are present, by their numbers, and as whom each acts; and the shelf: which files
 -- there are, by the bytes of their names, and what they hold

@@ -1,14 +1,17 @@
 //! Laws of the image that a start leaves: what clients' logs give to it. Each function here does nothing; its contract is the
 //! law.
 
-ghost use Rattle.std.specs.Prelude.{◌≡◌, ◌+◌, ◌<◌, ◌≤◌, ℕ, false, Option};
+ghost use Rattle.std.specs.Prelude.{◌≡◌, ◌↔◌, ◌+◌, ◌<◌, ◌≤◌, ℕ, false, Option};
+ghost use Rattle.pud_defs.specs.declared.layout.TheConstants.{DAEMON_LOG, CLIENTS};
 ghost use Rattle.pud_defs.specs.Image.{Image};
 ghost use Rattle.pud_defs.specs.Entries.{Log};
-ghost use Rattle.pud_defs.specs.Replay.{overwritten};
-ghost use Rattle.pud_defs.specs.Spaces.{Owner};
+ghost use Rattle.pud_defs.specs.Replay.{overwritten, settled_by};
+ghost use Rattle.pud_defs.specs.Spaces.{Owner, owner_of};
 ghost use Rattle.pud_defs.specs.Tables.{Tables};
 ghost use Rattle.pud_defs.specs.Allowed.{is_allowed_log};
-ghost use Rattle.pud_defs.specs.Settled.{gives_to, ALL_LOGS, given_by_log, given_by_others, alone, is_in_logs, beside_logs, settled_over, AreDisjoint, IsApart, IsBeside};
+ghost use Rattle.pud_defs.specs.Settled.{gives_to, ALL_LOGS, given_by_log, given_by_others, alone, is_in_logs, beside_logs, settled_over, is_refused_log, AreDisjoint, IsApart, IsBeside};
+ghost use Rattle.pud_defs.specs.Registry.{frames_of, is_sound};
+ghost use Rattle.pud_defs.specs.World.{StoredWorld, world_of, idle_world_of};
 
 /// A closed log settles nothing: where no entry can be in its range it gives no word a value.
 pub fn closed_log_gives_nothing()
@@ -42,4 +45,26 @@ pub fn one_log_settles_beside_the_others()
 /// one.
 pub fn images_beside_one_log_have_the_same_from_the_others()
     ensures { (F : ℕ) (number : ℕ) (i : Image) (j : Image) → IsBeside F number i j → given_by_others F j number ≡ given_by_others F i number }
+{}
+
+/// A device has no world exactly where it is not sound: what the clients' logs hold plays no part in it.
+pub fn device_has_no_world_exactly_where_it_is_not_sound()
+    ensures { (size : ℕ) (image : Image) → (world_of size image ≡ Option.None) ↔ (is_sound size image ≡ false) }
+{}
+
+/// What a device stands for on which each registered log is closed is what a start leaves of it.
+pub fn idle_device_stands_for_what_a_start_leaves()
+    ensures { (size : ℕ) (image : Image) (s : StoredWorld) → idle_world_of size image ≡ Option.Some s → world_of size image ≡ Option.Some s }
+{}
+
+/// A device on which no log is registered is idle.
+pub fn device_without_registered_logs_is_idle()
+    ensures { (size : ℕ) (image : Image) (s : StoredWorld) → world_of size image ≡ Option.Some s
+        → ((client : ℕ) → client < CLIENTS → owner_of (settled_by DAEMON_LOG image) client ≡ Option.None) → idle_world_of size image ≡ Option.Some s }
+{}
+
+/// A start on an idle device refuses no log.
+pub fn no_log_of_an_idle_device_is_refused()
+    ensures { (size : ℕ) (image : Image) (s : StoredWorld) → idle_world_of size image ≡ Option.Some s → (number : ℕ) → number < ALL_LOGS
+        → is_refused_log (frames_of image) (settled_by DAEMON_LOG image) number ≡ false }
 {}

@@ -42,7 +42,7 @@ pub enum Mark {
 }
 
 /// How many logs there are.
-const LOGS: usize = (CLIENTS * CLIENT_LOGS) as usize;
+pub(crate) const LOGS: usize = (CLIENTS * CLIENT_LOGS) as usize;
 
 /// As whom a client's logs act, by the words of their record. On a device that is not sound they may have any value.
 #[derive(Clone, Copy)]

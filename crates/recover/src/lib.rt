@@ -5,5 +5,6 @@
 #![tactic(auto)]
 
 mod judge;
+mod turn;
 
 pub use judge::Mark;

@@ -9,7 +9,7 @@ use Rattle.pm_model.specs.declared.host.HostFault.{HostFault}
 use Rattle.pm_model.specs.declared.host.HostFault.TheVariants.{Cut}
 use Rattle.pm_model.specs.Words.{reads, HasOnly, IsRested}
 use Rattle.pm_model.specs.Moments.{State}
-use Rattle.pm_model.specs.Changes.{Leaves, Silently}
+use Rattle.pm_model.specs.Changes.{Changes, Leaves, Silently}
 use Rattle.pm_model.proofs.Words.{HasOnly-own, HasOnly-newest, reads_only}
 use Rattle.pm_model.proofs.Changes.{Changes-said, Changes-still, Changes-then, HasOnly-kept}
 use Rattle.pm_model.proofs.Leaves.{Leaves-weaker, Leaves-still, Leaves-now}
@@ -20,17 +20,19 @@ use Rattle.pud_defs.specs.Layout.{device_words}
 use Rattle.pud_defs.specs.Entries.{Entry, log_of, is_idle_gate}
 use Rattle.pud_defs.specs.Replay.{device_word, new_value, is_in_log, settled_by}
 use Rattle.pud_defs.specs.Registry.{frames_of, is_allowed, are_allowed, has_legal_log, is_sound}
-use Rattle.pud_defs.specs.World.{StoredWorld, stored_by, registry_world, world_of}
+use Rattle.pud_defs.specs.Settled.{settled}
+use Rattle.pud_defs.specs.World.{StoredWorld, stored_by, world_of, idle_world_of}
 use Rattle.pud_defs.proofs.Replay.{outside_log, settled_by-inside, settled_by-outside, settled_by-idle}
 use Rattle.pud_defs.proofs.Logged.{legal_entries, allowed_in_range, has_legal_log-of, new_value-unlogged}
-use Rattle.pud_defs.proofs.Parts.Part.{Header}
-use Rattle.pud_defs.proofs.Worlds.{standing_of_world, legal_log_of_world, legal_log_idle, frames_of_world, world_of_legal, world_of-sound}
+use Rattle.pud_defs.proofs.Worlds.{settled-below, legal_log_of_world, holding_of_world, frames_of_world, world_of-settled, world_of-sound}
+use Rattle.pud_defs.proofs.IdleWorlds.{legal_log_idle, legal_log_of_idle_world, idle_world_of-settled}
 use Rattle.log_replay.specs.declared.Target.TheVariants as targets
-use Rattle.log_replay.specs.Replaying.{IsReplayable, HasDurableLog, ByLog, SettlesSame, SettlesLog}
+use Rattle.log_replay.specs.Replaying.{Anything, IsReplayable, HasDurableLog, ByLog, SettlesSame, SettlesLog}
 use Rattle.log_replay.proofs.Closing.{gate_apart}
+use Rattle.batch.specs.Batches.{HasIdleGate}
 use Rattle.batch.specs.Worlds.{IsSettled}
 use Rattle.batch.proofs.Worlds.{names_apart}
-use Rattle.registry.specs.Registry.{AppliesLog}
+use Rattle.registry.specs.Registry.{StillStands, AppliesLog}
 
 -- ---- a sound device: its daemon log may be replayed
 
@@ -41,7 +43,7 @@ module _ (size : ℕ) (s : StoredWorld) (image : Image) (world : world_of size i
   frames_fit : device_words (frames_of image) ≤ size
   frames_fit =
       let frames : frames_of image ≡ s.frames = frames_of_world size image s world in
-      let room = ((standing_of_world size image s world).holds Header).room in
+      let room = (holding_of_world size image s world).header.room in
       omega arith
 
   entries : List Entry
@@ -73,7 +75,7 @@ pub settles_sound : (size : ℕ) (fault : Option HostFault) (a b c : State) → 
 settles_sound size fault a b c same sound settles =
     let image = reads b.now.words in
     let world = world_of-sound size image (ap (λ (x : State). is_sound size (reads x.now.words)) same ∙ sound) in
-    let s = stored_by (settled_by DAEMON_LOG image) in
+    let s = stored_by (settled (frames_of image) image) in
     subst (λ (x : State). SettlesLog targets.Words DAEMON_LOG fault x c) same (settles (entries size s image world) (replayable size s image world))
 
 -- nothing was done, since a read failed
@@ -106,11 +108,15 @@ reads_settled a b settles w out = settles.reads_so refl w (gate_apart DAEMON_LOG
 gate_closed : (a b : State) → SettlesLog targets.Words DAEMON_LOG None a b → is_idle_gate (reads b.now.words DAEMON_LOG) ≡ true
 gate_closed a b settles = ap is_idle_gate (HasOnly-newest (b.now.words DAEMON_LOG) CLOSED_GATE (settles.closed refl))
 
-settled_then : (a b : State) → SettlesLog targets.Words DAEMON_LOG None a b → (w : ℕ) → settled_by DAEMON_LOG (reads b.now.words) w ≡ settled_by DAEMON_LOG (reads a.now.words) w
-settled_then a b settles w = elim (cases_Bool (is_in_log DAEMON_LOG w)) [
+settled_word : (a b : State) → SettlesLog targets.Words DAEMON_LOG None a b → (w : ℕ) → settled_by DAEMON_LOG (reads b.now.words) w ≡ settled_by DAEMON_LOG (reads a.now.words) w
+settled_word a b settles w = elim (cases_Bool (is_in_log DAEMON_LOG w)) [
   | inl inside ↦ settled_by-inside DAEMON_LOG (reads b.now.words) w inside ∙ sym (settled_by-inside DAEMON_LOG (reads a.now.words) w inside)
   | inr out ↦ settled_by-idle DAEMON_LOG (reads b.now.words) w (gate_closed a b settles) out ∙ reads_settled a b settles w out
 ]
+
+-- with the log replayed it reads as it did
+pub settled_then : (a b : State) → SettlesLog targets.Words DAEMON_LOG None a b → settled_by DAEMON_LOG (reads b.now.words) ≡ settled_by DAEMON_LOG (reads a.now.words)
+settled_then a b settles = λ i w. settled_word a b settles w i
 
 -- it stands for what it stood for
 stands_then : (size : ℕ) (a b : State) (o : Option StoredWorld) → world_of size (reads a.now.words) ≡ o → (o ≡ None → ⊥) → SettlesLog targets.Words DAEMON_LOG None a b
@@ -119,9 +125,7 @@ stands_then size a b None none sound settles = absurd (sound refl)
 stands_then size a b (Some s) world sound settles =
     let before = reads a.now.words in
     let now = reads b.now.words in
-    world_of_legal size now (legal_log_idle now (gate_closed a b settles))
-    ∙ ap (registry_world size) (λ i w. settled_then a b settles w i)
-    ∙ sym (world_of_legal size before (legal_log_of_world size before s world))
+    world_of-settled size before now (legal_log_of_world size before s world) (legal_log_idle now (gate_closed a b settles)) (settled_then a b settles)
 
 -- also where it was only read behind that
 pub stands_read : (size : ℕ) (a b c : State) → (world_of size (reads a.now.words) ≡ None → ⊥) → SettlesLog targets.Words DAEMON_LOG None a b → c ≡ b → world_of size (reads c.now.words) ≡ world_of size (reads a.now.words)
@@ -131,7 +135,10 @@ stands_read size a b c sound settles same =
 -- so its machine id is that of the world
 pub machine_then : (size : ℕ) (s : StoredWorld) (a b : State) → world_of size (reads a.now.words) ≡ Some s → SettlesLog targets.Words DAEMON_LOG None a b → reads b.now.words MACHINE_WORD ≡ s.machine
 machine_then size s a b world settles =
-    reads_settled a b settles MACHINE_WORD (outside_log DAEMON_LOG MACHINE_WORD (inl (omega arith))) ∙ ((standing_of_world size (reads a.now.words) s world).holds Header).machine
+    let image = reads a.now.words in
+    reads_settled a b settles MACHINE_WORD (outside_log DAEMON_LOG MACHINE_WORD (inl (omega arith)))
+    ∙ sym (settled-below (frames_of image) image MACHINE_WORD (omega arith))
+    ∙ (holding_of_world size image s world).header.machine
 
 -- ---- on a rested device, what is left at each moment
 
@@ -140,7 +147,7 @@ module _ (size : ℕ) (s : StoredWorld) (a : State) (rested : IsRested a.now.wor
   durable_log = record { gate = rested.each DAEMON_LOG; counted = λ k low high. rested.each k; table = λ k placing. absurd placing }
 
   -- an image whose log is as it was, or closed, and that settles the same stands for the same world
-  stands_still : (image : Image) → SettlesSame a.now.words DAEMON_LOG (log_of (reads a.now.words) DAEMON_LOG) image → world_of size image ≡ Some s
+  stands_still : (image : Image) → SettlesSame a.now.words DAEMON_LOG (log_of (reads a.now.words) DAEMON_LOG) image → StillStands size s (reads a.now.words) image
   stands_still image p =
       let i = reads a.now.words in
       let log = log_of i DAEMON_LOG in
@@ -152,10 +159,8 @@ module _ (size : ℕ) (s : StoredWorld) (a : State) (rested : IsRested a.now.wor
         | inl same ↦ has_legal_log-of image (frames_of i) log frames same (ap (are_allowed (frames_of i) log) (spelled size s i world) ∙ allowed size s i world)
         | inr closed ↦ legal_log_idle image closed
       ] in
-      world_of_legal size image legal_now
-      ∙ ap (registry_world size) (p.same ∙ ap (settled_by DAEMON_LOG) before)
-      ∙ sym (world_of_legal size i legal_log)
-      ∙ world
+      let same : settled_by DAEMON_LOG image ≡ settled_by DAEMON_LOG i = p.same ∙ ap (settled_by DAEMON_LOG) before in
+      record { settled = same; stands = world_of-settled size i image legal_log legal_now same ∙ world }
 
   one_value : (b : State) → SettlesLog targets.Words DAEMON_LOG None a b → (k : ℕ) (o : Option ℕ) → new_value device_word (log_of (reads a.now.words) DAEMON_LOG) k ≡ o → (k ≡ DAEMON_LOG → ⊥) → HasOnly (b.now.words k) (reads b.now.words k)
   one_value b settles k (Some v) named other = HasOnly-own (b.now.words k) v (settles.durable refl k v named)
@@ -179,15 +184,10 @@ module _ (size : ℕ) (s : StoredWorld) (a : State) (rested : IsRested a.now.wor
   AppliesLog-settles : (fault : Option HostFault) (b : State) → SettlesLog targets.Words DAEMON_LOG fault a b
       → Leaves (Silently (SettlesSame a.now.words DAEMON_LOG (log_of (reads a.now.words) DAEMON_LOG))) a b → AppliesLog size s fault a b
   AppliesLog-settles fault b settles left =
-      let moments = Leaves-weaker (Silently (SettlesSame a.now.words DAEMON_LOG (log_of (reads a.now.words) DAEMON_LOG))) (Silently (λ image. world_of size image ≡ Some s)) a b
-      (λ bytes image p. (p.0, stands_still image p.1)) left in
-      let said = Changes-said (ByLog DAEMON_LOG (new_value device_word (log_of (reads a.now.words) DAEMON_LOG))) fault a b settles.changes in
       record {
-        moments = moments;
-        settled = λ none. record {
-          stands = λ image picked. (Leaves-now (Silently (λ i. world_of size i ≡ Some s)) [] a b (said ∙ sym (append-nil a.now.said)) moments image picked).1;
-          idle = λ v has. ap is_idle_gate ((settles.closed none).each v has);
-        };
+        moments = Leaves-weaker (Silently (SettlesSame a.now.words DAEMON_LOG (log_of (reads a.now.words) DAEMON_LOG))) (Silently (StillStands size s (reads a.now.words))) a b
+            (λ bytes image p. (p.0, stands_still image p.1)) left;
+        idle = λ none. record { each = λ v has. ap is_idle_gate ((settles.closed none).each v has) };
         rested = λ none. rested_then b (subst (λ (f : Option HostFault). SettlesLog targets.Words DAEMON_LOG f a b) none settles);
       }
 
@@ -211,8 +211,8 @@ AppliesLog-sound size s fault a b c same rested world settles left =
 pub AppliesLog-kept : (size : ℕ) (s : StoredWorld) (fault : Option HostFault) (a b c : State) → AppliesLog size s None a b → c ≡ b → AppliesLog size s fault a c
 AppliesLog-kept size s fault a b c applied same =
     record {
-      moments = subst (λ (x : State). Leaves (Silently (λ image. world_of size image ≡ Some s)) a x) (sym same) applied.moments;
-      settled = λ none. subst (λ (x : State). IsSettled size s x.now.words) (sym same) (applied.settled refl);
+      moments = subst (λ (x : State). Leaves (Silently (StillStands size s (reads a.now.words))) a x) (sym same) applied.moments;
+      idle = λ none. subst (λ (x : State). HasIdleGate DAEMON_LOG x.now.words) (sym same) (applied.idle refl);
       rested = λ none. subst (λ (x : State). IsRested x.now.words) (sym same) (applied.rested refl);
     }
 
@@ -220,8 +220,23 @@ AppliesLog-kept size s fault a b c applied same =
 pub AppliesLog-failed : (size : ℕ) (s : StoredWorld) (fault : HostFault) (a b : State) → IsRested a.now.words → world_of size (reads a.now.words) ≡ Some s → b ≡ a → AppliesLog size s (Some fault) a b
 AppliesLog-failed size s fault a b rested world same =
     record {
-      moments = Leaves-still (Silently (λ image. world_of size image ≡ Some s)) a b
-          (λ image picked. (refl, ap (world_of size) (reads_only a.now.words image rested picked) ∙ world)) same;
-      settled = λ none. absurd (let it : None ≡ Some fault = sym none in cc);
+      moments = Leaves-still (Silently (StillStands size s (reads a.now.words))) a b
+          (λ image picked.
+          let is = reads_only a.now.words image rested picked in
+          (refl, record { settled = ap (settled_by DAEMON_LOG) is; stands = ap (world_of size) is ∙ world })) same;
+      idle = λ none. absurd (let it : None ≡ Some fault = sym none in cc);
       rested = λ none. absurd (let it : None ≡ Some fault = sym none in cc);
+    }
+
+-- ---- where each registered log is closed
+
+-- the device is settled then
+pub IsSettled-applied : (size : ℕ) (s : StoredWorld) (a b : State) → Changes Anything None a b → idle_world_of size (reads a.now.words) ≡ Some s → AppliesLog size s None a b → IsSettled size s b.now.words
+IsSettled-applied size s a b changes world applied =
+    let before = reads a.now.words in
+    record {
+      stands = λ image picked.
+          let still = (Leaves-now (Silently (StillStands size s before)) [] a b (Changes-said Anything None a b changes ∙ sym (append-nil a.now.said)) applied.moments image picked).1 in
+          idle_world_of-settled size before image (legal_log_of_idle_world size before s world) (legal_log_of_world size image s still.stands) still.settled ∙ world;
+      idle = (applied.idle refl).each;
     }

@@ -16,11 +16,11 @@ use Rattle.pud_defs.specs.Layout.{IsWithin, frames_at, device_words}
 use Rattle.pud_defs.specs.Frames.{frame_at, fresh_frame, IsFreshFrame}
 use Rattle.pud_defs.specs.Entries.{is_idle_gate}
 use Rattle.pud_defs.specs.Replay.{is_in_log, beside_log, settled_by}
-use Rattle.pud_defs.specs.World.{StoredWorld, world_of}
+use Rattle.pud_defs.specs.World.{StoredWorld, idle_world_of}
 use Rattle.pud_defs.proofs.Replay.{outside_log, settled_by-beside}
 use Rattle.pud_defs.specs.Tables.{Tables, tables_of}
 use Rattle.pud_defs.proofs.Parts.{standing_filled}
-use Rattle.pud_defs.proofs.Worlds.{registry_world_standing, world_of-idle, standing_idle}
+use Rattle.pud_defs.proofs.IdleWorlds.{idle_registry_standing, idle_world_of-beside, standing_idle}
 use Rattle.batch.specs.Batches.{HasIdleGate, IsBatched}
 use Rattle.batch.specs.Worlds.{IsSettled}
 use Rattle.batch.specs.Tables.{HasDurableTables}
@@ -31,12 +31,12 @@ use Rattle.registry.proofs.PutBatches.{puts_write-none}
 use Rattle.registry.proofs.Moved.{settled_tables, settled_frames}
 
 -- images that agree but in the frame of no puddle stand for the same
-pub world_beside_frame : (size : ℕ) (s : StoredWorld) (frame : ℕ) (i j : Image) → is_idle_gate (i DAEMON_LOG) ≡ true → world_of size i ≡ Some s → (tables_of s.frames (beside_log DAEMON_LOG i)).puddles frame ≡ None
-    → ((k : ℕ) → (IsWithin (frame_at s.frames frame) (frame_at s.frames (frame + 1)) k → ⊥) → j k ≡ i k) → world_of size j ≡ Some s
+pub world_beside_frame : (size : ℕ) (s : StoredWorld) (frame : ℕ) (i j : Image) → is_idle_gate (i DAEMON_LOG) ≡ true → idle_world_of size i ≡ Some s → (tables_of s.frames (beside_log DAEMON_LOG i)).puddles frame ≡ None
+    → ((k : ℕ) → (IsWithin (frame_at s.frames frame) (frame_at s.frames (frame + 1)) k → ⊥) → j k ≡ i k) → idle_world_of size j ≡ Some s
 world_beside_frame size s frame i j idle stands free same =
     let before : (k : ℕ) → k < frames_at s.frames → j k ≡ i k = λ k below. same k (λ of. let low = of.low in absurd (omega arith)) in
-    world_of-idle size j (ap is_idle_gate (before DAEMON_LOG (omega arith)) ∙ idle)
-    ∙ registry_world_standing size (beside_log DAEMON_LOG j) s
+    idle_world_of-beside size j (ap is_idle_gate (before DAEMON_LOG (omega arith)) ∙ idle)
+    ∙ idle_registry_standing size (beside_log DAEMON_LOG j) s
     (standing_filled size frame (beside_log DAEMON_LOG i) (beside_log DAEMON_LOG j) s (standing_idle size i s idle stands) free (λ k outside below. ap (cond (is_in_log DAEMON_LOG k) 0) (before k below))
     (λ other below apart. record {
       each = λ k high. ap (cond (is_in_log DAEMON_LOG (frame_at s.frames other + k)) 0)
@@ -93,7 +93,7 @@ module _ (F frame number ordinal : ℕ) (known : frame < F) where
 
   module _ (size : ℕ) (s : StoredWorld) (same : F ≡ s.frames) where
     abbrev stands : Image → Type 0
-    stands image = world_of size image ≡ Some s
+    stands image = idle_world_of size image ≡ Some s
 
     -- its record is free in each image
     still_free : (words : Words) → IsSettled size s words → IsFreeFrame F frame words → (before : Image) → Picks words before → (tables_of s.frames (beside_log DAEMON_LOG before)).puddles frame ≡ None

@@ -16,14 +16,14 @@ use Rattle.pud_defs.specs.Replay.{settled_by}
 use Rattle.pud_defs.specs.Tables.{Tables, Pool, tables_of, pools_of}
 use Rattle.pud_defs.specs.Holdings.{holding_in}
 use Rattle.pud_defs.specs.SoundTables.{are_sound_tables, HasSoundTables}
-use Rattle.pud_defs.specs.World.{StoredWorld, pools_in, registry_world}
+use Rattle.pud_defs.specs.World.{StoredWorld, pools_in, idle_registry}
 use Rattle.pud_defs.proofs.Replay.{settled_by-idle, outside_log}
 use Rattle.pud_defs.proofs.TablesOf.{tables_of-same}
 use Rattle.pud_defs.proofs.SoundChanged.{sound_from, sound_test}
 use Rattle.pud_defs.proofs.Held.{HasSameFrame, frame_among, frames_are, pools_of-held, pools_in-same}
 use Rattle.pud_defs.proofs.Parts.{HasPools, standing_with_pools}
 use Rattle.pud_defs.proofs.Parts.Part.{Header, Pools}
-use Rattle.pud_defs.proofs.Worlds.{standing_of_world, registry_world_standing}
+use Rattle.pud_defs.proofs.IdleWorlds.{standing_of_idle_world, idle_registry_standing}
 use Rattle.batch.specs.Batches.{ByBatch}
 use Rattle.batch.specs.Worlds.{IsSettled, with_batch, MovesBy, IsBetween, Moves}
 use Rattle.batch.specs.Tables.{HasDurableTables}
@@ -64,7 +64,7 @@ pub reads_world : (size : ℕ) (s : StoredWorld) (words : Words) → IsSettled s
 reads_world size s words settled tables =
     let image = reads words in
     let picked = Picks-reads words in
-    let stands = standing_of_world size image s (settled.stands image picked) in
+    let stands = standing_of_idle_world size image s (settled.stands image picked) in
     let same = settled_tables size s words image settled tables picked in
     record {
       number = sym (settled_word size s words image NEXT_NUMBER_WORD settled tables picked (inl (omega arith)) (omega arith)) ∙ (stands.holds Header).next_number;
@@ -106,11 +106,11 @@ not_of_pools F k below number pools puddles (inr (inr of)) = puddles of.low of.h
 
 module _ (size : ℕ) (s : StoredWorld) (number : ℕ) (ps : List (List ℕ × Pool)) (puts : List Put) (words : Words) (settled : IsSettled size s words) (tables : HasDurableTables s.frames words)
     (has : Image → Type 0) (m : MakesPools s number ps puts has (tables_of s.frames (reads words))) (besides : (image : Image) → Picks words image → has (settled_by DAEMON_LOG image)) where
-  makes : (image : Image) → Picks words image → registry_world size (with_batch (puts_batch puts) image) ≡ Some (pools_next s number ps)
+  makes : (image : Image) → Picks words image → idle_registry size (with_batch (puts_batch puts) image) ≡ Some (pools_next s number ps)
   makes image picked =
       let i = settled_by DAEMON_LOG image in
       let j = with_puts puts i in
-      let stands = standing_of_world size image s (settled.stands image picked) in
+      let stands = standing_of_idle_world size image s (settled.stands image picked) in
       let tables_before = settled_tables size s words image settled tables picked in
       let tables_now = m.tables i tables_before in
       let hold = holding_in s.types s.frames in
@@ -119,8 +119,8 @@ module _ (size : ℕ) (s : StoredWorld) (number : ℕ) (ps : List (List ℕ × P
       (λ k low high. with_puts-stays s.frames puts i k m.of (frames_apart s.frames k low)) in
       let pools_now : pools_of (hold i) m.now ≡ ps = m.pools i (besides image picked) (ap (pools_of (hold i)) (sym tables_before) ∙ (stands.holds Pools).pools) in
       let pools : HasPools s.types s.frames number ps j = record { pools = ap (pools_of (hold j)) tables_now ∙ pools_of-held s.types s.frames i j m.now kept ∙ pools_now; sound = ap (are_sound_tables number) tables_now ∙ sound_test number m.now m.sound } in
-      ap (registry_world size) (overwritten-puts s.frames puts i m.of)
-      ∙ registry_world_standing size j (pools_next s number ps)
+      ap (idle_registry size) (overwritten-puts s.frames puts i m.of)
+      ∙ idle_registry_standing size j (pools_next s number ps)
       (standing_with_pools size i j s number ps stands
       (λ k below apart no_pool no_puddle. with_puts-stays s.frames puts i k m.of (not_of_pools s.frames k below apart no_pool no_puddle))
       (m.next i (stands.holds Header).next_number) m.low m.high pools)

@@ -19,7 +19,7 @@ use Rattle.pud_defs.specs.Puddles.{Member}
 use Rattle.pud_defs.specs.Tables.{Tables, tables_of}
 use Rattle.pud_defs.specs.Puts.{pool_put, puddle_put, mode_put, free_pool_put, free_puddle_put, is_of_pool}
 use Rattle.pud_defs.specs.PoolChanges.{NUMBERS_DRAWN}
-use Rattle.pud_defs.specs.World.{StoredWorld, world_of}
+use Rattle.pud_defs.specs.World.{StoredWorld, idle_world_of}
 use Rattle.batch.specs.Batches.{Commits}
 use Rattle.batch.specs.Worlds.{IsSettled}
 use Rattle.batch.specs.Tables.{HasDurableTables}
@@ -103,7 +103,7 @@ pub record IsPoolAt (F slot : ℕ) (r : PoolRec) (words : Words) : Type 0 where
 
 -- an image that stands for the world before, or for the next one and then also for this
 abbrev pub MayStand : (size : ℕ) → (s next : StoredWorld) → (Image → Type 0) → Image → Type 0
-MayStand size s next also image = (world_of size image ≡ Some s) ⊎ ((world_of size image ≡ Some next) × also image)
+MayStand size s next also image = (idle_world_of size image ≡ Some s) ⊎ ((idle_world_of size image ≡ Some next) × also image)
 
 -- Pools are changed, wholly or not at all: at each moment each image stands for the world before or for the next, and then has this besides.
 -- Without a fault each stands for the next, with tables that are durable and a daemon log that is closed. No words change but those of

@@ -1,13 +1,16 @@
 -- What brings a registry up to date.
 use Rattle.std.specs.Prelude.{◌≡◌, ℕ, Option, Some, None, Result, Ok, Err}
 use Rattle.pm_model.specs.declared.host.HostFault.{HostFault}
-use Rattle.pm_model.specs.Words.{IsRested}
+use Rattle.pm_model.specs.Words.{IsRested, reads}
 use Rattle.pm_model.specs.Moments.{State}
 use Rattle.pm_model.specs.Changes.{Leaves, Silently}
+use Rattle.pud_defs.specs.declared.layout.TheConstants.{DAEMON_LOG}
+use Rattle.pud_defs.specs.Image.{Image}
+use Rattle.pud_defs.specs.Replay.{settled_by}
 use Rattle.pud_defs.specs.World.{StoredWorld, world_of}
+use Rattle.batch.specs.Batches.{HasIdleGate}
 use Rattle.registry.specs.declared.LoadFault.{LoadFault}
 use Rattle.registry.specs.declared.LoadFault.TheVariants as faults
-use Rattle.batch.specs.Worlds.{IsSettled}
 
 -- the host's fault that a load answered
 abbrev pub load_fault : {T : Type 0} → Result T LoadFault → Option HostFault
@@ -15,9 +18,14 @@ load_fault (Ok x) = None
 load_fault (Err faults.NotSound) = None
 load_fault (Err (faults.Host fault)) = Some fault
 
--- The daemon log was applied and closed on a rested device: at each moment each image stands for the world; without a fault each image at
--- the end does, and the device is rested again.
+-- an image that stands for the world, and with the daemon log replayed is the same as this one
+pub record StillStands (size : ℕ) (s : StoredWorld) (before image : Image) : Type 0 where
+  pub settled : settled_by DAEMON_LOG image ≡ settled_by DAEMON_LOG before
+  pub stands : world_of size image ≡ Some s
+
+-- The daemon log was applied and closed on a rested device: at each moment each image stands for the world, with nothing of the clients' logs
+-- replayed; without a fault the log counts nothing in any image at the end, and the device is rested again.
 pub record AppliesLog (size : ℕ) (s : StoredWorld) (fault : Option HostFault) (old new : State) : Type 0 where
-  pub moments : Leaves (Silently (λ image. world_of size image ≡ Some s)) old new
-  pub settled : fault ≡ None → IsSettled size s new.now.words
+  pub moments : Leaves (Silently (StillStands size s (reads old.now.words))) old new
+  pub idle : fault ≡ None → HasIdleGate DAEMON_LOG new.now.words
   pub rested : fault ≡ None → IsRested new.now.words

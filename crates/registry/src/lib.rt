@@ -59,7 +59,8 @@ impl From<HostFault> for LoadFault {
 /// `NotSound` comes exactly where the device is not a sound registry once that log is replayed, where the host does not
 /// fail first; then nothing changed. Otherwise no word changes but those that its entries in range name and its gate. At
 /// `Ok` each of them has its new value and no other, what is read stands for what it stood for, and the answer is of that.
-/// Where the device was rested, each image left meanwhile stands for it too.
+/// Where the device was rested, each image left meanwhile stands for it too, and is the same once the daemon log is replayed;
+/// at `Ok` that log counts nothing in any image. The clients' logs may hold anything, and none of them is read.
 pub fn load_sound<H: Host>(h: &mut H) -> Result<Geo, LoadFault>
     ensures not_sound { H.tells → load_fault result ≡ Option.None
         → (result ≡ Result.Err LoadFault.NotSound) ↔ (world_of (H.counts h.old).size (reads (H.state h.old).now.words) ≡ Option.None) }

@@ -1,29 +1,25 @@
 -- The daemon log is legal, entry by entry; and soundness by its parts.
-use Rattle.std.proofs.Common.{◌≡◌, inl, inr, ℕ, ◌<◌, ◌≤◌, Bool, true, false, ◌&&◌, cond, leb, eqb, List, Option, Some, None, refl, sym, ap, subst, ◌∙◌, arith}
+use Rattle.std.proofs.Common.{◌≡◌, inl, inr, ℕ, ◌<◌, Bool, true, false, ◌&&◌, cond, leb, eqb, List, Option, Some, None, refl, sym, ap, ◌∙◌, arith}
 use Rattle.std.specs.List.{list_all}
 use Rattle.std.specs.Prelude.{is_some}
 use Rattle.std.proofs.lemmas.Bool.{and_parts, and_left, and_right, cases_Bool}
 use Rattle.std.proofs.lemmas.Option.{cond_some}
-use Rattle.pud_defs.specs.declared.layout.TheConstants.{DEVICE_MAGIC, VERSION, MAGIC_WORD, VERSION_WORD, FRAMES_WORD, MIN_FRAMES, DAEMON_LOG, CLIENTS}
+use Rattle.pud_defs.specs.declared.layout.TheConstants.{DEVICE_MAGIC, VERSION, MAGIC_WORD, VERSION_WORD, FRAMES_WORD, MIN_FRAMES, DAEMON_LOG}
 use Rattle.pud_defs.specs.Image.{Image}
 use Rattle.pud_defs.specs.Entries.{Entry, log_of, entries_of}
-use Rattle.pud_defs.specs.Layout.{tables_end, frames_at, device_words, is_legal_frame_count}
+use Rattle.pud_defs.specs.Layout.{device_words, is_legal_frame_count}
 use Rattle.pud_defs.specs.Replay.{settled_by}
-use Rattle.pud_defs.specs.Spaces.{has_closed_logs}
-use Rattle.pud_defs.specs.World.{stored_by}
-use Rattle.pud_defs.specs.Registry.{frames_of, has_magic, has_version, has_room, has_legal_number, has_legal_types, has_sound_tables, has_legal_spaces, is_registry, may_be_logged, is_allowed, are_allowed, has_legal_log, is_sound}
+use Rattle.pud_defs.specs.Spaces.{are_legal_spaces}
+use Rattle.pud_defs.specs.Registry.{frames_of, has_magic, has_version, has_room, has_legal_number, has_legal_types, has_sound_tables, has_legal_spaces, is_registry, is_allowed, are_allowed, has_legal_log, is_sound}
 use Rattle.pud_defs.specs.Tables.{Tables}
 use Rattle.pud_defs.specs.SoundTables.{has_legal_pools, has_distinct_names, has_legal_puddles, has_distinct_bases, has_distinct_old_bases, has_distinct_ordinals, has_counted_puddles, are_sound_tables}
-use Rattle.pud_defs.specs.Registry as registry
-use Rattle.pud_defs.proofs.Logged.{settled_by-unlogged, settled_by-client_logs}
-use Rattle.pud_defs.proofs.Spaces.{has_closed_logs-same}
-use Rattle.pud_defs.proofs.Parts.Part.{Header}
-use Rattle.pud_defs.proofs.Worlds.{standing_of_world, world_of-sound}
+use Rattle.pud_defs.proofs.Logged.{settled_by-unlogged}
+use Rattle.pud_defs.proofs.Worlds.{holding_by}
 use Rattle.log_entry.specs.Ranges.{HasRange}
 use Rattle.soundness.specs.declared.overlay.Overlay.{Overlay}
 use Rattle.soundness.specs.Overlaying.{IsOverlay}
 use Rattle.soundness.specs.Distinct.{are_distinct_puddles}
-use Rattle.soundness.specs.Judging.{frames_described, has_sound_records, has_sound_spaces}
+use Rattle.soundness.specs.Judging.{frames_described, has_sound_records}
 
 -- ---- a legal log
 
@@ -57,14 +53,6 @@ is_overlay o image range legal = elim (cases_Bool (is_some (entries_of image DAE
   | inr spoilt ↦ absurd (let it : true ≡ false = sym legal ∙ not_legal image spoilt in cc)
 ]
 
--- ---- logs of clients
-
--- the daemon log may write none of their words
-pub raw_logs : (image : Image) (F client : ℕ) → has_legal_log image ≡ true → F ≡ frames_of image → client < CLIENTS → has_closed_logs image F client ≡ has_closed_logs (settled_by DAEMON_LOG image) F client
-raw_logs image F client legal frames known =
-    has_closed_logs-same image (settled_by DAEMON_LOG image) F client known
-    (λ k low high. sym (settled_by-client_logs image k legal (subst (λ (n : ℕ). tables_end n ≤ k) frames low) (subst (λ (n : ℕ). k < frames_at n) frames high)))
-
 -- ---- soundness by its parts
 
 -- the words that describe the device are sound
@@ -90,7 +78,7 @@ described_raw size image legal =
 undescribed : (size : ℕ) (image : Image) → described size image ≡ false → is_registry size image ≡ false
 unfolding is_registry described
 undescribed size image fails =
-    ap (λ (b : Bool). b && has_legal_number image && has_legal_types image && has_sound_tables image && has_legal_spaces image && registry.has_closed_logs image) fails
+    ap (λ (b : Bool). b && has_legal_number image && has_legal_types image && has_sound_tables image && has_legal_spaces image) fails
 
 pub unsound_header : (size : ℕ) (image : Image) → frames_described size image ≡ None → is_sound size image ≡ false
 unfolding is_sound described
@@ -111,30 +99,30 @@ sound_by size image legal = sym (ap (λ (b : Bool). b && is_registry size (settl
 
 -- a device that is too small for the fewest frames is not sound
 pub unsound_small : (size : ℕ) (image : Image) → size < device_words MIN_FRAMES → is_sound size image ≡ false
+unfolding is_sound
 unsound_small size image small = elim (cases_Bool (is_sound size image)) [
   | inl sound ↦
-      let h = standing_of_world size image (stored_by (settled_by DAEMON_LOG image)) (world_of-sound size image sound) in
-      let least = (h.holds Header).enough_frames in
-      let room = (h.holds Header).room in
+      let h = holding_by size (settled_by DAEMON_LOG image) (and_parts (has_legal_log image) (is_registry size (settled_by DAEMON_LOG image)) sound).1 in
+      let least = h.header.enough_frames in
+      let room = h.header.room in
       absurd (omega arith)
   | inr unsound ↦ unsound
 ]
 
-regrouped : (number types tables spaces logs : Bool) → (number && types && tables && (spaces && logs)) ≡ (number && types && tables && spaces && logs)
-regrouped number types tables spaces logs = elim (number && types && tables) as (λ b. (b && (spaces && logs)) ≡ (b && spaces && logs)) [ true ↦ refl | false ↦ refl ]
+regrouped : (header number types tables spaces : Bool) → header ≡ true → (number && types && tables && spaces) ≡ (header && number && types && tables && spaces)
+regrouped header number types tables spaces is = ap (λ (b : Bool). b && number && types && tables && spaces) (sym is)
 
 -- so many frames are described: what the image says, in the words of the two halves that are left
 pub registry_parts : (size : ℕ) (image : Image) (F : ℕ) → has_legal_log image ≡ true → frames_described size image ≡ Some F
-    → (has_sound_records (settled_by DAEMON_LOG image) F && has_sound_spaces (settled_by DAEMON_LOG image) F) ≡ is_registry size (settled_by DAEMON_LOG image)
+    → (has_sound_records (settled_by DAEMON_LOG image) F && are_legal_spaces (settled_by DAEMON_LOG image)) ≡ is_registry size (settled_by DAEMON_LOG image)
 unfolding is_registry described
 registry_parts size image F legal some =
     let settled = settled_by DAEMON_LOG image in
     let parts = cond_some (described size image) (frames_of image) F some in
     let frames : F ≡ frames_of settled = sym parts.1 ∙ sym (settled_by-unlogged image FRAMES_WORD legal (omega arith)) in
     let header : described size settled ≡ true = described_raw size image legal ∙ parts.0 in
-    ap (λ (n : ℕ). has_sound_records settled n && has_sound_spaces settled n) frames
-    ∙ regrouped (has_legal_number settled) (has_legal_types settled) (has_sound_tables settled) (has_legal_spaces settled) (registry.has_closed_logs settled)
-    ∙ ap (λ (b : Bool). b && has_legal_number settled && has_legal_types settled && has_sound_tables settled && has_legal_spaces settled && registry.has_closed_logs settled) (sym header)
+    ap (λ (n : ℕ). has_sound_records settled n && are_legal_spaces settled) frames
+    ∙ regrouped (described size settled) (has_legal_number settled) (has_legal_types settled) (has_sound_tables settled) (has_legal_spaces settled) header
 
 -- ---- the tables of pools and puddles, each record by itself first
 

@@ -1,5 +1,5 @@
 -- The parts of a sound registry, in the order in which they are read.
-use Rattle.std.specs.Prelude.{ℕ, ◌-◌, ◌≤◌, ◌==◌, nat_le, Bool, not, ◌&&◌, ◌||◌, cond, Option, Some, None}
+use Rattle.std.specs.Prelude.{ℕ, ◌-◌, ◌≤◌, ◌==◌, nat_le, Bool, not, ◌&&◌, cond, Option, Some, None}
 use Rattle.std.specs.Ordering.{nat_cmp}
 use Rattle.pud_defs.specs.declared.layout.TheConstants.{DEVICE_MAGIC, VERSION, MAGIC_WORD, VERSION_WORD, FRAMES_WORD, MIN_FRAMES, MAX_FRAMES, NEXT_NUMBER_WORD, TYPE_RECORDS}
 use Rattle.pud_defs.specs.Image.{Image}
@@ -7,7 +7,7 @@ use Rattle.pud_defs.specs.TypeMap.{is_legal_map, is_legal_type_id}
 use Rattle.pud_defs.specs.Keyed.{are_distinct}
 use Rattle.pud_defs.specs.Types.{type_at, is_sound_type}
 use Rattle.pud_defs.specs.Layout.{device_words, is_legal_frame_count}
-use Rattle.pud_defs.specs.Spaces.{all_below, space_record_at, has_closed_logs, are_legal_spaces, are_closed_logs}
+use Rattle.pud_defs.specs.Spaces.{all_below}
 use Rattle.pud_defs.specs.Tables.{tables_of}
 use Rattle.pud_defs.specs.SoundTables.{are_sound_tables}
 use Rattle.pud_defs.specs.Registry.{has_legal_number, has_legal_types}
@@ -35,14 +35,6 @@ are_legal_last image n = all_below n (λ k. is_sound_type (type_at image (TYPE_R
 abbrev pub with_one_more : (id map : ℕ) (again legal : Bool) → Bool
 with_one_more id map again legal = cond (id == 0) legal (is_legal_type_id id && is_legal_map map && not again && legal)
 
--- the client's logs are not registered, or each is closed
-abbrev pub is_closed_space : Image → ℕ → ℕ → Bool
-is_closed_space image F client = image (space_record_at client) == 0 || has_closed_logs image F client
-
 -- the next number, the types, and the pools with their puddles are sound, on a device of so many frames
 abbrev pub has_sound_records : Image → ℕ → Bool
 has_sound_records image F = has_legal_number image && has_legal_types image && are_sound_tables (image NEXT_NUMBER_WORD) (tables_of F image)
-
--- the clients' table is sound, and each log that is registered is closed
-abbrev pub has_sound_spaces : Image → ℕ → Bool
-has_sound_spaces image F = are_legal_spaces image && are_closed_logs image F

@@ -9,7 +9,7 @@ ghost use Rattle.pud_defs.specs.Image.{Image};
 ghost use Rattle.pud_defs.specs.Layout.{device_words};
 ghost use Rattle.pud_defs.specs.Entries.{Entry as LoggedEntry, Log, log_of, entries_of};
 ghost use Rattle.pud_defs.specs.Replay.{settled_by};
-ghost use Rattle.pud_defs.specs.Spaces.{is_space, is_legal_space, has_closed_logs, are_legal_spaces, are_closed_logs};
+ghost use Rattle.pud_defs.specs.Spaces.{is_space, is_legal_space, are_legal_spaces};
 ghost use Rattle.pud_defs.specs.Tables.{tables_of};
 ghost use Rattle.pud_defs.specs.SoundTables.{are_sound_tables};
 ghost use Rattle.pud_defs.specs.Registry.{frames_of, has_legal_types, may_be_logged, is_allowed, has_legal_log, is_registry, is_sound};
@@ -17,19 +17,19 @@ ghost use Rattle.pud_defs.specs.Identifiers.{is_number};
 ghost use Rattle.log_entry.specs.Reading.{entry_from};
 ghost use Rattle.log_entry.specs.Ranges.{HasRange};
 ghost use Rattle.soundness.specs.Overlaying.{IsOverlay};
-ghost use Rattle.soundness.specs.Judging.{IsRoomFor, frames_by, frames_described, with_one_more, is_closed_space, has_sound_records, has_sound_spaces};
+ghost use Rattle.soundness.specs.Judging.{IsRoomFor, frames_by, frames_described, with_one_more, has_sound_records};
 
 use crate::distinct::are_distinct_puddles;
 use crate::names::has_distinct_names;
 use crate::overlay::Overlay;
 use crate::tables::{has_legal_pools, has_legal_puddles};
-use log_entry::{Entry, EntryReader, is_closed_log, well_formed};
+use log_entry::{Entry, EntryReader, well_formed};
 use pm_model::{Host, HostFault};
 use pud_defs::layout::{
-    CLIENT_LOGS, CLIENTS, DAEMON_LOG, DEVICE_MAGIC, FRAMES_WORD, LOG_WORDS, MAGIC_WORD, MAX_FRAMES,
+    CLIENTS, DAEMON_LOG, DEVICE_MAGIC, FRAMES_WORD, LOG_WORDS, MAGIC_WORD, MAX_FRAMES,
     MAX_OWNER_ID, MIN_FRAMES, NEXT_NUMBER_WORD, NUMBER_LIMIT, SPACE_RECORD_WORDS, SPACE_TABLE,
     TYPE_RECORD_WORDS, TYPE_RECORDS, TYPE_TABLE, VERSION, VERSION_WORD, device_words, frames_at,
-    log_at, tables_end,
+    tables_end,
 };
 use pud_defs::type_map::{is_legal_map, is_legal_type_id};
 
@@ -212,64 +212,6 @@ fn are_legal_spaces<H: Host>(h: &mut H, overlay: &Overlay) -> Result<bool, HostF
     Ok(true)
 }
 
-/// Whether each log of a client is closed, on a device of so many frames. The daemon log can write none of their words.
-fn has_closed_logs<H: Host>(h: &mut H, frames: u32, client: u32) -> Result<bool, HostFault>
-    requires few { frames ≤ MAX_FRAMES }
-    requires known { client < CLIENTS }
-    requires room { device_words frames ≤ (H.counts h.old).size }
-    ensures closed { H.tells → (image : Image) → reads (H.state h.old).now.words ≡ image → IfOk result (λ closed. closed ≡ has_closed_logs image frames client) }
-    ensures stays { H.tells → H.state h.new ≡ H.state h.old }
-    ensures cause { H.counts h.new ≡ after_fault (fault_of result) (H.counts h.old) }
-    ensures never_cut { fault_of result ≢ Option.Some HostFault.Cut }
-{
-    for number in 0..CLIENT_LOGS {
-        if !is_closed_log(h, log_at(frames, client, number))? {
-            return Ok(false);
-        }
-    }
-    Ok(true)
-}
-
-/// Whether the logs of a client are closed, or not registered.
-fn is_closed_space<H: Host>(
-    h: &mut H,
-    overlay: &Overlay,
-    frames: u32,
-    client: u32,
-) -> Result<bool, HostFault>
-    requires few { frames ≤ MAX_FRAMES }
-    requires known { client < CLIENTS }
-    requires room { device_words frames ≤ (H.counts h.old).size }
-    ensures closed { H.tells → (image : Image) → reads (H.state h.old).now.words ≡ image → IsOverlay overlay.now image → has_legal_log image ≡ true → frames ≡ frames_of image
-        → IfOk result (λ closed. closed ≡ is_closed_space (settled_by DAEMON_LOG image) frames client) }
-    ensures stays { H.tells → H.state h.new ≡ H.state h.old }
-    ensures cause { H.counts h.new ≡ after_fault (fault_of result) (H.counts h.old) }
-    ensures never_cut { fault_of result ≢ Option.Some HostFault.Cut }
-{
-    if overlay.word(h, SPACE_TABLE + SPACE_RECORD_WORDS * client)? == 0 {
-        return Ok(true);
-    }
-    has_closed_logs(h, frames, client)
-}
-
-/// Whether each log that is registered is closed.
-fn are_closed_logs<H: Host>(h: &mut H, overlay: &Overlay, frames: u32) -> Result<bool, HostFault>
-    requires few { frames ≤ MAX_FRAMES }
-    requires room { device_words frames ≤ (H.counts h.old).size }
-    ensures closed { H.tells → (image : Image) → reads (H.state h.old).now.words ≡ image → IsOverlay overlay.now image → has_legal_log image ≡ true → frames ≡ frames_of image
-        → IfOk result (λ closed. closed ≡ are_closed_logs (settled_by DAEMON_LOG image) frames) }
-    ensures stays { H.tells → H.state h.new ≡ H.state h.old }
-    ensures cause { H.counts h.new ≡ after_fault (fault_of result) (H.counts h.old) }
-    ensures never_cut { fault_of result ≢ Option.Some HostFault.Cut }
-{
-    for client in 0..CLIENTS {
-        if !is_closed_space(h, overlay, frames, client)? {
-            return Ok(false);
-        }
-    }
-    Ok(true)
-}
-
 fn are_all(first: bool, second: bool, third: bool) -> bool
     ensures { result ≡ (first && second && third) }
 {
@@ -317,25 +259,10 @@ fn has_sound_records<H: Host>(h: &mut H, overlay: &Overlay, frames: u32) -> Resu
     Ok(are_all(is_number(next), types, tables))
 }
 
-fn are_both(spaces: bool, logs: bool) -> bool
-    ensures { result ≡ (spaces && logs) }
+fn are_both(records: bool, spaces: bool) -> bool
+    ensures { result ≡ (records && spaces) }
 {
-    spaces && logs
-}
-
-/// Whether the log-space records are legal, and each log that is registered is closed.
-fn has_sound_spaces<H: Host>(h: &mut H, overlay: &Overlay, frames: u32) -> Result<bool, HostFault>
-    requires few { frames ≤ MAX_FRAMES }
-    requires room { device_words frames ≤ (H.counts h.old).size }
-    ensures sound { H.tells → (image : Image) → reads (H.state h.old).now.words ≡ image → IsOverlay overlay.now image → has_legal_log image ≡ true → frames ≡ frames_of image
-        → IfOk result (λ sound. sound ≡ has_sound_spaces (settled_by DAEMON_LOG image) frames) }
-    ensures stays { H.tells → H.state h.new ≡ H.state h.old }
-    ensures cause { H.counts h.new ≡ after_fault (fault_of result) (H.counts h.old) }
-    ensures never_cut { fault_of result ≢ Option.Some HostFault.Cut }
-{
-    let spaces = are_legal_spaces(h, overlay)?;
-    let logs = are_closed_logs(h, overlay, frames)?;
-    Ok(are_both(spaces, logs))
+    records && spaces
 }
 
 /// Whether a device of so many frames, whose daemon log is legal, is a sound registry once that log is replayed.
@@ -348,9 +275,9 @@ fn is_registry<H: Host>(h: &mut H, overlay: &Overlay, frames: u32) -> Result<boo
     ensures cause { H.counts h.new ≡ after_fault (fault_of result) (H.counts h.old) }
     ensures never_cut { fault_of result ≢ Option.Some HostFault.Cut }
 {
-    let tables = has_sound_records(h, overlay, frames)?;
-    let spaces = has_sound_spaces(h, overlay, frames)?;
-    Ok(are_both(tables, spaces))
+    let records = has_sound_records(h, overlay, frames)?;
+    let spaces = are_legal_spaces(h, overlay)?;
+    Ok(are_both(records, spaces))
 }
 
 /// Whether a device that is described to have so many frames is a sound registry once its daemon log is replayed.

@@ -93,16 +93,19 @@ fn an_entry_lies_where_the_log_may_write(rt: HostRuntime) {
     judge(&rt, rt.alloc(), &entry, &rows);
 }
 
-// The first log of client 0, and the last of client 7.
+// The gates of the first log of client 0, and of the last of client 7: open, not well formed, and closed. Whose they are does
+// count.
 #[test]
-fn a_registered_log_is_closed(rt: HostRuntime) {
+fn the_logs_of_clients_play_no_part(rt: HostRuntime) {
     let owner = [(1_473, 5), (1_474, 5)];
-    let rows: [(&[Row], bool); 5] = [
-        (&[(1_472, 1), (1_568, 0)], true),
+    let rows: [(&[Row], bool); 7] = [
+        (&[(1_472, 1), (1_568, 512)], true),
+        (&[(1_472, 1), (1_568, 1 << 32)], true),
         (&[(1_472, 1), (1_568, 1_028)], true),
-        (&[(1_472, 1), (1_568, 512)], false),
         (&[(1_472, 0), (1_568, 512)], true),
-        (&[(1_528, 1), (33_312, 512)], false),
+        (&[(1_528, 1), (33_312, 512)], true),
+        (&[(1_472, 1), (1_473, 65_536), (1_568, 1_028)], false),
+        (&[(1_472, 1), (1_474, 65_536), (1_568, 1_028)], false),
     ];
     judge(&rt, rt.alloc(), &owner, &rows);
 }

@@ -3,6 +3,7 @@ use crate::device::{DONE, Row, blank_with, done, has, leaves};
 use pm_model::Host;
 use registry::load_sound;
 use std::process::Abort;
+use test_device::poke;
 
 /// Stores each of these words and makes none durable.
 fn store_all<H: Host>(rt: &impl Abort, host: &mut H, rows: &[Row]) {
@@ -51,5 +52,21 @@ fn the_named_words_of_a_daemon_log_that_is_not_durable_read_as_logged(rt: HostRu
     ] {
         let mut host = blank_with(&rt, rt.alloc(), &[]);
         load_stored(&rt, &mut host, gate, two, one);
+    }
+}
+
+// A registered log is open, with an entry in range and without one, or is not well formed. The daemon log names the next number.
+#[test]
+fn a_load_leaves_the_logs_of_clients(rt: HostRuntime) {
+    let daemon_log = [(64, 197_634), (72, 4), (73, 4_295_163_905), (74, 9)];
+    let entry = [(1_576, 1 << 44), (1_577, 65_537), (1_578, 7)];
+    for gate in [197_120, 512, 1 << 32] {
+        let registered = [(1_472, 1), (1_473, 5), (1_474, 5), (1_568, gate)];
+        let mut host = blank_with(&rt, rt.alloc(), &daemon_log);
+        assert!(rt; poke(&mut host, &entry) && poke(&mut host, &registered));
+        assert!(rt; load_sound(&mut host).is_ok());
+        has(&rt, &mut host, &[(4, 9), (64, 1_028)]);
+        has(&rt, &mut host, &entry);
+        has(&rt, &mut host, &registered);
     }
 }
