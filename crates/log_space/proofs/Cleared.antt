@@ -77,7 +77,7 @@ pub clearing-outside : (n k : ℕ) → n ≤ CLIENTS → (k < SPACE_TABLE) ⊎ (
 clearing-outside n k few (inl before) = clearing-elsewhere n k (λ c below here. absurd (omega arith))
 clearing-outside n k few (inr behind) = clearing-elsewhere n k (λ c below here. absurd (omega arith))
 
-clearing-allowed : (F n : ℕ) (log : Log) → n ≤ CLIENTS → list_all (is_allowed F log) (clearing n) ≡ true
+pub clearing-allowed : (F n : ℕ) (log : Log) → n ≤ CLIENTS → list_all (is_allowed F log) (clearing n) ≡ true
 unfolding clearing
 clearing-allowed F zero log few = refl
 clearing-allowed F (suc n) log few =

@@ -23,6 +23,7 @@ pub mod Replay
 pub mod Spaces
 pub mod Settled
 pub mod LogsTaken
+pub mod LogsBeside
 pub mod Accepted
 pub mod Logged
 pub mod Parts

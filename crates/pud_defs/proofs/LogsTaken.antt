@@ -16,40 +16,12 @@ use Rattle.pud_defs.specs.Tables.{Tables, tables_of}
 use Rattle.pud_defs.specs.Allowed.{puddle_word, are_allowed_entries, is_allowed_log, is_refused}
 use Rattle.pud_defs.specs.Settled.{gives_to, ALL_LOGS, client_of_log, log_number_at, given_by_log, is_refused_log, given_in_turn, is_in_logs, beside_logs, settled_over}
 use Rattle.pud_defs.specs.LogsTaken.{TakesLog, GivesNothingBelow}
-use Rattle.pud_defs.proofs.Replay.{value_at-apart, undone-first, redone-first, undone-none, redone-none, entries_of-idle, empty_range_of}
+use Rattle.pud_defs.proofs.Replay.{entries_of-idle, empty_range_of}
 use Rattle.pud_defs.proofs.Spaces.{log_of-within, owner_of-same}
 use Rattle.pud_defs.proofs.TablesOf.{tables_of-same, frames_of_tables}
-use Rattle.pud_defs.proofs.Settled.{or_empty, gives_nothing, gives_to-closed, given_in_turn-same, given_in_turn-none}
+use Rattle.pud_defs.proofs.Settled.{or_empty, gives_to-below, gives_to-closed, given_in_turn-same, given_in_turn-none}
 
 -- ---- what a client's log gives lies in frames
-
-in_frame : (t : Tables) (vals : List ℕ) (w : ℕ) (o : Option (ℕ × ℕ)) → w < frames_at t.frames → value_from (option_map (λ (at : ℕ × ℕ). frame_at t.frames at.0 + at.1) o) vals w ≡ None
-in_frame t vals w None below = refl
-in_frame t vals w (Some at) below = value_at-apart (frame_at t.frames at.0 + at.1) w vals (inl (omega arith))
-
-value-below : (t : Tables) (e : Entry) (w : ℕ) → w < frames_at t.frames → value_in (puddle_word t) e w ≡ None
-unfolding puddle_word
-value-below t e w below = in_frame t e.vals w (located t e.address) below
-
-given_by-below : (t : Tables) (log : Log) (order : ℕ) (e : Entry) (w : ℕ) → w < frames_at t.frames → given_by (puddle_word t) log order e w ≡ None
-given_by-below t log order e w below = gives_nothing _ (value_in (puddle_word t) e w) (value-below t e w below)
-
-undone-below : (t : Tables) (log : Log) (es : List Entry) (w : ℕ) → w < frames_at t.frames → undone (puddle_word t) log es w ≡ None
-undone-below t log [] w below = undone-none (puddle_word t) log w
-undone-below t log (e ∷ es) w below = undone-first (puddle_word t) log e es w ∙ ap₂ option_or (given_by-below t log _ e w below) (undone-below t log es w below)
-
-redone-below : (t : Tables) (log : Log) (es : List Entry) (w : ℕ) → w < frames_at t.frames → redone (puddle_word t) log es w ≡ None
-redone-below t log [] w below = redone-none (puddle_word t) log w
-redone-below t log (e ∷ es) w below = redone-first (puddle_word t) log e es w ∙ ap₂ option_or (redone-below t log es w below) (given_by-below t log _ e w below)
-
-new_value-below : (t : Tables) (log : Log) (w : ℕ) → w < frames_at t.frames → new_value (puddle_word t) log w ≡ None
-unfolding new_value
-new_value-below t log w below = ap₂ option_or (redone-below t log (entries_or_none log.entries) w below) (undone-below t log (entries_or_none log.entries) w below)
-
-pub gives_to-below : (t : Tables) (who : Option Owner) (log : Log) (w : ℕ) → w < frames_at t.frames → gives_to t who log w ≡ None
-unfolding gives_to
-gives_to-below t None log w below = refl
-gives_to-below t (Some who) log w below = gives_nothing (is_allowed_log t who log) _ (new_value-below t log w below)
 
 pub given_by_log-below : (F : ℕ) (image : Image) (number w : ℕ) → w < frames_at F → given_by_log F image number w ≡ None
 given_by_log-below F image number w below =

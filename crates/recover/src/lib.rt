@@ -5,6 +5,8 @@
 #![tactic(auto)]
 
 mod judge;
+mod recovery;
 mod turn;
 
 pub use judge::Mark;
+pub use recovery::{RecoverFault, Report, recover};

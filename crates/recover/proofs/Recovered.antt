@@ -1,0 +1,280 @@
+-- A device recovered, stage by stage: the daemon log applied, the clients' logs replayed and closed, the log-space table emptied.
+use Rattle.std.proofs.Common.{◌≡◌, ◌⊎◌, inl, inr, ℕ, ◌+◌, ◌*◌, ◌/◌, ◌%◌, ◌<◌, ◌≤◌, true, false, [], List, Option, Some, None, refl, sym, ap, subst, ◌∙◌, arith}
+use Rattle.std.proofs.lemmas.Bool.{cases_Bool, cases_eq, cases_lt, cond-true, cond-false}
+use Rattle.std.proofs.lemmas.List.{append-nil}
+use Rattle.std.proofs.lemmas.Option.{none-some}
+use Rattle.pm_model.specs.declared.host.HostFault.{HostFault}
+use Rattle.pm_model.specs.Words.{reads, Picks, HasOnly, IsRested}
+use Rattle.pm_model.specs.Moments.{State}
+use Rattle.pm_model.specs.Changes.{Changes, Leaves, Silently}
+use Rattle.pm_model.proofs.Words.{Picks-reads, reads_only, HasOnly-newest, HasOnly-own}
+use Rattle.pm_model.proofs.Changes.{Changes-said, Changes-wider, Changes-then, HasOnly-kept}
+use Rattle.pm_model.proofs.Leaves.{Leaves-now, Leaves-then, Leaves-weaker}
+use Rattle.pud_defs.specs.declared.layout.TheConstants.{DAEMON_LOG, FRAMES_WORD, TYPE_TABLE, SPACE_TABLE, PUDDLE_TABLE, CLIENTS, CLIENT_LOGS, LOG_WORDS}
+use Rattle.pud_defs.specs.Image.{Image}
+use Rattle.pud_defs.specs.Layout.{IsWithin, tables_end, frames_at, device_words}
+use Rattle.pud_defs.specs.Entries.{Entry, Log, log_of, is_idle_gate}
+use Rattle.pud_defs.specs.Replay.{device_word, new_value, overwritten, IsInLog, is_in_log, settled_by}
+use Rattle.pud_defs.specs.Spaces.{Owner, owner_by, owner_of, are_legal_spaces, space_record_at}
+use Rattle.pud_defs.specs.Tables.{tables_of}
+use Rattle.pud_defs.specs.Allowed.{is_refused}
+use Rattle.pud_defs.specs.Settled.{ALL_LOGS, client_of_log, log_number_at, given_by_log, is_refused_log, is_accepted_log, is_in_logs, beside_logs, settled_over, settled}
+use Rattle.pud_defs.specs.LogsTaken.{GivesNothingBelow}
+use Rattle.pud_defs.specs.Registry.{frames_of, is_allowed, are_allowed, has_legal_log}
+use Rattle.pud_defs.specs.World.{StoredWorld, world_of}
+use Rattle.pud_defs.proofs.Replay.{overwritten-stays, overwritten-there, settled_by-inside, settled_by-idle, outside_log, within_log, not_inside}
+use Rattle.pud_defs.proofs.Spaces.{are_legal_spaces-same, are_legal_spaces-none}
+use Rattle.pud_defs.proofs.Settled.{settled_over-none}
+use Rattle.pud_defs.proofs.LogsTaken.{given_by_log-below}
+use Rattle.pud_defs.proofs.LogsBeside.{idle_given, idle_refused, idle_accepted, idle_settled, IsReadBeside, world_again}
+use Rattle.pud_defs.proofs.Logged.{has_legal_log-of, settled_by-client_logs}
+use Rattle.pud_defs.proofs.Parts.{HoldsWorld}
+use Rattle.pud_defs.proofs.Worlds.{settled-below, legal_log_of_world, holding_of_world, frames_of_world}
+use Rattle.pud_defs.proofs.IdleWorlds.{legal_log_idle}
+use Rattle.pud_defs.proofs.Idle.{given_by_log-unowned, idle_world_of-unowned}
+use Rattle.log_replay.specs.declared.Target.TheVariants as targets
+use Rattle.log_replay.specs.Replaying.{IsNamed, ByLog as ByOneLog, SettlesLog}
+use Rattle.batch.specs.Batches.{batch_write, ByBatch, committed, IsBatched, Commits}
+use Rattle.batch.specs.Worlds.{IsSettled}
+use Rattle.log_space.specs.Clearing.{clearing, HasNoOwners, Empties}
+use Rattle.log_space.proofs.Cleared.{clearing-there, clearing-outside, clearing-allowed}
+use Rattle.registry.specs.Registry.{StillStands, AppliesLog}
+use Rattle.recover.specs.Turns.{IsOfLog, IsOfLogs, ByLogs, IsAlike, TakesTurns}
+use Rattle.recover.specs.Recovery.{ByRecovery, StandsStill, RecoversDevice}
+use Rattle.recover.proofs.TurnsTaken.{none_of_fault}
+
+abbrev emptied : List Entry
+emptied = clearing CLIENTS
+
+-- a record that is free has no owner
+free_record : (image : Image) (client : ℕ) → image (space_record_at client) ≡ 0 → owner_of image client ≡ None
+free_record image client free = ap (λ (used : ℕ). owner_by used (image (space_record_at client + 1)) (image (space_record_at client + 2))) free
+
+-- without an owner no log is refused
+unowned_not_refused : (F : ℕ) (image : Image) (number : ℕ) → owner_of image (client_of_log number) ≡ None → is_refused_log F image number ≡ false
+unowned_not_refused F image number none = ap (λ (who : Option Owner). is_refused (tables_of F image) who (log_of image (log_number_at F number))) none
+
+-- the words of the log-space table are those that the batch may name
+in_table : (k v : ℕ) → batch_write emptied k ≡ Some v → IsWithin SPACE_TABLE PUDDLE_TABLE k
+in_table k v is = elim (cases_lt k SPACE_TABLE) [
+  | inl below ↦ absurd (none-some v (sym (clearing-outside CLIENTS k (omega arith) (inl below)) ∙ is))
+  | inr low ↦ elim (cases_lt k PUDDLE_TABLE) [
+    | inl high ↦ record { low = low; high = high }
+    | inr beyond ↦ absurd (none-some v (sym (clearing-outside CLIENTS k (omega arith) (inr beyond)) ∙ is))
+  ]
+]
+
+module _ (size : ℕ) (s : StoredWorld) (a : State) (rested : IsRested a.now.words) (world : world_of size (reads a.now.words) ≡ Some s) where
+  abbrev F : ℕ
+  F = s.frames
+
+  abbrev i : Image
+  i = reads a.now.words
+
+  abbrev Still : List ℕ → Image → Type 0
+  Still = Silently (StandsStill size s i)
+
+  -- ---- the daemon log
+
+  first_still : (image : Image) → StillStands size s i image → StandsStill size s i image
+  unfolding settled
+  first_still image p = record {
+    stands = p.stands;
+    settles = λ k outside. ap (λ (x : Image). settled_over F x k) p.settled;
+    refused = λ number few refused. sym (ap (λ (x : Image). is_refused_log F x number) p.settled) ∙ refused;
+  }
+
+  first_may : (k v : ℕ) → ByOneLog DAEMON_LOG (new_value device_word (log_of i DAEMON_LOG)) k v → ByRecovery F i k v
+  first_may k v (inl here) = inl (record { low = omega arith; high = omega arith })
+  first_may k v (inr named) = inr (inl named)
+
+  first_moments : (fault : Option HostFault) (b : State) → AppliesLog size s fault a b → Leaves Still a b
+  first_moments fault b applies = Leaves-weaker (Silently (StillStands size s i)) Still a b (λ bytes image p. (p.0, first_still image p.1)) applies.moments
+
+  first_changes : (fault : Option HostFault) (b : State) → SettlesLog targets.Words DAEMON_LOG fault a b → Changes (ByRecovery F i) fault a b
+  first_changes fault b settles = Changes-wider (ByOneLog DAEMON_LOG (new_value device_word (log_of i DAEMON_LOG))) (ByRecovery F i) fault a b first_may settles.changes
+
+  -- where a fault came nothing is said of the end
+  broken_off : (fault : HostFault) (c : State) → Changes (ByRecovery F i) (Some fault) a c → Leaves Still a c → RecoversDevice size s (Some fault) a c
+  broken_off fault c changes moments = record {
+    changes = changes;
+    moments = moments;
+    settled_now = λ none. none_of_fault fault none;
+    single = λ none. none_of_fault fault none;
+    reads_so = λ none. none_of_fault fault none;
+    closed = λ none. none_of_fault fault none;
+    untouched = λ none. none_of_fault fault none;
+    cleared = λ none. none_of_fault fault none;
+  }
+
+  pub Recovers-load : (fault : HostFault) (b : State) → AppliesLog size s (Some fault) a b → SettlesLog targets.Words DAEMON_LOG (Some fault) a b → RecoversDevice size s (Some fault) a b
+  Recovers-load fault b applies settles = broken_off fault b (first_changes (Some fault) b settles) (first_moments (Some fault) b applies)
+
+  module _ (b : State) (applies : AppliesLog size s None a b) (settles : SettlesLog targets.Words DAEMON_LOG None a b) where
+    abbrev m : Image
+    m = reads b.now.words
+
+    said_b : b.now.said ≡ a.now.said
+    said_b = Changes-said (ByOneLog DAEMON_LOG (new_value device_word (log_of i DAEMON_LOG))) None a b settles.changes
+
+    now_b : StillStands size s i m
+    now_b = (Leaves-now (Silently (StillStands size s i)) [] a b (said_b ∙ sym (append-nil a.now.said)) applies.moments m (Picks-reads b.now.words)).1
+
+    idle_b : is_idle_gate (m DAEMON_LOG) ≡ true
+    idle_b = (applies.idle refl).each (m DAEMON_LOG) ((Picks-reads b.now.words).each DAEMON_LOG)
+
+    -- what is said of the logs behind the daemon log is so of what is read now
+    pub accepted_b : (number : ℕ) → number < ALL_LOGS → is_accepted_log F m number ≡ is_accepted_log F (settled_by DAEMON_LOG i) number
+    accepted_b number few = sym (idle_accepted F m idle_b number few) ∙ ap (λ (x : Image). is_accepted_log F x number) now_b.settled
+
+    refused_b : (number : ℕ) → number < ALL_LOGS → is_refused_log F m number ≡ is_refused_log F (settled_by DAEMON_LOG i) number
+    refused_b number few = sym (idle_refused F m idle_b number few) ∙ ap (λ (x : Image). is_refused_log F x number) now_b.settled
+
+    given_b : (number w : ℕ) → number < ALL_LOGS → given_by_log F m number w ≡ given_by_log F (settled_by DAEMON_LOG i) number w
+    given_b number w few = sym (idle_given F m idle_b number w few) ∙ ap (λ (x : Image). given_by_log F x number w) now_b.settled
+
+    -- ---- the clients' logs
+
+    held_i : HoldsWorld size (settled F i) s
+    held_i = subst (λ (n : ℕ). HoldsWorld size (settled n i) s) (frames_of_world size i s world) (holding_of_world size i s world)
+
+    module _ (image : Image) (alike : IsAlike F m image) where
+      idle_j : is_idle_gate (image DAEMON_LOG) ≡ true
+      idle_j = ap is_idle_gate (alike.below DAEMON_LOG (omega arith)) ∙ idle_b
+
+      pub alike_settles : (k : ℕ) → settled F image k ≡ settled F i k
+      unfolding settled
+      alike_settles k = elim (cases_Bool (is_in_log DAEMON_LOG k)) [
+        | inl inside ↦
+            let low = (within_log DAEMON_LOG k inside).low in
+            let high = (within_log DAEMON_LOG k inside).high in
+            settled-below F image k (omega arith) ∙ settled_by-inside DAEMON_LOG image k inside
+            ∙ sym (settled-below F i k (omega arith) ∙ settled_by-inside DAEMON_LOG i k inside)
+        | inr outside ↦
+            idle_settled F image idle_j k outside ∙ ap (λ (x : Image). x k) alike.settled ∙ sym (idle_settled F m idle_b k outside) ∙ ap (λ (x : Image). settled_over F x k) now_b.settled
+      ]
+
+      alike_spaces : are_legal_spaces (settled F image) ≡ true
+      alike_spaces = are_legal_spaces-same (settled F image) (settled F i) (λ k low high. alike_settles k) ∙ held_i.spaces
+
+      pub alike_still : StandsStill size s i image
+      alike_still = record {
+        stands = world_again size s i image world (legal_log_idle image idle_j) (λ k read. alike_settles k) alike_spaces;
+        settles = λ k outside. alike_settles k;
+        refused = λ number few refused. sym (refused_b number few) ∙ sym (alike.refused number few) ∙ sym (idle_refused F image idle_j number few) ∙ refused;
+      }
+
+    second_may : (k v : ℕ) → ByLogs F ALL_LOGS m k v → ByRecovery F i k v
+    second_may k v by = inr (inr (inl (record {
+      number = by.number;
+      below = by.below;
+      of_log = record {
+        accepted = sym (accepted_b by.number by.below) ∙ by.of_log.accepted;
+        place = elim by.of_log.place [
+          | inl here ↦ inl here
+          | inr named ↦ inr (record { value = named.value; is = sym (given_b by.number k by.below) ∙ named.is })
+        ];
+      };
+    })))
+
+    second_changes : (fault : Option HostFault) (c : State) → TakesTurns F ALL_LOGS m fault b c → Changes (ByRecovery F i) fault a c
+    second_changes fault c turns = Changes-then (ByRecovery F i) fault a b c (first_changes None b settles) (Changes-wider (ByLogs F ALL_LOGS m) (ByRecovery F i) fault b c second_may turns.changes)
+
+    second_moments : (fault : Option HostFault) (c : State) → TakesTurns F ALL_LOGS m fault b c → Leaves Still a c
+    second_moments fault c turns = Leaves-then Still Still Still [] a b c (said_b ∙ sym (append-nil a.now.said)) (λ front image p. p) (λ more image p. p) (first_moments None b applies)
+        (Leaves-weaker (Silently (IsAlike F m)) Still b c (λ bytes image p. (p.0, alike_still image p.1)) turns.moments)
+
+    pub Recovers-logs : (fault : HostFault) (c : State) → TakesTurns F ALL_LOGS m (Some fault) b c → RecoversDevice size s (Some fault) a c
+    Recovers-logs fault c turns = broken_off fault c (second_changes (Some fault) c turns) (second_moments (Some fault) c turns)
+
+    module _ (c : State) (turns : TakesTurns F ALL_LOGS m None b c) where
+      abbrev n : Image
+      n = reads c.now.words
+
+      said_c : c.now.said ≡ b.now.said
+      said_c = Changes-said (ByLogs F ALL_LOGS m) None b c turns.changes
+
+      alike_c : IsAlike F m n
+      alike_c = (Leaves-now (Silently (IsAlike F m)) [] b c (said_c ∙ sym (append-nil b.now.said)) turns.moments n (Picks-reads c.now.words)).1
+
+      idle_c : is_idle_gate (n DAEMON_LOG) ≡ true
+      idle_c = idle_j n alike_c
+
+      pub HasIdleGate-logs : (v : ℕ) → HasOnly (c.now.words DAEMON_LOG) (n DAEMON_LOG)
+      HasIdleGate-logs v = (turns.rested refl).each DAEMON_LOG
+
+      frames_c : n FRAMES_WORD ≡ F
+      frames_c = alike_c.below FRAMES_WORD (omega arith) ∙ frames_of_world size m s now_b.stands
+
+      -- no log gives anything any more, so it settles to what it holds
+      plain_c : settled F n ≡ beside_logs F (settled_by DAEMON_LOG n)
+      unfolding settled
+      plain_c = settled_over-none F (settled_by DAEMON_LOG n) (λ number w few. idle_given F n idle_c number w few ∙ (turns.gone refl).each number w few)
+
+      -- ---- the log-space table
+
+      module _ (image : Image) (batched : IsBatched c.now.words DAEMON_LOG emptied image) where
+        before_c : batched.before ≡ n
+        before_c = reads_only c.now.words batched.before (turns.rested refl) batched.picked
+
+        frames_j : frames_of image ≡ F
+        frames_j =
+            batched.outside FRAMES_WORD (outside_log DAEMON_LOG FRAMES_WORD (inl (omega arith))) (clearing-outside CLIENTS FRAMES_WORD (omega arith) (inl (omega arith)))
+            ∙ ap (λ (x : Image). x FRAMES_WORD) before_c ∙ frames_c
+
+        legal_j : has_legal_log image ≡ true
+        legal_j = elim batched.log [
+          | inl idle ↦ legal_log_idle image idle
+          | inr full ↦ has_legal_log-of image F (committed emptied) frames_j full (clearing-allowed F CLIENTS (committed emptied) (omega arith))
+        ]
+
+        -- as it was
+        same_still : settled_by DAEMON_LOG image ≡ settled_by DAEMON_LOG batched.before → StandsStill size s i image
+        unfolding settled
+        same_still same =
+            let is : settled_by DAEMON_LOG image ≡ settled_by DAEMON_LOG n = same ∙ ap (settled_by DAEMON_LOG) before_c in
+            let settles_so : (k : ℕ) → settled F image k ≡ settled F i k = λ k. ap (λ (x : Image). settled_over F x k) is ∙ alike_settles n alike_c k in
+            record {
+              stands = world_again size s i image world legal_j (λ k read. settles_so k)
+                  (are_legal_spaces-same (settled F image) (settled F i) (λ k low high. settles_so k) ∙ held_i.spaces);
+              settles = λ k outside. settles_so k;
+              refused = λ number few refused. (alike_still n alike_c).refused number few (sym (ap (λ (x : Image). is_refused_log F x number) is) ∙ refused);
+            }
+
+        -- or with the table emptied
+        emptied_still : settled_by DAEMON_LOG image ≡ overwritten (batch_write emptied) (settled_by DAEMON_LOG batched.before) → StandsStill size s i image
+        unfolding settled
+        emptied_still all =
+            let write = batch_write emptied in
+            let is : settled_by DAEMON_LOG image ≡ overwritten write (settled_by DAEMON_LOG n) = all ∙ ap (λ (x : Image). overwritten write (settled_by DAEMON_LOG x)) before_c in
+            let free : (client : ℕ) → client < CLIENTS → settled_by DAEMON_LOG image (space_record_at client) ≡ 0 = λ client few.
+            ap (λ (x : Image). x (space_record_at client)) is ∙ overwritten-there write (settled_by DAEMON_LOG n) (space_record_at client) 0 (clearing-there CLIENTS client few) in
+            let unowned : (client : ℕ) → client < CLIENTS → owner_of (settled_by DAEMON_LOG image) client ≡ None = λ client few. free_record (settled_by DAEMON_LOG image) client (free client few) in
+            let plain : settled F image ≡ beside_logs F (settled_by DAEMON_LOG image) = settled_over-none F (settled_by DAEMON_LOG image)
+            (λ number w few. given_by_log-unowned F (settled_by DAEMON_LOG image) number w unowned few) in
+            let settles_so : (k : ℕ) → (k < SPACE_TABLE) ⊎ (PUDDLE_TABLE ≤ k) → settled F image k ≡ settled F i k = λ k outside.
+            ap (λ (x : Image). x k) plain
+            ∙ ap (λ (v : ℕ). cond (is_in_logs F k) 0 v) (ap (λ (x : Image). x k) is ∙ overwritten-stays write (settled_by DAEMON_LOG n) k (clearing-outside CLIENTS k (omega arith) outside))
+            ∙ sym (ap (λ (x : Image). x k) plain_c)
+            ∙ alike_settles n alike_c k in
+            record {
+              stands = world_again size s i image world legal_j (λ k read. settles_so k read.spaces)
+                  (are_legal_spaces-none (settled F image) (λ client few. settled-below F image (space_record_at client) (omega arith) ∙ free client few));
+              settles = settles_so;
+              refused = λ number few refused. absurd (let it : false ≡ true = sym (unowned_not_refused F (settled_by DAEMON_LOG image) number (unowned (client_of_log number) (omega arith))) ∙ refused in cc);
+            }
+
+        pub batched_still : StandsStill size s i image
+        batched_still = elim batched.settled [ inl same ↦ same_still same | inr all ↦ emptied_still all ]
+
+      third_may : (k v : ℕ) → ByBatch DAEMON_LOG emptied k v → ByRecovery F i k v
+      third_may k v (inl inside) = inl inside
+      third_may k v (inr named) = inr (inr (inr (in_table k named.value named.is)))
+
+      module _ (fault : Option HostFault) (d : State) (empties : Empties fault c d) where
+        third_changes : Changes (ByRecovery F i) fault a d
+        third_changes = Changes-then (ByRecovery F i) fault a c d (second_changes None c turns) (Changes-wider (ByBatch DAEMON_LOG emptied) (ByRecovery F i) fault c d third_may empties.commits.changes)
+
+        third_moments : Leaves Still a d
+        third_moments = Leaves-then Still Still Still [] a c d (said_c ∙ said_b ∙ sym (append-nil a.now.said)) (λ front image p. p) (λ more image p. p) (second_moments None c turns)
+            (Leaves-weaker (Silently (IsBatched c.now.words DAEMON_LOG emptied)) Still c d (λ bytes image p. (p.0, batched_still image p.1)) empties.commits.moments)

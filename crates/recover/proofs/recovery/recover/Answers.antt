@@ -1,0 +1,2 @@
+use Rattle.recover.proofs.Recovered.{Recovers-load, Recovers-logs, third_moments}
+use Rattle.recover.proofs.recovery.recover.Goals as goal

@@ -1,0 +1,114 @@
+//! The recovery of a device: what a start does before it says a word.
+
+ghost use Rattle.std.specs.Prelude.{◌≡◌, ◌≢◌, ◌↔◌, ◌<◌, ◌≤◌, ℕ, slice_index_or, Option, Result, IfOk};
+ghost use Rattle.pm_model.specs.Words.{IsRested, reads};
+ghost use Rattle.pm_model.specs.Counts.{after_fault, fault_of};
+ghost use Rattle.pm_model.specs.Changes.{Changes};
+ghost use Rattle.pud_defs.specs.declared.layout.TheConstants.{DAEMON_LOG, MAX_FRAMES};
+ghost use Rattle.pud_defs.specs.Image.{Image};
+ghost use Rattle.pud_defs.specs.Layout.{device_words};
+ghost use Rattle.pud_defs.specs.Replay.{settled_by};
+ghost use Rattle.pud_defs.specs.Registry.{frames_of};
+ghost use Rattle.pud_defs.specs.Settled.{ALL_LOGS};
+ghost use Rattle.pud_defs.specs.World.{StoredWorld, world_of};
+ghost use Rattle.soundness.specs.Judging.{IsRoomFor};
+ghost use Rattle.log_replay.specs.Replaying.{Anything};
+ghost use Rattle.recover.specs.Verdicts.{verdict_of, mark_of};
+ghost use Rattle.recover.specs.Turns.{TakesTurns};
+ghost use Rattle.recover.specs.Recovery.{recover_fault, RecoversDevice};
+
+use crate::judge::{LOGS, Mark, judge};
+use crate::turn::take_logs;
+use log_space::clear_spaces;
+use pm_model::{Host, HostFault};
+use registry::{LoadFault, load_sound};
+
+/// What a recovery found.
+#[derive(Clone, Copy, Debug, PartialEq, Eq)]
+pub struct Report {
+    /// The number of the device's frames, 4 to 1,024.
+    pub frames: u32,
+    /// What was found of each client's log, by its number: log `k` of client `c` has the number `4 * c + k`.
+    pub marks: [Mark; LOGS],
+}
+
+/// Why a device was not recovered.
+#[derive(Clone, Copy, Debug, PartialEq, Eq, thiserror::Error)]
+pub enum RecoverFault {
+    /// The device is not a sound registry. Nothing changed.
+    #[error("the device is not a sound registry")]
+    NotSound,
+    /// The host's own fault.
+    #[error("the host failed")]
+    Host(HostFault),
+}
+
+impl From<HostFault> for RecoverFault {
+    ghost use Rattle.recover.specs.declared.recovery.RecoverFault.TheVariants.{Host};
+
+    ghost from_gives = { λ fault e. e ≡ Host fault };
+
+    fn from(fault: HostFault) -> Self {
+        RecoverFault::Host(fault)
+    }
+}
+
+impl From<LoadFault> for RecoverFault {
+    ghost use Rattle.recover.specs.Recovery.{of_load};
+
+    ghost from_gives = { λ fault e. e ≡ of_load fault };
+
+    fn from(fault: LoadFault) -> Self {
+        match fault {
+            LoadFault::NotSound => RecoverFault::NotSound,
+            LoadFault::Host(fault) => RecoverFault::Host(fault),
+        }
+    }
+}
+
+/// Judges each client's log, and then replays and closes those that are allowed, on a device whose daemon log is closed.
+fn settle_logs<H: Host>(h: &mut H, frames: u32) -> Result<[Mark; LOGS], HostFault>
+    requires few { frames ≤ MAX_FRAMES }
+    requires room { device_words frames ≤ (H.counts h.old).size }
+    ensures marks { H.tells → (image : Image) → reads (H.state h.old).now.words ≡ image
+        → IfOk result (λ marks. (number : ℕ) → number < ALL_LOGS → slice_index_or marks number Mark.Closed ≡ mark_of (verdict_of frames image number)) }
+    ensures takes { H.tells → (image : Image) → IsRested (H.state h.old).now.words → reads (H.state h.old).now.words ≡ image
+        → TakesTurns frames ALL_LOGS image (fault_of result) (H.state h.old) (H.state h.new) }
+    ensures any { H.tells → Changes Anything (fault_of result) (H.state h.old) (H.state h.new) }
+    ensures cause { H.counts h.new ≡ after_fault (fault_of result) (H.counts h.old) }
+{
+    let found = judge(h, frames)?;
+    take_logs(h, frames, &found)?;
+    Ok(found.map(|mark| mark.unwrap_or(Mark::Closed)))
+}
+
+/// Recovers the device: applies what its daemon log names, replays and closes each registered log that its owner may, in the
+/// order of their numbers, and empties the log-space table. It takes no memory, and may be cut off anywhere and done again.
+///
+/// `NotSound` comes exactly where the device is not a sound registry, where the host does not fail first; then nothing
+/// changed. Clients' logs may hold anything: one that is not well formed, or names in its range anything but words of one
+/// puddle an entry that its owner may write, is refused whole, and stays as it is. On a device that is rested each image left
+/// meanwhile stands for the same world, and at `Ok` tables and frames read as the settled image. The only other errors are the
+/// host's own.
+pub fn recover<H: Host>(h: &mut H) -> Result<Report, RecoverFault>
+    ensures not_sound { H.tells → recover_fault result ≡ Option.None
+        → (result ≡ Result.Err RecoverFault.NotSound) ↔ (world_of (H.counts h.old).size (reads (H.state h.old).now.words) ≡ Option.None) }
+    ensures unchanged { H.tells → result ≡ Result.Err RecoverFault.NotSound → H.state h.new ≡ H.state h.old }
+    ensures recovers { H.tells → (size : ℕ) → size ≡ (H.counts h.old).size → (s : StoredWorld) → IsRested (H.state h.old).now.words
+        → world_of size (reads (H.state h.old).now.words) ≡ Option.Some s → RecoversDevice size s (recover_fault result) (H.state h.old) (H.state h.new) }
+    ensures marks { H.tells → (image : Image) → reads (H.state h.old).now.words ≡ image
+        → IfOk result (λ report. (number : ℕ) → number < ALL_LOGS
+        → slice_index_or report.marks number Mark.Closed ≡ mark_of (verdict_of (frames_of image) (settled_by DAEMON_LOG image) number)) }
+    ensures frames { H.tells → IfOk result (λ report. report.frames ≡ frames_of (reads (H.state h.old).now.words)) }
+    ensures room { IfOk result (λ report. IsRoomFor (H.counts h.old).size report.frames) }
+    ensures any { H.tells → Changes Anything (recover_fault result) (H.state h.old) (H.state h.new) }
+    ensures cause { H.counts h.new ≡ after_fault (recover_fault result) (H.counts h.old) }
+{
+    let geo = load_sound(h)?;
+    let marks = settle_logs(h, geo.frames)?;
+    clear_spaces(h)?;
+    Ok(Report {
+        frames: geo.frames,
+        marks,
+    })
+}
