@@ -192,8 +192,9 @@ fn overwrite<H: Host>(h: &mut H, log_at: u32, to: Target) -> Result<(), HostFaul
 /// table for puddles, each image left meanwhile replays to the same, also where the replay is cut off; it can be done again then.
 /// The only errors are the host's own.
 ///
-/// It loads the gate and the first two words of each entry twice, and the values of an entry in range once. For puddles the
-/// place of an entry in range takes one load for each frame, and one more for each puddle, up to the one that has its address.
+/// It loads the gate, and goes through the entries twice with three loads for each and one at the end; the values of an entry in
+/// range are loaded once. For puddles the place of an entry in range takes one load for each frame, and one more for each puddle,
+/// up to the one that has its address. At the end stands one fence.
 pub fn replay_range<H: Host>(h: &mut H, log_at: u32, to: Target) -> Result<(), HostFault>
     requires log { log_at + LOG_WORDS ≤ (H.counts h.old).size }
     requires tables { HasTables to (H.counts h.old).size }
