@@ -25,14 +25,14 @@ use Rattle.pud_defs.proofs.Worlds.{settled-below, holding_of_world, world_of_hol
 -- ---- images that agree behind the daemon log
 
 module _ (F : ℕ) (i j : Image) (same : (k : ℕ) → TYPE_TABLE ≤ k → j k ≡ i k) where
-  agree_tables : tables_of F j ≡ tables_of F i
+  pub agree_tables : tables_of F j ≡ tables_of F i
   agree_tables = tables_of-same F j i (λ k low high. same k (omega arith)) (λ k low high. same k (omega arith))
 
-  agree_owner : (client : ℕ) → client < CLIENTS → owner_of j client ≡ owner_of i client
+  pub agree_owner : (client : ℕ) → client < CLIENTS → owner_of j client ≡ owner_of i client
   agree_owner client few = owner_of-same j i client few (λ k low high. same k (omega arith))
 
   module _ (number : ℕ) (known : number < ALL_LOGS) where
-    agree_log : log_of j (log_number_at F number) ≡ log_of i (log_number_at F number)
+    pub agree_log : log_of j (log_number_at F number) ≡ log_of i (log_number_at F number)
     agree_log = log_of-within j i (log_number_at F number) (λ k inside. let low = inside.low in same k (omega arith))
 
     pub agree_given : (w : ℕ) → given_by_log F j number w ≡ given_by_log F i number w

@@ -1,5 +1,5 @@
 -- A device recovered, stage by stage: the daemon log applied, the clients' logs replayed and closed, the log-space table emptied.
-use Rattle.std.proofs.Common.{◌≡◌, ◌⊎◌, inl, inr, ℕ, ◌+◌, ◌*◌, ◌/◌, ◌%◌, ◌<◌, ◌≤◌, true, false, [], List, Option, Some, None, refl, sym, ap, subst, ◌∙◌, arith}
+use Rattle.std.proofs.Common.{◌≡◌, ◌⊎◌, inl, inr, ℕ, ◌+◌, ◌*◌, ◌/◌, ◌%◌, ◌<◌, ◌≤◌, true, false, cond, [], List, Option, Some, None, Result, Ok, Err, refl, sym, ap, subst, ◌∙◌, arith}
 use Rattle.std.proofs.lemmas.Bool.{cases_Bool, cases_eq, cases_lt, cond-true, cond-false}
 use Rattle.std.proofs.lemmas.List.{append-nil}
 use Rattle.std.proofs.lemmas.Option.{none-some}
@@ -22,11 +22,12 @@ use Rattle.pud_defs.specs.Settled.{ALL_LOGS, client_of_log, log_number_at, given
 use Rattle.pud_defs.specs.LogsTaken.{GivesNothingBelow}
 use Rattle.pud_defs.specs.Registry.{frames_of, is_allowed, are_allowed, has_legal_log}
 use Rattle.pud_defs.specs.World.{StoredWorld, world_of}
-use Rattle.pud_defs.proofs.Replay.{overwritten-stays, overwritten-there, settled_by-inside, settled_by-idle, outside_log, within_log, not_inside}
+use Rattle.pud_defs.proofs.Replay.{overwritten-stays, overwritten-there, settled_by-inside, settled_by-outside, settled_by-idle, outside_log, within_log, not_inside}
 use Rattle.pud_defs.proofs.Spaces.{are_legal_spaces-same, are_legal_spaces-none}
 use Rattle.pud_defs.proofs.Settled.{settled_over-none}
+use Rattle.pud_defs.proofs.Accepted.{accepted_not_refused}
 use Rattle.pud_defs.proofs.LogsTaken.{given_by_log-below}
-use Rattle.pud_defs.proofs.LogsBeside.{idle_given, idle_refused, idle_accepted, idle_settled, IsReadBeside, world_again}
+use Rattle.pud_defs.proofs.LogsBeside.{agree_tables, agree_owner, agree_log, idle_given, idle_refused, idle_accepted, idle_settled, IsReadBeside, world_again}
 use Rattle.pud_defs.proofs.Logged.{has_legal_log-of, settled_by-client_logs}
 use Rattle.pud_defs.proofs.Parts.{HoldsWorld}
 use Rattle.pud_defs.proofs.Worlds.{settled-below, legal_log_of_world, holding_of_world, frames_of_world}
@@ -34,13 +35,18 @@ use Rattle.pud_defs.proofs.IdleWorlds.{legal_log_idle}
 use Rattle.pud_defs.proofs.Idle.{given_by_log-unowned, idle_world_of-unowned}
 use Rattle.log_replay.specs.declared.Target.TheVariants as targets
 use Rattle.log_replay.specs.Replaying.{IsNamed, ByLog as ByOneLog, SettlesLog}
-use Rattle.batch.specs.Batches.{batch_write, ByBatch, committed, IsBatched, Commits}
+use Rattle.batch.specs.Batches.{HasIdleGate, batch_write, ByBatch, committed, IsBatched, Commits}
 use Rattle.batch.specs.Worlds.{IsSettled}
 use Rattle.log_space.specs.Clearing.{clearing, HasNoOwners, Empties}
 use Rattle.log_space.proofs.Cleared.{clearing-there, clearing-outside, clearing-allowed}
-use Rattle.registry.specs.Registry.{StillStands, AppliesLog}
+use Rattle.registry.specs.declared.Geo.{Geo}
+use Rattle.registry.specs.declared.LoadFault.{LoadFault}
+use Rattle.registry.specs.declared.LoadFault.TheVariants as loads
+use Rattle.registry.specs.Registry.{load_fault, StillStands, AppliesLog}
+use Rattle.recover.specs.declared.recovery.Report.{Report}
+use Rattle.recover.specs.Verdicts.{verdict_by, verdict_of}
 use Rattle.recover.specs.Turns.{IsOfLog, IsOfLogs, ByLogs, IsAlike, TakesTurns}
-use Rattle.recover.specs.Recovery.{ByRecovery, StandsStill, RecoversDevice}
+use Rattle.recover.specs.Recovery.{recover_fault, of_load, ByRecovery, StandsStill, RecoversDevice}
 use Rattle.recover.proofs.TurnsTaken.{none_of_fault}
 
 abbrev emptied : List Entry
@@ -109,6 +115,12 @@ module _ (size : ℕ) (s : StoredWorld) (a : State) (rested : IsRested a.now.wor
 
   pub Recovers-load : (fault : HostFault) (b : State) → AppliesLog size s (Some fault) a b → SettlesLog targets.Words DAEMON_LOG (Some fault) a b → RecoversDevice size s (Some fault) a b
   Recovers-load fault b applies settles = broken_off fault b (first_changes (Some fault) b settles) (first_moments (Some fault) b applies)
+
+  -- also where the load refused nothing
+  pub Recovers-loaded : (fault : LoadFault) (b : State) → (fault ≡ loads.NotSound → ⊥) → AppliesLog size s (load_fault {T = Geo} (Err fault)) a b
+      → SettlesLog targets.Words DAEMON_LOG (load_fault {T = Geo} (Err fault)) a b → RecoversDevice size s (recover_fault {T = Report} (Err (of_load fault))) a b
+  Recovers-loaded loads.NotSound b sound applies settles = absurd (sound refl)
+  Recovers-loaded (loads.Host fault) b sound applies settles = Recovers-load fault b applies settles
 
   module _ (b : State) (applies : AppliesLog size s None a b) (settles : SettlesLog targets.Words DAEMON_LOG None a b) where
     abbrev m : Image
@@ -200,8 +212,9 @@ module _ (size : ℕ) (s : StoredWorld) (a : State) (rested : IsRested a.now.wor
       idle_c : is_idle_gate (n DAEMON_LOG) ≡ true
       idle_c = idle_j n alike_c
 
-      pub HasIdleGate-logs : (v : ℕ) → HasOnly (c.now.words DAEMON_LOG) (n DAEMON_LOG)
-      HasIdleGate-logs v = (turns.rested refl).each DAEMON_LOG
+      -- the daemon log counts nothing still
+      pub HasIdleGate-logs : HasIdleGate DAEMON_LOG c.now.words
+      HasIdleGate-logs = record { each = λ v had. ap is_idle_gate (((turns.rested refl).each DAEMON_LOG).each v had) ∙ idle_c }
 
       frames_c : n FRAMES_WORD ≡ F
       frames_c = alike_c.below FRAMES_WORD (omega arith) ∙ frames_of_world size m s now_b.stands
@@ -278,3 +291,89 @@ module _ (size : ℕ) (s : StoredWorld) (a : State) (rested : IsRested a.now.wor
         third_moments : Leaves Still a d
         third_moments = Leaves-then Still Still Still [] a c d (said_c ∙ said_b ∙ sym (append-nil a.now.said)) (λ front image p. p) (λ more image p. p) (second_moments None c turns)
             (Leaves-weaker (Silently (IsBatched c.now.words DAEMON_LOG emptied)) Still c d (λ bytes image p. (p.0, batched_still image p.1)) empties.commits.moments)
+
+        -- a word that the batch does not write stays
+        kept_d : fault ≡ None → (k : ℕ) → is_in_log DAEMON_LOG k ≡ false → batch_write emptied k ≡ None → reads d.now.words k ≡ n k
+        kept_d none k outside nothing = (empties.commits.changes.keeps (λ cut. absurd (let it : None ≡ Some _ = sym none ∙ cut in cc)) k (λ v by. elim by [
+          | inl inside ↦ not_inside DAEMON_LOG k outside inside
+          | inr named ↦ none-some named.value (sym nothing ∙ named.is)
+        ])).newest
+
+        single_d : fault ≡ None → (k : ℕ) → is_in_log DAEMON_LOG k ≡ false → HasOnly (d.now.words k) (reads d.now.words k)
+        single_d none k outside = elim (batch_write emptied k) as (λ o. batch_write emptied k ≡ o → HasOnly (d.now.words k) (reads d.now.words k)) [
+          | Some v ↦ λ some. HasOnly-own (d.now.words k) v (empties.commits.durable none k v some)
+          | None ↦ λ nothing. HasOnly-own (d.now.words k) (n k) (HasOnly-kept (ByBatch DAEMON_LOG emptied) fault c d k (n k) empties.commits.changes (λ x by. elim by [
+            | inl inside ↦ not_inside DAEMON_LOG k outside inside
+            | inr named ↦ none-some named.value (sym nothing ∙ named.is)
+          ]) ((turns.rested refl).each k))
+        ] refl
+
+        -- beside the logs it reads as it settles to
+        reads_n : (k : ℕ) → is_in_log DAEMON_LOG k ≡ false → is_in_logs F k ≡ false → n k ≡ settled F i k
+        reads_n k outside beside =
+            sym (settled_by-idle DAEMON_LOG n k idle_c outside) ∙ sym (cond-false (is_in_logs F k) 0 (settled_by DAEMON_LOG n k) beside) ∙ sym (ap (λ (x : Image). x k) plain_c) ∙ alike_settles n alike_c k
+
+        -- a refused log is not written
+        kept_c : (number : ℕ) → number < ALL_LOGS → is_refused_log F m number ≡ true → (k : ℕ) → IsInLog (log_number_at F number) k → n k ≡ m k
+        kept_c number few refused k inside =
+            let low = inside.low in
+            let high = inside.high in
+            (turns.changes.keeps (λ cut. absurd (let it : None ≡ Some _ = cut in cc)) k (λ v by.
+              let known = by.below in
+              elim by.of_log.place [
+                | inl here ↦
+                    let same : by.number ≡ number = omega arith in
+                    let accepted = ap (is_accepted_log F m) (sym same) ∙ by.of_log.accepted in
+                    let it = accepted_not_refused (tables_of F m) (owner_of m (client_of_log number)) (log_of m (log_number_at F number)) accepted in
+                    absurd (let no : false ≡ true = sym it ∙ refused in cc)
+                | inr named ↦ none-some named.value (sym (given_by_log-below F m by.number k (omega arith)) ∙ named.is)
+              ])).newest
+
+        kept_b : (number : ℕ) → number < ALL_LOGS → (k : ℕ) → IsInLog (log_number_at F number) k → m k ≡ i k
+        kept_b number few k inside =
+            let low = inside.low in
+            let high = inside.high in
+            let frames : frames_of i ≡ F = frames_of_world size i s world in
+            sym (settled_by-idle DAEMON_LOG m k idle_b (outside_log DAEMON_LOG k (inr (omega arith)))) ∙ ap (λ (x : Image). x k) now_b.settled
+            ∙ settled_by-client_logs i k (legal_log_of_world size i s world) (rw frames (let it : tables_end F ≤ k = omega arith in it)) (rw frames (let it : k < frames_at F = omega arith in it))
+
+        pub Recovers-cleared : RecoversDevice size s fault a d
+        Recovers-cleared = record {
+          changes = third_changes;
+          moments = third_moments;
+          settled_now = λ none. record {
+            stands = λ image picked.
+                let still = (Leaves-now Still [] a d (Changes-said (ByRecovery F i) fault a d third_changes ∙ sym (append-nil a.now.said)) third_moments image picked).1 in
+                idle_world_of-unowned size image s still.stands (λ client few. (empties.done none image picked).each client few);
+            idle = λ v had. ap is_idle_gate ((empties.commits.closed none).each v had);
+          };
+          single = single_d;
+          reads_so = λ none k outside beside spaces. kept_d none k outside (clearing-outside CLIENTS k (omega arith) spaces) ∙ reads_n k outside beside;
+          closed = λ none number few accepted.
+              ap is_idle_gate (kept_d none (log_number_at F number) (outside_log DAEMON_LOG (log_number_at F number) (inr (omega arith))) (clearing-outside CLIENTS (log_number_at F number) (omega arith) (inr (omega arith))))
+              ∙ turns.closed refl number few (accepted_b number few ∙ accepted);
+          untouched = λ none number few refused k inside.
+              let low = inside.low in
+              kept_d none k (outside_log DAEMON_LOG k (inr (omega arith))) (clearing-outside CLIENTS k (omega arith) (inr (omega arith)))
+              ∙ kept_c number few (refused_b number few ∙ refused) k inside ∙ kept_b number few k inside;
+          cleared = λ none client few. HasOnly-newest (d.now.words (space_record_at client)) 0 (empties.commits.durable none (space_record_at client) 0 (clearing-there CLIENTS client few));
+        }
+
+-- ---- whatever the device holds
+
+-- what is found behind the daemon log is found of what is read once it is applied
+pub verdict_behind : (F : ℕ) (a b : State) (number : ℕ) → SettlesLog targets.Words DAEMON_LOG None a b → number < ALL_LOGS
+    → verdict_of F (reads b.now.words) number ≡ verdict_of F (settled_by DAEMON_LOG (reads a.now.words)) number
+unfolding verdict_of
+verdict_behind F a b number settles few =
+    let i = settled_by DAEMON_LOG (reads a.now.words) in
+    let j = reads b.now.words in
+    let same : (k : ℕ) → TYPE_TABLE ≤ k → j k ≡ i k = λ k low.
+    settles.reads_so refl k (λ here. absurd (omega arith)) ∙ sym (settled_by-outside DAEMON_LOG (reads a.now.words) k (outside_log DAEMON_LOG k (inr (omega arith)))) in
+    λ p. verdict_by (agree_tables F i j same p) (agree_owner F i j same (client_of_log number) (omega arith) p) (agree_log F i j same number few p)
+
+-- the number of frames that a device was loaded with is the one that it reads
+pub frames_loaded : (size : ℕ) (geo : Geo) (image : Image) (o : Option StoredWorld) → world_of size image ≡ o → (o ≡ None → ◌≡◌ {A = Result Geo LoadFault} (Ok geo) (Err loads.NotSound))
+    → ((s : StoredWorld) → world_of size image ≡ Some s → geo.frames ≡ s.frames) → geo.frames ≡ frames_of image
+frames_loaded size geo image None is unsound of_world = absurd (let it = unsound refl in cc)
+frames_loaded size geo image (Some s) is unsound of_world = of_world s is ∙ sym (frames_of_world size image s is)

@@ -3,6 +3,7 @@ use Rattle.std.proofs.Common.{◌≡◌, ◌⊎◌, inl, inr, ℕ, ◌+◌, ◌*
 use Rattle.std.proofs.lemmas.Bool.{cases_eq}
 use Rattle.std.proofs.lemmas.List.{append-nil}
 use Rattle.pm_model.specs.declared.host.HostFault.{HostFault}
+use Rattle.pm_model.specs.declared.host.HostFault.TheVariants.{Cut}
 use Rattle.pm_model.specs.Words.{reads, Picks, IsRested}
 use Rattle.pm_model.specs.Moments.{State}
 use Rattle.pm_model.specs.Changes.{Changes, Leaves, Silently}
@@ -131,7 +132,7 @@ module _ (F number : ℕ) (image : Image) (old mid : State) (known : number < AL
       left = λ none n low few. other_log F number m (reads new.now.words) known takes_now n few (λ same. absurd (omega arith)) ∙ first.left refl n (omega arith) few;
     }
 
-none_of_fault : {A : Type 0} (fault : HostFault) → Some fault ≡ None → A
+pub none_of_fault : {A : Type 0} (fault : HostFault) → Some fault ≡ None → A
 none_of_fault fault none = absurd (let it : None ≡ Some fault = sym none in cc)
 
 -- where a fault came nothing is said of the end
@@ -145,3 +146,15 @@ TakesTurns-failed F count all image fault old new few t =
       closed = λ none. none_of_fault fault none;
       left = λ none. none_of_fault fault none;
     }
+
+-- nor where nothing was done
+pub TakesTurns-unread : (F : ℕ) (image : Image) (fault : HostFault) (old new : State) → IsRested old.now.words → reads old.now.words ≡ image → (Some fault ≡ Some Cut → ⊥) → new ≡ old
+    → TakesTurns F ALL_LOGS image (Some fault) old new
+TakesTurns-unread F image fault old new rested is uncut same = record {
+  changes = Changes-still (ByLogs F ALL_LOGS image) (Some fault) old new uncut same;
+  moments = Leaves-still (Silently (IsAlike F image)) old new (λ other picked. (refl, IsAlike-itself F image other (reads_only old.now.words other rested picked ∙ is))) same;
+  rested = λ none. none_of_fault fault none;
+  gone = λ none. none_of_fault fault none;
+  closed = λ none. none_of_fault fault none;
+  left = λ none. none_of_fault fault none;
+}

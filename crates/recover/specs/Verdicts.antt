@@ -36,9 +36,3 @@ abbrev pub is_refused_mark : Mark → Bool
 is_refused_mark Refused = true
 is_refused_mark Replayed = false
 is_refused_mark Closed = false
-
--- The log of a number is registered, and allowed by the tables of the same image.
-pub record IsAllowed (F : ℕ) (image : Image) (number : ℕ) : Type 0 where
-  pub who : Owner
-  pub registered : owner_of image (client_of_log number) ≡ Some who
-  pub allowed : is_allowed_log (tables_of F image) who (log_of image (log_number_at F number)) ≡ true

@@ -66,6 +66,19 @@ impl From<LoadFault> for RecoverFault {
     }
 }
 
+/// The mark of each log, by what was found of it.
+fn marks_of(found: &[Option<Mark>; LOGS]) -> [Mark; LOGS]
+    ensures { (number : ℕ) → number < ALL_LOGS → slice_index_or result number Mark.Closed ≡ mark_of (slice_index_or found.now number Option.None) }
+{
+    let mut marks = [Mark::Closed; LOGS];
+    for number in 0..LOGS {
+        if let Some(mark) = found[number] {
+            marks[number] = mark;
+        }
+    }
+    marks
+}
+
 /// Judges each client's log, and then replays and closes those that are allowed, on a device whose daemon log is closed.
 fn settle_logs<H: Host>(h: &mut H, frames: u32) -> Result<[Mark; LOGS], HostFault>
     requires few { frames ≤ MAX_FRAMES }
@@ -79,7 +92,7 @@ fn settle_logs<H: Host>(h: &mut H, frames: u32) -> Result<[Mark; LOGS], HostFaul
 {
     let found = judge(h, frames)?;
     take_logs(h, frames, &found)?;
-    Ok(found.map(|mark| mark.unwrap_or(Mark::Closed)))
+    Ok(marks_of(&found))
 }
 
 /// Recovers the device: applies what its daemon log names, replays and closes each registered log that its owner may, in the

@@ -1,2 +1,109 @@
-use Rattle.recover.proofs.Recovered.{Recovers-load, Recovers-logs, third_moments}
+use Rattle.std.proofs.Common.{◌≡◌, ◌∙◌, ℕ, Result, Ok, Err, None, Some, refl, sym, ap, subst}
+use Rattle.std.proofs.lemmas.Option.{none-some}
+use Rattle.std.proofs.lemmas.Result.{err_from_is_err_and}
+use Rattle.pm_model.specs.declared.host.HostFault.{HostFault}
+use Rattle.pm_model.specs.Words.{reads}
+use Rattle.pm_model.specs.Moments.{State}
+use Rattle.pm_model.proofs.Changes.{Changes-then}
+use Rattle.pud_defs.specs.declared.layout.TheConstants.{DAEMON_LOG}
+use Rattle.pud_defs.specs.Image.{Image}
+use Rattle.pud_defs.specs.Replay.{settled_by}
+use Rattle.pud_defs.specs.Registry.{frames_of}
+use Rattle.pud_defs.specs.Settled.{ALL_LOGS}
+use Rattle.pud_defs.specs.World.{world_of}
+use Rattle.log_replay.specs.Replaying.{Anything}
+use Rattle.registry.specs.declared.Geo.{Geo}
+use Rattle.registry.specs.declared.LoadFault.{LoadFault}
+use Rattle.registry.specs.declared.LoadFault.TheVariants.{NotSound}
+use Rattle.registry.specs.Registry.{load_fault}
+use Rattle.recover.specs.Verdicts.{verdict_of, mark_of}
+use Rattle.recover.specs.Turns.{TakesTurns}
+use Rattle.recover.proofs.Recovered.{Recovers-loaded, Recovers-logs, Recovers-cleared, HasIdleGate-logs, verdict_behind, frames_loaded}
 use Rattle.recover.proofs.recovery.recover.Goals as goal
+
+pub returns-in_err-geo-clause-recovers : goal.returns-in_err-geo-clause-recovers
+returns-in_err-geo-clause-recovers g c =
+    let p = err_from_is_err_and c.from_residual.result c.from_residual.ensures.1 in
+    let fault = c.in_err-geo.field-0.0 in
+    rw (p.1, p.2) (λ t size same s rested world.
+      let sound : fault ≡ NotSound → ⊥ = λ is. none-some s (sym ((c.in_err-geo.ensures.not_sound t (ap (λ (f : LoadFault). load_fault {T = Geo} (Err f)) is)).0 (ap Err is)) ∙ rw (sym same) world) in
+      Recovers-loaded size s (g.H.Host.state c.args.h.now) rested world fault (g.H.Host.state c.load_sound.new.h) sound
+      (c.in_err-geo.ensures.applies t size same s rested world) (c.in_err-geo.ensures.settles t (λ is. sound cc)))
+
+pub returns-in_err-marks-clause-recovers : goal.returns-in_err-marks-clause-recovers
+returns-in_err-marks-clause-recovers g c =
+    let p = err_from_is_err_and c.from_residual-in_err-marks.result c.from_residual-in_err-marks.ensures.1 in
+    let a = g.H.Host.state c.args.h.now in
+    let b = g.H.Host.state c.load_sound.new.h in
+    let d = g.H.Host.state c.settle_logs.new.h in
+    let fault = c.in_err-marks.field-0.0 in
+    rw (p.1, p.2) (λ t size same s rested world.
+      let applies = c.in_ok-geo.ensures.applies t size same s rested world in
+      let settles = c.in_ok-geo.ensures.settles t (λ is. cc) in
+      Recovers-logs size s a rested world b applies settles fault d
+      (subst (λ (F : ℕ). TakesTurns F ALL_LOGS (reads b.now.words) (Some fault) b d) (c.in_ok-geo.ensures.geo t size same s world).0
+      (c.in_err-marks.ensures.takes t (reads b.now.words) (applies.rested refl) refl)))
+
+pub returns-in_err-marks-clause-any : goal.returns-in_err-marks-clause-any
+returns-in_err-marks-clause-any g c =
+    let p = err_from_is_err_and c.from_residual-in_err-marks.result c.from_residual-in_err-marks.ensures.1 in
+    rw (p.1, p.2) (λ t. Changes-then Anything (Some c.in_err-marks.field-0.0) (g.H.Host.state c.args.h.now) (g.H.Host.state c.load_sound.new.h) (g.H.Host.state c.settle_logs.new.h)
+      (c.in_ok-geo.ensures.any t) (c.in_err-marks.ensures.any t))
+
+pub returns-in_err-clear_spaces-clause-recovers : goal.returns-in_err-clear_spaces-clause-recovers
+returns-in_err-clear_spaces-clause-recovers g c =
+    let p = err_from_is_err_and c.from_residual-in_err-clear_spaces.result c.from_residual-in_err-clear_spaces.ensures.1 in
+    let a = g.H.Host.state c.args.h.now in
+    let b = g.H.Host.state c.load_sound.new.h in
+    let d = g.H.Host.state c.settle_logs.new.h in
+    let fault = c.in_err-clear_spaces.field-0.0 in
+    rw (p.1, p.2) (λ t size same s rested world.
+      let applies = c.in_ok-geo.ensures.applies t size same s rested world in
+      let settles = c.in_ok-geo.ensures.settles t (λ is. cc) in
+      let turns = subst (λ (F : ℕ). TakesTurns F ALL_LOGS (reads b.now.words) None b d) (c.in_ok-geo.ensures.geo t size same s world).0
+      (c.in_ok-marks.ensures.takes t (reads b.now.words) (applies.rested refl) refl) in
+      Recovers-cleared size s a rested world b applies settles d turns (Some fault) (g.H.Host.state c.clear_spaces.new.h)
+      (c.in_err-clear_spaces.ensures.empties t (HasIdleGate-logs size s a rested world b applies settles d turns)))
+
+pub returns-in_err-clear_spaces-clause-any : goal.returns-in_err-clear_spaces-clause-any
+returns-in_err-clear_spaces-clause-any g c =
+    let p = err_from_is_err_and c.from_residual-in_err-clear_spaces.result c.from_residual-in_err-clear_spaces.ensures.1 in
+    let a = g.H.Host.state c.args.h.now in
+    let b = g.H.Host.state c.load_sound.new.h in
+    let d = g.H.Host.state c.settle_logs.new.h in
+    rw (p.1, p.2) (λ t. Changes-then Anything (Some c.in_err-clear_spaces.field-0.0) a d (g.H.Host.state c.clear_spaces.new.h)
+      (Changes-then Anything None a b d (c.in_ok-geo.ensures.any t) (c.in_ok-marks.ensures.any t)) (c.in_err-clear_spaces.ensures.any t))
+
+pub returns-clause-recovers : goal.returns-clause-recovers
+returns-clause-recovers g c = λ t size same s rested world.
+    let a = g.H.Host.state c.args.h.now in
+    let b = g.H.Host.state c.load_sound.new.h in
+    let d = g.H.Host.state c.settle_logs.new.h in
+    let applies = c.in_ok-geo.ensures.applies t size same s rested world in
+    let settles = c.in_ok-geo.ensures.settles t (λ is. cc) in
+    let turns = subst (λ (F : ℕ). TakesTurns F ALL_LOGS (reads b.now.words) None b d) (c.in_ok-geo.ensures.geo t size same s world).0
+    (c.in_ok-marks.ensures.takes t (reads b.now.words) (applies.rested refl) refl) in
+    Recovers-cleared size s a rested world b applies settles d turns None (g.H.Host.state c.clear_spaces.new.h)
+    (c.in_ok-clear_spaces.ensures.empties t (HasIdleGate-logs size s a rested world b applies settles d turns))
+
+pub returns-clause-frames : goal.returns-clause-frames
+returns-clause-frames g c = λ t.
+    let size = (g.H.Host.counts c.args.h.now).size in
+    frames_loaded size c.in_ok-geo.geo (reads (g.H.Host.state c.args.h.now).now.words) (world_of size (reads (g.H.Host.state c.args.h.now).now.words)) refl
+    (λ none. (c.in_ok-geo.ensures.not_sound t refl).1 none) (λ s world. (c.in_ok-geo.ensures.geo t size refl s world).0)
+
+pub returns-clause-marks : goal.returns-clause-marks
+returns-clause-marks g c = λ t image is number few.
+    let a = g.H.Host.state c.args.h.now in
+    let b = g.H.Host.state c.load_sound.new.h in
+    let frames = returns-clause-frames g c t ∙ ap frames_of is in
+    c.in_ok-marks.ensures.marks t (reads b.now.words) refl number few
+    ∙ ap (λ (F : ℕ). mark_of (verdict_of F (reads b.now.words) number)) frames
+    ∙ ap mark_of (verdict_behind (frames_of image) a b number (c.in_ok-geo.ensures.settles t (λ e. cc)) few ∙ ap (λ (i : Image). verdict_of (frames_of image) (settled_by DAEMON_LOG i) number) is)
+
+pub returns-clause-any : goal.returns-clause-any
+returns-clause-any g c = λ t.
+    let a = g.H.Host.state c.args.h.now in
+    let b = g.H.Host.state c.load_sound.new.h in
+    let d = g.H.Host.state c.settle_logs.new.h in
+    Changes-then Anything None a d (g.H.Host.state c.clear_spaces.new.h) (Changes-then Anything None a b d (c.in_ok-geo.ensures.any t) (c.in_ok-marks.ensures.any t)) (c.in_ok-clear_spaces.ensures.any t)
