@@ -51,7 +51,7 @@ struct Registrant {
     gid: u64,
 }
 
-/// An id in 32 bits, which is this one of a pool exactly where the id is: one of more bits is no pool's.
+/// The id as one of 32 bits, equal to this id of a pool exactly where the id itself is. One of more bits is no pool's.
 fn narrowed(id: u64, of_pool: u32) -> u32
     ensures { (of_pool == result) ≡ (of_pool == id) }
 {
