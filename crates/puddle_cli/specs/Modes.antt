@@ -8,14 +8,14 @@ use Rattle.pud_defs.specs.declared.layout.TheConstants.{DAEMON_LOG}
 use Rattle.pud_defs.specs.Image.{Image}
 use Rattle.pud_defs.specs.Replay.{settled_by}
 use Rattle.pud_defs.specs.Texts.{start_text}
-use Rattle.pud_defs.specs.LayoutText.{layout_text}
-use Rattle.pud_defs.specs.CheckText.{check_text}
-use Rattle.pud_defs.specs.World.{StoredWorld, World, stored_by, no_clients, world_of, closed}
+use Rattle.pud_defs.specs.World.{StoredWorld, World, no_clients, world_of, closed}
 use Rattle.puddled.specs.Daemon.{KeepsRest, SaysPart}
 use Rattle.command_line.specs.declared.modes.Mode.{Mode}
 use Rattle.command_line.specs.declared.modes.Mode.TheVariants.{Format, Run, Layout, Check}
 use Rattle.puddle_cli.specs.declared.status.TheConstants.{DONE, USAGE, NOT_USABLE, TOO_LONG}
+use Rattle.puddle_cli.specs.declared.show.View.TheVariants as views
 use Rattle.puddle_cli.specs.Status.{status_fault, IsStatusOfMode}
+use Rattle.puddle_cli.specs.Views.{text_of}
 use Rattle.puddle_cli.specs.Formatting.{is_refused, Formats}
 use Rattle.puddle_cli.specs.Serving.{IsUnsoundBehindLoss}
 use Rattle.puddle_cli.specs.Headline.{TakesScript, Headline}
@@ -73,5 +73,5 @@ abbrev pub DoesBy : Option Mode → ℕ → Counts → Counts → State → Stat
 DoesBy None status before after old new = new ≡ old
 DoesBy (Some (Format F id)) status before after old new = FormatsDevice F id status before after old new
 DoesBy (Some Run) status before after old new = RunsScript status before after old new
-DoesBy (Some Layout) status before after old new = Shows layout_text status before after old new
-DoesBy (Some Check) status before after old new = Shows (λ image. check_text (stored_by image)) status before after old new
+DoesBy (Some Layout) status before after old new = Shows (text_of views.Layout) status before after old new
+DoesBy (Some Check) status before after old new = Shows (text_of views.Check) status before after old new
