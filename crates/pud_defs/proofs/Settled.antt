@@ -1,18 +1,21 @@
 -- The image that a start leaves: what one log gives, what they give in turn, and one log beside the others.
-use Rattle.std.proofs.Common.{◌≡◌, ◌⊎◌, inl, inr, ℕ, zero, suc, ◌+◌, ◌*◌, ◌/◌, ◌%◌, ◌<◌, ◌≤◌, Bool, true, false, cond, eqb, Option, Some, None, refl, sym, ap, ap₂, ◌∙◌, arith, eq-eqb, ne_eqb}
+use Rattle.std.proofs.Common.{◌≡◌, inl, inr, ℕ, zero, suc, ◌+◌, ◌%◌, ◌<◌, ◌≤◌, Bool, true, false, cond, eqb, not, ◌&&◌, ◌||◌, ltb, List, [], ◌∷◌, Option, Some, None, is_some, refl, sym, ap, ap₂, subst, ◌∙◌, arith, eq-eqb, ne_eqb}
 use Rattle.std.specs.Prelude.{unwrap_or}
+use Rattle.std.specs.List.{list_all}
 use Rattle.std.specs.Option.{option_or}
-use Rattle.std.proofs.lemmas.Bool.{cases_eq, cond-true, cond-false}
-use Rattle.pud_defs.specs.declared.layout.TheConstants.{CLIENTS, CLIENT_LOGS, LOG_WORDS}
+use Rattle.std.proofs.lemmas.Bool.{cases_eq, cond-true, cond-false, and_parts, eqb-true}
+use Rattle.std.proofs.lemmas.Bool.Decides.{nat_tests}
+use Rattle.pud_defs.specs.declared.layout.TheConstants.{CLIENTS, CLIENT_LOGS}
 use Rattle.pud_defs.specs.Image.{Image}
-use Rattle.pud_defs.specs.Entries.{Log, log_of}
-use Rattle.pud_defs.specs.Replay.{over, overwritten, new_value}
-use Rattle.pud_defs.specs.Spaces.{Owner, owner_of}
+use Rattle.pud_defs.specs.Layout.{log_at}
+use Rattle.pud_defs.specs.Entries.{Entry, Log, gate_lo, gate_hi, entries_of, log_of}
+use Rattle.pud_defs.specs.Replay.{overwritten, new_value, is_in_range}
+use Rattle.pud_defs.specs.Spaces.{Owner, owner, space_record_at, is_closed_range, is_closed_log, has_closed_logs, are_closed_logs}
 use Rattle.pud_defs.specs.Tables.{Tables, tables_of}
-use Rattle.pud_defs.specs.Allowed.{puddle_word, is_allowed_log}
-use Rattle.pud_defs.specs.Settled.{gives_to, ALL_LOGS, client_of_log, log_number_at, given_by_log, given_in_turn, is_in_logs, beside_logs, settled_over, AreDisjoint, given_but, given_by_others, alone, IsApart, IsBeside}
+use Rattle.pud_defs.specs.Allowed.{puddle_word, is_allowed_entry, are_allowed_entries, is_allowed_log, is_refused}
+use Rattle.pud_defs.specs.Settled.{gives_to, ALL_LOGS, client_of_log, log_number_at, given_by_log, is_refused_log, given_in_turn, is_in_logs, beside_logs, settled_over, AreDisjoint, given_but, given_by_others, alone, IsApart, IsBeside}
 use Rattle.pud_defs.proofs.Keyed.{or_none}
-use Rattle.pud_defs.proofs.Spaces.{log_of-within}
+use Rattle.pud_defs.proofs.Spaces.{all_below-each, log_of-within}
 use Rattle.pud_defs.proofs.Replay.{new_value-closed, overwritten-nothing}
 
 -- ---- what one log gives
@@ -155,3 +158,45 @@ given_by_others-beside F number i j beside =
       | inr apart ↦ but_other number (given_by_log F j) other w apart ∙ given_same other w (omega arith) apart ∙ sym (but_other number (given_by_log F i) other w apart)
     ]) in
     λ p w. each w p
+
+-- ---- logs that are closed
+
+out_of_range : (lo hi seq : ℕ) → lo ≡ hi → (ltb lo seq && ltb seq hi) ≡ false
+out_of_range lo hi seq same = grind (arith, nat_tests)
+
+-- none of the entries can be in range, so each is allowed
+entries_allowed : (t : Tables) (who : Owner) (log : Log) (es : List Entry) → log.lo ≡ log.hi → list_all (λ e. not (is_in_range log e) || is_allowed_entry t who e) es ≡ true
+entries_allowed t who log [] same = refl
+entries_allowed t who log (e ∷ es) same =
+    ap₂ (λ b rest. (not b || is_allowed_entry t who e) && rest) (out_of_range log.lo log.hi e.seq same) (entries_allowed t who log es same)
+
+allowed_if_some : (t : Tables) (who : Owner) (log : Log) (o : Option (List Entry)) → log.lo ≡ log.hi → is_some o ≡ true → are_allowed_entries t who log o ≡ true
+allowed_if_some t who log None same some = absurd (let no : false ≡ true = some in cc)
+allowed_if_some t who log (Some es) same some = entries_allowed t who log es same
+
+-- a log that is closed is allowed
+pub is_allowed_log-closed : (t : Tables) (who : Owner) (image : Image) (at : ℕ) → is_closed_log image at ≡ true → is_allowed_log t who (log_of image at) ≡ true
+unfolding is_allowed_log
+is_allowed_log-closed t who image at closed =
+    let parts = and_parts (is_closed_range (image at)) (is_some (entries_of image at)) closed in
+    let range = and_parts (eqb (gate_lo (image at)) (gate_hi (image at))) _ parts.0 in
+    allowed_if_some t who (log_of image at) (entries_of image at) (eqb-true (gate_lo (image at)) (gate_hi (image at)) range.0) parts.1
+
+of_used : (used : ℕ) (b : Bool) → used ≡ 1 → (eqb used 0 || b) ≡ true → b ≡ true
+of_used used b one either = subst (λ (v : ℕ). (eqb v 0 || b) ≡ true) one either
+
+-- where each registered log is closed none is refused
+pub is_refused_log-closed : (F : ℕ) (image : Image) (number : ℕ) → number < ALL_LOGS → are_closed_logs image F ≡ true → is_refused_log F image number ≡ false
+is_refused_log-closed F image number below closed =
+    let client = client_of_log number in
+    let used = image (space_record_at client) in
+    let here = all_below-each CLIENTS (λ c. eqb (image (space_record_at c)) 0 || has_closed_logs image F c) closed client (omega arith) in
+    elim (cases_eq used 1) [
+      | inl one ↦
+          let logs = of_used used (has_closed_logs image F client) one here in
+          let log = all_below-each CLIENT_LOGS (λ n. is_closed_log image (log_at F client n)) logs (number % CLIENT_LOGS) (omega arith) in
+          let who = owner (image (space_record_at client + 1)) (image (space_record_at client + 2)) in
+          ap (λ o. is_refused (tables_of F image) o (log_of image (log_number_at F number))) (cond-true (eqb used 1) (Some who) None (eq-eqb used 1 one))
+          ∙ ap not (is_allowed_log-closed (tables_of F image) who image (log_number_at F number) log)
+      | inr other ↦ ap (λ o. is_refused (tables_of F image) o (log_of image (log_number_at F number))) (cond-false (eqb used 1) _ None (ne_eqb used 1 other))
+    ]
