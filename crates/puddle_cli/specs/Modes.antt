@@ -7,7 +7,7 @@ use Rattle.pm_model.specs.Changes.{Leaves}
 use Rattle.pud_defs.specs.declared.layout.TheConstants.{DAEMON_LOG}
 use Rattle.pud_defs.specs.Image.{Image}
 use Rattle.pud_defs.specs.Replay.{settled_by}
-use Rattle.pud_defs.specs.Texts.{start_text}
+use Rattle.pud_defs.specs.StartText.{start_text}
 use Rattle.pud_defs.specs.World.{StoredWorld, World, no_clients, world_of, closed}
 use Rattle.puddled.specs.Daemon.{KeepsRest, SaysPart}
 use Rattle.command_line.specs.declared.modes.Mode.{Mode}
@@ -55,7 +55,7 @@ pub record Shows (text : Image → List ℕ) (status : ℕ) (before after : Coun
   pub not_usable : status_fault status ≡ None → (status ≡ NOT_USABLE) ↔ (world_of before.size (reads old.now.words) ≡ None)
   pub stays : status ≡ NOT_USABLE → new ≡ old
   pub completes : world_of before.size (reads old.now.words) ≢ None → NoneRose before after → status ≡ DONE
-  pub says : status ≢ NOT_USABLE → SaysPart (start_text ++ text (settled_by DAEMON_LOG (reads old.now.words))) (status_fault status) old new
+  pub says : status ≢ NOT_USABLE → SaysPart (start_text (reads old.now.words) ++ text (settled_by DAEMON_LOG (reads old.now.words))) (status_fault status) old new
   pub in_the_end : status ≡ DONE → text (reads new.now.words) ≡ text (settled_by DAEMON_LOG (reads old.now.words))
   pub moments : IsRested old.now.words → (s : StoredWorld) → world_of before.size (reads old.now.words) ≡ Some s → Leaves (λ bytes image. world_of before.size image ≡ Some s) old new
   pub rest : KeepsRest old new
