@@ -1,5 +1,6 @@
 -- Steps of the machine, lines of a script, and what is said.
 use Rattle.std.proofs.Common.{◌≡◌, ℕ, true, false, List, [], ◌∷◌, ◌++◌, map, codes, Some, None, refl}
+use Rattle.std.specs.Prelude.{◌==◌, ◌||◌}
 use Rattle.std.specs.List.{range_with_len}
 use Rattle.pud_defs.specs.declared.machine.Reply.TheVariants as replies
 use Rattle.pud_defs.specs.declared.machine.Refusal.TheVariants as refusals
@@ -7,7 +8,8 @@ use Rattle.pud_defs.specs.World.{World, no_clients, restart, blank_world}
 use Rattle.pud_defs.specs.Step.{step_answer, step_world}
 use Rattle.pud_defs.specs.Step.Answer.{of_reply, of_text}
 use Rattle.pud_defs.specs.Run.{newlines, lines_taken}
-use Rattle.pud_defs.specs.Texts.{start_text, formatted_text, reply_text, answer_text, begins_with_ok}
+use Rattle.pud_defs.specs.Texts.{ready_text, formatted_text, reply_text, answer_text, begins_with_ok}
+use Rattle.pud_defs.specs.StartText.{refused_lines}
 use Rattle.pud_defs.proofs.Opened.{opened}
 
 -- a world of four frames with these types, no clients and no files
@@ -157,9 +159,17 @@ two_newlines : newlines (codes "a" ++ 10 ∷ 10 ∷ codes "b") ≡ 2
 two_newlines = refl
 
 -- what is said
-ready : start_text ≡ 114 ∷ 101 ∷ 97 ∷ 100 ∷ 121 ∷ 10 ∷ []
+ready : ready_text ≡ 114 ∷ 101 ∷ 97 ∷ 100 ∷ 121 ∷ 10 ∷ []
 unfolding opened
 ready = refl
+
+no_log_refused : refused_lines (λ number. false) ≡ []
+unfolding opened refused_lines
+no_log_refused = refl
+
+two_logs_refused : refused_lines (λ number. number == 6 || number == 31) ≡ codes "refused 1 2" ++ 10 ∷ codes "refused 7 3" ++ 10 ∷ []
+unfolding opened refused_lines
+two_logs_refused = refl
 
 formatted : formatted_text ≡ codes "formatted" ++ 10 ∷ []
 unfolding opened

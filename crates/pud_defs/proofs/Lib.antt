@@ -42,6 +42,7 @@ pub mod Changing
 pub mod NamesRead
 pub mod Commands
 pub mod Said
+pub mod StartText
 pub mod Listing
 pub mod Opened
 pub mod ExamplesGrammar

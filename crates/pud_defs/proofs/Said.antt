@@ -9,7 +9,7 @@ use Rattle.pud_defs.specs.declared.machine.Refusal.TheVariants as refusals
 use Rattle.pud_defs.specs.Step.{Answer}
 use Rattle.pud_defs.specs.Step.Answer.{of_reply, of_text}
 use Rattle.pud_defs.specs.Run.{Turn, newlines}
-use Rattle.pud_defs.specs.Texts.{line_of, in_one_line, start_text, formatted_text, reply_text, answer_text, begins_with_ok, replies_text}
+use Rattle.pud_defs.specs.Texts.{line_of, in_one_line, formatted_text, reply_text, answer_text, begins_with_ok, replies_text}
 use Rattle.pud_defs.proofs.Lines.{newlines-append, newlines_other}
 
 newlines-cons : (b : ℕ) (bytes : List ℕ) → (b ≡ 10 → ⊥) → newlines (b ∷ bytes) ≡ newlines bytes
@@ -77,10 +77,6 @@ newlines-answer_text (of_text text) = newlines-line_of (codes "ok" ++ in_one_lin
 -- a text begins with `ok`
 pub begins_with_ok-text : (text : List ℕ) → begins_with_ok (of_text text) ≡ true
 begins_with_ok-text text = refl
-
-pub newlines-start_text : newlines start_text ≡ 1
-unfolding start_text
-newlines-start_text = refl
 
 pub newlines-formatted_text : newlines formatted_text ≡ 1
 unfolding formatted_text

@@ -1,11 +1,11 @@
 -- The worlds that images stand for, turn by turn.
-use Rattle.std.proofs.Common.{◌≡◌, inl, ℕ, zero, suc, ◌+◌, List, [], ◌∷◌, ◌++◌, length, sym, ap, subst, ◌∙◌, zero-add}
+use Rattle.std.proofs.Common.{◌≡◌, inl, ℕ, zero, suc, ◌+◌, ◌≤◌, List, [], ◌∷◌, ◌++◌, length, Some, arith, sym, ap, subst, ◌∙◌, zero-add}
 use Rattle.std.proofs.Math.Nat.{suc-add}
 use Rattle.pud_defs.specs.Image.{Image}
-use Rattle.pud_defs.specs.World.{World}
+use Rattle.pud_defs.specs.World.{World, world_of, closed}
 use Rattle.pud_defs.specs.Run.{Turn, last_world, newlines}
 use Rattle.pud_defs.specs.Texts.{replies_text}
-use Rattle.pud_defs.specs.Stands.{StandsAfter, StandsWith}
+use Rattle.pud_defs.specs.Stands.{StandsAfter, StandsWith, StandsBehind}
 use Rattle.pud_defs.proofs.Lines.{newlines-append}
 use Rattle.pud_defs.proofs.Said.{newlines-replies_text}
 
@@ -27,3 +27,16 @@ pub StandsWith-later : (size : ℕ) (w : World) (turns more : List Turn) (bytes 
 StandsWith-later size w turns more bytes image stands =
     let count : newlines (replies_text turns ++ bytes) ≡ length turns + newlines bytes = newlines-append (replies_text turns) bytes ∙ ap (λ (n : ℕ). n + newlines bytes) (newlines-replies_text turns) in
     subst (λ (n : ℕ). StandsAfter size w (turns ++ more) n image) (sym count) (StandsAfter-later size w turns more (newlines bytes) image stands)
+
+-- until the lines in front are whole the closed world stands
+pub StandsBehind-closed : (lines size : ℕ) (w : World) (turns : List Turn) (said : ℕ) (image : Image) → said ≤ lines → world_of size image ≡ Some (closed w) → StandsBehind lines size w turns said image
+StandsBehind-closed zero size w [] zero image few stands = stands
+StandsBehind-closed zero size w (t ∷ turns) zero image few stands = inl stands
+StandsBehind-closed zero size w turns (suc said) image few stands = absurd (omega arith)
+StandsBehind-closed (suc lines) size w turns zero image few stands = stands
+StandsBehind-closed (suc lines) size w turns (suc said) image few stands = StandsBehind-closed lines size w turns said image (omega arith) stands
+
+-- and behind them what stands after as many turns as reply lines
+pub StandsBehind-after : (lines size : ℕ) (w : World) (turns : List Turn) (said : ℕ) (image : Image) → StandsAfter size w turns said image → StandsBehind lines size w turns (lines + said) image
+StandsBehind-after zero size w turns said image stands = rw zero-add stands
+StandsBehind-after (suc lines) size w turns said image stands = rw suc-add (StandsBehind-after lines size w turns said image stands)

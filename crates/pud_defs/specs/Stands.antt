@@ -16,7 +16,8 @@ StandsAfter size w (t ∷ turns) (suc said) image = StandsAfter size t.next turn
 abbrev pub StandsWith : ℕ → World → List Turn → List ℕ → Image → Type 0
 StandsWith size w turns bytes image = StandsAfter size w turns (newlines bytes) image
 
--- the same where the start's own line is said first: until it is whole the image stands for the world before the run
-abbrev pub StandsBehindStart : ℕ → World → List Turn → ℕ → Image → Type 0
-StandsBehindStart size w turns zero image = world_of size image ≡ Some (closed w)
-StandsBehindStart size w turns (suc said) image = StandsAfter size w turns said image
+-- The same where the start's own lines are said first, so many of them: until they are whole the image stands for the world before the run.
+abbrev pub StandsBehind : (lines : ℕ) → ℕ → World → List Turn → ℕ → Image → Type 0
+StandsBehind zero size w turns said image = StandsAfter size w turns said image
+StandsBehind (suc lines) size w turns zero image = world_of size image ≡ Some (closed w)
+StandsBehind (suc lines) size w turns (suc said) image = StandsBehind lines size w turns said image

@@ -6,7 +6,7 @@ use Rattle.pud_defs.specs.Image.{Image}
 use Rattle.pud_defs.specs.Replay.{settled_by}
 use Rattle.pud_defs.specs.Registry.{frames_of}
 use Rattle.pud_defs.specs.Settled.{ALL_LOGS, client_of_log, is_refused_log}
-use Rattle.pud_defs.specs.Texts.{line_of, start_text}
+use Rattle.pud_defs.specs.Texts.{line_of, ready_text}
 
 -- the line of a log that is refused: its client, and its number among the client's logs
 abbrev pub refused_line : (number : ℕ) → List ℕ
@@ -21,5 +21,5 @@ unfoldable pub refused_lines : (ℕ → Bool) → List ℕ
 refused_lines refused = flat_map (said_of_log refused) (range_with_len 0 ALL_LOGS)
 
 -- what a start says on an image, judged behind the daemon log
-unfoldable pub start_text_of : Image → List ℕ
-start_text_of image = refused_lines (is_refused_log (frames_of image) (settled_by DAEMON_LOG image)) ++ start_text
+unfoldable pub start_text : Image → List ℕ
+start_text image = refused_lines (is_refused_log (frames_of image) (settled_by DAEMON_LOG image)) ++ ready_text

@@ -12,9 +12,9 @@ use Rattle.pud_defs.specs.Run.{Turn}
 abbrev pub line_of : List ℕ → List ℕ
 line_of text = text ++ 10 ∷ []
 
--- what a start says
-unfoldable pub start_text : List ℕ
-start_text = line_of (codes "ready")
+-- what a start says last
+unfoldable pub ready_text : List ℕ
+ready_text = line_of (codes "ready")
 
 -- what formatting says
 unfoldable pub formatted_text : List ℕ

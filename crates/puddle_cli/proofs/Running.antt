@@ -1,11 +1,10 @@
 -- One run over a script, from the start to the exit.
-use Rattle.std.proofs.Common.{◌≡◌, inl, ℕ, zero, suc, ◌+◌, ◌≤◌, Bool, true, false, List, [], ◌∷◌, ◌++◌, Option, Some, None, Result, Ok, Err, refl, sym, ap, subst, ◌∙◌, arith, append_assoc}
+use Rattle.std.proofs.Common.{◌≡◌, ℕ, ◌+◌, ◌≤◌, Bool, true, false, List, [], ◌∷◌, ◌++◌, Option, Some, None, Result, Ok, Err, refl, sym, ap, subst, ◌∙◌, arith, append_assoc}
 use Rattle.std.proofs.lemmas.List.{append-nil}
-use Rattle.std.proofs.Math.Numerals.{one-add}
 use Rattle.pm_model.specs.declared.host.HostFault.{HostFault}
 use Rattle.pm_model.specs.declared.host.HostFault.TheVariants as hosts
 use Rattle.pm_model.specs.Counts.{Counts, risen, after_fault}
-use Rattle.pm_model.specs.Words.{Image, IsRested, reads}
+use Rattle.pm_model.specs.Words.{IsRested, reads}
 use Rattle.pm_model.specs.Moments.{State}
 use Rattle.pm_model.specs.Changes.{Leaves}
 use Rattle.pm_model.proofs.Leaves.{Leaves-then, Leaves-weaker, Leaves-each}
@@ -13,11 +12,12 @@ use Rattle.pud_defs.specs.Grammar.{command_of}
 use Rattle.pud_defs.specs.Spaces.{Owner}
 use Rattle.pud_defs.specs.World.{World, StoredWorld, no_clients, world_of, closed, restart}
 use Rattle.pud_defs.specs.Run.{Turn, cuts_of, newlines}
-use Rattle.pud_defs.specs.Texts.{start_text, replies_text}
-use Rattle.pud_defs.specs.Stands.{StandsWith, StandsBehindStart}
+use Rattle.pud_defs.specs.Texts.{replies_text}
+use Rattle.pud_defs.specs.StartText.{start_text}
+use Rattle.pud_defs.specs.Stands.{StandsWith, StandsBehind}
 use Rattle.pud_defs.proofs.Changing.{KeepsFiles-still, KeepsUnwritable-still, KeepsUnwritable-then, KeepsUnwritable-none}
 use Rattle.pud_defs.proofs.Lines.{newlines-append, newlines_part, lines_taken-nothing}
-use Rattle.pud_defs.proofs.Said.{newlines-start_text}
+use Rattle.pud_defs.proofs.Stands.{StandsBehind-closed, StandsBehind-after}
 use Rattle.puddled.specs.declared.daemon.RunFault.{RunFault}
 use Rattle.puddled.specs.declared.daemon.RunFault.TheVariants as faults
 use Rattle.puddled.specs.Faults.{RoseBy, last_fault, is_loss, CountsTurns}
@@ -68,19 +68,18 @@ module _ (answered pending : List Turn) (fault : Option RunFault) (before mid af
 
 -- a rested device whose words stand for the world is one to start on
 module _ (size : ℕ) (w : World) (start : State) (rested : IsRested start.now.words) (stands : world_of size (reads start.now.words) ≡ Some (closed w)) where
-  stands_at_start : (turns : List Turn) (count : ℕ) (image : Image) → count ≤ 1 → world_of size image ≡ Some (closed w) → StandsBehindStart size w turns count image
-  stands_at_start turns zero image few e = e
-  stands_at_start [] (suc zero) image few e = e
-  stands_at_start (t ∷ turns) (suc zero) image few e = inl e
-  stands_at_start turns (suc (suc n)) image few e = absurd (omega arith)
+  -- what the start says
+  abbrev text : List ℕ
+  text = start_text (reads start.now.words)
 
-  start_moments : (turns : List Turn) (result : Result Memory StartFault) (now : State) → Starts size w result start now → Leaves (λ bytes image. StandsBehindStart size w turns (newlines bytes) image) start now
+  start_moments : (turns : List Turn) (result : Result Memory StartFault) (now : State) → Starts size w result start now
+      → Leaves (λ bytes image. StandsBehind (newlines text) size w turns (newlines bytes) image) start now
   start_moments turns result now s =
       Leaves-weaker _ _ start now
       (λ bytes image m.
       let part = newlines_part bytes m.0.rest in
-      let one = ap newlines (sym m.0.is) ∙ newlines-start_text in
-      stands_at_start turns (newlines bytes) image (omega arith) m.1) s.moments
+      let whole = ap newlines (sym m.0.is) in
+      StandsBehind-closed (newlines text) size w turns (newlines bytes) image (omega arith) m.1) s.moments
 
   -- the host failed within the start, or power was lost in it
   pub Headline-in_start : (fault : HostFault) (status : ℕ) (before after : Counts) (now : State) → IsStatusOfMode status → status_fault status ≡ Some fault
@@ -114,7 +113,7 @@ module _ (size : ℕ) (w : World) (start : State) (rested : IsRested start.now.w
           files = KeepsFiles-still None w.shelf now.shelf (s.shelf ∙ shelf);
           shelf_of_run = λ none. absurd (not_whole none);
         };
-        moments = record { stands = Leaves-each (λ said image. StandsBehindStart size w [] (newlines said) image) start now (start_moments [] (Err (starts.Host fault)) now s) };
+        moments = record { stands = Leaves-each (λ said image. StandsBehind (newlines text) size w [] (newlines said) image) start now (start_moments [] (Err (starts.Host fault)) now s) };
         counted = record {
           mid = before;
           in_start = λ _. as_told;
@@ -128,12 +127,12 @@ module _ (size : ℕ) (w : World) (start : State) (rested : IsRested start.now.w
         };
       }
 
-  said_behind : (mid now : State) (replies more : List ℕ) → mid.now.said ≡ start.now.said ++ start_text → now.now.said ≡ mid.now.said ++ replies ++ more
-      → now.now.said ≡ start.now.said ++ (start_text ++ replies ++ more)
+  said_behind : (mid now : State) (replies more : List ℕ) → mid.now.said ≡ start.now.said ++ text → now.now.said ≡ mid.now.said ++ replies ++ more
+      → now.now.said ≡ start.now.said ++ (text ++ replies ++ more)
   said_behind mid now replies more first later =
       later ∙ ap (λ (l : List ℕ). l ++ replies ++ more) first
-      ∙ ap (λ (l : List ℕ). l ++ more) (append_assoc start.now.said start_text replies)
-      ∙ append_assoc start.now.said (start_text ++ replies) more
+      ∙ ap (λ (l : List ℕ). l ++ more) (append_assoc start.now.said text replies)
+      ∙ append_assoc start.now.said (text ++ replies) more
 
   nothing_more : (more rest : List ℕ) → [] ≡ more ++ rest → more ≡ []
   nothing_more [] rest e = refl
@@ -145,7 +144,7 @@ module _ (size : ℕ) (w : World) (start : State) (rested : IsRested start.now.w
       → Answered size w ended fault before after mid now → Headline size w status before after start now
   Headline-behind_start status ended fault before after memory mid now s is done too_long a =
       let cut : status ≡ POWER_LOST → fault ≡ Some faults.CutInStart = λ lost. sym is ∙ ap run_fault_at lost in
-      let first : mid.now.said ≡ start.now.said ++ start_text =
+      let first : mid.now.said ≡ start.now.said ++ text =
       s.says.said ∙ ap (λ (l : List ℕ). start.now.said ++ l) (sym (s.says.part ∙ ap (λ (l : List ℕ). s.says.bytes ++ l) (s.says.whole refl) ∙ append-nil s.says.bytes)) in
       record {
         run = record {
@@ -162,14 +161,14 @@ module _ (size : ℕ) (w : World) (start : State) (rested : IsRested start.now.w
           nothing_yet = λ e. absurd (let it : true ≡ false = e in cc);
         };
         exit = record {
-          bytes = start_text ++ replies_text a.answered ++ a.more;
+          bytes = text ++ replies_text a.answered ++ a.more;
           said = said_behind mid now (replies_text a.answered) a.more first a.said;
           in_start = λ e. absurd (let it : true ≡ false = e in cc);
           behind_start = λ _. record { more = a.more; rest = a.rest; said = refl; part = a.part };
           whole = λ none.
               let nothing = a.whole (sym is ∙ none) in
               let no_more = nothing_more a.more a.rest (ap replies_text (sym nothing) ∙ a.part) in
-              (nothing, ap (λ (l : List ℕ). start_text ++ replies_text a.answered ++ l) no_more ∙ append-nil (start_text ++ replies_text a.answered));
+              (nothing, ap (λ (l : List ℕ). text ++ replies_text a.answered ++ l) no_more ∙ append-nil (text ++ replies_text a.answered));
           all_lines = done;
           not_ended = too_long;
           ends = λ none. (a.ready (sym is ∙ none)).settled.stands;
@@ -177,10 +176,10 @@ module _ (size : ℕ) (w : World) (start : State) (rested : IsRested start.now.w
           shelf_of_run = λ none. (a.ready (sym is ∙ none)).shelf;
         };
         moments = record {
-          stands = Leaves-each (λ said image. StandsBehindStart size w (a.answered ++ a.pending) (newlines said) image) start now (Leaves-then _ (StandsWith size w (a.answered ++ a.pending)) _ start_text start mid now first
+          stands = Leaves-each (λ said image. StandsBehind (newlines text) size w (a.answered ++ a.pending) (newlines said) image) start now (Leaves-then _ (StandsWith size w (a.answered ++ a.pending)) _ text start mid now first
               (λ front image p. p)
-              (λ more image p. subst (λ (n : ℕ). StandsBehindStart size w (a.answered ++ a.pending) n image)
-              (sym (newlines-append start_text more ∙ ap (λ (n : ℕ). n + newlines more) newlines-start_text ∙ one-add (newlines more))) p)
+              (λ more image p. subst (λ (n : ℕ). StandsBehind (newlines text) size w (a.answered ++ a.pending) n image)
+              (sym (newlines-append text more)) (StandsBehind-after (newlines text) size w (a.answered ++ a.pending) (newlines more) image p))
               (start_moments (a.answered ++ a.pending) (Ok memory) mid s) a.moments);
         };
         counted = record {

@@ -16,7 +16,6 @@ use Rattle.pud_defs.specs.Tables.{Tables, tables_of}
 use Rattle.pud_defs.specs.CheckText.{check_text}
 use Rattle.pud_defs.specs.SoundTables.{are_sound_tables, HasSoundTables}
 use Rattle.pud_defs.specs.LayoutText.{tables_text, layout_text}
-use Rattle.pud_defs.specs.Texts.{start_text}
 use Rattle.pud_defs.specs.World.{StoredWorld, World, pools_in, stored_by, no_clients, world_of}
 use Rattle.pud_defs.proofs.Replay.{outside_log}
 use Rattle.pud_defs.proofs.Keyed.{keyed-same}
@@ -103,16 +102,16 @@ shown size F view old mid new fault sound replayed frames says =
     let tables = subst (λ (n : ℕ). HasSoundTables there.0.next_number (tables_of n (reads mid.now.words))) (sym frames) (sound_replayed (reads old.now.words) (reads mid.now.words) replayed size there.0 there.1) in
     subst (λ (text : List ℕ). Says text fault mid new) (text_of-replayed (reads old.now.words) (reads mid.now.words) replayed view) (says there.0.next_number tables frames)
 
--- the start was said whole, and then this text, or a part of it
-pub SaysPart-started : (text : List ℕ) (fault : Option HostFault) (old mid new : State) → SaysPart {Fault = HostFault} start_text None old mid → Says text fault mid new → SaysPart (start_text ++ text) fault old new
-SaysPart-started text fault old mid new s says =
+-- the start's text was said whole, and then this one, or a part of it
+pub SaysPart-started : (start text : List ℕ) (fault : Option HostFault) (old mid new : State) → SaysPart {Fault = HostFault} start None old mid → Says text fault mid new → SaysPart (start ++ text) fault old new
+SaysPart-started start text fault old mid new s says =
     let p = SaysPart-says text fault mid new says in
-    let whole : start_text ≡ s.bytes = s.part ∙ ap (λ (l : List ℕ). s.bytes ++ l) (s.whole refl) ∙ append-nil s.bytes in
+    let whole : start ≡ s.bytes = s.part ∙ ap (λ (l : List ℕ). s.bytes ++ l) (s.whole refl) ∙ append-nil s.bytes in
     record {
-      bytes = start_text ++ p.bytes;
+      bytes = start ++ p.bytes;
       rest = p.rest;
-      part = ap (λ (l : List ℕ). start_text ++ l) p.part ∙ sym (append_assoc start_text p.bytes p.rest);
-      said = p.said ∙ ap (λ (l : List ℕ). l ++ p.bytes) (s.said ∙ ap (λ (l : List ℕ). old.now.said ++ l) (sym whole)) ∙ append_assoc old.now.said start_text p.bytes;
+      part = ap (λ (l : List ℕ). start ++ l) p.part ∙ sym (append_assoc start p.bytes p.rest);
+      said = p.said ∙ ap (λ (l : List ℕ). l ++ p.bytes) (s.said ∙ ap (λ (l : List ℕ). old.now.said ++ l) (sym whole)) ∙ append_assoc old.now.said start p.bytes;
       whole = p.whole;
     }
 

@@ -1,6 +1,6 @@
 -- What the program says and leaves over a script, for one and the same run of the machine.
 use Rattle.std.specs.Prelude.{◌≡◌, ◌↔◌, ℕ, ◌+◌, ◌<◌, ◌≤◌, Bool, true, false, List, [], ◌∷◌, ◌++◌, length, map, Some, None}
-use Rattle.pm_model.specs.Words.{Picks}
+use Rattle.pm_model.specs.Words.{Picks, reads}
 use Rattle.pm_model.specs.Counts.{Counts, after_fault}
 use Rattle.pm_model.specs.Moments.{State, MayLeave}
 use Rattle.pud_defs.specs.declared.layout.TheConstants.{SCRIPT_LIMIT}
@@ -9,8 +9,9 @@ use Rattle.pud_defs.specs.World.{World, world_of, closed}
 use Rattle.pud_defs.specs.Grammar.{command_of}
 use Rattle.pud_defs.specs.Changing.{KeepsFiles, KeepsUnwritable}
 use Rattle.pud_defs.specs.Run.{Turn, cuts_of, IsRun, last_world, lines_taken, newlines}
-use Rattle.pud_defs.specs.Texts.{start_text, replies_text}
-use Rattle.pud_defs.specs.Stands.{StandsBehindStart}
+use Rattle.pud_defs.specs.Texts.{replies_text}
+use Rattle.pud_defs.specs.StartText.{start_text}
+use Rattle.pud_defs.specs.Stands.{StandsBehind}
 use Rattle.puddle_cli.specs.declared.status.TheConstants.{DONE, POWER_LOST, TOO_LONG}
 use Rattle.puddled.specs.Daemon.{IsPart}
 use Rattle.puddled.specs.Faults.{RoseBy, is_loss, CountsTurns}
@@ -44,11 +45,11 @@ pub record ScriptRun (w : World) (start end : State) : Type 0 where
   pub lines : map (λ t. t.line) (answered ++ pending) ≡ lines_taken taken ended
   pub nothing_yet : begun ≡ false → (taken ≡ []) × (answered ++ pending ≡ [])
 
--- Behind the start the start text, the replies to the lines answered and a part of the reply to the line under way were said.
-pub record IsBehindStart (answered pending : List Turn) (bytes : List ℕ) : Type 0 where
+-- Behind the start its text, the replies to the lines answered and a part of the reply to the line under way were said.
+pub record IsBehindStart (text : List ℕ) (answered pending : List Turn) (bytes : List ℕ) : Type 0 where
   pub more : List ℕ
   pub rest : List ℕ
-  pub said : bytes ≡ start_text ++ replies_text answered ++ more
+  pub said : bytes ≡ text ++ replies_text answered ++ more
   pub part : replies_text pending ≡ more ++ rest
 
 -- The exit of a run: what was said since the start, and what is left. Within the start, in which the host failed or power was lost, a part of
@@ -57,18 +58,19 @@ pub record IsBehindStart (answered pending : List Turn) (bytes : List ℕ) : Typ
 pub record RunExit (size : ℕ) (w : World) (status : ℕ) (start end : State) (run : ScriptRun w start end) : Type 0 where
   pub bytes : List ℕ
   pub said : end.now.said ≡ start.now.said ++ bytes
-  pub in_start : run.begun ≡ false → IsPart bytes start_text
-  pub behind_start : run.begun ≡ true → IsBehindStart run.answered run.pending bytes
-  pub whole : run_fault_at status ≡ None → (run.pending ≡ []) × (bytes ≡ start_text ++ replies_text run.answered)
+  pub in_start : run.begun ≡ false → IsPart bytes (start_text (reads start.now.words))
+  pub behind_start : run.begun ≡ true → IsBehindStart (start_text (reads start.now.words)) run.answered run.pending bytes
+  pub whole : run_fault_at status ≡ None → (run.pending ≡ []) × (bytes ≡ start_text (reads start.now.words) ++ replies_text run.answered)
   pub all_lines : status ≡ DONE → run.ended ≡ true
   pub not_ended : status ≡ TOO_LONG → run.ended ≡ false
   pub ends : run_fault_at status ≡ None → (image : Image) → Picks end.now.words image → world_of size image ≡ Some (closed (last_world w run.answered))
   pub files : KeepsFiles (file_under_way run.pending) (last_world w run.answered).shelf end.shelf
   pub shelf_of_run : run_fault_at status ≡ None → end.shelf ≡ (last_world w run.answered).shelf
 
--- Every moment of a run: what an image stands for that may have been left since the start of the call, by the bytes said since then.
+-- Every moment of a run: what an image stands for that may have been left since the start of the call, by the bytes said since then. The lines
+-- of the start's text come first.
 pub record RunMoments (size : ℕ) (w : World) (start end : State) (run : ScriptRun w start end) : Type 0 where
-  pub stands : (said : List ℕ) (image : Image) → MayLeave start end said image → StandsBehindStart size w (run.answered ++ run.pending) (newlines said) image
+  pub stands : (said : List ℕ) (image : Image) → MayLeave start end said image → StandsBehind (newlines (start_text (reads start.now.words))) size w (run.answered ++ run.pending) (newlines said) image
 
 -- What was counted in a run. Within the start it is the host's one fault. Behind it each line answered is counted by its command and its reply:
 -- only there a cut is armed, or power lost at once, and no such line is answered `cut`; and the line under way is counted by its command and by

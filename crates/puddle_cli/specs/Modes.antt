@@ -7,15 +7,15 @@ use Rattle.pm_model.specs.Changes.{Leaves}
 use Rattle.pud_defs.specs.declared.layout.TheConstants.{DAEMON_LOG}
 use Rattle.pud_defs.specs.Image.{Image}
 use Rattle.pud_defs.specs.Replay.{settled_by}
-use Rattle.pud_defs.specs.Texts.{start_text}
-use Rattle.pud_defs.specs.LayoutText.{layout_text}
-use Rattle.pud_defs.specs.CheckText.{check_text}
-use Rattle.pud_defs.specs.World.{StoredWorld, World, stored_by, no_clients, world_of, closed}
+use Rattle.pud_defs.specs.StartText.{start_text}
+use Rattle.pud_defs.specs.World.{StoredWorld, World, no_clients, world_of, closed}
 use Rattle.puddled.specs.Daemon.{KeepsRest, SaysPart}
 use Rattle.command_line.specs.declared.modes.Mode.{Mode}
 use Rattle.command_line.specs.declared.modes.Mode.TheVariants.{Format, Run, Layout, Check}
 use Rattle.puddle_cli.specs.declared.status.TheConstants.{DONE, USAGE, NOT_USABLE, TOO_LONG}
+use Rattle.puddle_cli.specs.declared.show.View.TheVariants as views
 use Rattle.puddle_cli.specs.Status.{status_fault, IsStatusOfMode}
+use Rattle.puddle_cli.specs.Views.{text_of}
 use Rattle.puddle_cli.specs.Formatting.{is_refused, Formats}
 use Rattle.puddle_cli.specs.Serving.{IsUnsoundBehindLoss}
 use Rattle.puddle_cli.specs.Headline.{TakesScript, Headline}
@@ -55,7 +55,7 @@ pub record Shows (text : Image → List ℕ) (status : ℕ) (before after : Coun
   pub not_usable : status_fault status ≡ None → (status ≡ NOT_USABLE) ↔ (world_of before.size (reads old.now.words) ≡ None)
   pub stays : status ≡ NOT_USABLE → new ≡ old
   pub completes : world_of before.size (reads old.now.words) ≢ None → NoneRose before after → status ≡ DONE
-  pub says : status ≢ NOT_USABLE → SaysPart (start_text ++ text (settled_by DAEMON_LOG (reads old.now.words))) (status_fault status) old new
+  pub says : status ≢ NOT_USABLE → SaysPart (start_text (reads old.now.words) ++ text (settled_by DAEMON_LOG (reads old.now.words))) (status_fault status) old new
   pub in_the_end : status ≡ DONE → text (reads new.now.words) ≡ text (settled_by DAEMON_LOG (reads old.now.words))
   pub moments : IsRested old.now.words → (s : StoredWorld) → world_of before.size (reads old.now.words) ≡ Some s → Leaves (λ bytes image. world_of before.size image ≡ Some s) old new
   pub rest : KeepsRest old new
@@ -73,5 +73,5 @@ abbrev pub DoesBy : Option Mode → ℕ → Counts → Counts → State → Stat
 DoesBy None status before after old new = new ≡ old
 DoesBy (Some (Format F id)) status before after old new = FormatsDevice F id status before after old new
 DoesBy (Some Run) status before after old new = RunsScript status before after old new
-DoesBy (Some Layout) status before after old new = Shows layout_text status before after old new
-DoesBy (Some Check) status before after old new = Shows (λ image. check_text (stored_by image)) status before after old new
+DoesBy (Some Layout) status before after old new = Shows (text_of views.Layout) status before after old new
+DoesBy (Some Check) status before after old new = Shows (text_of views.Check) status before after old new

@@ -11,7 +11,7 @@ ghost use Rattle.pud_defs.specs.Registry.{frames_of};
 ghost use Rattle.pud_defs.specs.Replay.{settled_by};
 ghost use Rattle.pud_defs.specs.SoundTables.{HasSoundTables};
 ghost use Rattle.pud_defs.specs.Tables.{tables_of};
-ghost use Rattle.pud_defs.specs.Texts.{start_text};
+ghost use Rattle.pud_defs.specs.StartText.{start_text};
 ghost use Rattle.pud_defs.specs.World.{StoredWorld, world_of};
 ghost use Rattle.puddled.specs.Faults.{start_fault};
 ghost use Rattle.puddled.specs.Daemon.{KeepsRest, SaysPart};
@@ -53,7 +53,7 @@ fn start_and_say<H: Host>(h: &mut H, view: View) -> Result<(), StartFault>
         → (result ≡ Result.Err StartFault.NotSound) ↔ (world_of (H.counts h.old).size (reads (H.state h.old).now.words) ≡ Option.None) }
     ensures unchanged { H.tells → result ≡ Result.Err StartFault.NotSound → H.state h.new ≡ H.state h.old }
     ensures says { H.tells → result ≢ Result.Err StartFault.NotSound
-        → SaysPart (start_text ++ text_of view (settled_by DAEMON_LOG (reads (H.state h.old).now.words))) (start_fault result) (H.state h.old) (H.state h.new) }
+        → SaysPart (start_text (reads (H.state h.old).now.words) ++ text_of view (settled_by DAEMON_LOG (reads (H.state h.old).now.words))) (start_fault result) (H.state h.old) (H.state h.new) }
     ensures in_the_end { H.tells → IsOk result
         → text_of view (reads (H.state h.new).now.words) ≡ text_of view (settled_by DAEMON_LOG (reads (H.state h.old).now.words)) }
     ensures moments { H.tells → (size : ℕ) → size ≡ (H.counts h.old).size → IsRested (H.state h.old).now.words → (s : StoredWorld)
@@ -74,7 +74,7 @@ pub fn show<H: Host>(h: &mut H, view: View) -> u8
         → (result ≡ NOT_USABLE) ↔ (world_of (H.counts h.old).size (reads (H.state h.old).now.words) ≡ Option.None) }
     ensures unchanged { H.tells → result ≡ NOT_USABLE → H.state h.new ≡ H.state h.old }
     ensures says { H.tells → result ≢ NOT_USABLE
-        → SaysPart (start_text ++ text_of view (settled_by DAEMON_LOG (reads (H.state h.old).now.words))) (status_fault result) (H.state h.old) (H.state h.new) }
+        → SaysPart (start_text (reads (H.state h.old).now.words) ++ text_of view (settled_by DAEMON_LOG (reads (H.state h.old).now.words))) (status_fault result) (H.state h.old) (H.state h.new) }
     ensures in_the_end { H.tells → result ≡ DONE
         → text_of view (reads (H.state h.new).now.words) ≡ text_of view (settled_by DAEMON_LOG (reads (H.state h.old).now.words)) }
     ensures moments { H.tells → (size : ℕ) → size ≡ (H.counts h.old).size → IsRested (H.state h.old).now.words → (s : StoredWorld)

@@ -16,7 +16,7 @@ use Rattle.pud_defs.specs.declared.machine.Refusal.{Refusal}
 use Rattle.pud_defs.specs.declared.machine.Refusal.TheVariants.{Clash, Full}
 use Rattle.pud_defs.specs.Image.{Image}
 use Rattle.pud_defs.specs.TypeMap.{is_legal_map, is_legal_type_id}
-use Rattle.pud_defs.specs.Types.{type_record_at, type_at, free_type, map_of, with_type}
+use Rattle.pud_defs.specs.Types.{type_record_at, type_at, free_type, map_of}
 use Rattle.pud_defs.specs.Entries.{is_idle_gate}
 use Rattle.pud_defs.specs.PoolChanges.{with_type_defined}
 use Rattle.pud_defs.specs.World.{World, world_of, closed}

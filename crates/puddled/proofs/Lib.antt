@@ -11,4 +11,4 @@ pub mod Carrying
 pub mod Listed
 pub mod Settling
 pub mod Lines
-pub mod Starting
+pub mod Started

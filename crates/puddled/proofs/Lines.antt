@@ -15,7 +15,8 @@ use Rattle.pud_defs.specs.World.{World, world_of, closed, restart}
 use Rattle.pud_defs.specs.Grammar.{command_of}
 use Rattle.pud_defs.specs.Step.{Answer}
 use Rattle.pud_defs.specs.Run.{Turn, IsTurn, cuts_of, newlines}
-use Rattle.pud_defs.specs.Texts.{start_text, answer_text, begins_with_ok}
+use Rattle.pud_defs.specs.Texts.{answer_text, begins_with_ok}
+use Rattle.pud_defs.specs.StartText.{start_text}
 use Rattle.pud_defs.specs.Stands.{StandsAfter, StandsWith}
 use Rattle.pud_defs.proofs.Lines.{newlines_part}
 use Rattle.pud_defs.proofs.Said.{newlines-answer_text}
@@ -77,28 +78,30 @@ ready_by size w memory s (Ok m) same ready = subst (λ (x : Memory). IsReady siz
 ready_by size w memory s (Err fault) same ready = tt
 
 -- a start was said behind a recovery
-pub Starts-says : (size : ℕ) (w : World) (memory : Memory) (result : Result Memory StartFault) (old mid new : State) → Recovers size w (Ok memory) old mid → Says start_text (start_fault result) mid new
-    → IfOk result (λ m. m ≡ memory) → Starts size w result old new
+pub Starts-says : (size : ℕ) (w : World) (memory : Memory) (result : Result Memory StartFault) (old mid new : State) → Recovers size w (Ok memory) old mid
+    → Says (start_text (reads old.now.words)) (start_fault result) mid new → IfOk result (λ m. m ≡ memory) → Starts size w result old new
 Starts-says size w memory result old mid new r says same =
+    let text = start_text (reads old.now.words) in
     let fault = start_fault result in
-    let part = SaysPart-says start_text fault mid new says in
-    let P : List ℕ → Image → Type 0 = λ bytes image. IsPart bytes start_text × (world_of size image ≡ Some (closed w)) in
+    let part = SaysPart-says text fault mid new says in
+    let P : List ℕ → Image → Type 0 = λ bytes image. IsPart bytes text × (world_of size image ≡ Some (closed w)) in
     record {
       says = record { bytes = part.bytes; rest = part.rest; part = part.part; said = part.said ∙ ap (λ (l : List ℕ). l ++ part.bytes) r.quiet; whole = part.whole };
       moments = Leaves-then (Silently (λ image. world_of size image ≡ Some (closed w))) P P [] old mid new (r.quiet ∙ sym (append-nil old.now.said))
-          (λ front image m. (record { rest = start_text; is = ap (λ (l : List ℕ). l ++ start_text) (sym m.0) }, m.1)) (λ more image m. m) r.moments
-          (Leaves-says start_text fault P mid new (λ front image prefix picked. (record { rest = prefix.rest; is = prefix.is }, r.ready.settled.stands image picked)) says);
-      ready = ready_by size (restart w) memory new result same (IsReady-said size (restart w) memory mid new (words_said start_text fault mid new says) (shelf_said start_text fault mid new says) r.ready);
-      script = script_said start_text fault mid new says ∙ r.script;
-      shelf = shelf_said start_text fault mid new says ∙ r.shelf;
+          (λ front image m. (record { rest = text; is = ap (λ (l : List ℕ). l ++ text) (sym m.0) }, m.1)) (λ more image m. m) r.moments
+          (Leaves-says text fault P mid new (λ front image prefix picked. (record { rest = prefix.rest; is = prefix.is }, r.ready.settled.stands image picked)) says);
+      ready = ready_by size (restart w) memory new result same (IsReady-said size (restart w) memory mid new (words_said text fault mid new says) (shelf_said text fault mid new says) r.ready);
+      script = script_said text fault mid new says ∙ r.script;
+      shelf = shelf_said text fault mid new says ∙ r.shelf;
     }
 
 Starts-nothing : (size : ℕ) (w : World) (fault : HostFault) (old new : State) → Recovers size w (Err (starts.Host fault)) old new → Starts size w (Err (starts.Host fault)) old new
 Starts-nothing size w fault old new r =
+    let text = start_text (reads old.now.words) in
     record {
-      says = SaysPart-nothing start_text fault old new r.quiet;
-      moments = Leaves-weaker (Silently (λ image. world_of size image ≡ Some (closed w))) (λ bytes image. IsPart bytes start_text × (world_of size image ≡ Some (closed w))) old new
-          (λ bytes image m. (record { rest = start_text; is = ap (λ (l : List ℕ). l ++ start_text) (sym m.0) }, m.1)) r.moments;
+      says = SaysPart-nothing text fault old new r.quiet;
+      moments = Leaves-weaker (Silently (λ image. world_of size image ≡ Some (closed w))) (λ bytes image. IsPart bytes text × (world_of size image ≡ Some (closed w))) old new
+          (λ bytes image m. (record { rest = text; is = ap (λ (l : List ℕ). l ++ text) (sym m.0) }, m.1)) r.moments;
       ready = tt;
       script = r.script;
       shelf = r.shelf;

@@ -1,13 +1,11 @@
 -- Lines that read a field: which pool is readable, and what is replied.
-use Rattle.std.proofs.Common.{◌≡◌, ℕ, ◌<◌, Bool, true, false, not, cond, List, Option, Some, None, is_some, is_none, option_map, refl, sym, ap, ap₂, subst, ◌∙◌}
-use Rattle.std.specs.Prelude.{slice_get}
+use Rattle.std.proofs.Common.{◌≡◌, ℕ, Bool, true, false, not, cond, List, Option, Some, None, is_some, is_none, option_map, refl, sym, ap, ap₂, subst, ◌∙◌}
 use Rattle.std.specs.FinMap.Entries.{find}
-use Rattle.std.proofs.lemmas.Option.{none-some}
+use Rattle.std.proofs.lemmas.Option.{none-some, same_Some}
 use Rattle.pm_model.specs.declared.host.HostFault.{HostFault}
 use Rattle.pm_model.specs.declared.host.HostFault.TheVariants.{Cut}
 use Rattle.pm_model.specs.Words.{reads}
 use Rattle.pm_model.specs.Moments.{State}
-use Rattle.pud_defs.specs.declared.records.TheConstants.{POOL_RECORDS}
 use Rattle.pud_defs.specs.declared.records.PoolRec.{PoolRec}
 use Rattle.pud_defs.specs.declared.records.Puddle.{Puddle}
 use Rattle.pud_defs.specs.declared.objects.Val.{Val}
@@ -24,11 +22,11 @@ use Rattle.pud_defs.specs.Rights.{may_read}
 use Rattle.pud_defs.specs.Types.{types_of}
 use Rattle.pud_defs.specs.Stored.{Stored, stored_in}
 use Rattle.pud_defs.specs.Graph.{Graph, Object, graph_of, object_in}
-use Rattle.pud_defs.specs.Holdings.{held_by, held_as, graph_held, holding_in}
+use Rattle.pud_defs.specs.Holdings.{held_as, graph_held, holding_in}
 use Rattle.pud_defs.specs.SoundTables.{is_sound_pool}
 use Rattle.pud_defs.specs.Tables.{Tables, Pool, Reader, tables_of, records_of, pool_in, puddles_of, puddles_in_turn, listed, pool_of}
 use Rattle.pud_defs.specs.PoolChanges.{pool_named}
-use Rattle.pud_defs.specs.World.{World, closed}
+use Rattle.pud_defs.specs.World.{World}
 use Rattle.pud_defs.specs.Step.{reads as reads_pool, graph_in, object_of, field_of, value_or_ok, text_or, refusal_of, holds, after, answer, answer_by, answer_unless, unless_refused, world_by}
 use Rattle.pud_defs.specs.Step.Answer.{of_reply}
 use Rattle.pud_defs.proofs.PuddlesListed.{puddles_in_turn-listed}
@@ -37,14 +35,28 @@ use Rattle.pud_defs.proofs.RecordsPlaced.{legal_mode, mode_read}
 use Rattle.pud_defs.proofs.SoundChanged.{legal_pool}
 use Rattle.pud_defs.proofs.Parts.Part.{Types}
 use Rattle.graph_read.specs.declared.fields.FieldRead.{FieldRead}
-use Rattle.graph_read.specs.declared.fields.FieldRead.TheVariants.{NoObject, NoField, Value}
 use Rattle.graph_read.specs.Reading.{read_value, read_by}
 use Rattle.puddled.specs.Memory.{Memory}
-use Rattle.puddled.specs.Reading.{reading_refusal, refusal_to_read, HoldsGraph, reply_of_read}
+use Rattle.puddled.specs.Reading.{reading_refusal, refusal_to_read, puddles_with_graph, HoldsGraph, reply_of_read}
 use Rattle.puddled.specs.Daemon.{IsReady, Applies}
 use Rattle.puddled.proofs.Applying.{Applies-still}
 use Rattle.puddled.proofs.Defining.{standing}
 use Rattle.puddled.proofs.Pooling.{IsRecord, the_record, pool_there, world}
+
+-- ---- puddles that are judged as they were read
+
+kept_with_graph : (puddles : List (ℕ × Puddle)) (g : Option Graph) → option_map (λ graph. puddles) g ≡ cond (is_some g) (Some puddles) None
+kept_with_graph puddles None = refl
+kept_with_graph puddles (Some graph) = refl
+
+pub puddles_judged : (frames count slot : ℕ) (image : Image) (puddles slice : List (ℕ × Puddle)) (sound : Bool) → count ≡ frames → puddles ≡ puddles_in_turn (tables_of count image) slot → slice ≡ puddles
+    → sound ≡ is_some (graph_of (types_of image) (stored_in frames slice image)) → puddles_with_graph frames image slot ≡ cond sound (Some puddles) None
+unfolding puddles_with_graph
+puddles_judged frames count slot image puddles slice sound counted turned same judged =
+    let had : puddles ≡ puddles_in_turn (tables_of frames image) slot = turned ∙ ap (λ (n : ℕ). puddles_in_turn (tables_of n image) slot) counted in
+    ap (λ at. option_map (λ graph. at) (graph_of (types_of image) (stored_in frames at image))) (sym had)
+    ∙ kept_with_graph puddles (graph_of (types_of image) (stored_in frames puddles image))
+    ∙ ap (λ b. cond b (Some puddles) None) (sym (judged ∙ ap (λ at. is_some (graph_of (types_of image) (stored_in frames at image))) same))
 
 -- ---- what a pool that was found holds
 
@@ -99,12 +111,13 @@ module _ (size : ℕ) (w : World) (memory : Memory) (s : State) (ready : IsReady
         puddles_in_turn-listed w.stored.next_number t slot found.r (world size w memory s ready).sound at.below at.used
 
     -- so it has the graph that these puddles have
-    pub graph_read : (puddles : List (ℕ × Puddle)) → puddles ≡ puddles_in_turn t slot → graph_in (pool_named name w.stored) ≡ graph_of (types_of image) (stored_in F puddles image)
+    graph_read : (frames : ℕ) → frames ≡ F → graph_in (pool_named name w.stored) ≡ graph_of (types_of image) (stored_in frames (puddles_in_turn (tables_of frames image) slot) image)
     unfolding pool_of
-    graph_read puddles e =
+    graph_read frames on =
         ap graph_in named
         ∙ graph_held-as (stored_in F (listed (puddles_of t slot)) image) (graph_of w.stored.types (stored_in F (listed (puddles_of t slot)) image))
-        ∙ ap₂ (λ types at. graph_of types (stored_in F at image)) (sym ((standing size w memory s ready).holds Types).types) (sym (e ∙ puddles_are))
+        ∙ ap₂ (λ types at. graph_of types (stored_in F at image)) (sym ((standing size w memory s ready).holds Types).types) (sym puddles_are)
+        ∙ ap (λ (n : ℕ). graph_of (types_of image) (stored_in n (puddles_in_turn (tables_of n image) slot) image)) (sym on)
 
     -- the mode as it was read lets the same be read
     mode_same : rec.mode ≡ found.r.mode
@@ -127,50 +140,42 @@ module _ (size : ℕ) (w : World) (memory : Memory) (s : State) (ready : IsReady
         ap₂ reading_refusal there named
         ∙ ap₂ (λ (h : Option Graph) (b : Bool). cond (is_none h) (Some refusals.Wild) (cond (not b) (Some refusals.Denied) None)) (ap graph_in (sym named) ∙ graph) (right_read uid gid)
 
-    -- what was read of it: its puddles, and whether they have a graph
-    pub record GraphRead (frames : ℕ) (puddles : List (ℕ × Puddle)) (sound : Bool) : Type 0 where
-      pub named_graph : graph_in (pool_named name w.stored) ≡ graph_of (types_of image) (stored_in frames puddles image)
-      pub has_graph : sound ≡ is_some (graph_of (types_of image) (stored_in frames puddles image))
+    no_graph : (puddles : List (ℕ × Puddle)) (g : Option Graph) → None ≡ option_map (λ graph. puddles) g → g ≡ None
+    no_graph puddles None none = refl
+    no_graph puddles (Some graph) none = absurd (none-some puddles none)
 
-    pub graph_was_read : (frames count : ℕ) (puddles slice : List (ℕ × Puddle)) (sound : Bool) → frames ≡ F → count ≡ frames → puddles ≡ puddles_in_turn (tables_of count image) slot → slice ≡ puddles
-        → sound ≡ is_some (graph_of (types_of image) (stored_in frames slice image)) → GraphRead frames puddles sound
-    graph_was_read frames count puddles slice sound on counted turned same is = record {
-      named_graph =
-          graph_read puddles (turned ∙ ap (λ (n : ℕ). puddles_in_turn (tables_of n image) slot) (counted ∙ on))
-          ∙ ap (λ (n : ℕ). graph_of (types_of image) (stored_in n puddles image)) (sym on);
-      has_graph = is ∙ ap (λ at. is_some (graph_of (types_of image) (stored_in frames at image))) same;
+    holds_by : (frames : ℕ) (had puddles : List (ℕ × Puddle)) (g : Option Graph) → graph_of (types_of image) (stored_in frames had image) ≡ g → graph_in (pool_named name w.stored) ≡ g
+        → Some puddles ≡ option_map (λ graph. had) g → HoldsGraph w frames name image puddles
+    holds_by frames had puddles None stored there some = absurd (none-some puddles (sym some))
+    holds_by frames had puddles (Some graph) stored there some = record {
+      graph = graph;
+      stored = ap (λ at. graph_of (types_of image) (stored_in frames at image)) (same_Some puddles had some) ∙ stored;
+      is = there;
     }
 
-    by_graph : (g : Option Graph) (rest : Option Refusal) → is_some g ≡ true → cond (is_none g) (Some refusals.Wild) rest ≡ rest
-    by_graph None rest is = absurd (let no : false ≡ true = is in cc)
-    by_graph (Some x) rest is = refl
+    -- the puddles that were found with a graph hold that of the pool
+    pub holds_graph : (frames : ℕ) (puddles : List (ℕ × Puddle)) → frames ≡ F → Some puddles ≡ puddles_with_graph frames image slot → HoldsGraph w frames name image puddles
+    unfolding puddles_with_graph
+    holds_graph frames puddles on some = holds_by frames (puddles_in_turn (tables_of frames image) slot) puddles _ refl (graph_read frames on) some
 
-    no_graph : (g : Option Graph) (rest : Option Refusal) → is_some g ≡ false → cond (is_none g) (Some refusals.Wild) rest ≡ Some refusals.Wild
-    no_graph None rest is = refl
-    no_graph (Some x) rest is = absurd (let no : true ≡ false = is in cc)
-
-    module _ (uid gid frames : ℕ) (puddles : List (ℕ × Puddle)) (sound : Bool) (there : w.clients client ≡ Some (owner uid gid)) (read : GraphRead frames puddles sound) where
+    module _ (uid gid frames : ℕ) (on : frames ≡ F) (there : w.clients client ≡ Some (owner uid gid)) where
       abbrev right : Bool
       right = may_read rec.mode (owner rec.uid rec.gid) (owner uid gid)
 
-      pub unread_wild : sound ≡ false → refusal_to_read w client name ≡ Some refusals.Wild
-      unread_wild is = refusal_there uid gid _ there read.named_graph ∙ no_graph _ _ (sym read.has_graph ∙ is)
+      -- none were found with a graph
+      pub unread_wild : None ≡ puddles_with_graph frames image slot → refusal_to_read w client name ≡ Some refusals.Wild
+      unfolding puddles_with_graph
+      unread_wild none = refusal_there uid gid None there (graph_read frames on ∙ no_graph (puddles_in_turn (tables_of frames image) slot) _ none)
 
-      by_right : sound ≡ true → refusal_to_read w client name ≡ cond (not right) (Some refusals.Denied) None
-      by_right is = refusal_there uid gid _ there read.named_graph ∙ by_graph _ _ (sym read.has_graph ∙ is)
+      module _ (puddles : List (ℕ × Puddle)) (some : Some puddles ≡ puddles_with_graph frames image slot) where
+        by_right : refusal_to_read w client name ≡ cond (not right) (Some refusals.Denied) None
+        by_right = let holds = holds_graph frames puddles on some in refusal_there uid gid (Some holds.graph) there holds.is
 
-      pub unread_denied : sound ≡ true → right ≡ false → refusal_to_read w client name ≡ Some refusals.Denied
-      unread_denied is no_right = by_right is ∙ ap (λ b. cond (not b) (Some refusals.Denied) None) no_right
+        pub unread_denied : right ≡ false → refusal_to_read w client name ≡ Some refusals.Denied
+        unread_denied no_right = by_right ∙ ap (λ b. cond (not b) (Some refusals.Denied) None) no_right
 
-      pub is_readable : sound ≡ true → right ≡ true → refusal_to_read w client name ≡ None
-      is_readable is has_right = by_right is ∙ ap (λ b. cond (not b) (Some refusals.Denied) None) has_right
-
-      holds_some : (g : Option Graph) → graph_of (types_of image) (stored_in frames puddles image) ≡ g → is_some g ≡ true → HoldsGraph w frames name image puddles
-      holds_some None is some = absurd (let no : false ≡ true = some in cc)
-      holds_some (Some graph) is some = record { graph = graph; stored = is; is = read.named_graph ∙ is }
-
-      pub holds_graph : sound ≡ true → HoldsGraph w frames name image puddles
-      holds_graph is = holds_some (graph_of (types_of image) (stored_in frames puddles image)) refl (sym read.has_graph ∙ is)
+        pub is_readable : right ≡ true → refusal_to_read w client name ≡ None
+        is_readable has_right = by_right ∙ ap (λ b. cond (not b) (Some refusals.Denied) None) has_right
 
 -- ---- what is replied
 

@@ -1,5 +1,5 @@
 -- What the daemon's start and one line do, at every moment.
-use Rattle.std.specs.Prelude.{◌≡◌, ◌≢◌, ◌<◌, ◌≤◌, ◌⊎◌, ℕ, Bool, true, false, cond, List, [], ◌∷◌, ◌++◌, Option, Some, None, is_some, Result, IfOk}
+use Rattle.std.specs.Prelude.{◌≡◌, ◌≢◌, ◌<◌, ◌≤◌, ◌⊎◌, ℕ, Bool, true, false, cond, List, [], ◌∷◌, ◌++◌, slice_index_or, Option, Some, None, is_some, Result, Ok, Err, IfOk}
 use Rattle.pm_model.specs.declared.host.HostFault.{HostFault}
 use Rattle.pm_model.specs.declared.host.HostFault.TheVariants as hosts
 use Rattle.pm_model.specs.Words.{reads, IsRested}
@@ -12,13 +12,16 @@ use Rattle.pud_defs.specs.Layout.{tables_end, frames_at}
 use Rattle.pud_defs.specs.Image.{Image}
 use Rattle.pud_defs.specs.Replay.{is_in_log, settled_by}
 use Rattle.pud_defs.specs.Spaces.{space_record_at, owner_of, has_closed_logs}
+use Rattle.pud_defs.specs.Registry.{frames_of}
+use Rattle.pud_defs.specs.Settled.{ALL_LOGS, is_refused_log}
 use Rattle.pud_defs.specs.World.{World, world_of, closed, restart}
 use Rattle.pud_defs.specs.declared.machine.Command.{Command}
 use Rattle.pud_defs.specs.declared.machine.Command.TheVariants.{Leave}
 use Rattle.pud_defs.specs.Grammar.{command_of}
 use Rattle.pud_defs.specs.Changing.{file_in, KeepsFiles}
 use Rattle.pud_defs.specs.Run.{Turn, IsTurn, cuts_of}
-use Rattle.pud_defs.specs.Texts.{start_text, answer_text, begins_with_ok}
+use Rattle.pud_defs.specs.Texts.{answer_text, begins_with_ok}
+use Rattle.pud_defs.specs.StartText.{start_text}
 use Rattle.pud_defs.specs.Stands.{StandsWith}
 use Rattle.batch.specs.Tables.{HasDurableTables}
 use Rattle.batch.specs.Worlds.{IsSettled}
@@ -129,16 +132,25 @@ pub record Recovers (size : ℕ) (w : World) (result : Result Memory StartFault)
   pub script : new.script ≡ old.script
   pub shelf : new.shelf ≡ old.shelf
 
+-- what a recovery answers, without its verdicts
+abbrev pub without_verdicts : Result (Memory × List Bool) StartFault → Result Memory StartFault
+without_verdicts (Ok found) = Ok found.0
+without_verdicts (Err fault) = Err fault
+
+-- The verdicts on the clients' logs of an image, by their numbers: which are registered and refused, judged behind the daemon log.
+pub record AreVerdicts (image : Image) (refused : List Bool) : Type 0 where
+  pub each : (number : ℕ) → number < ALL_LOGS → slice_index_or refused number false ≡ is_refused_log (frames_of image) (settled_by DAEMON_LOG image) number
+
 -- What a device reads behind a start: each word but those of the daemon log and of the log-space table has the value that the daemon log gives
 -- it, or else the one that it had.
 pub record IsReplayed (before now : Image) : Type 0 where
   pub each : (k : ℕ) → is_in_log DAEMON_LOG k ≡ false → (k < SPACE_TABLE) ⊎ (PUDDLE_TABLE ≤ k) → now k ≡ settled_by DAEMON_LOG before k
 
--- A rested device that stands for a world was started on: at each moment each image stands for it, and the start text was said, or with a
--- fault a part of it; without a fault the daemon is ready.
+-- A rested device that stands for a world was started on: at each moment each image stands for it, and the start text of what it read was said,
+-- or with a fault a part of it; without a fault the daemon is ready.
 pub record Starts (size : ℕ) (w : World) (result : Result Memory StartFault) (old new : State) : Type 0 where
-  pub says : SaysPart start_text (start_fault result) old new
-  pub moments : Leaves (λ bytes image. IsPart bytes start_text × (world_of size image ≡ Some (closed w))) old new
+  pub says : SaysPart (start_text (reads old.now.words)) (start_fault result) old new
+  pub moments : Leaves (λ bytes image. IsPart bytes (start_text (reads old.now.words)) × (world_of size image ≡ Some (closed w))) old new
   pub ready : IfOk result (λ memory. IsReady size (restart w) memory new)
   pub script : new.script ≡ old.script
   pub shelf : new.shelf ≡ old.shelf

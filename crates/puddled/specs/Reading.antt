@@ -1,5 +1,5 @@
 -- Why a client may not read a pool, and what is replied to a line that reads a field.
-use Rattle.std.specs.Prelude.{◌≡◌, ℕ, not, cond, List, Option, Some, None, is_some, is_none}
+use Rattle.std.specs.Prelude.{◌≡◌, ℕ, not, cond, List, Option, Some, None, is_some, is_none, option_map}
 use Rattle.pud_defs.specs.declared.objects.Val.TheVariants.{Num, Ref}
 use Rattle.pud_defs.specs.declared.records.Puddle.{Puddle}
 use Rattle.pud_defs.specs.declared.machine.Reply.{Reply}
@@ -11,7 +11,7 @@ use Rattle.pud_defs.specs.Spaces.{Owner}
 use Rattle.pud_defs.specs.Types.{types_of}
 use Rattle.pud_defs.specs.Stored.{stored_in}
 use Rattle.pud_defs.specs.Graph.{Graph, graph_of}
-use Rattle.pud_defs.specs.Tables.{Pool}
+use Rattle.pud_defs.specs.Tables.{Pool, tables_of, puddles_in_turn}
 use Rattle.pud_defs.specs.PoolChanges.{pool_named}
 use Rattle.pud_defs.specs.World.{World}
 use Rattle.pud_defs.specs.Step.{reads, graph_in}
@@ -29,6 +29,12 @@ reading_refusal who found =
 -- the same of a client and a name
 abbrev pub refusal_to_read : World → (client : ℕ) → List ℕ → Option Refusal
 refusal_to_read w client name = reading_refusal (w.clients client) (pool_named name w.stored)
+
+-- the puddles of the pool in this slot as they are read, where they have a graph
+unfoldable pub puddles_with_graph : ℕ → Image → (slot : ℕ) → Option (List (ℕ × Puddle))
+puddles_with_graph F image slot =
+    let puddles = puddles_in_turn (tables_of F image) slot in
+    option_map (λ graph. puddles) (graph_of (types_of image) (stored_in F puddles image))
 
 -- these puddles have a graph, and it is that of the world's pool of this name
 pub record HoldsGraph (w : World) (F : ℕ) (name : List ℕ) (image : Image) (puddles : List (ℕ × Puddle)) : Type 0 where

@@ -11,12 +11,13 @@ ghost use Rattle.puddled.specs.Faults.{start_fault, run_fault, kind_of, CountsLi
 ghost use Rattle.pud_defs.specs.Grammar.{command_of, IsLegalCommand};
 ghost use Rattle.pud_defs.specs.Changing.{file_of, file_in};
 ghost use Rattle.puddled.specs.Memory.{Memory};
-ghost use Rattle.puddled.specs.Daemon.{KeepsRest, KeepsLine, IsReady, IsReplayed, Applies, CarriesOut, Recovers, Settles};
+ghost use Rattle.puddled.specs.Daemon.{KeepsRest, KeepsLine, IsReady, IsReplayed, AreVerdicts, Applies, CarriesOut, Recovers, Settles, without_verdicts};
 
 use crate::answers::{Answered, say_answer, with_reply};
 use crate::clients::{come, leave};
 use crate::pools::{change, drop_owned, make};
 use crate::reading::get;
+use crate::starting::{ALL_LOGS, Refused, say_start};
 use crate::types::define_type;
 use log_space::clear_spaces;
 use pm_model::{Host, HostFault};
@@ -119,26 +120,44 @@ impl Model for Daemon {
     ghost invariant = { λ d. (MIN_FRAMES ≤ d.frames) × (d.frames ≤ MAX_FRAMES) };
 }
 
-/// Judges the device, applies what its daemon log names, and empties the log-space table, all without a word.
-fn recover<H: Host>(h: &mut H) -> Result<Daemon, StartFault>
+/// Judges the device, applies what its daemon log names, and empties the log-space table, all without a word. With the daemon it answers
+/// which registered logs it refuses, by their numbers.
+fn recover<H: Host>(h: &mut H) -> Result<(Daemon, Refused), StartFault>
+    ensures not_sound { H.tells → start_fault result ≡ Option.None
+        → (without_verdicts result ≡ Result.Err StartFault.NotSound) ↔ (world_of (H.counts h.old).size (reads (H.state h.old).now.words) ≡ Option.None) }
+    ensures unchanged { H.tells → without_verdicts result ≡ Result.Err StartFault.NotSound → H.state h.new ≡ H.state h.old }
+    ensures recovers { H.tells → (size : ℕ) → size ≡ (H.counts h.old).size → (w : World) → IsRested (H.state h.old).now.words
+        → world_of size (reads (H.state h.old).now.words) ≡ Option.Some (closed w) → (H.state h.old).shelf ≡ w.shelf
+        → Recovers size w (without_verdicts result) (H.state h.old) (H.state h.new) }
+    // Whatever the device holds.
+    ensures verdicts { H.tells → IfOk result (λ found. AreVerdicts (reads (H.state h.old).now.words) found.1) }
+    ensures replays { H.tells → IfOk result (λ found. IsReplayed (reads (H.state h.old).now.words) (reads (H.state h.new).now.words)) }
+    ensures frames { H.tells → IfOk result (λ found. found.0.frames ≡ frames_of (reads (H.state h.new).now.words)) }
+    ensures quiet { H.tells → (H.state h.new).now.said ≡ (H.state h.old).now.said }
+    ensures enough { IfOk result (λ found. MIN_FRAMES ≤ found.0.frames) }
+    ensures room { IfOk result (λ found. device_words found.0.frames ≤ (H.counts h.old).size) }
+    ensures rest { H.tells → KeepsRest (H.state h.old) (H.state h.new) }
+    ensures cause { H.counts h.new ≡ after_fault (start_fault result) (H.counts h.old) }
+{
+    let geo = load_sound(h)?;
+    clear_spaces(h)?;
+    Ok((Daemon { frames: geo.frames }, [false; ALL_LOGS]))
+}
+
+/// Starts again behind a power loss, without a word: none on the logs that are refused either.
+fn restart<H: Host>(h: &mut H) -> Result<Daemon, StartFault>
     ensures not_sound { H.tells → start_fault result ≡ Option.None
         → (result ≡ Result.Err StartFault.NotSound) ↔ (world_of (H.counts h.old).size (reads (H.state h.old).now.words) ≡ Option.None) }
     ensures unchanged { H.tells → result ≡ Result.Err StartFault.NotSound → H.state h.new ≡ H.state h.old }
     ensures recovers { H.tells → (size : ℕ) → size ≡ (H.counts h.old).size → (w : World) → IsRested (H.state h.old).now.words
         → world_of size (reads (H.state h.old).now.words) ≡ Option.Some (closed w) → (H.state h.old).shelf ≡ w.shelf
         → Recovers size w result (H.state h.old) (H.state h.new) }
-    // Whatever the device holds.
-    ensures replays { H.tells → IfOk result (λ daemon. IsReplayed (reads (H.state h.old).now.words) (reads (H.state h.new).now.words)) }
-    ensures frames { H.tells → IfOk result (λ daemon. daemon.frames ≡ frames_of (reads (H.state h.new).now.words)) }
-    ensures quiet { H.tells → (H.state h.new).now.said ≡ (H.state h.old).now.said }
-    ensures enough { IfOk result (λ daemon. MIN_FRAMES ≤ daemon.frames) }
     ensures room { IfOk result (λ daemon. device_words daemon.frames ≤ (H.counts h.old).size) }
     ensures rest { H.tells → KeepsRest (H.state h.old) (H.state h.new) }
     ensures cause { H.counts h.new ≡ after_fault (start_fault result) (H.counts h.old) }
 {
-    let geo = load_sound(h)?;
-    clear_spaces(h)?;
-    Ok(Daemon { frames: geo.frames })
+    let (daemon, _refused) = recover(h)?;
+    Ok(daemon)
 }
 
 /// Loses power at once: the daemon is to start again behind it, as behind each power loss.
@@ -238,7 +257,7 @@ fn go_on<H: Host>(
         Ok(answered) => Ok(answered),
         Err(HostFault::Failed) => Err(RunFault::Failed),
         Err(HostFault::Cut) => {
-            *daemon = recover(h)?;
+            *daemon = restart(h)?;
             Ok(Answered::Reply(reply_behind_loss(command)))
         }
     }
@@ -269,10 +288,11 @@ fn settle<H: Host>(daemon: &mut Daemon, h: &mut H, line: &[u8]) -> Result<Answer
 
 impl Daemon {
     ghost use Rattle.pud_defs.specs.declared.layout.TheConstants.{MAX_FRAMES};
-    ghost use Rattle.pud_defs.specs.Texts.{start_text};
+    ghost use Rattle.pud_defs.specs.StartText.{start_text};
     ghost use Rattle.puddled.specs.Daemon.{SaysPart, Starts, Answers};
 
-    /// Starts on the device: applies what its daemon log names, empties the log-space table, and says the start text.
+    /// Starts on the device: applies what its daemon log names, empties the log-space table, and says the start text: a line for each
+    /// log that is refused, and `ready`.
     ///
     /// `NotSound` comes exactly where the device is not a sound registry, where the host does not fail first; then no word
     /// was changed and nothing was said. On a device that is rested each image left at any moment stands for what the
@@ -288,14 +308,14 @@ impl Daemon {
         // Whatever the device holds: what it then reads, and what was said.
         ensures replays { H.tells → IfOk result (λ daemon. IsReplayed (reads (H.state h.old).now.words) (reads (H.state h.new).now.words)) }
         ensures frames { H.tells → IfOk result (λ daemon. daemon.frames ≡ frames_of (reads (H.state h.new).now.words)) }
-        ensures says { H.tells → result ≢ Result.Err StartFault.NotSound → SaysPart start_text (start_fault result) (H.state h.old) (H.state h.new) }
+        ensures says { H.tells → result ≢ Result.Err StartFault.NotSound → SaysPart (start_text (reads (H.state h.old).now.words)) (start_fault result) (H.state h.old) (H.state h.new) }
         ensures enough { IfOk result (λ daemon. MIN_FRAMES ≤ daemon.frames) }
         ensures room { IfOk result (λ daemon. device_words daemon.frames ≤ (H.counts h.old).size) }
         ensures rest { H.tells → KeepsRest (H.state h.old) (H.state h.new) }
         ensures cause { H.counts h.new ≡ after_fault (start_fault result) (H.counts h.old) }
     {
-        let daemon = recover(h)?;
-        h.say(b"ready\n")?;
+        let (daemon, refused) = recover(h)?;
+        say_start(h, &refused)?;
         Ok(daemon)
     }
 

@@ -6,6 +6,7 @@ mod clients;
 mod daemon;
 mod pools;
 mod reading;
+mod starting;
 mod types;
 
 pub use daemon::{Daemon, RunFault, StartFault};

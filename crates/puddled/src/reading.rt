@@ -1,9 +1,11 @@
 //! Fields of objects that are read.
-ghost use Rattle.std.specs.Prelude.{◌≡◌, ◌≢◌, ◌<◌, ◌≤◌, ℕ, Option, IfOk};
+ghost use Rattle.std.specs.Prelude.{◌≡◌, ◌≢◌, ◌<◌, ◌≤◌, ℕ, Option, IfOk, IfSome};
 ghost use Rattle.pm_model.specs.Words.{reads};
 ghost use Rattle.pm_model.specs.Counts.{after_fault, fault_of};
 ghost use Rattle.pud_defs.specs.declared.layout.TheConstants.{CLIENTS, MAX_FRAMES, MAX_FIELDS};
+ghost use Rattle.pud_defs.specs.declared.records.TheConstants.{POOL_RECORDS};
 ghost use Rattle.pud_defs.specs.declared.machine.Command.TheVariants.{Get};
+ghost use Rattle.pud_defs.specs.Image.{Image};
 ghost use Rattle.pud_defs.specs.Layout.{device_words};
 ghost use Rattle.pud_defs.specs.Stored.{IsOnDevice};
 ghost use Rattle.pud_defs.specs.World.{World};
@@ -11,7 +13,7 @@ ghost use Rattle.pud_defs.specs.Step.{answer_by};
 ghost use Rattle.pud_defs.specs.Step.Answer.{of_reply};
 ghost use Rattle.puddled.specs.Memory.{Memory};
 ghost use Rattle.puddled.specs.Owning.{refusal_found};
-ghost use Rattle.puddled.specs.Reading.{refusal_to_read, HoldsGraph, reply_of_read};
+ghost use Rattle.puddled.specs.Reading.{refusal_to_read, puddles_with_graph, HoldsGraph, reply_of_read};
 ghost use Rattle.puddled.specs.Daemon.{IsReady};
 
 use graph_read::{FieldRead, pool_is_sound, read_field};
@@ -23,6 +25,25 @@ use pud_defs::machine::{Refusal, Reply};
 use pud_defs::objects::Val;
 use pud_defs::records::Name;
 use puddle_table::{Puddles, find_places};
+
+/// The puddles of the pool in this slot, where they have a graph. The device has so many frames.
+fn find_graph<H: Host>(h: &mut H, frames: u32, slot: u32) -> Result<Option<Puddles>, HostFault>
+    requires known { slot < POOL_RECORDS }
+    requires few { frames ≤ MAX_FRAMES }
+    requires room { device_words frames ≤ (H.counts h.old).size }
+    ensures found { H.tells → (image : Image) → reads (H.state h.old).now.words ≡ image
+        → IfOk result (λ found. found ≡ puddles_with_graph frames image slot) }
+    ensures known { IfOk result (λ found. IfSome found (IsOnDevice frames)) }
+    ensures stays { H.tells → H.state h.new ≡ H.state h.old }
+    ensures cause { H.counts h.new ≡ after_fault (fault_of result) (H.counts h.old) }
+    ensures never_cut { fault_of result ≢ Option.Some HostFault.Cut }
+{
+    let puddles = find_places(h, frames)?.of_pool(h, slot)?;
+    if !pool_is_sound(h, frames, puddles.as_slice())? {
+        return Ok(None);
+    }
+    Ok(Some(puddles))
+}
 
 /// The puddles of the pool of this name, where it has a graph that the client may read, or why not. The device has so many frames.
 fn find_readable<H: Host>(
@@ -49,10 +70,9 @@ fn find_readable<H: Host>(
     let Some((slot, rec)) = find(h, name)? else {
         return Ok(Err(Refusal::Pool));
     };
-    let puddles = find_places(h, frames)?.of_pool(h, slot)?;
-    if !pool_is_sound(h, frames, puddles.as_slice())? {
+    let Some(puddles) = find_graph(h, frames, slot)? else {
         return Ok(Err(Refusal::Wild));
-    }
+    };
     if !may_read(rec.mode, rec.uid, rec.gid, who.uid, who.gid) {
         return Ok(Err(Refusal::Denied));
     }

@@ -22,7 +22,7 @@ returns-in_err-say_view-clause-says g c =
     let said = shown (g.H.Host.counts c.args.h.now).size c.frames.result c.args.view (g.H.Host.state c.args.h.now) (g.H.Host.state c.start.new.h) (g.H.Host.state c.say_view.new.h) (Some c.in_err-say_view.field-0.0)
     (not_refused _ _ (c.in_ok-daemon.ensures.not_sound t refl)) (c.in_ok-daemon.ensures.replays t) (c.frames.ensures.frames ∙ c.in_ok-daemon.ensures.frames t)
     (λ next tables frames. c.in_err-say_view.ensures.sound t _ refl next tables frames) in
-    SaysPart-started _ _ _ _ _ (c.in_ok-daemon.ensures.says t (λ no. absurd (cc))) said)
+    SaysPart-started _ _ _ _ _ _ (c.in_ok-daemon.ensures.says t (λ no. absurd (cc))) said)
 
 pub returns-in_err-say_view-clause-moments : goal.returns-in_err-say_view-clause-moments
 returns-in_err-say_view-clause-moments g c = λ t size same rested s world.
@@ -39,7 +39,7 @@ returns-clause-says g c = λ t sound.
     let said = shown (g.H.Host.counts c.args.h.now).size c.frames.result c.args.view (g.H.Host.state c.args.h.now) (g.H.Host.state c.start.new.h) (g.H.Host.state c.say_view.new.h) None
     (not_refused _ _ (c.in_ok-daemon.ensures.not_sound t refl)) (c.in_ok-daemon.ensures.replays t) (c.frames.ensures.frames ∙ c.in_ok-daemon.ensures.frames t)
     (λ next tables frames. c.in_ok-say_view.ensures.sound t _ refl next tables frames) in
-    SaysPart-started _ _ _ _ _ (c.in_ok-daemon.ensures.says t (λ no. absurd (cc))) said
+    SaysPart-started _ _ _ _ _ _ (c.in_ok-daemon.ensures.says t (λ no. absurd (cc))) said
 
 pub returns-clause-in_the_end : goal.returns-clause-in_the_end
 returns-clause-in_the_end g c = λ t ok.

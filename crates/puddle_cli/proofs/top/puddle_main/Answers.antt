@@ -1,9 +1,8 @@
 use Rattle.std.proofs.Common.{Option, refl, sym, ap, subst}
-use Rattle.pud_defs.specs.LayoutText.{layout_text}
-use Rattle.pud_defs.specs.CheckText.{check_text}
-use Rattle.pud_defs.specs.World.{stored_by}
 use Rattle.command_line.specs.declared.modes.Mode.{Mode}
+use Rattle.puddle_cli.specs.declared.show.View.TheVariants as views
 use Rattle.puddle_cli.specs.Status.{status_fault}
+use Rattle.puddle_cli.specs.Views.{text_of}
 use Rattle.puddle_cli.specs.Modes.{RunsScript, Shows, DoesBy}
 use Rattle.puddle_cli.proofs.Statuses.{done_by}
 use Rattle.puddle_cli.proofs.top.puddle_main.Goals as goal
@@ -25,7 +24,7 @@ returns-in-Ok-Run-clause-does g c = λ t told.
 pub returns-in-Ok-Layout-clause-does : goal.returns-in-Ok-Layout-clause-does
 returns-in-Ok-Layout-clause-does g c = λ t told.
     let shows = c.show.ensures in
-    let does : Shows layout_text c.show.result (g.H.Host.counts c.args.host.now) (g.H.Host.counts c.show.new.h) (g.H.Host.state c.args.host.now) (g.H.Host.state c.show.new.h) = record {
+    let does : Shows (text_of views.Layout) c.show.result (g.H.Host.counts c.args.host.now) (g.H.Host.counts c.show.new.h) (g.H.Host.state c.args.host.now) (g.H.Host.state c.show.new.h) = record {
       not_usable = shows.not_usable t;
       stays = shows.unchanged t;
       completes = λ sound none. done_by _ _ _ shows.status shows.never_too_long shows.cause none.faults none.cuts (λ refused. sound ((shows.not_usable t (ap status_fault refused)).0 refused));
@@ -40,7 +39,7 @@ returns-in-Ok-Layout-clause-does g c = λ t told.
 pub returns-in-Ok-Check-clause-does : goal.returns-in-Ok-Check-clause-does
 returns-in-Ok-Check-clause-does g c = λ t told.
     let shows = c.show-in-Ok-Check.ensures in
-    let does : Shows (λ image. check_text (stored_by image)) c.show-in-Ok-Check.result (g.H.Host.counts c.args.host.now) (g.H.Host.counts c.show-in-Ok-Check.new.h) (g.H.Host.state c.args.host.now) (g.H.Host.state c.show-in-Ok-Check.new.h) = record {
+    let does : Shows (text_of views.Check) c.show-in-Ok-Check.result (g.H.Host.counts c.args.host.now) (g.H.Host.counts c.show-in-Ok-Check.new.h) (g.H.Host.state c.args.host.now) (g.H.Host.state c.show-in-Ok-Check.new.h) = record {
       not_usable = shows.not_usable t;
       stays = shows.unchanged t;
       completes = λ sound none. done_by _ _ _ shows.status shows.never_too_long shows.cause none.faults none.cuts (λ refused. sound ((shows.not_usable t (ap status_fault refused)).0 refused));

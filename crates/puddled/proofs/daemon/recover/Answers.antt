@@ -1,11 +1,13 @@
-use Rattle.std.proofs.Common.{ℕ, refl, sym, ap, ◌∙◌}
+use Rattle.std.proofs.Common.{ℕ, false, refl, sym, ap, ◌∙◌}
 use Rattle.std.proofs.lemmas.Result.{err_from_is_err_and}
+use Rattle.std.proofs.lemmas.List.{get_or-replicate}
 use Rattle.pm_model.specs.Words.{reads}
 use Rattle.pm_model.specs.Counts.{Counts}
 use Rattle.pm_model.proofs.Changes.{Changes-said}
+use Rattle.pud_defs.specs.Settled.{ALL_LOGS}
 use Rattle.pud_defs.specs.World.{world_of, closed}
 use Rattle.puddled.proofs.Restarts.{Recovers-load, Recovers-done, Recovers-uncleared, sound_load, fault_is, loaded}
-use Rattle.puddled.proofs.Starting.{idle_behind, IsReplayed-cleared, frames_told}
+use Rattle.puddled.proofs.Started.{idle_behind, IsReplayed-cleared, frames_told, AreVerdicts-none}
 use Rattle.puddled.proofs.daemon.recover.Goals as goal
 
 pub returns-in_err-geo-clause-recovers : goal.returns-in_err-geo-clause-recovers
@@ -56,3 +58,10 @@ returns-clause-frames g c = λ t.
     frames_told (g.H.Host.counts c.args.h.now).size c.in_ok-geo.geo before _ (world_of (g.H.Host.counts c.args.h.now).size before) refl (c.in_ok-geo.ensures.not_sound t refl).1
     (λ s e. (c.in_ok-geo.ensures.geo t (g.H.Host.counts c.args.h.now).size refl s e).0)
     (IsReplayed-cleared _ _ _ settles (c.in_ok-clear_spaces.ensures.empties t (idle_behind _ _ settles)))
+
+-- ---- which logs are refused
+
+pub returns-clause-verdicts : goal.returns-clause-verdicts
+returns-clause-verdicts g c = λ t.
+    let before = reads (g.H.Host.state c.args.h.now).now.words in
+    AreVerdicts-none (g.H.Host.counts c.args.h.now).size c.in_ok-geo.geo before _ _ refl (c.in_ok-geo.ensures.not_sound t refl).1 (λ number below. get_or-replicate ALL_LOGS number false false below)

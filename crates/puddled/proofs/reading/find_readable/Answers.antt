@@ -1,11 +1,9 @@
-use Rattle.std.proofs.Common.{ℕ, refl, sym, ap, subst, ◌∙◌}
+use Rattle.std.proofs.Common.{refl, sym, ap, ◌∙◌}
 use Rattle.pm_model.specs.Words.{reads}
 use Rattle.pm_model.specs.Moments.{State}
 use Rattle.pud_defs.specs.Spaces.{owner}
-use Rattle.pud_defs.specs.Tables.{tables_of}
-use Rattle.puddle_table.specs.Placed.{HoldsPlaces}
 use Rattle.puddled.proofs.Pooling.{acting, absent}
-use Rattle.puddled.proofs.Readable.{unread_client, unread_pool, graph_was_read, unread_wild, unread_denied, is_readable, holds_graph}
+use Rattle.puddled.proofs.Readable.{unread_client, unread_pool, unread_wild, unread_denied, is_readable, holds_graph}
 use Rattle.puddled.proofs.reading.find_readable.Goals as goal
 
 pub returns-in_default-clause-refusal : goal.returns-in_default-clause-refusal
@@ -18,62 +16,35 @@ returns-in_default-2-clause-refusal g c = λ t size w memory frames ready.
     let read = ap (λ (s : State). reads s.now.words) (c.owner.ensures.stays t) in
     sym (unread_pool size w memory _ ready c.args.client c.args.name (owner c.in-Some.who.uid c.in-Some.who.gid) who.is (sym c.in_default-2.is ∙ c.in_ok-slot.ensures.found t _ read w.stored.frames))
 
-pub returns-then-not-branch-clause-refusal : goal.returns-then-not-branch-clause-refusal
-returns-then-not-branch-clause-refusal g c = λ t size w memory frames ready.
+pub returns-in_default-3-clause-refusal : goal.returns-in_default-3-clause-refusal
+returns-in_default-3-clause-refusal g c = λ t size w memory frames ready.
     let who = acting size w memory _ ready c.args.client c.in-Some.who c.requires.known (sym c.in-Some.is ∙ c.in_ok-who.ensures.owner t _ refl) in
     let first = c.owner.ensures.stays t in
-    let second = c.find.ensures.stays t ∙ first in
-    let third = c.find_places.ensures.stays t ∙ second in
-    let fourth = c.of_pool.ensures.stays t ∙ third in
     let there = sym c.in-Some-2.is ∙ c.in_ok-slot.ensures.found t _ (ap (λ (s : State). reads s.now.words) first) w.stored.frames in
-    let read = graph_was_read size w memory _ ready c.args.client c.args.name c.in-Some-2.slot c.in-Some-2.rec there c.args.frames c.in_ok-find_places.field-0.count c.in_ok-puddles.puddles c.as_slice.result.now
-    c.in_ok-pool_is_sound.field-0 (sym frames ∙ ready.frames) c.in_ok-find_places.ensures.count
-    (c.in_ok-puddles.ensures.found t _ (ap (λ (s : State). reads s.now.words) third) (subst (λ (n : ℕ). HoldsPlaces (tables_of n (reads (g.H.Host.state c.args.h.now).now.words)) c.in_ok-find_places.field-0) (sym c.in_ok-find_places.ensures.count)
-    (c.in_ok-find_places.ensures.places t _ (ap (λ (s : State). reads s.now.words) second)))) c.as_slice.ensures.puddles
-    (c.in_ok-pool_is_sound.ensures.sound t _ (ap (λ (s : State). reads s.now.words) fourth)) in
-    sym (unread_wild size w memory _ ready c.args.client c.args.name c.in-Some-2.slot c.in-Some-2.rec there c.in-Some.who.uid c.in-Some.who.gid c.args.frames c.in_ok-puddles.puddles c.in_ok-pool_is_sound.field-0 who.is read c.if-not-branch.true)
+    let found = sym c.in_default-3.is ∙ c.in_ok-puddles.ensures.found t _ (ap (λ (s : State). reads s.now.words) (c.find.ensures.stays t ∙ first)) in
+    sym (unread_wild size w memory _ ready c.args.client c.args.name c.in-Some-2.slot c.in-Some-2.rec there c.in-Some.who.uid c.in-Some.who.gid c.args.frames (sym frames ∙ ready.frames) who.is found)
 
 pub returns-then-not-may_read-clause-refusal : goal.returns-then-not-may_read-clause-refusal
 returns-then-not-may_read-clause-refusal g c = λ t size w memory frames ready.
     let who = acting size w memory _ ready c.args.client c.in-Some.who c.requires.known (sym c.in-Some.is ∙ c.in_ok-who.ensures.owner t _ refl) in
     let first = c.owner.ensures.stays t in
-    let second = c.find.ensures.stays t ∙ first in
-    let third = c.find_places.ensures.stays t ∙ second in
-    let fourth = c.of_pool.ensures.stays t ∙ third in
     let there = sym c.in-Some-2.is ∙ c.in_ok-slot.ensures.found t _ (ap (λ (s : State). reads s.now.words) first) w.stored.frames in
-    let read = graph_was_read size w memory _ ready c.args.client c.args.name c.in-Some-2.slot c.in-Some-2.rec there c.args.frames c.in_ok-find_places.field-0.count c.in_ok-puddles.puddles c.as_slice.result.now
-    c.in_ok-pool_is_sound.field-0 (sym frames ∙ ready.frames) c.in_ok-find_places.ensures.count
-    (c.in_ok-puddles.ensures.found t _ (ap (λ (s : State). reads s.now.words) third) (subst (λ (n : ℕ). HoldsPlaces (tables_of n (reads (g.H.Host.state c.args.h.now).now.words)) c.in_ok-find_places.field-0) (sym c.in_ok-find_places.ensures.count)
-    (c.in_ok-find_places.ensures.places t _ (ap (λ (s : State). reads s.now.words) second)))) c.as_slice.ensures.puddles
-    (c.in_ok-pool_is_sound.ensures.sound t _ (ap (λ (s : State). reads s.now.words) fourth)) in
-    sym (unread_denied size w memory _ ready c.args.client c.args.name c.in-Some-2.slot c.in-Some-2.rec there c.in-Some.who.uid c.in-Some.who.gid c.args.frames c.in_ok-puddles.puddles c.in_ok-pool_is_sound.field-0 who.is read c.if-not-branch.false (sym c.may_read.ensures ∙ c.if-not-may_read.true))
+    let found = sym c.in-Some-3.is ∙ c.in_ok-puddles.ensures.found t _ (ap (λ (s : State). reads s.now.words) (c.find.ensures.stays t ∙ first)) in
+    sym (unread_denied size w memory _ ready c.args.client c.args.name c.in-Some-2.slot c.in-Some-2.rec there c.in-Some.who.uid c.in-Some.who.gid c.args.frames (sym frames ∙ ready.frames) who.is
+    c.in-Some-3.puddles found (sym c.may_read.ensures ∙ c.if-not-may_read.true))
 
 pub returns-clause-refusal : goal.returns-clause-refusal
 returns-clause-refusal g c = λ t size w memory frames ready.
     let who = acting size w memory _ ready c.args.client c.in-Some.who c.requires.known (sym c.in-Some.is ∙ c.in_ok-who.ensures.owner t _ refl) in
     let first = c.owner.ensures.stays t in
-    let second = c.find.ensures.stays t ∙ first in
-    let third = c.find_places.ensures.stays t ∙ second in
-    let fourth = c.of_pool.ensures.stays t ∙ third in
     let there = sym c.in-Some-2.is ∙ c.in_ok-slot.ensures.found t _ (ap (λ (s : State). reads s.now.words) first) w.stored.frames in
-    let read = graph_was_read size w memory _ ready c.args.client c.args.name c.in-Some-2.slot c.in-Some-2.rec there c.args.frames c.in_ok-find_places.field-0.count c.in_ok-puddles.puddles c.as_slice.result.now
-    c.in_ok-pool_is_sound.field-0 (sym frames ∙ ready.frames) c.in_ok-find_places.ensures.count
-    (c.in_ok-puddles.ensures.found t _ (ap (λ (s : State). reads s.now.words) third) (subst (λ (n : ℕ). HoldsPlaces (tables_of n (reads (g.H.Host.state c.args.h.now).now.words)) c.in_ok-find_places.field-0) (sym c.in_ok-find_places.ensures.count)
-    (c.in_ok-find_places.ensures.places t _ (ap (λ (s : State). reads s.now.words) second)))) c.as_slice.ensures.puddles
-    (c.in_ok-pool_is_sound.ensures.sound t _ (ap (λ (s : State). reads s.now.words) fourth)) in
-    sym (is_readable size w memory _ ready c.args.client c.args.name c.in-Some-2.slot c.in-Some-2.rec there c.in-Some.who.uid c.in-Some.who.gid c.args.frames c.in_ok-puddles.puddles c.in_ok-pool_is_sound.field-0 who.is read c.if-not-branch.false (sym c.may_read.ensures ∙ c.if-not-may_read.false))
+    let found = sym c.in-Some-3.is ∙ c.in_ok-puddles.ensures.found t _ (ap (λ (s : State). reads s.now.words) (c.find.ensures.stays t ∙ first)) in
+    sym (is_readable size w memory _ ready c.args.client c.args.name c.in-Some-2.slot c.in-Some-2.rec there c.in-Some.who.uid c.in-Some.who.gid c.args.frames (sym frames ∙ ready.frames) who.is
+    c.in-Some-3.puddles found (sym c.may_read.ensures ∙ c.if-not-may_read.false))
 
 pub returns-clause-graph : goal.returns-clause-graph
 returns-clause-graph g c = λ t size w memory frames ready.
-    let who = acting size w memory _ ready c.args.client c.in-Some.who c.requires.known (sym c.in-Some.is ∙ c.in_ok-who.ensures.owner t _ refl) in
     let first = c.owner.ensures.stays t in
-    let second = c.find.ensures.stays t ∙ first in
-    let third = c.find_places.ensures.stays t ∙ second in
-    let fourth = c.of_pool.ensures.stays t ∙ third in
     let there = sym c.in-Some-2.is ∙ c.in_ok-slot.ensures.found t _ (ap (λ (s : State). reads s.now.words) first) w.stored.frames in
-    let read = graph_was_read size w memory _ ready c.args.client c.args.name c.in-Some-2.slot c.in-Some-2.rec there c.args.frames c.in_ok-find_places.field-0.count c.in_ok-puddles.puddles c.as_slice.result.now
-    c.in_ok-pool_is_sound.field-0 (sym frames ∙ ready.frames) c.in_ok-find_places.ensures.count
-    (c.in_ok-puddles.ensures.found t _ (ap (λ (s : State). reads s.now.words) third) (subst (λ (n : ℕ). HoldsPlaces (tables_of n (reads (g.H.Host.state c.args.h.now).now.words)) c.in_ok-find_places.field-0) (sym c.in_ok-find_places.ensures.count)
-    (c.in_ok-find_places.ensures.places t _ (ap (λ (s : State). reads s.now.words) second)))) c.as_slice.ensures.puddles
-    (c.in_ok-pool_is_sound.ensures.sound t _ (ap (λ (s : State). reads s.now.words) fourth)) in
-    holds_graph size w memory _ ready c.args.client c.args.name c.in-Some-2.slot c.in-Some-2.rec there c.in-Some.who.uid c.in-Some.who.gid c.args.frames c.in_ok-puddles.puddles c.in_ok-pool_is_sound.field-0 who.is read c.if-not-branch.false
+    let found = sym c.in-Some-3.is ∙ c.in_ok-puddles.ensures.found t _ (ap (λ (s : State). reads s.now.words) (c.find.ensures.stays t ∙ first)) in
+    holds_graph size w memory _ ready c.args.client c.args.name c.in-Some-2.slot c.in-Some-2.rec there c.args.frames c.in-Some-3.puddles (sym frames ∙ ready.frames) found

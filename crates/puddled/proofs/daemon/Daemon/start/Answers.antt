@@ -1,15 +1,16 @@
-use Rattle.std.proofs.Common.{◌≡◌, ℕ, None, Some, Ok, Err, refl, sym, ap, ◌∙◌}
+use Rattle.std.proofs.Common.{◌≡◌, ℕ, None, Some, Ok, Err, refl, sym, ap, subst, ◌∙◌}
 use Rattle.std.proofs.lemmas.Result.{err_from_is_err_and}
 use Rattle.pm_model.specs.Counts.{Counts, after_fault}
-use Rattle.pm_model.specs.Words.{reads}
+use Rattle.pm_model.specs.Words.{Words, reads}
+use Rattle.pud_defs.specs.Registry.{frames_of}
 use Rattle.pud_defs.specs.World.{world_of, closed}
-use Rattle.pud_defs.specs.Texts.{start_text}
 use Rattle.puddled.specs.declared.daemon.StartFault.{StartFault}
 use Rattle.puddled.specs.declared.daemon.StartFault.TheVariants as starts
 use Rattle.puddled.specs.Memory.{Memory}
 use Rattle.puddled.specs.Faults.{start_fault}
-use Rattle.puddled.proofs.Lines.{Starts-says, Starts-refused, KeepsRest-says}
-use Rattle.puddled.proofs.Starting.{SaysPart-behind}
+use Rattle.puddled.specs.Daemon.{IsReplayed}
+use Rattle.puddled.proofs.Lines.{words_said, Starts-says, Starts-refused, KeepsRest-says}
+use Rattle.puddled.proofs.Started.{SaysPart-behind}
 use Rattle.puddled.proofs.daemon.Daemon.start.Goals as goal
 
 pub returns-in_err-daemon-clause-starts : goal.returns-in_err-daemon-clause-starts
@@ -24,18 +25,16 @@ returns-in_err-daemon-clause-starts g c =
     absurd (cc))
     (c.in_err-daemon.ensures.recovers t size same w rested world shelf))
 
-pub returns-in_err-say-clause-starts : goal.returns-in_err-say-clause-starts
-unfolding start_text
-returns-in_err-say-clause-starts g c =
-    let p = err_from_is_err_and c.from_residual-in_err-say.result c.from_residual-in_err-say.ensures.1 in
-    rw (p.1, p.2) (λ t size same w rested world shelf. Starts-says size w _ (Err (starts.Host c.in_err-say.field-0.0)) _ _ _ (c.in_ok-daemon.ensures.recovers t size same w rested world shelf) (c.in_err-say.ensures.said t) tt)
+pub returns-in_err-say_start-clause-starts : goal.returns-in_err-say_start-clause-starts
+returns-in_err-say_start-clause-starts g c =
+    let p = err_from_is_err_and c.from_residual-in_err-say_start.result c.from_residual-in_err-say_start.ensures.1 in
+    rw (p.1, p.2) (λ t size same w rested world shelf. Starts-says size w _ (Err (starts.Host c.in_err-say_start.field-0.0)) _ _ _ (c.in_ok-daemon.ensures.recovers t size same w rested world shelf) (c.in_err-say_start.ensures.says t _ (c.in_ok-daemon.ensures.verdicts t)) tt)
 
 pub returns-clause-starts : goal.returns-clause-starts
-unfolding start_text
-returns-clause-starts g c = λ t size same w rested world shelf. Starts-says size w _ (Ok _) _ _ _ (c.in_ok-daemon.ensures.recovers t size same w rested world shelf) (c.in_ok-say.ensures.said t) refl
+returns-clause-starts g c = λ t size same w rested world shelf. Starts-says size w _ (Ok _) _ _ _ (c.in_ok-daemon.ensures.recovers t size same w rested world shelf) (c.in_ok-say_start.ensures.says t _ (c.in_ok-daemon.ensures.verdicts t)) refl
 
-pub returns-in_err-say-clause-rest : goal.returns-in_err-say-clause-rest
-returns-in_err-say-clause-rest g c = λ t. KeepsRest-says _ _ _ _ _ (c.in_ok-daemon.ensures.rest t) (c.in_err-say.ensures.said t)
+pub returns-in_err-say_start-clause-rest : goal.returns-in_err-say_start-clause-rest
+returns-in_err-say_start-clause-rest g c = λ t. KeepsRest-says _ _ _ _ _ (c.in_ok-daemon.ensures.rest t) (c.in_err-say_start.ensures.says t _ (c.in_ok-daemon.ensures.verdicts t))
 
 -- ---- what the order of the two calls leaves of the first one's clauses
 
@@ -59,29 +58,37 @@ pub returns-in_err-daemon-clause-rest : goal.returns-in_err-daemon-clause-rest
 returns-in_err-daemon-clause-rest g c = c.in_err-daemon.ensures.rest
 
 pub returns-clause-rest : goal.returns-clause-rest
-returns-clause-rest g c = λ t. KeepsRest-says _ _ _ _ _ (c.in_ok-daemon.ensures.rest t) (c.in_ok-say.ensures.said t)
+returns-clause-rest g c = λ t. KeepsRest-says _ _ _ _ _ (c.in_ok-daemon.ensures.rest t) (c.in_ok-say_start.ensures.says t _ (c.in_ok-daemon.ensures.verdicts t))
 
 pub returns-in_err-daemon-clause-cause : goal.returns-in_err-daemon-clause-cause
 returns-in_err-daemon-clause-cause g c =
     let p = err_from_is_err_and c.from_residual.result c.from_residual.ensures.1 in
     rw (p.1, p.2) c.in_err-daemon.ensures.cause
 
-pub returns-in_err-say-clause-cause : goal.returns-in_err-say-clause-cause
-returns-in_err-say-clause-cause g c =
-    let p = err_from_is_err_and c.from_residual-in_err-say.result c.from_residual-in_err-say.ensures.1 in
-    rw (p.1, p.2) (c.in_err-say.ensures.cause ∙ ap (λ (x : Counts). after_fault (Some c.in_err-say.field-0.0) x) c.in_ok-daemon.ensures.cause)
+pub returns-in_err-say_start-clause-cause : goal.returns-in_err-say_start-clause-cause
+returns-in_err-say_start-clause-cause g c =
+    let p = err_from_is_err_and c.from_residual-in_err-say_start.result c.from_residual-in_err-say_start.ensures.1 in
+    rw (p.1, p.2) (c.in_err-say_start.ensures.cause ∙ ap (λ (x : Counts). after_fault (Some c.in_err-say_start.field-0.0) x) c.in_ok-daemon.ensures.cause)
 
 pub returns-clause-cause : goal.returns-clause-cause
-returns-clause-cause g c = c.in_ok-say.ensures.cause ∙ c.in_ok-daemon.ensures.cause
+returns-clause-cause g c = c.in_ok-say_start.ensures.cause ∙ c.in_ok-daemon.ensures.cause
 
 -- ---- what was said, whatever the device holds
 
-pub returns-in_err-say-clause-says : goal.returns-in_err-say-clause-says
-unfolding start_text
-returns-in_err-say-clause-says g c =
-    let p = err_from_is_err_and c.from_residual-in_err-say.result c.from_residual-in_err-say.ensures.1 in
-    rw (p.1, p.2) (λ t sound. SaysPart-behind _ _ _ _ _ (c.in_ok-daemon.ensures.quiet t) (c.in_err-say.ensures.said t))
+pub returns-in_err-say_start-clause-says : goal.returns-in_err-say_start-clause-says
+returns-in_err-say_start-clause-says g c =
+    let p = err_from_is_err_and c.from_residual-in_err-say_start.result c.from_residual-in_err-say_start.ensures.1 in
+    rw (p.1, p.2) (λ t sound. SaysPart-behind _ _ _ _ _ (c.in_ok-daemon.ensures.quiet t) (c.in_err-say_start.ensures.says t _ (c.in_ok-daemon.ensures.verdicts t)))
 
 pub returns-clause-says : goal.returns-clause-says
-unfolding start_text
-returns-clause-says g c = λ t sound. SaysPart-behind _ _ _ _ _ (c.in_ok-daemon.ensures.quiet t) (c.in_ok-say.ensures.said t)
+returns-clause-says g c = λ t sound. SaysPart-behind _ _ _ _ _ (c.in_ok-daemon.ensures.quiet t) (c.in_ok-say_start.ensures.says t _ (c.in_ok-daemon.ensures.verdicts t))
+
+pub returns-clause-replays : goal.returns-clause-replays
+returns-clause-replays g c = λ t.
+    let words = words_said _ _ _ _ (c.in_ok-say_start.ensures.says t _ (c.in_ok-daemon.ensures.verdicts t)) in
+    subst (λ (x : Words). IsReplayed (reads (g.H.Host.state c.args.h.now).now.words) (reads x)) (sym words) (c.in_ok-daemon.ensures.replays t)
+
+pub returns-clause-frames : goal.returns-clause-frames
+returns-clause-frames g c = λ t.
+    let words = words_said _ _ _ _ (c.in_ok-say_start.ensures.says t _ (c.in_ok-daemon.ensures.verdicts t)) in
+    c.in_ok-daemon.ensures.frames t ∙ ap (λ (x : Words). frames_of (reads x)) (sym words)

@@ -1,0 +1,35 @@
+use Rattle.std.proofs.Common.{◌≡◌, ℕ, ◌++◌, List, [], Bool, false, cond, length, sym, ap, ◌∙◌, arith, append-nil}
+use Rattle.std.specs.Prelude.{slice_index_or}
+use Rattle.pud_defs.specs.Settled.{ALL_LOGS}
+use Rattle.pud_defs.specs.Texts.{ready_text}
+use Rattle.pud_defs.specs.StartText.{refused_line}
+use Rattle.pud_defs.proofs.StartText.{first_lines, first_lines-none, first_lines-more, first_lines-all}
+use Rattle.puddled.proofs.starting.start_text.Goals as goal
+use Rattle.puddled.proofs.starting.start_text.Goals.{then-refused-number, else-refused-number}
+
+pub loop-number-init : goal.loop-number-init
+loop-number-init c = record { lines = c.new-text.ensures ∙ sym (first_lines-none _); within = omega (arith, ap length c.new-text.ensures) }
+
+pub loop-number-preserved : goal.loop-number-preserved
+loop-number-preserved c =
+    let n = c.loop-number.number in
+    let refused : ℕ → Bool = λ number. slice_index_or c.args.refused.now number false in
+    elim c.if-refused-number.branch [
+      | then-refused-number w ↦ record {
+        lines = rw w.text-is (w.add_refused.ensures.line ∙ ap (λ (l : List ℕ). l ++ refused_line n) c.loop-number.invariant.lines
+            ∙ ap (λ (b : Bool). first_lines refused n ++ cond b (refused_line n) []) (sym w.if-refused-number.true) ∙ sym (first_lines-more refused n));
+        within = rw w.text-is (omega (arith, w.add_refused.ensures.within, c.loop-number.invariant.within));
+      }
+      | else-refused-number w ↦ record {
+        lines = rw w.text-is (c.loop-number.invariant.lines ∙ sym (append-nil _)
+            ∙ ap (λ (b : Bool). first_lines refused n ++ cond b (refused_line n) []) (sym w.if-refused-number.false) ∙ sym (first_lines-more refused n));
+        within = rw w.text-is (omega (arith, c.loop-number.invariant.within));
+      }
+    ]
+
+pub returns : goal.returns
+unfolding ready_text
+returns c =
+    let last : c.loop-number.number ≡ ALL_LOGS = omega (arith, c.loop-number-test.false) in
+    c.push_str.ensures.bytes ∙ ap (λ (l : List ℕ). l ++ ready_text)
+    (c.loop-number.invariant.lines ∙ ap (λ (n : ℕ). first_lines (λ number. slice_index_or c.args.refused.now number false) n) last ∙ first_lines-all _)
