@@ -1,13 +1,11 @@
 -- Lines that read a field: which pool is readable, and what is replied.
-use Rattle.std.proofs.Common.{◌≡◌, ℕ, ◌<◌, Bool, true, false, not, cond, List, Option, Some, None, is_some, is_none, option_map, refl, sym, ap, ap₂, subst, ◌∙◌}
-use Rattle.std.specs.Prelude.{slice_get}
+use Rattle.std.proofs.Common.{◌≡◌, ℕ, Bool, true, false, not, cond, List, Option, Some, None, is_some, is_none, option_map, refl, sym, ap, ap₂, subst, ◌∙◌}
 use Rattle.std.specs.FinMap.Entries.{find}
 use Rattle.std.proofs.lemmas.Option.{none-some}
 use Rattle.pm_model.specs.declared.host.HostFault.{HostFault}
 use Rattle.pm_model.specs.declared.host.HostFault.TheVariants.{Cut}
 use Rattle.pm_model.specs.Words.{reads}
 use Rattle.pm_model.specs.Moments.{State}
-use Rattle.pud_defs.specs.declared.records.TheConstants.{POOL_RECORDS}
 use Rattle.pud_defs.specs.declared.records.PoolRec.{PoolRec}
 use Rattle.pud_defs.specs.declared.records.Puddle.{Puddle}
 use Rattle.pud_defs.specs.declared.objects.Val.{Val}
@@ -24,11 +22,11 @@ use Rattle.pud_defs.specs.Rights.{may_read}
 use Rattle.pud_defs.specs.Types.{types_of}
 use Rattle.pud_defs.specs.Stored.{Stored, stored_in}
 use Rattle.pud_defs.specs.Graph.{Graph, Object, graph_of, object_in}
-use Rattle.pud_defs.specs.Holdings.{held_by, held_as, graph_held, holding_in}
+use Rattle.pud_defs.specs.Holdings.{held_as, graph_held, holding_in}
 use Rattle.pud_defs.specs.SoundTables.{is_sound_pool}
 use Rattle.pud_defs.specs.Tables.{Tables, Pool, Reader, tables_of, records_of, pool_in, puddles_of, puddles_in_turn, listed, pool_of}
 use Rattle.pud_defs.specs.PoolChanges.{pool_named}
-use Rattle.pud_defs.specs.World.{World, closed}
+use Rattle.pud_defs.specs.World.{World}
 use Rattle.pud_defs.specs.Step.{reads as reads_pool, graph_in, object_of, field_of, value_or_ok, text_or, refusal_of, holds, after, answer, answer_by, answer_unless, unless_refused, world_by}
 use Rattle.pud_defs.specs.Step.Answer.{of_reply}
 use Rattle.pud_defs.proofs.PuddlesListed.{puddles_in_turn-listed}
@@ -37,7 +35,6 @@ use Rattle.pud_defs.proofs.RecordsPlaced.{legal_mode, mode_read}
 use Rattle.pud_defs.proofs.SoundChanged.{legal_pool}
 use Rattle.pud_defs.proofs.Parts.Part.{Types}
 use Rattle.graph_read.specs.declared.fields.FieldRead.{FieldRead}
-use Rattle.graph_read.specs.declared.fields.FieldRead.TheVariants.{NoObject, NoField, Value}
 use Rattle.graph_read.specs.Reading.{read_value, read_by}
 use Rattle.puddled.specs.Memory.{Memory}
 use Rattle.puddled.specs.Reading.{reading_refusal, refusal_to_read, HoldsGraph, reply_of_read}

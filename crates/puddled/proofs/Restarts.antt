@@ -1,12 +1,12 @@
 -- A device recovered: its daemon log applied, its log-space table emptied, and a world found.
-use Rattle.std.proofs.Common.{◌≡◌, ◌≢◌, inr, ⊎_elim, ℕ, ◌<◌, ◌≤◌, List, [], ◌↔◌, true, false, Option, Some, None, Result, Ok, Err, refl, sym, ap, subst, ◌∙◌, arith}
+use Rattle.std.proofs.Common.{◌≡◌, inr, ⊎_elim, ℕ, ◌<◌, ◌≤◌, List, [], ◌↔◌, true, false, Option, Some, None, Result, Ok, Err, refl, sym, ap, subst, ◌∙◌, arith}
 use Rattle.std.proofs.lemmas.List.{append-nil}
 use Rattle.std.specs.Prelude.{IsOk, IfOk}
 use Rattle.pm_model.specs.declared.host.HostFault.{HostFault}
 use Rattle.pm_model.specs.Words.{reads, IsRested}
 use Rattle.pm_model.specs.Moments.{State}
 use Rattle.pm_model.specs.Changes.{Changes, Leaves, Silently}
-use Rattle.pm_model.proofs.Words.{Picks-reads, HasOnly-newest, reads_only}
+use Rattle.pm_model.proofs.Words.{HasOnly-newest, reads_only}
 use Rattle.pm_model.proofs.Changes.{Changes-said}
 use Rattle.pm_model.proofs.Leaves.{Leaves-changes, Leaves-weaker, Leaves-then, Leaves-now}
 use Rattle.pud_defs.specs.declared.layout.TheConstants.{DAEMON_LOG, CLIENTS}
@@ -15,9 +15,10 @@ use Rattle.pud_defs.specs.Image.{Image}
 use Rattle.pud_defs.specs.Entries.{log_of}
 use Rattle.pud_defs.specs.Replay.{device_word, new_value}
 use Rattle.pud_defs.specs.Spaces.{space_record_at, owner_by}
-use Rattle.pud_defs.specs.World.{World, StoredWorld, no_clients, world_of, closed, restart}
+use Rattle.pud_defs.specs.World.{World, world_of, closed, restart}
 use Rattle.pud_defs.proofs.Logged.{IsUnlogged, unlogged, new_value-apart}
 use Rattle.pud_defs.proofs.Worlds.{legal_log_of_world, frames_of_world}
+use Rattle.pud_defs.proofs.Idle.{world_of_idle}
 use Rattle.log_replay.specs.Replaying.{Anything, IsNamed, ByLog, SettlesLog}
 use Rattle.batch.specs.Batches.{batch_write, ByBatch}
 use Rattle.batch.proofs.Tables.{HasDurableTables-rested, HasDurableTables-committed}
@@ -88,12 +89,16 @@ module _ (size : ℕ) (w : World) (a : State) (rested : IsRested a.now.words) (w
             (from.each k);
       }) q.changes))
 
+-- each image left as the log is applied stands for the world
+stands_applied : (size : ℕ) (w : World) (fault : Option HostFault) (a b : State) → AppliesLog size (closed w) fault a b → Leaves (Silently (λ image. world_of size image ≡ Some (closed w))) a b
+stands_applied size w fault a b p = Leaves-weaker _ _ a b (λ bytes image m. (m.0, m.1.stands)) p.moments
+
 -- the daemon log was to be applied, and was not
 Recovers-applies : (size : ℕ) (w : World) (fault : HostFault) (a b : State) → IsRested a.now.words → world_of size (reads a.now.words) ≡ Some (closed w) → AppliesLog size (closed w) (Some fault) a b → SettlesLog DAEMON_LOG (Some fault) a b
     → Recovers size w (Err (starts.Host fault)) a b
 Recovers-applies size w fault a b rested world p settles =
     record {
-      moments = p.moments;
+      moments = stands_applied size w (Some fault) a b p;
       logs = logs_applied size w a rested world (Some fault) b settles;
       quiet = Changes-said (ByLog DAEMON_LOG (new_value device_word (log_of (reads a.now.words) DAEMON_LOG))) (Some fault) a b settles.changes;
       ready = tt;
@@ -122,7 +127,8 @@ module _ (size : ℕ) (w : World) (fault : Option HostFault) (a b c : State) (re
       let P = Silently (λ (image : Image). world_of size image ≡ Some (closed w)) in
       let said = Changes-said (ByLog DAEMON_LOG (new_value device_word (log_of (reads a.now.words) DAEMON_LOG))) None a b settles.changes in
       record {
-        moments = Leaves-then P P P [] a b c (said ∙ sym (append-nil a.now.said)) (λ front image m. m) (λ more image m. m) p.moments q.moments;
+        moments = Leaves-then P P P [] a b c (said ∙ sym (append-nil a.now.said)) (λ front image m. m) (λ more image m. m) (stands_applied size w None a b p)
+            (Leaves-weaker _ _ b c (λ bytes image m. (m.0, world_of_idle size image (closed w) m.1)) q.moments);
         logs = logs_cleared size w a rested world fault b c settles q;
         quiet = Changes-said (ByBatch DAEMON_LOG (clearing CLIENTS)) fault b c q.changes ∙ said;
         ready = ready;
@@ -140,24 +146,6 @@ Recovers-done size w memory a b c rested world shelf p settles q frames =
 pub Recovers-uncleared : (size : ℕ) (w : World) (fault : HostFault) (a b c : State) → IsRested a.now.words → world_of size (reads a.now.words) ≡ Some (closed w) → a.shelf ≡ w.shelf → AppliesLog size (closed w) None a b → SettlesLog DAEMON_LOG None a b → Clears size (closed w) (Some fault) b c
     → Recovers size w (Err (starts.Host fault)) a c
 Recovers-uncleared size w fault a b c rested world shelf p settles q = Recovers-clears size w (Some fault) a b c rested world shelf p settles q (Err (starts.Host fault)) tt
-
--- what was recovered reads as the world
-stands_recovered : (size : ℕ) (w : World) (result : Result Memory StartFault) (a b : State) → IsOk result → Recovers size w result a b → world_of size (reads b.now.words) ≡ Some (closed w)
-stands_recovered size w (Ok memory) a b ok r = r.ready.settled.stands (reads b.now.words) (Picks-reads b.now.words)
-stands_recovered size w (Err fault) a b ok r = absurd (let no : false ≡ true = ok in cc)
-
-sound_then : (size : ℕ) (result : Result Memory StartFault) (a b : State) (o : Option StoredWorld) → IsOk result → world_of size (reads a.now.words) ≡ o → (o ≡ None → ⊥)
-    → ((w : World) → world_of size (reads a.now.words) ≡ Some (closed w) → a.shelf ≡ w.shelf → Recovers size w result a b) → world_of size (reads b.now.words) ≢ None
-sound_then size result a b None ok is sound recovers = absurd (sound refl)
-sound_then size result a b (Some s) ok is sound recovers = λ none.
-    let w : World = record { stored = s; clients = no_clients; shelf = a.shelf } in
-    let it : Some s ≡ None = sym (stands_recovered size w result a b ok (recovers w is refl)) ∙ none in
-    cc
-
--- so it reads as a sound one, if it was
-pub sound_recovered : (size : ℕ) (result : Result Memory StartFault) (a b : State) → IsOk result → (world_of size (reads a.now.words) ≡ None → ⊥)
-    → ((w : World) → world_of size (reads a.now.words) ≡ Some (closed w) → a.shelf ≡ w.shelf → Recovers size w result a b) → world_of size (reads b.now.words) ≢ None
-sound_recovered size result a b ok sound recovers = sound_then size result a b (world_of size (reads a.now.words)) ok refl sound recovers
 
 -- a load that failed on a device that stands for a world
 pub Recovers-load : (size : ℕ) (w : World) (fault : LoadFault) (a b : State) → (fault ≡ loads.NotSound → ⊥) → IsRested a.now.words → world_of size (reads a.now.words) ≡ Some (closed w)

@@ -12,7 +12,7 @@ use Rattle.pud_defs.specs.Layout.{tables_end, frames_at}
 use Rattle.pud_defs.specs.Image.{Image}
 use Rattle.pud_defs.specs.Replay.{is_in_log, settled_by}
 use Rattle.pud_defs.specs.Spaces.{space_record_at, owner_of, has_closed_logs}
-use Rattle.pud_defs.specs.World.{World, world_of, closed, restart}
+use Rattle.pud_defs.specs.World.{World, world_of, idle_world_of, closed, restart}
 use Rattle.pud_defs.specs.declared.machine.Command.{Command}
 use Rattle.pud_defs.specs.declared.machine.Command.TheVariants.{Leave}
 use Rattle.pud_defs.specs.Grammar.{command_of}
@@ -40,8 +40,8 @@ pub record KeepsLine (file : Option (List ℕ)) (old new : State) : Type 0 where
   pub script : new.script ≡ old.script
   pub files : KeepsFiles file old.shelf new.shelf
 
--- What the daemon needs of a device between two lines: each image that may be left stands for the world with nothing under way, the daemon
--- log is closed in it and counts no word, the tables are durable, and what is read of them has the clients that are present. The number of
+-- What the daemon needs of a device between two lines: each image that may be left stands for the world with nothing under way, each registered
+-- log and the daemon log are closed in it, the daemon log counts no word, the tables are durable, and what is read of them has the clients that are present. The number of
 -- frames is the one that the daemon holds, and the shelf is the world's.
 pub record IsReady (size : ℕ) (w : World) (memory : Memory) (s : State) : Type 0 where
   pub settled : IsSettled size (closed w) s.now.words
@@ -64,9 +64,9 @@ pub record SaysPart {Fault : Type 0} (text : List ℕ) (fault : Option Fault) (o
   pub whole : fault ≡ None → rest ≡ []
 
 -- A command was carried out, or refused, without a word: at every moment the images stand for the world before it or the one that it gives,
--- and without a fault the daemon is ready in that one, with this memory.
+-- with each registered log closed, and without a fault the daemon is ready in that one, with this memory.
 pub record Applies (size : ℕ) (w next : World) (memory : Memory) (fault : Option HostFault) (old new : State) : Type 0 where
-  pub moments : Leaves (Silently (λ image. (world_of size image ≡ Some (closed w)) ⊎ (world_of size image ≡ Some (closed next)))) old new
+  pub moments : Leaves (Silently (λ image. (idle_world_of size image ≡ Some (closed w)) ⊎ (idle_world_of size image ≡ Some (closed next)))) old new
   pub quiet : new.now.said ≡ old.now.said
   pub ready : fault ≡ None → IsReady size next memory new
   pub rests : fault ≡ Some hosts.Cut → IsRested new.now.words
@@ -119,7 +119,7 @@ pub record Settles (size : ℕ) (w : World) (line : List ℕ) (result : Result A
 pub record HasLogsOf (F : ℕ) (other image : Image) : Type 0 where
   pub each : (k : ℕ) → tables_end F ≤ k → k < frames_at F → image k ≡ other k
 
--- The daemon recovered what a rested device stands for, without a word: at each moment each image stands for the world, and has the words of
+-- The daemon recovered what a rested and idle device stands for, without a word: at each moment each image stands for the world, and has the words of
 -- the clients' logs as they were read; without a fault the daemon is ready in it.
 pub record Recovers (size : ℕ) (w : World) (result : Result Memory StartFault) (old new : State) : Type 0 where
   pub moments : Leaves (Silently (λ image. world_of size image ≡ Some (closed w))) old new
@@ -134,7 +134,7 @@ pub record Recovers (size : ℕ) (w : World) (result : Result Memory StartFault)
 pub record IsReplayed (before now : Image) : Type 0 where
   pub each : (k : ℕ) → is_in_log DAEMON_LOG k ≡ false → (k < SPACE_TABLE) ⊎ (PUDDLE_TABLE ≤ k) → now k ≡ settled_by DAEMON_LOG before k
 
--- A rested device that stands for a world was started on: at each moment each image stands for it, and the start text was said, or with a
+-- A rested and idle device that stands for a world was started on: at each moment each image stands for it, and the start text was said, or with a
 -- fault a part of it; without a fault the daemon is ready.
 pub record Starts (size : ℕ) (w : World) (result : Result Memory StartFault) (old new : State) : Type 0 where
   pub says : SaysPart start_text (start_fault result) old new

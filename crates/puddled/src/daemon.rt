@@ -6,7 +6,7 @@ ghost use Rattle.pm_model.specs.Moments.{State};
 ghost use Rattle.pud_defs.specs.declared.layout.TheConstants.{MIN_FRAMES};
 ghost use Rattle.pud_defs.specs.Layout.{device_words};
 ghost use Rattle.pud_defs.specs.Registry.{frames_of};
-ghost use Rattle.pud_defs.specs.World.{World, world_of, closed, restart};
+ghost use Rattle.pud_defs.specs.World.{World, world_of, idle_world_of, closed, restart};
 ghost use Rattle.puddled.specs.Faults.{start_fault, run_fault, kind_of, CountsLine, CountsCommand, behind_loss, HasLostPower};
 ghost use Rattle.pud_defs.specs.Grammar.{command_of, IsLegalCommand};
 ghost use Rattle.pud_defs.specs.Changing.{file_of, file_in};
@@ -125,9 +125,10 @@ fn recover<H: Host>(h: &mut H) -> Result<Daemon, StartFault>
         → (result ≡ Result.Err StartFault.NotSound) ↔ (world_of (H.counts h.old).size (reads (H.state h.old).now.words) ≡ Option.None) }
     ensures unchanged { H.tells → result ≡ Result.Err StartFault.NotSound → H.state h.new ≡ H.state h.old }
     ensures recovers { H.tells → (size : ℕ) → size ≡ (H.counts h.old).size → (w : World) → IsRested (H.state h.old).now.words
-        → world_of size (reads (H.state h.old).now.words) ≡ Option.Some (closed w) → (H.state h.old).shelf ≡ w.shelf
+        → idle_world_of size (reads (H.state h.old).now.words) ≡ Option.Some (closed w) → (H.state h.old).shelf ≡ w.shelf
         → Recovers size w result (H.state h.old) (H.state h.new) }
     // Whatever the device holds.
+    ensures sound { H.tells → IfOk result (λ daemon. world_of (H.counts h.old).size (reads (H.state h.new).now.words) ≢ Option.None) }
     ensures replays { H.tells → IfOk result (λ daemon. IsReplayed (reads (H.state h.old).now.words) (reads (H.state h.new).now.words)) }
     ensures frames { H.tells → IfOk result (λ daemon. daemon.frames ≡ frames_of (reads (H.state h.new).now.words)) }
     ensures quiet { H.tells → (H.state h.new).now.said ≡ (H.state h.old).now.said }
@@ -275,15 +276,15 @@ impl Daemon {
     /// Starts on the device: applies what its daemon log names, empties the log-space table, and says the start text.
     ///
     /// `NotSound` comes exactly where the device is not a sound registry, where the host does not fail first; then no word
-    /// was changed and nothing was said. On a device that is rested each image left at any moment stands for what the
-    /// device did. On any device each word but those of the daemon log and of the log-space table then reads as the daemon
+    /// was changed and nothing was said. On a device that is rested, and whose registered logs are closed, each image left at
+    /// any moment stands for what the device did. On any device each word but those of the daemon log and of the log-space table then reads as the daemon
     /// log named it, or else as it was.
     pub fn start<H: Host>(h: &mut H) -> Result<Daemon, StartFault>
         ensures not_sound { H.tells → start_fault result ≡ Option.None
             → (result ≡ Result.Err StartFault.NotSound) ↔ (world_of (H.counts h.old).size (reads (H.state h.old).now.words) ≡ Option.None) }
         ensures unchanged { H.tells → result ≡ Result.Err StartFault.NotSound → H.state h.new ≡ H.state h.old }
         ensures starts { H.tells → (size : ℕ) → size ≡ (H.counts h.old).size → (w : World) → IsRested (H.state h.old).now.words
-            → world_of size (reads (H.state h.old).now.words) ≡ Option.Some (closed w) → (H.state h.old).shelf ≡ w.shelf
+            → idle_world_of size (reads (H.state h.old).now.words) ≡ Option.Some (closed w) → (H.state h.old).shelf ≡ w.shelf
             → Starts size w result (H.state h.old) (H.state h.new) }
         // Whatever the device holds: what it then reads, and what was said.
         ensures replays { H.tells → IfOk result (λ daemon. IsReplayed (reads (H.state h.old).now.words) (reads (H.state h.new).now.words)) }

@@ -1,4 +1,4 @@
-use Rattle.std.proofs.Common.{◌≡◌, ℕ, Some, Result, Ok, Err, refl, ap, subst, ◌∙◌}
+use Rattle.std.proofs.Common.{◌≡◌, ℕ, Some, Result, Err, refl, ap, subst, ◌∙◌}
 use Rattle.std.proofs.lemmas.Result.{err_from_is_err_and}
 use Rattle.pm_model.specs.declared.host.HostFault.{HostFault}
 use Rattle.pm_model.specs.declared.host.HostFault.TheVariants as hosts
@@ -12,7 +12,6 @@ use Rattle.puddled.specs.Daemon.{CarriesOut}
 use Rattle.puddled.specs.declared.daemon.StartFault.{StartFault}
 use Rattle.puddled.specs.Faults.{start_fault, kind_of, CountsCommand}
 use Rattle.puddled.proofs.Counted.{kind_done, kind_faulty, kind_restarted, kind_unstarted, no_power_lost}
-use Rattle.puddled.proofs.Restarts.{sound_recovered}
 use Rattle.puddled.proofs.Settling.{Settles-done, Settles-failed, Settles-again, Settles-unstarted, restart_sound, found_world, found_stands, found_shelf}
 use Rattle.puddled.proofs.daemon.go_on.Goals as goal
 
@@ -80,9 +79,4 @@ returns-in_ok-daemon-in-Err-Cut-clause-cause g c = λ counted counts.
     c.in_ok-daemon-in-Err-Cut.ensures.cause
 
 pub returns-in_ok-daemon-in-Err-Cut-clause-restarted : goal.returns-in_ok-daemon-in-Err-Cut-clause-restarted
-returns-in_ok-daemon-in-Err-Cut-clause-restarted g c = λ t rested counted counts ok moved.
-    let mid = g.H.Host.state c.args.h.now in
-    let is : c.args.done ≡ Err hosts.Cut = c.in-Err-Cut.is ∙ ap Err (rw c.in-Err-Cut.is at c.in-Err-Cut.field-0-is) in
-    sound_recovered (g.H.Host.counts c.args.h.now).size (Ok _) mid _ refl
-    (λ none. absurd (let it = (c.in_ok-daemon-in-Err-Cut.ensures.not_sound t refl).1 none in cc it))
-    (λ w world shelf. c.in_ok-daemon-in-Err-Cut.ensures.recovers t (g.H.Host.counts c.args.h.now).size refl w (rested (ap (λ (r : Result Answered HostFault). fault_of r) is)) world shelf)
+returns-in_ok-daemon-in-Err-Cut-clause-restarted g c = λ t rested counted counts ok moved. c.in_ok-daemon-in-Err-Cut.ensures.sound t

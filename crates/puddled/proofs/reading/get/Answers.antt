@@ -1,4 +1,4 @@
-use Rattle.std.proofs.Common.{Result, refl, sym, ap, subst, ◌∙◌}
+use Rattle.std.proofs.Common.{Result, sym, ap, subst, ◌∙◌}
 use Rattle.std.specs.Prelude.{IfOk, List, ℕ}
 use Rattle.pm_model.specs.Words.{reads}
 use Rattle.pm_model.specs.Moments.{State}
@@ -7,7 +7,7 @@ use Rattle.pud_defs.specs.declared.machine.Refusal.{Refusal}
 use Rattle.pud_defs.specs.declared.records.Puddle.{Puddle}
 use Rattle.pud_defs.proofs.Steps.{refused_answer}
 use Rattle.puddled.specs.Owning.{refusal_found}
-use Rattle.puddled.specs.Reading.{HoldsGraph, reply_of_read}
+use Rattle.puddled.specs.Reading.{HoldsGraph}
 use Rattle.pud_defs.specs.Step.Answer.{of_reply}
 use Rattle.puddled.proofs.Readable.{get_refused, reply_when_read}
 use Rattle.puddled.proofs.reading.get.Goals as goal

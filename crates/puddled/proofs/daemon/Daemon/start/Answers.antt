@@ -3,6 +3,7 @@ use Rattle.std.proofs.lemmas.Result.{err_from_is_err_and}
 use Rattle.pm_model.specs.Counts.{Counts, after_fault}
 use Rattle.pm_model.specs.Words.{reads}
 use Rattle.pud_defs.specs.World.{world_of, closed}
+use Rattle.pud_defs.proofs.Idle.{world_of_idle}
 use Rattle.pud_defs.specs.Texts.{start_text}
 use Rattle.puddled.specs.declared.daemon.StartFault.{StartFault}
 use Rattle.puddled.specs.declared.daemon.StartFault.TheVariants as starts
@@ -20,7 +21,7 @@ returns-in_err-daemon-clause-starts g c =
     Starts-refused size w fault _ _
     (λ unsound.
     let none = (c.in_err-daemon.ensures.not_sound t (ap (λ (f : StartFault). start_fault {T = Memory} (Err f)) unsound)).0 (ap Err unsound) in
-    let it : None ≡ Some (closed w) = sym none ∙ ap (λ (n : ℕ). world_of n (reads (g.H.Host.state c.args.h.now).now.words)) (sym same) ∙ world in
+    let it : None ≡ Some (closed w) = sym none ∙ ap (λ (n : ℕ). world_of n (reads (g.H.Host.state c.args.h.now).now.words)) (sym same) ∙ world_of_idle size _ (closed w) world in
     absurd (cc))
     (c.in_err-daemon.ensures.recovers t size same w rested world shelf))
 
