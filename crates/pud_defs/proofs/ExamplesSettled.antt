@@ -14,13 +14,13 @@ use Rattle.pud_defs.specs.Entries.{gate_word, entry_word, log_of}
 use Rattle.pud_defs.specs.Places.{first_some}
 use Rattle.pud_defs.specs.Allowed.{puddle_word, is_allowed_log, counts_any}
 use Rattle.pud_defs.specs.Settled.{gives_to, given_in_turn, given_by_log, is_refused_log, settled_over, settled}
-use Rattle.pud_defs.specs.StartText.{refused_lines, start_text_of}
+use Rattle.pud_defs.specs.StartText.{refused_lines, start_text}
 use Rattle.pud_defs.specs.Texts.{line_of}
 use Rattle.pud_defs.proofs.Opened.{opened}
 use Rattle.pud_defs.proofs.ExamplesLogs.{holding}
 
 unfoldable opened_logs : Unit {0}
-unfolding opened first_some puddle_word is_allowed_log gives_to given_in_turn settled_over settled refused_lines start_text_of
+unfolding opened first_some puddle_word is_allowed_log gives_to given_in_turn settled_over settled refused_lines start_text
 opened_logs = tt
 
 -- the first field of the first object of a frame's puddle: its address, and its word
@@ -59,7 +59,7 @@ foreign_pool : (is_refused_log 4 (both 393728) 0 ≡ true) × (given_by_log 4 (b
 unfolding opened_logs
 foreign_pool = (refl, refl, refl)
 
-foreign_pool_is_said : start_text_of (both 393728) ≡ line_of (codes "refused 0 0") ++ line_of (codes "ready")
+foreign_pool_is_said : start_text (both 393728) ≡ line_of (codes "refused 0 0") ++ line_of (codes "ready")
 unfolding opened_logs
 foreign_pool_is_said = refl
 
@@ -68,7 +68,7 @@ first_entry_alone : (is_refused_log 4 (both 197120) 0 ≡ false) × (settled 4 (
 unfolding opened_logs
 first_entry_alone = (refl, refl, refl)
 
-nothing_is_said : start_text_of (both 197120) ≡ line_of (codes "ready")
+nothing_is_said : start_text (both 197120) ≡ line_of (codes "ready")
 unfolding opened_logs
 nothing_is_said = refl
 
@@ -79,7 +79,7 @@ unfolding opened_logs
 upper_bits_of_the_gate = refl
 
 -- more words are counted than a log has
-too_many_words : (is_refused_log 4 (both (gate_word 0 2 1017)) 0 ≡ true) × (start_text_of (both (gate_word 0 2 1017)) ≡ line_of (codes "refused 0 0") ++ line_of (codes "ready"))
+too_many_words : (is_refused_log 4 (both (gate_word 0 2 1017)) 0 ≡ true) × (start_text (both (gate_word 0 2 1017)) ≡ line_of (codes "refused 0 0") ++ line_of (codes "ready"))
 unfolding opened_logs
 too_many_words = (refl, refl)
 
@@ -139,7 +139,7 @@ nothing_in_range : (is_refused_log 4 (not_in_range 0) 0 ≡ false) × (is_refuse
 unfolding opened_logs
 nothing_in_range = (refl, refl, refl)
 
-nothing_counts : (counts_any (log_of (not_in_range 65535) (log_at 4 0 0)) ≡ false) × (settled 4 (not_in_range 65535) (word_of 1) ≡ 10) × (start_text_of (not_in_range 65535) ≡ line_of (codes "ready"))
+nothing_counts : (counts_any (log_of (not_in_range 65535) (log_at 4 0 0)) ≡ false) × (settled 4 (not_in_range 65535) (word_of 1) ≡ 10) × (start_text (not_in_range 65535) ≡ line_of (codes "ready"))
 unfolding opened_logs
 nothing_counts = (refl, refl, refl)
 
@@ -173,18 +173,18 @@ no_pool = refl
 abbrev given_away : Image
 given_away = written 64 (gate_word 2 4 3) (holding 72 ((pool_record_at 0 + 2) ∷ entry_word 1 3 1 ∷ owner_word 6 6 ∷ []) (with_rights 0x180 5))
 
-judged_behind_the_daemon_log : (is_refused_log 4 given_away 0 ≡ false) × (start_text_of given_away ≡ line_of (codes "refused 0 0") ++ line_of (codes "ready"))
+judged_behind_the_daemon_log : (is_refused_log 4 given_away 0 ≡ false) × (start_text given_away ≡ line_of (codes "refused 0 0") ++ line_of (codes "ready"))
 unfolding opened_logs
 judged_behind_the_daemon_log = (refl, refl)
 
 -- ---- which logs are judged
 
 -- log 3 of client 1 is log 7
-last_of_a_client : start_text_of (written (log_at 4 1 3) (2 ^ 32) (both 393728)) ≡ line_of (codes "refused 0 0") ++ line_of (codes "refused 1 3") ++ line_of (codes "ready")
+last_of_a_client : start_text (written (log_at 4 1 3) (2 ^ 32) (both 393728)) ≡ line_of (codes "refused 0 0") ++ line_of (codes "refused 1 3") ++ line_of (codes "ready")
 unfolding opened_logs
 last_of_a_client = refl
 
 -- client 2 is not registered
-not_registered : (is_refused_log 4 (written (log_at 4 2 0) (2 ^ 32) (device 0x180 5)) 8 ≡ false) × (start_text_of (written (log_at 4 2 0) (2 ^ 32) (device 0x180 5)) ≡ line_of (codes "ready"))
+not_registered : (is_refused_log 4 (written (log_at 4 2 0) (2 ^ 32) (device 0x180 5)) 8 ≡ false) × (start_text (written (log_at 4 2 0) (2 ^ 32) (device 0x180 5)) ≡ line_of (codes "ready"))
 unfolding opened_logs
 not_registered = (refl, refl)

@@ -1,6 +1,6 @@
 -- Clients' logs replayed and closed one after the other: what each step leaves of the tables, of the other logs, and of the settled image.
 use Rattle.std.proofs.Common.{◌≡◌, ◌⊎◌, inl, inr, ℕ, zero, suc, ◌+◌, ◌*◌, ◌-◌, ◌/◌, ◌%◌, ◌<◌, ◌≤◌, Bool, true, false, not, ◌&&◌, ◌||◌, cond, eqb, List, [], ◌∷◌, length, Option, Some, None, refl, sym, ap, ap₂, ◌∙◌, arith}
-use Rattle.std.specs.Prelude.{unwrap_or, option_map, nat_le, nat_lt}
+use Rattle.std.specs.Prelude.{unwrap_or, is_some, nat_le, nat_lt}
 use Rattle.std.specs.Option.{option_or}
 use Rattle.std.proofs.lemmas.Bool.{and_from, cases_Bool, cases_eq, cond-true, cond-false, le-leb, lt-ltb}
 use Rattle.pud_defs.specs.declared.layout.TheConstants.{DAEMON_LOG, CLIENTS, CLIENT_LOGS, LOG_WORDS, POOL_TABLE, SPACE_TABLE, PUDDLE_TABLE}
@@ -9,7 +9,7 @@ use Rattle.pud_defs.specs.Image.{Image}
 use Rattle.pud_defs.specs.Layout.{tables_end, log_at, frames_at}
 use Rattle.pud_defs.specs.Entries.{Entry, Log, log_of, gate_lo, gate_hi, is_idle_gate, entries_of}
 use Rattle.pud_defs.specs.Replay.{Place, value_in, value_from, given_by, undone, redone, new_value, entries_or_none, overwritten, IsInLog}
-use Rattle.pud_defs.specs.Spaces.{Owner, owner_of}
+use Rattle.pud_defs.specs.Spaces.{Owner, owner_of, is_closed_range, is_closed_log, has_closed_logs}
 use Rattle.pud_defs.specs.Frames.{frame_at}
 use Rattle.pud_defs.specs.Places.{located}
 use Rattle.pud_defs.specs.Tables.{Tables, tables_of}
@@ -17,7 +17,7 @@ use Rattle.pud_defs.specs.Allowed.{puddle_word, are_allowed_entries, is_allowed_
 use Rattle.pud_defs.specs.Settled.{gives_to, ALL_LOGS, client_of_log, log_number_at, given_by_log, is_refused_log, given_in_turn, is_in_logs, beside_logs, settled_over}
 use Rattle.pud_defs.specs.LogsTaken.{TakesLog, GivesNothingBelow}
 use Rattle.pud_defs.proofs.Replay.{entries_of-idle, empty_range_of}
-use Rattle.pud_defs.proofs.Spaces.{log_of-within, owner_of-same}
+use Rattle.pud_defs.proofs.Spaces.{all_below-from, all_below-each, log_of-within, is_closed_log-same, owner_of-same}
 use Rattle.pud_defs.proofs.TablesOf.{tables_of-same, frames_of_tables}
 use Rattle.pud_defs.proofs.Settled.{or_empty, gives_to-below, gives_to-closed, given_in_turn-same, given_in_turn-none}
 
@@ -81,6 +81,12 @@ not_a_gate : (F number w : ℕ) → number < ALL_LOGS → is_in_logs F w ≡ fal
 not_a_gate F number w known outside here =
     let inside : is_in_logs F w ≡ true = and_from (nat_le (tables_end F) w) (nat_lt w (frames_at F)) (le-leb (tables_end F) w (omega arith)) (lt-ltb w (frames_at F) (omega arith)) in
     absurd (let it : true ≡ false = sym inside ∙ outside in cc)
+
+-- a log with the gate of a closed one is closed
+closed_by_gate : (image : Image) (at : ℕ) → image at ≡ CLOSED_GATE → is_closed_log image at ≡ true
+closed_by_gate image at gate =
+    let empty : entries_of image at ≡ Some [] = entries_of-idle image at (ap is_idle_gate gate) in
+    λ p. is_closed_range (gate p) && is_some (empty p)
 
 -- ---- one log is taken
 
@@ -183,3 +189,28 @@ module _ (F number : ℕ) (i j : Image) (known : number < ALL_LOGS) (takes : Tak
       | inr apart ↦ below_none none other w (omega arith)
     ];
   }
+
+  -- a client's logs that were closed are closed still
+  still_closed : (other : ℕ) → other < ALL_LOGS → is_closed_log i (log_number_at F other) ≡ true → is_closed_log j (log_number_at F other) ≡ true
+  still_closed other few was = elim (cases_eq other number) [
+    | inr apart ↦ is_closed_log-same j i (log_number_at F other) (λ k inside.
+        let low = inside.low in
+        let high = inside.high in
+        beside_gate k (omega arith) (λ same. apart (omega arith))) ∙ was
+    | inl here ↦ elim takes.gate [
+      | inl gate ↦ is_closed_log-same j i (log_number_at F other) (λ k inside.
+          let low = inside.low in
+          let high = inside.high in
+          elim (cases_eq k (log_number_at F number)) [
+            | inl at ↦ ap j at ∙ gate ∙ sym (ap i at)
+            | inr beside ↦ beside_gate k (omega arith) beside
+          ]) ∙ was
+      | inr shut ↦ closed_by_gate j (log_number_at F other) (ap (λ (x : ℕ). j (log_number_at F x)) here ∙ shut.gate)
+    ]
+  ]
+
+  pub logs_still_closed : (client : ℕ) → client < CLIENTS → has_closed_logs i F client ≡ true → has_closed_logs j F client ≡ true
+  logs_still_closed client few was = all_below-from CLIENT_LOGS (λ n. is_closed_log j (log_at F client n)) (λ n below.
+      let at : log_at F client n ≡ log_number_at F (CLIENT_LOGS * client + n) = omega arith in
+      ap (is_closed_log j) at ∙ still_closed (CLIENT_LOGS * client + n) (omega arith)
+      (ap (is_closed_log i) (sym at) ∙ all_below-each CLIENT_LOGS (λ n. is_closed_log i (log_at F client n)) was n below))

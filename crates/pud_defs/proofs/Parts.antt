@@ -148,6 +148,27 @@ HoldsWorld-same size i j s h same = record {
     apart k (inr (inl of)) = inl of.high
     apart k (inr (inr of)) = inr of.low
 
+-- and that hold other log spaces besides
+pub HoldsWorld-spaces : (size : ℕ) (i j : Image) (s : StoredWorld) → HoldsWorld size i s
+    → ((k : ℕ) → (k < DAEMON_LOG) ⊎ (TYPE_TABLE ≤ k) → (k < SPACE_TABLE) ⊎ (PUDDLE_TABLE ≤ k) → (k < tables_end s.frames) ⊎ (frames_at s.frames ≤ k) → k < device_words s.frames → j k ≡ i k)
+    → are_legal_spaces j ≡ true → HoldsWorld size j s
+HoldsWorld-spaces size i j s h same spaces = record {
+  header = Holds-same Header size s i j (λ k of. let at = part_place s.frames Header k of in let high = of.high in same k at.beside (inl (omega arith)) (inl (omega arith)) at.before) h.header;
+  types = Holds-same Types size s i j (λ k of. let at = part_place s.frames Types k of in let high = of.high in same k at.beside (inl (omega arith)) (inl (omega arith)) at.before) h.types;
+  pools = Holds-same Pools size s i j (λ k of. let at = part_place s.frames Pools k of in same k at.beside (beside_spaces k of) (apart k of) at.before) h.pools;
+  spaces = spaces;
+}
+  where
+    beside_spaces : (k : ℕ) → IsReadBy s.frames Pools k → (k < SPACE_TABLE) ⊎ (PUDDLE_TABLE ≤ k)
+    beside_spaces k (inl of) = inl of.high
+    beside_spaces k (inr (inl of)) = inr of.low
+    beside_spaces k (inr (inr of)) = let low = of.low in inr (omega arith)
+
+    apart : (k : ℕ) → IsReadBy s.frames Pools k → (k < tables_end s.frames) ⊎ (frames_at s.frames ≤ k)
+    apart k (inl of) = let high = of.high in inl (omega arith)
+    apart k (inr (inl of)) = inl of.high
+    apart k (inr (inr of)) = inr of.low
+
 -- ---- images that agree
 
 -- on all that is read

@@ -14,7 +14,7 @@ use Rattle.pud_defs.specs.Layout.{tables_end}
 use Rattle.pud_defs.specs.Image.{Image}
 use Rattle.pud_defs.specs.Entries.{Entry, is_idle_gate}
 use Rattle.pud_defs.specs.Spaces.{Owner, space_record_at, owner_by, owner_of, has_closed_logs, owner, with_owner}
-use Rattle.pud_defs.specs.World.{World, world_of, closed}
+use Rattle.pud_defs.specs.World.{World, idle_world_of, closed}
 use Rattle.pud_defs.specs.declared.machine.Command.TheVariants.{Client, Leave}
 use Rattle.pud_defs.specs.declared.machine.Refusal.TheVariants as refusals
 use Rattle.pud_defs.specs.Step.{refusal_of, after}
@@ -53,7 +53,7 @@ no_gate F slot k v below gate = let is = gate.0.is in absurd (omega arith)
 
 module _ (size : ℕ) (w : World) (memory : Memory) (slot : ℕ) (known : slot < CLIENTS) where
   abbrev may_stand : World → Image → Type 0
-  may_stand next image = (world_of size image ≡ Some (closed w)) ⊎ (world_of size image ≡ Some (closed next))
+  may_stand next image = (idle_world_of size image ≡ Some (closed w)) ⊎ (idle_world_of size image ≡ Some (closed next))
 
   -- the logs were not closed, for a fault
   pub Applies-unclosed : (next : World) (fault : HostFault) (a b : State) → Closes size (closed w) slot (Some fault) a b → Applies size w next memory (Some fault) a b

@@ -19,14 +19,14 @@ use Rattle.pud_defs.specs.TypeMap.{is_legal_map, is_legal_type_id}
 use Rattle.pud_defs.specs.Types.{type_record_at, type_at, free_type, map_of}
 use Rattle.pud_defs.specs.Entries.{is_idle_gate}
 use Rattle.pud_defs.specs.PoolChanges.{with_type_defined}
-use Rattle.pud_defs.specs.World.{World, world_of, closed}
+use Rattle.pud_defs.specs.World.{World, idle_world_of, closed}
 use Rattle.pud_defs.specs.Step.{is_other, answer_by, refusal_of, after, unless_refused, world_by}
 use Rattle.pud_defs.proofs.Keyed.{IsLowestFree, first_free_some}
 use Rattle.pud_defs.proofs.TypeTable.{free_word}
 use Rattle.pud_defs.proofs.Spaces.{owner_of-same}
 use Rattle.pud_defs.proofs.Parts.{StandsFor}
-use Rattle.pud_defs.proofs.Worlds.{standing_beside, standing_idle, types_sorted, pools_settled, map_of_world, length_of_world, full_of_world, room_of_world}
-use Rattle.pud_defs.proofs.Definitions.{world_of-map_written, world_of-defined}
+use Rattle.pud_defs.proofs.IdleWorlds.{standing_beside, standing_idle, types_sorted, pools_settled, map_of_world, length_of_world, full_of_world, room_of_world}
+use Rattle.pud_defs.proofs.Definitions.{idle_world_of-map_written, idle_world_of-defined}
 use Rattle.pud_defs.specs.Step.Answer.{of_reply}
 use Rattle.pud_defs.proofs.Steps.{refused_answer, answer_is_ok, refusal_of-define, define-same, define-clash, define-full, define-new, after-same}
 use Rattle.type_maps.specs.declared.TypeFault.{TypeFault}
@@ -119,11 +119,11 @@ module _ (size : ℕ) (w : World) (memory : Memory) (id map r : ℕ) (old : Stat
   gate : (image : Image) → Picks old.now.words image → is_idle_gate (image DAEMON_LOG) ≡ true
   gate image picked = ready.settled.idle (image DAEMON_LOG) (picked.each DAEMON_LOG)
 
-  half_gives : (image : Image) → Picks old.now.words image → world_of size (half_defined r map image) ≡ Some (closed w)
-  half_gives image picked = world_of-map_written size image (closed w) r map (gate image picked) (ready.settled.stands image picked) within (free image picked)
+  half_gives : (image : Image) → Picks old.now.words image → idle_world_of size (half_defined r map image) ≡ Some (closed w)
+  half_gives image picked = idle_world_of-map_written size image (closed w) r map (gate image picked) (ready.settled.stands image picked) within (free image picked)
 
-  gives : (image : Image) → Picks old.now.words image → world_of size (defined r id map image) ≡ Some (with_type_defined id map w.stored)
-  gives image picked = world_of-defined size image (closed w) r id map (gate image picked) (ready.settled.stands image picked) within (free image picked) legal_id legal_map is_new.missing
+  gives : (image : Image) → Picks old.now.words image → idle_world_of size (defined r id map image) ≡ Some (with_type_defined id map w.stored)
+  gives image picked = idle_world_of-defined size image (closed w) r id map (gate image picked) (ready.settled.stands image picked) within (free image picked) legal_id legal_map is_new.missing
 
   still_closed : (new : State) → Defines r id map None old new → (v : ℕ) → Has (values (new.now.words DAEMON_LOG)) v → is_idle_gate v ≡ true
   still_closed new d v had = elim (Changes-now (written (record_write r id map)) None old new d.persists.changes DAEMON_LOG v had) [
@@ -134,7 +134,7 @@ module _ (size : ℕ) (w : World) (memory : Memory) (id map r : ℕ) (old : Stat
   ready_defined : (new : State) → Defines r id map None old new → IsReady size (after w (Define id map)) memory new
   unfolding after with_type_defined
   ready_defined new d = record {
-    settled = record { stands = λ image picked. let h = d.done refl image picked in ap (world_of size) h.is ∙ gives h.before h.picked; idle = still_closed new d };
+    settled = record { stands = λ image picked. let h = d.done refl image picked in ap (idle_world_of size) h.is ∙ gives h.before h.picked; idle = still_closed new d };
     tables = HasDurableTables-persisted w.stored.frames (record_write r id map) old new d.persists ready.tables;
     clients = λ client low.
         owner_of-same (reads new.now.words) (reads old.now.words) client low
@@ -149,10 +149,10 @@ module _ (size : ℕ) (w : World) (memory : Memory) (id map r : ℕ) (old : Stat
     moments = Leaves-weaker _ _ old new (λ bytes image m. (
       m.0,
       elim m.1.is [
-        | inl same ↦ inl (ap (world_of size) same ∙ ready.settled.stands m.1.before m.1.picked)
+        | inl same ↦ inl (ap (idle_world_of size) same ∙ ready.settled.stands m.1.before m.1.picked)
         | inr more ↦ elim more [
-          | inl half ↦ inl (ap (world_of size) half ∙ half_gives m.1.before m.1.picked)
-          | inr whole ↦ inr (ap (world_of size) whole ∙ gives m.1.before m.1.picked ∙ ap Some (sym (closed_after w id map)))
+          | inl half ↦ inl (ap (idle_world_of size) half ∙ half_gives m.1.before m.1.picked)
+          | inr whole ↦ inr (ap (idle_world_of size) whole ∙ gives m.1.before m.1.picked ∙ ap Some (sym (closed_after w id map)))
         ]
       ],
     )) d.moments;

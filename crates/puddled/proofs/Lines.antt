@@ -12,6 +12,7 @@ use Rattle.pm_model.proofs.Said.{words-all_said, said-all_said, script-all_said,
 use Rattle.pud_defs.specs.Spaces.{owner_of}
 use Rattle.pud_defs.specs.Image.{Image}
 use Rattle.pud_defs.specs.World.{World, world_of, closed, restart}
+use Rattle.pud_defs.proofs.Idle.{world_of_idle}
 use Rattle.pud_defs.specs.Grammar.{command_of}
 use Rattle.pud_defs.specs.Step.{Answer}
 use Rattle.pud_defs.specs.Run.{Turn, IsTurn, cuts_of, newlines}
@@ -89,7 +90,7 @@ Starts-says size w memory result old mid new r says same =
       says = record { bytes = part.bytes; rest = part.rest; part = part.part; said = part.said ∙ ap (λ (l : List ℕ). l ++ part.bytes) r.quiet; whole = part.whole };
       moments = Leaves-then (Silently (λ image. world_of size image ≡ Some (closed w))) P P [] old mid new (r.quiet ∙ sym (append-nil old.now.said))
           (λ front image m. (record { rest = text; is = ap (λ (l : List ℕ). l ++ text) (sym m.0) }, m.1)) (λ more image m. m) r.moments
-          (Leaves-says text fault P mid new (λ front image prefix picked. (record { rest = prefix.rest; is = prefix.is }, r.ready.settled.stands image picked)) says);
+          (Leaves-says text fault P mid new (λ front image prefix picked. (record { rest = prefix.rest; is = prefix.is }, world_of_idle size image (closed w) (r.ready.settled.stands image picked))) says);
       ready = ready_by size (restart w) memory new result same (IsReady-said size (restart w) memory mid new (words_said text fault mid new says) (shelf_said text fault mid new says) r.ready);
       script = script_said text fault mid new says ∙ r.script;
       shelf = shelf_said text fault mid new says ∙ r.shelf;
@@ -183,7 +184,8 @@ module _ (size : ℕ) (w : World) (memory : Memory) (line : List ℕ) (answered 
       (λ front image p. p) (λ more image p. p)
       (silent_moments size w t old mid s.moments)
       (Leaves-says (answer_text t.answer) fault (StandsWith size w (t ∷ [])) mid new
-      (λ front image prefix picked. stands_by_count size w t (newlines front) image s.is_turn (front_of_answer t.answer front prefix) (ready.settled.stands image picked)) says)
+      (λ front image prefix picked. stands_by_count size w t (newlines front) image s.is_turn (front_of_answer t.answer front prefix)
+      (world_of_idle size image (closed t.next) (ready.settled.stands image picked))) says)
 
   -- what is said leaves the words
   closes_said : (text : List ℕ) (fault : Option HostFault) → Says text fault mid new → ClosesLogs w (command_of line) old new

@@ -30,7 +30,7 @@ use Rattle.pud_defs.specs.Spaces.{owner, owner_by, owner_of, is_space, is_legal_
 use Rattle.pud_defs.specs.Tables.{Tables, Pool, Reader, tables_of, records_of, pool_in, pool_of}
 use Rattle.pud_defs.specs.PoolChanges.{pool_named, lacks_numbers, is_full_of_pools, lacks_frames, with_new_pool, with_pool_mode, without_pool}
 use Rattle.pud_defs.specs.Holdings.{holding_in}
-use Rattle.pud_defs.specs.World.{StoredWorld, World, world_of, closed}
+use Rattle.pud_defs.specs.World.{StoredWorld, World, idle_world_of, closed}
 use Rattle.pud_defs.specs.Step.{owns, refusal_of, after, answer_by, world_by}
 use Rattle.pud_defs.specs.Step.Answer.{of_reply}
 use Rattle.pud_defs.proofs.Parts.Part.{Spaces}
@@ -193,7 +193,7 @@ pub Applies-pools : (size : ℕ) (w : World) (memory : Memory) (c : Command) (ne
     → after w c ≡ record w { stored = next } → next.frames ≡ w.stored.frames → ChangesPools size w.stored next also fault old new → Applies size w (world_by w (Some c)) memory fault old new
 Applies-pools size w memory c next also fault old new ready free gives frames p =
     subst (λ (v : World). Applies size w v memory fault old new) (sym (done_world w c free ∙ gives)) (record {
-      moments = Leaves-weaker (Silently (MayStand size w.stored next also)) (Silently (λ image. (world_of size image ≡ Some (closed w)) ⊎ (world_of size image ≡ Some next))) old new
+      moments = Leaves-weaker (Silently (MayStand size w.stored next also)) (Silently (λ image. (idle_world_of size image ≡ Some (closed w)) ⊎ (idle_world_of size image ≡ Some next))) old new
           (λ bytes image m. (m.0, elim m.1 [ inl before ↦ inl before | inr after ↦ inr after.0 ])) p.moments;
       quiet = Changes-said (ByPools w.stored.frames) fault old new p.changes;
       ready = λ none. record {

@@ -1,192 +1,137 @@
--- A device recovered: its daemon log applied, its log-space table emptied, and a world found.
-use Rattle.std.proofs.Common.{◌≡◌, ◌≢◌, inr, ⊎_elim, ℕ, ◌<◌, ◌≤◌, List, [], ◌↔◌, true, false, Option, Some, None, Result, Ok, Err, refl, sym, ap, subst, ◌∙◌, arith}
-use Rattle.std.proofs.lemmas.List.{append-nil}
-use Rattle.std.specs.Prelude.{IsOk, IfOk}
+-- A device recovered, as the daemon has it.
+use Rattle.std.proofs.Common.{◌≡◌, ◌≢◌, ◌⊎◌, ◌↔◌, inl, inr, ⊎_elim, ℕ, ◌<◌, ◌≤◌, Bool, true, false, ◌&&◌, leb, ltb, Option, Some, None, Result, Ok, Err, IfOk, refl, sym, ap, ◌∙◌, arith}
+use Rattle.std.proofs.lemmas.Bool.{lt-leb}
 use Rattle.pm_model.specs.declared.host.HostFault.{HostFault}
 use Rattle.pm_model.specs.Words.{reads, IsRested}
 use Rattle.pm_model.specs.Moments.{State}
 use Rattle.pm_model.specs.Changes.{Changes, Leaves, Silently}
-use Rattle.pm_model.proofs.Words.{Picks-reads, HasOnly-newest, reads_only}
+use Rattle.pm_model.proofs.Words.{Picks-reads}
 use Rattle.pm_model.proofs.Changes.{Changes-said}
-use Rattle.pm_model.proofs.Leaves.{Leaves-changes, Leaves-weaker, Leaves-then, Leaves-now}
-use Rattle.pud_defs.specs.declared.layout.TheConstants.{DAEMON_LOG, CLIENTS}
-use Rattle.pud_defs.specs.Layout.{tables_end, frames_at}
+use Rattle.pm_model.proofs.Leaves.{Leaves-weaker}
+use Rattle.pud_defs.specs.declared.layout.TheConstants.{DAEMON_LOG, FRAMES_WORD, TYPE_TABLE, SPACE_TABLE, PUDDLE_TABLE}
 use Rattle.pud_defs.specs.Image.{Image}
-use Rattle.pud_defs.specs.Entries.{log_of}
-use Rattle.pud_defs.specs.Replay.{device_word, new_value}
+use Rattle.pud_defs.specs.Layout.{tables_end, frames_at}
 use Rattle.pud_defs.specs.Spaces.{space_record_at, owner_by}
+use Rattle.pud_defs.specs.Replay.{settled_by}
+use Rattle.pud_defs.specs.Registry.{frames_of}
+use Rattle.pud_defs.specs.Settled.{ALL_LOGS, is_refused_log, is_in_logs, settled}
 use Rattle.pud_defs.specs.World.{World, StoredWorld, no_clients, world_of, closed, restart}
-use Rattle.pud_defs.proofs.Logged.{IsUnlogged, unlogged, new_value-apart}
-use Rattle.pud_defs.proofs.Worlds.{legal_log_of_world, frames_of_world}
-use Rattle.log_replay.specs.declared.Target.TheVariants as targets
-use Rattle.log_replay.specs.Replaying.{Anything, IsNamed, ByLog, SettlesLog}
-use Rattle.batch.specs.Batches.{batch_write, ByBatch}
-use Rattle.batch.proofs.Tables.{HasDurableTables-rested, HasDurableTables-committed}
-use Rattle.registry.specs.declared.Geo.{Geo}
-use Rattle.registry.specs.declared.LoadFault.{LoadFault}
-use Rattle.registry.specs.declared.LoadFault.TheVariants as loads
-use Rattle.registry.specs.Registry.{load_fault, AppliesLog}
-use Rattle.log_space.specs.Clearing.{clearing, Clears}
-use Rattle.log_space.proofs.Cleared.{clearing-outside}
+use Rattle.pud_defs.proofs.Replay.{outside_log}
+use Rattle.pud_defs.proofs.Logged.{settled_by-unlogged}
+use Rattle.pud_defs.proofs.Worlds.{legal_log_of_world, frames_of_world, settled-below}
+use Rattle.pud_defs.proofs.Idle.{world_of_idle}
+use Rattle.log_replay.specs.Replaying.{Anything}
+use Rattle.batch.specs.Tables.{HasDurableTables}
+use Rattle.recover.specs.declared.recovery.Report.{Report}
+use Rattle.recover.specs.declared.recovery.RecoverFault.{RecoverFault}
+use Rattle.recover.specs.declared.recovery.RecoverFault.TheVariants as recoveries
+use Rattle.recover.specs.Recovery.{recover_fault, ByRecovery, StandsStill, RecoversDevice}
 use Rattle.puddled.specs.declared.daemon.StartFault.{StartFault}
 use Rattle.puddled.specs.declared.daemon.StartFault.TheVariants as starts
-use Rattle.puddled.specs.Faults.{start_fault, of_load}
+use Rattle.puddled.specs.Faults.{start_fault, of_recover}
 use Rattle.puddled.specs.Memory.{Memory}
-use Rattle.puddled.specs.Daemon.{KeepsRest, IsReady, HasLogsOf, Recovers}
+use Rattle.puddled.specs.Daemon.{KeepsRest, IsReady, IsReplayed, RefusesNone, Recovers}
 
--- a load's fault is the host's or none, at a start too
-pub fault_of_load : (fault : LoadFault) → start_fault {T = Memory} (Err (of_load fault)) ≡ load_fault {T = Unit {0}} (Err fault)
-fault_of_load loads.NotSound = refl
-fault_of_load (loads.Host fault) = refl
+-- a recovery's fault is the host's or none, at a start too
+pub fault_of_recover : (fault : RecoverFault) → start_fault {T = Memory} (Err (of_recover fault)) ≡ recover_fault {T = Report} (Err fault)
+fault_of_recover recoveries.NotSound = refl
+fault_of_recover (recoveries.Host fault) = refl
+
+-- one that answered a fault answered this one, and one that went well none
+pub recovery_fault_is : {fault other : RecoverFault} → ◌≡◌ {A = Result Report RecoverFault} (Err fault) (Err other) → fault ≡ other
+recovery_fault_is e = cc
+
+pub recovered : {report : Report} {fault : RecoverFault} → ◌≡◌ {A = Result Report RecoverFault} (Ok report) (Err fault) → ⊥
+recovered e = cc
 
 pub KeepsRest-any : (fault : Option HostFault) (old new : State) → Changes Anything fault old new → KeepsRest old new
 KeepsRest-any fault old new changes = record { script = changes.script; shelf = changes.shelf }
-
-pub KeepsRest-then : (a b c : State) → KeepsRest a b → KeepsRest b c → KeepsRest a c
-KeepsRest-then a b c p q = record { script = q.script ∙ p.script; shelf = q.shelf ∙ p.shelf }
-
--- ---- the words of the clients' logs stay
-
-module _ (size : ℕ) (w : World) (a : State) (rested : IsRested a.now.words) (world : world_of size (reads a.now.words) ≡ Some (closed w)) where
-  abbrev has_logs : List ℕ → Image → Type 0
-  has_logs bytes image = HasLogsOf w.stored.frames (reads a.now.words) image
-
-  -- a legal daemon log names none of them
-  not_named : (k : ℕ) → tables_end w.stored.frames ≤ k → k < frames_at w.stored.frames → IsNamed (new_value device_word (log_of (reads a.now.words) DAEMON_LOG)) k → ⊥
-  not_named k low high named =
-      let frames = frames_of_world size (reads a.now.words) (closed w) world in
-      let free = subst (λ (n : ℕ). IsUnlogged n k) (sym frames) (unlogged w.stored.frames k (λ e. absurd (omega arith)) (inr low) high) in
-      let none = new_value-apart (reads a.now.words) k (legal_log_of_world size (reads a.now.words) (closed w) world) free in
-      let it : None ≡ Some named.value = sym none ∙ named.is in
-      cc
-
-  logs_applied : (fault : Option HostFault) (b : State) → SettlesLog targets.Words DAEMON_LOG fault a b → Leaves has_logs a b
-  logs_applied fault b p =
-      Leaves-weaker _ _ a b (λ bytes image m. m.1)
-      (Leaves-changes (HasLogsOf w.stored.frames (reads a.now.words)) (ByLog DAEMON_LOG (new_value device_word (log_of (reads a.now.words) DAEMON_LOG))) fault a b
-      (λ before image picked from. record {
-        each = λ k low high. ⊎_elim
-            (λ same. same ∙ ap (λ (f : Image). f k) (reads_only a.now.words before rested picked))
-            (λ may. ⊎_elim (λ gate. absurd (omega arith)) (λ named. absurd (not_named k low high named)) may)
-            (from.each k);
-      }) p.changes)
-
-  -- the batch that empties the log-space table writes none of them
-  not_cleared : (k : ℕ) → tables_end w.stored.frames ≤ k → IsNamed (batch_write (clearing CLIENTS)) k → ⊥
-  not_cleared k low named = let it : None ≡ Some named.value = sym (clearing-outside CLIENTS k (omega arith) (inr (omega arith))) ∙ named.is in cc
-
-  logs_cleared : (fault : Option HostFault) (b c : State) → SettlesLog targets.Words DAEMON_LOG None a b → Clears size (closed w) fault b c → Leaves has_logs a c
-  logs_cleared fault b c p q =
-      let said = Changes-said _ None a b p.changes ∙ sym (append-nil a.now.said) in
-      let first = logs_applied None b p in
-      Leaves-then has_logs has_logs has_logs [] a b c said (λ front image m. m) (λ more image m. m) first
-      (Leaves-weaker _ _ b c (λ bytes image m. m.1)
-      (Leaves-changes (HasLogsOf w.stored.frames (reads a.now.words)) (ByBatch DAEMON_LOG (clearing CLIENTS)) fault b c
-      (λ before image picked from. record {
-        each = λ k low high. ⊎_elim
-            (λ same. same ∙ (Leaves-now has_logs [] a b said first before picked).each k low high)
-            (λ may. ⊎_elim (λ inside. let end = inside.high in absurd (omega arith)) (λ named. absurd (not_cleared k low named)) may)
-            (from.each k);
-      }) q.changes))
-
--- the daemon log was to be applied, and was not
-Recovers-applies : (size : ℕ) (w : World) (fault : HostFault) (a b : State) → IsRested a.now.words → world_of size (reads a.now.words) ≡ Some (closed w) → AppliesLog size (closed w) (Some fault) a b → SettlesLog targets.Words DAEMON_LOG (Some fault) a b
-    → Recovers size w (Err (starts.Host fault)) a b
-Recovers-applies size w fault a b rested world p settles =
-    record {
-      moments = p.moments;
-      logs = logs_applied size w a rested world (Some fault) b settles;
-      quiet = Changes-said (ByLog DAEMON_LOG (new_value device_word (log_of (reads a.now.words) DAEMON_LOG))) (Some fault) a b settles.changes;
-      ready = tt;
-      script = settles.changes.script;
-      shelf = settles.changes.shelf;
-    }
 
 -- a record that is free has no owner
 nobody : (used uid gid : ℕ) → used ≡ 0 → owner_by used uid gid ≡ None
 nobody used uid gid free = ap (λ (v : ℕ). owner_by v uid gid) free
 
--- it was applied, and then the log-space table was to be emptied
-module _ (size : ℕ) (w : World) (fault : Option HostFault) (a b c : State) (rested : IsRested a.now.words) (world : world_of size (reads a.now.words) ≡ Some (closed w)) (shelf : a.shelf ≡ w.shelf)
-    (p : AppliesLog size (closed w) None a b) (settles : SettlesLog targets.Words DAEMON_LOG None a b) (q : Clears size (closed w) fault b c) where
-  ready_cleared : (memory : Memory) → memory.frames ≡ w.stored.frames → fault ≡ None → IsReady size (restart w) memory c
-  ready_cleared memory frames none = record {
-    settled = q.settled none;
-    tables = HasDurableTables-committed w.stored.frames (clearing CLIENTS) fault b c q.changes (q.durable none) (HasDurableTables-rested w.stored.frames b.now.words (p.rested refl));
-    clients = λ client low. nobody _ _ _ (HasOnly-newest (c.now.words (space_record_at client)) 0 (q.cleared none client low));
-    frames = frames;
-    shelf = q.changes.shelf ∙ settles.changes.shelf ∙ shelf;
+-- ---- a rested device that stands for a world
+
+module _ (size : ℕ) (w : World) (a b : State) where
+  not_true : (x : Bool) → (x ≡ true → ⊥) → x ≡ false
+  not_true true never = absurd (never refl)
+  not_true false never = refl
+
+  Recovers-by : (fault : Option HostFault) (result : Result Memory StartFault) → world_of size (reads a.now.words) ≡ Some (closed w) → RecoversDevice size (closed w) fault a b
+      → IfOk result (λ memory. IsReady size (restart w) memory b) → Recovers size w result a b
+  Recovers-by fault result world r ready = record {
+    moments = Leaves-weaker (Silently (StandsStill size (closed w) (reads a.now.words))) (Silently (λ image. world_of size image ≡ Some (closed w))) a b (λ bytes image m. (m.0, m.1.stands)) r.moments;
+    allowed = λ none. Leaves-weaker (Silently (StandsStill size (closed w) (reads a.now.words))) (λ bytes image. RefusesNone image) a b (λ bytes image m. record {
+      each = λ number few.
+          let frames : frames_of image ≡ w.stored.frames = frames_of_world size image (closed w) m.1.stands in
+          let before : frames_of (reads a.now.words) ≡ w.stored.frames = frames_of_world size (reads a.now.words) (closed w) world in
+          let was : is_refused_log w.stored.frames (settled_by DAEMON_LOG (reads a.now.words)) number ≡ false =
+          ap (λ (F : ℕ). is_refused_log F (settled_by DAEMON_LOG (reads a.now.words)) number) (sym before) ∙ none.each number few in
+          ap (λ (F : ℕ). is_refused_log F (settled_by DAEMON_LOG image) number) frames
+          ∙ not_true (is_refused_log w.stored.frames (settled_by DAEMON_LOG image) number) (λ refused. let it : true ≡ false = sym (m.1.refused number few refused) ∙ was in cc);
+    }) r.moments;
+    logs = λ client few was. Leaves-weaker (Silently (StandsStill size (closed w) (reads a.now.words))) _ a b (λ bytes image m. m.1.closed client few was) r.moments;
+    quiet = Changes-said (ByRecovery w.stored.frames (reads a.now.words)) fault a b r.changes;
+    ready = ready;
+    script = r.changes.script;
+    shelf = r.changes.shelf;
   }
 
-  pub Recovers-clears : (result : Result Memory StartFault) → IfOk result (λ memory. IsReady size (restart w) memory c) → Recovers size w result a c
-  Recovers-clears result ready =
-      let P = Silently (λ (image : Image). world_of size image ≡ Some (closed w)) in
-      let said = Changes-said (ByLog DAEMON_LOG (new_value device_word (log_of (reads a.now.words) DAEMON_LOG))) None a b settles.changes in
-      record {
-        moments = Leaves-then P P P [] a b c (said ∙ sym (append-nil a.now.said)) (λ front image m. m) (λ more image m. m) p.moments q.moments;
-        logs = logs_cleared size w a rested world fault b c settles q;
-        quiet = Changes-said (ByBatch DAEMON_LOG (clearing CLIENTS)) fault b c q.changes ∙ said;
-        ready = ready;
-        script = q.changes.script ∙ settles.changes.script;
-        shelf = q.changes.shelf ∙ settles.changes.shelf;
-      }
+  -- the daemon is ready behind it
+  ready_behind : (memory : Memory) → memory.frames ≡ w.stored.frames → a.shelf ≡ w.shelf → RecoversDevice size (closed w) None a b → IsReady size (restart w) memory b
+  ready_behind memory frames shelf r = record {
+    settled = r.settled_now refl;
+    tables = record { each = λ k beside below. r.single refl k (outside_log DAEMON_LOG k (⊎_elim (λ low. inl low) (λ high. inr (omega arith)) beside)) };
+    clients = λ client few. nobody _ _ _ (r.cleared refl client few);
+    frames = frames;
+    shelf = r.changes.shelf ∙ shelf;
+  }
 
--- and it was
-pub Recovers-done : (size : ℕ) (w : World) (memory : Memory) (a b c : State) → IsRested a.now.words → world_of size (reads a.now.words) ≡ Some (closed w) → a.shelf ≡ w.shelf → AppliesLog size (closed w) None a b → SettlesLog targets.Words DAEMON_LOG None a b → Clears size (closed w) None b c → memory.frames ≡ w.stored.frames
-    → Recovers size w (Ok memory) a c
-Recovers-done size w memory a b c rested world shelf p settles q frames =
-    Recovers-clears size w None a b c rested world shelf p settles q (Ok memory) (ready_cleared size w None a b c rested world shelf p settles q memory frames refl)
+  pub Recovers-done : (memory : Memory) → world_of size (reads a.now.words) ≡ Some (closed w) → memory.frames ≡ frames_of (reads a.now.words) → a.shelf ≡ w.shelf → RecoversDevice size (closed w) None a b
+      → Recovers size w (Ok memory) a b
+  Recovers-done memory world frames shelf r =
+      Recovers-by None (Ok memory) world r (ready_behind memory (frames ∙ frames_of_world size (reads a.now.words) (closed w) world) shelf r)
 
--- or a fault came
-pub Recovers-uncleared : (size : ℕ) (w : World) (fault : HostFault) (a b c : State) → IsRested a.now.words → world_of size (reads a.now.words) ≡ Some (closed w) → a.shelf ≡ w.shelf → AppliesLog size (closed w) None a b → SettlesLog targets.Words DAEMON_LOG None a b → Clears size (closed w) (Some fault) b c
-    → Recovers size w (Err (starts.Host fault)) a c
-Recovers-uncleared size w fault a b c rested world shelf p settles q = Recovers-clears size w (Some fault) a b c rested world shelf p settles q (Err (starts.Host fault)) tt
-
--- what was recovered reads as the world
-stands_recovered : (size : ℕ) (w : World) (result : Result Memory StartFault) (a b : State) → IsOk result → Recovers size w result a b → world_of size (reads b.now.words) ≡ Some (closed w)
-stands_recovered size w (Ok memory) a b ok r = r.ready.settled.stands (reads b.now.words) (Picks-reads b.now.words)
-stands_recovered size w (Err fault) a b ok r = absurd (let no : false ≡ true = ok in cc)
-
-sound_then : (size : ℕ) (result : Result Memory StartFault) (a b : State) (o : Option StoredWorld) → IsOk result → world_of size (reads a.now.words) ≡ o → (o ≡ None → ⊥)
-    → ((w : World) → world_of size (reads a.now.words) ≡ Some (closed w) → a.shelf ≡ w.shelf → Recovers size w result a b) → world_of size (reads b.now.words) ≢ None
-sound_then size result a b None ok is sound recovers = absurd (sound refl)
-sound_then size result a b (Some s) ok is sound recovers = λ none.
-    let w : World = record { stored = s; clients = no_clients; shelf = a.shelf } in
-    let it : Some s ≡ None = sym (stands_recovered size w result a b ok (recovers w is refl)) ∙ none in
-    cc
-
--- so it reads as a sound one, if it was
-pub sound_recovered : (size : ℕ) (result : Result Memory StartFault) (a b : State) → IsOk result → (world_of size (reads a.now.words) ≡ None → ⊥)
-    → ((w : World) → world_of size (reads a.now.words) ≡ Some (closed w) → a.shelf ≡ w.shelf → Recovers size w result a b) → world_of size (reads b.now.words) ≢ None
-sound_recovered size result a b ok sound recovers = sound_then size result a b (world_of size (reads a.now.words)) ok refl sound recovers
-
--- a load that failed on a device that stands for a world
-pub Recovers-load : (size : ℕ) (w : World) (fault : LoadFault) (a b : State) → (fault ≡ loads.NotSound → ⊥) → IsRested a.now.words → world_of size (reads a.now.words) ≡ Some (closed w)
-    → AppliesLog size (closed w) (load_fault {T = Geo} (Err fault)) a b → SettlesLog targets.Words DAEMON_LOG (load_fault {T = Geo} (Err fault)) a b
-    → Recovers size w (Err (of_load fault)) a b
-Recovers-load size w loads.NotSound a b sound rested world p settles = absurd (sound refl)
-Recovers-load size w (loads.Host fault) a b sound rested world p settles = Recovers-applies size w fault a b rested world p settles
-
--- a load that answered a fault answered this one, and one that went well none
-pub fault_is : {fault other : LoadFault} → ◌≡◌ {A = Result Geo LoadFault} (Err fault) (Err other) → fault ≡ other
-fault_is e = cc
-
-pub loaded : {geo : Geo} {fault : LoadFault} → ◌≡◌ {A = Result Geo LoadFault} (Ok geo) (Err fault) → ⊥
-loaded e = cc
+  pub Recovers-failed : (fault : RecoverFault) → (fault ≡ recoveries.NotSound → ⊥) → world_of size (reads a.now.words) ≡ Some (closed w) → RecoversDevice size (closed w) (recover_fault {T = Report} (Err fault)) a b
+      → Recovers size w (Err (of_recover fault)) a b
+  Recovers-failed recoveries.NotSound sound world r = absurd (sound refl)
+  Recovers-failed (recoveries.Host fault) sound world r = Recovers-by (Some fault) (Err (starts.Host fault)) world r tt
 
 -- it is not refused
-pub sound_load : (size : ℕ) (w : World) (fault : LoadFault) (a : State) → world_of size (reads a.now.words) ≡ Some (closed w)
-    → (load_fault {T = Geo} (Err fault) ≡ None → (◌≡◌ {A = Result Geo LoadFault} (Err fault) (Err loads.NotSound)) ↔ (world_of size (reads a.now.words) ≡ None)) → fault ≡ loads.NotSound → ⊥
-sound_load size w fault a world exact is =
-    let none = (exact (ap (λ (f : LoadFault). load_fault {T = Geo} (Err f)) is)).0 (ap Err is) in
+pub sound_recovery : (size : ℕ) (w : World) (fault : RecoverFault) (a : State) → world_of size (reads a.now.words) ≡ Some (closed w)
+    → (recover_fault {T = Report} (Err fault) ≡ None → (◌≡◌ {A = Result Report RecoverFault} (Err fault) (Err recoveries.NotSound)) ↔ (world_of size (reads a.now.words) ≡ None)) → fault ≡ recoveries.NotSound → ⊥
+sound_recovery size w fault a world exact is =
+    let none = (exact (ap (λ (f : RecoverFault). recover_fault {T = Report} (Err f)) is)).0 (ap Err is) in
     let it : Some (closed w) ≡ None = sym world ∙ none in
     cc
 
--- a start that went well met no fault, and was not refused
-pub no_start_fault : (result : Result Memory StartFault) → IsOk result → start_fault result ≡ None
-no_start_fault (Ok x) ok = refl
-no_start_fault (Err fault) ok = absurd (let no : false ≡ true = ok in cc)
+-- ---- whatever it stands for
 
-pub not_refused : (result : Result Memory StartFault) → IsOk result → result ≡ Err starts.NotSound → ⊥
-not_refused (Ok x) ok is = cc
-not_refused (Err fault) ok is = absurd (let no : false ≡ true = ok in cc)
+below_logs : (F k : ℕ) → k < tables_end F → is_in_logs F k ≡ false
+below_logs F k below = ap (λ (b : Bool). b && ltb k (frames_at F)) (lt-leb (tables_end F) k below)
+
+-- what a recovery that went well leaves of a rested device
+pub record IsRecovered (size : ℕ) (a b : State) : Type 0 where
+  pub sound : world_of size (reads b.now.words) ≢ None
+  pub replayed : IsReplayed (reads a.now.words) (reads b.now.words)
+  pub frames : frames_of (reads a.now.words) ≡ frames_of (reads b.now.words)
+
+recovered_world : (size : ℕ) (s : StoredWorld) (a b : State) → world_of size (reads a.now.words) ≡ Some s → RecoversDevice size s None a b → IsRecovered size a b
+recovered_world size s a b world r =
+    let i = reads a.now.words in
+    let frames : frames_of i ≡ s.frames = frames_of_world size i s world in
+    let now : (k : ℕ) → is_in_log DAEMON_LOG k ≡ false → is_in_logs (frames_of i) k ≡ false → (k < SPACE_TABLE) ⊎ (PUDDLE_TABLE ≤ k) → reads b.now.words k ≡ settled (frames_of i) i k = λ k outside beside spaces.
+    r.reads_so refl k outside (ap (λ (F : ℕ). is_in_logs F k) (sym frames) ∙ beside) spaces ∙ ap (λ (F : ℕ). settled F i k) (sym frames) in
+    record {
+      sound = λ none. let it : Some s ≡ None = sym (world_of_idle size (reads b.now.words) s ((r.settled_now refl).stands (reads b.now.words) (Picks-reads b.now.words))) ∙ none in cc;
+      replayed = record { each = now };
+      frames = sym (r.reads_so refl FRAMES_WORD (outside_log DAEMON_LOG FRAMES_WORD (inl (omega arith))) (below_logs s.frames FRAMES_WORD (omega arith)) (inl (omega arith))
+          ∙ settled-below s.frames i FRAMES_WORD (omega arith) ∙ settled_by-unlogged i FRAMES_WORD (legal_log_of_world size i s world) (omega arith));
+    }
+
+pub recovered_any : (size : ℕ) (report : Report) (a b : State) (o : Option StoredWorld) → world_of size (reads a.now.words) ≡ o
+    → (◌≡◌ {A = Result Report RecoverFault} (Ok report) (Err recoveries.NotSound)) ↔ (world_of size (reads a.now.words) ≡ None)
+    → ((s : StoredWorld) → world_of size (reads a.now.words) ≡ Some s → RecoversDevice size s None a b) → IsRecovered size a b
+recovered_any size report a b None world exact r = absurd (recovered (exact.1 world))
+recovered_any size report a b (Some s) world exact r = recovered_world size s a b world (r s world)

@@ -8,13 +8,12 @@ use Rattle.pm_model.specs.Moments.{State}
 use Rattle.pm_model.specs.Changes.{Leaves, Silently}
 use Rattle.pud_defs.specs.Step.{Answer, answer_by, world_by}
 use Rattle.pud_defs.specs.declared.layout.TheConstants.{DAEMON_LOG, SPACE_TABLE, PUDDLE_TABLE, CLIENTS}
-use Rattle.pud_defs.specs.Layout.{tables_end, frames_at}
 use Rattle.pud_defs.specs.Image.{Image}
 use Rattle.pud_defs.specs.Replay.{is_in_log, settled_by}
 use Rattle.pud_defs.specs.Spaces.{space_record_at, owner_of, has_closed_logs}
 use Rattle.pud_defs.specs.Registry.{frames_of}
-use Rattle.pud_defs.specs.Settled.{ALL_LOGS, is_refused_log}
-use Rattle.pud_defs.specs.World.{World, world_of, closed, restart}
+use Rattle.pud_defs.specs.Settled.{ALL_LOGS, is_refused_log, is_in_logs, settled}
+use Rattle.pud_defs.specs.World.{World, world_of, idle_world_of, closed, restart}
 use Rattle.pud_defs.specs.declared.machine.Command.{Command}
 use Rattle.pud_defs.specs.declared.machine.Command.TheVariants.{Leave}
 use Rattle.pud_defs.specs.Grammar.{command_of}
@@ -25,6 +24,9 @@ use Rattle.pud_defs.specs.StartText.{start_text}
 use Rattle.pud_defs.specs.Stands.{StandsWith}
 use Rattle.batch.specs.Tables.{HasDurableTables}
 use Rattle.batch.specs.Worlds.{IsSettled}
+use Rattle.recover.specs.declared.judge.Mark.{Mark}
+use Rattle.recover.specs.declared.judge.Mark.TheVariants.{Closed}
+use Rattle.recover.specs.Verdicts.{is_refused_mark}
 use Rattle.puddled.specs.Memory.{Memory}
 use Rattle.puddled.specs.declared.answers.Answered.{Answered}
 use Rattle.puddled.specs.Answered.{answer_of}
@@ -43,8 +45,8 @@ pub record KeepsLine (file : Option (List ℕ)) (old new : State) : Type 0 where
   pub script : new.script ≡ old.script
   pub files : KeepsFiles file old.shelf new.shelf
 
--- What the daemon needs of a device between two lines: each image that may be left stands for the world with nothing under way, the daemon
--- log is closed in it and counts no word, the tables are durable, and what is read of them has the clients that are present. The number of
+-- What the daemon needs of a device between two lines: each image that may be left stands for the world with nothing under way, each registered
+-- log and the daemon log are closed in it, the daemon log counts no word, the tables are durable, and what is read of them has the clients that are present. The number of
 -- frames is the one that the daemon holds, and the shelf is the world's.
 pub record IsReady (size : ℕ) (w : World) (memory : Memory) (s : State) : Type 0 where
   pub settled : IsSettled size (closed w) s.now.words
@@ -67,9 +69,9 @@ pub record SaysPart {Fault : Type 0} (text : List ℕ) (fault : Option Fault) (o
   pub whole : fault ≡ None → rest ≡ []
 
 -- A command was carried out, or refused, without a word: at every moment the images stand for the world before it or the one that it gives,
--- and without a fault the daemon is ready in that one, with this memory.
+-- with each registered log closed, and without a fault the daemon is ready in that one, with this memory.
 pub record Applies (size : ℕ) (w next : World) (memory : Memory) (fault : Option HostFault) (old new : State) : Type 0 where
-  pub moments : Leaves (Silently (λ image. (world_of size image ≡ Some (closed w)) ⊎ (world_of size image ≡ Some (closed next)))) old new
+  pub moments : Leaves (Silently (λ image. (idle_world_of size image ≡ Some (closed w)) ⊎ (idle_world_of size image ≡ Some (closed next)))) old new
   pub quiet : new.now.said ≡ old.now.said
   pub ready : fault ≡ None → IsReady size next memory new
   pub rests : fault ≡ Some hosts.Cut → IsRested new.now.words
@@ -118,33 +120,34 @@ pub record Settles (size : ℕ) (w : World) (line : List ℕ) (result : Result A
   pub sound : run_fault result ≢ Some faults.NotSound
   pub script : new.script ≡ old.script
 
--- the words of the clients' logs, on a device of so many frames, are those of another image
-pub record HasLogsOf (F : ℕ) (other image : Image) : Type 0 where
-  pub each : (k : ℕ) → tables_end F ≤ k → k < frames_at F → image k ≡ other k
+-- no registered log of the image is refused: a start on it says `ready` alone
+pub record RefusesNone (image : Image) : Type 0 where
+  pub each : (number : ℕ) → number < ALL_LOGS → is_refused_log (frames_of image) (settled_by DAEMON_LOG image) number ≡ false
 
--- The daemon recovered what a rested device stands for, without a word: at each moment each image stands for the world, and has the words of
--- the clients' logs as they were read; without a fault the daemon is ready in it.
+-- The daemon recovered what a rested device stands for, without a word: at each moment each image stands for the world, refuses no log where none
+-- was refused, and has a client's logs closed where they were closed; without a fault the daemon is ready in it.
 pub record Recovers (size : ℕ) (w : World) (result : Result Memory StartFault) (old new : State) : Type 0 where
   pub moments : Leaves (Silently (λ image. world_of size image ≡ Some (closed w))) old new
-  pub logs : Leaves (λ bytes image. HasLogsOf w.stored.frames (reads old.now.words) image) old new
+  pub allowed : RefusesNone (reads old.now.words) → Leaves (λ bytes image. RefusesNone image) old new
+  pub logs : (client : ℕ) → client < CLIENTS → has_closed_logs (reads old.now.words) w.stored.frames client ≡ true
+      → Leaves (λ bytes image. has_closed_logs image w.stored.frames client ≡ true) old new
   pub quiet : new.now.said ≡ old.now.said
   pub ready : IfOk result (λ memory. IsReady size (restart w) memory new)
   pub script : new.script ≡ old.script
   pub shelf : new.shelf ≡ old.shelf
 
--- what a recovery answers, without its verdicts
-abbrev pub without_verdicts : Result (Memory × List Bool) StartFault → Result Memory StartFault
-without_verdicts (Ok found) = Ok found.0
-without_verdicts (Err fault) = Err fault
+-- what a recovery answers, without what it found of the logs
+abbrev pub without_marks : Result (Memory × List Mark) StartFault → Result Memory StartFault
+without_marks (Ok found) = Ok found.0
+without_marks (Err fault) = Err fault
 
--- The verdicts on the clients' logs of an image, by their numbers: which are registered and refused, judged behind the daemon log.
-pub record AreVerdicts (image : Image) (refused : List Bool) : Type 0 where
-  pub each : (number : ℕ) → number < ALL_LOGS → slice_index_or refused number false ≡ is_refused_log (frames_of image) (settled_by DAEMON_LOG image) number
+-- What was found of the clients' logs of an image, by their numbers, judged behind the daemon log: which are registered and refused.
+pub record AreMarks (image : Image) (marks : List Mark) : Type 0 where
+  pub each : (number : ℕ) → number < ALL_LOGS → is_refused_mark (slice_index_or marks number Closed) ≡ is_refused_log (frames_of image) (settled_by DAEMON_LOG image) number
 
--- What a device reads behind a start: each word but those of the daemon log and of the log-space table has the value that the daemon log gives
--- it, or else the one that it had.
+-- What a device reads behind a start: each word but those of the logs and of the log-space table as the settled image has it.
 pub record IsReplayed (before now : Image) : Type 0 where
-  pub each : (k : ℕ) → is_in_log DAEMON_LOG k ≡ false → (k < SPACE_TABLE) ⊎ (PUDDLE_TABLE ≤ k) → now k ≡ settled_by DAEMON_LOG before k
+  pub each : (k : ℕ) → is_in_log DAEMON_LOG k ≡ false → is_in_logs (frames_of before) k ≡ false → (k < SPACE_TABLE) ⊎ (PUDDLE_TABLE ≤ k) → now k ≡ settled (frames_of before) before k
 
 -- A rested device that stands for a world was started on: at each moment each image stands for it, and the start text of what it read was said,
 -- or with a fault a part of it; without a fault the daemon is ready.

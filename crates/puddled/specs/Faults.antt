@@ -11,8 +11,8 @@ use Rattle.pud_defs.specs.Grammar.{command_of}
 use Rattle.pud_defs.specs.Run.{Turn, cuts_of}
 use Rattle.puddled.specs.declared.daemon.StartFault.{StartFault}
 use Rattle.puddled.specs.declared.daemon.StartFault.TheVariants as starts
-use Rattle.registry.specs.declared.LoadFault.{LoadFault}
-use Rattle.registry.specs.declared.LoadFault.TheVariants as loads
+use Rattle.recover.specs.declared.recovery.RecoverFault.{RecoverFault}
+use Rattle.recover.specs.declared.recovery.RecoverFault.TheVariants as recoveries
 use Rattle.puddled.specs.declared.daemon.RunFault.{RunFault}
 use Rattle.puddled.specs.declared.daemon.RunFault.TheVariants as faults
 
@@ -22,10 +22,10 @@ start_fault (Ok x) = None
 start_fault (Err starts.NotSound) = None
 start_fault (Err (starts.Host fault)) = Some fault
 
--- what a load's fault is at a start
-abbrev pub of_load : LoadFault → StartFault
-of_load loads.NotSound = starts.NotSound
-of_load (loads.Host fault) = starts.Host fault
+-- what a recovery's fault is at a start
+abbrev pub of_recover : RecoverFault → StartFault
+of_recover recoveries.NotSound = starts.NotSound
+of_recover (recoveries.Host fault) = starts.Host fault
 
 -- what a host's fault, or a start's, is behind a power loss
 abbrev pub of_host : HostFault → RunFault

@@ -11,18 +11,17 @@ ghost use Rattle.puddled.specs.Faults.{start_fault, run_fault, kind_of, CountsLi
 ghost use Rattle.pud_defs.specs.Grammar.{command_of, IsLegalCommand};
 ghost use Rattle.pud_defs.specs.Changing.{file_of, file_in};
 ghost use Rattle.puddled.specs.Memory.{Memory};
-ghost use Rattle.puddled.specs.Daemon.{KeepsRest, KeepsLine, IsReady, IsReplayed, AreVerdicts, Applies, CarriesOut, Recovers, Settles, without_verdicts};
+ghost use Rattle.puddled.specs.Daemon.{KeepsRest, KeepsLine, IsReady, IsReplayed, AreMarks, Applies, CarriesOut, Recovers, Settles, without_marks};
 
 use crate::answers::{Answered, say_answer, with_reply};
 use crate::clients::{come, leave};
 use crate::pools::{change, drop_owned, make};
 use crate::reading::get;
-use crate::starting::{ALL_LOGS, Refused, say_start};
+use crate::starting::{Marks, say_start};
 use crate::types::define_type;
-use log_space::clear_spaces;
 use pm_model::{Host, HostFault};
 use pud_defs::machine::{Command, Refusal, Reply};
-use registry::{LoadFault, load_sound};
+use recover::{RecoverFault, recover};
 use script::parse_line;
 use std::alloc::Global;
 use std::marker::Model;
@@ -45,19 +44,6 @@ impl From<HostFault> for StartFault {
 
     fn from(fault: HostFault) -> Self {
         StartFault::Host(fault)
-    }
-}
-
-impl From<LoadFault> for StartFault {
-    ghost use Rattle.puddled.specs.Faults.{of_load};
-
-    ghost from_gives = { λ fault e. e ≡ of_load fault };
-
-    fn from(fault: LoadFault) -> Self {
-        match fault {
-            LoadFault::NotSound => StartFault::NotSound,
-            LoadFault::Host(fault) => StartFault::Host(fault),
-        }
     }
 }
 
@@ -120,28 +106,45 @@ impl Model for Daemon {
     ghost invariant = { λ d. (MIN_FRAMES ≤ d.frames) × (d.frames ≤ MAX_FRAMES) };
 }
 
-/// Judges the device, applies what its daemon log names, and empties the log-space table, all without a word. With the daemon it answers
-/// which registered logs it refuses, by their numbers.
-fn recover<H: Host>(h: &mut H) -> Result<(Daemon, Refused), StartFault>
+impl From<RecoverFault> for StartFault {
+    ghost use Rattle.puddled.specs.Faults.{of_recover};
+
+    ghost from_gives = { λ fault e. e ≡ of_recover fault };
+
+    fn from(fault: RecoverFault) -> Self {
+        match fault {
+            RecoverFault::NotSound => StartFault::NotSound,
+            RecoverFault::Host(fault) => StartFault::Host(fault),
+        }
+    }
+}
+
+/// Recovers the device, all without a word. With the daemon it answers what it found of each client's log, by its number.
+fn recover_device<H: Host>(h: &mut H) -> Result<(Daemon, Marks), StartFault>
     ensures not_sound { H.tells → start_fault result ≡ Option.None
-        → (without_verdicts result ≡ Result.Err StartFault.NotSound) ↔ (world_of (H.counts h.old).size (reads (H.state h.old).now.words) ≡ Option.None) }
-    ensures unchanged { H.tells → without_verdicts result ≡ Result.Err StartFault.NotSound → H.state h.new ≡ H.state h.old }
+        → (without_marks result ≡ Result.Err StartFault.NotSound) ↔ (world_of (H.counts h.old).size (reads (H.state h.old).now.words) ≡ Option.None) }
+    ensures unchanged { H.tells → without_marks result ≡ Result.Err StartFault.NotSound → H.state h.new ≡ H.state h.old }
     ensures recovers { H.tells → (size : ℕ) → size ≡ (H.counts h.old).size → (w : World) → IsRested (H.state h.old).now.words
         → world_of size (reads (H.state h.old).now.words) ≡ Option.Some (closed w) → (H.state h.old).shelf ≡ w.shelf
-        → Recovers size w (without_verdicts result) (H.state h.old) (H.state h.new) }
+        → Recovers size w (without_marks result) (H.state h.old) (H.state h.new) }
+    ensures sound { H.tells → IsRested (H.state h.old).now.words → IfOk result (λ found. world_of (H.counts h.old).size (reads (H.state h.new).now.words) ≢ Option.None) }
+    ensures replays { H.tells → IsRested (H.state h.old).now.words → IfOk result (λ found. IsReplayed (reads (H.state h.old).now.words) (reads (H.state h.new).now.words)) }
+    ensures frames { H.tells → IsRested (H.state h.old).now.words → IfOk result (λ found. found.0.frames ≡ frames_of (reads (H.state h.new).now.words)) }
     // Whatever the device holds.
-    ensures verdicts { H.tells → IfOk result (λ found. AreVerdicts (reads (H.state h.old).now.words) found.1) }
-    ensures replays { H.tells → IfOk result (λ found. IsReplayed (reads (H.state h.old).now.words) (reads (H.state h.new).now.words)) }
-    ensures frames { H.tells → IfOk result (λ found. found.0.frames ≡ frames_of (reads (H.state h.new).now.words)) }
+    ensures marks { H.tells → IfOk result (λ found. AreMarks (reads (H.state h.old).now.words) found.1) }
     ensures quiet { H.tells → (H.state h.new).now.said ≡ (H.state h.old).now.said }
     ensures enough { IfOk result (λ found. MIN_FRAMES ≤ found.0.frames) }
     ensures room { IfOk result (λ found. device_words found.0.frames ≤ (H.counts h.old).size) }
     ensures rest { H.tells → KeepsRest (H.state h.old) (H.state h.new) }
     ensures cause { H.counts h.new ≡ after_fault (start_fault result) (H.counts h.old) }
 {
-    let geo = load_sound(h)?;
-    clear_spaces(h)?;
-    Ok((Daemon { frames: geo.frames }, [false; ALL_LOGS]))
+    let report = recover(h)?;
+    Ok((
+        Daemon {
+            frames: report.frames,
+        },
+        report.marks,
+    ))
 }
 
 /// Starts again behind a power loss, without a word: none on the logs that are refused either.
@@ -152,11 +155,12 @@ fn restart<H: Host>(h: &mut H) -> Result<Daemon, StartFault>
     ensures recovers { H.tells → (size : ℕ) → size ≡ (H.counts h.old).size → (w : World) → IsRested (H.state h.old).now.words
         → world_of size (reads (H.state h.old).now.words) ≡ Option.Some (closed w) → (H.state h.old).shelf ≡ w.shelf
         → Recovers size w result (H.state h.old) (H.state h.new) }
+    ensures sound { H.tells → IsRested (H.state h.old).now.words → IfOk result (λ daemon. world_of (H.counts h.old).size (reads (H.state h.new).now.words) ≢ Option.None) }
     ensures room { IfOk result (λ daemon. device_words daemon.frames ≤ (H.counts h.old).size) }
     ensures rest { H.tells → KeepsRest (H.state h.old) (H.state h.new) }
     ensures cause { H.counts h.new ≡ after_fault (start_fault result) (H.counts h.old) }
 {
-    let (daemon, _refused) = recover(h)?;
+    let (daemon, _marks) = recover_device(h)?;
     Ok(daemon)
 }
 
@@ -291,13 +295,12 @@ impl Daemon {
     ghost use Rattle.pud_defs.specs.StartText.{start_text};
     ghost use Rattle.puddled.specs.Daemon.{SaysPart, Starts, Answers};
 
-    /// Starts on the device: applies what its daemon log names, empties the log-space table, and says the start text: a line for each
-    /// log that is refused, and `ready`.
+    /// Starts on the device: applies what its daemon log names, replays and closes each registered log that its owner may, empties
+    /// the log-space table, and says the start text: a line for each registered log that is refused, and `ready`.
     ///
     /// `NotSound` comes exactly where the device is not a sound registry, where the host does not fail first; then no word
     /// was changed and nothing was said. On a device that is rested each image left at any moment stands for what the
-    /// device did. On any device each word but those of the daemon log and of the log-space table then reads as the daemon
-    /// log named it, or else as it was.
+    /// device did, and each word but those of the logs and of the log-space table then reads as the settled image has it.
     pub fn start<H: Host>(h: &mut H) -> Result<Daemon, StartFault>
         ensures not_sound { H.tells → start_fault result ≡ Option.None
             → (result ≡ Result.Err StartFault.NotSound) ↔ (world_of (H.counts h.old).size (reads (H.state h.old).now.words) ≡ Option.None) }
@@ -305,17 +308,17 @@ impl Daemon {
         ensures starts { H.tells → (size : ℕ) → size ≡ (H.counts h.old).size → (w : World) → IsRested (H.state h.old).now.words
             → world_of size (reads (H.state h.old).now.words) ≡ Option.Some (closed w) → (H.state h.old).shelf ≡ w.shelf
             → Starts size w result (H.state h.old) (H.state h.new) }
-        // Whatever the device holds: what it then reads, and what was said.
-        ensures replays { H.tells → IfOk result (λ daemon. IsReplayed (reads (H.state h.old).now.words) (reads (H.state h.new).now.words)) }
-        ensures frames { H.tells → IfOk result (λ daemon. daemon.frames ≡ frames_of (reads (H.state h.new).now.words)) }
+        ensures replays { H.tells → IsRested (H.state h.old).now.words → IfOk result (λ daemon. IsReplayed (reads (H.state h.old).now.words) (reads (H.state h.new).now.words)) }
+        ensures frames { H.tells → IsRested (H.state h.old).now.words → IfOk result (λ daemon. daemon.frames ≡ frames_of (reads (H.state h.new).now.words)) }
+        // Whatever the device holds: what was said.
         ensures says { H.tells → result ≢ Result.Err StartFault.NotSound → SaysPart (start_text (reads (H.state h.old).now.words)) (start_fault result) (H.state h.old) (H.state h.new) }
         ensures enough { IfOk result (λ daemon. MIN_FRAMES ≤ daemon.frames) }
         ensures room { IfOk result (λ daemon. device_words daemon.frames ≤ (H.counts h.old).size) }
         ensures rest { H.tells → KeepsRest (H.state h.old) (H.state h.new) }
         ensures cause { H.counts h.new ≡ after_fault (start_fault result) (H.counts h.old) }
     {
-        let (daemon, refused) = recover(h)?;
-        say_start(h, &refused)?;
+        let (daemon, marks) = recover_device(h)?;
+        say_start(h, &marks)?;
         Ok(daemon)
     }
 

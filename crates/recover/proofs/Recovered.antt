@@ -15,7 +15,7 @@ use Rattle.pud_defs.specs.Image.{Image}
 use Rattle.pud_defs.specs.Layout.{IsWithin, tables_end, frames_at, device_words}
 use Rattle.pud_defs.specs.Entries.{Entry, Log, log_of, is_idle_gate}
 use Rattle.pud_defs.specs.Replay.{device_word, new_value, overwritten, IsInLog, is_in_log, settled_by}
-use Rattle.pud_defs.specs.Spaces.{Owner, owner_by, owner_of, are_legal_spaces, space_record_at}
+use Rattle.pud_defs.specs.Spaces.{Owner, owner_by, owner_of, are_legal_spaces, has_closed_logs, space_record_at}
 use Rattle.pud_defs.specs.Tables.{tables_of}
 use Rattle.pud_defs.specs.Allowed.{is_refused}
 use Rattle.pud_defs.specs.Settled.{ALL_LOGS, client_of_log, log_number_at, given_by_log, is_refused_log, is_accepted_log, is_in_logs, beside_logs, settled_over, settled}
@@ -23,7 +23,7 @@ use Rattle.pud_defs.specs.LogsTaken.{GivesNothingBelow}
 use Rattle.pud_defs.specs.Registry.{frames_of, is_allowed, are_allowed, has_legal_log}
 use Rattle.pud_defs.specs.World.{StoredWorld, world_of}
 use Rattle.pud_defs.proofs.Replay.{overwritten-stays, overwritten-there, settled_by-inside, settled_by-outside, settled_by-idle, outside_log, within_log, not_inside}
-use Rattle.pud_defs.proofs.Spaces.{are_legal_spaces-same, are_legal_spaces-none}
+use Rattle.pud_defs.proofs.Spaces.{has_closed_logs-same, are_legal_spaces-same, are_legal_spaces-none}
 use Rattle.pud_defs.proofs.Settled.{settled_over-none}
 use Rattle.pud_defs.proofs.Accepted.{accepted_not_refused}
 use Rattle.pud_defs.proofs.LogsTaken.{given_by_log-below}
@@ -82,12 +82,23 @@ module _ (size : ℕ) (s : StoredWorld) (a : State) (rested : IsRested a.now.wor
 
   -- ---- the daemon log
 
+  frames_i : frames_of i ≡ F
+  frames_i = frames_of_world size i s world
+
+  -- the clients' logs are none of its words
+  logs_stay : (image : Image) → StillStands size s i image → (k : ℕ) → tables_end F ≤ k → k < frames_at F → image k ≡ i k
+  logs_stay image p k low high =
+      let frames : frames_of image ≡ F = frames_of_world size image s p.stands in
+      sym (settled_by-client_logs image k (legal_log_of_world size image s p.stands) (rw frames low) (rw frames high)) ∙ ap (λ (x : Image). x k) p.settled
+      ∙ settled_by-client_logs i k (legal_log_of_world size i s world) (rw frames_i low) (rw frames_i high)
+
   first_still : (image : Image) → StillStands size s i image → StandsStill size s i image
   unfolding settled
   first_still image p = record {
     stands = p.stands;
     settles = λ k outside. ap (λ (x : Image). settled_over F x k) p.settled;
     refused = λ number few refused. sym (ap (λ (x : Image). is_refused_log F x number) p.settled) ∙ refused;
+    closed = λ client few was. has_closed_logs-same image i F client few (logs_stay image p) ∙ was;
   }
 
   first_may : (k v : ℕ) → ByOneLog DAEMON_LOG (new_value device_word (log_of i DAEMON_LOG)) k v → ByRecovery F i k v
@@ -174,6 +185,7 @@ module _ (size : ℕ) (s : StoredWorld) (a : State) (rested : IsRested a.now.wor
         stands = world_again size s i image world (legal_log_idle image idle_j) (λ k read. alike_settles k) alike_spaces;
         settles = λ k outside. alike_settles k;
         refused = λ number few refused. sym (refused_b number few) ∙ sym (alike.refused number few) ∙ sym (idle_refused F image idle_j number few) ∙ refused;
+        closed = λ client few was. alike.closed client few (has_closed_logs-same m i F client few (logs_stay m now_b) ∙ was);
       }
 
     second_may : (k v : ℕ) → ByLogs F ALL_LOGS m k v → ByRecovery F i k v
@@ -241,6 +253,13 @@ module _ (size : ℕ) (s : StoredWorld) (a : State) (rested : IsRested a.now.wor
           | inr full ↦ has_legal_log-of image F (committed emptied) frames_j full (clearing-allowed F CLIENTS (committed emptied) (omega arith))
         ]
 
+        -- the clients' logs are none of the batch's words
+        closed_j : (client : ℕ) → client < CLIENTS → has_closed_logs i F client ≡ true → has_closed_logs image F client ≡ true
+        closed_j client few was =
+            has_closed_logs-same image n F client few (λ k low high.
+              batched.outside k (outside_log DAEMON_LOG k (inr (omega arith))) (clearing-outside CLIENTS k (omega arith) (inr (omega arith))) ∙ ap (λ (x : Image). x k) before_c)
+            ∙ (alike_still n alike_c).closed client few was
+
         -- as it was
         same_still : settled_by DAEMON_LOG image ≡ settled_by DAEMON_LOG batched.before → StandsStill size s i image
         unfolding settled
@@ -252,6 +271,7 @@ module _ (size : ℕ) (s : StoredWorld) (a : State) (rested : IsRested a.now.wor
                   (are_legal_spaces-same (settled F image) (settled F i) (λ k low high. settles_so k) ∙ held_i.spaces);
               settles = λ k outside. settles_so k;
               refused = λ number few refused. (alike_still n alike_c).refused number few (sym (ap (λ (x : Image). is_refused_log F x number) is) ∙ refused);
+              closed = closed_j;
             }
 
         -- or with the table emptied
@@ -275,6 +295,7 @@ module _ (size : ℕ) (s : StoredWorld) (a : State) (rested : IsRested a.now.wor
                   (are_legal_spaces-none (settled F image) (λ client few. settled-below F image (space_record_at client) (omega arith) ∙ free client few));
               settles = settles_so;
               refused = λ number few refused. absurd (let it : false ≡ true = sym (unowned_not_refused F (settled_by DAEMON_LOG image) number (unowned (client_of_log number) (omega arith))) ∙ refused in cc);
+              closed = closed_j;
             }
 
         pub batched_still : StandsStill size s i image
@@ -333,9 +354,7 @@ module _ (size : ℕ) (s : StoredWorld) (a : State) (rested : IsRested a.now.wor
         kept_b number few k inside =
             let low = inside.low in
             let high = inside.high in
-            let frames : frames_of i ≡ F = frames_of_world size i s world in
-            sym (settled_by-idle DAEMON_LOG m k idle_b (outside_log DAEMON_LOG k (inr (omega arith)))) ∙ ap (λ (x : Image). x k) now_b.settled
-            ∙ settled_by-client_logs i k (legal_log_of_world size i s world) (rw frames (let it : tables_end F ≤ k = omega arith in it)) (rw frames (let it : k < frames_at F = omega arith in it))
+            logs_stay m now_b k (omega arith) (omega arith)
 
         pub Recovers-cleared : RecoversDevice size s fault a d
         Recovers-cleared = record {

@@ -15,13 +15,13 @@ use Rattle.pud_defs.specs.Image.{Image}
 use Rattle.pud_defs.specs.Layout.{tables_end, frames_at}
 use Rattle.pud_defs.specs.Entries.{log_of, is_idle_gate}
 use Rattle.pud_defs.specs.Tables.{tables_of}
-use Rattle.pud_defs.specs.Spaces.{owner_of}
+use Rattle.pud_defs.specs.Spaces.{owner_of, has_closed_logs}
 use Rattle.pud_defs.specs.Allowed.{is_accepted}
 use Rattle.pud_defs.specs.Settled.{gives_to, ALL_LOGS, client_of_log, log_number_at, given_by_log, is_refused_log, is_accepted_log, settled_over}
 use Rattle.pud_defs.specs.LogsTaken.{TakesLog, GivesNothingBelow}
 use Rattle.pud_defs.proofs.Spaces.{owner_of-same}
 use Rattle.pud_defs.proofs.TablesOf.{tables_of-same}
-use Rattle.pud_defs.proofs.LogsTaken.{beside_gate, below_logs, other_log, settled_same, refused_same, nothing_below_next}
+use Rattle.pud_defs.proofs.LogsTaken.{beside_gate, below_logs, other_log, settled_same, refused_same, nothing_below_next, logs_still_closed}
 use Rattle.log_replay.specs.Replaying.{IsNamed}
 use Rattle.recover.specs.Verdicts.{verdict_by, verdict_of}
 use Rattle.recover.specs.Turns.{IsOfLog, ByLog, IsOfLogs, ByLogs, TakesTurn, IsAlike, TakesTurns}
@@ -51,6 +51,7 @@ IsAlike-itself F image now same = record {
   below = λ k high. ap (λ (i : Image). i k) same;
   settled = ap (settled_over F) same;
   refused = λ number few. ap (λ (i : Image). is_refused_log F i number) same;
+  closed = λ client few was. ap (λ (i : Image). has_closed_logs i F client) same ∙ was;
 }
 
 -- ---- no log yet, and one more
@@ -87,6 +88,7 @@ module _ (F number : ℕ) (image : Image) (old mid : State) (known : number < AL
     below = λ k high. below_logs F number m other known takes k high ∙ alike_mid.below k high;
     settled = settled_same F number m other known takes (first.gone refl) ∙ alike_mid.settled;
     refused = λ n few. refused_same F number m other known takes n few ∙ alike_mid.refused n few;
+    closed = λ client few was. logs_still_closed F number m other known takes client few (alike_mid.closed client few was);
   }
 
   widened : (k v : ℕ) → ByLogs F number image k v → ByLogs F (number + 1) image k v

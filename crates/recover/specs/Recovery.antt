@@ -9,7 +9,7 @@ use Rattle.pud_defs.specs.Image.{Image}
 use Rattle.pud_defs.specs.Layout.{IsWithin}
 use Rattle.pud_defs.specs.Entries.{log_of, is_idle_gate}
 use Rattle.pud_defs.specs.Replay.{device_word, new_value, IsInLog, is_in_log, settled_by}
-use Rattle.pud_defs.specs.Spaces.{space_record_at}
+use Rattle.pud_defs.specs.Spaces.{space_record_at, has_closed_logs}
 use Rattle.pud_defs.specs.Settled.{ALL_LOGS, log_number_at, is_refused_log, is_accepted_log, is_in_logs, settled}
 use Rattle.pud_defs.specs.World.{StoredWorld, world_of}
 use Rattle.log_replay.specs.Replaying.{IsNamed}
@@ -41,12 +41,13 @@ ByRecovery F start k v =
     ⊎ IsWithin SPACE_TABLE PUDDLE_TABLE k))
 
 -- An image from which a start makes what it makes of another: it stands for the same world, but for the log-space table it settles to the same,
--- and no log of it is refused that is not refused of the other.
+-- no log of it is refused that is not refused of the other, and a client's logs that are closed in the other are closed in it.
 pub record StandsStill (size : ℕ) (s : StoredWorld) (start image : Image) : Type 0 where
   pub stands : world_of size image ≡ Some s
   pub settles : (k : ℕ) → (k < SPACE_TABLE) ⊎ (PUDDLE_TABLE ≤ k) → settled s.frames image k ≡ settled s.frames start k
   pub refused : (number : ℕ) → number < ALL_LOGS → is_refused_log s.frames (settled_by DAEMON_LOG image) number ≡ true
       → is_refused_log s.frames (settled_by DAEMON_LOG start) number ≡ true
+  pub closed : (client : ℕ) → client < CLIENTS → has_closed_logs start s.frames client ≡ true → has_closed_logs image s.frames client ≡ true
 
 -- A rested device that stands for a world was recovered: at each moment each image stands for it still. Without a fault no log is registered
 -- any more, each word beside the daemon log has one value, tables and frames read as the settled image, each log that was registered and

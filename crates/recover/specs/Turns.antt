@@ -4,9 +4,11 @@ use Rattle.pm_model.specs.declared.host.HostFault.{HostFault}
 use Rattle.pm_model.specs.Words.{reads, IsRested}
 use Rattle.pm_model.specs.Moments.{State}
 use Rattle.pm_model.specs.Changes.{Footprint, Changes, Leaves, Silently}
+use Rattle.pud_defs.specs.declared.layout.TheConstants.{CLIENTS}
 use Rattle.pud_defs.specs.Image.{Image}
 use Rattle.pud_defs.specs.Layout.{tables_end}
 use Rattle.pud_defs.specs.Entries.{log_of, is_idle_gate}
+use Rattle.pud_defs.specs.Spaces.{has_closed_logs}
 use Rattle.pud_defs.specs.Settled.{ALL_LOGS, log_number_at, given_by_log, is_refused_log, is_accepted_log, settled_over}
 use Rattle.pud_defs.specs.LogsTaken.{TakesLog, GivesNothingBelow}
 use Rattle.log_replay.specs.Replaying.{IsNamed}
@@ -38,11 +40,13 @@ pub record TakesTurn (F number : ℕ) (image : Image) (fault : Option HostFault)
   pub gone : fault ≡ None → (w : ℕ) → given_by_log F (reads new.now.words) number w ≡ None
   pub closed : fault ≡ None → is_accepted_log F image number ≡ true → is_idle_gate (reads new.now.words (log_number_at F number)) ≡ true
 
--- an image from which a start makes the same: below the clients' logs it is the same, it settles to the same, and the same logs are refused
+-- An image from which a start makes the same: below the clients' logs it is the same, it settles to the same, the same logs are refused, and where
+-- a client's logs were closed they are.
 pub record IsAlike (F : ℕ) (before image : Image) : Type 0 where
   pub below : (k : ℕ) → k < tables_end F → image k ≡ before k
   pub settled : settled_over F image ≡ settled_over F before
   pub refused : (number : ℕ) → number < ALL_LOGS → is_refused_log F image number ≡ is_refused_log F before number
+  pub closed : (client : ℕ) → client < CLIENTS → has_closed_logs before F client ≡ true → has_closed_logs image F client ≡ true
 
 -- The first logs of a rested device, which reads as this image, were replayed and closed in turn, those that are registered and allowed; nothing
 -- else changed. Without a fault the device is rested, and none of them gives anything any more; those behind them are as they were.

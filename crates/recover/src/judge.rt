@@ -13,7 +13,7 @@ ghost use Rattle.pud_defs.specs.Tables.{tables_of};
 ghost use Rattle.pud_defs.specs.Allowed.{may_write_record, may_write_puddle, is_allowed_entry};
 ghost use Rattle.pud_defs.specs.Settled.{ALL_LOGS};
 ghost use Rattle.log_entry.specs.Reading.{entry_from};
-ghost use Rattle.recover.specs.Verdicts.{owner_by_record, mark_for, verdict_of};
+ghost use Rattle.recover.specs.Verdicts.{owner_by_record, mark_for, verdict_of, is_refused_mark};
 
 use log_entry::{Entry, EntryReader, LogRange};
 use owner_modes::may_write;
@@ -41,8 +41,17 @@ pub enum Mark {
     Refused,
 }
 
+impl Mark {
+    /// Whether the log is refused.
+    pub fn is_refused(self) -> bool
+        ensures { result ≡ is_refused_mark self }
+    {
+        matches!(self, Mark::Refused)
+    }
+}
+
 /// How many logs there are.
-pub(crate) const LOGS: usize = (CLIENTS * CLIENT_LOGS) as usize;
+pub const LOGS: usize = (CLIENTS * CLIENT_LOGS) as usize;
 
 /// As whom a client's logs act, by the words of their record. On a device that is not sound they may have any value.
 #[derive(Clone, Copy)]

@@ -9,11 +9,11 @@ ghost use Rattle.pud_defs.specs.Image.{Image};
 ghost use Rattle.pud_defs.specs.Layout.{device_words};
 ghost use Rattle.pud_defs.specs.Replay.{settled_by};
 ghost use Rattle.pud_defs.specs.Registry.{frames_of};
-ghost use Rattle.pud_defs.specs.Settled.{ALL_LOGS};
+ghost use Rattle.pud_defs.specs.Settled.{ALL_LOGS, is_refused_log};
 ghost use Rattle.pud_defs.specs.World.{StoredWorld, world_of};
 ghost use Rattle.soundness.specs.Judging.{IsRoomFor};
 ghost use Rattle.log_replay.specs.Replaying.{Anything};
-ghost use Rattle.recover.specs.Verdicts.{verdict_of, mark_of};
+ghost use Rattle.recover.specs.Verdicts.{verdict_of, mark_of, is_refused_mark};
 ghost use Rattle.recover.specs.Turns.{TakesTurns};
 ghost use Rattle.recover.specs.Recovery.{recover_fault, RecoversDevice};
 
@@ -112,6 +112,9 @@ pub fn recover<H: Host>(h: &mut H) -> Result<Report, RecoverFault>
     ensures marks { H.tells → (image : Image) → reads (H.state h.old).now.words ≡ image
         → IfOk result (λ report. (number : ℕ) → number < ALL_LOGS
         → slice_index_or report.marks number Mark.Closed ≡ mark_of (verdict_of (frames_of image) (settled_by DAEMON_LOG image) number)) }
+    ensures refused { H.tells → (image : Image) → reads (H.state h.old).now.words ≡ image
+        → IfOk result (λ report. (number : ℕ) → number < ALL_LOGS
+        → is_refused_mark (slice_index_or report.marks number Mark.Closed) ≡ is_refused_log (frames_of image) (settled_by DAEMON_LOG image) number) }
     ensures frames { H.tells → IfOk result (λ report. report.frames ≡ frames_of (reads (H.state h.old).now.words)) }
     ensures room { IfOk result (λ report. IsRoomFor (H.counts h.old).size report.frames) }
     ensures any { H.tells → Changes Anything (recover_fault result) (H.state h.old) (H.state h.new) }

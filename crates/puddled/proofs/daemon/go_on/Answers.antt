@@ -1,18 +1,18 @@
-use Rattle.std.proofs.Common.{◌≡◌, ℕ, Some, Result, Ok, Err, refl, ap, subst, ◌∙◌}
+use Rattle.std.proofs.Common.{◌≡◌, ℕ, Some, Result, Err, refl, ap, subst, ◌∙◌}
 use Rattle.std.proofs.lemmas.Result.{err_from_is_err_and}
 use Rattle.pm_model.specs.declared.host.HostFault.{HostFault}
 use Rattle.pm_model.specs.declared.host.HostFault.TheVariants as hosts
 use Rattle.pm_model.specs.Words.{reads}
 use Rattle.pm_model.specs.Counts.{fault_of}
 use Rattle.puddled.specs.declared.answers.Answered.{Answered}
-use Rattle.pud_defs.specs.World.{world_of}
+use Rattle.pud_defs.specs.World.{world_of, closed}
+use Rattle.pud_defs.proofs.Idle.{world_of_idle}
 use Rattle.pud_defs.specs.Grammar.{command_of}
 use Rattle.puddled.specs.Memory.{Memory}
 use Rattle.puddled.specs.Daemon.{CarriesOut}
 use Rattle.puddled.specs.declared.daemon.StartFault.{StartFault}
 use Rattle.puddled.specs.Faults.{start_fault, kind_of, CountsCommand}
 use Rattle.puddled.proofs.Counted.{kind_done, kind_faulty, kind_restarted, kind_unstarted, no_power_lost}
-use Rattle.puddled.proofs.Restarts.{sound_recovered}
 use Rattle.puddled.proofs.Settling.{Settles-done, Settles-failed, Settles-again, Settles-unstarted, restart_sound, found_world, found_stands, found_shelf}
 use Rattle.puddled.proofs.daemon.go_on.Goals as goal
 
@@ -28,7 +28,7 @@ returns-in_err-daemon-in-Err-Cut-clause-settles g c = λ t size e w line counted
     (λ unsound.
     let none = (c.in_err-daemon-in-Err-Cut.ensures.not_sound t (ap (λ (f : StartFault). start_fault {T = Memory} (Err f)) unsound)).0 (ap Err unsound) in
     restart_sound size w _ line _ _ before mid k shelf (ap (λ (n : ℕ). world_of n (reads mid.now.words)) e ∙ none))
-    (c.in_err-daemon-in-Err-Cut.ensures.recovers t size e next (k.applies.rests refl) (found_stands size w _ line _ _ before mid k shelf) (found_shelf size w _ line _ _ before mid k shelf))
+    (c.in_err-daemon-in-Err-Cut.ensures.recovers t size e next (k.applies.rests refl) (world_of_idle size (reads mid.now.words) (closed next) (found_stands size w _ line _ _ before mid k shelf)) (found_shelf size w _ line _ _ before mid k shelf))
     c.in_err-daemon-in-Err-Cut.ensures.cause)
 
 pub returns-in_err-daemon-in-Err-Cut-clause-cause : goal.returns-in_err-daemon-in-Err-Cut-clause-cause
@@ -70,7 +70,7 @@ returns-in_ok-daemon-in-Err-Cut-clause-settles g c = λ t size e w line counted 
     let k = subst (λ (r : Result Answered HostFault). CarriesOut size w c.args.daemon.now (command_of line) r counted (g.H.Host.counts c.args.h.now) before mid) is carries in
     let next = found_world size w _ line _ _ before mid k shelf in
     rw c.reply_behind_loss.ensures (Settles-again size w _ line _ _ before mid k shelf _ _ _ (kind_of (Some c.args.command)) (ap kind_of of_line)
-    (c.in_ok-daemon-in-Err-Cut.ensures.recovers t size e next (k.applies.rests refl) (found_stands size w _ line _ _ before mid k shelf) (found_shelf size w _ line _ _ before mid k shelf))
+    (c.in_ok-daemon-in-Err-Cut.ensures.recovers t size e next (k.applies.rests refl) (world_of_idle size (reads mid.now.words) (closed next) (found_stands size w _ line _ _ before mid k shelf)) (found_shelf size w _ line _ _ before mid k shelf))
     c.in_ok-daemon-in-Err-Cut.ensures.cause)
 
 pub returns-in_ok-daemon-in-Err-Cut-clause-cause : goal.returns-in_ok-daemon-in-Err-Cut-clause-cause
@@ -81,8 +81,5 @@ returns-in_ok-daemon-in-Err-Cut-clause-cause g c = λ counted counts.
 
 pub returns-in_ok-daemon-in-Err-Cut-clause-restarted : goal.returns-in_ok-daemon-in-Err-Cut-clause-restarted
 returns-in_ok-daemon-in-Err-Cut-clause-restarted g c = λ t rested counted counts ok moved.
-    let mid = g.H.Host.state c.args.h.now in
     let is : c.args.done ≡ Err hosts.Cut = c.in-Err-Cut.is ∙ ap Err (rw c.in-Err-Cut.is at c.in-Err-Cut.field-0-is) in
-    sound_recovered (g.H.Host.counts c.args.h.now).size (Ok _) mid _ refl
-    (λ none. absurd (let it = (c.in_ok-daemon-in-Err-Cut.ensures.not_sound t refl).1 none in cc it))
-    (λ w world shelf. c.in_ok-daemon-in-Err-Cut.ensures.recovers t (g.H.Host.counts c.args.h.now).size refl w (rested (ap (λ (r : Result Answered HostFault). fault_of r) is)) world shelf)
+    c.in_ok-daemon-in-Err-Cut.ensures.sound t (rested (ap fault_of is))

@@ -4,6 +4,8 @@ use Rattle.pud_defs.specs.Settled.{ALL_LOGS}
 use Rattle.pud_defs.specs.Texts.{ready_text}
 use Rattle.pud_defs.specs.StartText.{refused_line}
 use Rattle.pud_defs.proofs.StartText.{first_lines, first_lines-none, first_lines-more, first_lines-all}
+use Rattle.recover.specs.declared.judge.Mark.TheVariants.{Closed}
+use Rattle.recover.specs.Verdicts.{is_refused_mark}
 use Rattle.puddled.proofs.starting.start_text.Goals as goal
 use Rattle.puddled.proofs.starting.start_text.Goals.{then-refused-number, else-refused-number}
 
@@ -13,7 +15,7 @@ loop-number-init c = record { lines = c.new-text.ensures ∙ sym (first_lines-no
 pub loop-number-preserved : goal.loop-number-preserved
 loop-number-preserved c =
     let n = c.loop-number.number in
-    let refused : ℕ → Bool = λ number. slice_index_or c.args.refused.now number false in
+    let refused : ℕ → Bool = λ number. is_refused_mark (slice_index_or c.args.marks.now number Closed) in
     elim c.if-refused-number.branch [
       | then-refused-number w ↦ record {
         lines = rw w.text-is (w.add_refused.ensures.line ∙ ap (λ (l : List ℕ). l ++ refused_line n) c.loop-number.invariant.lines
@@ -32,4 +34,4 @@ unfolding ready_text
 returns c =
     let last : c.loop-number.number ≡ ALL_LOGS = omega (arith, c.loop-number-test.false) in
     c.push_str.ensures.bytes ∙ ap (λ (l : List ℕ). l ++ ready_text)
-    (c.loop-number.invariant.lines ∙ ap (λ (n : ℕ). first_lines (λ number. slice_index_or c.args.refused.now number false) n) last ∙ first_lines-all _)
+    (c.loop-number.invariant.lines ∙ ap (λ (n : ℕ). first_lines (λ number. is_refused_mark (slice_index_or c.args.marks.now number Closed)) n) last ∙ first_lines-all _)

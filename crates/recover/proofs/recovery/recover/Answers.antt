@@ -16,8 +16,9 @@ use Rattle.registry.specs.declared.Geo.{Geo}
 use Rattle.registry.specs.declared.LoadFault.{LoadFault}
 use Rattle.registry.specs.declared.LoadFault.TheVariants.{NotSound}
 use Rattle.registry.specs.Registry.{load_fault}
-use Rattle.recover.specs.Verdicts.{verdict_of, mark_of}
+use Rattle.recover.specs.Verdicts.{verdict_of, mark_of, is_refused_mark}
 use Rattle.recover.specs.Turns.{TakesTurns}
+use Rattle.recover.proofs.Marks.{refused_as_marked}
 use Rattle.recover.proofs.Recovered.{Recovers-loaded, Recovers-logs, Recovers-cleared, HasIdleGate-logs, verdict_behind, frames_loaded}
 use Rattle.recover.proofs.recovery.recover.Goals as goal
 
@@ -100,6 +101,10 @@ returns-clause-marks g c = λ t image is number few.
     c.in_ok-marks.ensures.marks t (reads b.now.words) refl number few
     ∙ ap (λ (F : ℕ). mark_of (verdict_of F (reads b.now.words) number)) frames
     ∙ ap mark_of (verdict_behind (frames_of image) a b number (c.in_ok-geo.ensures.settles t (λ e. cc)) few ∙ ap (λ (i : Image). verdict_of (frames_of image) (settled_by DAEMON_LOG i) number) is)
+
+pub returns-clause-refused : goal.returns-clause-refused
+returns-clause-refused g c = λ t image is number few.
+    ap is_refused_mark (returns-clause-marks g c t image is number few) ∙ sym (refused_as_marked (frames_of image) (settled_by DAEMON_LOG image) number)
 
 pub returns-clause-any : goal.returns-clause-any
 returns-clause-any g c = λ t.

@@ -28,13 +28,13 @@ returns-in_err-daemon-clause-starts g c =
 pub returns-in_err-say_start-clause-starts : goal.returns-in_err-say_start-clause-starts
 returns-in_err-say_start-clause-starts g c =
     let p = err_from_is_err_and c.from_residual-in_err-say_start.result c.from_residual-in_err-say_start.ensures.1 in
-    rw (p.1, p.2) (λ t size same w rested world shelf. Starts-says size w _ (Err (starts.Host c.in_err-say_start.field-0.0)) _ _ _ (c.in_ok-daemon.ensures.recovers t size same w rested world shelf) (c.in_err-say_start.ensures.says t _ (c.in_ok-daemon.ensures.verdicts t)) tt)
+    rw (p.1, p.2) (λ t size same w rested world shelf. Starts-says size w _ (Err (starts.Host c.in_err-say_start.field-0.0)) _ _ _ (c.in_ok-daemon.ensures.recovers t size same w rested world shelf) (c.in_err-say_start.ensures.says t _ (c.in_ok-daemon.ensures.marks t)) tt)
 
 pub returns-clause-starts : goal.returns-clause-starts
-returns-clause-starts g c = λ t size same w rested world shelf. Starts-says size w _ (Ok _) _ _ _ (c.in_ok-daemon.ensures.recovers t size same w rested world shelf) (c.in_ok-say_start.ensures.says t _ (c.in_ok-daemon.ensures.verdicts t)) refl
+returns-clause-starts g c = λ t size same w rested world shelf. Starts-says size w _ (Ok _) _ _ _ (c.in_ok-daemon.ensures.recovers t size same w rested world shelf) (c.in_ok-say_start.ensures.says t _ (c.in_ok-daemon.ensures.marks t)) refl
 
 pub returns-in_err-say_start-clause-rest : goal.returns-in_err-say_start-clause-rest
-returns-in_err-say_start-clause-rest g c = λ t. KeepsRest-says _ _ _ _ _ (c.in_ok-daemon.ensures.rest t) (c.in_err-say_start.ensures.says t _ (c.in_ok-daemon.ensures.verdicts t))
+returns-in_err-say_start-clause-rest g c = λ t. KeepsRest-says _ _ _ _ _ (c.in_ok-daemon.ensures.rest t) (c.in_err-say_start.ensures.says t _ (c.in_ok-daemon.ensures.marks t))
 
 -- ---- what the order of the two calls leaves of the first one's clauses
 
@@ -58,7 +58,7 @@ pub returns-in_err-daemon-clause-rest : goal.returns-in_err-daemon-clause-rest
 returns-in_err-daemon-clause-rest g c = c.in_err-daemon.ensures.rest
 
 pub returns-clause-rest : goal.returns-clause-rest
-returns-clause-rest g c = λ t. KeepsRest-says _ _ _ _ _ (c.in_ok-daemon.ensures.rest t) (c.in_ok-say_start.ensures.says t _ (c.in_ok-daemon.ensures.verdicts t))
+returns-clause-rest g c = λ t. KeepsRest-says _ _ _ _ _ (c.in_ok-daemon.ensures.rest t) (c.in_ok-say_start.ensures.says t _ (c.in_ok-daemon.ensures.marks t))
 
 pub returns-in_err-daemon-clause-cause : goal.returns-in_err-daemon-clause-cause
 returns-in_err-daemon-clause-cause g c =
@@ -78,17 +78,17 @@ returns-clause-cause g c = c.in_ok-say_start.ensures.cause ∙ c.in_ok-daemon.en
 pub returns-in_err-say_start-clause-says : goal.returns-in_err-say_start-clause-says
 returns-in_err-say_start-clause-says g c =
     let p = err_from_is_err_and c.from_residual-in_err-say_start.result c.from_residual-in_err-say_start.ensures.1 in
-    rw (p.1, p.2) (λ t sound. SaysPart-behind _ _ _ _ _ (c.in_ok-daemon.ensures.quiet t) (c.in_err-say_start.ensures.says t _ (c.in_ok-daemon.ensures.verdicts t)))
+    rw (p.1, p.2) (λ t sound. SaysPart-behind _ _ _ _ _ (c.in_ok-daemon.ensures.quiet t) (c.in_err-say_start.ensures.says t _ (c.in_ok-daemon.ensures.marks t)))
 
 pub returns-clause-says : goal.returns-clause-says
-returns-clause-says g c = λ t sound. SaysPart-behind _ _ _ _ _ (c.in_ok-daemon.ensures.quiet t) (c.in_ok-say_start.ensures.says t _ (c.in_ok-daemon.ensures.verdicts t))
+returns-clause-says g c = λ t sound. SaysPart-behind _ _ _ _ _ (c.in_ok-daemon.ensures.quiet t) (c.in_ok-say_start.ensures.says t _ (c.in_ok-daemon.ensures.marks t))
 
 pub returns-clause-replays : goal.returns-clause-replays
-returns-clause-replays g c = λ t.
-    let words = words_said _ _ _ _ (c.in_ok-say_start.ensures.says t _ (c.in_ok-daemon.ensures.verdicts t)) in
-    subst (λ (x : Words). IsReplayed (reads (g.H.Host.state c.args.h.now).now.words) (reads x)) (sym words) (c.in_ok-daemon.ensures.replays t)
+returns-clause-replays g c = λ t rested.
+    let words = words_said _ _ _ _ (c.in_ok-say_start.ensures.says t _ (c.in_ok-daemon.ensures.marks t)) in
+    subst (λ (x : Words). IsReplayed (reads (g.H.Host.state c.args.h.now).now.words) (reads x)) (sym words) (c.in_ok-daemon.ensures.replays t rested)
 
 pub returns-clause-frames : goal.returns-clause-frames
-returns-clause-frames g c = λ t.
-    let words = words_said _ _ _ _ (c.in_ok-say_start.ensures.says t _ (c.in_ok-daemon.ensures.verdicts t)) in
-    c.in_ok-daemon.ensures.frames t ∙ ap (λ (x : Words). frames_of (reads x)) (sym words)
+returns-clause-frames g c = λ t rested.
+    let words = words_said _ _ _ _ (c.in_ok-say_start.ensures.says t _ (c.in_ok-daemon.ensures.marks t)) in
+    c.in_ok-daemon.ensures.frames t rested ∙ ap (λ (x : Words). frames_of (reads x)) (sym words)

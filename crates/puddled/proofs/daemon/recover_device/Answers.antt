@@ -1,0 +1,21 @@
+use Rattle.std.proofs.Common.{◌≡◌, ℕ, Err, refl, sym, ap, ◌∙◌}
+use Rattle.std.proofs.lemmas.Result.{err_from_is_err_and}
+use Rattle.pm_model.specs.Words.{reads}
+use Rattle.pm_model.proofs.Changes.{Changes-said}
+use Rattle.pud_defs.specs.World.{world_of, closed}
+use Rattle.puddled.proofs.Restarts.{fault_of_recover, recovery_fault_is, recovered, KeepsRest-any, Recovers-done, Recovers-failed, sound_recovery, recovered_any}
+use Rattle.puddled.proofs.daemon.recover_device.Goals as goal
+
+pub returns-in_err-report-clause-recovers : goal.returns-in_err-report-clause-recovers
+returns-in_err-report-clause-recovers g c =
+    let p = err_from_is_err_and c.from_residual.result c.from_residual.ensures.1 in
+    rw (p.1, p.2) (λ t size same w rested world shelf.
+    let a = g.H.Host.state c.args.h.now in
+    let fault = c.in_err-report.field-0.0 in
+    let here = ap (λ (n : ℕ). world_of n (reads a.now.words)) (sym same) ∙ world in
+    Recovers-failed size w a (g.H.Host.state c.recover.new.h) fault (sound_recovery _ w fault a here (c.in_err-report.ensures.not_sound t)) world
+    (c.in_err-report.ensures.recovers t size same (closed w) rested world))
+
+pub returns-clause-recovers : goal.returns-clause-recovers
+returns-clause-recovers g c = λ t size same w rested world shelf.
+    Recovers-done size w (g.H.Host.state c.args.h.now) (g.H.Host.state c.recover.new.h) _ world (c.in_ok-report.ensures.frames t) shelf (c.in_ok-report.ensures.recovers t size same (closed w) rested world)
