@@ -1,5 +1,6 @@
 -- What the modes show that start and then say what the device holds.
-use Rattle.std.proofs.Common.{◌≡◌, ◌⊎◌, inl, inr, ℕ, ◌+◌, ◌<◌, ◌≤◌, List, ◌++◌, ◌↔◌, Option, Some, None, Result, Ok, Err, nat_cmp, refl, sym, ap, ap₂, subst, ◌∙◌, arith, append_assoc}
+use Rattle.std.proofs.Common.{◌≡◌, ◌⊎◌, inl, inr, ⊎_elim, Bool, true, false, ◌&&◌, leb, ltb, ℕ, ◌+◌, ◌<◌, ◌≤◌, List, ◌++◌, ◌↔◌, Option, Some, None, Result, Ok, Err, nat_cmp, refl, sym, ap, ap₂, subst, ◌∙◌, arith, append_assoc}
+use Rattle.std.proofs.lemmas.Bool.{lt-leb, le-ltb}
 use Rattle.std.proofs.lemmas.List.{append-nil}
 use Rattle.pm_model.specs.declared.host.HostFault.{HostFault}
 use Rattle.pm_model.specs.Words.{reads}
@@ -9,7 +10,8 @@ use Rattle.pm_model.specs.Changes.{Leaves}
 use Rattle.pm_model.proofs.Leaves.{Leaves-then, Leaves-weaker, Leaves-says}
 use Rattle.pud_defs.specs.declared.layout.TheConstants.{DAEMON_LOG, MACHINE_WORD, FRAMES_WORD, NEXT_NUMBER_WORD, TYPE_TABLE, TYPE_RECORDS, SPACE_TABLE, PUDDLE_TABLE}
 use Rattle.pud_defs.specs.Image.{Image}
-use Rattle.pud_defs.specs.Replay.{settled_by}
+use Rattle.pud_defs.specs.Layout.{tables_end, frames_at}
+use Rattle.pud_defs.specs.Settled.{is_in_logs, settled}
 use Rattle.pud_defs.specs.Registry.{frames_of}
 use Rattle.pud_defs.specs.Types.{type_record_at, type_at, types_of}
 use Rattle.pud_defs.specs.Tables.{Tables, tables_of}
@@ -23,8 +25,8 @@ use Rattle.pud_defs.proofs.TypeTable.{type_at-same}
 use Rattle.pud_defs.proofs.TablesOf.{tables_of-same}
 use Rattle.pud_defs.proofs.Held.{pools_in-same, frame_among}
 use Rattle.pud_defs.proofs.SoundChanged.{sound_from}
-use Rattle.pud_defs.proofs.Parts.Part.{Header, Pools}
-use Rattle.pud_defs.proofs.Worlds.{standing_of_world}
+use Rattle.pud_defs.proofs.Parts.{HoldsWorld}
+use Rattle.pud_defs.proofs.Worlds.{holding_of_world, frames_of_world}
 use Rattle.puddled.specs.declared.daemon.StartFault.{StartFault}
 use Rattle.puddled.specs.declared.daemon.StartFault.TheVariants as starts
 use Rattle.puddled.specs.Memory.{Memory}
@@ -34,53 +36,66 @@ use Rattle.puddle_cli.specs.declared.show.View.{View}
 use Rattle.puddle_cli.specs.declared.show.View.TheVariants.{Layout, Check}
 use Rattle.puddle_cli.specs.Views.{text_of}
 
--- ---- what the device reads behind the start is laid out as what it read with its daemon log replayed
+-- ---- what the device reads behind the start is laid out as the settled image of what it read
 
-module _ (before now : Image) (r : IsReplayed before now) where
-  low_word : (k : ℕ) → k < DAEMON_LOG → now k ≡ settled_by DAEMON_LOG before k
-  low_word k low = r.each k (outside_log DAEMON_LOG k (inl low)) (inl (omega arith))
+beside_logs : (F k : ℕ) → (k < tables_end F) ⊎ (frames_at F ≤ k) → is_in_logs F k ≡ false
+beside_logs F k (inl below) = ap (λ (b : Bool). b && ltb k (frames_at F)) (lt-leb (tables_end F) k below)
+beside_logs F k (inr above) = elim (leb (tables_end F) k) as (λ b. (b && ltb k (frames_at F)) ≡ false) [ true ↦ le-ltb k (frames_at F) above | false ↦ refl ]
 
-  tables_replayed : tables_of (now FRAMES_WORD) now ≡ tables_of (settled_by DAEMON_LOG before FRAMES_WORD) (settled_by DAEMON_LOG before)
+module _ (size : ℕ) (s : StoredWorld) (before now : Image) (world : world_of size before ≡ Some s) (r : IsReplayed before now) where
+  abbrev after : Image
+  after = settled (frames_of before) before
+
+  held : HoldsWorld size after s
+  held = holding_of_world size before s world
+
+  frames_after : after FRAMES_WORD ≡ frames_of before
+  frames_after = held.header.frames ∙ sym (frames_of_world size before s world)
+
+  read : (k : ℕ) → (k < DAEMON_LOG) ⊎ (TYPE_TABLE ≤ k) → (k < SPACE_TABLE) ⊎ (PUDDLE_TABLE ≤ k) → (k < tables_end (after FRAMES_WORD)) ⊎ (frames_at (after FRAMES_WORD) ≤ k) → now k ≡ after k
+  read k beside spaces logs =
+      r.each k (outside_log DAEMON_LOG k (⊎_elim (λ low. inl low) (λ high. inr (omega arith)) beside)) (beside_logs (frames_of before) k (subst (λ (F : ℕ). (k < tables_end F) ⊎ (frames_at F ≤ k)) frames_after logs)) spaces
+
+  low_word : (k : ℕ) → k < DAEMON_LOG → now k ≡ after k
+  low_word k low = read k (inl low) (inl (omega arith)) (inl (omega arith))
+
+  tables_replayed : tables_of (now FRAMES_WORD) now ≡ tables_of (after FRAMES_WORD) after
   tables_replayed =
       ap (λ (F : ℕ). tables_of F now) (low_word FRAMES_WORD (omega arith))
-      ∙ tables_of-same (settled_by DAEMON_LOG before FRAMES_WORD) now (settled_by DAEMON_LOG before)
-      (λ k low high. r.each k (outside_log DAEMON_LOG k (inr (omega arith))) (inl high))
-      (λ k low high. r.each k (outside_log DAEMON_LOG k (inr (omega arith))) (inr low))
+      ∙ tables_of-same (after FRAMES_WORD) now after
+      (λ k low high. read k (inr (omega arith)) (inl high) (inl (omega arith)))
+      (λ k low high. read k (inr (omega arith)) (inr low) (inl high))
 
-  layout_text-replayed : layout_text now ≡ layout_text (settled_by DAEMON_LOG before)
+  layout_text-replayed : layout_text now ≡ layout_text after
   layout_text-replayed =
       ap (λ (id : ℕ). tables_text id (now NEXT_NUMBER_WORD) (tables_of (now FRAMES_WORD) now)) (low_word MACHINE_WORD (omega arith))
-      ∙ ap (λ (next : ℕ). tables_text (settled_by DAEMON_LOG before MACHINE_WORD) next (tables_of (now FRAMES_WORD) now)) (low_word NEXT_NUMBER_WORD (omega arith))
-      ∙ ap (λ (t : Tables). tables_text (settled_by DAEMON_LOG before MACHINE_WORD) (settled_by DAEMON_LOG before NEXT_NUMBER_WORD) t) tables_replayed
+      ∙ ap (λ (next : ℕ). tables_text (after MACHINE_WORD) next (tables_of (now FRAMES_WORD) now)) (low_word NEXT_NUMBER_WORD (omega arith))
+      ∙ ap (λ (t : Tables). tables_text (after MACHINE_WORD) (after NEXT_NUMBER_WORD) t) tables_replayed
 
   -- and stands for the same
-  stored_replayed : stored_by now ≡ stored_by (settled_by DAEMON_LOG before)
+  stored_replayed : stored_by now ≡ stored_by after
   unfolding stored_by
   stored_replayed =
-      let after = settled_by DAEMON_LOG before in
       let F = after FRAMES_WORD in
       let frames = low_word FRAMES_WORD (omega arith) in
-      let behind : (k : ℕ) → TYPE_TABLE ≤ k → (k < SPACE_TABLE) ⊎ (PUDDLE_TABLE ≤ k) → now k ≡ after k = λ k low apart. r.each k (outside_log DAEMON_LOG k (inr (omega arith))) apart in
       let types : types_of now ≡ types_of after = keyed-same nat_cmp (type_at now) (type_at after) 0 TYPE_RECORDS
-      (λ n low high. type_at-same after now n (behind (type_record_at n) (omega arith) (inl (omega arith))) (behind (type_record_at n + 1) (omega arith) (inl (omega arith)))) in
-      let tables : tables_of F now ≡ tables_of F after = tables_of-same F now after (λ k low high. behind k (omega arith) (inl high)) (λ k low high. behind k (omega arith) (inr low)) in
+      (λ n low high. type_at-same after now n (read (type_record_at n) (inr (omega arith)) (inl (omega arith)) (inl (omega arith))) (read (type_record_at n + 1) (inr (omega arith)) (inl (omega arith)) (inl (omega arith)))) in
+      let tables : tables_of F now ≡ tables_of F after = tables_of-same F now after (λ k low high. read k (inr (omega arith)) (inl high) (inl (omega arith))) (λ k low high. read k (inr (omega arith)) (inr low) (inl high)) in
       let pools : pools_in (types_of now) (now FRAMES_WORD) now ≡ pools_in (types_of after) F after =
       ap₂ (λ (ts : List (ℕ × ℕ)) (n : ℕ). pools_in ts n now) types frames
-      ∙ pools_in-same (types_of after) F after now tables (λ frame below used. frame_among F frame after now below (λ k low high. behind k (omega arith) (inr (omega arith)))) in
+      ∙ pools_in-same (types_of after) F after now tables (λ frame below used. frame_among F frame after now below (λ k low high. read k (inr (omega arith)) (inr (omega arith)) (inr low))) in
       λ p. record { frames = frames p; machine = low_word MACHINE_WORD (omega arith) p; next_number = low_word NEXT_NUMBER_WORD (omega arith) p; types = types p; pools = pools p }
 
   -- so each view shows the same
-  pub text_of-replayed : (view : View) → text_of view now ≡ text_of view (settled_by DAEMON_LOG before)
+  pub text_of-replayed : (view : View) → text_of view now ≡ text_of view after
   text_of-replayed Layout = layout_text-replayed
   text_of-replayed Check = ap check_text stored_replayed
 
-  -- and its tables are sound, if it stood for a world
-  pub sound_replayed : (size : ℕ) (s : StoredWorld) → world_of size before ≡ Some s → HasSoundTables s.next_number (tables_of (now FRAMES_WORD) now)
-  sound_replayed size s world =
-      let h = standing_of_world size before s world in
-      let frames : settled_by DAEMON_LOG before FRAMES_WORD ≡ s.frames = (h.holds Header).frames in
-      let same : tables_of (now FRAMES_WORD) now ≡ tables_of s.frames (settled_by DAEMON_LOG before) = tables_replayed ∙ ap (λ (F : ℕ). tables_of F (settled_by DAEMON_LOG before)) frames in
-      sound_from s.next_number (tables_of (now FRAMES_WORD) now) (ap (are_sound_tables s.next_number) same ∙ (h.holds Pools).sound)
+  -- and its tables are sound
+  pub sound_replayed : HasSoundTables s.next_number (tables_of (now FRAMES_WORD) now)
+  sound_replayed =
+      let same : tables_of (now FRAMES_WORD) now ≡ tables_of s.frames after = tables_replayed ∙ ap (λ (F : ℕ). tables_of F after) held.header.frames in
+      sound_from s.next_number (tables_of (now FRAMES_WORD) now) (ap (are_sound_tables s.next_number) same ∙ held.pools.sound)
 
 -- a device stands for a world, if it does not stand for none
 world_there : (size : ℕ) (image : Image) (o : Option StoredWorld) → world_of size image ≡ o → (o ≡ None → ⊥) → (s : StoredWorld) × (world_of size image ≡ Some s)
@@ -96,11 +111,18 @@ not_refused size image exact none = let no = exact.1 none in cc
 -- what the view shows, as the daemon's frames tell
 pub shown : (size F : ℕ) (view : View) (old mid new : State) (fault : Option HostFault) → (world_of size (reads old.now.words) ≡ None → ⊥) → IsReplayed (reads old.now.words) (reads mid.now.words) → F ≡ frames_of (reads mid.now.words)
     → ((next : ℕ) → HasSoundTables next (tables_of F (reads mid.now.words)) → F ≡ frames_of (reads mid.now.words) → Says (text_of view (reads mid.now.words)) fault mid new)
-    → Says (text_of view (settled_by DAEMON_LOG (reads old.now.words))) fault mid new
+    → Says (text_of view (settled (frames_of (reads old.now.words)) (reads old.now.words))) fault mid new
 shown size F view old mid new fault sound replayed frames says =
     let there = world_there size (reads old.now.words) _ refl sound in
-    let tables = subst (λ (n : ℕ). HasSoundTables there.0.next_number (tables_of n (reads mid.now.words))) (sym frames) (sound_replayed (reads old.now.words) (reads mid.now.words) replayed size there.0 there.1) in
-    subst (λ (text : List ℕ). Says text fault mid new) (text_of-replayed (reads old.now.words) (reads mid.now.words) replayed view) (says there.0.next_number tables frames)
+    let tables = subst (λ (n : ℕ). HasSoundTables there.0.next_number (tables_of n (reads mid.now.words))) (sym frames) (sound_replayed size there.0 (reads old.now.words) (reads mid.now.words) there.1 replayed) in
+    subst (λ (text : List ℕ). Says text fault mid new) (text_of-replayed size there.0 (reads old.now.words) (reads mid.now.words) there.1 replayed view) (says there.0.next_number tables frames)
+
+-- the text of what it reads is that of the settled image
+pub shown_in_the_end : (size : ℕ) (view : View) (old mid : State) → (world_of size (reads old.now.words) ≡ None → ⊥) → IsReplayed (reads old.now.words) (reads mid.now.words)
+    → text_of view (reads mid.now.words) ≡ text_of view (settled (frames_of (reads old.now.words)) (reads old.now.words))
+shown_in_the_end size view old mid sound replayed =
+    let there = world_there size (reads old.now.words) _ refl sound in
+    text_of-replayed size there.0 (reads old.now.words) (reads mid.now.words) there.1 replayed view
 
 -- the start's text was said whole, and then this one, or a part of it
 pub SaysPart-started : (start text : List ℕ) (fault : Option HostFault) (old mid new : State) → SaysPart {Fault = HostFault} start None old mid → Says text fault mid new → SaysPart (start ++ text) fault old new

@@ -4,9 +4,9 @@ use Rattle.pm_model.specs.Words.{IsRested, reads}
 use Rattle.pm_model.specs.Moments.{State}
 use Rattle.pm_model.specs.Counts.{Counts, Rose, after_fault}
 use Rattle.pm_model.specs.Changes.{Leaves}
-use Rattle.pud_defs.specs.declared.layout.TheConstants.{DAEMON_LOG}
 use Rattle.pud_defs.specs.Image.{Image}
-use Rattle.pud_defs.specs.Replay.{settled_by}
+use Rattle.pud_defs.specs.Settled.{settled}
+use Rattle.pud_defs.specs.Registry.{frames_of}
 use Rattle.pud_defs.specs.StartText.{start_text}
 use Rattle.pud_defs.specs.World.{StoredWorld, World, no_clients, world_of, closed}
 use Rattle.puddled.specs.Daemon.{KeepsRest, SaysPart}
@@ -48,15 +48,15 @@ pub record RunsScript (status : ℕ) (before after : Counts) (old new : State) :
       → world_of before.size (reads old.now.words) ≡ Some (closed w) → Headline before.size w status before after old new
 
 -- A mode that starts and then says what the device holds, as a text of an image. Whatever the device holds, it is refused exactly where that is
--- not sound, and the device then stays; where it is sound and neither count rose, the mode is done. But where it is refused the start text is said
--- and then the text of what the device reads once its daemon log is replayed, with a fault a part of both; and that is the text of what it reads
--- in the end. Each image left at any moment by a rested device stands for what it stood for.
+-- not sound, and the device then stays; where it is sound and neither count rose, the mode is done. On a device that is rested, but where it is
+-- refused, the start text is said and then the text of the settled image of what the device read, with a fault a part of both; that is the text of
+-- what it reads in the end, and each image left at any moment stands for what it stood for.
 pub record Shows (text : Image → List ℕ) (status : ℕ) (before after : Counts) (old new : State) : Type 0 where
   pub not_usable : status_fault status ≡ None → (status ≡ NOT_USABLE) ↔ (world_of before.size (reads old.now.words) ≡ None)
   pub stays : status ≡ NOT_USABLE → new ≡ old
   pub completes : world_of before.size (reads old.now.words) ≢ None → NoneRose before after → status ≡ DONE
-  pub says : status ≢ NOT_USABLE → SaysPart (start_text (reads old.now.words) ++ text (settled_by DAEMON_LOG (reads old.now.words))) (status_fault status) old new
-  pub in_the_end : status ≡ DONE → text (reads new.now.words) ≡ text (settled_by DAEMON_LOG (reads old.now.words))
+  pub says : IsRested old.now.words → status ≢ NOT_USABLE → SaysPart (start_text (reads old.now.words) ++ text (settled (frames_of (reads old.now.words)) (reads old.now.words))) (status_fault status) old new
+  pub in_the_end : IsRested old.now.words → status ≡ DONE → text (reads new.now.words) ≡ text (settled (frames_of (reads old.now.words)) (reads old.now.words))
   pub moments : IsRested old.now.words → (s : StoredWorld) → world_of before.size (reads old.now.words) ≡ Some s → Leaves (λ bytes image. world_of before.size image ≡ Some s) old new
   pub rest : KeepsRest old new
 

@@ -4,11 +4,11 @@ ghost use Rattle.pm_model.specs.Words.{IsRested, reads};
 ghost use Rattle.pm_model.specs.Counts.{after_fault, fault_of};
 ghost use Rattle.pm_model.specs.Calls.{Says};
 ghost use Rattle.pm_model.specs.Changes.{Leaves};
-ghost use Rattle.pud_defs.specs.declared.layout.TheConstants.{DAEMON_LOG, MAX_FRAMES};
+ghost use Rattle.pud_defs.specs.declared.layout.TheConstants.{MAX_FRAMES};
 ghost use Rattle.pud_defs.specs.Image.{Image};
 ghost use Rattle.pud_defs.specs.Layout.{device_words};
 ghost use Rattle.pud_defs.specs.Registry.{frames_of};
-ghost use Rattle.pud_defs.specs.Replay.{settled_by};
+ghost use Rattle.pud_defs.specs.Settled.{settled};
 ghost use Rattle.pud_defs.specs.SoundTables.{HasSoundTables};
 ghost use Rattle.pud_defs.specs.Tables.{tables_of};
 ghost use Rattle.pud_defs.specs.StartText.{start_text};
@@ -52,10 +52,10 @@ fn start_and_say<H: Host>(h: &mut H, view: View) -> Result<(), StartFault>
     ensures not_sound { H.tells → start_fault result ≡ Option.None
         → (result ≡ Result.Err StartFault.NotSound) ↔ (world_of (H.counts h.old).size (reads (H.state h.old).now.words) ≡ Option.None) }
     ensures unchanged { H.tells → result ≡ Result.Err StartFault.NotSound → H.state h.new ≡ H.state h.old }
-    ensures says { H.tells → result ≢ Result.Err StartFault.NotSound
-        → SaysPart (start_text (reads (H.state h.old).now.words) ++ text_of view (settled_by DAEMON_LOG (reads (H.state h.old).now.words))) (start_fault result) (H.state h.old) (H.state h.new) }
-    ensures in_the_end { H.tells → IsOk result
-        → text_of view (reads (H.state h.new).now.words) ≡ text_of view (settled_by DAEMON_LOG (reads (H.state h.old).now.words)) }
+    ensures says { H.tells → IsRested (H.state h.old).now.words → result ≢ Result.Err StartFault.NotSound
+        → SaysPart (start_text (reads (H.state h.old).now.words) ++ text_of view (settled (frames_of (reads (H.state h.old).now.words)) (reads (H.state h.old).now.words))) (start_fault result) (H.state h.old) (H.state h.new) }
+    ensures in_the_end { H.tells → IsRested (H.state h.old).now.words → IsOk result
+        → text_of view (reads (H.state h.new).now.words) ≡ text_of view (settled (frames_of (reads (H.state h.old).now.words)) (reads (H.state h.old).now.words)) }
     ensures moments { H.tells → (size : ℕ) → size ≡ (H.counts h.old).size → IsRested (H.state h.old).now.words → (s : StoredWorld)
         → world_of size (reads (H.state h.old).now.words) ≡ Option.Some s → Leaves (λ bytes image. world_of size image ≡ Option.Some s) (H.state h.old) (H.state h.new) }
     ensures rest { H.tells → KeepsRest (H.state h.old) (H.state h.new) }
@@ -73,10 +73,10 @@ pub fn show<H: Host>(h: &mut H, view: View) -> u8
     ensures not_usable { H.tells → status_fault result ≡ Option.None
         → (result ≡ NOT_USABLE) ↔ (world_of (H.counts h.old).size (reads (H.state h.old).now.words) ≡ Option.None) }
     ensures unchanged { H.tells → result ≡ NOT_USABLE → H.state h.new ≡ H.state h.old }
-    ensures says { H.tells → result ≢ NOT_USABLE
-        → SaysPart (start_text (reads (H.state h.old).now.words) ++ text_of view (settled_by DAEMON_LOG (reads (H.state h.old).now.words))) (status_fault result) (H.state h.old) (H.state h.new) }
-    ensures in_the_end { H.tells → result ≡ DONE
-        → text_of view (reads (H.state h.new).now.words) ≡ text_of view (settled_by DAEMON_LOG (reads (H.state h.old).now.words)) }
+    ensures says { H.tells → IsRested (H.state h.old).now.words → result ≢ NOT_USABLE
+        → SaysPart (start_text (reads (H.state h.old).now.words) ++ text_of view (settled (frames_of (reads (H.state h.old).now.words)) (reads (H.state h.old).now.words))) (status_fault result) (H.state h.old) (H.state h.new) }
+    ensures in_the_end { H.tells → IsRested (H.state h.old).now.words → result ≡ DONE
+        → text_of view (reads (H.state h.new).now.words) ≡ text_of view (settled (frames_of (reads (H.state h.old).now.words)) (reads (H.state h.old).now.words)) }
     ensures moments { H.tells → (size : ℕ) → size ≡ (H.counts h.old).size → IsRested (H.state h.old).now.words → (s : StoredWorld)
         → world_of size (reads (H.state h.old).now.words) ≡ Option.Some s → Leaves (λ bytes image. world_of size image ≡ Option.Some s) (H.state h.old) (H.state h.new) }
     ensures rest { H.tells → KeepsRest (H.state h.old) (H.state h.new) }

@@ -31,7 +31,7 @@ use Rattle.puddled.specs.Answered.{answer_of, said_text}
 use Rattle.puddled.specs.declared.daemon.StartFault.{StartFault}
 use Rattle.puddled.specs.declared.daemon.StartFault.TheVariants as starts
 use Rattle.puddled.specs.Faults.{start_fault, run_fault, CountsLine}
-use Rattle.puddled.specs.Daemon.{KeepsRest, KeepsLine, IsReady, IsPart, SaysPart, IsClosedIfFree, ClosesLogs, Recovers, Settles, Starts, spoken, Answers}
+use Rattle.puddled.specs.Daemon.{KeepsRest, KeepsLine, IsReady, IsPart, SaysPart, IsClosedIfFree, ClosesLogs, RefusesNone, Recovers, Settles, Starts, spoken, Answers}
 use Rattle.puddled.proofs.Listed.{said_when_ready}
 use Rattle.puddled.proofs.Settling.{Between}
 use Rattle.puddled.proofs.Carrying.{KeepsLine-then}
@@ -130,6 +130,7 @@ Answers-fault size w memory line aloud fault before after old new s =
       moments = silent_moments size w s.turn old new s.moments;
       says = record { bytes = []; rest = spoken aloud s.turn.answer; part = refl; said = s.quiet ∙ sym (append-nil old.now.said); whole = λ no. absurd (cc) };
       closes = s.closes;
+      allowed = s.allowed;
       ready = s.ready;
       counted = s.counted;
       sound = s.sound;
@@ -148,6 +149,7 @@ Answers-unsaid size w memory line answered ok before after old new s is =
       moments = silent_moments size w s.turn old new s.moments;
       says = record { bytes = []; rest = []; part = refl; said = s.quiet ∙ sym (append-nil old.now.said); whole = λ _. refl };
       closes = s.closes;
+      allowed = s.allowed;
       ready = s.ready;
       counted = s.counted;
       sound = λ no. cc;
@@ -198,6 +200,13 @@ module _ (size : ℕ) (w : World) (memory : Memory) (line : List ℕ) (answered 
         (Leaves-says text fault P mid new (λ front image prefix picked. Leaves-now P [] old mid said settled image picked) says);
   }
 
+  allowed_said : (text : List ℕ) (fault : Option HostFault) → Says text fault mid new → Leaves (λ bytes image. RefusesNone image) old new
+  allowed_said text fault says =
+      let P : List ℕ → Image → Type 0 = λ bytes image. RefusesNone image in
+      let said = s.quiet ∙ sym (append-nil old.now.said) in
+      Leaves-then P P P [] old mid new said (λ front image m. m) (λ more image m. m) s.allowed
+      (Leaves-says text fault P mid new (λ front image prefix picked. Leaves-now P [] old mid said s.allowed image picked) says)
+
   -- what is said of a ready device is the text of the answer
   text_is : (fault : Option HostFault) → Says (said_text memory.frames (reads mid.now.words) answered) fault mid new → Says (answer_text s.turn.answer) fault mid new
   text_is fault says = subst (λ (text : List ℕ). Says text fault mid new) (said_when_ready size s.turn.next memory mid answered (s.ready refl) ∙ ap answer_text (sym s.replied)) says
@@ -216,6 +225,7 @@ module _ (size : ℕ) (w : World) (memory : Memory) (line : List ℕ) (answered 
         moments = said_moments fault says;
         says = record { bytes = part.bytes; rest = part.rest; part = part.part; said = part.said ∙ ap (λ (l : List ℕ). l ++ part.bytes) s.quiet; whole = λ n. part.whole (none n) };
         closes = closes_said (answer_text s.turn.answer) fault says;
+        allowed = allowed_said (answer_text s.turn.answer) fault says;
         ready = λ n. IsReady-said size s.turn.next memory mid new (words_said _ fault mid new says) (shelf_said _ fault mid new says) (s.ready refl);
         counted = counts;
         sound = sound;

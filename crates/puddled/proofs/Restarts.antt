@@ -12,7 +12,7 @@ use Rattle.pud_defs.specs.declared.layout.TheConstants.{DAEMON_LOG, FRAMES_WORD,
 use Rattle.pud_defs.specs.Image.{Image}
 use Rattle.pud_defs.specs.Layout.{tables_end, frames_at}
 use Rattle.pud_defs.specs.Spaces.{space_record_at, owner_by}
-use Rattle.pud_defs.specs.Replay.{settled_by}
+use Rattle.pud_defs.specs.Replay.{is_in_log, settled_by}
 use Rattle.pud_defs.specs.Registry.{frames_of}
 use Rattle.pud_defs.specs.Settled.{ALL_LOGS, is_refused_log, is_in_logs, settled}
 use Rattle.pud_defs.specs.World.{World, StoredWorld, no_clients, world_of, closed, restart}

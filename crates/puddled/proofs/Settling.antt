@@ -29,7 +29,7 @@ use Rattle.pud_defs.proofs.Commands.{command_of-legal}
 use Rattle.pud_defs.proofs.Logged.{settled_by-client_logs}
 use Rattle.pud_defs.proofs.Spaces.{all_below-each, has_closed_logs-same}
 use Rattle.pud_defs.proofs.IdleWorlds.{standing_of_idle_world, legal_log_of_idle_world, frames_of_idle_world}
-use Rattle.pud_defs.proofs.Idle.{world_of_idle}
+use Rattle.pud_defs.proofs.Idle.{world_of_idle, no_log_is_refused}
 use Rattle.puddled.specs.declared.daemon.StartFault.{StartFault}
 use Rattle.puddled.specs.declared.daemon.StartFault.TheVariants as starts
 use Rattle.puddled.specs.declared.daemon.RunFault.TheVariants as faults
@@ -38,7 +38,7 @@ use Rattle.puddled.specs.Faults.Kind.{ordinary, loses, arms}
 use Rattle.puddled.specs.Memory.{Memory}
 use Rattle.puddled.specs.declared.answers.Answered.{Answered}
 use Rattle.puddled.specs.declared.answers.Answered.TheVariants as answers
-use Rattle.puddled.specs.Daemon.{IsReady, Applies, IsClosedIfFree, ClosesLogs, CarriesOut, Recovers, Settles}
+use Rattle.puddled.specs.Daemon.{IsReady, Applies, IsClosedIfFree, ClosesLogs, CarriesOut, RefusesNone, Recovers, Settles}
 use Rattle.puddled.proofs.Turns.{turn_of, is_turn_of, cut_turn, is_cut_turn}
 use Rattle.puddled.proofs.Counted.{counted_step, counted_cut, counted_nothing, kind_done, kind_faulty, kind_unstarted, host_is_sound}
 use Rattle.puddled.proofs.Carrying.{restart_line}
@@ -54,6 +54,14 @@ stands_idle size w under image (inr after) = inr (world_of_idle size image (clos
 
 stands_applied : (size : ℕ) (w under : World) (memory : Memory) (fault : Option HostFault) (old mid : State) → Applies size w under memory fault old mid → Leaves (Silently (Between size w under)) old mid
 stands_applied size w under memory fault old mid p = Leaves-weaker _ _ old mid (λ bytes image m. (m.0, stands_idle size w under image m.1)) p.moments
+
+-- in no image of a command a registered log is refused
+refuses_none : (size : ℕ) (w under : World) (image : Image) → (idle_world_of size image ≡ Some (closed w)) ⊎ (idle_world_of size image ≡ Some (closed under)) → RefusesNone image
+refuses_none size w under image (inl before) = record { each = no_log_is_refused size image (closed w) before }
+refuses_none size w under image (inr after) = record { each = no_log_is_refused size image (closed under) after }
+
+allowed_applied : (size : ℕ) (w under : World) (memory : Memory) (fault : Option HostFault) (old mid : State) → Applies size w under memory fault old mid → Leaves (λ bytes image. RefusesNone image) old mid
+allowed_applied size w under memory fault old mid p = Leaves-weaker _ (λ bytes image. RefusesNone image) old mid (λ bytes image m. refuses_none size w under image m.1) p.moments
 
 -- the restart's fault is that of the start
 pub unsound_start : (fault : StartFault) → of_start fault ≡ faults.NotSound → fault ≡ starts.NotSound
@@ -72,6 +80,7 @@ module _ (size : ℕ) (w : World) (memory : Memory) (line : List ℕ) (before be
         moments = stands_applied size w (step_world w line) memory None old mid k.applies;
         quiet = k.applies.quiet;
         closes = k.closes;
+        allowed = allowed_applied size w (step_world w line) memory None old mid k.applies;
         ready = λ _. k.applies.ready refl;
         counted = counted_step w line None before between (kind_done (kind_of (command_of line)) before between k.counted);
         sound = λ no. cc;
@@ -89,6 +98,7 @@ module _ (size : ℕ) (w : World) (memory : Memory) (line : List ℕ) (before be
         moments = stands_applied size w (step_world w line) memory (Some hosts.Failed) old mid k.applies;
         quiet = k.applies.quiet;
         closes = k.closes;
+        allowed = allowed_applied size w (step_world w line) memory (Some hosts.Failed) old mid k.applies;
         ready = λ no. absurd (cc);
         counted = counted_step w line (Some faults.Failed) before between (kind_faulty (kind_of (command_of line)) before between k.counted);
         sound = λ no. cc;
@@ -204,6 +214,14 @@ module _ (size : ℕ) (w : World) (memory : Memory) (line : List ℕ) (before be
       Leaves-then P (Silently (λ image. world_of size image ≡ Some (closed found_world))) P [] old mid new (k.applies.quiet ∙ sym (append-nil old.now.said))
       (λ front image m. m) (λ more image m. (m.0, stands_between image m.1)) command_moments r.moments
 
+  -- none was refused as power was lost, so the restart refuses none
+  allowed_behind : (result : Result Memory StartFault) (new : State) → Recovers size found_world result mid new → Leaves (λ bytes image. RefusesNone image) old new
+  allowed_behind result new r =
+      let P : List ℕ → Image → Type 0 = λ bytes image. RefusesNone image in
+      Leaves-then P P P [] old mid new (k.applies.quiet ∙ sym (append-nil old.now.said)) (λ front image m. m) (λ more image m. m)
+      (allowed_applied size w (step_world w line) memory (Some hosts.Cut) old mid k.applies)
+      (r.allowed (record { each = no_log_is_refused size (reads mid.now.words) (closed found_world) found_stands }))
+
   -- a client that went had its logs closed as power was lost, and the restart leaves them so
   closes_behind : (result : Result Memory StartFault) (new : State) → Recovers size found_world result mid new → ClosesLogs w (command_of line) old new
   closes_behind result new r = record {
@@ -233,6 +251,7 @@ module _ (size : ℕ) (w : World) (memory : Memory) (line : List ℕ) (before be
           moments = both_moments (Ok now) new r;
           quiet = r.quiet ∙ k.applies.quiet;
           closes = closes_behind (Ok now) new r;
+          allowed = allowed_behind (Ok now) new r;
           ready = λ _. subst (λ (v : World). IsReady size v now new) found_again r.ready;
           counted = subst (λ (x : Kind). CountsKind x None 1 before after) (sym is) (counted_cut before between after lost same);
           sound = λ no. cc;
@@ -253,6 +272,7 @@ module _ (size : ℕ) (w : World) (memory : Memory) (line : List ℕ) (before be
           moments = both_moments (Ok now) new r;
           quiet = r.quiet ∙ k.applies.quiet;
           closes = closes_behind (Ok now) new r;
+          allowed = allowed_behind (Ok now) new r;
           ready = λ _. subst (λ (v : World). IsReady size v now new) (found_again ∙ lost_world it.given) r.ready;
           counted = counted_step w line None before after counts;
           sound = λ no. cc;
@@ -278,6 +298,7 @@ module _ (size : ℕ) (w : World) (memory : Memory) (line : List ℕ) (before be
           moments = both_moments (Err (starts.Host fault)) new r;
           quiet = r.quiet ∙ k.applies.quiet;
           closes = closes_behind (Err (starts.Host fault)) new r;
+          allowed = allowed_behind (Err (starts.Host fault)) new r;
           ready = λ no. absurd (cc);
           counted = counted_step w line (Some (of_host fault)) before after counts;
           sound = host_is_sound fault;

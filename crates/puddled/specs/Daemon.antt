@@ -104,9 +104,13 @@ pub record CarriesOut (size : ℕ) (w : World) (memory : Memory) (command : Opti
   pub closes : ClosesLogs w command old new
   pub counted : CountsCommand (kind_of command) (fault_of done) before after
 
+-- no registered log of the image is refused: a start on it says `ready` alone
+pub record RefusesNone (image : Image) : Type 0 where
+  pub each : (number : ℕ) → number < ALL_LOGS → is_refused_log (frames_of image) (settled_by DAEMON_LOG image) number ≡ false
+
 -- A line was carried out, or refused, or cut off and the daemon started again, all without a word: at every moment the images stand for the
 -- world before it or the one that it gives, and without a fault the daemon is ready, with this memory, in the world from which the run goes on.
--- A client that goes has its logs closed first.
+-- A client that goes has its logs closed first. In no image a registered log is refused.
 pub record Settles (size : ℕ) (w : World) (line : List ℕ) (result : Result Answered RunFault) (memory : Memory) (before after : Counts) (old new : State) : Type 0 where
   pub turn : Turn
   pub of_line : turn.line ≡ line
@@ -115,14 +119,11 @@ pub record Settles (size : ℕ) (w : World) (line : List ℕ) (result : Result A
   pub moments : Leaves (Silently (λ image. (world_of size image ≡ Some (closed w)) ⊎ (world_of size image ≡ Some (closed turn.under)))) old new
   pub quiet : new.now.said ≡ old.now.said
   pub closes : ClosesLogs w (command_of line) old new
+  pub allowed : Leaves (λ bytes image. RefusesNone image) old new
   pub ready : run_fault result ≡ None → IsReady size turn.next memory new
   pub counted : CountsLine (command_of line) (run_fault result) (cuts_of (turn ∷ [])) before after
   pub sound : run_fault result ≢ Some faults.NotSound
   pub script : new.script ≡ old.script
-
--- no registered log of the image is refused: a start on it says `ready` alone
-pub record RefusesNone (image : Image) : Type 0 where
-  pub each : (number : ℕ) → number < ALL_LOGS → is_refused_log (frames_of image) (settled_by DAEMON_LOG image) number ≡ false
 
 -- The daemon recovered what a rested device stands for, without a word: at each moment each image stands for the world, refuses no log where none
 -- was refused, and has a client's logs closed where they were closed; without a fault the daemon is ready in it.
@@ -164,7 +165,7 @@ spoken aloud answer = cond aloud (answer_text answer) []
 
 -- One line is one turn of the machine: at every moment the images stand for the world before it or the one that it gives, with its reply said
 -- only once that one is durable; without a fault the reply is whole and the daemon, with this memory, ready for the next line. A client that
--- goes has its logs closed first. Where the reply is `cut` power was lost.
+-- goes has its logs closed first. In no image left at any moment a registered log is refused: a restart refuses none. Where the reply is `cut` power was lost.
 pub record Answers (size : ℕ) (w : World) (line : List ℕ) (aloud : Bool) (result : Result Bool RunFault) (memory : Memory) (before after : Counts) (old new : State) : Type 0 where
   pub turn : Turn
   pub of_line : turn.line ≡ line
@@ -173,6 +174,7 @@ pub record Answers (size : ℕ) (w : World) (line : List ℕ) (aloud : Bool) (re
   pub moments : Leaves (StandsWith size w (turn ∷ [])) old new
   pub says : SaysPart (spoken aloud turn.answer) (run_fault result) old new
   pub closes : ClosesLogs w (command_of line) old new
+  pub allowed : Leaves (λ bytes image. RefusesNone image) old new
   pub ready : run_fault result ≡ None → IsReady size turn.next memory new
   pub counted : CountsLine (command_of line) (run_fault result) (cuts_of (turn ∷ [])) before after
   pub sound : run_fault result ≢ Some faults.NotSound

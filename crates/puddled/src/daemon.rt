@@ -139,12 +139,11 @@ fn recover_device<H: Host>(h: &mut H) -> Result<(Daemon, Marks), StartFault>
     ensures cause { H.counts h.new ≡ after_fault (start_fault result) (H.counts h.old) }
 {
     let report = recover(h)?;
-    Ok((
-        Daemon {
-            frames: report.frames,
-        },
-        report.marks,
-    ))
+    let marks = report.marks;
+    let daemon = Daemon {
+        frames: report.frames,
+    };
+    Ok((daemon, marks))
 }
 
 /// Starts again behind a power loss, without a word: none on the logs that are refused either.

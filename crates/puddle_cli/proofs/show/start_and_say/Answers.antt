@@ -3,7 +3,7 @@ use Rattle.std.proofs.lemmas.Result.{err_from_is_err_and}
 use Rattle.pm_model.specs.Words.{reads}
 use Rattle.puddle_cli.specs.Views.{text_of}
 use Rattle.puddled.proofs.Lines.{KeepsRest-says, words_said}
-use Rattle.puddle_cli.proofs.Showing.{text_of-replayed, not_refused, shown, SaysPart-started, world_at, Leaves-start, Leaves-shown}
+use Rattle.puddle_cli.proofs.Showing.{not_refused, shown, shown_in_the_end, SaysPart-started, world_at, Leaves-start, Leaves-shown}
 use Rattle.puddle_cli.proofs.show.start_and_say.Goals as goal
 
 -- ---- the start failed
@@ -18,9 +18,9 @@ returns-in_err-daemon-clause-moments g c = λ t size same rested s world.
 pub returns-in_err-say_view-clause-says : goal.returns-in_err-say_view-clause-says
 returns-in_err-say_view-clause-says g c =
     let p = err_from_is_err_and c.from_residual-in_err-say_view.result c.from_residual-in_err-say_view.ensures.1 in
-    rw (p.1, p.2) (λ t sound.
+    rw (p.1, p.2) (λ t rested sound.
     let said = shown (g.H.Host.counts c.args.h.now).size c.frames.result c.args.view (g.H.Host.state c.args.h.now) (g.H.Host.state c.start.new.h) (g.H.Host.state c.say_view.new.h) (Some c.in_err-say_view.field-0.0)
-    (not_refused _ _ (c.in_ok-daemon.ensures.not_sound t refl)) (c.in_ok-daemon.ensures.replays t) (c.frames.ensures.frames ∙ c.in_ok-daemon.ensures.frames t)
+    (not_refused _ _ (c.in_ok-daemon.ensures.not_sound t refl)) (c.in_ok-daemon.ensures.replays t rested) (c.frames.ensures.frames ∙ c.in_ok-daemon.ensures.frames t rested)
     (λ next tables frames. c.in_err-say_view.ensures.sound t _ refl next tables frames) in
     SaysPart-started _ _ _ _ _ _ (c.in_ok-daemon.ensures.says t (λ no. absurd (cc))) said)
 
@@ -35,16 +35,16 @@ returns-in_err-say_view-clause-rest g c = λ t. KeepsRest-says _ _ _ _ _ (c.in_o
 -- ---- it was said whole
 
 pub returns-clause-says : goal.returns-clause-says
-returns-clause-says g c = λ t sound.
+returns-clause-says g c = λ t rested sound.
     let said = shown (g.H.Host.counts c.args.h.now).size c.frames.result c.args.view (g.H.Host.state c.args.h.now) (g.H.Host.state c.start.new.h) (g.H.Host.state c.say_view.new.h) None
-    (not_refused _ _ (c.in_ok-daemon.ensures.not_sound t refl)) (c.in_ok-daemon.ensures.replays t) (c.frames.ensures.frames ∙ c.in_ok-daemon.ensures.frames t)
+    (not_refused _ _ (c.in_ok-daemon.ensures.not_sound t refl)) (c.in_ok-daemon.ensures.replays t rested) (c.frames.ensures.frames ∙ c.in_ok-daemon.ensures.frames t rested)
     (λ next tables frames. c.in_ok-say_view.ensures.sound t _ refl next tables frames) in
     SaysPart-started _ _ _ _ _ _ (c.in_ok-daemon.ensures.says t (λ no. absurd (cc))) said
 
 pub returns-clause-in_the_end : goal.returns-clause-in_the_end
-returns-clause-in_the_end g c = λ t ok.
+returns-clause-in_the_end g c = λ t rested ok.
     let same = words_said _ _ _ _ (c.in_ok-say_view.ensures.says t).says in
-    ap (λ words. text_of c.args.view (reads words)) same ∙ text_of-replayed _ _ (c.in_ok-daemon.ensures.replays t) c.args.view
+    ap (λ words. text_of c.args.view (reads words)) same ∙ shown_in_the_end _ c.args.view _ _ (not_refused _ _ (c.in_ok-daemon.ensures.not_sound t refl)) (c.in_ok-daemon.ensures.replays t rested)
 
 pub returns-clause-moments : goal.returns-clause-moments
 returns-clause-moments g c = λ t size same rested s world.

@@ -19,3 +19,32 @@ returns-in_err-report-clause-recovers g c =
 pub returns-clause-recovers : goal.returns-clause-recovers
 returns-clause-recovers g c = λ t size same w rested world shelf.
     Recovers-done size w (g.H.Host.state c.args.h.now) (g.H.Host.state c.recover.new.h) _ world (c.in_ok-report.ensures.frames t) shelf (c.in_ok-report.ensures.recovers t size same (closed w) rested world)
+
+pub returns-in_err-report-clause-quiet : goal.returns-in_err-report-clause-quiet
+returns-in_err-report-clause-quiet g c = λ t. Changes-said _ _ _ _ (c.in_err-report.ensures.any t)
+
+pub returns-clause-quiet : goal.returns-clause-quiet
+returns-clause-quiet g c = λ t. Changes-said _ _ _ _ (c.in_ok-report.ensures.any t)
+
+-- ---- on a rested device, whatever it stands for
+
+pub returns-clause-sound : goal.returns-clause-sound
+returns-clause-sound g c = λ t rested.
+    let size = (g.H.Host.counts c.args.h.now).size in
+    let a = g.H.Host.state c.args.h.now in
+    (recovered_any size c.in_ok-report.report a (g.H.Host.state c.recover.new.h) (world_of size (reads a.now.words)) refl (c.in_ok-report.ensures.not_sound t refl)
+    (λ s world. c.in_ok-report.ensures.recovers t size refl s rested world)).sound
+
+pub returns-clause-replays : goal.returns-clause-replays
+returns-clause-replays g c = λ t rested.
+    let size = (g.H.Host.counts c.args.h.now).size in
+    let a = g.H.Host.state c.args.h.now in
+    (recovered_any size c.in_ok-report.report a (g.H.Host.state c.recover.new.h) (world_of size (reads a.now.words)) refl (c.in_ok-report.ensures.not_sound t refl)
+    (λ s world. c.in_ok-report.ensures.recovers t size refl s rested world)).replayed
+
+pub returns-clause-frames : goal.returns-clause-frames
+returns-clause-frames g c = λ t rested.
+    let size = (g.H.Host.counts c.args.h.now).size in
+    let a = g.H.Host.state c.args.h.now in
+    c.in_ok-report.ensures.frames t ∙ (recovered_any size c.in_ok-report.report a (g.H.Host.state c.recover.new.h) (world_of size (reads a.now.words)) refl (c.in_ok-report.ensures.not_sound t refl)
+    (λ s world. c.in_ok-report.ensures.recovers t size refl s rested world)).frames

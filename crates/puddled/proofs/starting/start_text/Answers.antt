@@ -7,7 +7,7 @@ use Rattle.pud_defs.proofs.StartText.{first_lines, first_lines-none, first_lines
 use Rattle.recover.specs.declared.judge.Mark.TheVariants.{Closed}
 use Rattle.recover.specs.Verdicts.{is_refused_mark}
 use Rattle.puddled.proofs.starting.start_text.Goals as goal
-use Rattle.puddled.proofs.starting.start_text.Goals.{then-refused-number, else-refused-number}
+use Rattle.puddled.proofs.starting.start_text.Goals.{then-is_refused, else-is_refused}
 
 pub loop-number-init : goal.loop-number-init
 loop-number-init c = record { lines = c.new-text.ensures ∙ sym (first_lines-none _); within = omega (arith, ap length c.new-text.ensures) }
@@ -16,15 +16,15 @@ pub loop-number-preserved : goal.loop-number-preserved
 loop-number-preserved c =
     let n = c.loop-number.number in
     let refused : ℕ → Bool = λ number. is_refused_mark (slice_index_or c.args.marks.now number Closed) in
-    elim c.if-refused-number.branch [
-      | then-refused-number w ↦ record {
+    elim c.if-is_refused.branch [
+      | then-is_refused w ↦ record {
         lines = rw w.text-is (w.add_refused.ensures.line ∙ ap (λ (l : List ℕ). l ++ refused_line n) c.loop-number.invariant.lines
-            ∙ ap (λ (b : Bool). first_lines refused n ++ cond b (refused_line n) []) (sym w.if-refused-number.true) ∙ sym (first_lines-more refused n));
+            ∙ ap (λ (b : Bool). first_lines refused n ++ cond b (refused_line n) []) (sym (sym c.is_refused.ensures ∙ w.if-is_refused.true)) ∙ sym (first_lines-more refused n));
         within = rw w.text-is (omega (arith, w.add_refused.ensures.within, c.loop-number.invariant.within));
       }
-      | else-refused-number w ↦ record {
+      | else-is_refused w ↦ record {
         lines = rw w.text-is (c.loop-number.invariant.lines ∙ sym (append-nil _)
-            ∙ ap (λ (b : Bool). first_lines refused n ++ cond b (refused_line n) []) (sym w.if-refused-number.false) ∙ sym (first_lines-more refused n));
+            ∙ ap (λ (b : Bool). first_lines refused n ++ cond b (refused_line n) []) (sym (sym c.is_refused.ensures ∙ w.if-is_refused.false)) ∙ sym (first_lines-more refused n));
         within = rw w.text-is (omega (arith, c.loop-number.invariant.within));
       }
     ]
