@@ -1,9 +1,9 @@
-use Rattle.std.proofs.Common.{◌≡◌, ℕ, Err, refl, sym, ap, ◌∙◌}
+use Rattle.std.proofs.Common.{ℕ, refl, sym, ap, ◌∙◌}
 use Rattle.std.proofs.lemmas.Result.{err_from_is_err_and}
 use Rattle.pm_model.specs.Words.{reads}
 use Rattle.pm_model.proofs.Changes.{Changes-said}
 use Rattle.pud_defs.specs.World.{world_of, closed}
-use Rattle.puddled.proofs.Restarts.{fault_of_recover, recovery_fault_is, recovered, KeepsRest-any, Recovers-done, Recovers-failed, sound_recovery, recovered_any}
+use Rattle.puddled.proofs.Restarts.{Recovers-done, Recovers-failed, sound_recovery, recovered_any}
 use Rattle.puddled.proofs.daemon.recover_device.Goals as goal
 
 pub returns-in_err-report-clause-recovers : goal.returns-in_err-report-clause-recovers

@@ -1,4 +1,4 @@
-use Rattle.std.proofs.Common.{◌≡◌, ℕ, ◌++◌, List, [], Bool, false, cond, length, sym, ap, ◌∙◌, arith, append-nil}
+use Rattle.std.proofs.Common.{◌≡◌, ℕ, ◌++◌, List, [], Bool, cond, length, sym, ap, ◌∙◌, arith, append-nil}
 use Rattle.std.specs.Prelude.{slice_index_or}
 use Rattle.pud_defs.specs.Settled.{ALL_LOGS}
 use Rattle.pud_defs.specs.Texts.{ready_text}
