@@ -1,23 +1,21 @@
 -- What it says of a client's log that it is registered and allowed.
-use Rattle.std.proofs.Common.{◌≡◌, inl, inr, ℕ, zero, suc, ◌+◌, ◌*◌, ◌<◌, ◌≤◌, Bool, true, false, not, ◌&&◌, ◌||◌, cond, List, [], ◌∷◌, length, Option, Some, None, refl, sym, ap, ap₂, ◌∙◌, arith, leb-true}
+use Rattle.std.proofs.Common.{◌≡◌, ℕ, zero, suc, ◌+◌, ◌<◌, ◌≤◌, Bool, true, false, not, ◌||◌, List, [], ◌∷◌, length, Option, Some, None, refl, sym, ap, ap₂, ◌∙◌, arith, leb-true}
 use Rattle.std.specs.Prelude.{All, option_map, nat_le}
 use Rattle.std.specs.List.{list_all, list_any}
 use Rattle.std.specs.Option.{option_or}
-use Rattle.std.proofs.lemmas.Bool.{and_parts, cases_Bool, cond-true, cond-false}
+use Rattle.std.proofs.lemmas.Bool.{and_parts, cond-true, cond-false}
 use Rattle.std.proofs.lemmas.Option.{none-some}
 use Rattle.std.proofs.lemmas.List.Elements.{All-nil, All-cons}
 use Rattle.pud_defs.specs.declared.layout.TheConstants.{FRAME_WORDS}
-use Rattle.pud_defs.specs.Image.{Image}
-use Rattle.pud_defs.specs.Layout.{frames_at, device_words}
-use Rattle.pud_defs.specs.Entries.{Entry, Log, log_of}
-use Rattle.pud_defs.specs.Replay.{Place, is_in_range, entries_or_none, given_by, undone, redone, new_value}
-use Rattle.pud_defs.specs.Spaces.{Owner, owner_of}
+use Rattle.pud_defs.specs.Entries.{Entry, Log}
+use Rattle.pud_defs.specs.Replay.{Place, is_in_range, entries_or_none, undone, redone, new_value}
+use Rattle.pud_defs.specs.Spaces.{Owner}
 use Rattle.pud_defs.specs.Frames.{frame_at}
 use Rattle.pud_defs.specs.Puddles.{Member}
 use Rattle.pud_defs.specs.Places.{word_in, first_some, place_by, located}
-use Rattle.pud_defs.specs.Tables.{Tables, tables_of}
+use Rattle.pud_defs.specs.Tables.{Tables}
 use Rattle.pud_defs.specs.Allowed.{puddle_word, may_write_puddle, are_writable, is_allowed_entry, are_allowed_entries, is_allowed_log, is_refused, is_accepted, counts_any}
-use Rattle.pud_defs.specs.Settled.{gives_to, client_of_log, log_number_at, given_by_log, is_accepted_log}
+use Rattle.pud_defs.specs.Settled.{gives_to}
 use Rattle.pud_defs.proofs.Replay.{given_by-out, undone-first, redone-first, undone-none, redone-none}
 use Rattle.pud_defs.proofs.Settled.{gives_nothing}
 
@@ -80,7 +78,7 @@ unfolding first_some
 found_below t address from zero at is = absurd (none-some at is)
 found_below t address from (suc count) at is =
     elim (place_by address from (t.puddles from)) as (λ here. place_by address from (t.puddles from) ≡ here
-        → option_or here (first_some (λ frame. place_by address frame (t.puddles frame)) (from + 1) count) ≡ Some at → at.0 < from + suc count) [
+    → option_or here (first_some (λ frame. place_by address frame (t.puddles frame)) (from + 1) count) ≡ Some at → at.0 < from + suc count) [
       | None ↦ λ none later. let below = found_below t address (from + 1) count at later in omega arith
       | Some x ↦ λ here same.
           let it : x ≡ at = cc in

@@ -1,24 +1,24 @@
 -- What a start makes of images that agree beside the daemon log, and of those that settle to the same words.
-use Rattle.std.proofs.Common.{◌≡◌, ◌⊎◌, inl, inr, ℕ, ◌+◌, ◌*◌, ◌/◌, ◌%◌, ◌<◌, ◌≤◌, true, false, Option, Some, None, refl, sym, ap, ap₂, subst, ◌∙◌, arith}
+use Rattle.std.proofs.Common.{◌≡◌, ◌⊎◌, inl, inr, ℕ, ◌<◌, ◌≤◌, true, false, Option, Some, sym, ap₂, subst, ◌∙◌, arith}
 use Rattle.std.specs.Prelude.{unwrap_or}
 use Rattle.std.proofs.lemmas.Bool.{cases_Bool, cond-true, cond-false}
-use Rattle.pud_defs.specs.declared.layout.TheConstants.{DAEMON_LOG, FRAMES_WORD, TYPE_TABLE, POOL_TABLE, SPACE_TABLE, PUDDLE_TABLE, CLIENTS, CLIENT_LOGS, LOG_WORDS}
+use Rattle.pud_defs.specs.declared.layout.TheConstants.{DAEMON_LOG, FRAMES_WORD, TYPE_TABLE, SPACE_TABLE, PUDDLE_TABLE, CLIENTS}
 use Rattle.pud_defs.specs.Image.{Image}
-use Rattle.pud_defs.specs.Layout.{tables_end, frames_at, device_words}
+use Rattle.pud_defs.specs.Layout.{tables_end, frames_at}
 use Rattle.pud_defs.specs.Entries.{log_of, is_idle_gate}
-use Rattle.pud_defs.specs.Replay.{is_in_log, beside_log, settled_by, overwritten}
+use Rattle.pud_defs.specs.Replay.{is_in_log, settled_by}
 use Rattle.pud_defs.specs.Spaces.{owner_of, are_legal_spaces}
 use Rattle.pud_defs.specs.Tables.{tables_of}
 use Rattle.pud_defs.specs.Allowed.{is_refused, is_accepted}
-use Rattle.pud_defs.specs.Settled.{gives_to, ALL_LOGS, client_of_log, log_number_at, given_by_log, is_refused_log, is_accepted_log, given_in_turn, is_in_logs, beside_logs, settled_over, settled}
+use Rattle.pud_defs.specs.Settled.{gives_to, ALL_LOGS, client_of_log, log_number_at, given_by_log, is_refused_log, is_accepted_log, is_in_logs, settled_over, settled}
 use Rattle.pud_defs.specs.Registry.{frames_of, has_legal_log}
 use Rattle.pud_defs.specs.World.{StoredWorld, world_of}
-use Rattle.pud_defs.proofs.Replay.{settled_by-beside, beside_log-outside, settled_by-idle, outside_log}
+use Rattle.pud_defs.proofs.Replay.{settled_by-idle, outside_log}
 use Rattle.pud_defs.proofs.Spaces.{log_of-within, owner_of-same}
 use Rattle.pud_defs.proofs.TablesOf.{tables_of-same}
 use Rattle.pud_defs.proofs.Settled.{given_in_turn-same}
 use Rattle.pud_defs.proofs.Logged.{settled_by-unlogged}
-use Rattle.pud_defs.proofs.Parts.{Part, Holds-same, part_place, HoldsWorld}
+use Rattle.pud_defs.proofs.Parts.{Holds-same, HoldsWorld}
 use Rattle.pud_defs.proofs.Parts.Part.{Header, Types, Pools}
 use Rattle.pud_defs.proofs.Worlds.{settled-below, holding_of_world, world_of_holding, frames_of_world}
 

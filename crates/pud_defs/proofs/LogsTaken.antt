@@ -1,25 +1,22 @@
 -- Clients' logs replayed and closed one after the other: what each step leaves of the tables, of the other logs, and of the settled image.
-use Rattle.std.proofs.Common.{◌≡◌, ◌⊎◌, inl, inr, ℕ, zero, suc, ◌+◌, ◌*◌, ◌-◌, ◌/◌, ◌%◌, ◌<◌, ◌≤◌, Bool, true, false, not, ◌&&◌, ◌||◌, cond, eqb, List, [], ◌∷◌, length, Option, Some, None, refl, sym, ap, ap₂, ◌∙◌, arith}
+use Rattle.std.proofs.Common.{◌≡◌, inl, inr, ℕ, zero, suc, ◌+◌, ◌*◌, ◌-◌, ◌<◌, ◌≤◌, true, false, not, ◌&&◌, List, [], Option, Some, None, refl, sym, ap, ap₂, ◌∙◌, arith}
 use Rattle.std.specs.Prelude.{unwrap_or, is_some, nat_le, nat_lt}
 use Rattle.std.specs.Option.{option_or}
 use Rattle.std.proofs.lemmas.Bool.{and_from, cases_Bool, cases_eq, cond-true, cond-false, le-leb, lt-ltb}
-use Rattle.pud_defs.specs.declared.layout.TheConstants.{DAEMON_LOG, CLIENTS, CLIENT_LOGS, LOG_WORDS, POOL_TABLE, SPACE_TABLE, PUDDLE_TABLE}
+use Rattle.pud_defs.specs.declared.layout.TheConstants.{CLIENTS, CLIENT_LOGS}
 use Rattle.pud_defs.specs.declared.log_words.TheConstants.{CLOSED_GATE}
 use Rattle.pud_defs.specs.Image.{Image}
 use Rattle.pud_defs.specs.Layout.{tables_end, log_at, frames_at}
-use Rattle.pud_defs.specs.Entries.{Entry, Log, log_of, gate_lo, gate_hi, is_idle_gate, entries_of}
-use Rattle.pud_defs.specs.Replay.{Place, value_in, value_from, given_by, undone, redone, new_value, entries_or_none, overwritten, IsInLog}
+use Rattle.pud_defs.specs.Entries.{Entry, Log, log_of, is_idle_gate, entries_of}
 use Rattle.pud_defs.specs.Spaces.{Owner, owner_of, is_closed_range, is_closed_log, has_closed_logs}
-use Rattle.pud_defs.specs.Frames.{frame_at}
-use Rattle.pud_defs.specs.Places.{located}
 use Rattle.pud_defs.specs.Tables.{Tables, tables_of}
-use Rattle.pud_defs.specs.Allowed.{puddle_word, are_allowed_entries, is_allowed_log, is_refused}
-use Rattle.pud_defs.specs.Settled.{gives_to, ALL_LOGS, client_of_log, log_number_at, given_by_log, is_refused_log, given_in_turn, is_in_logs, beside_logs, settled_over}
+use Rattle.pud_defs.specs.Allowed.{are_allowed_entries, is_allowed_log, is_refused}
+use Rattle.pud_defs.specs.Settled.{gives_to, ALL_LOGS, client_of_log, log_number_at, given_by_log, is_refused_log, given_in_turn, is_in_logs, settled_over}
 use Rattle.pud_defs.specs.LogsTaken.{TakesLog, GivesNothingBelow}
 use Rattle.pud_defs.proofs.Replay.{entries_of-idle, empty_range_of}
 use Rattle.pud_defs.proofs.Spaces.{all_below-from, all_below-each, log_of-within, is_closed_log-same, owner_of-same}
 use Rattle.pud_defs.proofs.TablesOf.{tables_of-same, frames_of_tables}
-use Rattle.pud_defs.proofs.Settled.{or_empty, gives_to-below, gives_to-closed, given_in_turn-same, given_in_turn-none}
+use Rattle.pud_defs.proofs.Settled.{or_empty, gives_to-below, gives_to-closed, given_in_turn-same}
 
 -- ---- what a client's log gives lies in frames
 
@@ -38,10 +35,6 @@ given_anyway (Some r) v x y = refl
 in_place : (rest : Option ℕ) (v y : ℕ) → unwrap_or (option_or rest None) v ≡ unwrap_or (option_or rest (Some v)) y
 in_place None v y = refl
 in_place (Some r) v y = refl
-
-
-
-
 
 given_in_turn-first : (given : ℕ → ℕ → Option ℕ) (from count rest w : ℕ) → count ≡ suc rest → given_in_turn given from count w ≡ option_or (given_in_turn given (from + 1) rest w) (given from w)
 unfolding given_in_turn
@@ -147,9 +140,9 @@ module _ (F number : ℕ) (i j : Image) (known : number < ALL_LOGS) (takes : Tak
         ] in
         ap₂ (λ (o : Option ℕ) (x : ℕ). unwrap_or (option_or rest o) x) nothing still
     | Some v ↦ λ some. elim takes.gate [
-        | inl gate ↦ ap (λ (o : Option ℕ). unwrap_or (option_or rest o) (j w)) (own_gives w gate ∙ some) ∙ given_anyway rest v (j w) (i w)
-        | inr closed ↦ ap₂ (λ (o : Option ℕ) (x : ℕ). unwrap_or (option_or rest o) x) (closed_gives w closed.gate) (closed.there w v some) ∙ in_place rest v (i w)
-      ]
+      | inl gate ↦ ap (λ (o : Option ℕ). unwrap_or (option_or rest o) (j w)) (own_gives w gate ∙ some) ∙ given_anyway rest v (j w) (i w)
+      | inr closed ↦ ap₂ (λ (o : Option ℕ) (x : ℕ). unwrap_or (option_or rest o) x) (closed_gives w closed.gate) (closed.there w v some) ∙ in_place rest v (i w)
+    ]
   ] gives
 
   -- the settled image stays, where no log below gives anything

@@ -11,7 +11,7 @@ use Rattle.pm_model.specs.Changes.{Leaves}
 use Rattle.pm_model.proofs.Leaves.{Leaves-then, Leaves-still}
 use Rattle.pud_defs.specs.declared.layout.TheConstants.{SCRIPT_LIMIT}
 use Rattle.pud_defs.specs.declared.machine.Command.{Command}
-use Rattle.pud_defs.specs.World.{World, world_of}
+use Rattle.pud_defs.specs.World.{World, world_of, closed}
 use Rattle.pud_defs.specs.Grammar.{command_of}
 use Rattle.pud_defs.specs.Step.{answer_by, world_by}
 use Rattle.pud_defs.specs.Run.{Turn, IsTurn, cuts_of, IsRun, last_world, newlines, open_rest, lines_taken, lines_among}
@@ -21,6 +21,7 @@ use Rattle.pud_defs.specs.Changing.{file_in, KeepsFiles}
 use Rattle.pud_defs.proofs.Changing.{KeepsFiles-still, KeepsUnwritable-still, KeepsUnwritable-then, KeepsUnwritable-line}
 use Rattle.pud_defs.proofs.Commands.{command_of-front}
 use Rattle.pud_defs.proofs.Lines.{open_rest-newline, open_rest-other, open_rest-nothing, lines_taken-nothing, lines_taken-newline, lines_taken-other, lines_taken-end, lines_among_empty, lines_among_line}
+use Rattle.pud_defs.proofs.Idle.{world_of_idle}
 use Rattle.pud_defs.proofs.Runs.{IsRun-append, last_world-append}
 use Rattle.pud_defs.proofs.Said.{replies_text-append}
 use Rattle.pud_defs.proofs.Stands.{StandsAfter-more, StandsWith-later}
@@ -108,7 +109,7 @@ AnswersLine-nothing size w memory line before after old new ready none uncounted
       few = omega arith;
       lines = sym (lines_among_empty line (ap length (nothing_from_take line none)));
       is_run = tt;
-      moments = Leaves-still (StandsWith size w []) old old (λ image picked. ready.settled.stands image picked) refl;
+      moments = Leaves-still (StandsWith size w []) old old (λ image picked. world_of_idle size image (closed w) (ready.settled.stands image picked)) refl;
       says = record { bytes = []; rest = []; part = refl; said = sym (append-nil old.now.said); whole = λ _. refl };
       ready = λ _. ready;
       counted = (λ lost. cc, uncounted);
@@ -322,7 +323,7 @@ Serves-start size w memory before start now same ready =
       under_way = sym (ap (λ (l : List ℕ). take 129 l) open_rest-nothing);
       script = refl;
       said = sym (append-nil start.now.said);
-      moments = Leaves-still (StandsWith size w []) start start (λ image picked. ready.settled.stands image picked) refl;
+      moments = Leaves-still (StandsWith size w []) start start (λ image picked. world_of_idle size image (closed w) (ready.settled.stands image picked)) refl;
       ready = ready;
       counted = refl;
     })

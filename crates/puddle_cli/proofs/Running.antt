@@ -11,10 +11,11 @@ use Rattle.pm_model.proofs.Leaves.{Leaves-then, Leaves-weaker, Leaves-each}
 use Rattle.pud_defs.specs.Grammar.{command_of}
 use Rattle.pud_defs.specs.Spaces.{Owner}
 use Rattle.pud_defs.specs.World.{World, StoredWorld, no_clients, world_of, closed, restart}
-use Rattle.pud_defs.specs.Run.{Turn, cuts_of, newlines}
+use Rattle.pud_defs.specs.Run.{last_world, Turn, cuts_of, newlines}
 use Rattle.pud_defs.specs.Texts.{replies_text}
 use Rattle.pud_defs.specs.StartText.{start_text}
 use Rattle.pud_defs.specs.Stands.{StandsWith, StandsBehind}
+use Rattle.pud_defs.proofs.Idle.{world_of_idle}
 use Rattle.pud_defs.proofs.Changing.{KeepsFiles-still, KeepsUnwritable-still, KeepsUnwritable-then, KeepsUnwritable-none}
 use Rattle.pud_defs.proofs.Lines.{newlines-append, newlines_part, lines_taken-nothing}
 use Rattle.pud_defs.proofs.Stands.{StandsBehind-closed, StandsBehind-after}
@@ -171,7 +172,7 @@ module _ (size : ℕ) (w : World) (start : State) (rested : IsRested start.now.w
               (nothing, ap (λ (l : List ℕ). text ++ replies_text a.answered ++ l) no_more ∙ append-nil (text ++ replies_text a.answered));
           all_lines = done;
           not_ended = too_long;
-          ends = λ none. (a.ready (sym is ∙ none)).settled.stands;
+          ends = λ none image picked. world_of_idle size image (closed (last_world w a.answered)) ((a.ready (sym is ∙ none)).settled.stands image picked);
           files = a.files;
           shelf_of_run = λ none. (a.ready (sym is ∙ none)).shelf;
         };

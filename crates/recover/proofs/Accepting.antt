@@ -1,20 +1,16 @@
 -- What a verdict says of a log.
-use Rattle.std.proofs.Common.{◌≡◌, inl, inr, ℕ, ◌+◌, ◌<◌, ◌≤◌, Bool, true, false, cond, List, [], ◌∷◌, length, Option, Some, None, refl, sym, ap, ◌∙◌, arith}
-use Rattle.std.specs.Prelude.{All}
-use Rattle.std.specs.Bool.{IsTrue}
+use Rattle.std.proofs.Common.{◌≡◌, inl, inr, ℕ, ◌<◌, ◌≤◌, true, false, List, Option, Some, None, refl, sym, ◌∙◌, arith}
 use Rattle.std.proofs.lemmas.Bool.{cases_Bool, cond-true, cond-false}
 use Rattle.std.proofs.lemmas.Option.{none-some}
-use Rattle.pud_defs.specs.declared.layout.TheConstants.{LOG_WORDS}
 use Rattle.pud_defs.specs.Image.{Image}
-use Rattle.pud_defs.specs.Layout.{frames_at, device_words}
+use Rattle.pud_defs.specs.Layout.{device_words}
 use Rattle.pud_defs.specs.Entries.{Entry, Log, log_of}
-use Rattle.pud_defs.specs.Replay.{Place, is_in_range}
 use Rattle.pud_defs.specs.Spaces.{Owner, owner_of}
 use Rattle.pud_defs.specs.Tables.{Tables, tables_of}
 use Rattle.pud_defs.specs.Allowed.{puddle_word, is_allowed_log, is_accepted, counts_any}
 use Rattle.pud_defs.specs.Settled.{ALL_LOGS, client_of_log, log_number_at, given_by_log, is_accepted_log}
 use Rattle.pud_defs.proofs.TablesOf.{frames_of_tables}
-use Rattle.pud_defs.proofs.Accepted.{gives_to-none_counts, gives_to-not_accepted, NamesFrame, HasAllowed, accepted_entries}
+use Rattle.pud_defs.proofs.Accepted.{gives_to-none_counts, gives_to-not_accepted, NamesFrame, accepted_entries}
 use Rattle.log_replay.specs.Replaying.{NamesApart, IsReplayable}
 use Rattle.recover.specs.declared.judge.Mark.{Mark}
 use Rattle.recover.specs.declared.judge.Mark.TheVariants.{Closed, Replayed, Refused}
@@ -37,10 +33,13 @@ module _ (t : Tables) (log : Log) where
   accepted_closed None is = absurd (none-some Closed is)
   accepted_closed (Some who) is = elim (cases_Bool (is_allowed_log t who log)) [
     | inr refused ↦ absurd (let it : Refused ≡ Closed = sym (cond-false (is_allowed_log t who log) _ Refused refused) ∙ same_mark is in cc)
-    | inl allowed ↦ (allowed, elim (cases_Bool (counts_any log)) [
-      | inr none ↦ none
-      | inl some ↦ absurd (let it : Replayed ≡ Closed = sym (cond-true (is_allowed_log t who log) _ Refused allowed ∙ cond-true (counts_any log) Replayed Closed some) ∙ same_mark is in cc)
-    ])
+    | inl allowed ↦ (
+      allowed,
+      elim (cases_Bool (counts_any log)) [
+        | inr none ↦ none
+        | inl some ↦ absurd (let it : Replayed ≡ Closed = sym (cond-true (is_allowed_log t who log) _ Refused allowed ∙ cond-true (counts_any log) Replayed Closed some) ∙ same_mark is in cc)
+      ],
+    )
   ]
 
   not_accepted_none : (who : Option Owner) → verdict_by t who log ≡ None → is_accepted t who log ≡ false

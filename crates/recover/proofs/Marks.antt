@@ -1,18 +1,12 @@
 -- Which logs are refused, by their marks.
-use Rattle.std.proofs.Common.{◌≡◌, inl, inr, ℕ, Bool, true, false, not, cond, List, [], ◌∷◌, Option, Some, None, refl, sym, ap, ap₂, ◌∙◌}
-use Rattle.std.specs.Option.{option_or}
-use Rattle.std.specs.List.{list_any}
-use Rattle.std.proofs.lemmas.Bool.{or_parts, cond-true, cond-false, cases_Bool}
-use Rattle.pud_defs.specs.declared.log_words.TheConstants.{UNDO_ORDER, REDO_ORDER}
+use Rattle.std.proofs.Common.{◌≡◌, inl, inr, ℕ, Bool, true, false, not, cond, Option, Some, None, refl, sym, ap, ◌∙◌}
+use Rattle.std.proofs.lemmas.Bool.{cond-true, cond-false, cases_Bool}
 use Rattle.pud_defs.specs.Image.{Image}
-use Rattle.pud_defs.specs.Entries.{Entry, Log, log_of}
+use Rattle.pud_defs.specs.Entries.{Log, log_of}
 use Rattle.pud_defs.specs.Spaces.{Owner, owner_of}
-use Rattle.pud_defs.specs.Replay.{Place, is_in_range, entries_or_none, undone, redone, new_value}
 use Rattle.pud_defs.specs.Tables.{Tables, tables_of}
-use Rattle.pud_defs.specs.Allowed.{puddle_word, is_allowed_log, counts_any, is_refused}
-use Rattle.pud_defs.specs.Settled.{gives_to, given_by_log, client_of_log, log_number_at, is_refused_log}
-use Rattle.pud_defs.proofs.Replay.{given_by-out}
-use Rattle.recover.specs.declared.judge.Mark.{Mark}
+use Rattle.pud_defs.specs.Allowed.{is_allowed_log, counts_any, is_refused}
+use Rattle.pud_defs.specs.Settled.{client_of_log, log_number_at, is_refused_log}
 use Rattle.recover.specs.declared.judge.Mark.TheVariants.{Closed, Replayed, Refused}
 use Rattle.recover.specs.Verdicts.{mark_for, verdict_by, verdict_of, mark_of, is_refused_mark}
 

@@ -1,43 +1,41 @@
 -- A device recovered, stage by stage: the daemon log applied, the clients' logs replayed and closed, the log-space table emptied.
-use Rattle.std.proofs.Common.{◌≡◌, ◌⊎◌, inl, inr, ℕ, ◌+◌, ◌*◌, ◌/◌, ◌%◌, ◌<◌, ◌≤◌, true, false, cond, [], List, Option, Some, None, Result, Ok, Err, refl, sym, ap, subst, ◌∙◌, arith}
-use Rattle.std.proofs.lemmas.Bool.{cases_Bool, cases_eq, cases_lt, cond-true, cond-false}
+use Rattle.std.proofs.Common.{◌≡◌, ◌⊎◌, inl, inr, ℕ, ◌+◌, ◌<◌, ◌≤◌, true, false, cond, [], List, Option, Some, None, Result, Ok, Err, refl, sym, ap, subst, ◌∙◌, arith}
+use Rattle.std.proofs.lemmas.Bool.{cases_Bool, cases_lt, cond-false}
 use Rattle.std.proofs.lemmas.List.{append-nil}
 use Rattle.std.proofs.lemmas.Option.{none-some}
 use Rattle.pm_model.specs.declared.host.HostFault.{HostFault}
-use Rattle.pm_model.specs.Words.{reads, Picks, HasOnly, IsRested}
+use Rattle.pm_model.specs.Words.{reads, HasOnly, IsRested}
 use Rattle.pm_model.specs.Moments.{State}
 use Rattle.pm_model.specs.Changes.{Changes, Leaves, Silently}
 use Rattle.pm_model.proofs.Words.{Picks-reads, reads_only, HasOnly-newest, HasOnly-own}
 use Rattle.pm_model.proofs.Changes.{Changes-said, Changes-wider, Changes-then, HasOnly-kept}
 use Rattle.pm_model.proofs.Leaves.{Leaves-now, Leaves-then, Leaves-weaker}
-use Rattle.pud_defs.specs.declared.layout.TheConstants.{DAEMON_LOG, FRAMES_WORD, TYPE_TABLE, SPACE_TABLE, PUDDLE_TABLE, CLIENTS, CLIENT_LOGS, LOG_WORDS}
+use Rattle.pud_defs.specs.declared.layout.TheConstants.{DAEMON_LOG, FRAMES_WORD, TYPE_TABLE, SPACE_TABLE, PUDDLE_TABLE, CLIENTS}
 use Rattle.pud_defs.specs.Image.{Image}
-use Rattle.pud_defs.specs.Layout.{IsWithin, tables_end, frames_at, device_words}
-use Rattle.pud_defs.specs.Entries.{Entry, Log, log_of, is_idle_gate}
+use Rattle.pud_defs.specs.Layout.{IsWithin, tables_end, frames_at}
+use Rattle.pud_defs.specs.Entries.{Entry, log_of, is_idle_gate}
 use Rattle.pud_defs.specs.Replay.{device_word, new_value, overwritten, IsInLog, is_in_log, settled_by}
 use Rattle.pud_defs.specs.Spaces.{Owner, owner_by, owner_of, are_legal_spaces, has_closed_logs, space_record_at}
 use Rattle.pud_defs.specs.Tables.{tables_of}
 use Rattle.pud_defs.specs.Allowed.{is_refused}
 use Rattle.pud_defs.specs.Settled.{ALL_LOGS, client_of_log, log_number_at, given_by_log, is_refused_log, is_accepted_log, is_in_logs, beside_logs, settled_over, settled}
-use Rattle.pud_defs.specs.LogsTaken.{GivesNothingBelow}
-use Rattle.pud_defs.specs.Registry.{frames_of, is_allowed, are_allowed, has_legal_log}
+use Rattle.pud_defs.specs.Registry.{frames_of, has_legal_log}
 use Rattle.pud_defs.specs.World.{StoredWorld, world_of}
 use Rattle.pud_defs.proofs.Replay.{overwritten-stays, overwritten-there, settled_by-inside, settled_by-outside, settled_by-idle, outside_log, within_log, not_inside}
 use Rattle.pud_defs.proofs.Spaces.{has_closed_logs-same, are_legal_spaces-same, are_legal_spaces-none}
 use Rattle.pud_defs.proofs.Settled.{settled_over-none}
 use Rattle.pud_defs.proofs.Accepted.{accepted_not_refused}
 use Rattle.pud_defs.proofs.LogsTaken.{given_by_log-below}
-use Rattle.pud_defs.proofs.LogsBeside.{agree_tables, agree_owner, agree_log, idle_given, idle_refused, idle_accepted, idle_settled, IsReadBeside, world_again}
+use Rattle.pud_defs.proofs.LogsBeside.{agree_tables, agree_owner, agree_log, idle_given, idle_refused, idle_accepted, idle_settled, world_again}
 use Rattle.pud_defs.proofs.Logged.{has_legal_log-of, settled_by-client_logs}
 use Rattle.pud_defs.proofs.Parts.{HoldsWorld}
 use Rattle.pud_defs.proofs.Worlds.{settled-below, legal_log_of_world, holding_of_world, frames_of_world}
 use Rattle.pud_defs.proofs.IdleWorlds.{legal_log_idle}
 use Rattle.pud_defs.proofs.Idle.{given_by_log-unowned, idle_world_of-unowned}
 use Rattle.log_replay.specs.declared.Target.TheVariants as targets
-use Rattle.log_replay.specs.Replaying.{IsNamed, ByLog as ByOneLog, SettlesLog}
-use Rattle.batch.specs.Batches.{HasIdleGate, batch_write, ByBatch, committed, IsBatched, Commits}
-use Rattle.batch.specs.Worlds.{IsSettled}
-use Rattle.log_space.specs.Clearing.{clearing, HasNoOwners, Empties}
+use Rattle.log_replay.specs.Replaying.{ByLog as ByOneLog, SettlesLog}
+use Rattle.batch.specs.Batches.{HasIdleGate, batch_write, ByBatch, committed, IsBatched}
+use Rattle.log_space.specs.Clearing.{clearing, Empties}
 use Rattle.log_space.proofs.Cleared.{clearing-there, clearing-outside, clearing-allowed}
 use Rattle.registry.specs.declared.Geo.{Geo}
 use Rattle.registry.specs.declared.LoadFault.{LoadFault}
@@ -45,7 +43,7 @@ use Rattle.registry.specs.declared.LoadFault.TheVariants as loads
 use Rattle.registry.specs.Registry.{load_fault, StillStands, AppliesLog}
 use Rattle.recover.specs.declared.recovery.Report.{Report}
 use Rattle.recover.specs.Verdicts.{verdict_by, verdict_of}
-use Rattle.recover.specs.Turns.{IsOfLog, IsOfLogs, ByLogs, IsAlike, TakesTurns}
+use Rattle.recover.specs.Turns.{ByLogs, IsAlike, TakesTurns}
 use Rattle.recover.specs.Recovery.{recover_fault, of_load, ByRecovery, StandsStill, RecoversDevice}
 use Rattle.recover.proofs.TurnsTaken.{none_of_fault}
 
@@ -257,7 +255,7 @@ module _ (size : ℕ) (s : StoredWorld) (a : State) (rested : IsRested a.now.wor
         closed_j : (client : ℕ) → client < CLIENTS → has_closed_logs i F client ≡ true → has_closed_logs image F client ≡ true
         closed_j client few was =
             has_closed_logs-same image n F client few (λ k low high.
-              batched.outside k (outside_log DAEMON_LOG k (inr (omega arith))) (clearing-outside CLIENTS k (omega arith) (inr (omega arith))) ∙ ap (λ (x : Image). x k) before_c)
+            batched.outside k (outside_log DAEMON_LOG k (inr (omega arith))) (clearing-outside CLIENTS k (omega arith) (inr (omega arith))) ∙ ap (λ (x : Image). x k) before_c)
             ∙ (alike_still n alike_c).closed client few was
 
         -- as it was
@@ -340,15 +338,15 @@ module _ (size : ℕ) (s : StoredWorld) (a : State) (rested : IsRested a.now.wor
             let low = inside.low in
             let high = inside.high in
             (turns.changes.keeps (λ cut. absurd (let it : None ≡ Some _ = cut in cc)) k (λ v by.
-              let known = by.below in
-              elim by.of_log.place [
-                | inl here ↦
-                    let same : by.number ≡ number = omega arith in
-                    let accepted = ap (is_accepted_log F m) (sym same) ∙ by.of_log.accepted in
-                    let it = accepted_not_refused (tables_of F m) (owner_of m (client_of_log number)) (log_of m (log_number_at F number)) accepted in
-                    absurd (let no : false ≡ true = sym it ∙ refused in cc)
-                | inr named ↦ none-some named.value (sym (given_by_log-below F m by.number k (omega arith)) ∙ named.is)
-              ])).newest
+            let known = by.below in
+            elim by.of_log.place [
+              | inl here ↦
+                  let same : by.number ≡ number = omega arith in
+                  let accepted = ap (is_accepted_log F m) (sym same) ∙ by.of_log.accepted in
+                  let it = accepted_not_refused (tables_of F m) (owner_of m (client_of_log number)) (log_of m (log_number_at F number)) accepted in
+                  absurd (let no : false ≡ true = sym it ∙ refused in cc)
+              | inr named ↦ none-some named.value (sym (given_by_log-below F m by.number k (omega arith)) ∙ named.is)
+            ])).newest
 
         kept_b : (number : ℕ) → number < ALL_LOGS → (k : ℕ) → IsInLog (log_number_at F number) k → m k ≡ i k
         kept_b number few k inside =

@@ -1,12 +1,12 @@
 -- One log replayed and closed, or left alone: what changes, what is left at each moment, and what is there at the end.
-use Rattle.std.proofs.Common.{◌≡◌, ◌⊎◌, inl, inr, ℕ, ◌+◌, ◌<◌, ◌≤◌, Bool, true, false, cond, Option, Some, None, refl, sym, ap, subst, ◌∙◌, arith}
-use Rattle.std.proofs.lemmas.Bool.{cases_Bool, cases_eq, cond-true, cond-false, eq-eqb}
+use Rattle.std.proofs.Common.{◌≡◌, ◌⊎◌, inl, inr, ℕ, true, false, Option, Some, None, refl, sym, ap, subst, ◌∙◌}
+use Rattle.std.proofs.lemmas.Bool.{cases_eq, eq-eqb}
 use Rattle.std.proofs.lemmas.Option.{none-some}
 use Rattle.pm_model.specs.declared.host.HostFault.{HostFault}
 use Rattle.pm_model.specs.declared.host.HostFault.TheVariants.{Cut}
 use Rattle.pm_model.specs.Words.{Words, reads, Picks, HasOnly, IsRested}
 use Rattle.pm_model.specs.Moments.{State}
-use Rattle.pm_model.specs.Changes.{Changes, Leaves, Silently, Persists, only, written}
+use Rattle.pm_model.specs.Changes.{Leaves, Silently, Persists, only, written}
 use Rattle.pm_model.proofs.Words.{only_at, reads_only, HasOnly-newest, HasOnly-own}
 use Rattle.pm_model.proofs.Changes.{Changes-still, Changes-wider, HasOnly-kept}
 use Rattle.pm_model.proofs.Leaves.{Leaves-still, Leaves-weaker, Leaves-changes}
@@ -15,16 +15,16 @@ use Rattle.pud_defs.specs.declared.log_words.TheConstants.{CLOSED_GATE}
 use Rattle.pud_defs.specs.Image.{Image}
 use Rattle.pud_defs.specs.Entries.{log_of, is_idle_gate}
 use Rattle.pud_defs.specs.Tables.{tables_of}
-use Rattle.pud_defs.specs.Spaces.{Owner, owner_of}
-use Rattle.pud_defs.specs.Settled.{ALL_LOGS, client_of_log, log_number_at, given_by_log, is_refused_log, is_accepted_log}
+use Rattle.pud_defs.specs.Spaces.{owner_of}
+use Rattle.pud_defs.specs.Settled.{client_of_log, log_number_at, given_by_log, is_refused_log, is_accepted_log}
 use Rattle.pud_defs.specs.LogsTaken.{TakesLog}
 use Rattle.pud_defs.proofs.Replay.{empty_range_of}
 use Rattle.pud_defs.proofs.Settled.{gives_to-closed}
 use Rattle.pud_defs.proofs.Accepted.{gives_to-accepted, accepted_not_refused}
 use Rattle.log_replay.specs.declared.Target.{Target}
 use Rattle.log_replay.specs.declared.Target.TheVariants.{Puddles}
-use Rattle.log_replay.specs.Replaying.{IsNamed, HasDurableLog, new_values, ByLog as ByOneLog, IsSettling, SettlesLog}
-use Rattle.recover.specs.Turns.{IsOfLog, ByLog, TakesTurn}
+use Rattle.log_replay.specs.Replaying.{HasDurableLog, new_values, ByLog as ByOneLog, IsSettling, SettlesLog}
+use Rattle.recover.specs.Turns.{ByLog, TakesTurn}
 
 -- a log with an idle gate gives nothing
 pub idle_gives_nothing : (F number : ℕ) (image : Image) (w : ℕ) → is_idle_gate (image (log_number_at F number)) ≡ true → given_by_log F image number w ≡ None
@@ -58,10 +58,13 @@ module _ (F number : ℕ) (image : Image) (old : State) (rested : IsRested old.n
       let now : reads new.now.words ≡ image = ap (λ (s : State). reads s.now.words) same ∙ is in
       record {
         changes = Changes-still (ByLog F number image) fault old new uncut same;
-        moments = Leaves-still (Silently (TakesLog F number image)) old new (λ other picked. (refl, record {
-          stays = λ k apart none. ap (λ (i : Image). i k) (the_image other picked);
-          gate = inl (ap (λ (i : Image). i at) (the_image other picked));
-        })) same;
+        moments = Leaves-still (Silently (TakesLog F number image)) old new (λ other picked. (
+          refl,
+          record {
+            stays = λ k apart none. ap (λ (i : Image). i k) (the_image other picked);
+            gate = inl (ap (λ (i : Image). i at) (the_image other picked));
+          },
+        )) same;
         rested = λ none. subst (λ (s : State). IsRested s.now.words) (sym same) rested;
         gone = λ none w. ap (λ (i : Image). given_by_log F i number w) now ∙ nothing w;
         closed = λ none accepted. ap (λ (i : Image). is_idle_gate (i at)) now ∙ closed none accepted;
@@ -86,11 +89,13 @@ module _ (F number : ℕ) (image : Image) (old : State) (rested : IsRested old.n
                 gate = inr (record { gate = shut.there; there = λ k v some. absurd (none-some v (sym (nothing k) ∙ some)); allowed = not_refused accepted });
               }
             ]) p.changes;
-        rested = λ none. record { each = λ k. elim (cases_eq k at) [
-          | inl here ↦ HasOnly-own (new.now.words k) CLOSED_GATE (p.durable none k CLOSED_GATE (rw (eq-eqb k at here) refl))
-          | inr apart ↦ HasOnly-own (new.now.words k) (old.now.words k).newest
-              (HasOnly-kept (written (only at CLOSED_GATE)) fault old new k (old.now.words k).newest p.changes (λ x new. apart (only_at at CLOSED_GATE k x new)) (rested.each k))
-        ] };
+        rested = λ none. record {
+          each = λ k. elim (cases_eq k at) [
+            | inl here ↦ HasOnly-own (new.now.words k) CLOSED_GATE (p.durable none k CLOSED_GATE (rw (eq-eqb k at here) refl))
+            | inr apart ↦ HasOnly-own (new.now.words k) (old.now.words k).newest
+                (HasOnly-kept (written (only at CLOSED_GATE)) fault old new k (old.now.words k).newest p.changes (λ x new. apart (only_at at CLOSED_GATE k x new)) (rested.each k))
+          ];
+        };
         gone = λ none w. idle_gives_nothing F number (reads new.now.words) w (idle none);
         closed = λ none a. idle none;
       }
@@ -116,23 +121,27 @@ module _ (F number : ℕ) (image : Image) (old : State) (rested : IsRested old.n
             let p = q.1 in
             let from : p.before ≡ image = the_image p.before p.picked in
             let values : (k : ℕ) → new_values (Puddles F) at p.before k ≡ given_by_log F image number k = λ k.
-            ap (λ (i : Image). new_values (Puddles F) at i k) (from ∙ sym is) ∙ sym (same k) in
-            (q.0, record {
-              stays = λ k apart none. p.closing.stays k apart (values k ∙ none) ∙ ap (λ (i : Image). i k) from;
-              gate = elim p.closing.gate [
-                | inl was ↦ inl (was ∙ ap (λ (i : Image). i at) from)
-                | inr shut ↦ inr (record { gate = shut.0; there = λ k v some. shut.1 k v (values k ∙ some); allowed = not_refused accepted })
-              ];
-            })) moments;
-        rested = λ none. record { each = λ k. elim (cases_eq k at) [
-          | inl here ↦ subst (λ n. HasOnly (new.now.words n) (new.now.words n).newest) (sym here) (HasOnly-own (new.now.words at) CLOSED_GATE (s.closed none))
-          | inr apart ↦ elim (write k) as (λ o. write k ≡ o → HasOnly (new.now.words k) (new.now.words k).newest) [
-            | Some v ↦ λ some. HasOnly-own (new.now.words k) v (s.durable none k v some)
-            | None ↦ λ nothing. HasOnly-own (new.now.words k) (old.now.words k).newest
-                (HasOnly-kept (ByOneLog at write) fault old new k (old.now.words k).newest s.changes
-                (λ x by. elim by [ inl here ↦ apart here | inr named ↦ none-some named.value (sym nothing ∙ named.is) ]) (rested.each k))
-          ] refl
-        ] };
+            ap (λ (i : Image). new_values (Puddles F) at i k) (from ∙ sym is) ∙ sym (same k) in (
+              q.0,
+              record {
+                stays = λ k apart none. p.closing.stays k apart (values k ∙ none) ∙ ap (λ (i : Image). i k) from;
+                gate = elim p.closing.gate [
+                  | inl was ↦ inl (was ∙ ap (λ (i : Image). i at) from)
+                  | inr shut ↦ inr (record { gate = shut.0; there = λ k v some. shut.1 k v (values k ∙ some); allowed = not_refused accepted })
+                ];
+              },
+            )) moments;
+        rested = λ none. record {
+          each = λ k. elim (cases_eq k at) [
+            | inl here ↦ subst (λ n. HasOnly (new.now.words n) (new.now.words n).newest) (sym here) (HasOnly-own (new.now.words at) CLOSED_GATE (s.closed none))
+            | inr apart ↦ elim (write k) as (λ o. write k ≡ o → HasOnly (new.now.words k) (new.now.words k).newest) [
+              | Some v ↦ λ some. HasOnly-own (new.now.words k) v (s.durable none k v some)
+              | None ↦ λ nothing. HasOnly-own (new.now.words k) (old.now.words k).newest
+                  (HasOnly-kept (ByOneLog at write) fault old new k (old.now.words k).newest s.changes
+                  (λ x by. elim by [ inl here ↦ apart here | inr named ↦ none-some named.value (sym nothing ∙ named.is) ]) (rested.each k))
+            ] refl
+          ];
+        };
         gone = λ none w. idle_gives_nothing F number (reads new.now.words) w (idle none);
         closed = λ none a. idle none;
       }

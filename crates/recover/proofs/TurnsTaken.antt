@@ -1,30 +1,28 @@
 -- The first logs replayed and closed in turn, and one more.
-use Rattle.std.proofs.Common.{◌≡◌, ◌⊎◌, inl, inr, ℕ, ◌+◌, ◌*◌, ◌/◌, ◌%◌, ◌<◌, ◌≤◌, true, [], Option, Some, None, refl, sym, ap, ◌∙◌, arith}
+use Rattle.std.proofs.Common.{◌≡◌, inl, inr, ℕ, ◌+◌, ◌<◌, ◌≤◌, true, [], Option, Some, None, refl, sym, ap, ◌∙◌, arith}
 use Rattle.std.proofs.lemmas.Bool.{cases_eq}
 use Rattle.std.proofs.lemmas.List.{append-nil}
 use Rattle.pm_model.specs.declared.host.HostFault.{HostFault}
 use Rattle.pm_model.specs.declared.host.HostFault.TheVariants.{Cut}
-use Rattle.pm_model.specs.Words.{reads, Picks, IsRested}
+use Rattle.pm_model.specs.Words.{reads, IsRested}
 use Rattle.pm_model.specs.Moments.{State}
-use Rattle.pm_model.specs.Changes.{Changes, Leaves, Silently}
+use Rattle.pm_model.specs.Changes.{Silently}
 use Rattle.pm_model.proofs.Words.{Picks-reads, reads_only}
 use Rattle.pm_model.proofs.Changes.{Changes-still, Changes-said, Changes-wider, Changes-then}
 use Rattle.pm_model.proofs.Leaves.{Leaves-still, Leaves-now, Leaves-then, Leaves-weaker}
-use Rattle.pud_defs.specs.declared.layout.TheConstants.{CLIENTS, CLIENT_LOGS, POOL_TABLE, SPACE_TABLE, PUDDLE_TABLE}
+use Rattle.pud_defs.specs.declared.layout.TheConstants.{CLIENTS}
 use Rattle.pud_defs.specs.Image.{Image}
-use Rattle.pud_defs.specs.Layout.{tables_end, frames_at}
 use Rattle.pud_defs.specs.Entries.{log_of, is_idle_gate}
 use Rattle.pud_defs.specs.Tables.{tables_of}
 use Rattle.pud_defs.specs.Spaces.{owner_of, has_closed_logs}
 use Rattle.pud_defs.specs.Allowed.{is_accepted}
 use Rattle.pud_defs.specs.Settled.{gives_to, ALL_LOGS, client_of_log, log_number_at, given_by_log, is_refused_log, is_accepted_log, settled_over}
-use Rattle.pud_defs.specs.LogsTaken.{TakesLog, GivesNothingBelow}
+use Rattle.pud_defs.specs.LogsTaken.{TakesLog}
 use Rattle.pud_defs.proofs.Spaces.{owner_of-same}
 use Rattle.pud_defs.proofs.TablesOf.{tables_of-same}
 use Rattle.pud_defs.proofs.LogsTaken.{beside_gate, below_logs, other_log, settled_same, refused_same, nothing_below_next, logs_still_closed}
-use Rattle.log_replay.specs.Replaying.{IsNamed}
 use Rattle.recover.specs.Verdicts.{verdict_by, verdict_of}
-use Rattle.recover.specs.Turns.{IsOfLog, ByLog, IsOfLogs, ByLogs, TakesTurn, IsAlike, TakesTurns}
+use Rattle.recover.specs.Turns.{ByLog, ByLogs, TakesTurn, IsAlike, TakesTurns}
 
 -- ---- images that are alike
 

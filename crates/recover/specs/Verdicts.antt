@@ -1,5 +1,5 @@
 -- What a start finds of the logs of clients.
-use Rattle.std.specs.Prelude.{◌≡◌, ℕ, Bool, true, false, cond, Option, Some, None}
+use Rattle.std.specs.Prelude.{ℕ, Bool, true, false, cond, Option, Some, None}
 use Rattle.pud_defs.specs.Image.{Image}
 use Rattle.pud_defs.specs.Entries.{Log, log_of}
 use Rattle.pud_defs.specs.Spaces.{Owner, owner, owner_of}

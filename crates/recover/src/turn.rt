@@ -67,11 +67,7 @@ fn take_log<H: Host>(
     match mark {
         Mark::Refused => Ok(()),
         Mark::Closed => close_idle(h, frames, number),
-        Mark::Replayed => settle_log(
-            h,
-            log_number_at(frames, number),
-            Target::Puddles(frames),
-        ),
+        Mark::Replayed => settle_log(h, log_number_at(frames, number), Target::Puddles(frames)),
     }
 }
 

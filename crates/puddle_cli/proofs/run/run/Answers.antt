@@ -1,9 +1,10 @@
-use Rattle.std.proofs.Common.{◌≡◌, Bool, true, false, Ok, Err, Some, None, refl, sym, ap, subst, ◌∙◌}
+use Rattle.std.proofs.Common.{◌≡◌, ℕ, Bool, true, false, Ok, Err, Some, None, refl, sym, ap, subst, ◌∙◌}
 use Rattle.pm_model.specs.Counts.{Counts}
 use Rattle.pm_model.specs.Words.{reads}
 use Rattle.puddled.specs.declared.daemon.RunFault.TheVariants as faults
 use Rattle.puddled.specs.Faults.{Ends}
 use Rattle.puddle_cli.specs.Serving.{TakesBy, AnsweredBy}
+use Rattle.puddle_cli.specs.Headline.{TakesScript}
 use Rattle.puddle_cli.proofs.Running.{TakesScript-unstarted, TakesScript-served, Headline-in_start, Headline-served, never_unsound}
 use Rattle.puddle_cli.proofs.Statuses.{goes_on, stays_sound, usable_by, not_whole_of}
 use Rattle.puddle_cli.proofs.run.run.Goals as goal
@@ -76,3 +77,8 @@ pub returns-in-Ok-false-clause-takes : goal.returns-in-Ok-false-clause-takes
 returns-in-Ok-false-clause-takes g c = λ t.
     TakesScript-served (Ok false) _ _ _ (c.in-Ok.ensures.rest t)
     (subst (λ (b : Bool). TakesBy (Ok b) (g.H.Host.state c.start.new.h) (g.H.Host.state c.serve.new.h)) c.in-Ok-false.field-0-test (c.in-Ok-false.ensures.takes t))
+
+pub returns-in-Err-clause-takes : goal.returns-in-Err-clause-takes
+returns-in-Err-clause-takes g c = λ t.
+    subst (λ (status : ℕ). TakesScript status (g.H.Host.state c.args.h.now) (g.H.Host.state c.serve.new.h)) (sym c.status_of_run.ensures.status)
+    (TakesScript-served (Err c.in-Err.fault) _ _ _ (c.in-Ok.ensures.rest t) (c.in-Err.ensures.takes t))

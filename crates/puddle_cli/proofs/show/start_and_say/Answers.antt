@@ -44,7 +44,7 @@ returns-clause-says g c = λ t rested sound.
 pub returns-clause-in_the_end : goal.returns-clause-in_the_end
 returns-clause-in_the_end g c = λ t rested ok.
     let same = words_said _ _ _ _ (c.in_ok-say_view.ensures.says t).says in
-    ap (λ words. text_of c.args.view (reads words)) same ∙ shown_in_the_end _ c.args.view _ _ (not_refused _ _ (c.in_ok-daemon.ensures.not_sound t refl)) (c.in_ok-daemon.ensures.replays t rested)
+    ap (λ words. text_of c.args.view (reads words)) same ∙ shown_in_the_end _ c.args.view (g.H.Host.state c.args.h.now) (g.H.Host.state c.start.new.h) (not_refused _ _ (c.in_ok-daemon.ensures.not_sound t refl)) (c.in_ok-daemon.ensures.replays t rested)
 
 pub returns-clause-moments : goal.returns-clause-moments
 returns-clause-moments g c = λ t size same rested s world.

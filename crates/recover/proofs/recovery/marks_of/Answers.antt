@@ -1,4 +1,4 @@
-use Rattle.std.proofs.Common.{◌≡◌, ◌+◌, ℕ, refl, arith}
+use Rattle.std.proofs.Common.{refl, arith}
 use Rattle.std.proofs.lemmas.List.{get_or-replicate}
 use Rattle.pud_defs.specs.Settled.{ALL_LOGS}
 use Rattle.recover.specs.declared.judge.Mark.TheVariants.{Closed}

@@ -1,9 +1,7 @@
-use Rattle.std.proofs.Common.{◌≡◌, ◌∙◌, ℕ, Result, Ok, Err, None, Some, refl, sym, ap, subst}
+use Rattle.std.proofs.Common.{◌≡◌, ◌∙◌, ℕ, Err, None, Some, refl, sym, ap, subst}
 use Rattle.std.proofs.lemmas.Option.{none-some}
 use Rattle.std.proofs.lemmas.Result.{err_from_is_err_and}
-use Rattle.pm_model.specs.declared.host.HostFault.{HostFault}
 use Rattle.pm_model.specs.Words.{reads}
-use Rattle.pm_model.specs.Moments.{State}
 use Rattle.pm_model.proofs.Changes.{Changes-then}
 use Rattle.pud_defs.specs.declared.layout.TheConstants.{DAEMON_LOG}
 use Rattle.pud_defs.specs.Image.{Image}
@@ -27,9 +25,9 @@ returns-in_err-geo-clause-recovers g c =
     let p = err_from_is_err_and c.from_residual.result c.from_residual.ensures.1 in
     let fault = c.in_err-geo.field-0.0 in
     rw (p.1, p.2) (λ t size same s rested world.
-      let sound : fault ≡ NotSound → ⊥ = λ is. none-some s (sym ((c.in_err-geo.ensures.not_sound t (ap (λ (f : LoadFault). load_fault {T = Geo} (Err f)) is)).0 (ap Err is)) ∙ rw (sym same) world) in
-      Recovers-loaded size s (g.H.Host.state c.args.h.now) rested world fault (g.H.Host.state c.load_sound.new.h) sound
-      (c.in_err-geo.ensures.applies t size same s rested world) (c.in_err-geo.ensures.settles t (λ is. sound cc)))
+    let sound : fault ≡ NotSound → ⊥ = λ is. none-some s (sym ((c.in_err-geo.ensures.not_sound t (ap (λ (f : LoadFault). load_fault {T = Geo} (Err f)) is)).0 (ap Err is)) ∙ rw (sym same) world) in
+    Recovers-loaded size s (g.H.Host.state c.args.h.now) rested world fault (g.H.Host.state c.load_sound.new.h) sound
+    (c.in_err-geo.ensures.applies t size same s rested world) (c.in_err-geo.ensures.settles t (λ is. sound cc)))
 
 pub returns-in_err-marks-clause-recovers : goal.returns-in_err-marks-clause-recovers
 returns-in_err-marks-clause-recovers g c =
@@ -39,17 +37,17 @@ returns-in_err-marks-clause-recovers g c =
     let d = g.H.Host.state c.settle_logs.new.h in
     let fault = c.in_err-marks.field-0.0 in
     rw (p.1, p.2) (λ t size same s rested world.
-      let applies = c.in_ok-geo.ensures.applies t size same s rested world in
-      let settles = c.in_ok-geo.ensures.settles t (λ is. cc) in
-      Recovers-logs size s a rested world b applies settles fault d
-      (subst (λ (F : ℕ). TakesTurns F ALL_LOGS (reads b.now.words) (Some fault) b d) (c.in_ok-geo.ensures.geo t size same s world).0
-      (c.in_err-marks.ensures.takes t (reads b.now.words) (applies.rested refl) refl)))
+    let applies = c.in_ok-geo.ensures.applies t size same s rested world in
+    let settles = c.in_ok-geo.ensures.settles t (λ is. cc) in
+    Recovers-logs size s a rested world b applies settles fault d
+    (subst (λ (F : ℕ). TakesTurns F ALL_LOGS (reads b.now.words) (Some fault) b d) (c.in_ok-geo.ensures.geo t size same s world).0
+    (c.in_err-marks.ensures.takes t (reads b.now.words) (applies.rested refl) refl)))
 
 pub returns-in_err-marks-clause-any : goal.returns-in_err-marks-clause-any
 returns-in_err-marks-clause-any g c =
     let p = err_from_is_err_and c.from_residual-in_err-marks.result c.from_residual-in_err-marks.ensures.1 in
     rw (p.1, p.2) (λ t. Changes-then Anything (Some c.in_err-marks.field-0.0) (g.H.Host.state c.args.h.now) (g.H.Host.state c.load_sound.new.h) (g.H.Host.state c.settle_logs.new.h)
-      (c.in_ok-geo.ensures.any t) (c.in_err-marks.ensures.any t))
+    (c.in_ok-geo.ensures.any t) (c.in_err-marks.ensures.any t))
 
 pub returns-in_err-clear_spaces-clause-recovers : goal.returns-in_err-clear_spaces-clause-recovers
 returns-in_err-clear_spaces-clause-recovers g c =
@@ -59,12 +57,12 @@ returns-in_err-clear_spaces-clause-recovers g c =
     let d = g.H.Host.state c.settle_logs.new.h in
     let fault = c.in_err-clear_spaces.field-0.0 in
     rw (p.1, p.2) (λ t size same s rested world.
-      let applies = c.in_ok-geo.ensures.applies t size same s rested world in
-      let settles = c.in_ok-geo.ensures.settles t (λ is. cc) in
-      let turns = subst (λ (F : ℕ). TakesTurns F ALL_LOGS (reads b.now.words) None b d) (c.in_ok-geo.ensures.geo t size same s world).0
-      (c.in_ok-marks.ensures.takes t (reads b.now.words) (applies.rested refl) refl) in
-      Recovers-cleared size s a rested world b applies settles d turns (Some fault) (g.H.Host.state c.clear_spaces.new.h)
-      (c.in_err-clear_spaces.ensures.empties t (HasIdleGate-logs size s a rested world b applies settles d turns)))
+    let applies = c.in_ok-geo.ensures.applies t size same s rested world in
+    let settles = c.in_ok-geo.ensures.settles t (λ is. cc) in
+    let turns = subst (λ (F : ℕ). TakesTurns F ALL_LOGS (reads b.now.words) None b d) (c.in_ok-geo.ensures.geo t size same s world).0
+    (c.in_ok-marks.ensures.takes t (reads b.now.words) (applies.rested refl) refl) in
+    Recovers-cleared size s a rested world b applies settles d turns (Some fault) (g.H.Host.state c.clear_spaces.new.h)
+    (c.in_err-clear_spaces.ensures.empties t (HasIdleGate-logs size s a rested world b applies settles d turns)))
 
 pub returns-in_err-clear_spaces-clause-any : goal.returns-in_err-clear_spaces-clause-any
 returns-in_err-clear_spaces-clause-any g c =
@@ -73,7 +71,7 @@ returns-in_err-clear_spaces-clause-any g c =
     let b = g.H.Host.state c.load_sound.new.h in
     let d = g.H.Host.state c.settle_logs.new.h in
     rw (p.1, p.2) (λ t. Changes-then Anything (Some c.in_err-clear_spaces.field-0.0) a d (g.H.Host.state c.clear_spaces.new.h)
-      (Changes-then Anything None a b d (c.in_ok-geo.ensures.any t) (c.in_ok-marks.ensures.any t)) (c.in_err-clear_spaces.ensures.any t))
+    (Changes-then Anything None a b d (c.in_ok-geo.ensures.any t) (c.in_ok-marks.ensures.any t)) (c.in_err-clear_spaces.ensures.any t))
 
 pub returns-clause-recovers : goal.returns-clause-recovers
 returns-clause-recovers g c = λ t size same s rested world.

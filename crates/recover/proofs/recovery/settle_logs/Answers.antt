@@ -1,8 +1,7 @@
-use Rattle.std.proofs.Common.{◌≡◌, ◌∙◌, ℕ, None, Some, refl, sym, ap, subst}
+use Rattle.std.proofs.Common.{◌∙◌, None, Some, sym, ap, subst}
 use Rattle.std.proofs.lemmas.Result.{err_from_is_err_and}
 use Rattle.pm_model.specs.Words.{reads, IsRested}
 use Rattle.pm_model.specs.Moments.{State}
-use Rattle.pm_model.specs.Counts.{fault_of}
 use Rattle.pud_defs.specs.Settled.{ALL_LOGS}
 use Rattle.recover.specs.Verdicts.{mark_of}
 use Rattle.recover.specs.Turns.{TakesTurns}
@@ -13,16 +12,16 @@ pub returns-in_err-found-clause-takes : goal.returns-in_err-found-clause-takes
 returns-in_err-found-clause-takes g c =
     let p = err_from_is_err_and c.from_residual.result c.from_residual.ensures.1 in
     rw (p.1, p.2) (λ t image rested is.
-      TakesTurns-unread c.args.frames image c.in_err-found.field-0.0 (g.H.Host.state c.args.h.now) (g.H.Host.state c.judge.new.h) rested is c.in_err-found.ensures.never_cut (c.judge.ensures.stays t))
+    TakesTurns-unread c.args.frames image c.in_err-found.field-0.0 (g.H.Host.state c.args.h.now) (g.H.Host.state c.judge.new.h) rested is c.in_err-found.ensures.never_cut (c.judge.ensures.stays t))
 
 pub returns-in_err-take_logs-clause-takes : goal.returns-in_err-take_logs-clause-takes
 returns-in_err-take_logs-clause-takes g c =
     let p = err_from_is_err_and c.from_residual-in_err-take_logs.result c.from_residual-in_err-take_logs.ensures.1 in
     let read = c.judge.ensures.stays in
     rw (p.1, p.2) (λ t image rested is.
-      subst (λ (s : State). TakesTurns c.args.frames ALL_LOGS image (Some c.in_err-take_logs.field-0.0) s (g.H.Host.state c.take_logs.new.h)) (read t)
-      (c.in_err-take_logs.ensures.takes t image (subst (λ (s : State). IsRested s.now.words) (sym (read t)) rested) (ap (λ (s : State). reads s.now.words) (read t) ∙ is)
-      (c.in_ok-found.ensures.marks t image is)))
+    subst (λ (s : State). TakesTurns c.args.frames ALL_LOGS image (Some c.in_err-take_logs.field-0.0) s (g.H.Host.state c.take_logs.new.h)) (read t)
+    (c.in_err-take_logs.ensures.takes t image (subst (λ (s : State). IsRested s.now.words) (sym (read t)) rested) (ap (λ (s : State). reads s.now.words) (read t) ∙ is)
+    (c.in_ok-found.ensures.marks t image is)))
 
 pub returns-clause-marks : goal.returns-clause-marks
 returns-clause-marks g c = λ t image is number few. c.marks_of.ensures number few ∙ ap mark_of (c.in_ok-found.ensures.marks t image is number few)

@@ -1,6 +1,5 @@
 use Rattle.std.proofs.Common.{◌≡◌, ◌∙◌, ℕ, Some, None, sym, ap, subst}
 use Rattle.std.proofs.lemmas.Result.{err_from_is_err_and}
-use Rattle.pm_model.specs.declared.host.HostFault.{HostFault}
 use Rattle.pm_model.specs.Words.{reads}
 use Rattle.pm_model.specs.Counts.{fault_of}
 use Rattle.pm_model.specs.Moments.{State}
@@ -19,8 +18,8 @@ pub returns-in_err-gate-clause-takes : goal.returns-in_err-gate-clause-takes
 returns-in_err-gate-clause-takes g c =
     let p = err_from_is_err_and c.from_residual.result c.from_residual.ensures.1 in
     rw (p.1, p.2) (λ t image rested is verdict.
-      TakesTurn-still c.args.frames c.args.number image (g.H.Host.state c.args.h.now) rested is _ _ c.in_err-gate.ensures.never_cut (c.load.ensures.state t)
-      (closed_gives_nothing c.args.frames c.args.number image verdict) (λ none. absurd (let it : None ≡ Some _ = sym none in cc)))
+    TakesTurn-still c.args.frames c.args.number image (g.H.Host.state c.args.h.now) rested is _ _ c.in_err-gate.ensures.never_cut (c.load.ensures.state t)
+    (closed_gives_nothing c.args.frames c.args.number image verdict) (λ none. absurd (let it : None ≡ Some _ = sym none in cc)))
 
 pub returns-then-gate-eq0-clause-takes : goal.returns-then-gate-eq0-clause-takes
 returns-then-gate-eq0-clause-takes g c = λ t image rested is verdict.

@@ -44,16 +44,16 @@ returns-in_err-take_log-clause-takes g c =
     let new = g.H.Host.state c.take_log.new.h in
     let fault = c.in_err-take_log.field-0.0 in
     rw (p.1, p.2) (λ t image rested is verdicts.
-      let first = c.loop-number.invariant.takes t image rested is verdicts in
-      TakesTurns-failed F (number + 1) ALL_LOGS image fault old new (omega arith)
-      (TakesTurns-turn F number image old mid (omega arith) first (Some fault) new
-      (c.in_err-take_log.ensures.takes t (reads mid.now.words) (first.rested refl) refl (verdicts number (omega arith) ∙ sym (verdict_mid F number image old mid (omega arith) first)))))
+    let first = c.loop-number.invariant.takes t image rested is verdicts in
+    TakesTurns-failed F (number + 1) ALL_LOGS image fault old new (omega arith)
+    (TakesTurns-turn F number image old mid (omega arith) first (Some fault) new
+    (c.in_err-take_log.ensures.takes t (reads mid.now.words) (first.rested refl) refl (verdicts number (omega arith) ∙ sym (verdict_mid F number image old mid (omega arith) first)))))
 
 pub returns-in_err-take_log-clause-any : goal.returns-in_err-take_log-clause-any
 returns-in_err-take_log-clause-any g c =
     let p = err_from_is_err_and c.from_residual.result c.from_residual.ensures.1 in
     rw (p.1, p.2) (λ t. Changes-then Anything (Some c.in_err-take_log.field-0.0) (g.H.Host.state c.args.h.now) (g.H.Host.state c.loop-number.h) (g.H.Host.state c.take_log.new.h)
-      (c.loop-number.invariant.any t) (c.in_err-take_log.ensures.any t))
+    (c.loop-number.invariant.any t) (c.in_err-take_log.ensures.any t))
 
 pub returns-clause-takes : goal.returns-clause-takes
 returns-clause-takes g c = λ t image rested is verdicts.
