@@ -102,17 +102,74 @@ fn one_word_amiss_is_not_sound(rt: HostRuntime) {
     );
 }
 
+// The logs of a client that is not registered may hold anything.
 #[test]
-fn a_registered_log_has_to_be_closed(rt: HostRuntime) {
+fn a_registered_log_may_be_open(rt: HostRuntime) {
     starts_as(
         &rt,
         rt.alloc(),
         &[
-            (&[(SPACE_TABLE, 1), (1_568, 512)], NOT_SOUND),
+            (&[(SPACE_TABLE, 1), (1_568, 512)], STARTED),
             (&[(SPACE_TABLE, 1), (1_568, CLOSED_GATE)], STARTED),
             (&[(1_568, 512)], STARTED),
+            (&[(1_568, 1 << 32)], STARTED),
         ],
     );
+}
+
+/// A start on a blank device with these words has to say this, and a second one that it is ready.
+fn says(rt: &impl Abort, alloc: Global, words: &[(u32, u64)], said: &str) {
+    let mut host = device_with(rt, alloc, words);
+    assert!(rt; start_of(&mut host) == STARTED);
+    has_said(rt, &host, said);
+    assert!(rt; start_of(&mut host) == STARTED);
+    assert!(rt; host.said().strip_prefix(said.as_bytes()) == Some(b"ready\n".as_slice()));
+}
+
+#[test]
+fn a_start_says_each_registered_log_that_it_refuses_once(rt: HostRuntime) {
+    let rows: [(&[(u32, u64)], &str); 6] = [
+        (
+            &[(SPACE_TABLE, 1), (1_568, 1 << 32)],
+            "refused 0 0\nready\n",
+        ),
+        (
+            &[(SPACE_TABLE, 1), (4_640, 1 << 32)],
+            "refused 0 3\nready\n",
+        ),
+        (
+            &[(SPACE_TABLE + 56, 1), (33_312, 1 << 32), (30_240, 1 << 32)],
+            "refused 7 0\nrefused 7 3\nready\n",
+        ),
+        // Of two spaces, of which one is not registered, and of two that are.
+        (
+            &[(SPACE_TABLE, 1), (1_568, 1 << 32), (5_664, 1 << 32)],
+            "refused 0 0\nready\n",
+        ),
+        (
+            &[
+                (SPACE_TABLE, 1),
+                (SPACE_TABLE + 8, 1),
+                (2_592, 1 << 32),
+                (5_664, 1 << 32),
+            ],
+            "refused 0 1\nrefused 1 0\nready\n",
+        ),
+        // The daemon log registers it.
+        (
+            &[
+                (DAEMON_LOG, 197_634),
+                (72, SPACE_TABLE as u64),
+                (73, 4_295_163_905),
+                (74, 1),
+                (1_568, 1 << 32),
+            ],
+            "refused 0 0\nready\n",
+        ),
+    ];
+    for (words, said) in rows {
+        says(&rt, rt.alloc(), words, said);
+    }
 }
 
 /// Once a start on the blank device with these words has gone well and power is lost, where each word has its durable value,

@@ -1,5 +1,5 @@
 //! Tests of what whole runs of the program leave on a device: formatted, found not sound, with a type defined, with a
-//! client, with pools, laid out, checked.
+//! client, with pools, with open logs, laid out, checked.
 #![tactic(auto)]
 
 #[cfg(test)]
@@ -14,6 +14,8 @@ mod formatting;
 mod layouts;
 #[cfg(test)]
 mod pools;
+#[cfg(test)]
+mod recoveries;
 #[cfg(test)]
 mod run;
 #[cfg(test)]
