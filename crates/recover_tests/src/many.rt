@@ -147,15 +147,10 @@ fn filled(
 ) -> (MemHost, MemHost) {
     let mut host = device(rt, alloc, &[]);
     let mut other = device(rt, alloc, &[]);
-    for host in [&mut host, &mut other] {
-        fill(rt, host, last);
-        assert!(rt;
-            poke(
-                host,
-                &[(GATE, 512 + 65_536 * u64::from(used)), (NEXT_GATE, 0)]
-            )
-        );
-    }
+    let gates = [(GATE, 512 + 65_536 * u64::from(used)), (NEXT_GATE, 0)];
+    fill(rt, &mut host, last);
+    fill(rt, &mut other, last);
+    assert!(rt; poke(&mut host, &gates) && poke(&mut other, &gates));
     empty_spaces(rt, &mut other);
     if values > 0 {
         leave(rt, &mut other, values);
