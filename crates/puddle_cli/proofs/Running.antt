@@ -1,10 +1,10 @@
 -- One run over a script, from the start to the exit.
-use Rattle.std.proofs.Common.{◌≡◌, ℕ, ◌+◌, ◌≤◌, Bool, true, false, List, [], ◌∷◌, ◌++◌, Option, Some, None, Result, Ok, Err, refl, sym, ap, subst, ◌∙◌, arith, append_assoc}
+use Rattle.std.proofs.Common.{◌<◌, ◌≡◌, ℕ, ◌+◌, ◌≤◌, Bool, true, false, List, [], ◌∷◌, ◌++◌, Option, Some, None, Result, Ok, Err, refl, sym, ap, subst, ◌∙◌, arith, append_assoc}
 use Rattle.std.proofs.lemmas.List.{append-nil}
 use Rattle.pm_model.specs.declared.host.HostFault.{HostFault}
 use Rattle.pm_model.specs.declared.host.HostFault.TheVariants as hosts
 use Rattle.pm_model.specs.Counts.{Counts, risen, after_fault}
-use Rattle.pm_model.specs.Words.{IsRested, reads}
+use Rattle.pm_model.specs.Words.{Image, IsRested, reads}
 use Rattle.pm_model.specs.Moments.{State}
 use Rattle.pm_model.specs.Changes.{Leaves}
 use Rattle.pm_model.proofs.Leaves.{Leaves-then, Leaves-weaker, Leaves-each}
@@ -19,6 +19,7 @@ use Rattle.pud_defs.proofs.Idle.{world_of_idle}
 use Rattle.pud_defs.proofs.Changing.{KeepsFiles-still, KeepsUnwritable-still, KeepsUnwritable-then, KeepsUnwritable-none}
 use Rattle.pud_defs.proofs.Lines.{newlines-append, newlines_part, lines_taken-nothing}
 use Rattle.pud_defs.proofs.Stands.{StandsBehind-closed, StandsBehind-after}
+use Rattle.recover.specs.Recovery.{DiffersByRecovery}
 use Rattle.puddled.specs.declared.daemon.RunFault.{RunFault}
 use Rattle.puddled.specs.declared.daemon.RunFault.TheVariants as faults
 use Rattle.puddled.specs.Faults.{RoseBy, last_fault, is_loss, CountsTurns}
@@ -82,6 +83,13 @@ module _ (size : ℕ) (w : World) (start : State) (rested : IsRested start.now.w
       let whole = ap newlines (sym m.0.is) in
       StandsBehind-closed (newlines text) size w turns (newlines bytes) image (omega arith) m.1) s.moments
 
+  -- until its text is said whole an image differs from what was read only where a recovery may write
+  start_rights : (result : Result Memory StartFault) (now : State) → Starts size w result start now
+      → Leaves (λ bytes image. newlines bytes < newlines text → DiffersByRecovery w.stored.frames (reads start.now.words) image) start now
+  start_rights result now s =
+      Leaves-weaker (λ bytes image. DiffersByRecovery w.stored.frames (reads start.now.words) image) (λ bytes image. newlines bytes < newlines text → DiffersByRecovery w.stored.frames (reads start.now.words) image) start now
+      (λ bytes image m few. m) s.rights
+
   -- the host failed within the start, or power was lost in it
   pub Headline-in_start : (fault : HostFault) (status : ℕ) (before after : Counts) (now : State) → IsStatusOfMode status → status_fault status ≡ Some fault
       → after ≡ after_fault (Some fault) before → start.shelf ≡ w.shelf → Starts size w (Err (starts.Host fault)) start now → Headline size w status before after start now
@@ -114,7 +122,10 @@ module _ (size : ℕ) (w : World) (start : State) (rested : IsRested start.now.w
           files = KeepsFiles-still None w.shelf now.shelf (s.shelf ∙ shelf);
           shelf_of_run = λ none. absurd (not_whole none);
         };
-        moments = record { stands = Leaves-each (λ said image. StandsBehind (newlines text) size w [] (newlines said) image) start now (start_moments [] (Err (starts.Host fault)) now s) };
+        moments = record {
+          stands = Leaves-each (λ said image. StandsBehind (newlines text) size w [] (newlines said) image) start now (start_moments [] (Err (starts.Host fault)) now s);
+          rights = Leaves-each (λ said image. newlines said < newlines text → DiffersByRecovery w.stored.frames (reads start.now.words) image) start now (start_rights (Err (starts.Host fault)) now s);
+        };
         counted = record {
           mid = before;
           in_start = λ _. as_told;
@@ -182,6 +193,10 @@ module _ (size : ℕ) (w : World) (start : State) (rested : IsRested start.now.w
               (λ more image p. subst (λ (n : ℕ). StandsBehind (newlines text) size w (a.answered ++ a.pending) n image)
               (sym (newlines-append text more)) (StandsBehind-after (newlines text) size w (a.answered ++ a.pending) (newlines more) image p))
               (start_moments (a.answered ++ a.pending) (Ok memory) mid s) a.moments);
+          rights =
+              let R : List ℕ → Image → Type 0 = λ said image. newlines said < newlines text → DiffersByRecovery w.stored.frames (reads start.now.words) image in
+              Leaves-each R start now (Leaves-then R (StandsWith size w (a.answered ++ a.pending)) R text start mid now first (λ front image p. p)
+              (λ more image p. λ few. let count = newlines-append text more in absurd (omega arith)) (start_rights (Ok memory) mid s) a.moments);
         };
         counted = record {
           mid = a.mid;

@@ -13,6 +13,7 @@ use Rattle.pud_defs.specs.Texts.{replies_text}
 use Rattle.pud_defs.specs.StartText.{start_text}
 use Rattle.pud_defs.specs.Stands.{StandsBehind}
 use Rattle.puddle_cli.specs.declared.status.TheConstants.{DONE, POWER_LOST, TOO_LONG}
+use Rattle.recover.specs.Recovery.{DiffersByRecovery}
 use Rattle.puddled.specs.Daemon.{IsPart}
 use Rattle.puddled.specs.Faults.{RoseBy, is_loss, CountsTurns}
 use Rattle.puddle_cli.specs.Status.{status_fault, run_fault_at}
@@ -68,9 +69,12 @@ pub record RunExit (size : ℕ) (w : World) (status : ℕ) (start end : State) (
   pub shelf_of_run : run_fault_at status ≡ None → end.shelf ≡ (last_world w run.answered).shelf
 
 -- Every moment of a run: what an image stands for that may have been left since the start of the call, by the bytes said since then. The lines
--- of the start's text come first.
+-- of the start's text come first. Until they are whole an image differs from what the device read only where a recovery may write: what the
+-- daemon log names, what logs give whose owners may write all that they name, their gates, the daemon log and the log-space table.
 pub record RunMoments (size : ℕ) (w : World) (start end : State) (run : ScriptRun w start end) : Type 0 where
   pub stands : (said : List ℕ) (image : Image) → MayLeave start end said image → StandsBehind (newlines (start_text (reads start.now.words))) size w (run.answered ++ run.pending) (newlines said) image
+  pub rights : (said : List ℕ) (image : Image) → MayLeave start end said image → newlines said < newlines (start_text (reads start.now.words))
+      → DiffersByRecovery w.stored.frames (reads start.now.words) image
 
 -- What was counted in a run. Within the start it is the host's one fault. Behind it each line answered is counted by its command and its reply:
 -- only there a cut is armed, or power lost at once, and no such line is answered `cut`; and the line under way is counted by its command and by

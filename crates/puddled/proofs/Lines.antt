@@ -23,6 +23,7 @@ use Rattle.pud_defs.proofs.Lines.{newlines_part}
 use Rattle.pud_defs.proofs.Said.{newlines-answer_text}
 use Rattle.batch.specs.Tables.{HasDurableTables}
 use Rattle.batch.specs.Worlds.{IsSettled}
+use Rattle.recover.specs.Recovery.{DiffersByRecovery}
 use Rattle.puddled.specs.declared.daemon.RunFault.{RunFault}
 use Rattle.puddled.specs.declared.daemon.RunFault.TheVariants.{NotSound}
 use Rattle.puddled.specs.Memory.{Memory}
@@ -86,11 +87,14 @@ Starts-says size w memory result old mid new r says same =
     let fault = start_fault result in
     let part = SaysPart-says text fault mid new says in
     let P : List ℕ → Image → Type 0 = λ bytes image. IsPart bytes text × (world_of size image ≡ Some (closed w)) in
+    let D : List ℕ → Image → Type 0 = λ bytes image. DiffersByRecovery w.stored.frames (reads old.now.words) image in
     record {
       says = record { bytes = part.bytes; rest = part.rest; part = part.part; said = part.said ∙ ap (λ (l : List ℕ). l ++ part.bytes) r.quiet; whole = part.whole };
       moments = Leaves-then (Silently (λ image. world_of size image ≡ Some (closed w))) P P [] old mid new (r.quiet ∙ sym (append-nil old.now.said))
           (λ front image m. (record { rest = text; is = ap (λ (l : List ℕ). l ++ text) (sym m.0) }, m.1)) (λ more image m. m) r.moments
           (Leaves-says text fault P mid new (λ front image prefix picked. (record { rest = prefix.rest; is = prefix.is }, world_of_idle size image (closed w) (r.ready.settled.stands image picked))) says);
+      rights = Leaves-then D D D [] old mid new (r.quiet ∙ sym (append-nil old.now.said)) (λ front image m. m) (λ more image m. m) r.rights
+          (Leaves-says text fault D mid new (λ front image prefix picked. Leaves-now D [] old mid (r.quiet ∙ sym (append-nil old.now.said)) r.rights image picked) says);
       ready = ready_by size (restart w) memory new result same (IsReady-said size (restart w) memory mid new (words_said text fault mid new says) (shelf_said text fault mid new says) r.ready);
       script = script_said text fault mid new says ∙ r.script;
       shelf = shelf_said text fault mid new says ∙ r.shelf;
@@ -101,6 +105,7 @@ Starts-nothing size w fault old new r =
     let text = start_text (reads old.now.words) in
     record {
       says = SaysPart-nothing text fault old new r.quiet;
+      rights = r.rights;
       moments = Leaves-weaker (Silently (λ image. world_of size image ≡ Some (closed w))) (λ bytes image. IsPart bytes text × (world_of size image ≡ Some (closed w))) old new
           (λ bytes image m. (record { rest = text; is = ap (λ (l : List ℕ). l ++ text) (sym m.0) }, m.1)) r.moments;
       ready = tt;

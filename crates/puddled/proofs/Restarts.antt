@@ -23,7 +23,7 @@ use Rattle.log_replay.specs.Replaying.{Anything}
 use Rattle.recover.specs.declared.recovery.Report.{Report}
 use Rattle.recover.specs.declared.recovery.RecoverFault.{RecoverFault}
 use Rattle.recover.specs.declared.recovery.RecoverFault.TheVariants as recoveries
-use Rattle.recover.specs.Recovery.{recover_fault, ByRecovery, StandsStill, RecoversDevice}
+use Rattle.recover.specs.Recovery.{recover_fault, ByRecovery, DiffersByRecovery, StandsStill, RecoversDevice}
 use Rattle.puddled.specs.declared.daemon.StartFault.{StartFault}
 use Rattle.puddled.specs.declared.daemon.StartFault.TheVariants as starts
 use Rattle.puddled.specs.Faults.{start_fault, of_recover}
@@ -60,6 +60,7 @@ module _ (size : ℕ) (w : World) (a b : State) where
       → IfOk result (λ memory. IsReady size (restart w) memory b) → Recovers size w result a b
   Recovers-by fault result world r ready = record {
     moments = Leaves-weaker (Silently (StandsStill size (closed w) (reads a.now.words))) (Silently (λ image. world_of size image ≡ Some (closed w))) a b (λ bytes image m. (m.0, m.1.stands)) r.moments;
+    rights = Leaves-weaker (Silently (DiffersByRecovery w.stored.frames (reads a.now.words))) (λ bytes image. DiffersByRecovery w.stored.frames (reads a.now.words) image) a b (λ bytes image m. m.1) r.rights;
     allowed = λ none. Leaves-weaker (Silently (StandsStill size (closed w) (reads a.now.words))) (λ bytes image. RefusesNone image) a b (λ bytes image m. record {
       each = λ number few.
           let frames : frames_of image ≡ w.stored.frames = frames_of_world size image (closed w) m.1.stands in

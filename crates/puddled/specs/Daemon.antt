@@ -27,6 +27,7 @@ use Rattle.batch.specs.Worlds.{IsSettled}
 use Rattle.recover.specs.declared.judge.Mark.{Mark}
 use Rattle.recover.specs.declared.judge.Mark.TheVariants.{Closed}
 use Rattle.recover.specs.Verdicts.{is_refused_mark}
+use Rattle.recover.specs.Recovery.{DiffersByRecovery}
 use Rattle.puddled.specs.Memory.{Memory}
 use Rattle.puddled.specs.declared.answers.Answered.{Answered}
 use Rattle.puddled.specs.Answered.{answer_of}
@@ -125,10 +126,12 @@ pub record Settles (size : ℕ) (w : World) (line : List ℕ) (result : Result A
   pub sound : run_fault result ≢ Some faults.NotSound
   pub script : new.script ≡ old.script
 
--- The daemon recovered what a rested device stands for, without a word: at each moment each image stands for the world, refuses no log where none
+-- The daemon recovered what a rested device stands for, without a word: at each moment each image stands for the world, differs from what was
+-- read only where a recovery may write, refuses no log where none
 -- was refused, and has a client's logs closed where they were closed; without a fault the daemon is ready in it.
 pub record Recovers (size : ℕ) (w : World) (result : Result Memory StartFault) (old new : State) : Type 0 where
   pub moments : Leaves (Silently (λ image. world_of size image ≡ Some (closed w))) old new
+  pub rights : Leaves (λ bytes image. DiffersByRecovery w.stored.frames (reads old.now.words) image) old new
   pub allowed : RefusesNone (reads old.now.words) → Leaves (λ bytes image. RefusesNone image) old new
   pub logs : (client : ℕ) → client < CLIENTS → has_closed_logs (reads old.now.words) w.stored.frames client ≡ true
       → Leaves (λ bytes image. has_closed_logs image w.stored.frames client ≡ true) old new
@@ -150,10 +153,11 @@ pub record AreMarks (image : Image) (marks : List Mark) : Type 0 where
 pub record IsReplayed (before now : Image) : Type 0 where
   pub each : (k : ℕ) → is_in_log DAEMON_LOG k ≡ false → is_in_logs (frames_of before) k ≡ false → (k < SPACE_TABLE) ⊎ (PUDDLE_TABLE ≤ k) → now k ≡ settled (frames_of before) before k
 
--- A rested device that stands for a world was started on: at each moment each image stands for it, and the start text of what it read was said,
--- or with a fault a part of it; without a fault the daemon is ready.
+-- A rested device that stands for a world was started on: at each moment each image stands for it, and differs from what was read only where a
+-- recovery may write, and the start text of what it read was said, or with a fault a part of it; without a fault the daemon is ready.
 pub record Starts (size : ℕ) (w : World) (result : Result Memory StartFault) (old new : State) : Type 0 where
   pub says : SaysPart (start_text (reads old.now.words)) (start_fault result) old new
+  pub rights : Leaves (λ bytes image. DiffersByRecovery w.stored.frames (reads old.now.words) image) old new
   pub moments : Leaves (λ bytes image. IsPart bytes (start_text (reads old.now.words)) × (world_of size image ≡ Some (closed w))) old new
   pub ready : IfOk result (λ memory. IsReady size (restart w) memory new)
   pub script : new.script ≡ old.script

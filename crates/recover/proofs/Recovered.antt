@@ -9,7 +9,7 @@ use Rattle.pm_model.specs.Moments.{State}
 use Rattle.pm_model.specs.Changes.{Changes, Leaves, Silently}
 use Rattle.pm_model.proofs.Words.{Picks-reads, reads_only, HasOnly-newest, HasOnly-own}
 use Rattle.pm_model.proofs.Changes.{Changes-said, Changes-wider, Changes-then, HasOnly-kept}
-use Rattle.pm_model.proofs.Leaves.{Leaves-now, Leaves-then, Leaves-weaker}
+use Rattle.pm_model.proofs.Leaves.{Leaves-changes, Leaves-now, Leaves-then, Leaves-weaker}
 use Rattle.pud_defs.specs.declared.layout.TheConstants.{DAEMON_LOG, FRAMES_WORD, TYPE_TABLE, SPACE_TABLE, PUDDLE_TABLE, CLIENTS}
 use Rattle.pud_defs.specs.Image.{Image}
 use Rattle.pud_defs.specs.Layout.{IsWithin, tables_end, frames_at}
@@ -22,7 +22,7 @@ use Rattle.pud_defs.specs.Settled.{ALL_LOGS, client_of_log, log_number_at, given
 use Rattle.pud_defs.specs.Registry.{frames_of, has_legal_log}
 use Rattle.pud_defs.specs.World.{StoredWorld, world_of}
 use Rattle.pud_defs.proofs.Replay.{overwritten-stays, overwritten-there, settled_by-inside, settled_by-outside, settled_by-idle, outside_log, within_log, not_inside}
-use Rattle.pud_defs.proofs.Spaces.{has_closed_logs-same, are_legal_spaces-same, are_legal_spaces-none}
+use Rattle.pud_defs.proofs.Spaces.{is_closed_log-same, has_closed_logs-same, are_legal_spaces-same, are_legal_spaces-none}
 use Rattle.pud_defs.proofs.Settled.{settled_over-none}
 use Rattle.pud_defs.proofs.Accepted.{accepted_not_refused}
 use Rattle.pud_defs.proofs.LogsTaken.{given_by_log-below}
@@ -44,7 +44,7 @@ use Rattle.registry.specs.Registry.{load_fault, StillStands, AppliesLog}
 use Rattle.recover.specs.declared.recovery.Report.{Report}
 use Rattle.recover.specs.Verdicts.{verdict_by, verdict_of}
 use Rattle.recover.specs.Turns.{ByLogs, IsAlike, TakesTurns}
-use Rattle.recover.specs.Recovery.{recover_fault, of_load, ByRecovery, StandsStill, RecoversDevice}
+use Rattle.recover.specs.Recovery.{recover_fault, of_load, ByRecovery, DiffersByRecovery, StandsStill, RecoversDevice}
 use Rattle.recover.proofs.TurnsTaken.{none_of_fault}
 
 abbrev emptied : List Entry
@@ -109,10 +109,20 @@ module _ (size : ℕ) (s : StoredWorld) (a : State) (rested : IsRested a.now.wor
   first_changes : (fault : Option HostFault) (b : State) → SettlesLog targets.Words DAEMON_LOG fault a b → Changes (ByRecovery F i) fault a b
   first_changes fault b settles = Changes-wider (ByOneLog DAEMON_LOG (new_value device_word (log_of i DAEMON_LOG))) (ByRecovery F i) fault a b first_may settles.changes
 
+  -- at each moment an image differs from what was read only where a recovery may write
+  rights_by : (fault : Option HostFault) (c : State) → Changes (ByRecovery F i) fault a c → Leaves (Silently (DiffersByRecovery F i)) a c
+  rights_by fault c changes = Leaves-changes (DiffersByRecovery F i) (ByRecovery F i) fault a c (λ before image picked from. record {
+    each = λ k. elim (from.each k) [
+      | inl same ↦ inl (same ∙ ap (λ (x : Image). x k) (reads_only a.now.words before rested picked))
+      | inr may ↦ inr may
+    ];
+  }) changes
+
   -- where a fault came nothing is said of the end
   broken_off : (fault : HostFault) (c : State) → Changes (ByRecovery F i) (Some fault) a c → Leaves Still a c → RecoversDevice size s (Some fault) a c
   broken_off fault c changes moments = record {
     changes = changes;
+    rights = rights_by (Some fault) c changes;
     moments = moments;
     settled_now = λ none. none_of_fault fault none;
     single = λ none. none_of_fault fault none;
@@ -357,6 +367,7 @@ module _ (size : ℕ) (s : StoredWorld) (a : State) (rested : IsRested a.now.wor
         pub Recovers-cleared : RecoversDevice size s fault a d
         Recovers-cleared = record {
           changes = third_changes;
+          rights = rights_by fault d third_changes;
           moments = third_moments;
           settled_now = λ none. record {
             stands = λ image picked.
@@ -367,7 +378,9 @@ module _ (size : ℕ) (s : StoredWorld) (a : State) (rested : IsRested a.now.wor
           single = single_d;
           reads_so = λ none k outside beside spaces. kept_d none k outside (clearing-outside CLIENTS k (omega arith) spaces) ∙ reads_n k outside beside;
           closed = λ none number few accepted.
-              ap is_idle_gate (kept_d none (log_number_at F number) (outside_log DAEMON_LOG (log_number_at F number) (inr (omega arith))) (clearing-outside CLIENTS (log_number_at F number) (omega arith) (inr (omega arith))))
+              is_closed_log-same (reads d.now.words) n (log_number_at F number) (λ k inside.
+              let low = inside.low in
+              kept_d none k (outside_log DAEMON_LOG k (inr (omega arith))) (clearing-outside CLIENTS k (omega arith) (inr (omega arith))))
               ∙ turns.closed refl number few (accepted_b number few ∙ accepted);
           untouched = λ none number few refused k inside.
               let low = inside.low in

@@ -1,5 +1,6 @@
 -- One log replayed and closed, or left alone: what changes, what is left at each moment, and what is there at the end.
-use Rattle.std.proofs.Common.{◌≡◌, ◌⊎◌, inl, inr, ℕ, true, false, Option, Some, None, refl, sym, ap, subst, ◌∙◌}
+use Rattle.std.proofs.Common.{◌≡◌, ◌⊎◌, inl, inr, ℕ, ◌&&◌, true, false, [], Option, Some, None, refl, sym, ap, subst, ◌∙◌}
+use Rattle.std.specs.Prelude.{is_some}
 use Rattle.std.proofs.lemmas.Bool.{cases_eq, eq-eqb}
 use Rattle.std.proofs.lemmas.Option.{none-some}
 use Rattle.pm_model.specs.declared.host.HostFault.{HostFault}
@@ -13,13 +14,14 @@ use Rattle.pm_model.proofs.Leaves.{Leaves-still, Leaves-weaker, Leaves-changes}
 use Rattle.pm_model.proofs.OneWord.{one_word}
 use Rattle.pud_defs.specs.declared.log_words.TheConstants.{CLOSED_GATE}
 use Rattle.pud_defs.specs.Image.{Image}
-use Rattle.pud_defs.specs.Entries.{log_of, is_idle_gate}
+use Rattle.pud_defs.specs.Entries.{log_of, is_idle_gate, entries_of}
 use Rattle.pud_defs.specs.Tables.{tables_of}
-use Rattle.pud_defs.specs.Spaces.{owner_of}
+use Rattle.pud_defs.specs.Spaces.{owner_of, is_closed_range, is_closed_log}
 use Rattle.pud_defs.specs.Settled.{client_of_log, log_number_at, given_by_log, is_refused_log, is_accepted_log}
 use Rattle.pud_defs.specs.LogsTaken.{TakesLog}
-use Rattle.pud_defs.proofs.Replay.{empty_range_of}
+use Rattle.pud_defs.proofs.Replay.{entries_of-idle, empty_range_of}
 use Rattle.pud_defs.proofs.Settled.{gives_to-closed}
+use Rattle.pud_defs.proofs.ClosedLogs.{closed_by_gate}
 use Rattle.pud_defs.proofs.Accepted.{gives_to-accepted, accepted_not_refused}
 use Rattle.log_replay.specs.declared.Target.{Target}
 use Rattle.log_replay.specs.declared.Target.TheVariants.{Puddles}
@@ -31,10 +33,12 @@ pub idle_gives_nothing : (F number : ℕ) (image : Image) (w : ℕ) → is_idle_
 idle_gives_nothing F number image w idle =
     gives_to-closed (tables_of F image) (owner_of image (client_of_log number)) (log_of image (log_number_at F number)) w (empty_range_of (image (log_number_at F number)) idle)
 
--- the gate of a device just formatted, and that of a closed log, are idle
-pub idle_gate : (v : ℕ) → (v ≡ 0) ⊎ ((v ≡ 0 → ⊥) × (v ≡ CLOSED_GATE)) → is_idle_gate v ≡ true
-idle_gate v (inl blank) = ap is_idle_gate blank
-idle_gate v (inr closed) = ap is_idle_gate closed.1
+-- a log with the gate of a device just formatted, or that of a closed log, is closed
+pub shut_log : (image : Image) (at : ℕ) → (image at ≡ 0) ⊎ ((image at ≡ 0 → ⊥) × (image at ≡ CLOSED_GATE)) → is_closed_log image at ≡ true
+shut_log image at (inl blank) =
+    let empty : entries_of image at ≡ Some [] = entries_of-idle image at (ap is_idle_gate blank) in
+    λ p. is_closed_range (blank p) && is_some (empty p)
+shut_log image at (inr closed) = closed_by_gate image at closed.1
 
 -- each word that is read of a log on a rested device has one value
 pub durable_log : (to : Target) (at : ℕ) (words : Words) → IsRested words → HasDurableLog to at words
@@ -53,7 +57,7 @@ module _ (F number : ℕ) (image : Image) (old : State) (rested : IsRested old.n
 
   -- nothing happens to the log
   pub TakesTurn-still : (fault : Option HostFault) (new : State) → (fault ≡ Some Cut → ⊥) → new ≡ old → ((w : ℕ) → given_by_log F image number w ≡ None)
-      → (fault ≡ None → is_accepted_log F image number ≡ true → is_idle_gate (image at) ≡ true) → TakesTurn F number image fault old new
+      → (fault ≡ None → is_accepted_log F image number ≡ true → is_closed_log image at ≡ true) → TakesTurn F number image fault old new
   TakesTurn-still fault new uncut same nothing closed =
       let now : reads new.now.words ≡ image = ap (λ (s : State). reads s.now.words) same ∙ is in
       record {
@@ -67,7 +71,7 @@ module _ (F number : ℕ) (image : Image) (old : State) (rested : IsRested old.n
         )) same;
         rested = λ none. subst (λ (s : State). IsRested s.now.words) (sym same) rested;
         gone = λ none w. ap (λ (i : Image). given_by_log F i number w) now ∙ nothing w;
-        closed = λ none accepted. ap (λ (i : Image). is_idle_gate (i at)) now ∙ closed none accepted;
+        closed = λ none accepted. ap (λ (i : Image). is_closed_log i at) now ∙ closed none accepted;
       }
 
   -- the gate of a log that gives nothing is written
@@ -97,7 +101,7 @@ module _ (F number : ℕ) (image : Image) (old : State) (rested : IsRested old.n
           ];
         };
         gone = λ none w. idle_gives_nothing F number (reads new.now.words) w (idle none);
-        closed = λ none a. idle none;
+        closed = λ none a. closed_by_gate (reads new.now.words) at (gate none);
       }
 
   -- what it gives is what the replay to puddles gives
@@ -111,7 +115,8 @@ module _ (F number : ℕ) (image : Image) (old : State) (rested : IsRested old.n
   TakesTurn-settled fault new accepted s moments =
       let write = new_values (Puddles F) at (reads old.now.words) in
       let same = given_values accepted in
-      let idle : fault ≡ None → is_idle_gate (reads new.now.words at) ≡ true = λ none. ap is_idle_gate (HasOnly-newest (new.now.words at) CLOSED_GATE (s.closed none)) in
+      let gate : fault ≡ None → reads new.now.words at ≡ CLOSED_GATE = λ none. HasOnly-newest (new.now.words at) CLOSED_GATE (s.closed none) in
+      let idle : fault ≡ None → is_idle_gate (reads new.now.words at) ≡ true = λ none. ap is_idle_gate (gate none) in
       record {
         changes = Changes-wider (ByOneLog at write) (ByLog F number image) fault old new (λ k v by. record {
           accepted = accepted;
@@ -143,5 +148,5 @@ module _ (F number : ℕ) (image : Image) (old : State) (rested : IsRested old.n
           ];
         };
         gone = λ none w. idle_gives_nothing F number (reads new.now.words) w (idle none);
-        closed = λ none a. idle none;
+        closed = λ none a. closed_by_gate (reads new.now.words) at (gate none);
       }

@@ -12,13 +12,13 @@ use Rattle.pm_model.proofs.Changes.{Changes-still, Changes-said, Changes-wider, 
 use Rattle.pm_model.proofs.Leaves.{Leaves-still, Leaves-now, Leaves-then, Leaves-weaker}
 use Rattle.pud_defs.specs.declared.layout.TheConstants.{CLIENTS}
 use Rattle.pud_defs.specs.Image.{Image}
-use Rattle.pud_defs.specs.Entries.{log_of, is_idle_gate}
+use Rattle.pud_defs.specs.Entries.{log_of}
 use Rattle.pud_defs.specs.Tables.{tables_of}
-use Rattle.pud_defs.specs.Spaces.{owner_of, has_closed_logs}
+use Rattle.pud_defs.specs.Spaces.{owner_of, is_closed_log, has_closed_logs}
 use Rattle.pud_defs.specs.Allowed.{is_accepted}
 use Rattle.pud_defs.specs.Settled.{gives_to, ALL_LOGS, client_of_log, log_number_at, given_by_log, is_refused_log, is_accepted_log, settled_over}
 use Rattle.pud_defs.specs.LogsTaken.{TakesLog}
-use Rattle.pud_defs.proofs.Spaces.{owner_of-same}
+use Rattle.pud_defs.proofs.Spaces.{is_closed_log-same, owner_of-same}
 use Rattle.pud_defs.proofs.TablesOf.{tables_of-same}
 use Rattle.pud_defs.proofs.LogsTaken.{beside_gate, below_logs, other_log, settled_same, refused_same, nothing_below_next, logs_still_closed}
 use Rattle.recover.specs.Verdicts.{verdict_by, verdict_of}
@@ -110,9 +110,12 @@ module _ (F number : ℕ) (image : Image) (old mid : State) (known : number < AL
     takes_now = (Leaves-now (Silently (TakesLog F number m)) [] mid new (Changes-said (ByLog F number m) fault mid new turn.changes ∙ sym (append-nil mid.now.said)) turn.moments
         (reads new.now.words) (Picks-reads new.now.words)).1
 
-    still_closed : (n : ℕ) → n < number → is_idle_gate (m (log_number_at F n)) ≡ true → is_idle_gate (reads new.now.words (log_number_at F n)) ≡ true
-    still_closed n below idle =
-        ap is_idle_gate (beside_gate F number m (reads new.now.words) known takes_now (log_number_at F n) (omega arith) (λ same. absurd (omega arith))) ∙ idle
+    still_closed : (n : ℕ) → n < number → is_closed_log m (log_number_at F n) ≡ true → is_closed_log (reads new.now.words) (log_number_at F n) ≡ true
+    still_closed n below was =
+        is_closed_log-same (reads new.now.words) m (log_number_at F n) (λ k inside.
+        let low = inside.low in
+        let high = inside.high in
+        beside_gate F number m (reads new.now.words) known takes_now k (omega arith) (λ same. absurd (omega arith))) ∙ was
 
     pub TakesTurns-turn : TakesTurns F (number + 1) image fault old new
     TakesTurns-turn = record {
@@ -125,7 +128,7 @@ module _ (F number : ℕ) (image : Image) (old mid : State) (known : number < AL
       rested = turn.rested;
       gone = λ none. nothing_below_next F number m (reads new.now.words) known takes_now (first.gone refl) (turn.gone none);
       closed = λ none n below accepted. elim (cases_eq n number) [
-        | inl here ↦ ap (λ (x : ℕ). is_idle_gate (reads new.now.words (log_number_at F x))) here
+        | inl here ↦ ap (λ (x : ℕ). is_closed_log (reads new.now.words) (log_number_at F x)) here
             ∙ turn.closed none (alike_accepted F image m alike_mid number known log_mid ∙ ap (is_accepted_log F image) (sym here) ∙ accepted)
         | inr apart ↦ still_closed n (omega arith) (first.closed refl n (omega arith) accepted)
       ];

@@ -7,9 +7,9 @@ use Rattle.pm_model.specs.Changes.{Footprint, Changes, Leaves, Silently}
 use Rattle.pud_defs.specs.declared.layout.TheConstants.{DAEMON_LOG, SPACE_TABLE, PUDDLE_TABLE, CLIENTS}
 use Rattle.pud_defs.specs.Image.{Image}
 use Rattle.pud_defs.specs.Layout.{IsWithin}
-use Rattle.pud_defs.specs.Entries.{log_of, is_idle_gate}
+use Rattle.pud_defs.specs.Entries.{log_of}
 use Rattle.pud_defs.specs.Replay.{device_word, new_value, IsInLog, is_in_log, settled_by}
-use Rattle.pud_defs.specs.Spaces.{space_record_at, has_closed_logs}
+use Rattle.pud_defs.specs.Spaces.{space_record_at, is_closed_log, has_closed_logs}
 use Rattle.pud_defs.specs.Settled.{ALL_LOGS, log_number_at, is_refused_log, is_accepted_log, is_in_logs, settled}
 use Rattle.pud_defs.specs.World.{StoredWorld, world_of}
 use Rattle.log_replay.specs.Replaying.{IsNamed}
@@ -40,6 +40,10 @@ ByRecovery F start k v =
     ⊎ (IsOfLogs F ALL_LOGS (settled_by DAEMON_LOG start) k
     ⊎ IsWithin SPACE_TABLE PUDDLE_TABLE k))
 
+-- An image that differs from another only in words that a recovery of that one may write.
+pub record DiffersByRecovery (F : ℕ) (start image : Image) : Type 0 where
+  pub each : (k : ℕ) → (image k ≡ start k) ⊎ ByRecovery F start k (image k)
+
 -- An image from which a start makes what it makes of another: it stands for the same world, but for the log-space table it settles to the same,
 -- no log of it is refused that is not refused of the other, and a client's logs that are closed in the other are closed in it.
 pub record StandsStill (size : ℕ) (s : StoredWorld) (start image : Image) : Type 0 where
@@ -49,18 +53,20 @@ pub record StandsStill (size : ℕ) (s : StoredWorld) (start image : Image) : Ty
       → is_refused_log s.frames (settled_by DAEMON_LOG start) number ≡ true
   pub closed : (client : ℕ) → client < CLIENTS → has_closed_logs start s.frames client ≡ true → has_closed_logs image s.frames client ≡ true
 
--- A rested device that stands for a world was recovered: at each moment each image stands for it still. Without a fault no log is registered
+-- A rested device that stands for a world was recovered: at each moment each image stands for it still, and differs from what was read only where
+-- a recovery may write. Without a fault no log is registered
 -- any more, each word beside the daemon log has one value, tables and frames read as the settled image, each log that was registered and
 -- allowed is closed, and one that was refused reads as it did.
 pub record RecoversDevice (size : ℕ) (s : StoredWorld) (fault : Option HostFault) (old new : State) : Type 0 where
   pub changes : Changes (ByRecovery s.frames (reads old.now.words)) fault old new
+  pub rights : Leaves (Silently (DiffersByRecovery s.frames (reads old.now.words))) old new
   pub moments : Leaves (Silently (StandsStill size s (reads old.now.words))) old new
   pub settled_now : fault ≡ None → IsSettled size s new.now.words
   pub single : fault ≡ None → (k : ℕ) → is_in_log DAEMON_LOG k ≡ false → HasOnly (new.now.words k) (reads new.now.words k)
   pub reads_so : fault ≡ None → (k : ℕ) → is_in_log DAEMON_LOG k ≡ false → is_in_logs s.frames k ≡ false → (k < SPACE_TABLE) ⊎ (PUDDLE_TABLE ≤ k)
       → reads new.now.words k ≡ settled s.frames (reads old.now.words) k
   pub closed : fault ≡ None → (number : ℕ) → number < ALL_LOGS → is_accepted_log s.frames (settled_by DAEMON_LOG (reads old.now.words)) number ≡ true
-      → is_idle_gate (reads new.now.words (log_number_at s.frames number)) ≡ true
+      → is_closed_log (reads new.now.words) (log_number_at s.frames number) ≡ true
   pub untouched : fault ≡ None → (number : ℕ) → number < ALL_LOGS → is_refused_log s.frames (settled_by DAEMON_LOG (reads old.now.words)) number ≡ true
       → (k : ℕ) → IsInLog (log_number_at s.frames number) k → reads new.now.words k ≡ reads old.now.words k
   pub cleared : fault ≡ None → (client : ℕ) → client < CLIENTS → reads new.now.words (space_record_at client) ≡ 0

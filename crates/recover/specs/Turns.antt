@@ -7,8 +7,8 @@ use Rattle.pm_model.specs.Changes.{Footprint, Changes, Leaves, Silently}
 use Rattle.pud_defs.specs.declared.layout.TheConstants.{CLIENTS}
 use Rattle.pud_defs.specs.Image.{Image}
 use Rattle.pud_defs.specs.Layout.{tables_end}
-use Rattle.pud_defs.specs.Entries.{log_of, is_idle_gate}
-use Rattle.pud_defs.specs.Spaces.{has_closed_logs}
+use Rattle.pud_defs.specs.Entries.{log_of}
+use Rattle.pud_defs.specs.Spaces.{is_closed_log, has_closed_logs}
 use Rattle.pud_defs.specs.Settled.{ALL_LOGS, log_number_at, given_by_log, is_refused_log, is_accepted_log, settled_over}
 use Rattle.pud_defs.specs.LogsTaken.{TakesLog, GivesNothingBelow}
 use Rattle.log_replay.specs.Replaying.{IsNamed}
@@ -38,7 +38,7 @@ pub record TakesTurn (F number : ℕ) (image : Image) (fault : Option HostFault)
   pub moments : Leaves (Silently (TakesLog F number image)) old new
   pub rested : fault ≡ None → IsRested new.now.words
   pub gone : fault ≡ None → (w : ℕ) → given_by_log F (reads new.now.words) number w ≡ None
-  pub closed : fault ≡ None → is_accepted_log F image number ≡ true → is_idle_gate (reads new.now.words (log_number_at F number)) ≡ true
+  pub closed : fault ≡ None → is_accepted_log F image number ≡ true → is_closed_log (reads new.now.words) (log_number_at F number) ≡ true
 
 -- An image from which a start makes the same: below the clients' logs it is the same, it settles to the same, the same logs are refused, and where
 -- a client's logs were closed they are.
@@ -55,5 +55,5 @@ pub record TakesTurns (F count : ℕ) (image : Image) (fault : Option HostFault)
   pub moments : Leaves (Silently (IsAlike F image)) old new
   pub rested : fault ≡ None → IsRested new.now.words
   pub gone : fault ≡ None → GivesNothingBelow F count (reads new.now.words)
-  pub closed : fault ≡ None → (number : ℕ) → number < count → is_accepted_log F image number ≡ true → is_idle_gate (reads new.now.words (log_number_at F number)) ≡ true
+  pub closed : fault ≡ None → (number : ℕ) → number < count → is_accepted_log F image number ≡ true → is_closed_log (reads new.now.words) (log_number_at F number) ≡ true
   pub left : fault ≡ None → (number : ℕ) → count ≤ number → number < ALL_LOGS → log_of (reads new.now.words) (log_number_at F number) ≡ log_of image (log_number_at F number)

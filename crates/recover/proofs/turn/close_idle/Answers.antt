@@ -1,4 +1,4 @@
-use Rattle.std.proofs.Common.{◌≡◌, ◌∙◌, ℕ, Some, None, sym, ap, subst}
+use Rattle.std.proofs.Common.{◌≡◌, ◌⊎◌, ◌∙◌, ℕ, Some, None, sym, ap, subst}
 use Rattle.std.proofs.lemmas.Result.{err_from_is_err_and}
 use Rattle.pm_model.specs.Words.{reads}
 use Rattle.pm_model.specs.Counts.{fault_of}
@@ -7,11 +7,10 @@ use Rattle.pm_model.specs.Changes.{only, Persists, Changes, written}
 use Rattle.pm_model.proofs.Changes.{Changes-wider}
 use Rattle.pud_defs.specs.declared.log_words.TheConstants.{CLOSED_GATE}
 use Rattle.pud_defs.specs.Image.{Image}
-use Rattle.pud_defs.specs.Entries.{is_idle_gate}
 use Rattle.pud_defs.specs.Settled.{log_number_at}
 use Rattle.log_replay.specs.Replaying.{Anything}
 use Rattle.recover.proofs.Accepting.{of_closed, closed_gives_nothing}
-use Rattle.recover.proofs.TurnTaken.{idle_gate, TakesTurn-still, TakesTurn-closed}
+use Rattle.recover.proofs.TurnTaken.{shut_log, TakesTurn-still, TakesTurn-closed}
 use Rattle.recover.proofs.turn.close_idle.Goals as goal
 
 pub returns-in_err-gate-clause-takes : goal.returns-in_err-gate-clause-takes
@@ -26,7 +25,10 @@ returns-then-gate-eq0-clause-takes g c = λ t image rested is verdict.
     let gate = ap (λ (k : ℕ). reads (g.H.Host.state c.args.h.now).now.words k) (sym c.log_number_at-at.ensures) ∙ sym (c.in_ok-gate.ensures.value t) in
     TakesTurn-still c.args.frames c.args.number image (g.H.Host.state c.args.h.now) rested is None _ (λ cut. absurd (let it : None ≡ Some _ = cut in cc)) (c.load.ensures.state t)
     (closed_gives_nothing c.args.frames c.args.number image verdict)
-    (λ none accepted. ap is_idle_gate (ap (λ (i : Image). i (log_number_at c.args.frames c.args.number)) (sym is) ∙ gate) ∙ idle_gate c.in_ok-gate.gate c.then-gate-eq0.either)
+    (λ none accepted.
+    let at = log_number_at c.args.frames c.args.number in
+    let word : image at ≡ c.in_ok-gate.gate = ap (λ (i : Image). i at) (sym is) ∙ gate in
+    shut_log image at (subst (λ (v : ℕ). (v ≡ 0) ⊎ ((v ≡ 0 → ⊥) × (v ≡ CLOSED_GATE))) (sym word) c.then-gate-eq0.either))
 
 pub returns-clause-takes : goal.returns-clause-takes
 returns-clause-takes g c = λ t image rested is verdict.
