@@ -1,0 +1,2 @@
+//! Slots of a pool's puddles: the lowest free one, and freeing one.
+#![tactic(auto)]

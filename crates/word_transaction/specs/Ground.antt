@@ -1,0 +1,58 @@
+-- What a transaction on words may name, and which words are its own.
+use Rattle.std.specs.Prelude.{◌≡◌, ◌⊎◌, ℕ, ◌+◌, ◌<◌, ◌≤◌, Bool, true, false, List, length, Option, Some, None}
+use Rattle.pud_defs.specs.declared.log_words.TheConstants.{UNDO_SEQ, UNDO_ORDER, REDO_SEQ, REDO_ORDER, RUNNING_LO, RUNNING_HI, COMMITTING_LO, COMMITTING_HI}
+use Rattle.pud_defs.specs.Entries.{Entry, Log}
+use Rattle.pud_defs.specs.Replay.{Place, undone, redone, is_in_log}
+
+-- Which word an address names; which entries the transaction may write, by their address and their number of values; and which words are its
+-- own.
+pub record Ground : Type 0 where
+  pub place : Place
+  pub may : (address count : ℕ) → Bool
+  pub mine : ℕ → Bool
+
+-- so many words from that of an address on lie in the device, and are the transaction's own
+pub record Spans (size : ℕ) (g : Ground) (address count : ℕ) : Type 0 where
+  pub first : ℕ
+  pub placed : g.place address ≡ Some first
+  pub within : first + count ≤ size
+  pub own : (k : ℕ) → first ≤ k → k < first + count → g.mine k ≡ true
+
+-- What the transaction may name are its own words, and none of them is one of its log, whose gate is this word.
+pub record IsGround (size at : ℕ) (g : Ground) : Type 0 where
+  pub named : (address count : ℕ) → g.may address count ≡ true → Spans size g address count
+  pub apart : (k : ℕ) → g.mine k ≡ true → is_in_log at k ≡ false
+
+-- ---- entries
+
+-- what words held, from that of an address on
+abbrev pub undo_entry : (address : ℕ) → List ℕ → Entry
+undo_entry address vals = record { address = address; seq = UNDO_SEQ; order = UNDO_ORDER; vals = vals }
+
+pub record IsUndo (e : Entry) : Type 0 where
+  pub seq : e.seq ≡ UNDO_SEQ
+  pub order : e.order ≡ UNDO_ORDER
+
+pub record IsRedo (e : Entry) : Type 0 where
+  pub seq : e.seq ≡ REDO_SEQ
+  pub order : e.order ≡ REDO_ORDER
+
+-- an entry that the transaction may write: what words held, or what they are to hold
+pub record IsOwn (g : Ground) (e : Entry) : Type 0 where
+  pub may : g.may e.address (length e.vals) ≡ true
+  pub kind : IsUndo e ⊎ IsRedo e
+
+-- the range of a running log, and that of a committing one
+abbrev pub running_range : Log
+running_range = record { lo = RUNNING_LO; hi = RUNNING_HI; entries = None }
+
+abbrev pub committing_range : Log
+committing_range = record { lo = COMMITTING_LO; hi = COMMITTING_HI; entries = None }
+
+-- what the undo entries among some keep of a word
+abbrev pub saved : Place → List Entry → ℕ → Option ℕ
+saved place es k = undone place running_range es k
+
+-- what the redo entries among some ask for in a word
+abbrev pub pending : Place → List Entry → ℕ → Option ℕ
+pending place es k = redone place committing_range es k

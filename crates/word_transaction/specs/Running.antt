@@ -1,0 +1,83 @@
+-- When a transaction on words is open, what each call of it does at every moment, and how it ends.
+use Rattle.std.specs.Prelude.{◌≡◌, ◌⊎◌, ℕ, Bool, true, false, List, [], All, length, Option, Some, None}
+use Rattle.pm_model.specs.declared.host.HostFault.{HostFault}
+use Rattle.pm_model.specs.Words.{Has, values, Words, reads, HasOnly}
+use Rattle.pm_model.specs.Moments.{State}
+use Rattle.pm_model.specs.Changes.{Footprint, Write, Changes, Leaves, Silently}
+use Rattle.pud_defs.specs.declared.log_words.TheConstants.{RUNNING_LO, RUNNING_HI, CLOSED_GATE}
+use Rattle.pud_defs.specs.Image.{Image}
+use Rattle.pud_defs.specs.Entries.{Entry, entries_of, log_of, is_idle_gate}
+use Rattle.pud_defs.specs.Replay.{Place, overwritten, replayed, IsInLog, is_in_log}
+use Rattle.log_store.specs.Store.{OpenLog, IsOpen}
+use Rattle.word_transaction.specs.Ground.{Ground, IsOwn, IsUndo, saved}
+
+-- ---- what is known between calls
+
+-- The transaction is open: its log runs, with these entries, each of which it may write; a word that is saved is so with its value from the
+-- beginning, and one of its own that is not has that value alone; a fence makes each of its own words durable.
+pub record IsRunning (g : Ground) (log : OpenLog) (es : List Entry) (before : Image) (words : Words) : Type 0 where
+  pub opened : IsOpen log es words
+  pub lo : log.lo ≡ RUNNING_LO
+  pub hi : log.hi ≡ RUNNING_HI
+  pub own : All (IsOwn g) es
+  pub saves : (k v : ℕ) → saved g.place es k ≡ Some v → v ≡ before k
+  pub single : (k : ℕ) → g.mine k ≡ true → saved g.place es k ≡ None → HasOnly (words k) (before k)
+  pub marked : (k : ℕ) → g.mine k ≡ true → ((words k).kept ≡ []) ⊎ HasOnly (words k) (words k).newest
+
+-- No transaction is open: the log whose gate is this word counts nothing in any image, and each own word has one value.
+pub record IsIdle (g : Ground) (at : ℕ) (before : Image) (words : Words) : Type 0 where
+  pub closed : (v : ℕ) → Has (values (words at)) v → is_idle_gate v ≡ true
+  pub single : (k : ℕ) → g.mine k ≡ true → HasOnly (words k) (before k)
+
+-- each word that is written is one of the transaction's own that is saved
+pub record IsCovered (g : Ground) (es : List Entry) (write : Write) : Type 0 where
+  pub mine : (k v : ℕ) → write k ≡ Some v → g.mine k ≡ true
+  pub kept : (k v : ℕ) → write k ≡ Some v → saved g.place es k ≡ None → ⊥
+
+-- nothing is written
+abbrev pub nothing : Write
+nothing k = None
+
+-- ---- what an image has
+
+-- With the log replayed whose gate is this word the transaction's own words have these values; the log is well formed, and its entries are the
+-- transaction's.
+pub record SettlesTo (g : Ground) (at : ℕ) (values image : Image) : Type 0 where
+  pub es : List Entry
+  pub spells : entries_of image at ≡ Some es
+  pub own : All (IsOwn g) es
+  pub settled : (k : ℕ) → g.mine k ≡ true → replayed g.place (log_of image at) image k ≡ values k
+
+-- ---- what calls do
+
+-- any value may come to the words of the log, and to the transaction's own
+abbrev pub ByTransaction : Ground → (at : ℕ) → Footprint
+ByTransaction g at k v = IsInLog at k ⊎ (g.mine k ≡ true)
+
+-- A call within the transaction: each image left meanwhile settles to the values from the beginning. Without a fault the transaction is open,
+-- with this log and these entries, and what is read outside the log is as it was but for these words.
+pub record Runs (g : Ground) (log : OpenLog) (es : List Entry) (before : Image) (write : Write) (fault : Option HostFault) (old new : State) : Type 0 where
+  pub changes : Changes (ByTransaction g log.at) fault old new
+  pub moments : Leaves (Silently (SettlesTo g log.at before)) old new
+  pub running : fault ≡ None → IsRunning g log es before new.now.words
+  pub now : fault ≡ None → (k : ℕ) → is_in_log log.at k ≡ false → reads new.now.words k ≡ overwritten write (reads old.now.words) k
+
+-- The transaction is undone and its log closed: each image left meanwhile settles to these values. Without a fault each own word has its value
+-- and no other, and the log is closed.
+pub record Closes (g : Ground) (at : ℕ) (values : Image) (fault : Option HostFault) (old new : State) : Type 0 where
+  pub changes : Changes (ByTransaction g at) fault old new
+  pub moments : Leaves (Silently (SettlesTo g at values)) old new
+  pub durable : fault ≡ None → (k : ℕ) → g.mine k ≡ true → HasOnly (new.now.words k) (values k)
+  pub closed : fault ≡ None → HasOnly (new.now.words at) CLOSED_GATE
+
+-- The transaction is committed: each image left meanwhile settles to the values from the beginning or to the new ones. Without a fault each own
+-- word has its new value and no other, and the log is closed.
+pub record Ends (g : Ground) (at : ℕ) (before after : Image) (fault : Option HostFault) (old new : State) : Type 0 where
+  pub changes : Changes (ByTransaction g at) fault old new
+  pub moments : Leaves (Silently (λ image. SettlesTo g at before image ⊎ SettlesTo g at after image)) old new
+  pub durable : fault ≡ None → (k : ℕ) → g.mine k ≡ true → HasOnly (new.now.words k) (after k)
+  pub closed : fault ≡ None → HasOnly (new.now.words at) CLOSED_GATE
+
+-- What places read of an image agree with those of the transaction on all that it may name.
+pub record HasPlaces (g : Ground) (place : Place) : Type 0 where
+  pub each : (address count : ℕ) → g.may address count ≡ true → place address ≡ g.place address
