@@ -112,6 +112,21 @@ impl Log {
         })
     }
 
+    /// The word of its gate.
+    pub fn at(&self) -> u32
+        ensures { result ≡ self.now.at }
+    {
+        self.at
+    }
+
+    /// How many of its entry words count, from 0 to 1,016.
+    pub fn used(&self) -> u32
+        ensures used { result ≡ self.now.used }
+        ensures within { result ≤ LOG_ENTRY_WORDS }
+    {
+        self.used
+    }
+
     /// Appends an entry that the log has room for: it is durable before the gate that counts it is stored.
     fn append_fitting<H: Host>(
         &self,
