@@ -3,3 +3,4 @@ pub mod Buffers
 pub mod Phases
 pub mod Worlds
 pub mod Tables
+pub mod Masked

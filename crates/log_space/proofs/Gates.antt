@@ -7,7 +7,9 @@ use Rattle.pm_model.specs.declared.host.HostFault.{HostFault}
 use Rattle.pm_model.specs.Words.{HasOnly, after_fence}
 use Rattle.pm_model.specs.Moments.{State}
 use Rattle.pm_model.specs.Calls.{Steps}
-use Rattle.pm_model.specs.Changes.{Changes, Writes, placed, written, IsFrom, IsKept, Silently}
+use Rattle.pm_model.specs.Changes.{Changes, Writes, Write, placed, written, IsFrom, IsKept, Silently}
+use Rattle.pm_model.specs.Masks.{masked_state, IsOff}
+use Rattle.pm_model.proofs.Masks.{IsOff-none, HasOnly-masked, Changes-masked}
 use Rattle.pm_model.proofs.Changes.{Changes-still, Changes-then, Changes-wider, Changes-fence, Changes-now, Changes-said}
 use Rattle.pm_model.proofs.Words.{HasOnly-fenced}
 use Rattle.pm_persist.proofs.Ranges.{placed_at, placed_within}
@@ -91,6 +93,15 @@ module _ (F slot : ℕ) where
 
   closed_anew : (before image : Image) → IsFrom (ByClosing F slot) before image → IsClosedAnew F slot before image
   closed_anew before image from = record { at = from.each }
+
+-- the same with words masked that are none of the gates
+pub ClosesGates-masked : (mask : Write) (F slot : ℕ) (fault : Option HostFault) (a b : State) → IsOff mask (ByClosing F slot) → ClosesGates F slot fault a b
+    → ClosesGates F slot fault (masked_state mask a) (masked_state mask b)
+ClosesGates-masked mask F slot fault a b off p = record {
+  changes = Changes-masked mask (ByClosing F slot) fault a b p.changes;
+  durable = λ none m low. HasOnly-masked mask b.now.words (log_at F slot m) CLOSED_GATE
+      (IsOff-none mask (ByClosing F slot) (log_at F slot m) CLOSED_GATE off (record { number = m; below = low; is = refl }, refl)) (p.durable none m low);
+}
 
 -- what is done to gates of a device that stands for a world
 pub Closes-gates : (size : ℕ) (s : StoredWorld) (slot : ℕ) (fault : Option HostFault) (a b : State) → slot < CLIENTS → IsSettled size s a.now.words → ClosesGates s.frames slot fault a b → Closes size s slot fault a b

@@ -2,13 +2,14 @@
 
 ghost use Rattle.std.specs.Prelude.{◌≡◌, ◌<◌, ◌≤◌, ℕ};
 ghost use Rattle.pm_model.specs.Counts.{after_fault, fault_of};
-ghost use Rattle.pm_model.specs.Changes.{Changes};
+ghost use Rattle.pm_model.specs.Changes.{Changes, Write};
+ghost use Rattle.pm_model.specs.Masks.{masked, masked_state, IsOff};
 ghost use Rattle.pud_defs.specs.declared.layout.TheConstants.{CLIENTS, CLIENT_LOGS, MAX_FRAMES};
 ghost use Rattle.pud_defs.specs.Layout.{device_words};
 ghost use Rattle.pud_defs.specs.World.{StoredWorld};
 ghost use Rattle.log_replay.specs.Replaying.{Anything};
 ghost use Rattle.batch.specs.Worlds.{IsSettled};
-ghost use Rattle.log_space.specs.Closed.{WritesGates, ClosesGates, Closes};
+ghost use Rattle.log_space.specs.Closed.{ByClosing, WritesGates, ClosesGates, Closes};
 
 use pm_model::{Host, HostFault};
 use pm_persist::write_range;
@@ -47,14 +48,14 @@ fn close_gates<H: Host>(h: &mut H, frames: u32, slot: u32) -> Result<(), HostFau
 ///
 /// The device has the words that so many frames need. Whatever it holds, the four gates alone are written, and at `Ok` each has
 /// the one value of a closed log's. Where each image stands for a world, and the daemon log counts nothing in it, each image
-/// left meanwhile stands for that world too. The only errors are the host's own.
+/// left meanwhile stands for that world too, also with words masked that are none of the gates. The only errors are the host's own.
 pub fn close_logs<H: Host>(h: &mut H, frames: u32, slot: u32) -> Result<(), HostFault>
     requires few { frames ≤ MAX_FRAMES }
     requires room { device_words frames ≤ (H.counts h.old).size }
     requires known { slot < CLIENTS }
     ensures gates { H.tells → ClosesGates frames slot (fault_of result) (H.state h.old) (H.state h.new) }
-    ensures closes { H.tells → (size : ℕ) → size ≡ (H.counts h.old).size → (s : StoredWorld) → frames ≡ s.frames → IsSettled size s (H.state h.old).now.words
-        → Closes size s slot (fault_of result) (H.state h.old) (H.state h.new) }
+    ensures closes { H.tells → (size : ℕ) → size ≡ (H.counts h.old).size → (s : StoredWorld) → frames ≡ s.frames → (mask : Write) → IsOff mask (ByClosing frames slot)
+        → IsSettled size s (masked mask (H.state h.old).now.words) → Closes size s slot (fault_of result) (masked_state mask (H.state h.old)) (masked_state mask (H.state h.new)) }
     ensures any { H.tells → Changes Anything (fault_of result) (H.state h.old) (H.state h.new) }
     ensures cause { H.counts h.new ≡ after_fault (fault_of result) (H.counts h.old) }
 {

@@ -5,3 +5,4 @@ pub mod Leaves
 pub mod Said
 pub mod Saying
 pub mod OneWord
+pub mod Masks

@@ -4,3 +4,4 @@ pub mod Counts
 pub mod Calls
 pub mod Picking
 pub mod Changes
+pub mod Masks

@@ -20,6 +20,7 @@ pub mod TypeLists
 pub mod TypeTable
 pub mod Entries
 pub mod Replay
+pub mod Masked
 pub mod Spaces
 pub mod Settled
 pub mod LogsTaken

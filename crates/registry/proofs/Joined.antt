@@ -4,7 +4,9 @@ use Rattle.std.specs.Prelude.{⊤}
 use Rattle.pm_model.specs.declared.host.HostFault.{HostFault}
 use Rattle.pm_model.specs.Words.{Picks, reads}
 use Rattle.pm_model.specs.Moments.{State}
-use Rattle.pm_model.specs.Changes.{written, Persists, Silently}
+use Rattle.pm_model.specs.Changes.{Write, written, Persists, Silently}
+use Rattle.pm_model.specs.Masks.{masked, masked_state, masked_image, IsOff}
+use Rattle.pm_model.proofs.Masks.{reads-masked}
 use Rattle.pm_model.proofs.Leaves.{Leaves-weaker}
 use Rattle.pud_defs.specs.declared.layout.TheConstants.{DAEMON_LOG, NEXT_NUMBER_WORD}
 use Rattle.pud_defs.specs.declared.records.TheConstants.{POOL_RECORDS, MAX_PUDDLES}
@@ -19,21 +21,21 @@ use Rattle.pud_defs.proofs.Keyed.{first_free_some}
 use Rattle.pud_defs.specs.Modes.{is_legal_mode}
 use Rattle.pud_defs.specs.Names.{name_cmp}
 use Rattle.pud_defs.specs.Spaces.{owner}
-use Rattle.pud_defs.specs.Tables.{Pool, tables_of, members}
+use Rattle.pud_defs.specs.Tables.{Tables, Pool, tables_of, members}
 use Rattle.std.specs.FinMap.Entries.{put}
 use Rattle.pud_defs.specs.Layout.{tables_end}
 use Rattle.pud_defs.specs.PoolChanges.{NUMBERS_DRAWN, changed_pool, new_pool, with_new_pool, with_pool_mode, without_pool}
 use Rattle.pud_defs.specs.World.{StoredWorld}
 use Rattle.pud_defs.proofs.TablesOf.{tables_of-same, frames_of_tables}
 use Rattle.pud_defs.proofs.PoolsCounted.{few_members, length_puddles}
-use Rattle.batch.specs.Batches.{HasIdleGate, IsFree, Commits}
+use Rattle.batch.specs.Batches.{HasIdleGate, IsFree, ByBatch, Commits}
 use Rattle.batch.specs.Worlds.{IsSettled, MovesBy, Moves, IsBetween}
 use Rattle.batch.specs.Tables.{HasDurableTables}
 use Rattle.batch.proofs.Tables.{reads_kept}
 use Rattle.registry.specs.declared.making.Place.{Place}
 use Rattle.registry.specs.Puts.{puts_batch, AreOfPools}
 use Rattle.registry.specs.Places.{IsPlaceFor}
-use Rattle.registry.specs.Pools.{frame_write, changing, dropping, making, PersistsThenCommits, OrStill, MakesSomewhere, IsLegalPool, IsPoolAt, HasFreshFrame, MayStand, ChangesPools}
+use Rattle.registry.specs.Pools.{frame_write, changing, dropping, making, PersistsThenCommits, OrStill, MakesSomewhere, KeepsTables, IsOffMaking, IsLegalPool, IsPoolAt, HasFreshFrame, MayStand, ChangesPools}
 use Rattle.registry.proofs.PutBatches.{IsFree-puts}
 use Rattle.registry.proofs.Moved.{reads_world, MakesPools, MovesBy-puts, pools_next, ChangesPools-moves}
 use Rattle.registry.proofs.Changed.{MakesPools-mode, mode_world, MakesPools-drop, drop_world}
@@ -93,6 +95,16 @@ ChangesPools-dropped size s F slot r es fault a b c same frames within settled a
     let here = subst (λ (b : State). IsSettled size s b.now.words → MovesBy size s (without_pool r.name s) es b.now.words → Moves size s (without_pool r.name s) es fault b c) same moves in
     let batch = subst (λ (n : ℕ). count_used (members (tables_of n (reads a.now.words)) slot) 0 n ≤ MAX_PUDDLES → es ≡ puts_batch (dropping (tables_of n (reads a.now.words)) slot)) frames gathered in
     ChangesPools-drop size s slot r es fault a c within settled at (batch (few_puddles size s slot r a within settled at)) (here settled)
+
+-- the batch that frees the records was gathered whole, with words masked that leave the tables as they are
+pub whole_batch : (size : ℕ) (s : StoredWorld) (F slot : ℕ) (r : PoolRec) (mask : Write) (a : State) (es : List Entry) → F ≡ s.frames → slot < POOL_RECORDS → IsSettled size s (masked mask a.now.words)
+    → IsPoolAt s.frames slot r (masked mask a.now.words) → tables_of F (reads (masked mask a.now.words)) ≡ tables_of F (reads a.now.words)
+    → (count_used (members (tables_of F (reads a.now.words)) slot) 0 F ≤ MAX_PUDDLES → es ≡ puts_batch (dropping (tables_of F (reads a.now.words)) slot))
+    → es ≡ puts_batch (dropping (tables_of F (reads a.now.words)) slot)
+whole_batch size s F slot r mask a es frames within settled at same gathered =
+    let few = few_puddles size s slot r (masked_state mask a) within settled at in
+    let here = subst (λ (n : ℕ). count_used (members (tables_of n (reads (masked mask a.now.words))) slot) 0 n ≤ MAX_PUDDLES) (sym frames) few in
+    gathered (subst (λ (u : Tables). count_used (members u slot) 0 F ≤ MAX_PUDDLES) same here)
 
 -- the lowest free frame is free
 pub free_there : (F : ℕ) (image : Image) (frame : ℕ) → first_free (tables_of F image).puddles 0 (tables_of F image).frames ≡ Some frame → (tables_of F image).puddles frame ≡ None
@@ -175,6 +187,33 @@ module _ (size : ℕ) (s next : StoredWorld) (F : ℕ) (image : Image) (name : L
   -- behind the search for the place
   pub ChangesPools-found : (b : State) → b ≡ a → MakesThere b → ChangesPools size s next (HasFreshFrame (tables_of F image) (s.next_number + 1)) fault a c
   ChangesPools-found b e = subst (λ (b : State). MakesThere b → ChangesPools size s next (HasFreshFrame (tables_of F image) (s.next_number + 1)) fault a c) (sym e) changes_here
+
+-- with words masked that are none of those that the pool takes
+module _ (size : ℕ) (s next : StoredWorld) (F : ℕ) (image : Image) (name : List ℕ) (uid gid mode : ℕ) (p : Place) (fault : Option HostFault) (mask : Write) (a b c : State) (read : reads a.now.words ≡ image) (same : F ≡ s.frames)
+    (keeps : KeepsTables F mask image) (off : IsOffMaking mask (tables_of F image) (image NEXT_NUMBER_WORD) name uid gid mode) (place : IsPlaceFor (tables_of F image) (image NEXT_NUMBER_WORD) name p) where
+  read_masked : reads (masked mask a.now.words) ≡ masked_image mask image
+  read_masked = reads-masked mask a.now.words ∙ ap (masked_image mask) read
+
+  place_masked : IsPlaceFor (tables_of F (reads (masked mask a.now.words))) (reads (masked mask a.now.words) NEXT_NUMBER_WORD) name p
+  place_masked =
+      subst (λ (i : Image). IsPlaceFor (tables_of F i) (i NEXT_NUMBER_WORD) name p) (sym read_masked)
+      (subst (λ (n : ℕ). IsPlaceFor (tables_of F (masked_image mask image)) n name p) (sym keeps.number)
+      (subst (λ (t : Tables). IsPlaceFor t (image NEXT_NUMBER_WORD) name p) (sym keeps.tables) place))
+
+  off_frame : IsOff mask (written (frame_write F p.frame (p.number + 1) 0))
+  off_frame = subst (λ (n : ℕ). IsOff mask (written (frame_write n p.frame (p.number + 1) 0))) (frames_of_tables F image) (off.frame p place)
+
+  -- what the call that makes it owes, behind a search that changed nothing
+  pub ChangesPools-found_masked : IsSettled size s (masked mask a.now.words) → HasDurableTables F (masked mask a.now.words) → b ≡ a
+      → (IsOff mask (written (frame_write F p.frame (p.number + 1) 0))
+          → IsOff mask (ByBatch DAEMON_LOG (puts_batch (making p (record { name = name; uid = uid; gid = gid; mode = mode; number = p.number }))))
+          → IsSettled size s (masked mask b.now.words) → HasDurableTables F (masked mask b.now.words) → IsPlaceFor (tables_of F (reads (masked mask b.now.words))) s.next_number name p
+          → ChangesPools size s next (IsFreshFrame F p.frame (p.number + 1) 0) fault (masked_state mask b) (masked_state mask c))
+      → ChangesPools size s next (HasFreshFrame (tables_of F image) (s.next_number + 1)) fault (masked_state mask a) (masked_state mask c)
+  ChangesPools-found_masked settled tables still makes =
+      subst (λ (t : Tables). ChangesPools size s next (HasFreshFrame t (s.next_number + 1)) fault (masked_state mask a) (masked_state mask c)) (ap (tables_of F) read_masked ∙ keeps.tables)
+      (ChangesPools-found size s next F (reads (masked mask a.now.words)) name p fault (masked_state mask a) (masked_state mask c) refl same settled tables place_masked (masked_state mask b) (ap (masked_state mask) still)
+      (makes off_frame (off.records p place)))
 
 -- on any content
 pub MakesSomewhere-found : (F : ℕ) (image : Image) (next : ℕ) (name : List ℕ) (uid gid mode : ℕ) (p : Place) (fault : Option HostFault) (a b c : State) → b ≡ a → IsPlaceFor (tables_of F image) next name p

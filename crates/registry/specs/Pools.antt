@@ -3,8 +3,9 @@ use Rattle.std.specs.Prelude.{◌≡◌, ◌≢◌, ◌⊎◌, ℕ, zero, suc, �
 use Rattle.pm_model.specs.declared.host.HostFault.{HostFault}
 use Rattle.pm_model.specs.Words.{Words, reads}
 use Rattle.pm_model.specs.Moments.{State}
-use Rattle.pm_model.specs.Changes.{Write, placed, Persists, Changes, Leaves, Silently}
-use Rattle.pud_defs.specs.declared.layout.TheConstants.{DAEMON_LOG, MAX_OWNER_ID}
+use Rattle.pm_model.specs.Changes.{Write, placed, written, Persists, Changes, Leaves, Silently}
+use Rattle.pm_model.specs.Masks.{masked_image, IsOff}
+use Rattle.pud_defs.specs.declared.layout.TheConstants.{DAEMON_LOG, NEXT_NUMBER_WORD, MAX_OWNER_ID}
 use Rattle.pud_defs.specs.declared.space.TheConstants.{LAST_FRONTIER}
 use Rattle.pud_defs.specs.declared.records.PoolRec.{PoolRec}
 use Rattle.pud_defs.specs.declared.records.PuddleRec.{PuddleRec}
@@ -20,7 +21,7 @@ use Rattle.pud_defs.specs.Tables.{Tables, tables_of}
 use Rattle.pud_defs.specs.Puts.{pool_put, puddle_put, mode_put, free_pool_put, free_puddle_put, is_of_pool}
 use Rattle.pud_defs.specs.PoolChanges.{NUMBERS_DRAWN}
 use Rattle.pud_defs.specs.World.{StoredWorld, idle_world_of}
-use Rattle.batch.specs.Batches.{Commits}
+use Rattle.batch.specs.Batches.{ByBatch, Commits}
 use Rattle.batch.specs.Worlds.{IsSettled}
 use Rattle.batch.specs.Tables.{HasDurableTables}
 use Rattle.registry.specs.declared.making.Place.{Place}
@@ -100,6 +101,19 @@ pub record IsLegalPool (name : List ℕ) (uid gid mode : ℕ) : Type 0 where
 pub record IsPoolAt (F slot : ℕ) (r : PoolRec) (words : Words) : Type 0 where
   pub tables : HasDurableTables F words
   pub used : (tables_of F (reads words)).pools slot ≡ Some r
+
+-- ---- with words masked
+
+-- With these words masked the tables of a device of so many frames are as they are read, and so is the next UUID number.
+pub record KeepsTables (F : ℕ) (mask : Write) (image : Image) : Type 0 where
+  pub tables : tables_of F (masked_image mask image) ≡ tables_of F image
+  pub number : masked_image mask image NEXT_NUMBER_WORD ≡ image NEXT_NUMBER_WORD
+
+-- none of the words that a new pool takes is masked, wherever it is to stand
+pub record IsOffMaking (mask : Write) (t : Tables) (next : ℕ) (name : List ℕ) (uid gid mode : ℕ) : Type 0 where
+  pub frame : (p : Place) → IsPlaceFor t next name p → IsOff mask (written (frame_write t.frames p.frame (p.number + 1) 0))
+  pub records : (p : Place) → IsPlaceFor t next name p
+      → IsOff mask (ByBatch DAEMON_LOG (puts_batch (making p (record { name = name; uid = uid; gid = gid; mode = mode; number = p.number }))))
 
 -- an image that stands for the world before, or for the next one and then also for this
 abbrev pub MayStand : (size : ℕ) → (s next : StoredWorld) → (Image → Type 0) → Image → Type 0

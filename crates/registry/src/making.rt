@@ -3,7 +3,8 @@
 ghost use Rattle.std.specs.Prelude.{◌≡◌, ◌≢◌, ◌+◌, ◌<◌, ◌≤◌, ℕ, Option, IfOk};
 ghost use Rattle.pm_model.specs.Words.{reads};
 ghost use Rattle.pm_model.specs.Counts.{after_fault, fault_of};
-ghost use Rattle.pm_model.specs.Changes.{Changes};
+ghost use Rattle.pm_model.specs.Changes.{Changes, Write, written};
+ghost use Rattle.pm_model.specs.Masks.{masked, masked_state, IsOff};
 ghost use Rattle.log_replay.specs.Replaying.{Anything};
 ghost use Rattle.pud_defs.specs.declared.layout.TheConstants.{DAEMON_LOG, NEXT_NUMBER_WORD};
 ghost use Rattle.pud_defs.specs.Image.{Image};
@@ -13,12 +14,12 @@ ghost use Rattle.pud_defs.specs.Spaces.{owner};
 ghost use Rattle.pud_defs.specs.Tables.{tables_of};
 ghost use Rattle.pud_defs.specs.PoolChanges.{with_new_pool};
 ghost use Rattle.pud_defs.specs.World.{StoredWorld};
-ghost use Rattle.batch.specs.Batches.{HasIdleGate};
+ghost use Rattle.batch.specs.Batches.{HasIdleGate, ByBatch};
 ghost use Rattle.batch.specs.Worlds.{IsSettled};
 ghost use Rattle.batch.specs.Tables.{HasDurableTables};
 ghost use Rattle.registry.specs.Puts.{puts_batch};
 ghost use Rattle.registry.specs.Places.{make_fault, refusal_in, make_refusal, IsPlaceFor, IsPlaceWithin};
-ghost use Rattle.registry.specs.Pools.{frame_write, making, PersistsThenCommits, OrStill, MakesSomewhere, IsLegalPool, HasFreshFrame, ChangesPools};
+ghost use Rattle.registry.specs.Pools.{frame_write, making, PersistsThenCommits, OrStill, MakesSomewhere, KeepsTables, IsOffMaking, IsLegalPool, HasFreshFrame, ChangesPools};
 
 use crate::frames::fill_frame;
 use crate::puts::{add_put, number_put};
@@ -159,9 +160,11 @@ fn make_at<H: Host>(h: &mut H, frames: u32, place: Place, rec: PoolRec) -> Resul
     ensures commits { H.tells → (size : ℕ) → size ≡ (H.counts h.old).size → HasIdleGate DAEMON_LOG (H.state h.old).now.words
         → PersistsThenCommits (frame_write frames place.frame (place.number + 1) 0) (puts_batch (making place rec)) (fault_of result) (H.state h.old) (H.state h.new) }
     ensures makes { H.tells → (size : ℕ) → size ≡ (H.counts h.old).size → (s : StoredWorld) → frames ≡ s.frames → rec.number ≡ place.number
-        → IsSettled size s (H.state h.old).now.words → HasDurableTables frames (H.state h.old).now.words
-        → IsPlaceFor (tables_of frames (reads (H.state h.old).now.words)) s.next_number rec.name place → IsLegalPool rec.name rec.uid rec.gid rec.mode
-        → ChangesPools size s (with_new_pool rec.name (owner rec.uid rec.gid) rec.mode s) (IsFreshFrame frames place.frame (place.number + 1) 0) (fault_of result) (H.state h.old) (H.state h.new) }
+        → (mask : Write) → IsOff mask (written (frame_write frames place.frame (place.number + 1) 0)) → IsOff mask (ByBatch DAEMON_LOG (puts_batch (making place rec)))
+        → IsSettled size s (masked mask (H.state h.old).now.words) → HasDurableTables frames (masked mask (H.state h.old).now.words)
+        → IsPlaceFor (tables_of frames (reads (masked mask (H.state h.old).now.words))) s.next_number rec.name place → IsLegalPool rec.name rec.uid rec.gid rec.mode
+        → ChangesPools size s (with_new_pool rec.name (owner rec.uid rec.gid) rec.mode s) (IsFreshFrame frames place.frame (place.number + 1) 0) (fault_of result)
+            (masked_state mask (H.state h.old)) (masked_state mask (H.state h.new)) }
     ensures any { H.tells → Changes Anything (fault_of result) (H.state h.old) (H.state h.new) }
     ensures cause { H.counts h.new ≡ after_fault (fault_of result) (H.counts h.old) }
 {
@@ -195,9 +198,11 @@ pub fn make_pool<H: Host>(
         → make_refusal (tables_of frames image) (image NEXT_NUMBER_WORD) name ≡ Option.None
         → OrStill (MakesSomewhere (tables_of frames image) (image NEXT_NUMBER_WORD) name uid gid mode) (make_fault result) (H.state h.old) (H.state h.new) }
     ensures makes { H.tells → (size : ℕ) → size ≡ (H.counts h.old).size → (s : StoredWorld) → frames ≡ s.frames → (image : Image) → reads (H.state h.old).now.words ≡ image
-        → IsSettled size s (H.state h.old).now.words → HasDurableTables frames (H.state h.old).now.words → IsLegalPool name uid gid mode
+        → (mask : Write) → KeepsTables frames mask image → IsOffMaking mask (tables_of frames image) (image NEXT_NUMBER_WORD) name uid gid mode
+        → IsSettled size s (masked mask (H.state h.old).now.words) → HasDurableTables frames (masked mask (H.state h.old).now.words) → IsLegalPool name uid gid mode
         → make_refusal (tables_of frames image) (image NEXT_NUMBER_WORD) name ≡ Option.None
-        → ChangesPools size s (with_new_pool name (owner uid gid) mode s) (HasFreshFrame (tables_of frames image) (s.next_number + 1)) (make_fault result) (H.state h.old) (H.state h.new) }
+        → ChangesPools size s (with_new_pool name (owner uid gid) mode s) (HasFreshFrame (tables_of frames image) (s.next_number + 1)) (make_fault result)
+            (masked_state mask (H.state h.old)) (masked_state mask (H.state h.new)) }
     ensures any { H.tells → Changes Anything (make_fault result) (H.state h.old) (H.state h.new) }
     ensures cause { H.counts h.new ≡ after_fault (make_fault result) (H.counts h.old) }
 {

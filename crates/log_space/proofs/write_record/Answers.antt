@@ -3,7 +3,8 @@ use Rattle.pm_model.specs.Counts.{fault_of}
 use Rattle.pud_defs.specs.declared.layout.TheConstants.{DAEMON_LOG, LOG_ENTRY_WORDS, ENTRY_HEADER_WORDS, SPACE_RECORD_WORDS}
 use Rattle.pud_defs.specs.Entries.{Entry}
 use Rattle.pud_defs.specs.Spaces.{space_record_at}
-use Rattle.batch.specs.Batches.{batch_entry, words_of, IsFree, Commits}
+use Rattle.pm_model.specs.Masks.{masked, masked_state, IsOff}
+use Rattle.batch.specs.Batches.{batch_entry, words_of, IsFree, ByBatch, Commits}
 use Rattle.batch.specs.Worlds.{MovesBy, Moves}
 use Rattle.log_space.specs.Records.{record_batch}
 use Rattle.log_space.proofs.Apart.{IsFree-record}
@@ -28,10 +29,11 @@ returns-clause-commits g c = λ t idle.
     (IsFree-record size c.requires.table slot vals a.now.words c.requires.known c.requires.no_more idle)
 
 pub returns-clause-moves : goal.returns-clause-moves
-returns-clause-moves g c = λ t size same s next settled.
+returns-clause-moves g c = λ t size same s next mask off settled.
     let slot = c.args.slot in
     let vals = c.args.vals.now in
     let a = g.H.Host.state c.args.h.now in
     let b = g.H.Host.state c.commit.new.h in
     let whole = holds slot vals c.new-batch.result c.add-fits.new.self c.new-batch.ensures c.requires.no_more c.add-fits.ensures.added in
-    subst (λ (es : List Entry). MovesBy size s next es a.now.words → Moves size s next es (fault_of c.commit.result) a b) whole (c.commit.ensures.moves t size same s next settled)
+    subst (λ (es : List Entry). IsOff mask (ByBatch DAEMON_LOG es) → MovesBy size s next es (masked mask a.now.words) → Moves size s next es (fault_of c.commit.result) (masked_state mask a) (masked_state mask b)) whole
+    (λ apart. c.commit.ensures.moves t size same s next mask apart settled) off

@@ -1,4 +1,9 @@
-use Rattle.std.proofs.Common.{refl, arith}
+use Rattle.std.proofs.Common.{List, refl, sym, subst, arith}
+use Rattle.pm_model.specs.Counts.{fault_of}
+use Rattle.pm_model.specs.Masks.{masked_state, IsOff}
+use Rattle.pud_defs.specs.declared.layout.TheConstants.{DAEMON_LOG}
+use Rattle.pud_defs.specs.Entries.{Entry}
+use Rattle.batch.specs.Batches.{ByBatch}
 use Rattle.pud_defs.specs.Puts.{mode_put}
 use Rattle.registry.specs.Pools.{changing}
 use Rattle.registry.proofs.Gathered.{first_put}
@@ -13,6 +18,10 @@ returns-clause-commits g c = λ t size same idle.
     (c.commit.ensures.commits t size same) idle
 
 pub returns-clause-changes : goal.returns-clause-changes
-returns-clause-changes g c = λ t size same s settled r at legal.
+returns-clause-changes g c = λ t size same s mask off settled r at legal.
     let is = first_put c.new-batch.result c.add_put.new.batch c.set_mode.result (mode_put c.args.slot c.args.mode) c.new-batch.ensures c.set_mode.ensures.put (omega arith) c.add_put.ensures in
-    ChangesPools-mode size s c.args.slot c.args.mode r c.add_put.new.batch _ _ _ c.requires.known settled at legal is (λ moves. c.commit.ensures.moves t size same s _ settled moves)
+    let a = g.H.Host.state c.args.h.now in
+    let b = g.H.Host.state c.commit.new.h in
+    let apart = subst (λ (es : List Entry). IsOff mask (ByBatch DAEMON_LOG es)) (sym is) off in
+    ChangesPools-mode size s c.args.slot c.args.mode r c.add_put.new.batch (fault_of c.commit.result) (masked_state mask a) (masked_state mask b) c.requires.known settled at legal is
+    (λ moves. c.commit.ensures.moves t size same s _ mask apart settled moves)
