@@ -8,7 +8,8 @@ use Rattle.pud_defs.specs.Spaces.{all_below}
 use Rattle.pud_defs.specs.Keyed.{keyed, first_from, are_distinct}
 use Rattle.pud_defs.specs.Stored.{Stored}
 use Rattle.pud_defs.specs.Graph.{place_in, target, is_graph, headers_fit, graph_of, is_held, Graph}
-use Rattle.graph_laws.specs.Changes.{with_field_word, with_serial_word, with_root_word, with_field, with_root, without_object, with_new, blank_object}
+use Rattle.pud_defs.specs.GraphChanges.{with_field, with_root, without_object, with_new, blank_object}
+use Rattle.graph_laws.specs.Changes.{with_field_word, with_serial_word, with_root_word}
 use Rattle.graph_laws.specs.Rewriting.{rewritten}
 
 -- what a graph is read by

@@ -15,7 +15,8 @@ use Rattle.pud_defs.specs.Frames.{slot_at}
 use Rattle.pud_defs.specs.Stored.{Stored, places_of, place_word}
 use Rattle.pud_defs.specs.Graph.{Content, Number, Table, table_of, contents_by, contents_or_none, content, field_count, pointee_at, place_of, object_at, named_by, value_of, stands, all_stand, Object, Graph, next_serial_of, root_of, graph_stored, graph_of}
 use Rattle.pud_defs.proofs.Graphs.{HasGraph, graph_of-each}
-use Rattle.graph_laws.specs.Changes.{IsAddress, IsField, with_field_word, with_word, with_words, object_with, with_some_object, with_field}
+use Rattle.pud_defs.specs.GraphChanges.{object_with, with_some_object, with_field}
+use Rattle.graph_laws.specs.Changes.{IsAddress, IsField, with_field_word, with_word, with_words}
 use Rattle.graph_laws.proofs.ContentLists.{list_all-set}
 use Rattle.graph_laws.proofs.TableChanges.{IsSameBut, find-live, serials_still, IsGraph-in_place, objects-in_place}
 use Rattle.graph_laws.proofs.Words.{slot_word-header, slot_word-there, slot_word-other, slot_word-others, few_fields, same_but, IsLive, place_of-some, graph_of-words}

@@ -10,7 +10,8 @@ use Rattle.pud_defs.specs.Frames.{slot_at}
 use Rattle.pud_defs.specs.Stored.{Stored, places_of}
 use Rattle.pud_defs.specs.Graph.{Table, table_of, contents_or_none, pointee_at, place_of, object_at, names_serial, Object, Graph, next_serial_of, root_of, graph_stored, graph_of, is_held}
 use Rattle.pud_defs.proofs.Graphs.{IsGraph, HasGraph, graph_of-each}
-use Rattle.graph_laws.specs.Changes.{with_word, with_words, with_serial_word, without_object}
+use Rattle.pud_defs.specs.GraphChanges.{without_object}
+use Rattle.graph_laws.specs.Changes.{with_word, with_words, with_serial_word}
 use Rattle.graph_laws.proofs.ContentLists.{name_no_serial, names_no_root}
 use Rattle.graph_laws.proofs.TableChanges.{IsUnnamed, find-live, root-unnamed, IsGraph-unnamed, distinct-freed, objects-freed}
 use Rattle.graph_laws.proofs.Words.{slot_word-header, slot_word-there, slot_word-others, same_but, IsLive, place_of-some, graph_of-words}

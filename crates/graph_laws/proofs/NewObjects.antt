@@ -13,7 +13,8 @@ use Rattle.pud_defs.specs.Stored.{Stored, places_of}
 use Rattle.pud_defs.specs.Graph.{Content, Table, table_of, contents_by, contents_or_none, content, field_count, pointee_at, object_at, value_of, stands, all_stand, is_next_serial, Object, Graph, next_serial_of, root_of, graph_stored, graph_of}
 use Rattle.pud_defs.proofs.Contents.{list_all-range}
 use Rattle.pud_defs.proofs.Graphs.{HasGraph, graph_of-each}
-use Rattle.graph_laws.specs.Changes.{with_words, blank_value, blank_object, with_new, IsMade}
+use Rattle.pud_defs.specs.GraphChanges.{blank_value, blank_object, with_new}
+use Rattle.graph_laws.specs.Changes.{with_words, IsMade}
 use Rattle.graph_laws.proofs.ContentLists.{names_no_free, name_no_free}
 use Rattle.graph_laws.proofs.TableChanges.{IsSameBut, IsUnnamed, root-unnamed, IsGraph-unnamed, distinct-new, objects-new}
 use Rattle.graph_laws.proofs.Words.{map-range_same, KeepsOthers, same_but, graph_of-words}

@@ -7,7 +7,8 @@ use Rattle.pud_defs.specs.Stored.{Stored, places_of, place_word}
 use Rattle.pud_defs.specs.Graph.{Content, table_of, contents_by, pointee_at, place_of, named_by, stands, Graph, next_serial_of, graph_stored, graph_of}
 use Rattle.pud_defs.proofs.Contents.{names_only, pointee_at_within, contents_by_within}
 use Rattle.pud_defs.proofs.Graphs.{IsGraph, HasGraph, IsSameTable, IsGraph-same, graph_by-same, graph_of-each}
-use Rattle.graph_laws.specs.Changes.{IsAddress, with_word, with_words, with_root_word, with_root}
+use Rattle.pud_defs.specs.GraphChanges.{with_root}
+use Rattle.graph_laws.specs.Changes.{IsAddress, with_word, with_words, with_root_word}
 use Rattle.graph_laws.proofs.Words.{with_word-there, with_word-other, contents_by-same, place_of-some, graph_of-words}
 use Rattle.graph_laws.proofs.Pointers.{pointee_at-null, pointee_at-address}
 

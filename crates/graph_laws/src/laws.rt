@@ -11,7 +11,8 @@ ghost use Rattle.pud_defs.specs.Image.{Image, written};
 ghost use Rattle.pud_defs.specs.Frames.{frame_at, fresh_frame};
 ghost use Rattle.pud_defs.specs.Stored.{Stored, stored_in, places_of, place_word};
 ghost use Rattle.pud_defs.specs.Graph.{Graph, table_of, place_of, object_at, field_count, object_in, next_serial_of, is_held, graph_of, empty_graph};
-ghost use Rattle.graph_laws.specs.Changes.{with_word, with_words, with_slot_word, with_field_word, with_serial_word, with_root_word, AreBases, IsAddress, IsField, IsMade, blank_object, with_field, with_new, without_object, with_root};
+ghost use Rattle.pud_defs.specs.GraphChanges.{blank_object, with_field, with_new, without_object, with_root};
+ghost use Rattle.graph_laws.specs.Changes.{with_word, with_words, with_slot_word, with_field_word, with_serial_word, with_root_word, AreBases, IsAddress, IsField, IsMade};
 ghost use Rattle.graph_laws.specs.Reads.{ReadsSame, with_puddle, alone, IsGrown, AgreeOnFrames, HasDistinctFrames};
 ghost use Rattle.graph_laws.specs.Rewriting.{rewritten, stepped, RewritesSlot};
 

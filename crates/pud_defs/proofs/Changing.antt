@@ -2,7 +2,7 @@
 use Rattle.std.proofs.Common.{◌≡◌, inl, inr, ℕ, T, List, [], ◌∷◌, ◌++◌, Option, Some, None, nat_cmp, refl, sym, ap, ◌∙◌}
 use Rattle.std.specs.FinMap.Entries.{is_sorted}
 use Rattle.pud_defs.specs.declared.machine.Command.{Command}
-use Rattle.pud_defs.specs.declared.machine.Command.TheVariants.{Client, Leave, Define, Cut, Arm, Chmod, Pools, Get}
+use Rattle.pud_defs.specs.declared.machine.Command.TheVariants.{Client, Leave, Define, Cut, Arm, Chmod, Begin, Commit, Abort, New, Set, Pools, Get}
 use Rattle.pud_defs.specs.declared.machine.Command.TheVariants as commands
 use Rattle.pud_defs.specs.declared.machine.Refusal.{Refusal}
 use Rattle.pud_defs.specs.World.{World}
@@ -12,7 +12,7 @@ use Rattle.pud_defs.specs.Step.{refusal_of, after, unless_refused, world_by, ste
 use Rattle.pud_defs.specs.Changing.{Part, part_of, with_part, file_in, KeepsFiles, KeepsUnwritable}
 use Rattle.pud_defs.specs.Run.{Turn, IsTurn, IsRun, last_world}
 use Rattle.pud_defs.proofs.TypeLists.{is_sorted-with_type}
-use Rattle.pud_defs.specs.Changing.Part.{types, pools, clients, nothing}
+use Rattle.pud_defs.specs.Changing.Part.{types, pools, clients, transactions, nothing}
 
 -- a command changes its part alone
 pub after-part : (w : World) (c : Command) → after w c ≡ with_part (part_of c) (after w c) w
@@ -24,6 +24,11 @@ after-part w (commands.Pool client name mode) = refl
 after-part w (Chmod client name mode) = refl
 after-part w (commands.Drop client name) = refl
 after-part w (Get client name s f) = refl
+after-part w (Begin client name) = refl
+after-part w (Commit client name) = refl
+after-part w (Abort client name) = refl
+after-part w (New client name t) = refl
+after-part w (Set client name s f x) = refl
 after-part w Pools = refl
 after-part w (Cut pick) = refl
 after-part w (Arm step pick) = refl
@@ -41,6 +46,7 @@ shelf_of_part : (p : Part) (v w : World) → (with_part p v w).shelf ≡ w.shelf
 shelf_of_part types v w = refl
 shelf_of_part pools v w = refl
 shelf_of_part clients v w = refl
+shelf_of_part transactions v w = refl
 shelf_of_part nothing v w = refl
 
 shelf_after : (w : World) (c : Command) → (after w c).shelf ≡ w.shelf

@@ -5,14 +5,14 @@ use Rattle.std.specs.List.{range_with_len}
 use Rattle.pud_defs.specs.Spaces.{owner}
 use Rattle.pud_defs.specs.Graph.{empty_graph}
 use Rattle.pud_defs.specs.Holdings.Holding.{Sound}
-use Rattle.pud_defs.specs.World.{World, no_clients, blank_world}
+use Rattle.pud_defs.specs.World.{World, no_clients, nothing_open, blank_world}
 use Rattle.pud_defs.specs.Step.{step_answer, step_world}
 use Rattle.pud_defs.specs.Texts.{answer_text}
 use Rattle.pud_defs.proofs.Opened.{opened}
 
 -- a device of so many frames that was just formatted, with no clients and no files
 abbrev pub blank_of : ℕ → World
-blank_of F = record { stored = blank_world F 7; clients = no_clients; shelf = λ _. None }
+blank_of F = record { stored = blank_world F 7; clients = no_clients; shelf = λ _. None; transactions = nothing_open }
 
 -- what is said in answer to some lines, one after the other
 unfoldable pub said : World → List (List ℕ) → List ℕ
@@ -83,6 +83,7 @@ many_pools n = record {
   stored = record (blank_world 64 7) { next_number = 65; pools = map (λ k. ((k ∷ 0 ∷ 0 ∷ 0 ∷ 0 ∷ 0 ∷ 0 ∷ 0 ∷ 0 ∷ 0 ∷ 0 ∷ 0 ∷ 0 ∷ 0 ∷ 0 ∷ 0 ∷ []), record { owner = owner 5 5; mode = 384; number = k; puddles = 1; holding = Sound empty_graph })) (range_with_len 1 n) };
   clients = λ _. Some (owner 5 5);
   shelf = λ _. None;
+  transactions = nothing_open;
 }
 
 last_pool : said (many_pools 31) (codes "pool 0 a 600" ∷ codes "pool 0 b 600" ∷ []) ≡ lines_said (codes "ok" ∷ codes "no full" ∷ [])

@@ -4,7 +4,7 @@ use Rattle.std.specs.Prelude.{◌==◌, ◌||◌}
 use Rattle.std.specs.List.{range_with_len}
 use Rattle.pud_defs.specs.declared.machine.Reply.TheVariants as replies
 use Rattle.pud_defs.specs.declared.machine.Refusal.TheVariants as refusals
-use Rattle.pud_defs.specs.World.{World, no_clients, restart, blank_world}
+use Rattle.pud_defs.specs.World.{World, no_clients, nothing_open, restart, blank_world}
 use Rattle.pud_defs.specs.Step.{step_answer, step_world}
 use Rattle.pud_defs.specs.Step.Answer.{of_reply, of_text}
 use Rattle.pud_defs.specs.Run.{newlines, lines_taken}
@@ -14,7 +14,7 @@ use Rattle.pud_defs.proofs.Opened.{opened}
 
 -- a world of four frames with these types, no clients and no files
 abbrev pub of_types : List (ℕ × ℕ) → World
-of_types types = record { stored = record (blank_world 4 7) { types = types }; clients = no_clients; shelf = λ _. None }
+of_types types = record { stored = record (blank_world 4 7) { types = types }; clients = no_clients; shelf = λ _. None; transactions = nothing_open }
 
 -- the first run: two definitions
 first_world : step_world (of_types []) (codes "type 1 2 1") ≡ of_types ((1, 8589934594) ∷ [])

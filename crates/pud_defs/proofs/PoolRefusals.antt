@@ -19,6 +19,7 @@ use Rattle.pud_defs.specs.Tables.{Tables, Pool, Reader, named, records_of, pool_
 use Rattle.pud_defs.specs.SoundTables.{HasSoundTables}
 use Rattle.pud_defs.specs.World.{World}
 use Rattle.pud_defs.specs.PoolChanges.{pool_named, is_full_of_pools, lacks_frames}
+use Rattle.pud_defs.specs.Transactions.{is_own, is_others}
 use Rattle.pud_defs.specs.Step.{owns, holds, refusal_of}
 use Rattle.pud_defs.proofs.PoolsChanged.{same_name}
 use Rattle.pud_defs.proofs.Keyed.{find-keyed, first_from_some, first_free_some, count_used_full, count_used_room}
@@ -41,17 +42,19 @@ unfolding refusal_of holds
 refusal_of-pool w client mode name = refl
 
 -- of a line on a pool that is there
-abbrev pub owning_refusal : Option Owner → Option Pool → Option Refusal
-owning_refusal who found =
+abbrev pub owning_refusal : Option Owner → Option Pool → (busy own : Bool) → Option Refusal
+owning_refusal who found busy own =
     cond (not (is_some who)) (Some refusals.Client)
     (cond (is_none found) (Some refusals.Pool)
-    (cond (not (owns who found)) (Some refusals.Denied) None))
+    (cond (not (owns who found)) (Some refusals.Denied)
+    (cond busy (Some refusals.Busy)
+    (cond own (Some refusals.Open) None))))
 
-pub refusal_of-chmod : (w : World) (client mode : ℕ) (name : List ℕ) → refusal_of w (Chmod client name mode) ≡ owning_refusal (w.clients client) (pool_named name w.stored)
+pub refusal_of-chmod : (w : World) (client mode : ℕ) (name : List ℕ) → refusal_of w (Chmod client name mode) ≡ owning_refusal (w.clients client) (pool_named name w.stored) (is_others client (w.transactions name)) (is_own client (w.transactions name))
 unfolding refusal_of holds
 refusal_of-chmod w client mode name = refl
 
-pub refusal_of-drop : (w : World) (client : ℕ) (name : List ℕ) → refusal_of w (commands.Drop client name) ≡ owning_refusal (w.clients client) (pool_named name w.stored)
+pub refusal_of-drop : (w : World) (client : ℕ) (name : List ℕ) → refusal_of w (commands.Drop client name) ≡ owning_refusal (w.clients client) (pool_named name w.stored) (is_others client (w.transactions name)) (is_own client (w.transactions name))
 unfolding refusal_of holds
 refusal_of-drop w client name = refl
 

@@ -15,7 +15,7 @@ use Rattle.pud_defs.specs.PoolChanges.{pools_read, with_type_defined}
 use Rattle.pud_defs.specs.declared.objects.Val.{Val}
 use Rattle.pud_defs.specs.declared.objects.Val.TheVariants.{Num, Ref}
 use Rattle.pud_defs.specs.Grammar.{command_of}
-use Rattle.pud_defs.specs.Step.{Answer, step_answer, is_other, is_clash, is_full, holds, refusal_of, after, text_for, field_for, value_or_ok, text_or, answer, answer_unless, answer_by, world_by, unless_refused, Step}
+use Rattle.pud_defs.specs.Step.{Answer, step_answer, is_other, is_clash, is_full, holds, refusal_of, after, text_for, value_for, value_or_ok, text_or, answer, answer_unless, answer_by, world_by, unless_refused, Step}
 use Rattle.pud_defs.specs.Step.Answer.{of_reply}
 use Rattle.pud_defs.specs.Run.{is_cut}
 use Rattle.pud_defs.proofs.TypeLists.{with_type-same}
@@ -94,10 +94,10 @@ done_answer w c h = ap (λ o. answer_unless o (answer w c)) h
 pub done_world : (w : World) (c : Command) → refusal_of w c ≡ None → world_by w (Some c) ≡ after w c
 done_world w c h = ap (λ o. unless_refused o w (after w c)) h
 
--- and is answered `ok` alone, where it asks for no field and no text
-pub answer_is_ok : (w : World) (c : Command) → text_for w c ≡ None → field_for w c ≡ None → refusal_of w c ≡ None → answer_by w (Some c) ≡ of_reply replies.Ok
+-- and is answered `ok` alone, where it asks for no value and no text
+pub answer_is_ok : (w : World) (c : Command) → text_for w c ≡ None → value_for w c ≡ None → refusal_of w c ≡ None → answer_by w (Some c) ≡ of_reply replies.Ok
 unfolding answer
-answer_is_ok w c no_text no_field h = done_answer w c h ∙ ap₂ (λ field text. text_or (value_or_ok field) text) no_field no_text
+answer_is_ok w c no_text no_value h = done_answer w c h ∙ ap₂ (λ value text. text_or (value_or_ok value) text) no_value no_text
 
 -- a line that is no command
 pub step-bad : (w : World) (line : List ℕ) → command_of line ≡ None → Step w line (of_reply (replies.No refusals.Bad)) w
@@ -125,7 +125,7 @@ no_cut_in field (Some text) = refl
 no_cut_by : (w : World) (c : Option Command) → is_cut (answer_by w c) ≡ false
 unfolding answer
 no_cut_by w None = refl
-no_cut_by w (Some c) = no_cut_unless (refusal_of w c) (answer w c) (no_cut_in (field_for w c) (text_for w c))
+no_cut_by w (Some c) = no_cut_unless (refusal_of w c) (answer w c) (no_cut_in (value_for w c) (text_for w c))
 
 pub step_is_no_cut : (w : World) (line : List ℕ) → is_cut (step_answer w line) ≡ false
 step_is_no_cut w line = no_cut_by w (command_of line)

@@ -1,7 +1,7 @@
 -- Which part of the world a command may change, and which file it may write.
 use Rattle.std.specs.Prelude.{◌≡◌, ℕ, List, Option, Some, None}
 use Rattle.pud_defs.specs.declared.machine.Command.{Command}
-use Rattle.pud_defs.specs.declared.machine.Command.TheVariants.{Client, Leave, Define, Cut, Arm, Chmod, Pools, Get}
+use Rattle.pud_defs.specs.declared.machine.Command.TheVariants.{Client, Leave, Define, Cut, Arm, Chmod, Begin, Commit, Abort, New, Set, Pools, Get}
 use Rattle.pud_defs.specs.declared.machine.Command.TheVariants as commands
 use Rattle.pud_defs.specs.World.{World}
 use Rattle.pud_defs.specs.Grammar.{command_of}
@@ -10,6 +10,7 @@ pub data Part : Type 0 where
   types : Part
   pools : Part
   clients : Part
+  transactions : Part
   nothing : Part
 
 abbrev pub part_of : Command → Part
@@ -20,6 +21,11 @@ part_of (commands.Pool client name mode) = pools
 part_of (Chmod client name mode) = pools
 part_of (commands.Drop client name) = pools
 part_of (Get client name s f) = nothing
+part_of (Begin client name) = transactions
+part_of (Commit client name) = transactions
+part_of (Abort client name) = transactions
+part_of (New client name t) = transactions
+part_of (Set client name s f x) = transactions
 part_of Pools = nothing
 part_of (Cut pick) = clients
 part_of (Arm step pick) = nothing
@@ -28,7 +34,8 @@ part_of (Arm step pick) = nothing
 abbrev pub with_part : Part → World → World → World
 with_part types v w = record w { stored = record w.stored { types = v.stored.types; pools = v.stored.pools } }
 with_part pools v w = record w { stored = record w.stored { next_number = v.stored.next_number; pools = v.stored.pools } }
-with_part clients v w = record w { clients = v.clients }
+with_part clients v w = record w { clients = v.clients; transactions = v.transactions }
+with_part transactions v w = record w { stored = record w.stored { next_number = v.stored.next_number; pools = v.stored.pools }; transactions = v.transactions }
 with_part nothing v w = w
 
 -- the file that a command may write: none does

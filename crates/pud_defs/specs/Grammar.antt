@@ -3,7 +3,7 @@ use Rattle.std.specs.Prelude.{IsTrue, ℕ, ◌<◌, ◌≤◌, ◌+◌, ◌-◌,
 use Rattle.std.specs.List.{list_all, slice_split}
 use Rattle.pud_defs.specs.declared.layout.TheConstants.{LINE_LIMIT, CLIENTS, MAX_OWNER_ID, MAX_TYPE_ID, MAX_FIELDS, MAX_ARMED_STEP}
 use Rattle.pud_defs.specs.declared.machine.Command.{Command}
-use Rattle.pud_defs.specs.declared.machine.Command.TheVariants.{Client, Leave, Define, Cut, Arm, Chmod, Pools, Get}
+use Rattle.pud_defs.specs.declared.machine.Command.TheVariants.{Client, Leave, Define, Cut, Arm, Chmod, Begin, Commit, Abort, New, Set, Pools, Get}
 use Rattle.pud_defs.specs.declared.machine.Command.TheVariants as commands
 use Rattle.pud_defs.specs.declared.records.TheConstants.{NAME_BYTES}
 use Rattle.pud_defs.specs.Modes.{is_legal_mode}
@@ -203,6 +203,11 @@ IsLegalCommand (commands.Pool client name mode) = (client < CLIENTS) × IsName n
 IsLegalCommand (Chmod client name mode) = (client < CLIENTS) × IsName name × IsTrue (is_legal_name name) × IsTrue (is_legal_mode mode)
 IsLegalCommand (commands.Drop client name) = (client < CLIENTS) × IsName name × IsTrue (is_legal_name name)
 IsLegalCommand (Get client name s f) = (client < CLIENTS) × IsName name × IsTrue (is_legal_name name) × (1 ≤ s) × (s < 2 ^ 64) × (f < MAX_FIELDS)
+IsLegalCommand (Begin client name) = (client < CLIENTS) × IsName name × IsTrue (is_legal_name name)
+IsLegalCommand (Commit client name) = (client < CLIENTS) × IsName name × IsTrue (is_legal_name name)
+IsLegalCommand (Abort client name) = (client < CLIENTS) × IsName name × IsTrue (is_legal_name name)
+IsLegalCommand (New client name t) = (client < CLIENTS) × IsName name × IsTrue (is_legal_name name) × IsTrue (is_legal_type_id t)
+IsLegalCommand (Set client name s f x) = (client < CLIENTS) × IsName name × IsTrue (is_legal_name name) × (1 ≤ s) × (s < 2 ^ 64) × (f < MAX_FIELDS)
 IsLegalCommand Pools = Unit {0}
 IsLegalCommand (Cut pick) = pick < 2 ^ 64
 IsLegalCommand (Arm step pick) = (1 ≤ step) × (step ≤ MAX_ARMED_STEP) × (pick < 2 ^ 64)

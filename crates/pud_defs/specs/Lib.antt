@@ -16,6 +16,7 @@ pub mod Headers
 pub mod Rights
 pub mod Stored
 pub mod Graph
+pub mod GraphChanges
 pub mod Holdings
 pub mod Tables
 pub mod SoundTables
@@ -29,6 +30,7 @@ pub mod LogsTaken
 pub mod Registry
 pub mod World
 pub mod PoolChanges
+pub mod Transactions
 pub mod Listing
 pub mod Grammar
 pub mod Step

@@ -47,11 +47,25 @@ new_pool owner mode number = record { owner = owner; mode = mode; number = numbe
 unfoldable pub with_new_pool : List ℕ → Owner → ℕ → StoredWorld → StoredWorld
 with_new_pool name owner mode s = record s { next_number = s.next_number + NUMBERS_DRAWN; pools = put name_cmp name (new_pool owner mode s.next_number) s.pools }
 
+-- ---- a pool grows
+
+-- too few UUID numbers are left for one puddle more
+abbrev pub lacks_a_number : ℕ → Bool
+lacks_a_number next = nat_lt NUMBER_LIMIT (next + 1)
+
+-- the pool with one puddle more, which holds what it held
+abbrev pub with_puddle_more : Pool → Pool
+with_puddle_more p = record p { puddles = p.puddles + 1 }
+
 -- ---- a pool is changed, or dropped
 
 -- the pools with the one of this name changed, where there is one
 abbrev pub changed_pool : List ℕ → (Pool → Pool) → List (List ℕ × Pool) → List (List ℕ × Pool)
 changed_pool name change pools = unwrap_or (option_map (λ p. put name_cmp name (change p) pools) (find name_cmp name pools)) pools
+
+-- the world with one puddle more in the pool of this name, which took the next UUID number
+unfoldable pub with_grown_pool : List ℕ → StoredWorld → StoredWorld
+with_grown_pool name s = record s { next_number = s.next_number + 1; pools = changed_pool name with_puddle_more s.pools }
 
 -- the world with this mode in the pool of this name
 unfoldable pub with_pool_mode : List ℕ → ℕ → StoredWorld → StoredWorld

@@ -1,8 +1,10 @@
 -- What a line does to the world, and what is answered.
-use Rattle.std.specs.Prelude.{◌≡◌, ℕ, Bool, false, not, ◌&&◌, nat_le, ◌==◌, List, [], ◌∷◌, length, find, slice_get, Option, Some, None, is_none, is_some, unwrap_or}
-use Rattle.pud_defs.specs.declared.layout.TheConstants.{TYPE_RECORDS}
+use Rattle.std.specs.Prelude.{◌≡◌, ℕ, ◌+◌, ◌*◌, Bool, true, false, not, ◌&&◌, ◌||◌, nat_le, nat_lt, ◌==◌, cond, List, [], ◌∷◌, length, find, count_by, slice_get, bytes_eq, Option, Some, None, is_none, is_some, unwrap_or, option_map}
+use Rattle.pud_defs.specs.declared.layout.TheConstants.{TYPE_RECORDS, CLIENT_LOGS, LOG_ENTRY_WORDS, MAX_DEPTH, SET_UNITS, NEW_UNITS, NUMBER_LIMIT}
+use Rattle.pud_defs.specs.declared.records.TheConstants.{MAX_PUDDLES}
+use Rattle.pud_defs.specs.declared.space.TheConstants.{FRAME_SLOTS}
 use Rattle.pud_defs.specs.declared.machine.Command.{Command}
-use Rattle.pud_defs.specs.declared.machine.Command.TheVariants.{Client, Leave, Define, Cut, Arm, Chmod, Pools, Get}
+use Rattle.pud_defs.specs.declared.machine.Command.TheVariants.{Client, Leave, Define, Cut, Arm, Chmod, Begin, Commit, Abort, New, Set, Pools, Get}
 use Rattle.pud_defs.specs.declared.machine.Command.TheVariants as commands
 use Rattle.pud_defs.specs.declared.machine.Reply.{Reply}
 use Rattle.pud_defs.specs.declared.machine.Reply.TheVariants as replies
@@ -12,12 +14,14 @@ use Rattle.pud_defs.specs.Types.{map_of}
 use Rattle.pud_defs.specs.Spaces.{Owner, owner, with_owner}
 use Rattle.pud_defs.specs.declared.objects.Val.{Val}
 use Rattle.pud_defs.specs.declared.objects.Val.TheVariants.{Num, Ref}
-use Rattle.pud_defs.specs.Rights.{may_read}
-use Rattle.pud_defs.specs.Graph.{Graph, Object, object_in}
+use Rattle.pud_defs.specs.Rights.{may_read, may_write}
+use Rattle.pud_defs.specs.Graph.{Graph, Object, object_in, empty_graph}
+use Rattle.pud_defs.specs.GraphChanges.{blank_object, with_field, with_new}
 use Rattle.pud_defs.specs.Holdings.{graph_held}
 use Rattle.pud_defs.specs.Tables.{Pool}
-use Rattle.pud_defs.specs.World.{StoredWorld, World, restart}
-use Rattle.pud_defs.specs.PoolChanges.{pool_named, is_full_of_pools, lacks_frames, with_new_pool, with_pool_mode, without_pool, with_type_defined}
+use Rattle.pud_defs.specs.World.{StoredWorld, Transaction, World, restart}
+use Rattle.pud_defs.specs.PoolChanges.{pool_named, is_full_of_pools, lacks_frames, lacks_a_number, changed_pool, with_puddle_more, with_new_pool, with_pool_mode, without_pool, with_type_defined}
+use Rattle.pud_defs.specs.Transactions.{is_own, is_others, units_of, depth_of, with_open, with_changed, without_client, begun, charged, lowered, committed_pools}
 use Rattle.pud_defs.specs.Listing.{pools_text}
 use Rattle.pud_defs.specs.Grammar.{command_of}
 
@@ -32,9 +36,14 @@ causes (Client client uid gid) = refusals.Taken ∷ []
 causes (Leave client) = refusals.Client ∷ []
 causes (Define id map) = refusals.Clash ∷ refusals.Full ∷ []
 causes (commands.Pool client name mode) = refusals.Client ∷ refusals.Exists ∷ refusals.Full ∷ refusals.Space ∷ []
-causes (Chmod client name mode) = refusals.Client ∷ refusals.Pool ∷ refusals.Denied ∷ []
-causes (commands.Drop client name) = refusals.Client ∷ refusals.Pool ∷ refusals.Denied ∷ []
-causes (Get client name s f) = refusals.Client ∷ refusals.Pool ∷ refusals.Wild ∷ refusals.Denied ∷ refusals.Object ∷ refusals.Field ∷ []
+causes (Chmod client name mode) = refusals.Client ∷ refusals.Pool ∷ refusals.Denied ∷ refusals.Busy ∷ refusals.Open ∷ []
+causes (commands.Drop client name) = refusals.Client ∷ refusals.Pool ∷ refusals.Denied ∷ refusals.Busy ∷ refusals.Open ∷ []
+causes (Get client name s f) = refusals.Client ∷ refusals.Pool ∷ refusals.Wild ∷ refusals.Denied ∷ refusals.Busy ∷ refusals.Object ∷ refusals.Field ∷ []
+causes (Begin client name) = refusals.Client ∷ refusals.Pool ∷ refusals.Wild ∷ refusals.Denied ∷ refusals.Busy ∷ refusals.Deep ∷ refusals.Logs ∷ []
+causes (Commit client name) = refusals.Client ∷ refusals.Pool ∷ refusals.Wild ∷ refusals.Busy ∷ refusals.Tx ∷ []
+causes (Abort client name) = refusals.Client ∷ refusals.Pool ∷ refusals.Wild ∷ refusals.Busy ∷ refusals.Tx ∷ []
+causes (New client name t) = refusals.Client ∷ refusals.Pool ∷ refusals.Wild ∷ refusals.Busy ∷ refusals.Tx ∷ refusals.Type ∷ refusals.TooBig ∷ refusals.Full ∷ refusals.Space ∷ []
+causes (Set client name s f x) = refusals.Client ∷ refusals.Pool ∷ refusals.Wild ∷ refusals.Busy ∷ refusals.Tx ∷ refusals.Object ∷ refusals.Field ∷ refusals.Kind ∷ refusals.TooBig ∷ []
 causes Pools = []
 causes (Cut pick) = []
 causes (Arm step pick) = []
@@ -48,6 +57,11 @@ client_of (commands.Pool client name mode) = Some client
 client_of (Chmod client name mode) = Some client
 client_of (commands.Drop client name) = Some client
 client_of (Get client name s f) = Some client
+client_of (Begin client name) = Some client
+client_of (Commit client name) = Some client
+client_of (Abort client name) = Some client
+client_of (New client name t) = Some client
+client_of (Set client name s f x) = Some client
 client_of Pools = None
 client_of (Cut pick) = None
 client_of (Arm step pick) = None
@@ -68,6 +82,11 @@ name_in (commands.Pool client name mode) = Some name
 name_in (Chmod client name mode) = Some name
 name_in (commands.Drop client name) = Some name
 name_in (Get client name s f) = Some name
+name_in (Begin client name) = Some name
+name_in (Commit client name) = Some name
+name_in (Abort client name) = Some name
+name_in (New client name t) = Some name
+name_in (Set client name s f x) = Some name
 name_in c = None
 
 -- the pool of the name, where one is named and is there
@@ -87,15 +106,27 @@ reads None pool = false
 reads (Some who) None = false
 reads (Some who) (Some pool) = may_read pool.mode pool.owner who
 
--- the command is allowed: one that reads a pool by the pool's mode, any other by its owner
+-- the pool's mode lets the client write it
+abbrev pub writes : Option Owner → Option Pool → Bool
+writes None pool = false
+writes (Some who) None = false
+writes (Some who) (Some pool) = may_write pool.mode pool.owner who
+
+-- the command is allowed: one that reads a pool, or begins to write it, by the pool's mode, any other by its owner
 abbrev pub is_allowed : Command → Option Owner → Option Pool → Bool
 is_allowed (Get client name s f) who pool = reads who pool
+is_allowed (Begin client name) who pool = writes who pool
 is_allowed c who pool = owns who pool
 
 -- the graph of the pool, where there is one that is not wild
 abbrev pub graph_in : Option Pool → Option Graph
 graph_in None = None
 graph_in (Some pool) = graph_held pool.holding
+
+-- the graph as it is seen: that of the open transaction, where one is open
+abbrev pub graph_seen : Option Transaction → Option Pool → Option Graph
+graph_seen None pool = graph_in pool
+graph_seen (Some t) pool = Some t.now
 
 -- the object of a serial, where there is a graph that has it
 abbrev pub object_of : ℕ → Option Graph → Option Object
@@ -110,24 +141,114 @@ field_of f (Some object) = slice_get object.fields f
 -- the object that a command names, where the graph has it
 abbrev pub object_named : Command → Option Graph → Option Object
 object_named (Get client name s f) g = object_of s g
+object_named (Set client name s f x) g = object_of s g
 object_named c g = None
 
 -- what the field holds that a command names, where the object has it
 abbrev pub field_named : Command → Option Object → Option Val
 field_named (Get client name s f) object = field_of f object
+field_named (Set client name s f x) object = field_of f object
 field_named c object = None
 
 -- the pool that a command names
 abbrev pub pool_for : World → Command → Option Pool
 pool_for w c = pool_by_name w.stored (name_in c)
 
+-- the transaction that is open on it
+abbrev pub open_by_name : World → Option (List ℕ) → Option Transaction
+open_by_name w None = None
+open_by_name w (Some name) = w.transactions name
+
+abbrev pub open_for : World → Command → Option Transaction
+open_for w c = open_by_name w (name_in c)
+
+-- its graph as it is seen
+abbrev pub graph_for : World → Command → Option Graph
+graph_for w c = graph_seen (open_for w c) (pool_for w c)
+
 -- the object that it names
 abbrev pub object_for : World → Command → Option Object
-object_for w c = object_named c (graph_in (pool_for w c))
+object_for w c = object_named c (graph_for w c)
 
 -- what the field holds that it names
 abbrev pub field_for : World → Command → Option Val
 field_for w c = field_named c (object_for w c)
+
+-- whether the transaction is that of the client that the command names, or another's
+abbrev pub holds_own : Option ℕ → Option Transaction → Bool
+holds_own None t = false
+holds_own (Some client) t = is_own client t
+
+abbrev pub holds_others : Option ℕ → Option Transaction → Bool
+holds_others None t = false
+holds_others (Some client) t = is_others client t
+
+-- how many transactions the client has open on pools of other names
+abbrev pub open_elsewhere : World → (client : ℕ) → List ℕ → ℕ
+open_elsewhere w client name = count_by (λ e. not (bytes_eq e.0 name) && is_own client (w.transactions e.0)) w.stored.pools
+
+-- the client's transaction on the pool was begun as often as it may be
+abbrev pub is_deep : World → Command → Bool
+is_deep w (Begin client name) = is_own client (w.transactions name) && nat_le MAX_DEPTH (depth_of (w.transactions name))
+is_deep w c = false
+
+-- the client has none open on the pool, and as many on others as it has logs
+abbrev pub lacks_logs : World → Command → Bool
+lacks_logs w (Begin client name) = not (is_own client (w.transactions name)) && nat_le CLIENT_LOGS (open_elsewhere w client name)
+lacks_logs w c = false
+
+-- the type of the object that a command makes
+abbrev pub type_named : Command → ℕ
+type_named (New client name t) = t
+type_named c = 0
+
+-- no object has the serial that is to be the value
+abbrev pub misses : Option Graph → Val → Bool
+misses g (Num v) = false
+misses g (Ref s) = not (s == 0) && is_none (object_of s g)
+
+abbrev pub misses_target : Command → Option Graph → Bool
+misses_target (Set client name s f x) g = misses g x
+misses_target c g = false
+
+-- one is a number and the other a pointer
+abbrev pub are_of_two_kinds : Option Val → Val → Bool
+are_of_two_kinds None x = false
+are_of_two_kinds (Some (Num v)) (Num n) = false
+are_of_two_kinds (Some (Num v)) (Ref s) = true
+are_of_two_kinds (Some (Ref r)) (Num n) = true
+are_of_two_kinds (Some (Ref r)) (Ref s) = false
+
+abbrev pub mixes_kinds : World → Command → Bool
+mixes_kinds w (Set client name s f x) = are_of_two_kinds (field_of f (object_of s (graph_for w (Set client name s f x)))) x
+mixes_kinds w c = false
+
+-- how many units a command uses
+abbrev pub charge : Command → ℕ
+charge (New client name t) = NEW_UNITS
+charge (Set client name s f x) = SET_UNITS
+charge c = 0
+
+-- ---- room for one object more
+
+-- every slot of the pool's puddles is live
+abbrev pub is_all_live : Option Graph → Option Pool → Bool
+is_all_live None pool = false
+is_all_live (Some g) None = false
+is_all_live (Some g) (Some pool) = length g.objects == FRAME_SLOTS * pool.puddles
+
+-- no serial is left, or no pool has more objects
+abbrev pub is_full_graph : Option Graph → Bool
+is_full_graph None = false
+is_full_graph (Some g) = nat_le NUMBER_LIMIT g.next_serial || nat_le (MAX_PUDDLES * FRAME_SLOTS) (length g.objects)
+
+-- what makes an object adds a puddle to the pool of the name
+abbrev pub grows : World → List ℕ → Bool
+grows w name = is_all_live (graph_seen (w.transactions name) (pool_named name w.stored)) (pool_named name w.stored)
+
+-- there is no room for an object more
+abbrev pub lacks_room : World → List ℕ → Bool
+lacks_room w name = is_full_graph (graph_seen (w.transactions name) (pool_named name w.stored)) || (grows w name && lacks_a_number w.stored.next_number)
 
 abbrev pub is_other : ℕ → Option ℕ → Bool
 is_other map None = false
@@ -147,15 +268,17 @@ clashes types (Define id map) = is_clash types id map
 clashes types _ = false
 
 -- there is no room in the tables for what a command adds, or there are too few UUID numbers
-abbrev pub overfills : StoredWorld → Command → Bool
-overfills s (Define id map) = is_full s.types id
-overfills s (commands.Pool client name mode) = is_full_of_pools s
-overfills s _ = false
+abbrev pub overfills : World → Command → Bool
+overfills w (Define id map) = is_full w.stored.types id
+overfills w (commands.Pool client name mode) = is_full_of_pools w.stored
+overfills w (New client name t) = lacks_room w name
+overfills w _ = false
 
 -- there are too few frames for what a command adds
-abbrev pub overflows : StoredWorld → Command → Bool
-overflows s (commands.Pool client name mode) = lacks_frames s 1
-overflows s _ = false
+abbrev pub overflows : World → Command → Bool
+overflows w (commands.Pool client name mode) = lacks_frames w.stored 1
+overflows w (New client name t) = grows w name && lacks_frames w.stored 1
+overflows w _ = false
 
 -- whether the cause holds for the command. `bad` never does: it is said of lines that are no command
 unfoldable pub holds : World → Command → Refusal → Bool
@@ -166,11 +289,19 @@ holds w c refusals.Pool = is_none (pool_for w c)
 holds w c refusals.Exists = is_some (pool_for w c)
 holds w c refusals.Wild = is_none (graph_in (pool_for w c))
 holds w c refusals.Denied = not (is_allowed c (acting w.clients (client_of c)) (pool_for w c))
-holds w c refusals.Object = is_none (object_for w c)
+holds w c refusals.Busy = holds_others (client_of c) (open_for w c)
+holds w c refusals.Open = holds_own (client_of c) (open_for w c)
+holds w c refusals.Tx = not (holds_own (client_of c) (open_for w c))
+holds w c refusals.Type = is_none (map_of (type_named c) w.stored.types)
+holds w c refusals.Object = is_none (object_for w c) || misses_target c (graph_for w c)
 holds w c refusals.Field = is_none (field_for w c)
+holds w c refusals.Kind = mixes_kinds w c
+holds w c refusals.Deep = is_deep w c
+holds w c refusals.Logs = lacks_logs w c
+holds w c refusals.TooBig = nat_lt LOG_ENTRY_WORDS (units_of (open_for w c) + charge c)
 holds w c refusals.Clash = clashes w.stored.types c
-holds w c refusals.Full = overfills w.stored c
-holds w c refusals.Space = overflows w.stored c
+holds w c refusals.Full = overfills w c
+holds w c refusals.Space = overflows w c
 
 -- the first cause of the command that holds
 unfoldable pub refusal_of : World → Command → Option Refusal
@@ -180,15 +311,34 @@ refusal_of w c = find (holds w c) (causes c)
 abbrev pub owner_acting : (ℕ → Option Owner) → ℕ → Owner
 owner_acting clients client = unwrap_or (clients client) (owner 0 0)
 
+-- the graph with which a transaction begins on the pool of the name
+abbrev pub graph_at_begin : World → List ℕ → Graph
+graph_at_begin w name = unwrap_or (graph_in (pool_named name w.stored)) empty_graph
+
+-- the object that `new` makes
+abbrev pub object_made : World → ℕ → Object
+object_made w t = blank_object t (unwrap_or (map_of t w.stored.types) 0)
+
 -- the world after a command that is not refused
 unfoldable pub after : World → Command → World
 after w (Client client uid gid) = record w { clients = with_owner client (Some (owner uid gid)) w.clients }
-after w (Leave client) = record w { clients = with_owner client None w.clients }
+after w (Leave client) = record w { clients = with_owner client None w.clients; transactions = without_client client w.transactions }
 after w (Define id map) = record w { stored = with_type_defined id map w.stored }
 after w (commands.Pool client name mode) = record w { stored = with_new_pool name (owner_acting w.clients client) mode w.stored }
 after w (Chmod client name mode) = record w { stored = with_pool_mode name mode w.stored }
 after w (commands.Drop client name) = record w { stored = without_pool name w.stored }
 after w (Get client name s f) = w
+after w (Begin client name) = record w { transactions = with_open name (begun client (graph_at_begin w name) (w.transactions name)) w.transactions }
+after w (Commit client name) = record w { stored = record w.stored { pools = committed_pools name (w.transactions name) w.stored.pools }; transactions = with_open name (lowered (w.transactions name)) w.transactions }
+after w (Abort client name) = record w { transactions = with_open name None w.transactions }
+after w (New client name t) = record w {
+  stored = record w.stored {
+    next_number = cond (grows w name) (w.stored.next_number + 1) w.stored.next_number;
+    pools = cond (grows w name) (changed_pool name with_puddle_more w.stored.pools) w.stored.pools;
+  };
+  transactions = with_changed name (charged NEW_UNITS (with_new (object_made w t))) w.transactions;
+}
+after w (Set client name s f x) = record w { transactions = with_changed name (charged SET_UNITS (with_field s f x)) w.transactions }
 after w Pools = w
 after w (Cut pick) = restart w
 after w (Arm step pick) = w
@@ -198,7 +348,18 @@ abbrev pub text_for : World → Command → Option (List ℕ)
 text_for w Pools = Some (pools_text w.stored)
 text_for w c = None
 
--- the value that a field holds, or else `ok` alone
+-- the serial that the next object of a graph has
+abbrev pub next_in : Option Graph → ℕ
+next_in None = 0
+next_in (Some g) = g.next_serial
+
+-- the value that a command asks for: that of a field, or the serial of the object that it makes
+abbrev pub value_for : World → Command → Option Val
+value_for w (Get client name s f) = field_for w (Get client name s f)
+value_for w (New client name t) = Some (Ref (next_in (graph_for w (New client name t))))
+value_for w c = None
+
+-- the value, or else `ok` alone
 abbrev pub value_or_ok : Option Val → Reply
 value_or_ok None = replies.Ok
 value_or_ok (Some (Num v)) = replies.Num v
@@ -211,7 +372,7 @@ text_or reply (Some text) = of_text text
 
 -- the answer to a command that is not refused
 unfoldable pub answer : World → Command → Answer
-answer w c = text_or (value_or_ok (field_for w c)) (text_for w c)
+answer w c = text_or (value_or_ok (value_for w c)) (text_for w c)
 
 -- the answer: the refusal, where there is one
 abbrev pub answer_unless : Option Refusal → Answer → Answer

@@ -5,6 +5,7 @@ use Rattle.pud_defs.specs.Layout.{frames_at}
 use Rattle.pud_defs.specs.Image.{Image}
 use Rattle.pud_defs.specs.Replay.{settled_by}
 use Rattle.pud_defs.specs.Types.{types_of}
+use Rattle.pud_defs.specs.Graph.{Graph}
 use Rattle.pud_defs.specs.Holdings.{holding_in}
 use Rattle.pud_defs.specs.Tables.{Pool, tables_of, pools_of}
 use Rattle.pud_defs.specs.Spaces.{Owner}
@@ -50,24 +51,38 @@ idle_registry size image = cond (is_idle_registry size image) (Some (stored_by i
 unfoldable pub idle_world_of : ℕ → Image → Option StoredWorld
 idle_world_of size image = cond (has_legal_log image) (idle_registry size (settled_by DAEMON_LOG image)) None
 
--- the stored world; the clients that are present, by their numbers, and as whom each acts; and the shelf: which files
--- there are, by the bytes of their names, and what they hold
+-- A transaction that is open: whose it is, how often it was begun, how many units of its log it has used, and the graph of its pool as its
+-- client sees it.
+pub record Transaction : Type 0 where
+  pub client : ℕ
+  pub depth : ℕ
+  pub units : ℕ
+  pub now : Graph
+
+-- the stored world; the clients that are present, by their numbers, and as whom each acts; the shelf: which files
+-- there are, by the bytes of their names, and what they hold; and the transactions that are open, by the names of their pools. Of such a
+-- pool the stored world has the graph with which its transaction began.
 pub record World : Type 0 where
   pub stored : StoredWorld
   pub clients : ℕ → Option Owner
   pub shelf : List ℕ → Option (List ℕ)
+  pub transactions : List ℕ → Option Transaction
 
 -- no client is present
 abbrev pub no_clients : ℕ → Option Owner
 no_clients client = None
 
+-- no transaction is open
+abbrev pub nothing_open : List ℕ → Option Transaction
+nothing_open name = None
+
 -- what a device stands for once nothing is under way
 abbrev pub closed : World → StoredWorld
 closed w = w.stored
 
--- the world after a power loss and the start that follows: no client is present
+-- the world after a power loss and the start that follows: no client is present, and no transaction is open
 abbrev pub restart : World → World
-restart w = record { stored = closed w; clients = no_clients; shelf = w.shelf }
+restart w = record { stored = closed w; clients = no_clients; shelf = w.shelf; transactions = nothing_open }
 
 -- the world of a device that was just formatted
 abbrev pub blank_world : ℕ → ℕ → StoredWorld

@@ -72,6 +72,15 @@ pub const CLIENTS: u32 = 8;
 /// How many logs each client has.
 pub const CLIENT_LOGS: u32 = 4;
 
+/// How often a transaction may be begun before it ends.
+pub const MAX_DEPTH: u32 = 16;
+
+/// How many units of its log a transaction uses to set a field.
+pub const SET_UNITS: u32 = 3;
+
+/// How many units of its log a transaction uses to make an object.
+pub const NEW_UNITS: u32 = 37;
+
 /// The first word of the puddle table, which has a record for each frame.
 pub const PUDDLE_TABLE: u32 = 1536;
 

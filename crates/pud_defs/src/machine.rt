@@ -4,6 +4,7 @@ ghost use Rattle.std.specs.Prelude.{◌≡◌};
 ghost use Rattle.pud_defs.specs.Step.Answer.{of_reply};
 ghost use Rattle.pud_defs.specs.Texts.{begins_with_ok};
 
+use crate::objects::Val;
 use crate::records::Name;
 
 /// What a line asks for.
@@ -48,6 +49,36 @@ pub enum Command {
         name: Name,
         s: u64,
         f: u32,
+    },
+    /// Begins a transaction of the client, from 0 to 7, on the pool of this name, or makes its own one deeper.
+    Begin {
+        client: u8,
+        name: Name,
+    },
+    /// Ends the client's transaction on the pool of this name, where it was begun once: what it changed stays. Else it is one less deep.
+    Commit {
+        client: u8,
+        name: Name,
+    },
+    /// Undoes the client's transaction on the pool of this name, however deep, and ends it.
+    Abort {
+        client: u8,
+        name: Name,
+    },
+    /// Makes an object of type `t`, from 1 to 65,535, in the client's transaction on the pool of this name, with all fields 0 or null.
+    New {
+        client: u8,
+        name: Name,
+        t: u32,
+    },
+    /// Gives field `f`, from 0 to 29, of the object with serial `s`, at least 1, a value in the client's transaction on the pool of this
+    /// name.
+    Set {
+        client: u8,
+        name: Name,
+        s: u64,
+        f: u32,
+        x: Val,
     },
     /// `pools`: what pools are there.
     Pools,
@@ -106,13 +137,29 @@ pub enum Refusal {
     Exists,
     /// What is stored of the pool is no graph.
     Wild,
-    /// The pool's mode does not allow the client to read it, or where the line changes or drops the pool, the client's user is not its
-    /// owner.
+    /// The pool's mode does not allow the client to read it, or where a transaction begins, to write it; or where the line changes or drops
+    /// the pool, the client's user is not its owner.
     Denied,
-    /// The pool has no object of the serial.
+    /// Another client has a transaction open on the pool.
+    Busy,
+    /// The client itself has one open on it.
+    Open,
+    /// The client has none open on it.
+    Tx,
+    /// The type is not defined.
+    Type,
+    /// The pool has no object of the serial, or none of the serial that is to be the value.
     Object,
     /// The object's type has no such field.
     Field,
+    /// The value is a number and the field a pointer, or the other way round.
+    Kind,
+    /// The client's transaction on the pool was begun 16 times.
+    Deep,
+    /// The client has none open on the pool, and four on others.
+    Logs,
+    /// The client's transaction has too few units left.
+    TooBig,
     /// The type is defined with another map.
     Clash,
     /// So many others are there that no further one fits, or so many UUID numbers were given out that too few are left.
