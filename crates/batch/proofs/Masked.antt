@@ -7,7 +7,7 @@ use Rattle.pm_model.specs.Moments.{State}
 use Rattle.pm_model.specs.Changes.{Write, Silently}
 use Rattle.pm_model.specs.Masks.{masked, masked_state, masked_image, no_mask, IsOff}
 use Rattle.pm_model.proofs.Leaves.{Leaves-weaker}
-use Rattle.pm_model.proofs.Masks.{IsOff-none, Picks-masked, masked-elsewhere, masked_image-there, masked_image-elsewhere, HasOnly-masked, masked_state-none, Changes-masked, Leaves-masked}
+use Rattle.pm_model.proofs.Masks.{IsOff-none, Picks-masked, masked-elsewhere, masked_image-there, masked_image-elsewhere, HasOnly-masked, unmasked, Changes-masked, Leaves-masked}
 use Rattle.pud_defs.specs.declared.layout.TheConstants.{DAEMON_LOG}
 use Rattle.pud_defs.specs.Entries.{Entry, Log, log_of, is_idle_gate}
 use Rattle.pud_defs.specs.Replay.{device_word, new_value, overwritten, is_in_log, settled_by, IsInLog}
@@ -103,6 +103,4 @@ module _ (mask : Write) (at : ℕ) (es : List Entry) (off : IsOff mask (ByBatch 
 -- with no word masked the world is moved as it is
 pub unmasked_moves : (size : ℕ) (s next : StoredWorld) (es : List Entry) (fault : Option HostFault) (a b : State) → Moves size s next es fault (masked_state no_mask a) (masked_state no_mask b)
     → Moves size s next es fault a b
-unmasked_moves size s next es fault a b m =
-    let first = subst (λ (x : State). Moves size s next es fault x (masked_state no_mask b)) (masked_state-none a) m in
-    subst (λ (x : State). Moves size s next es fault a x) (masked_state-none b) first
+unmasked_moves size s next es fault a b m = unmasked (λ (x y : State). Moves size s next es fault x y) a b m

@@ -103,6 +103,10 @@ mapped_unmasked (m ∷ ms) = ap (λ (l : List Moment). m ∷ l) (mapped_unmasked
 pub masked_state-none : (s : State) → masked_state no_mask s ≡ s
 masked_state-none s = ap (λ (past : List Moment). record s { past = past }) (mapped_unmasked s.past)
 
+-- what is told of it so is told of it
+pub unmasked : (P : State → State → Type 0) (a b : State) → P (masked_state no_mask a) (masked_state no_mask b) → P a b
+unmasked P a b told = subst (λ (x : State). P a x) (masked_state-none b) (subst (λ (x : State). P x (masked_state no_mask b)) (masked_state-none a) told)
+
 pub IsOff-no_mask : (may : Footprint) → IsOff no_mask may
 IsOff-no_mask may = record { apart = λ k x v is m. absurd (let no : None ≡ Some x = is in cc) }
 

@@ -10,7 +10,7 @@ use Rattle.pm_model.specs.Changes.{Leaves}
 use Rattle.pm_model.proofs.Leaves.{Leaves-then, Leaves-weaker, Leaves-each}
 use Rattle.pud_defs.specs.Grammar.{command_of}
 use Rattle.pud_defs.specs.Spaces.{Owner}
-use Rattle.pud_defs.specs.World.{World, StoredWorld, no_clients, world_of, closed, restart}
+use Rattle.pud_defs.specs.World.{World, StoredWorld, no_clients, nothing_open, world_of, closed, restart}
 use Rattle.pud_defs.specs.Run.{last_world, Turn, cuts_of, newlines}
 use Rattle.pud_defs.specs.Texts.{replies_text}
 use Rattle.pud_defs.specs.StartText.{start_text}
@@ -209,9 +209,9 @@ module _ (size : ℕ) (w : World) (start : State) (rested : IsRested start.now.w
         };
       }
 
--- a world without clients is as a start leaves it
-is_started : (w : World) → w.clients ≡ no_clients → restart w ≡ w
-is_started w none = ap (λ (c : ℕ → Option Owner). record w { clients = c }) (sym none)
+-- a world without clients, in which nothing is open, is as a start leaves it
+is_started : (w : World) → w.clients ≡ no_clients → w.transactions ≡ nothing_open → restart w ≡ w
+is_started w none nothing = λ i. record w { clients = sym none i; transactions = sym nothing i }
 
 -- the status by how the script was answered
 abbrev pub status_by : Result Bool RunFault → ℕ
@@ -229,18 +229,18 @@ module _ (size : ℕ) (begun after : Counts) (memory : Memory) (start mid now : 
       Headline-behind_start size w start rested stands (status_at fault) a.0 (Some fault) before after memory mid now s (fault_at_status fault)
       (λ e. absurd (not_whole_at fault DONE refl e)) (λ e. absurd (not_whole_at fault TOO_LONG refl e)) a.1
 
-  pub Headline-served : (before : Counts) (w : World) → IsRested start.now.words → world_of size (reads start.now.words) ≡ Some (closed w) → w.clients ≡ no_clients → Starts size w (Ok memory) start mid → begun ≡ before
+  pub Headline-served : (before : Counts) (w : World) → IsRested start.now.words → world_of size (reads start.now.words) ≡ Some (closed w) → w.clients ≡ no_clients → w.transactions ≡ nothing_open → Starts size w (Ok memory) start mid → begun ≡ before
       → (served : Result Bool RunFault) → (IsReady size w memory mid → AnsweredBy size w served begun after mid now) → Headline size w (status_by served) before after start now
-  Headline-served before w rested stands none s counts served answers =
+  Headline-served before w rested stands none nothing s counts served answers =
       served_by before w rested stands s served
-      (subst (λ (x : Counts). AnsweredBy size w served x after mid now) counts (answers (subst (λ (v : World). IsReady size v memory mid) (is_started w none) s.ready)))
+      (subst (λ (x : Counts). AnsweredBy size w served x after mid now) counts (answers (subst (λ (v : World). IsReady size v memory mid) (is_started w none nothing) s.ready)))
 
   -- a run from a device that stands for a world is never told that it is not sound
   pub never_unsound : (fault : RunFault) → ((w : World) → world_of size (reads start.now.words) ≡ Some (closed w) → start.shelf ≡ w.shelf → Starts size w (Ok memory) start mid)
       → ((w : World) → IsReady size w memory mid → AnsweredBy size w (Err fault) begun after mid now)
       → (s : StoredWorld) → world_of size (reads start.now.words) ≡ Some s → Some fault ≡ Some faults.NotSound → ⊥
   never_unsound fault begins answers s stands unsound =
-      let w : World = record { stored = s; clients = no_clients; shelf = start.shelf } in
+      let w : World = record { stored = s; clients = no_clients; shelf = start.shelf; transactions = nothing_open } in
       (answers w (begins w stands refl).ready).1.sound unsound
 
 -- ---- the bytes taken, whatever the device holds

@@ -18,7 +18,7 @@ use Rattle.pud_defs.specs.Tables.{Tables, tables_of}
 use Rattle.pud_defs.specs.CheckText.{check_text}
 use Rattle.pud_defs.specs.SoundTables.{are_sound_tables, HasSoundTables}
 use Rattle.pud_defs.specs.LayoutText.{tables_text, layout_text}
-use Rattle.pud_defs.specs.World.{StoredWorld, World, pools_in, stored_by, no_clients, world_of}
+use Rattle.pud_defs.specs.World.{StoredWorld, World, pools_in, stored_by, no_clients, nothing_open, world_of}
 use Rattle.pud_defs.proofs.Replay.{outside_log}
 use Rattle.pud_defs.proofs.Keyed.{keyed-same}
 use Rattle.pud_defs.proofs.TypeTable.{type_at-same}
@@ -142,7 +142,7 @@ SaysPart-started start text fault old mid new s says =
 
 module _ (size : ℕ) (s : StoredWorld) (old : State) where
   abbrev pub world_at : State → World
-  world_at start = record { stored = s; clients = no_clients; shelf = start.shelf }
+  world_at start = record { stored = s; clients = no_clients; shelf = start.shelf; transactions = nothing_open }
 
   pub Leaves-start : (result : Result Memory StartFault) (new : State) → Starts size (world_at old) result old new → Leaves (λ bytes image. world_of size image ≡ Some s) old new
   Leaves-start result new p = Leaves-weaker _ _ old new (λ bytes image m. m.1) p.moments

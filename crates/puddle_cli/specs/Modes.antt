@@ -8,7 +8,7 @@ use Rattle.pud_defs.specs.Image.{Image}
 use Rattle.pud_defs.specs.Settled.{settled}
 use Rattle.pud_defs.specs.Registry.{frames_of}
 use Rattle.pud_defs.specs.StartText.{start_text}
-use Rattle.pud_defs.specs.World.{StoredWorld, World, no_clients, world_of, closed}
+use Rattle.pud_defs.specs.World.{StoredWorld, World, no_clients, nothing_open, world_of, closed}
 use Rattle.puddled.specs.Daemon.{KeepsRest, SaysPart}
 use Rattle.command_line.specs.declared.modes.Mode.{Mode}
 use Rattle.command_line.specs.declared.modes.Mode.TheVariants.{Format, Run, Layout, Check}
@@ -44,7 +44,7 @@ pub record RunsScript (status : ℕ) (before after : Counts) (old new : State) :
   pub not_sound : status ≡ NOT_USABLE → (world_of before.size (reads old.now.words) ≡ None) ⊎ IsUnsoundBehindLoss before after new
   pub stays : IsRested old.now.words → status ≡ NOT_USABLE → new ≡ old
   pub completes : IsRested old.now.words → world_of before.size (reads old.now.words) ≢ None → NoneRose before after → (status ≡ DONE) ⊎ (status ≡ TOO_LONG)
-  pub headline : (w : World) → w.clients ≡ no_clients → IsRested old.now.words → old.shelf ≡ w.shelf
+  pub headline : (w : World) → w.clients ≡ no_clients → w.transactions ≡ nothing_open → IsRested old.now.words → old.shelf ≡ w.shelf
       → world_of before.size (reads old.now.words) ≡ Some (closed w) → Headline before.size w status before after old new
 
 -- A mode that starts and then says what the device holds, as a text of an image. Whatever the device holds, it is refused exactly where that is

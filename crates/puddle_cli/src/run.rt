@@ -4,7 +4,7 @@ ghost use Rattle.pm_model.specs.Words.{IsRested, reads};
 ghost use Rattle.pm_model.specs.Moments.{State};
 ghost use Rattle.pm_model.specs.Counts.{Counts, Rose};
 ghost use Rattle.pud_defs.specs.Layout.{device_words};
-ghost use Rattle.pud_defs.specs.World.{World, no_clients, world_of, closed};
+ghost use Rattle.pud_defs.specs.World.{World, no_clients, nothing_open, world_of, closed};
 ghost use Rattle.puddled.specs.Faults.{run_fault, Ends};
 ghost use Rattle.puddled.specs.Daemon.{IsReady};
 ghost use Rattle.puddle_cli.specs.declared.piece.TheConstants.{KEPT};
@@ -112,7 +112,7 @@ pub fn run<H: Host>(alloc: Global, h: &mut H) -> u8
         → (Rose (H.counts h.old).faults (H.counts h.new).faults → ⊥) → (Rose (H.counts h.old).cuts (H.counts h.new).cuts → ⊥)
         → (result ≡ DONE) ⊎ (result ≡ TOO_LONG) }
     ensures takes { H.tells → TakesScript result (H.state h.old) (H.state h.new) }
-    ensures headline { H.tells → (w : World) → w.clients ≡ no_clients → IsRested (H.state h.old).now.words → (H.state h.old).shelf ≡ w.shelf
+    ensures headline { H.tells → (w : World) → w.clients ≡ no_clients → w.transactions ≡ nothing_open → IsRested (H.state h.old).now.words → (H.state h.old).shelf ≡ w.shelf
         → world_of (H.counts h.old).size (reads (H.state h.old).now.words) ≡ Option.Some (closed w)
         → Headline (H.counts h.old).size w result (H.counts h.old) (H.counts h.new) (H.state h.old) (H.state h.new) }
     ensures cause { Causes result (H.counts h.old) (H.counts h.new) }

@@ -17,6 +17,7 @@ use Rattle.pud_defs.specs.Spaces.{Owner, space_record_at, owner_by, owner_of, ha
 use Rattle.pud_defs.specs.World.{World, idle_world_of, closed}
 use Rattle.pud_defs.specs.declared.machine.Command.TheVariants.{Client, Leave}
 use Rattle.pud_defs.specs.declared.machine.Refusal.TheVariants as refusals
+use Rattle.pud_defs.specs.Transactions.{Opened, without_client}
 use Rattle.pud_defs.specs.Step.{refusal_of, after}
 use Rattle.pud_defs.proofs.Replay.{settled_by-idle, outside_log}
 use Rattle.pud_defs.proofs.Spaces.{used_is_some, owner_of-same, has_closed_logs-same}
@@ -86,6 +87,7 @@ module _ (size : ℕ) (w : World) (memory : Memory) (slot : ℕ) (known : slot <
       clients = λ client low. q.read refl client low ∙ ap (cond (eqb client slot) now) (clients_closed client low);
       frames = ready.frames;
       shelf = q.changes.shelf ∙ p.changes.shelf ∙ ready.shelf;
+      nothing = ready.nothing;
     }
 
     pub Applies-changed : (fault : Option HostFault) → ChangesOwner size (closed w) slot now es fault b c → Applies size w after_this memory fault a c
@@ -112,7 +114,11 @@ module _ (size : ℕ) (w : World) (memory : Memory) (slot : ℕ) (known : slot <
   pub Applies-dismissed : (fault : Option HostFault) (a b c : State) → IsReady size w memory a → Closes size (closed w) slot None a b → Unregisters size (closed w) slot fault b c
       → Applies size w (after w (Leave slot)) memory fault a c
   unfolding after
-  Applies-dismissed fault a b c ready p r = Applies-changed None (unregistration slot) a b c ready p fault r.table
+  Applies-dismissed fault a b c ready p r =
+      let gone = record w { clients = with_owner slot None w.clients } in
+      let here : record gone { transactions = without_client slot w.transactions } ≡ gone =
+      ap (λ (opened : Opened). record gone { transactions = without_client slot opened }) ready.nothing ∙ ap (λ (opened : Opened). record gone { transactions = opened }) (sym ready.nothing) in
+      subst (λ (v : World). Applies size w v memory fault a c) (sym here) (Applies-changed None (unregistration slot) a b c ready p fault r.table)
 
   -- ---- a client that goes
 

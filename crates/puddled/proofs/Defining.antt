@@ -142,6 +142,7 @@ module _ (size : ℕ) (w : World) (memory : Memory) (id map r : ℕ) (old : Stat
         ∙ ready.clients client low;
     frames = ready.frames;
     shelf = d.persists.changes.shelf ∙ ready.shelf;
+    nothing = ready.nothing;
   }
 
   new_applies : (fault : Option HostFault) (new : State) → Defines r id map fault old new → Applies size w (world_by w (Some (Define id map))) memory fault old new

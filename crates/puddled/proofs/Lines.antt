@@ -72,6 +72,7 @@ IsReady-said size w memory old new words shelf ready =
       clients = λ client low. ap (λ (x : Words). owner_of (reads x) client) words ∙ ready.clients client low;
       frames = ready.frames;
       shelf = shelf ∙ ready.shelf;
+      nothing = ready.nothing;
     }
 
 -- what was recovered holds of the result behind it

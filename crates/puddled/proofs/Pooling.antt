@@ -35,7 +35,8 @@ use Rattle.pud_defs.specs.Step.{owns, refusal_of, after, answer_by, world_by}
 use Rattle.pud_defs.specs.Step.Answer.{of_reply}
 use Rattle.pud_defs.proofs.Parts.Part.{Spaces}
 use Rattle.pud_defs.proofs.PoolsCounted.{IsMasked}
-use Rattle.pud_defs.proofs.PoolRefusals.{refusal_of-pool, refusal_of-drop, refusal_of-owned, pool_by_record, pool_by_name, found_by_table, full_by_table, space_by_table, found_record}
+use Rattle.pud_defs.specs.Transactions.{Opened, is_own, is_others}
+use Rattle.pud_defs.proofs.PoolRefusals.{refusal_of-pool, refusal_of-drop, refusal_of-owned, pool_by_record, pool_by_name, found_by_table, full_by_table, space_by_table, found_record, owning_refusal}
 use Rattle.pud_defs.proofs.Spaces.{all_below-each, owner_of-same}
 use Rattle.pud_defs.proofs.Steps.{answer_is_ok, refused_answer, refused_world, done_world}
 use Rattle.pud_defs.proofs.TablesOf.{pools_beyond, frames_of_tables}
@@ -206,6 +207,7 @@ Applies-pools size w memory c next also fault old new ready free gives frames p 
             ∙ ready.clients client low;
         frames = ready.frames ∙ sym frames;
         shelf = p.changes.shelf ∙ ready.shelf;
+        nothing = ready.nothing;
       };
       rests = p.changes.rests;
       script = p.changes.script;
@@ -304,15 +306,21 @@ module _ (size : ℕ) (w : World) (memory : Memory) (s : State) (ready : IsReady
   abbrev asked : Command
   asked = commands.Drop client name
 
+  -- no transaction is open
+  owned_refusal : refusal_of w asked ≡ owning_refusal (w.clients client) (pool_named name w.stored) false false
+  owned_refusal =
+      refusal_of-drop w client name
+      ∙ ap (λ (opened : Opened). owning_refusal (w.clients client) (pool_named name w.stored) (is_others client (opened name)) (is_own client (opened name))) ready.nothing
+
   pub refused_client : w.clients client ≡ None → refusal_of w asked ≡ Some refusals.Client
   refused_client none =
-      refusal_of-drop w client name
+      owned_refusal
       ∙ ap (λ who. cond (not (is_some who)) (Some refusals.Client) (cond (is_none (pool_named name w.stored)) (Some refusals.Pool) (cond (not (owns who (pool_named name w.stored))) (Some refusals.Denied) None))) none
 
   by_owner : (uid gid : ℕ) (found : Option Pool) → w.clients client ≡ Some (owner uid gid) → pool_named name w.stored ≡ found
       → refusal_of w asked ≡ cond (is_none found) (Some refusals.Pool) (cond (not (owns (Some (owner uid gid)) found)) (Some refusals.Denied) None)
   by_owner uid gid found there is =
-      refusal_of-drop w client name
+      owned_refusal
       ∙ ap₂ (λ who pool. cond (not (is_some who)) (Some refusals.Client) (cond (is_none pool) (Some refusals.Pool) (cond (not (owns who pool)) (Some refusals.Denied) None))) there is
 
   pub pool_there : pool_named name w.stored ≡ option_map (pool_by_record held found_tables) (find name_cmp name (records_of found_tables))

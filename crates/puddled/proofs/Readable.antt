@@ -26,8 +26,9 @@ use Rattle.pud_defs.specs.Holdings.{held_as, graph_held, holding_in}
 use Rattle.pud_defs.specs.SoundTables.{is_sound_pool}
 use Rattle.pud_defs.specs.Tables.{Tables, Pool, Reader, tables_of, records_of, pool_in, puddles_of, puddles_in_turn, listed, pool_of}
 use Rattle.pud_defs.specs.PoolChanges.{pool_named}
-use Rattle.pud_defs.specs.World.{World}
-use Rattle.pud_defs.specs.Step.{reads as reads_pool, graph_in, object_of, field_of, value_or_ok, text_or, refusal_of, holds, after, answer, answer_by, answer_unless, unless_refused, world_by}
+use Rattle.pud_defs.specs.World.{World, nothing_open}
+use Rattle.pud_defs.specs.Transactions.{Opened, is_others}
+use Rattle.pud_defs.specs.Step.{reads as reads_pool, graph_in, graph_seen, object_of, field_of, value_or_ok, text_or, refusal_of, holds, after, answer, answer_by, answer_unless, unless_refused, world_by}
 use Rattle.pud_defs.specs.Step.Answer.{of_reply}
 use Rattle.pud_defs.proofs.PuddlesListed.{puddles_in_turn-listed}
 use Rattle.pud_defs.proofs.PoolRefusals.{pool_by_record, found_record}
@@ -184,7 +185,7 @@ abbrev behind : Option Refusal → Option Object → Option Val → Option Refus
 behind None object field = cond (is_none object) (Some refusals.Object) (cond (is_none field) (Some refusals.Field) None)
 behind (Some r) object field = Some r
 
-module _ (w : World) (client : ℕ) (name : List ℕ) (serial f : ℕ) where
+module _ (w : World) (client : ℕ) (name : List ℕ) (serial f : ℕ) (nothing : w.transactions ≡ nothing_open) where
   abbrev c : Command
   c = Get client name serial f
 
@@ -206,9 +207,24 @@ module _ (w : World) (client : ℕ) (name : List ℕ) (serial f : ℕ) where
             ≡ behind (cond (not b) (Some refusals.Denied) None) o v) [ true ↦ refl | false ↦ refl ]
       ]
 
+  -- by what is open
+  abbrev seen_object : Opened → Option Object
+  seen_object opened = object_of serial (graph_seen (opened name) (pool_named name w.stored))
+
+  abbrev by_opened : Opened → Option Refusal
+  by_opened opened =
+      let found = pool_named name w.stored in
+      cond (not (is_some (w.clients client))) (Some refusals.Client) (cond (is_none found) (Some refusals.Pool) (cond (is_none (graph_in found)) (Some refusals.Wild)
+      (cond (not (reads_pool (w.clients client) found)) (Some refusals.Denied) (cond (is_others client (opened name)) (Some refusals.Busy)
+      (cond (is_none (seen_object opened)) (Some refusals.Object) (cond (is_none (field_of f (seen_object opened))) (Some refusals.Field) None))))))
+
   pub refusal_of-get : refusal_of w c ≡ behind (refusal_to_read w client name) object (field_of f object)
   unfolding refusal_of holds
-  refusal_of-get = parts (w.clients client) (pool_named name w.stored) object (field_of f object)
+  refusal_of-get = (let here : refusal_of w c ≡ by_opened w.transactions = refl in here) ∙ ap by_opened nothing ∙ parts (w.clients client) (pool_named name w.stored) object (field_of f object)
+
+  answer_of-get : answer w c ≡ text_or (value_or_ok (field_of f object)) None
+  unfolding answer
+  answer_of-get = ap (λ (opened : Opened). text_or (value_or_ok (field_of f (seen_object opened))) None) nothing
 
   -- it is not read
   pub get_refused : (r : Refusal) → refusal_to_read w client name ≡ Some r → refusal_of w c ≡ Some r
@@ -226,10 +242,10 @@ module _ (w : World) (client : ℕ) (name : List ℕ) (serial f : ℕ) where
       ∙ sym (ap (λ (r : Option Refusal). answer_unless r (answer w c)) (refusal_of-get ∙ (λ p. behind (free p) (is p) (there p))))
   reply_by (Some o) (Some (Num n)) read is there e same free =
       ap (λ (x : FieldRead). of_reply (reply_of_read x)) (e ∙ ap read_value same)
-      ∙ sym (λ p. answer_unless ((refusal_of-get ∙ (λ q. behind (free q) (is q) (there q))) p) (text_or (value_or_ok (there p)) None))
+      ∙ sym (ap (answer_unless (refusal_of w c)) answer_of-get ∙ (λ p. answer_unless ((refusal_of-get ∙ (λ q. behind (free q) (is q) (there q))) p) (text_or (value_or_ok (there p)) None)))
   reply_by (Some o) (Some (Ref r)) read is there e same free =
       ap (λ (x : FieldRead). of_reply (reply_of_read x)) (e ∙ ap read_value same)
-      ∙ sym (λ p. answer_unless ((refusal_of-get ∙ (λ q. behind (free q) (is q) (there q))) p) (text_or (value_or_ok (there p)) None))
+      ∙ sym (ap (answer_unless (refusal_of w c)) answer_of-get ∙ (λ p. answer_unless ((refusal_of-get ∙ (λ q. behind (free q) (is q) (there q))) p) (text_or (value_or_ok (there p)) None)))
 
   pub reply_read : (g : Graph) (read : FieldRead) → graph_in (pool_named name w.stored) ≡ Some g → read ≡ read_by (object_in serial g) f → refusal_to_read w client name ≡ None
       → of_reply (reply_of_read read) ≡ answer_by w (Some c)

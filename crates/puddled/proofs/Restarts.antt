@@ -85,6 +85,7 @@ module _ (size : ℕ) (w : World) (a b : State) where
     clients = λ client few. nobody _ _ _ (r.cleared refl client few);
     frames = frames;
     shelf = r.changes.shelf ∙ shelf;
+    nothing = refl;
   }
 
   pub Recovers-done : (memory : Memory) → world_of size (reads a.now.words) ≡ Some (closed w) → memory.frames ≡ frames_of (reads a.now.words) → a.shelf ≡ w.shelf → RecoversDevice size (closed w) None a b

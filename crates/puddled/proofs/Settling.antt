@@ -22,7 +22,7 @@ use Rattle.pud_defs.specs.World.{World, StoredWorld, world_of, idle_world_of, cl
 use Rattle.pud_defs.specs.Grammar.{command_of}
 use Rattle.pud_defs.specs.Step.{refusal_of, after, unless_refused, world_by, step_world}
 use Rattle.pud_defs.specs.Changing.{Part, part_of, with_part, file_in}
-use Rattle.pud_defs.specs.Changing.Part.{types, pools, clients, nothing}
+use Rattle.pud_defs.specs.Changing.Part.{types, pools, clients, transactions, nothing}
 use Rattle.pud_defs.proofs.Parts.Part.{Spaces}
 use Rattle.pud_defs.proofs.Changing.{after-part, shelf_by, KeepsFiles-none}
 use Rattle.pud_defs.proofs.Commands.{command_of-legal}
@@ -111,6 +111,7 @@ frames_of_part : (p : Part) (v w : World) → (with_part p v w).stored.frames �
 frames_of_part types v w = refl
 frames_of_part pools v w = refl
 frames_of_part clients v w = refl
+frames_of_part transactions v w = refl
 frames_of_part nothing v w = refl
 
 frames_unless : (r : Option Refusal) (before later : World) → later.stored.frames ≡ before.stored.frames → (unless_refused r before later).stored.frames ≡ before.stored.frames

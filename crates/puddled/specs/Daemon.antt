@@ -13,7 +13,7 @@ use Rattle.pud_defs.specs.Replay.{is_in_log, settled_by}
 use Rattle.pud_defs.specs.Spaces.{space_record_at, owner_of, has_closed_logs}
 use Rattle.pud_defs.specs.Registry.{frames_of}
 use Rattle.pud_defs.specs.Settled.{ALL_LOGS, is_refused_log, is_in_logs, settled}
-use Rattle.pud_defs.specs.World.{World, world_of, idle_world_of, closed, restart}
+use Rattle.pud_defs.specs.World.{World, world_of, idle_world_of, closed, restart, nothing_open}
 use Rattle.pud_defs.specs.declared.machine.Command.{Command}
 use Rattle.pud_defs.specs.declared.machine.Command.TheVariants.{Leave}
 use Rattle.pud_defs.specs.Grammar.{command_of}
@@ -48,13 +48,14 @@ pub record KeepsLine (file : Option (List ℕ)) (old new : State) : Type 0 where
 
 -- What the daemon needs of a device between two lines: each image that may be left stands for the world with nothing under way, each registered
 -- log and the daemon log are closed in it, the daemon log counts no word, the tables are durable, and what is read of them has the clients that are present. The number of
--- frames is the one that the daemon holds, and the shelf is the world's.
+-- frames is the one that the daemon holds, and the shelf is the world's. No transaction is open.
 pub record IsReady (size : ℕ) (w : World) (memory : Memory) (s : State) : Type 0 where
   pub settled : IsSettled size (closed w) s.now.words
   pub tables : HasDurableTables w.stored.frames s.now.words
   pub clients : (client : ℕ) → client < CLIENTS → owner_of (reads s.now.words) client ≡ w.clients client
   pub frames : memory.frames ≡ w.stored.frames
   pub shelf : s.shelf ≡ w.shelf
+  pub nothing : w.transactions ≡ nothing_open
 
 -- these bytes are the front of a text
 pub record IsPart (bytes text : List ℕ) : Type 0 where

@@ -216,6 +216,11 @@ fn apply<H: Host>(daemon: &Daemon, h: &mut H, command: Command) -> Result<Answer
         Command::Get { client, name, s, f } => {
             with_reply(get(h, daemon.frames, u32::from(client), name, s, f))
         }
+        Command::Begin { .. }
+        | Command::Commit { .. }
+        | Command::Abort { .. }
+        | Command::New { .. }
+        | Command::Set { .. } => unreachable!(),
         Command::Pools => Ok(Answered::Pools),
         Command::Cut { pick } => with_reply(lose_power(h, pick)),
         Command::Arm { step, pick } => with_reply(arm(h, step, pick)),

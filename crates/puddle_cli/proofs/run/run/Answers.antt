@@ -10,32 +10,32 @@ use Rattle.puddle_cli.proofs.Statuses.{goes_on, stays_sound, usable_by, not_whol
 use Rattle.puddle_cli.proofs.run.run.Goals as goal
 
 pub returns-in-Ok-true-clause-headline : goal.returns-in-Ok-true-clause-headline
-returns-in-Ok-true-clause-headline g c = λ t w none rested shelf stands.
+returns-in-Ok-true-clause-headline g c = λ t w none nothing rested shelf stands.
     let size = (g.H.Host.counts c.args.h.now).size in
     let same = sym (ap (λ (x : Counts). x.size) c.in-Ok.ensures.cause) in
-    Headline-served size _ _ _ _ _ _ _ w rested stands none (c.in-Ok.ensures.starts t size refl w rested stands shelf) c.in-Ok.ensures.cause (Ok true)
+    Headline-served size _ _ _ _ _ _ _ w rested stands none nothing (c.in-Ok.ensures.starts t size refl w rested stands shelf) c.in-Ok.ensures.cause (Ok true)
     (λ ready. subst (λ (b : Bool). AnsweredBy size w (Ok b) (g.H.Host.counts c.start.new.h) (g.H.Host.counts c.serve.new.h) (g.H.Host.state c.start.new.h) (g.H.Host.state c.serve.new.h)) c.in-Ok-true.field-0-test (c.in-Ok-true.ensures.answered t size same w ready))
 
 pub returns-in-Ok-false-clause-headline : goal.returns-in-Ok-false-clause-headline
-returns-in-Ok-false-clause-headline g c = λ t w none rested shelf stands.
+returns-in-Ok-false-clause-headline g c = λ t w none nothing rested shelf stands.
     let size = (g.H.Host.counts c.args.h.now).size in
     let same = sym (ap (λ (x : Counts). x.size) c.in-Ok.ensures.cause) in
-    Headline-served size _ _ _ _ _ _ _ w rested stands none (c.in-Ok.ensures.starts t size refl w rested stands shelf) c.in-Ok.ensures.cause (Ok false)
+    Headline-served size _ _ _ _ _ _ _ w rested stands none nothing (c.in-Ok.ensures.starts t size refl w rested stands shelf) c.in-Ok.ensures.cause (Ok false)
     (λ ready. subst (λ (b : Bool). AnsweredBy size w (Ok b) (g.H.Host.counts c.start.new.h) (g.H.Host.counts c.serve.new.h) (g.H.Host.state c.start.new.h) (g.H.Host.state c.serve.new.h)) c.in-Ok-false.field-0-test (c.in-Ok-false.ensures.answered t size same w ready))
 
 pub returns-in-Err-Host-clause-headline : goal.returns-in-Err-Host-clause-headline
-returns-in-Err-Host-clause-headline g c = λ t w none rested shelf stands.
+returns-in-Err-Host-clause-headline g c = λ t w none nothing rested shelf stands.
     let starts = rw c.in-Err-Host.field-0-is at c.in-Err-Host.ensures.starts in
     let last = rw c.in-Err-Host.field-0-is at c.in-Err-Host.ensures.cause in
     let is = rw c.in-Err-Host.field-0-is at c.status_of.ensures.fault in
     Headline-in_start (g.H.Host.counts c.args.h.now).size w _ rested stands c.in-Err-Host.fault _ _ _ _ c.status_of.ensures.status is last shelf (starts t (g.H.Host.counts c.args.h.now).size refl w rested stands shelf)
 
 pub returns-in-Err-clause-headline : goal.returns-in-Err-clause-headline
-returns-in-Err-clause-headline g c = λ t w none rested shelf stands.
+returns-in-Err-clause-headline g c = λ t w none nothing rested shelf stands.
     let size = (g.H.Host.counts c.args.h.now).size in
     let same = sym (ap (λ (x : Counts). x.size) c.in-Ok.ensures.cause) in
     rw c.status_of_run.ensures.status
-    (Headline-served size _ _ _ _ _ _ _ w rested stands none (c.in-Ok.ensures.starts t size refl w rested stands shelf) c.in-Ok.ensures.cause (Err c.in-Err.fault) (c.in-Err.ensures.answered t size same w))
+    (Headline-served size _ _ _ _ _ _ _ w rested stands none nothing (c.in-Ok.ensures.starts t size refl w rested stands shelf) c.in-Ok.ensures.cause (Err c.in-Err.fault) (c.in-Err.ensures.answered t size same w))
 
 pub returns-in-Err-clause-not_usable : goal.returns-in-Err-clause-not_usable
 returns-in-Err-clause-not_usable g c = λ t rested none.

@@ -68,7 +68,7 @@ returns-in-Get-clause-carries g c = λ t size e w ready.
     let frames = sym (ap (λ (m : Memory). m.frames) c.daemon.view_is) in
     CarriesOut-as size w c.args.daemon.now _ _ _ _ c.args.command get c.with_reply-in-Get.result c.get.result is c.with_reply-in-Get.ensures
     (CarriesOut-plain size w c.args.daemon.now _ _ _ _ get c.get.result refl refl (c.get.ensures.reply t size w _ frames ready)
-    (Applies-get w c.from-in-Get.result c.in-Get.name c.in-Get.s c.in-Get.f size c.args.daemon.now _ _ _ ready (c.get.ensures.stays t) c.get.ensures.never_cut)
+    (Applies-get w c.from-in-Get.result c.in-Get.name c.in-Get.s c.in-Get.f ready.nothing size c.args.daemon.now _ _ _ ready (c.get.ensures.stays t) c.get.ensures.never_cut)
     (ClosesLogs-other w _ _ _ (λ client no. cc)) (keeps_still _ _ (c.get.ensures.stays t)) c.get.ensures.cause)
 
 pub returns-in-Pools-clause-carries : goal.returns-in-Pools-clause-carries
