@@ -1,3 +1,4 @@
 pub mod Settling
 pub mod Committed
 pub mod Undone
+pub mod Ended
