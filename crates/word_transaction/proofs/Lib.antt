@@ -4,3 +4,4 @@ pub mod Calls
 pub mod Beginning
 pub mod Saving
 pub mod Writing
+pub mod Growing
