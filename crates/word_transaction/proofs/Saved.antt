@@ -66,8 +66,9 @@ named_is_mine size at g e k v ground own is =
     let within = placed_within spans.first k v e.vals (sym (ap (λ (o : Option ℕ). value_from o e.vals k) spans.placed) ∙ is) in
     spans.own k within.0 within.1
 
-either_some : (a b : Option ℕ) (v : ℕ) → option_or a b ≡ Some v → (a ≡ Some v) ⊎ (b ≡ Some v)
-either_some None b v is = inr is
+-- where one of two gives a value it is the first, or the second and the first none
+pub either_some : (a b : Option ℕ) (v : ℕ) → option_or a b ≡ Some v → (a ≡ Some v) ⊎ ((a ≡ None) × (b ≡ Some v))
+either_some None b v is = inr (refl, is)
 either_some (Some x) b v is = inl is
 
 pub saved_is_mine : (size at : ℕ) (g : Ground) (es : List Entry) (k v : ℕ) → IsGround size at g → All (IsOwn g) es → saved g.place es k ≡ Some v → g.mine k ≡ true
@@ -75,7 +76,7 @@ saved_is_mine size at g [] k v ground own is = absurd (some_not_none _ v is (und
 saved_is_mine size at g (e ∷ es) k v ground own is =
     elim (either_some (given_by g.place running_range UNDO_ORDER e k) (saved g.place es k) v (sym (undone-first g.place running_range e es k) ∙ is)) [
       | inl first ↦ named_is_mine size at g e k v ground (All-head (IsOwn g) e es own) (value_of_given g.place running_range UNDO_ORDER e k v first)
-      | inr later ↦ saved_is_mine size at g es k v ground (All-tail (IsOwn g) e es own) later
+      | inr later ↦ saved_is_mine size at g es k v ground (All-tail (IsOwn g) e es own) later.1
     ]
 
 -- ---- behind others
