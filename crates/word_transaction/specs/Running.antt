@@ -40,6 +40,10 @@ pub record IsCovered (g : Ground) (es : List Entry) (write : Write) : Type 0 whe
 abbrev pub nothing : Write
 nothing k = None
 
+-- the log of a transaction that has just begun
+abbrev pub begun : (at : ℕ) → OpenLog
+begun at = record { at = at; lo = RUNNING_LO; hi = RUNNING_HI; used = 0 }
+
 -- ---- what an image has
 
 -- With the log replayed whose gate is this word the transaction's own words have these values; the log is well formed, and its entries are the
