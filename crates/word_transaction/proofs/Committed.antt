@@ -117,9 +117,6 @@ module _ (size : ℕ) (log : OpenLog) (es : List Entry) (g : Ground) (before : I
   fence_open : (b : State) → Steps after_fence None a b → IsOpen log es b.now.words
   fence_open b step = IsOpen-kept Nowhere None a b log es (Changes-fence Nowhere None a b step) (λ k v inside new. new) r.opened
 
-  fence_reads : (b : State) → Steps after_fence None a b → reads b.now.words ≡ reads a.now.words
-  fence_reads b step = ap (λ (s : State). reads s.now.words) (step.done refl)
-
   -- ---- the range is moved
 
   moved_own : (b c : State) (fault : Option HostFault) (m : Moves log fault a b c) (was image : Image) → Picks b.now.words was → IsFrom (written (only log.at (moved_gate log))) was image
