@@ -1,0 +1,11 @@
+pub mod Saved
+pub mod Images
+pub mod Calls
+pub mod Beginning
+pub mod Saving
+pub mod Writing
+pub mod Growing
+pub mod Pending
+pub mod Committed
+pub mod Undone
+pub mod Ended
