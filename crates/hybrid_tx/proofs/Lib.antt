@@ -1,1 +1,2 @@
 pub mod PoolGrounds
+pub mod FieldsSet
