@@ -1,2 +1,3 @@
 pub mod PoolGrounds
 pub mod FieldsSet
+pub mod ObjectsMade
