@@ -1,5 +1,5 @@
 -- When a transaction on words is open, what each call of it does at every moment, and how it ends.
-use Rattle.std.specs.Prelude.{◌≡◌, ◌⊎◌, ℕ, Bool, true, false, List, [], All, length, Option, Some, None}
+use Rattle.std.specs.Prelude.{◌≡◌, ◌⊎◌, ℕ, true, false, List, [], All, Option, Some, None}
 use Rattle.pm_model.specs.declared.host.HostFault.{HostFault}
 use Rattle.pm_model.specs.Words.{Has, values, Words, reads, HasOnly}
 use Rattle.pm_model.specs.Moments.{State}
@@ -9,7 +9,7 @@ use Rattle.pud_defs.specs.Image.{Image}
 use Rattle.pud_defs.specs.Entries.{Entry, entries_of, log_of, is_idle_gate}
 use Rattle.pud_defs.specs.Replay.{Place, overwritten, replayed, IsInLog, is_in_log}
 use Rattle.log_store.specs.Store.{OpenLog, IsOpen}
-use Rattle.word_transaction.specs.Ground.{Ground, IsOwn, IsUndo, saved}
+use Rattle.word_transaction.specs.Ground.{Ground, IsOwn, saved}
 
 -- ---- what is known between calls
 
@@ -37,6 +37,10 @@ pub record IsCovered (g : Ground) (es : List Entry) (write : Write) : Type 0 whe
 -- nothing is written
 abbrev pub nothing : Write
 nothing k = None
+
+-- the log of a transaction that has just begun
+abbrev pub begun : (at : ℕ) → OpenLog
+begun at = record { at = at; lo = RUNNING_LO; hi = RUNNING_HI; used = 0 }
 
 -- ---- what an image has
 
