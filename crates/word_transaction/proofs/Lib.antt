@@ -4,3 +4,7 @@ pub mod Calls
 pub mod Beginning
 pub mod Saving
 pub mod Writing
+pub mod Settling
+pub mod Committed
+pub mod Undone
+pub mod Ended
