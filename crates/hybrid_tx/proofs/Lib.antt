@@ -1,3 +1,4 @@
 pub mod PoolGrounds
 pub mod FieldsSet
 pub mod ObjectsMade
+pub mod Putting

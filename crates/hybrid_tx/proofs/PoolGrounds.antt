@@ -154,6 +154,7 @@ module _ (F size log : ℕ) (at : List (ℕ × Puddle)) (placed : IsPlaced F at)
       let few : (address - e.1.base) / WORD_BYTES + count ≤ FRAME_WORDS = omega arith in
       record {
         first = frame_at F e.0 + (address - e.1.base) / WORD_BYTES;
+        some = some;
         placed = pool_place-there F at named.ordinal e address placed.bases named.there low (omega arith);
         within = omega arith;
         own = λ k from end. pool_mine-from F at k (record { ordinal = named.ordinal; puddle = e; there = named.there; low = omega arith; high = omega arith });

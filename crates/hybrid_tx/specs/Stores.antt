@@ -1,6 +1,6 @@
 -- Which words are stored for what is set or made.
-use Rattle.std.specs.Prelude.{ℕ, ◌+◌, ◌-◌, ◌==◌, cond, List, [], ◌∷◌, map, replicate, Option, Some, None, option_map}
-use Rattle.pm_model.specs.Changes.{Write, placed}
+use Rattle.std.specs.Prelude.{◌≡◌, ◌⊎◌, ℕ, ◌+◌, ◌-◌, ◌==◌, cond, List, [], ◌∷◌, map, replicate, Option, Some, None, option_map}
+use Rattle.pm_model.specs.Changes.{Footprint, Write, placed}
 use Rattle.pud_defs.specs.declared.space.TheConstants.{SLOT_WORDS, SLOT_FIELDS_WORD, NEXT_SERIAL_WORD}
 use Rattle.pud_defs.specs.declared.records.Puddle.{Puddle}
 use Rattle.pud_defs.specs.declared.records.Slot.{Slot}
@@ -8,7 +8,7 @@ use Rattle.pud_defs.specs.declared.objects.Val.{Val}
 use Rattle.pud_defs.specs.declared.objects.Val.TheVariants.{Num, Ref}
 use Rattle.pud_defs.specs.Image.{Image}
 use Rattle.pud_defs.specs.Frames.{frame_at, slot_at}
-use Rattle.pud_defs.specs.Replay.{over}
+use Rattle.pud_defs.specs.Replay.{over, IsInLog}
 use Rattle.pud_defs.specs.Graph.{At}
 use Rattle.graph_laws.specs.Rewriting.{address_of}
 use Rattle.graph_read.specs.Reading.{place_in_pool}
@@ -34,3 +34,7 @@ new_words serial type_id = serial ∷ type_id ∷ replicate (SLOT_WORDS - SLOT_F
 abbrev pub making : (F first : ℕ) → Slot → (serial type_id : ℕ) → Write
 making F first slot serial type_id =
     over (placed (frame_at F slot.frame + slot_at slot.slot) (new_words serial type_id)) (placed (frame_at F first + NEXT_SERIAL_WORD) ((serial + 1) ∷ []))
+
+-- any value may come to the words of the log whose gate is this word, and these values to the words from another on
+abbrev pub ByPut : (at first : ℕ) → List ℕ → Footprint
+ByPut at first vals k v = IsInLog at k ⊎ (placed first vals k ≡ Some v)
