@@ -37,24 +37,32 @@ pub record MaySet (types : List (ℕ × ℕ)) (g : Graph) (s f : ℕ) (x : Val) 
 
 -- ---- what is known between calls
 
--- A transaction on the pool of these puddles is open: one on its words is, which saves words alone, by what they held at the beginning, when the
--- pool had the graph that comes back if the transaction is undone; by what is read it has another now.
-pub record IsOpenOn (F : ℕ) (at : List (ℕ × Puddle)) (types : List (ℕ × ℕ)) (log : OpenLog) (before : Image) (undone now : Graph) (words : Words) : Type 0 where
+-- A transaction on the words of these puddles' frames is open, which saves words alone, by what they held at the beginning.
+pub record IsSaving (F : ℕ) (at : List (ℕ × Puddle)) (log : OpenLog) (before : Image) (words : Words) : Type 0 where
   pub es : List Entry
   pub running : IsRunning (pool_ground F at) log es before words
-  pub saves_only : All IsUndo es
+  pub undo_only : All IsUndo es
+
+-- A transaction on the pool of these puddles is open: one on its words is. The pool had the graph that comes back if the transaction is undone when
+-- the words held what they held at the beginning, and by what is read it has another now.
+pub record IsOpenOn (F : ℕ) (at : List (ℕ × Puddle)) (types : List (ℕ × ℕ)) (log : OpenLog) (before : Image) (undone now : Graph) (words : Words) : Type 0 where
+  pub saving : IsSaving F at log before words
   pub was : graph_of types (stored_in F at before) ≡ Some undone
   pub is : graph_of types (stored_in F at (reads words)) ≡ Some now
 
 -- ---- what calls do
 
--- A call within the transaction, behind which this is its log: at each moment each image settles to what the words held at the beginning, when the
--- pool had the graph that comes back. Without a fault the pool has the next graph by what is read.
-pub record RunsOn (F : ℕ) (at : List (ℕ × Puddle)) (types : List (ℕ × ℕ)) (log : OpenLog) (before : Image) (undone next : Graph) (fault : Option HostFault) (old new : State) : Type 0 where
+-- A call within a transaction on these words, behind which this is its log: at each moment each image settles to what the words held at the
+-- beginning. Without a fault these words are written, and the transaction saves words alone still.
+pub record Saves (F : ℕ) (at : List (ℕ × Puddle)) (log : OpenLog) (before : Image) (write : Write) (fault : Option HostFault) (old new : State) : Type 0 where
   pub es : List Entry
-  pub write : Write
   pub runs : Runs (pool_ground F at) log es before write fault old new
-  pub saves_only : All IsUndo es
+  pub undo_only : All IsUndo es
+
+-- A call within a transaction on the pool: it runs on its words. Without a fault the pool has the next graph by what is read.
+pub record RunsOn (F : ℕ) (at : List (ℕ × Puddle)) (types : List (ℕ × ℕ)) (log : OpenLog) (before : Image) (undone next : Graph) (fault : Option HostFault) (old new : State) : Type 0 where
+  pub write : Write
+  pub saves : Saves F at log before write fault old new
   pub was : graph_of types (stored_in F at before) ≡ Some undone
   pub is : fault ≡ None → graph_of types (stored_in F at (reads new.now.words)) ≡ Some next
 

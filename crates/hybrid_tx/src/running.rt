@@ -21,7 +21,7 @@ ghost use Rattle.word_transaction.specs.Ground.{Ground, IsGround, undo_entry};
 ghost use Rattle.word_transaction.specs.Running.{IsRunning, IsIdle, nothing, begun, ByTransaction, Runs};
 ghost use Rattle.hybrid_tx.specs.Grounds.{pool_ground, IsPlaced};
 ghost use Rattle.hybrid_tx.specs.Stores.{ByPut};
-ghost use Rattle.hybrid_tx.specs.Transactions.{IsOpenOn};
+ghost use Rattle.hybrid_tx.specs.Transactions.{IsSaving, IsOpenOn, Saves};
 
 use crate::Tx;
 use pm_model::{Host, HostFault};
@@ -79,5 +79,39 @@ impl Tx {
         let _words = h.words();
         self.words.save(h, address, first, vals.len() as u32)?;
         self.words.write(h, first, vals)
+    }
+
+    /// Keeps in the log what the words from word `word` of a puddle's frame on hold, and then gives them these values in turn,
+    /// 1 to 32.
+    pub(crate) fn put_in_frame<H: Host>(
+        &mut self,
+        h: &mut H,
+        frames: u32,
+        pool: &[(u32, Puddle)],
+        ordinal: u32,
+        word: u32,
+        vals: &[u64],
+    ) -> Result<(), HostFault>
+        requires few { frames ≤ MAX_FRAMES }
+        requires device { device_words frames ≤ (H.counts h.old).size }
+        requires known { IsOnDevice frames pool.now }
+        requires place { self.old.at + LOG_WORDS ≤ frames_at frames }
+        requires there { ordinal < length pool.now }
+        requires some { 1 ≤ length vals.now }
+        requires no_more { length vals.now ≤ MAX_ENTRY_VALUES }
+        requires within { word + length vals.now ≤ FRAME_WORDS }
+        requires room { self.old.used + (length vals.now + ENTRY_HEADER_WORDS) ≤ LOG_ENTRY_WORDS }
+        ensures at { self.new.at ≡ self.old.at }
+        ensures done { IfOk result (λ _. self.new ≡ longer (length vals.now + ENTRY_HEADER_WORDS) self.old) }
+        ensures changes { H.tells → Changes (ByTransaction (pool_ground frames pool.now) self.old.at) (fault_of result) (H.state h.old) (H.state h.new) }
+        ensures saves { H.tells → IsPlaced frames pool.now → (e : ℕ × Puddle) → slice_get pool.now ordinal ≡ Option.Some e → (before : Image)
+            → IsSaving frames pool.now self.old before (H.state h.old).now.words
+            → Saves frames pool.now (longer (length vals.now + ENTRY_HEADER_WORDS) self.old) before (placed (frame_at frames e.0 + word) vals.now)
+                (fault_of result) (H.state h.old) (H.state h.new) }
+        ensures cause { H.counts h.new ≡ after_fault (fault_of result) (H.counts h.old) }
+    {
+        let (frame, puddle) = pool[ordinal as usize];
+        let address = puddle.base.wrapping_add((WORD_BYTES * word) as u64);
+        self.put(h, address, frame_at(frames, frame) + word, vals)
     }
 }
