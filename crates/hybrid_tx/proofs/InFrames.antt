@@ -18,13 +18,13 @@ use Rattle.pud_defs.specs.Frames.{frame_at}
 use Rattle.pud_defs.specs.Entries.{Entry}
 use Rattle.pud_defs.specs.Replay.{over, overwritten}
 use Rattle.log_store.specs.Store.{OpenLog}
-use Rattle.word_transaction.specs.Ground.{IsUndo, undo_entry}
-use Rattle.word_transaction.specs.Running.{ByTransaction, Runs}
+use Rattle.word_transaction.specs.Ground.{IsGround, IsUndo, undo_entry}
+use Rattle.word_transaction.specs.Running.{IsRunning, ByTransaction, Runs}
 use Rattle.word_transaction.proofs.Calls.{Runs-failed, Runs-then}
-use Rattle.hybrid_tx.specs.Grounds.{pool_mine, pool_ground, IsPlaced}
+use Rattle.hybrid_tx.specs.Grounds.{pool_place, pool_may, pool_ground, IsPlaced}
 use Rattle.hybrid_tx.specs.Stores.{ByPut}
 use Rattle.hybrid_tx.specs.Transactions.{IsSaving, Saves}
-use Rattle.hybrid_tx.proofs.PoolGrounds.{all_there, pool_mine-from}
+use Rattle.hybrid_tx.proofs.PoolGrounds.{all_there, pool_mine-from, is_ground, place_of_word, may_name_words}
 
 -- ---- on any content
 
@@ -68,3 +68,23 @@ module _ (F : ℕ) (at : List (ℕ × Puddle)) (log behind : OpenLog) (before : 
 
 pub Saves-saving : (F : ℕ) (at : List (ℕ × Puddle)) (log : OpenLog) (before : Image) (write : Write) (old new : State) → Saves F at log before write None old new → IsSaving F at log before new.now.words
 Saves-saving F at log before write old new s = record { es = s.es; running = s.runs.running refl; undo_only = s.undo_only }
+
+-- ---- the words of a frame
+
+module _ (F size : ℕ) (at : List (ℕ × Puddle)) (o word : ℕ) (e : ℕ × Puddle) (log long : OpenLog) (before : Image) (address first : ℕ) (vals held : List ℕ) (fault : Option HostFault) (old new : State) where
+  pub Saves-put : IsPlaced F at → device_words F ≤ size → log.at + LOG_WORDS ≤ frames_at F → slice_get at o ≡ Some e → 1 ≤ length vals → word + length vals ≤ FRAME_WORDS
+      → address ≡ (e.1.base + WORD_BYTES * word) % 2 ^ 64 → first ≡ frame_at F e.0 + word → IsSaving F at log before old.now.words
+      → ((es : List Entry) → IsGround size log.at (pool_ground F at) → pool_may at address (length vals) ≡ true → pool_place F at address ≡ Some first
+        → IsRunning (pool_ground F at) log es before old.now.words → Runs (pool_ground F at) long (es ++ undo_entry address held ∷ []) before (placed first vals) fault old new)
+      → Saves F at long before (placed (frame_at F e.0 + word) vals) fault old new
+  Saves-put is_placed device apart there some few is_address is_first s runs =
+      let legal = all_there (λ d. is_legal_base d.1.base ≡ true) at o e is_placed.legal there in
+      let named : address ≡ e.1.base + WORD_BYTES * word = is_address ∙ no_wrap e.1.base word legal (omega arith) in
+      let may = ap (λ a. pool_may at a (length vals)) named ∙ may_name_words F at is_placed o word e there (length vals) some few in
+      let place = ap (pool_place F at) named ∙ place_of_word F at is_placed o word e there (omega arith) ∙ ap (λ k. Some k) (sym is_first) in
+      record {
+        es = s.es ++ undo_entry address held ∷ [];
+        runs = subst (λ k. Runs (pool_ground F at) long (s.es ++ undo_entry address held ∷ []) before (placed k vals) fault old new) is_first
+            (runs s.es (is_ground F size log.at at is_placed device apart) may place s.running);
+        undo_only = undo_more s.es address held s.undo_only;
+      }
