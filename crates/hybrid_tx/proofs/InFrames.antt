@@ -1,9 +1,10 @@
 -- Words of a frame are saved and written, by the puddle's ordinal.
-use Rattle.std.proofs.Common.{◌≡◌, ◌⊎◌, inl, inr, ℕ, ◌+◌, ◌*◌, ◌%◌, ◌^◌, ◌<◌, ◌≤◌, true, List, [], ◌∷◌, ◌++◌, All, length, Option, Some, None, refl, sym, ap, subst, ◌∙◌, arith}
+use Rattle.std.proofs.Common.{◌≡◌, ◌⊎◌, inl, inr, ℕ, ◌+◌, ◌*◌, ◌%◌, ◌^◌, ◌<◌, ◌≤◌, true, List, [], ◌∷◌, ◌++◌, All, length, Option, Some, None, Result, Ok, Err, IfOk, refl, sym, ap, subst, ◌∙◌, arith}
 use Rattle.std.specs.Prelude.{slice_get}
 use Rattle.std.proofs.lemmas.Bool.{and_parts, leb-true, ltb-true}
 use Rattle.std.proofs.lemmas.List.Elements.{All-nil, All-cons, All-append}
 use Rattle.pm_model.specs.declared.host.HostFault.{HostFault}
+use Rattle.pm_model.specs.Counts.{fault_of}
 use Rattle.pm_model.specs.Moments.{State}
 use Rattle.pm_model.specs.Changes.{Write, Changes, placed}
 use Rattle.pm_model.proofs.Changes.{Changes-wider}
@@ -65,6 +66,12 @@ module _ (F : ℕ) (at : List (ℕ × Puddle)) (log behind : OpenLog) (before : 
   pub Saves-then : (first later : Write) (fault : Option HostFault) (a b c : State) → Saves F at log before first None a b → Saves F at behind before later fault b c → Saves F at behind before (over first later) fault a c
   Saves-then first later fault a b c p q =
       record { es = q.es; runs = Runs-then (pool_ground F at) log behind p.es q.es before first later fault a b c same p.runs q.runs; undo_only = q.undo_only }
+
+-- the log behind a call, which at Ok is this
+pub Saves-behind : (F : ℕ) (at : List (ℕ × Puddle)) (long now : OpenLog) (before : Image) (write : Write) (result : Result (Unit {0}) HostFault) (old new : State) → now.at ≡ long.at → IfOk result (λ _. now ≡ long)
+    → Saves F at long before write (fault_of result) old new → Saves F at now before write (fault_of result) old new
+Saves-behind F at long now before write (Ok done) old new same is s = subst (λ (l : OpenLog). Saves F at l before write None old new) (sym is) s
+Saves-behind F at long now before write (Err fault) old new same is s = Saves-failed F at long now before same write write fault old new s
 
 pub Saves-saving : (F : ℕ) (at : List (ℕ × Puddle)) (log : OpenLog) (before : Image) (write : Write) (old new : State) → Saves F at log before write None old new → IsSaving F at log before new.now.words
 Saves-saving F at log before write old new s = record { es = s.es; running = s.runs.running refl; undo_only = s.undo_only }

@@ -106,8 +106,7 @@ impl Tx {
         ensures changes { H.tells → Changes (ByTransaction (pool_ground frames pool.now) self.old.at) (fault_of result) (H.state h.old) (H.state h.new) }
         ensures saves { H.tells → IsPlaced frames pool.now → (e : ℕ × Puddle) → slice_get pool.now ordinal ≡ Option.Some e → (before : Image)
             → IsSaving frames pool.now self.old before (H.state h.old).now.words
-            → Saves frames pool.now (longer (length vals.now + ENTRY_HEADER_WORDS) self.old) before (placed (frame_at frames e.0 + word) vals.now)
-                (fault_of result) (H.state h.old) (H.state h.new) }
+            → Saves frames pool.now self.new before (placed (frame_at frames e.0 + word) vals.now) (fault_of result) (H.state h.old) (H.state h.new) }
         ensures cause { H.counts h.new ≡ after_fault (fault_of result) (H.counts h.old) }
     {
         let (frame, puddle) = pool[ordinal as usize];
