@@ -4,3 +4,4 @@ pub mod ObjectsMade
 pub mod Putting
 pub mod Opening
 pub mod InFrames
+pub mod FieldPut
