@@ -5,3 +5,4 @@ pub mod Putting
 pub mod Opening
 pub mod InFrames
 pub mod FieldPut
+pub mod ObjectPut

@@ -6,12 +6,13 @@ ghost use Rattle.pm_model.specs.Words.{reads};
 ghost use Rattle.pm_model.specs.Counts.{after_fault, fault_of};
 ghost use Rattle.pm_model.specs.Changes.{Changes};
 ghost use Rattle.pud_defs.specs.declared.layout.TheConstants.{LOG_WORDS, LOG_ENTRY_WORDS, MAX_FRAMES, MAX_FIELDS, NUMBER_LIMIT};
+ghost use Rattle.pud_defs.specs.declared.space.TheConstants.{SLOT_SERIAL_WORD};
 ghost use Rattle.pud_defs.specs.Image.{Image};
 ghost use Rattle.pud_defs.specs.Layout.{device_words, frames_at};
 ghost use Rattle.pud_defs.specs.Bases.{is_legal_base};
 ghost use Rattle.pud_defs.specs.Types.{map_of};
 ghost use Rattle.pud_defs.specs.Stored.{IsOnDevice, stored_in, place_word};
-ghost use Rattle.pud_defs.specs.Graph.{Graph};
+ghost use Rattle.pud_defs.specs.Graph.{Graph, graph_of};
 ghost use Rattle.log_store.specs.Store.{longer};
 ghost use Rattle.graph_laws.specs.Changes.{with_field, with_new, blank_object};
 ghost use Rattle.graph_laws.specs.Slots.{AreAllLive, IsLowestFreeSlot};
@@ -71,6 +72,17 @@ fn word_for<H: Host>(
     }
 }
 
+/// The words of a slot that holds a new object of type `t`: its serial, its type, and 0 in each field.
+#[tactic(auto, unfolding(crate::specs::Stores::new_words))]
+fn new_words(serial: u64, t: u32) -> [u64; SLOT_WORDS as usize]
+    ensures { result ≡ new_words serial t }
+{
+    let mut words = [0u64; SLOT_WORDS as usize];
+    words[SLOT_SERIAL_WORD as usize] = serial;
+    words[SLOT_TYPE_WORD as usize] = t as u64;
+    words
+}
+
 impl Tx {
     /// Gives field `f` of the object of serial `s` another value.
     ///
@@ -111,6 +123,78 @@ impl Tx {
                 self.put_in_frame(h, frames, pool, at.ordinal, field, &[v])
             }
             _ => Ok(()),
+        }
+    }
+
+    /// Makes an object of type `t` in a slot, under the next serial, and counts that one up. The answer is the serial.
+    fn make<H: Host>(
+        &mut self,
+        h: &mut H,
+        frames: u32,
+        pool: &[(u32, Puddle)],
+        at: &Slot,
+        t: u32,
+    ) -> Result<u64, HostFault>
+        requires few { frames ≤ MAX_FRAMES }
+        requires device { device_words frames ≤ (H.counts h.old).size }
+        requires known { IsOnDevice frames pool.now }
+        requires place { self.old.at + LOG_WORDS ≤ frames_at frames }
+        requires within { IsSlotOf pool.now at.now }
+        requires room { self.old.used + NEW_UNITS ≤ LOG_ENTRY_WORDS }
+        ensures at { self.new.at ≡ self.old.at }
+        ensures changes { H.tells → Changes (ByTransaction (pool_ground frames pool.now) self.old.at) (fault_of result) (H.state h.old) (H.state h.new) }
+        ensures runs { H.tells → (types : List (ℕ × ℕ)) (m : ℕ) (before : Image) (undone : Graph) (now : Graph) → IsPlaced frames pool.now
+            → IsOpenOn frames pool.now types self.old before undone now (H.state h.old).now.words → map_of t types ≡ Option.Some m → now.next_serial < NUMBER_LIMIT
+            → place_word (stored_in frames pool.now (reads (H.state h.old).now.words)).word (place_at at.now) SLOT_SERIAL_WORD ≡ 0
+            → RunsOn frames pool.now types self.new before undone (with_new (blank_object t m) now) (fault_of result) (H.state h.old) (H.state h.new) }
+        ensures serial { H.tells → (types : List (ℕ × ℕ)) (now : Graph) → graph_of types (stored_in frames pool.now (reads (H.state h.old).now.words)) ≡ Option.Some now
+            → IfOk result (λ serial. serial ≡ now.next_serial) }
+        ensures counts { IfOk result (λ _. self.new ≡ longer NEW_UNITS self.old) }
+        ensures cause { H.counts h.new ≡ after_fault (fault_of result) (H.counts h.old) }
+    {
+        let (first, _) = pool[0];
+        let serial = next_serial(h, frames, first)?;
+        let words = new_words(serial, t);
+        self.put_in_frame(h, frames, pool, at.ordinal, slot_at(at.slot), &words)?;
+        self.put_in_frame(h, frames, pool, 0, NEXT_SERIAL_WORD, &[serial.wrapping_add(1)])?;
+        Ok(serial)
+    }
+
+    /// Makes an object of type `t` in the lowest free slot, each of its fields 0 or null. The answer is its serial, the next
+    /// one of the pool, or 0 where no slot is free, and then nothing is done.
+    ///
+    /// The log lies before the frames, and has room for 37 units. Where the type is defined and the next serial is below 2^63,
+    /// the pool's graph has the object at `Ok`; each image left until the transaction is committed is, with the log replayed,
+    /// as at the beginning. The only errors are the host's own. Four fences.
+    pub fn new<H: Host>(
+        &mut self,
+        h: &mut H,
+        frames: u32,
+        pool: &[(u32, Puddle)],
+        t: u32,
+    ) -> Result<u64, HostFault>
+        requires few { frames ≤ MAX_FRAMES }
+        requires device { device_words frames ≤ (H.counts h.old).size }
+        requires known { IsOnDevice frames pool.now }
+        requires place { self.old.at + LOG_WORDS ≤ frames_at frames }
+        requires room { self.old.used + NEW_UNITS ≤ LOG_ENTRY_WORDS }
+        ensures at { self.new.at ≡ self.old.at }
+        ensures changes { H.tells → Changes (ByTransaction (pool_ground frames pool.now) self.old.at) (fault_of result) (H.state h.old) (H.state h.new) }
+        ensures runs { H.tells → (types : List (ℕ × ℕ)) (m : ℕ) (before : Image) (undone : Graph) (now : Graph) → IsPlaced frames pool.now
+            → IsOpenOn frames pool.now types self.old before undone now (H.state h.old).now.words → map_of t types ≡ Option.Some m → now.next_serial < NUMBER_LIMIT
+            → (AreAllLive (stored_in frames pool.now (reads (H.state h.old).now.words)) → ⊥)
+            → RunsOn frames pool.now types self.new before undone (with_new (blank_object t m) now) (fault_of result) (H.state h.old) (H.state h.new) }
+        ensures serial { H.tells → (types : List (ℕ × ℕ)) (now : Graph) → graph_of types (stored_in frames pool.now (reads (H.state h.old).now.words)) ≡ Option.Some now
+            → (AreAllLive (stored_in frames pool.now (reads (H.state h.old).now.words)) → ⊥) → IfOk result (λ serial. serial ≡ now.next_serial) }
+        ensures counts { H.tells → (AreAllLive (stored_in frames pool.now (reads (H.state h.old).now.words)) → ⊥) → IfOk result (λ _. self.new ≡ longer NEW_UNITS self.old) }
+        ensures full { H.tells → AreAllLive (stored_in frames pool.now (reads (H.state h.old).now.words))
+            → IfOk result (λ serial. serial ≡ 0) × (H.state h.new ≡ H.state h.old) × (self.new ≡ self.old) }
+        ensures cause { H.counts h.new ≡ after_fault (fault_of result) (H.counts h.old) }
+    {
+        match alloc_slot(h, frames, pool) {
+            Ok(at) => self.make(h, frames, pool, &at, t),
+            Err(AllocFault::Full) => Ok(0),
+            Err(AllocFault::Host(fault)) => Err(fault),
         }
     }
 }
