@@ -13,11 +13,11 @@ use Rattle.pm_model.proofs.Leaves.{Leaves-still, Leaves-then}
 use Rattle.pud_defs.specs.Image.{Image}
 use Rattle.pud_defs.specs.Entries.{Entry}
 use Rattle.pud_defs.specs.Replay.{over, is_in_log}
-use Rattle.pud_defs.proofs.Replay.{overwritten-then}
+use Rattle.pud_defs.proofs.Replay.{overwritten-then, or_none}
 use Rattle.log_store.specs.Store.{OpenLog, InLog}
 use Rattle.log_store.proofs.Open.{IsOpen-kept}
 use Rattle.word_transaction.specs.Ground.{Ground}
-use Rattle.word_transaction.specs.Running.{IsRunning, SettlesTo, ByTransaction, Runs}
+use Rattle.word_transaction.specs.Running.{IsRunning, nothing, SettlesTo, ByTransaction, Runs}
 use Rattle.word_transaction.proofs.Images.{IsRunning-settles}
 
 pub some_fault : (fault : HostFault) → Some fault ≡ None → ⊥
@@ -93,3 +93,21 @@ Runs-then g log behind es es_behind before first later fault a b c at p q =
           ∙ ap (unwrap_or (later k)) (p.now refl k (ap (λ (n : ℕ). is_in_log n k) (sym at) ∙ out))
           ∙ ap (λ (i : Image). i k) (overwritten-then first later (reads a.now.words));
     }
+
+-- a write is told by its values alone
+pub Runs-writes : (g : Ground) (log : OpenLog) (es : List Entry) (before : Image) (write same : Write) (fault : Option HostFault) (old new : State) → ((k : ℕ) → write k ≡ same k)
+    → Runs g log es before write fault old new → Runs g log es before same fault old new
+Runs-writes g log es before write same fault old new each r =
+    record {
+      changes = r.changes;
+      moments = r.moments;
+      running = r.running;
+      now = λ none k out. r.now none k out ∙ ap (λ (o : Option ℕ). unwrap_or o (reads old.now.words k)) (each k);
+    }
+
+-- a call behind one that wrote nothing
+pub Runs-behind : (g : Ground) (log behind : OpenLog) (es es_behind : List Entry) (before : Image) (write : Write) (fault : Option HostFault) (a b c : State) → behind.at ≡ log.at
+    → Runs g log es before nothing None a b → Runs g behind es_behind before write fault b c → Runs g behind es_behind before write fault a c
+Runs-behind g log behind es es_behind before write fault a b c at p q =
+    Runs-writes g behind es_behind before (over nothing write) write fault a c (λ k. sym (or_none (write k)))
+    (Runs-then g log behind es es_behind before nothing write fault a b c at p q)

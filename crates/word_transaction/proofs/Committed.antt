@@ -2,7 +2,6 @@
 use Rattle.std.proofs.Common.{◌≡◌, ◌⊎◌, inl, inr, ℕ, true, List, [], Option, Some, None, refl, sym, ap, subst, ◌∙◌, arith}
 use Rattle.std.proofs.lemmas.List.{append-nil}
 use Rattle.pm_model.specs.declared.host.HostFault.{HostFault}
-use Rattle.pm_model.specs.declared.host.HostFault.TheVariants.{Cut}
 use Rattle.pm_model.specs.Words.{Cell, reads, Picks, HasOnly, fenced, after_fence}
 use Rattle.pm_model.specs.Moments.{State}
 use Rattle.pm_model.specs.Calls.{Steps}
@@ -19,12 +18,11 @@ use Rattle.log_store.specs.Store.{OpenLog, IsOpen, committing}
 use Rattle.log_store.proofs.Open.{IsOpen-log, IsOpen-kept, IsOpen-moved, log_of-moving, only_here, only_value}
 use Rattle.word_transaction.specs.Ground.{Ground, IsGround, pending}
 use Rattle.word_transaction.specs.Running.{IsRunning, SettlesTo, ByTransaction, ByCommit, Closes, Ends}
-use Rattle.word_transaction.proofs.Settling.{settles-running, settles-committing, settles-closed, IsRunning-settles}
+use Rattle.word_transaction.proofs.Images.{SettlesTo-running, SettlesTo-idle, IsRunning-settles}
+use Rattle.word_transaction.proofs.Calls.{some_fault, not_cut}
+use Rattle.word_transaction.proofs.Pending.{SettlesTo-committing}
 
 -- ---- words of the log, and the transaction's own
-
-pub no_fault : {A : Type 0} → (fault : HostFault) → Some fault ≡ None → A
-no_fault fault e = absurd (let it : None ≡ Some fault = sym e in cc)
 
 -- no own word is the gate
 pub mine_apart : (size at : ℕ) (g : Ground) (k : ℕ) → IsGround size at g → g.mine k ≡ true → k ≡ at → ⊥
@@ -48,7 +46,7 @@ module _ (size at : ℕ) (g : Ground) (ground : IsGround size at g) (values : Im
   shut_image : (before image : Image) → Picks c.now.words before → IsFrom (written (only at CLOSED_GATE)) before image → SettlesTo g at values image
   shut_image before image picked from = elim (one_word at CLOSED_GATE before image from) [
     | inl same ↦ subst (λ (i : Image). SettlesTo g at values i) (sym same) (settles before picked)
-    | inr shut ↦ settles-closed g at values image (ap is_idle_gate shut.there)
+    | inr shut ↦ SettlesTo-idle g at values image (ap is_idle_gate shut.there)
         (λ k mine. shut.others k (mine_apart size at g k ground mine) ∙ (single k mine).each (before k) (picked.each k))
   ]
 
@@ -105,7 +103,7 @@ module _ (size : ℕ) (log : OpenLog) (es : List Entry) (g : Ground) (before : I
   fence_image was image picked from =
       let each : (k : ℕ) → image k ≡ was k = λ k. elim (from.each k) [ inl is ↦ is | inr new ↦ absurd new ] in
       let same : image ≡ was = λ i k. each k i in
-      subst (λ (i : Image). SettlesTo g log.at before i) (sym same) (IsRunning-settles g log es before a.now.words was r picked)
+      subst (λ (i : Image). SettlesTo g log.at before i) (sym same) (IsRunning-settles g log es before was a.now.words r picked)
 
   fence_left : (fault : Option HostFault) (b : State) → Steps after_fence fault a b → Leaves (Silently Either) a b
   fence_left fault b step =
@@ -118,9 +116,6 @@ module _ (size : ℕ) (log : OpenLog) (es : List Entry) (g : Ground) (before : I
 
   fence_open : (b : State) → Steps after_fence None a b → IsOpen log es b.now.words
   fence_open b step = IsOpen-kept Nowhere None a b log es (Changes-fence Nowhere None a b step) (λ k v inside new. new) r.opened
-
-  fence_reads : (b : State) → Steps after_fence None a b → reads b.now.words ≡ reads a.now.words
-  fence_reads b step = ap (λ (s : State). reads s.now.words) (step.done refl)
 
   -- ---- the range is moved
 
@@ -137,9 +132,9 @@ module _ (size : ℕ) (log : OpenLog) (es : List Entry) (g : Ground) (before : I
     moved_image b c fault m was image picked from =
         let own = moved_own b c fault m was image picked from in
         elim (log_of-moving COMMITTING_LO COMMITTING_HI log es b.now.words was image (omega arith) (omega arith) (fence_open b m.fence) picked from) [
-          | inl says ↦ inl (settles-running g log es image r.own before r.lo r.hi says r.saves
+          | inl says ↦ inl (SettlesTo-running g log es before image r.lo r.hi r.own says (λ k v mine is. r.saves k v is)
               (λ k mine kept. own k mine ∙ HasOnly-newest (a.now.words k) (before k) (r.single k mine kept)))
-          | inr says ↦ inr (settles-committing g log es image r.own (reads a.now.words) says none own)
+          | inr says ↦ inr (SettlesTo-committing g log es (reads a.now.words) image r.own says none own)
         ]
 
     moved_left : (b c : State) (fault : Option HostFault) (m : Moves log fault a b c) → Leaves (Silently Either) a c
@@ -158,7 +153,7 @@ module _ (size : ℕ) (log : OpenLog) (es : List Entry) (g : Ground) (before : I
     moved_settles : (b c : State) (m : Moves log None a b c) (image : Image) → Picks c.now.words image → SettlesTo g log.at (reads a.now.words) image
     moved_settles b c m image picked =
         let opened = IsOpen-moved COMMITTING_LO COMMITTING_HI log es b c (omega arith) (omega arith) (fence_open b m.fence) m.move in
-        settles-committing g log es image r.own (reads a.now.words) (IsOpen-log (committing log) es c.now.words image opened picked) none
+        SettlesTo-committing g log es (reads a.now.words) image r.own (IsOpen-log (committing log) es c.now.words image opened picked) none
         (λ k mine. (moved_single b c m k mine).each (image k) (picked.each k))
 
     -- ---- the call
@@ -171,9 +166,9 @@ module _ (size : ℕ) (log : OpenLog) (es : List Entry) (g : Ground) (before : I
         record {
           changes = Changes-fence (ByTransaction g log.at) (Some fault) a b step;
           moments = fence_left (Some fault) b step;
-          durable = λ e. no_fault fault e;
-          closed = λ e. no_fault fault e;
-          now = λ e. no_fault fault e;
+          durable = λ e. absurd (some_fault fault e);
+          closed = λ e. absurd (some_fault fault e);
+          now = λ e. absurd (some_fault fault e);
         }
 
     pub Ends-move : (fault : HostFault) (b c : State) → Moves log (Some fault) a b c → Ends g log.at before (reads a.now.words) (Some fault) a c
@@ -181,9 +176,9 @@ module _ (size : ℕ) (log : OpenLog) (es : List Entry) (g : Ground) (before : I
         record {
           changes = Changes-wider (ByCommit log) (ByTransaction g log.at) (Some fault) a c own_gate (gate_moves log (Some fault) a b c m);
           moments = moved_left b c (Some fault) m;
-          durable = λ e. no_fault fault e;
-          closed = λ e. no_fault fault e;
-          now = λ e. no_fault fault e;
+          durable = λ e. absurd (some_fault fault e);
+          closed = λ e. absurd (some_fault fault e);
+          now = λ e. absurd (some_fault fault e);
         }
 
     pub Ends-close : (fault : Option HostFault) (b c d : State) → Moves log None a b c → Persists (only log.at CLOSED_GATE) fault c d → Ends g log.at before (reads a.now.words) fault a d
@@ -198,6 +193,6 @@ module _ (size : ℕ) (log : OpenLog) (es : List Entry) (g : Ground) (before : I
           durable = shut.durable;
           closed = shut.closed;
           now = λ e k outside.
-              (changes.keeps (λ cut. absurd (let it : None ≡ Some Cut = sym e ∙ cut in cc)) k
+              (changes.keeps (not_cut fault e) k
               (λ v by. not_inside log.at k outside (let here = by.gate in record { low = omega arith; high = omega arith }))).newest;
         }

@@ -12,7 +12,7 @@ use Rattle.pud_defs.specs.Replay.{is_in_log}
 use Rattle.pud_defs.proofs.Replay.{not_inside}
 use Rattle.word_transaction.specs.Ground.{Ground}
 use Rattle.word_transaction.specs.Running.{ByTransaction, IsIdle, SettlesTo, Closes, Ends}
-use Rattle.word_transaction.proofs.Settling.{settles-closed}
+use Rattle.word_transaction.proofs.Images.{SettlesTo-idle}
 
 -- ---- none is open any more
 
@@ -37,7 +37,7 @@ module _ (g : Ground) (at : ℕ) (values : Image) (words : Words) (idle : IsIdle
   IsIdle-gate image picked = idle.closed (image at) (picked.each at)
 
   pub IsIdle-settles : (image : Image) → Picks words image → SettlesTo g at values image
-  IsIdle-settles image picked = settles-closed g at values image (IsIdle-gate image picked) (IsIdle-image image picked)
+  IsIdle-settles image picked = SettlesTo-idle g at values image (IsIdle-gate image picked) (IsIdle-image image picked)
 
 -- ---- what stays meanwhile
 

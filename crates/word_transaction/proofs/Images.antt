@@ -43,7 +43,7 @@ SettlesTo-running g log es before image lo hi own says saves single =
       spells = ap (λ (l : Log). l.entries) says;
       own = own;
       settled = λ k mine.
-          ap (λ (o : Option ℕ). unwrap_or o (image k)) (ap (λ (l : Log). new_value g.place l k) says ∙ new_value-running g (saying log es) es k lo hi refl own)
+          ap (λ (o : Option ℕ). unwrap_or o (image k)) (ap (λ (l : Log). new_value g.place l k) says ∙ new_value-running g g.place (saying log es) es k lo hi refl own)
           ∙ unwrapped (saved g.place es k) (image k) (before k) (λ v. saves k v mine) (single k mine);
     }
 

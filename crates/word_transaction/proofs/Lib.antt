@@ -4,7 +4,8 @@ pub mod Calls
 pub mod Beginning
 pub mod Saving
 pub mod Writing
-pub mod Settling
+pub mod Growing
+pub mod Pending
 pub mod Committed
 pub mod Undone
 pub mod Ended

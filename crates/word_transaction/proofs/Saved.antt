@@ -20,7 +20,7 @@ some_not_none o v is none = absurd (let it : Some v ≡ None = sym is ∙ none i
 -- ---- which entries count
 
 -- it is the range that tells it
-given_by-range : (place : Place) (l m : Log) (order : ℕ) (e : Entry) (k : ℕ) → l.lo ≡ m.lo → l.hi ≡ m.hi → given_by place l order e k ≡ given_by place m order e k
+pub given_by-range : (place : Place) (l m : Log) (order : ℕ) (e : Entry) (k : ℕ) → l.lo ≡ m.lo → l.hi ≡ m.hi → given_by place l order e k ≡ given_by place m order e k
 given_by-range place l m order e k lo hi = ap₂ (λ (a b : ℕ). cond ((ltb a e.seq && ltb e.seq b) && eqb e.order order) (value_in place e k) None) lo hi
 
 pub undone-range : (place : Place) (l m : Log) (es : List Entry) (k : ℕ) → l.lo ≡ m.lo → l.hi ≡ m.hi → undone place l es k ≡ undone place m es k
@@ -32,23 +32,23 @@ behind_range : (lo hi seq : ℕ) → hi ≤ seq → (ltb lo seq && ltb seq hi) �
 behind_range lo hi seq behind = grind (arith, nat_tests)
 
 -- a running log gives nothing by the redo entries of a transaction
-given_by-redo : (g : Ground) (log : Log) (e : Entry) (k : ℕ) → log.hi ≡ RUNNING_HI → IsOwn g e → given_by g.place log REDO_ORDER e k ≡ None
-given_by-redo g log e k hi own = elim own.kind [
-  | inl undo ↦ given_by-other g.place log REDO_ORDER e k (λ order. let is = undo.order in absurd (omega arith))
-  | inr redo ↦ given_by-out g.place log REDO_ORDER e k (let is = redo.seq in behind_range log.lo log.hi e.seq (omega arith))
+given_by-redo : (g : Ground) (place : Place) (log : Log) (e : Entry) (k : ℕ) → log.hi ≡ RUNNING_HI → IsOwn g e → given_by place log REDO_ORDER e k ≡ None
+given_by-redo g place log e k hi own = elim own.kind [
+  | inl undo ↦ given_by-other place log REDO_ORDER e k (λ order. let is = undo.order in absurd (omega arith))
+  | inr redo ↦ given_by-out place log REDO_ORDER e k (let is = redo.seq in behind_range log.lo log.hi e.seq (omega arith))
 ]
 
-redone-running : (g : Ground) (log : Log) (es : List Entry) (k : ℕ) → log.hi ≡ RUNNING_HI → All (IsOwn g) es → redone g.place log es k ≡ None
-redone-running g log [] k hi own = redone-none g.place log k
-redone-running g log (e ∷ es) k hi own =
-    redone-first g.place log e es k
-    ∙ ap₂ option_or (redone-running g log es k hi (All-tail (IsOwn g) e es own)) (given_by-redo g log e k hi (All-head (IsOwn g) e es own))
+redone-running : (g : Ground) (place : Place) (log : Log) (es : List Entry) (k : ℕ) → log.hi ≡ RUNNING_HI → All (IsOwn g) es → redone place log es k ≡ None
+redone-running g place log [] k hi own = redone-none place log k
+redone-running g place log (e ∷ es) k hi own =
+    redone-first place log e es k
+    ∙ ap₂ option_or (redone-running g place log es k hi (All-tail (IsOwn g) e es own)) (given_by-redo g place log e k hi (All-head (IsOwn g) e es own))
 
 -- it gives what is saved
-pub new_value-running : (g : Ground) (log : Log) (es : List Entry) (k : ℕ) → log.lo ≡ RUNNING_LO → log.hi ≡ RUNNING_HI → log.entries ≡ Some es → All (IsOwn g) es
-    → new_value g.place log k ≡ saved g.place es k
-new_value-running g log es k lo hi entries own =
-    new_value-of g.place log es k entries ∙ ap₂ option_or (redone-running g log es k hi own) (undone-range g.place log running_range es k lo hi)
+pub new_value-running : (g : Ground) (place : Place) (log : Log) (es : List Entry) (k : ℕ) → log.lo ≡ RUNNING_LO → log.hi ≡ RUNNING_HI → log.entries ≡ Some es → All (IsOwn g) es
+    → new_value place log k ≡ saved place es k
+new_value-running g place log es k lo hi entries own =
+    new_value-of place log es k entries ∙ ap₂ option_or (redone-running g place log es k hi own) (undone-range place log running_range es k lo hi)
 
 -- ---- which words are saved
 
@@ -66,8 +66,9 @@ named_is_mine size at g e k v ground own is =
     let within = placed_within spans.first k v e.vals (sym (ap (λ (o : Option ℕ). value_from o e.vals k) spans.placed) ∙ is) in
     spans.own k within.0 within.1
 
-either_some : (a b : Option ℕ) (v : ℕ) → option_or a b ≡ Some v → (a ≡ Some v) ⊎ (b ≡ Some v)
-either_some None b v is = inr is
+-- where one of two gives a value it is the first, or the second and the first none
+pub either_some : (a b : Option ℕ) (v : ℕ) → option_or a b ≡ Some v → (a ≡ Some v) ⊎ ((a ≡ None) × (b ≡ Some v))
+either_some None b v is = inr (refl, is)
 either_some (Some x) b v is = inl is
 
 pub saved_is_mine : (size at : ℕ) (g : Ground) (es : List Entry) (k v : ℕ) → IsGround size at g → All (IsOwn g) es → saved g.place es k ≡ Some v → g.mine k ≡ true
@@ -75,7 +76,7 @@ saved_is_mine size at g [] k v ground own is = absurd (some_not_none _ v is (und
 saved_is_mine size at g (e ∷ es) k v ground own is =
     elim (either_some (given_by g.place running_range UNDO_ORDER e k) (saved g.place es k) v (sym (undone-first g.place running_range e es k) ∙ is)) [
       | inl first ↦ named_is_mine size at g e k v ground (All-head (IsOwn g) e es own) (value_of_given g.place running_range UNDO_ORDER e k v first)
-      | inr later ↦ saved_is_mine size at g es k v ground (All-tail (IsOwn g) e es own) later
+      | inr later ↦ saved_is_mine size at g es k v ground (All-tail (IsOwn g) e es own) later.1
     ]
 
 -- ---- behind others

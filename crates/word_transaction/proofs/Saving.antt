@@ -1,7 +1,6 @@
 -- Words of a transaction saved: what they hold is appended to its log.
-use Rattle.std.proofs.Common.{◌≡◌, ◌⊎◌, inl, inr, ℕ, ◌+◌, true, List, [], ◌∷◌, ◌++◌, Option, Some, None, Ok, Err, Result, refl, sym, ap, subst, ◌∙◌}
+use Rattle.std.proofs.Common.{◌≡◌, inl, inr, ℕ, ◌+◌, true, List, [], ◌∷◌, ◌++◌, Option, Some, None, Ok, Err, Result, refl, sym, ap, subst, ◌∙◌}
 use Rattle.std.specs.Prelude.{All}
-use Rattle.std.specs.Option.{option_or}
 use Rattle.std.proofs.lemmas.List.Elements.{All-nil, All-cons, All-append}
 use Rattle.pm_model.specs.declared.host.HostFault.{HostFault}
 use Rattle.pm_model.specs.Words.{reads}
@@ -20,14 +19,9 @@ use Rattle.log_store.specs.declared.AppendFault.TheVariants.{Host, TooBig}
 use Rattle.log_store.proofs.Open.{IsOpen-log}
 use Rattle.word_transaction.specs.Ground.{Ground, IsGround, IsOwn, undo_entry, saved}
 use Rattle.word_transaction.specs.Running.{IsRunning, nothing, SettlesTo, ByTransaction, Runs}
-use Rattle.word_transaction.proofs.Saved.{saved_is_mine, saved-append, saved-none_first, saved-one, placed_words}
+use Rattle.word_transaction.proofs.Saved.{either_some, saved_is_mine, saved-append, saved-none_first, saved-one, placed_words}
 use Rattle.word_transaction.proofs.Images.{SettlesTo-running}
 use Rattle.word_transaction.proofs.Calls.{some_fault, marked_still}
-
--- what is saved by all of them is so by the first, or else by the others
-either_saved : (a b : Option ℕ) (v : ℕ) → option_or a b ≡ Some v → (a ≡ Some v) ⊎ ((a ≡ None) × (b ≡ Some v))
-either_saved None b v is = inr (refl, is)
-either_saved (Some x) b v is = inl is
 
 module _ (size : ℕ) (g : Ground) (log : OpenLog) (es : List Entry) (before : Image) (address first count : ℕ) (s : State)
     (ground : IsGround size log.at g) (may : g.may address count ≡ true) (place : g.place address ≡ Some first) (r : IsRunning g log es before s.now.words) where
@@ -48,7 +42,7 @@ module _ (size : ℕ) (g : Ground) (log : OpenLog) (es : List Entry) (before : I
   -- a word that is saved only now has its value from the beginning
   saves_more : (k v : ℕ) → saved g.place (es ++ kept_here ∷ []) k ≡ Some v → v ≡ before k
   saves_more k v is =
-      elim (either_saved (saved g.place es k) (saved g.place (kept_here ∷ []) k) v (sym (saved-append g.place es (kept_here ∷ []) k) ∙ is)) [
+      elim (either_some (saved g.place es k) (saved g.place (kept_here ∷ []) k) v (sym (saved-append g.place es (kept_here ∷ []) k) ∙ is)) [
         | inl first_time ↦ r.saves k v first_time
         | inr here ↦
             let mine = saved_is_mine size log.at g (es ++ kept_here ∷ []) k v ground own_more is in

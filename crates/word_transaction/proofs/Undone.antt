@@ -24,7 +24,9 @@ use Rattle.log_replay.specs.Replaying.{place_of, NamesApart, IsReplayable, HasDu
 use Rattle.log_replay.proofs.Whole.{new_values-apart, new_values_picked}
 use Rattle.word_transaction.specs.Ground.{Ground, IsGround, IsOwn, running_range, saved}
 use Rattle.word_transaction.specs.Running.{IsRunning, SettlesTo, ByTransaction, Closes, HasPlaces, HasOneTable}
-use Rattle.word_transaction.proofs.Settling.{new_value-running, saved-own, saved-placed, settles-running, settles-closed, IsRunning-settles}
+use Rattle.word_transaction.proofs.Saved.{new_value-running, saved_is_mine}
+use Rattle.word_transaction.proofs.Images.{SettlesTo-running, SettlesTo-idle, IsRunning-settles}
+use Rattle.word_transaction.proofs.Growing.{undone-places}
 use Rattle.word_transaction.proofs.Committed.{mine_apart, Closes-shut}
 
 -- ---- a log without an entry
@@ -36,7 +38,7 @@ pub Closes-empty : (size : ℕ) (log : OpenLog) (es : List Entry) (g : Ground) (
     → IsRunning g log es before a.now.words → log.used ≡ 0 → Persists (only log.at CLOSED_GATE) fault a b → Closes g log.at before fault a b
 Closes-empty size log es g before fault a b ground r none p =
     let empty = no_words es (reads a.now.words) (log.at + LOG_HEADER_WORDS) log.used none (IsOpen-words log es a.now.words r.opened) in
-    Closes-shut size log.at g ground before fault a b (λ image picked. IsRunning-settles g log es before a.now.words image r picked)
+    Closes-shut size log.at g ground before fault a b (λ image picked. IsRunning-settles g log es before image a.now.words r picked)
     (λ k mine. r.single k mine (ap (λ (fs : List Entry). saved g.place fs k) empty ∙ undone-none g.place running_range k)) p
 
 -- ---- what the replay needs
@@ -109,7 +111,7 @@ module _ (size F : ℕ) (log : OpenLog) (es : List Entry) (g : Ground) (before :
   gives k =
       new_value-running g place (log_of (reads a.now.words) log.at) es k (ap (λ (l : Log). l.lo) r.opened.says ∙ r.lo) (ap (λ (l : Log). l.hi) r.opened.says ∙ r.hi)
       (ap (λ (l : Log). l.entries) r.opened.says) r.own
-      ∙ saved-placed g place es k places r.own
+      ∙ undone-places g.place place running_range es k (λ n d below. places.each (get_or es n d).address (length (get_or es n d).vals) (r.own n d below).may)
 
   module _ (image : Image) (p : IsSettling (Puddles F) log.at a.now.words image) where
     gives_before : (k : ℕ) → new_values (Puddles F) log.at p.before k ≡ saved g.place es k
@@ -132,8 +134,8 @@ module _ (size F : ℕ) (log : OpenLog) (es : List Entry) (g : Ground) (before :
 
     pub settles : SettlesTo g log.at before image
     settles = elim p.closing.gate [
-      | inl gate ↦ settles-running g log es image r.own before r.lo r.hi (says_still gate) r.saves unsaved
-      | inr shut ↦ settles-closed g log.at before image (ap is_idle_gate shut.0)
+      | inl gate ↦ SettlesTo-running g log es before image r.lo r.hi r.own (says_still gate) (λ k v mine is. r.saves k v is) unsaved
+      | inr shut ↦ SettlesTo-idle g log.at before image (ap is_idle_gate shut.0)
           (λ k mine. by_saved (saved g.place es k) (image k) (before k) (λ v is. shut.1 k v (gives_before k ∙ is) ∙ r.saves k v is) (unsaved k mine))
     ]
 
@@ -143,7 +145,7 @@ module _ (size F : ℕ) (log : OpenLog) (es : List Entry) (g : Ground) (before :
       record {
         changes = Changes-wider (ByLog log.at write) (ByTransaction g log.at) fault a b (λ k v by. elim by [
           | inl here ↦ inl (record { low = omega arith; high = omega arith })
-          | inr named ↦ inr (saved-own size log.at g es k named.value ground r.own (sym (gives k) ∙ named.is))
+          | inr named ↦ inr (saved_is_mine size log.at g es k named.value ground r.own (sym (gives k) ∙ named.is))
         ]) s.changes;
         moments = Leaves-weaker (Silently (IsSettling (Puddles F) log.at a.now.words)) (Silently (SettlesTo g log.at before)) a b (λ bytes image p. (p.0, settles image p.1)) moments;
         durable = λ none k mine. durable_by (saved g.place es k) (b.now.words k) (before k) (r.saves k)

@@ -58,7 +58,8 @@ impl WordTransaction {
         ensures cause { H.counts h.new ≡ after_fault (fault_of result) (H.counts h.old) }
     {
         let WordTransaction { log } = self;
-        if log.used() == 0 {
+        let used = log.used();
+        if used == 0 {
             return log.close(h);
         }
         settle_log(h, log.at(), Target::Puddles(frames))

@@ -11,7 +11,7 @@ use Rattle.word_transaction.proofs.WordTransaction.abort.Goals as goal
 pub returns-then-used-eq0-clause-closes : goal.returns-then-used-eq0-clause-closes
 returns-then-used-eq0-clause-closes g c =
     rw (← c.self.view_is) (λ t size same ground es before is r places table.
-    Closes-empty size _ es ground before (fault_of c.close.result) _ _ is r (sym c.used.ensures.used ∙ c.if-used-eq0.true) (c.close.ensures.persists t))
+    Closes-empty size _ es ground before (fault_of c.close.result) _ _ is r (sym c.used-used.ensures.used ∙ c.if-used-eq0.true) (c.close.ensures.persists t))
 
 pub returns-then-used-eq0-clause-any : goal.returns-then-used-eq0-clause-any
 returns-then-used-eq0-clause-any g c = λ t. any_wider _ (fault_of c.close.result) _ _ (c.close.ensures.persists t).changes

@@ -1,0 +1,111 @@
+-- A transaction on words beside other calls, and over more words than before.
+use Rattle.std.proofs.Common.{◌≡◌, inl, inr, ℕ, true, false, ◌&&◌, cond, eqb, List, [], ◌∷◌, length, Option, None, sym, ap, ap₂, subst, ◌∙◌}
+use Rattle.std.specs.Prelude.{All}
+use Rattle.std.specs.Option.{option_or}
+use Rattle.std.proofs.lemmas.Bool.{cases_Bool}
+use Rattle.std.proofs.lemmas.List.Elements.{All-head, All-tail, All-nil, All-cons}
+use Rattle.pm_model.specs.declared.host.HostFault.{HostFault}
+use Rattle.pm_model.specs.Words.{Words, HasOnly}
+use Rattle.pm_model.specs.Moments.{State}
+use Rattle.pm_model.specs.Changes.{Footprint, Write, Changes, Leaves, Silently}
+use Rattle.pm_model.proofs.Words.{HasOnly-own}
+use Rattle.pm_model.proofs.Leaves.{Leaves-changes}
+use Rattle.pud_defs.specs.declared.log_words.TheConstants.{UNDO_ORDER}
+use Rattle.pud_defs.specs.Image.{Image}
+use Rattle.pud_defs.specs.Entries.{Entry, Log}
+use Rattle.pud_defs.specs.Replay.{Place, is_in_range, value_from, undone}
+use Rattle.pud_defs.proofs.Replay.{undone-first, undone-none}
+use Rattle.log_store.specs.Store.{OpenLog, InLog}
+use Rattle.word_transaction.specs.Ground.{Ground, IsGround, IsOwn, running_range, saved}
+use Rattle.word_transaction.specs.Running.{IsRunning, IsCovered, SettlesTo}
+use Rattle.word_transaction.proofs.Saved.{saved_is_mine}
+use Rattle.word_transaction.proofs.Images.{SettlesTo-local, IsRunning-settles}
+
+-- ---- beside other calls
+
+-- each image left by calls that give no value to a word of the log or to an own word settles to the values from the beginning
+pub settles_beside : (g : Ground) (log : OpenLog) (es : List Entry) (before : Image) (may : Footprint) (fault : Option HostFault) (old new : State) → Changes may fault old new
+    → ((k v : ℕ) → InLog log.at k v → may k v → ⊥) → ((k v : ℕ) → g.mine k ≡ true → may k v → ⊥) → IsRunning g log es before old.now.words
+    → Leaves (Silently (SettlesTo g log.at before)) old new
+settles_beside g log es before may fault old new c in_log own r =
+    Leaves-changes (SettlesTo g log.at before) may fault old new
+    (λ was image picked from.
+    SettlesTo-local g log.at before was image
+    (λ k inside. (let it : image k ≡ was k = elim (from.each k) [ inl same ↦ same | inr new ↦ absurd (in_log k (image k) inside new) ] in it))
+    (λ k mine. (let it : image k ≡ was k = elim (from.each k) [ inl same ↦ same | inr new ↦ absurd (own k (image k) mine new) ] in it))
+    (IsRunning-settles g log es before was old.now.words r picked)) c
+
+-- ---- the values from the beginning
+
+-- they count on its own words alone
+pub IsRunning-values : (size : ℕ) (g : Ground) (log : OpenLog) (es : List Entry) (before values : Image) (words : Words) → IsGround size log.at g → ((k : ℕ) → g.mine k ≡ true → before k ≡ values k)
+    → IsRunning g log es before words → IsRunning g log es values words
+IsRunning-values size g log es before values words ground same r =
+    record {
+      opened = r.opened;
+      lo = r.lo;
+      hi = r.hi;
+      own = r.own;
+      saves = λ k v is. r.saves k v is ∙ same k (saved_is_mine size log.at g es k v ground r.own is);
+      single = λ k mine none. subst (λ (v : ℕ). HasOnly (words k) v) (same k mine) (r.single k mine none);
+      marked = r.marked;
+    }
+
+-- ---- over more words
+
+-- what the one may name the other may too, by the same places, and its words are among the other's
+pub record IsWider (g wide : Ground) : Type 0 where
+  pub may : (address count : ℕ) → g.may address count ≡ true → wide.may address count ≡ true
+  pub place : (address count : ℕ) → g.may address count ≡ true → wide.place address ≡ g.place address
+  pub mine : (k : ℕ) → g.mine k ≡ true → wide.mine k ≡ true
+
+-- entries give the same by places that agree on their addresses
+pub undone-places : (place other : Place) (log : Log) (es : List Entry) (k : ℕ) → All (λ e. other e.address ≡ place e.address) es → undone other log es k ≡ undone place log es k
+undone-places place other log [] k same = undone-none other log k ∙ sym (undone-none place log k)
+undone-places place other log (e ∷ es) k same =
+    undone-first other log e es k
+    ∙ ap₂ option_or
+    (ap (λ (o : Option ℕ). cond (is_in_range log e && eqb e.order UNDO_ORDER) (value_from o e.vals k) None) (All-head (λ x. other x.address ≡ place x.address) e es same))
+    (undone-places place other log es k (All-tail (λ x. other x.address ≡ place x.address) e es same))
+    ∙ sym (undone-first place log e es k)
+
+own_wider : (g wide : Ground) (es : List Entry) → IsWider g wide → All (IsOwn g) es → All (IsOwn wide) es
+own_wider g wide [] wider own = All-nil (IsOwn wide)
+own_wider g wide (e ∷ es) wider own =
+    let first = All-head (IsOwn g) e es own in
+    All-cons (IsOwn wide) e es (record { may = wider.may e.address (length e.vals) first.may; kind = first.kind }) (own_wider g wide es wider (All-tail (IsOwn g) e es own))
+
+places_wider : (g wide : Ground) (es : List Entry) → IsWider g wide → All (IsOwn g) es → All (λ e. wide.place e.address ≡ g.place e.address) es
+places_wider g wide [] wider own = All-nil (λ e. wide.place e.address ≡ g.place e.address)
+places_wider g wide (e ∷ es) wider own =
+    All-cons (λ x. wide.place x.address ≡ g.place x.address) e es (wider.place e.address (length e.vals) (All-head (IsOwn g) e es own).may)
+    (places_wider g wide es wider (All-tail (IsOwn g) e es own))
+
+-- the same words are saved
+pub saved-wider : (g wide : Ground) (es : List Entry) (k : ℕ) → IsWider g wide → All (IsOwn g) es → saved wide.place es k ≡ saved g.place es k
+saved-wider g wide es k wider own = undone-places g.place wide.place running_range es k (places_wider g wide es wider own)
+
+-- an open transaction comes to own more words, each with one value, which it then has from the beginning
+pub IsRunning-wider : (g wide : Ground) (log : OpenLog) (es : List Entry) (before : Image) (words : Words) → IsWider g wide
+    → ((k : ℕ) → wide.mine k ≡ true → g.mine k ≡ false → HasOnly (words k) (before k)) → IsRunning g log es before words → IsRunning wide log es before words
+IsRunning-wider g wide log es before words wider fresh r =
+    record {
+      opened = r.opened;
+      lo = r.lo;
+      hi = r.hi;
+      own = own_wider g wide es wider r.own;
+      saves = λ k v is. r.saves k v (sym (saved-wider g wide es k wider r.own) ∙ is);
+      single = λ k mine none. elim (cases_Bool (g.mine k)) [
+        | inl was ↦ r.single k was (sym (saved-wider g wide es k wider r.own) ∙ none)
+        | inr new ↦ fresh k mine new
+      ];
+      marked = λ k mine. elim (cases_Bool (g.mine k)) [
+        | inl was ↦ r.marked k was
+        | inr new ↦ inr (HasOnly-own (words k) (before k) (fresh k mine new))
+      ];
+    }
+
+-- what was covered is so still
+pub IsCovered-wider : (g wide : Ground) (es : List Entry) (write : Write) → IsWider g wide → All (IsOwn g) es → IsCovered g es write → IsCovered wide es write
+IsCovered-wider g wide es write wider own c =
+    record { mine = λ k v is. wider.mine k (c.mine k v is); kept = λ k v is none. c.kept k v is (sym (saved-wider g wide es k wider own) ∙ none) }
