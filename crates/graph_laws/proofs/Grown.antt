@@ -27,7 +27,7 @@ slice_get-front [] ys i below = absurd (omega arith)
 slice_get-front (x ∷ xs) ys zero below = refl
 slice_get-front (x ∷ xs) ys (suc i) below = slice_get-front xs ys i (omega arith)
 
-slice_get-push : {A : Type 0} (xs : List A) (x : A) → slice_get (xs ++ x ∷ []) (length xs) ≡ Some x
+pub slice_get-push : {A : Type 0} (xs : List A) (x : A) → slice_get (xs ++ x ∷ []) (length xs) ≡ Some x
 slice_get-push [] x = refl
 slice_get-push (y ∷ xs) x = slice_get-push xs x
 

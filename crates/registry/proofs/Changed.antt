@@ -51,7 +51,7 @@ pool_with_mode : (hold : Reader) (mode : ℕ) (r : PoolRec) (t : Tables) (slot :
 unfolding pool_of
 pool_with_mode hold mode r t slot = refl
 
-changed_there : (name : List ℕ) (change : Pool → Pool) (pools : List (List ℕ × Pool)) (p : Pool) → find name_cmp name pools ≡ Some p → changed_pool name change pools ≡ put name_cmp name (change p) pools
+pub changed_there : (name : List ℕ) (change : Pool → Pool) (pools : List (List ℕ × Pool)) (p : Pool) → find name_cmp name pools ≡ Some p → changed_pool name change pools ≡ put name_cmp name (change p) pools
 changed_there name change pools p is = ap (λ o. unwrap_or (option_map (λ p. put name_cmp name (change p) pools) o) pools) is
 
 module _ (s : StoredWorld) (image : Image) (slot mode : ℕ) (r : PoolRec) (world : ReadsWorld s image) (within : slot < POOL_RECORDS) (used : (tables_of s.frames image).pools slot ≡ Some r) (legal : is_legal_mode mode ≡ true) where

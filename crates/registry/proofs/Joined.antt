@@ -98,47 +98,60 @@ ChangesPools-dropped size s F slot r es fault a b c same frames within settled a
 pub free_there : (F : ℕ) (image : Image) (frame : ℕ) → first_free (tables_of F image).puddles 0 (tables_of F image).frames ≡ Some frame → (tables_of F image).puddles frame ≡ None
 free_there F image frame is = (first_free_some (tables_of F image).puddles 0 (tables_of F image).frames frame is).free
 
+-- a frame was filled, and then the batch of these changes is written, which makes these pools
+module _ (size : ℕ) (s next : StoredWorld) (number : ℕ) (ps : List (List ℕ × Pool)) (puts : List Put) (frame drawn ordinal : ℕ) (es : List Entry) (fault : Option HostFault) (a b c : State) (stands : pools_next s number ps ≡ next)
+    (settled : IsSettled size s a.now.words) (is : es ≡ puts_batch puts) where
+  -- the batch is written where each image stands for the world still
+  abbrev pub MovesThen : Type 0
+  MovesThen = IsSettled size s b.now.words → MovesBy size s next es b.now.words → Moves size s next es fault b c
+
+  pub filled_then : frame < s.frames → IsFreeFrame s.frames frame a.now.words → MakesPools s number ps puts (IsFreshFrame s.frames frame drawn ordinal) (tables_of s.frames (reads a.now.words))
+      → Persists (frame_write s.frames frame drawn ordinal) None a b → MovesThen → ChangesPools size s next (IsFreshFrame s.frames frame drawn ordinal) fault a c
+  filled_then known free makes filled moves =
+      let F = s.frames in
+      let write = frame_write F frame drawn ordinal in
+      let settled_then = IsSettled-filled F frame drawn ordinal known size s refl None a b settled free filled.changes in
+      let tables_then = HasDurableTables-filled F frame drawn ordinal known size s refl None a b filled.changes free.tables in
+      let kept : (k : ℕ) → k < tables_end F → reads b.now.words k ≡ reads a.now.words k = λ k below. reads_kept (written write) a b k filled.changes (λ v. not_filled F frame drawn ordinal known k v (omega arith)) in
+      let same : tables_of F (reads b.now.words) ≡ tables_of F (reads a.now.words) =
+      tables_of-same F (reads b.now.words) (reads a.now.words) (λ k low high. kept k (omega arith)) (λ k low high. kept k high) in
+      let makes_then = subst (MakesPools s number ps puts (IsFreshFrame F frame drawn ordinal)) (sym same) makes in
+      ChangesPools-filled F frame drawn ordinal known size s refl next (IsFreshFrame F frame drawn ordinal) fault a b c settled free filled.changes
+      (changes_by size s next number ps puts (IsFreshFrame F frame drawn ordinal) (IsFreshFrame F frame drawn ordinal) fault b c stands settled_then tables_then makes_then
+      (λ image picked. fresh_before F frame drawn ordinal known size s refl b image settled_then (filled.durable refl) picked)
+      (λ image between. fresh_behind F frame drawn ordinal known size s refl puts b image makes.of (filled.durable refl) between.batched)
+      (subst (λ (es : List Entry). MovesBy size s next es b.now.words → Moves size s next es fault b c) is (moves settled_then)))
+
 -- a pool is made: its frame was filled, and then its batch is written
 module _ (size : ℕ) (s : StoredWorld) (p : Place) (r : PoolRec) (es : List Entry) (fault : Option HostFault) (a b c : State) (number : r.number ≡ p.number) (settled : IsSettled size s a.now.words)
     (legal : IsLegalPool r.name r.uid r.gid r.mode) (is : es ≡ puts_batch (making p r)) where
   abbrev next : StoredWorld
   next = with_new_pool r.name (owner r.uid r.gid) r.mode s
 
-  -- the batch is written where each image stands for the world still
-  abbrev MovesThen : Type 0
-  MovesThen = IsSettled size s b.now.words → MovesBy size s next es b.now.words → Moves size s next es fault b c
+  -- the pools with it
+  abbrev pools : List (List ℕ × Pool)
+  pools = put name_cmp r.name (new_pool (owner r.uid r.gid) r.mode s.next_number) s.pools
+
+  abbrev MakesThen : Type 0
+  MakesThen = MovesThen size s next (s.next_number + NUMBERS_DRAWN) pools (making p r) p.frame (p.number + 1) 0 es fault a b c (made_world s r.name (owner r.uid r.gid) r.mode) settled is
 
   made_behind : p.frame < s.frames → HasDurableTables s.frames a.now.words → IsPlaceFor (tables_of s.frames (reads a.now.words)) s.next_number r.name p
-      → Persists (frame_write s.frames p.frame (p.number + 1) 0) None a b → MovesThen → ChangesPools size s next (IsFreshFrame s.frames p.frame (p.number + 1) 0) fault a c
+      → Persists (frame_write s.frames p.frame (p.number + 1) 0) None a b → MakesThen → ChangesPools size s next (IsFreshFrame s.frames p.frame (p.number + 1) 0) fault a c
   made_behind known tables place filled moves =
-      let F = s.frames in
-      let drawn = p.number + 1 in
-      let write = frame_write F p.frame drawn 0 in
-      let free : IsFreeFrame F p.frame a.now.words = record { tables = tables; free = free_there F (reads a.now.words) p.frame place.frame } in
-      let settled_then = IsSettled-filled F p.frame drawn 0 known size s refl None a b settled free filled.changes in
-      let tables_then = HasDurableTables-filled F p.frame drawn 0 known size s refl None a b filled.changes tables in
-      let kept : (k : ℕ) → k < tables_end F → reads b.now.words k ≡ reads a.now.words k = λ k below. reads_kept (written write) a b k filled.changes (λ v. not_filled F p.frame drawn 0 known k v (omega arith)) in
-      let same : tables_of F (reads b.now.words) ≡ tables_of F (reads a.now.words) =
-      tables_of-same F (reads b.now.words) (reads a.now.words) (λ k low high. kept k (omega arith)) (λ k low high. kept k high) in
-      let place_then = subst (λ t. IsPlaceFor t s.next_number r.name p) (sym same) place in
-      let makes = MakesPools-made s (reads b.now.words) p r (reads_world size s b.now.words settled_then tables_then) place_then legal number in
-      ChangesPools-filled F p.frame drawn 0 known size s refl next (IsFreshFrame F p.frame drawn 0) fault a b c settled free filled.changes
-      (changes_by size s next (s.next_number + NUMBERS_DRAWN) (put name_cmp r.name (new_pool (owner r.uid r.gid) r.mode s.next_number) s.pools) (making p r) (IsFreshFrame F p.frame drawn 0) (IsFreshFrame F p.frame drawn 0) fault b c
-      (made_world s r.name (owner r.uid r.gid) r.mode) settled_then tables_then makes
-      (λ image picked. fresh_before F p.frame drawn 0 known size s refl b image settled_then (filled.durable refl) picked)
-      (λ image between. fresh_behind F p.frame drawn 0 known size s refl (making p r) b image makes.of (filled.durable refl) between.batched)
-      (subst (λ (es : List Entry). MovesBy size s next es b.now.words → Moves size s next es fault b c) is (moves settled_then)))
+      filled_then size s next (s.next_number + NUMBERS_DRAWN) pools (making p r) p.frame (p.number + 1) 0 es fault a b c (made_world s r.name (owner r.uid r.gid) r.mode) settled is known
+      (record { tables = tables; free = free_there s.frames (reads a.now.words) p.frame place.frame })
+      (MakesPools-made s (reads a.now.words) p r (reads_world size s a.now.words settled tables) place legal number) filled moves
 
   -- on so many frames
   pub ChangesPools-made : (F : ℕ) → F ≡ s.frames → p.frame < F → HasDurableTables F a.now.words → IsPlaceFor (tables_of F (reads a.now.words)) s.next_number r.name p
-      → Persists (frame_write F p.frame (p.number + 1) 0) None a b → MovesThen → ChangesPools size s next (IsFreshFrame F p.frame (p.number + 1) 0) fault a c
+      → Persists (frame_write F p.frame (p.number + 1) 0) None a b → MakesThen → ChangesPools size s next (IsFreshFrame F p.frame (p.number + 1) 0) fault a c
   ChangesPools-made F same = subst (λ (n : ℕ). p.frame < n → HasDurableTables n a.now.words → IsPlaceFor (tables_of n (reads a.now.words)) s.next_number r.name p
-      → Persists (frame_write n p.frame (p.number + 1) 0) None a b → MovesThen → ChangesPools size s next (IsFreshFrame n p.frame (p.number + 1) 0) fault a c) (sym same) made_behind
+      → Persists (frame_write n p.frame (p.number + 1) 0) None a b → MakesThen → ChangesPools size s next (IsFreshFrame n p.frame (p.number + 1) 0) fault a c) (sym same) made_behind
 
 -- ---- where a place was found
 
 -- with a weaker fact besides
-ChangesPools-weaker : (size : ℕ) (s next : StoredWorld) (also besides : Image → Type 0) (fault : Option HostFault) (a c : State) → ((image : Image) → also image → besides image) → ChangesPools size s next also fault a c
+pub ChangesPools-weaker : (size : ℕ) (s next : StoredWorld) (also besides : Image → Type 0) (fault : Option HostFault) (a c : State) → ((image : Image) → also image → besides image) → ChangesPools size s next also fault a c
     → ChangesPools size s next besides fault a c
 ChangesPools-weaker size s next also besides fault a c weaker p = record {
   changes = p.changes;

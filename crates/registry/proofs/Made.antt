@@ -57,7 +57,7 @@ none_of slot frame (Some m) none = elim (cases_Bool (eqb m.pool (slot + 1))) [
   | inr other ↦ other
 ]
 
-other_base : (base frame : ℕ) (o : Option Member) → has_other_bases base o ≡ true → under nat_cmp base (option_map (λ m. (m.puddle.base, frame)) o) ≡ None
+pub other_base : (base frame : ℕ) (o : Option Member) → has_other_bases base o ≡ true → under nat_cmp base (option_map (λ m. (m.puddle.base, frame)) o) ≡ None
 other_base base frame None other = refl
 other_base base frame (Some m) other =
     let parts = and_parts (not (eqb m.puddle.base base)) (not (eqb m.puddle.old_base base)) other in
@@ -78,7 +78,7 @@ enough_numbers next enough = elim (cases_lt NUMBER_LIMIT (next + NUMBERS_DRAWN))
   | inr within ↦ within
 ]
 
-given : (later number : ℕ) → 1 ≤ number → number < later → is_given later number ≡ true
+pub given : (later number : ℕ) → 1 ≤ number → number < later → is_given later number ≡ true
 given later number low high = and_from _ _ (le-leb 1 number low) (lt-ltb number later high)
 
 -- the changes are of pools

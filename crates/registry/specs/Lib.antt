@@ -2,3 +2,4 @@ pub mod Registry
 pub mod Puts
 pub mod Places
 pub mod Pools
+pub mod Growth

@@ -14,10 +14,12 @@ ghost use Rattle.registry.specs.Registry.{load_fault, AppliesLog};
 
 mod changing;
 mod frames;
+mod growing;
 mod making;
 mod puts;
 
 pub use changing::{change_mode, drop_pool};
+pub use growing::grow_pool;
 use log_replay::{Target, settle_log};
 pub use making::{MakeFault, make_pool};
 use pm_model::{Host, HostFault};

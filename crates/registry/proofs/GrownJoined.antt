@@ -1,0 +1,92 @@
+-- What the calls owe that make a pool grow, from what their batch does.
+use Rattle.std.proofs.Common.{◌≡◌, inr, ℕ, ◌+◌, ◌<◌, List, Option, None, sym, ap, subst, ◌∙◌}
+use Rattle.pm_model.specs.declared.host.HostFault.{HostFault}
+use Rattle.pm_model.specs.Words.{reads}
+use Rattle.pm_model.specs.Moments.{State}
+use Rattle.pm_model.specs.Changes.{Persists}
+use Rattle.pud_defs.specs.declared.layout.TheConstants.{DAEMON_LOG, NEXT_NUMBER_WORD}
+use Rattle.pud_defs.specs.declared.records.TheConstants.{POOL_RECORDS}
+use Rattle.pud_defs.specs.declared.records.PoolRec.{PoolRec}
+use Rattle.pud_defs.specs.Image.{Image}
+use Rattle.pud_defs.specs.Entries.{Entry}
+use Rattle.pud_defs.specs.Frames.{IsFreshFrame}
+use Rattle.pud_defs.specs.Graph.{Graph}
+use Rattle.pud_defs.specs.Tables.{Pool, tables_of}
+use Rattle.pud_defs.specs.PoolChanges.{changed_pool}
+use Rattle.pud_defs.specs.World.{StoredWorld}
+use Rattle.batch.specs.Batches.{HasIdleGate}
+use Rattle.batch.specs.Worlds.{IsSettled}
+use Rattle.batch.specs.Tables.{HasDurableTables}
+use Rattle.registry.specs.declared.growing.Growth.{Growth}
+use Rattle.registry.specs.Puts.{puts_batch}
+use Rattle.registry.specs.Pools.{frame_write, PersistsThenCommits, OrStill, IsPoolAt, ChangesPools}
+use Rattle.registry.specs.Growth.{puddle_count, IsGrowthFor, growing, GrowsSomewhere, HasFreshPuddle, HoldsGraph, with_puddle_more, with_grown_pool}
+use Rattle.registry.proofs.Moved.{reads_world}
+use Rattle.registry.proofs.Grown.{MakesPools-grown, grown_world}
+use Rattle.registry.proofs.Joined.{free_there, MovesThen, filled_then, ChangesPools-weaker}
+
+-- a pool grows: the frame was filled, and then the batch is written
+module _ (size : ℕ) (s : StoredWorld) (slot : ℕ) (r : PoolRec) (p : Growth) (g : Graph) (es : List Entry) (fault : Option HostFault) (a b c : State) (settled : IsSettled size s a.now.words) (within : slot < POOL_RECORDS)
+    (holds : HoldsGraph r.name s g) (is : es ≡ puts_batch (growing slot p)) where
+  abbrev next : StoredWorld
+  next = with_grown_pool r.name s
+
+  abbrev pools : List (List ℕ × Pool)
+  pools = changed_pool r.name with_puddle_more s.pools
+
+  abbrev GrowsThen : Type 0
+  GrowsThen = MovesThen size s next (s.next_number + 1) pools (growing slot p) p.frame p.number p.ordinal es fault a b c (grown_world s r.name) settled is
+
+  grown_behind : p.frame < s.frames → IsPoolAt s.frames slot r a.now.words → IsGrowthFor (tables_of s.frames (reads a.now.words)) s.next_number slot p
+      → Persists (frame_write s.frames p.frame p.number p.ordinal) None a b → GrowsThen → ChangesPools size s next (IsFreshFrame s.frames p.frame p.number p.ordinal) fault a c
+  grown_behind known at place filled moves =
+      filled_then size s next (s.next_number + 1) pools (growing slot p) p.frame p.number p.ordinal es fault a b c (grown_world s r.name) settled is known
+      (record { tables = at.tables; free = free_there s.frames (reads a.now.words) p.frame place.frame })
+      (MakesPools-grown s (reads a.now.words) slot r p g (reads_world size s a.now.words settled at.tables) within at.used place holds) filled moves
+
+  -- on so many frames
+  pub ChangesPools-grown : (F : ℕ) → F ≡ s.frames → p.frame < F → IsPoolAt F slot r a.now.words → IsGrowthFor (tables_of F (reads a.now.words)) s.next_number slot p
+      → Persists (frame_write F p.frame p.number p.ordinal) None a b → GrowsThen → ChangesPools size s next (IsFreshFrame F p.frame p.number p.ordinal) fault a c
+  ChangesPools-grown F same = subst (λ (n : ℕ). p.frame < n → IsPoolAt n slot r a.now.words → IsGrowthFor (tables_of n (reads a.now.words)) s.next_number slot p
+      → Persists (frame_write n p.frame p.number p.ordinal) None a b → GrowsThen → ChangesPools size s next (IsFreshFrame n p.frame p.number p.ordinal) fault a c) (sym same) grown_behind
+
+-- ---- behind the search for its place
+
+fresh_puddle : (F next slot : ℕ) (before : Image) (p : Growth) → IsGrowthFor (tables_of F before) next slot p → (image : Image) → IsFreshFrame F p.frame p.number p.ordinal image
+    → HasFreshPuddle (tables_of F before) next (puddle_count (tables_of F before) slot) image
+unfolding tables_of
+fresh_puddle F next slot before p place image fresh = record {
+  frame = p.frame;
+  lowest = place.frame;
+  fresh = subst (λ (n : ℕ). IsFreshFrame F p.frame next n image) place.ordinal (subst (λ (n : ℕ). IsFreshFrame F p.frame n p.ordinal image) place.number fresh);
+}
+
+module _ (size : ℕ) (s next : StoredWorld) (F : ℕ) (image : Image) (slot : ℕ) (r : PoolRec) (p : Growth) (fault : Option HostFault) (a c : State) (read : reads a.now.words ≡ image) (same : F ≡ s.frames)
+    (settled : IsSettled size s a.now.words) (at : IsPoolAt F slot r a.now.words) (place : IsGrowthFor (tables_of F image) (image NEXT_NUMBER_WORD) slot p) where
+  -- what the call that makes it grow owes from there
+  abbrev GrowsThere : State → Type 0
+  GrowsThere b = IsSettled size s b.now.words → IsPoolAt F slot r b.now.words → IsGrowthFor (tables_of F (reads b.now.words)) s.next_number slot p → ChangesPools size s next (IsFreshFrame F p.frame p.number p.ordinal) fault b c
+
+  number_is : image NEXT_NUMBER_WORD ≡ s.next_number
+  number_is = ap (λ (i : Image). i NEXT_NUMBER_WORD) (sym read) ∙ (reads_world size s a.now.words settled (subst (λ (n : ℕ). HasDurableTables n a.now.words) same at.tables)).number
+
+  place_here : IsGrowthFor (tables_of F image) s.next_number slot p
+  place_here = subst (λ (n : ℕ). IsGrowthFor (tables_of F image) n slot p) number_is place
+
+  grows_here : GrowsThere a → ChangesPools size s next (HasFreshPuddle (tables_of F image) s.next_number (puddle_count (tables_of F image) slot)) fault a c
+  grows_here grows =
+      ChangesPools-weaker size s next (IsFreshFrame F p.frame p.number p.ordinal) (HasFreshPuddle (tables_of F image) s.next_number (puddle_count (tables_of F image) slot)) fault a c
+      (fresh_puddle F s.next_number slot image p place_here)
+      (grows settled at (subst (λ (i : Image). IsGrowthFor (tables_of F i) s.next_number slot p) (sym read) place_here))
+
+  pub ChangesPools-growth_found : (b : State) → b ≡ a → GrowsThere b → ChangesPools size s next (HasFreshPuddle (tables_of F image) s.next_number (puddle_count (tables_of F image) slot)) fault a c
+  ChangesPools-growth_found b e = subst (λ (b : State). GrowsThere b → ChangesPools size s next (HasFreshPuddle (tables_of F image) s.next_number (puddle_count (tables_of F image) slot)) fault a c) (sym e) grows_here
+
+-- on any content
+pub GrowsSomewhere-found : (F : ℕ) (image : Image) (number slot : ℕ) (p : Growth) (fault : Option HostFault) (a b c : State) → b ≡ a → IsGrowthFor (tables_of F image) number slot p
+    → (HasIdleGate DAEMON_LOG b.now.words → PersistsThenCommits (frame_write F p.frame p.number p.ordinal) (puts_batch (growing slot p)) fault b c)
+    → HasIdleGate DAEMON_LOG a.now.words → OrStill (GrowsSomewhere (tables_of F image) number slot) fault a c
+unfolding tables_of
+GrowsSomewhere-found F image number slot p fault a b c e place commits idle =
+    let behind = subst (λ (b : State). HasIdleGate DAEMON_LOG b.now.words → PersistsThenCommits (frame_write F p.frame p.number p.ordinal) (puts_batch (growing slot p)) fault b c) e commits in
+    inr (record { growth = p; is = place; commits = behind idle })
