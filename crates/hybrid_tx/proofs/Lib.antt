@@ -6,3 +6,4 @@ pub mod Opening
 pub mod InFrames
 pub mod FieldPut
 pub mod ObjectPut
+pub mod PoolEnding

@@ -14,7 +14,7 @@ use Rattle.pud_defs.specs.Graph.{Graph, graph_of}
 use Rattle.log_store.specs.Store.{OpenLog}
 use Rattle.word_transaction.specs.Ground.{Ground, IsGround, pending}
 use Rattle.word_transaction.specs.Running.{IsRunning, SettlesTo, Closes, Ends}
-use Rattle.word_transaction.proofs.Settling.{pending-undo}
+use Rattle.word_transaction.proofs.Pending.{pending-undo}
 use Rattle.hybrid_tx.specs.Grounds.{pool_place, pool_ground, IsPlaced}
 use Rattle.hybrid_tx.specs.Transactions.{IsOpenOn, ClosesOn, EndsOn}
 use Rattle.hybrid_tx.proofs.PoolGrounds.{is_ground}

@@ -10,6 +10,7 @@
 #![tactic(auto)]
 
 mod changing;
+mod ending;
 pub mod laws;
 mod running;
 
