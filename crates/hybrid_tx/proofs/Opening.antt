@@ -29,6 +29,15 @@ stored_in-mine F at i j same =
           same (frame_at F e.0 + k) (pool_mine-from F at (frame_at F e.0 + k) (record { ordinal = o; puddle = e; there = there; low = omega arith; high = omega arith }));
     })
 
+pub RunsOn-open : (F : ℕ) (at : List (ℕ × Puddle)) (types : List (ℕ × ℕ)) (log : OpenLog) (before : Image) (undone next : Graph) (old new : State) → RunsOn F at types log before undone next None old new
+    → IsOpenOn F at types log before undone next new.now.words
+RunsOn-open F at types log before undone next old new r =
+    record {
+      saving = record { es = r.saves.es; running = r.saves.runs.running refl; undo_only = r.saves.undo_only };
+      was = r.was;
+      is = r.is refl;
+    }
+
 module _ (F size : ℕ) (at : List (ℕ × Puddle)) (types : List (ℕ × ℕ)) (before : Image) where
   pub IsOpenOn-begun : (log : ℕ) (g : Graph) (old new : State) → IsGround size log (pool_ground F at) → IsIdle (pool_ground F at) log before old.now.words → graph_of types (stored_in F at before) ≡ Some g
       → Runs (pool_ground F at) (begun log) [] before nothing None old new → IsOpenOn F at types (begun log) before g g new.now.words
@@ -38,14 +47,6 @@ module _ (F size : ℕ) (at : List (ℕ × Puddle)) (types : List (ℕ × ℕ)) 
         was = was;
         is = ap (graph_of types) (stored_in-mine F at before (reads new.now.words)
             (λ k mine. runs.now refl k (ground.apart k mine) ∙ (idle.single k mine).each (reads old.now.words k) (inl refl))) ∙ was;
-      }
-
-  pub RunsOn-open : (log : OpenLog) (undone next : Graph) (old new : State) → RunsOn F at types log before undone next None old new → IsOpenOn F at types log before undone next new.now.words
-  RunsOn-open log undone next old new r =
-      record {
-        saving = record { es = r.saves.es; running = r.saves.runs.running refl; undo_only = r.saves.undo_only };
-        was = r.was;
-        is = r.is refl;
       }
 
   -- words that are written make the graph that images have over which they are written

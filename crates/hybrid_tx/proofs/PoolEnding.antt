@@ -1,7 +1,8 @@
 -- A transaction on a pool ends, and what images left meanwhile settle to.
-use Rattle.std.proofs.Common.{◌≡◌, inl, ℕ, ◌+◌, ◌≤◌, true, List, [], Option, Some, None, refl, sym, ap, ◌∙◌, arith}
+use Rattle.std.proofs.Common.{◌≡◌, ℕ, ◌+◌, ◌≤◌, true, List, [], Option, Some, None, refl, sym, ap, ◌∙◌, arith}
 use Rattle.pm_model.specs.declared.host.HostFault.{HostFault}
-use Rattle.pm_model.specs.Words.{reads}
+use Rattle.pm_model.specs.Words.{Words, reads}
+use Rattle.pm_model.proofs.Words.{HasOnly-own}
 use Rattle.pm_model.specs.Moments.{State}
 use Rattle.pud_defs.specs.declared.layout.TheConstants.{LOG_WORDS}
 use Rattle.pud_defs.specs.declared.records.Puddle.{Puddle}
@@ -13,10 +14,11 @@ use Rattle.pud_defs.specs.Stored.{stored_in}
 use Rattle.pud_defs.specs.Graph.{Graph, graph_of}
 use Rattle.log_store.specs.Store.{OpenLog}
 use Rattle.word_transaction.specs.Ground.{Ground, IsGround, pending}
-use Rattle.word_transaction.specs.Running.{IsRunning, SettlesTo, Closes, Ends}
+use Rattle.word_transaction.specs.Running.{IsRunning, IsIdle, SettlesTo, Closes, Ends}
 use Rattle.word_transaction.proofs.Pending.{pending-undo}
+use Rattle.word_transaction.proofs.Ended.{Ends-idle, Closes-idle, IsIdle-reads}
 use Rattle.hybrid_tx.specs.Grounds.{pool_place, pool_ground, IsPlaced}
-use Rattle.hybrid_tx.specs.Transactions.{IsOpenOn, ClosesOn, EndsOn}
+use Rattle.hybrid_tx.specs.Transactions.{IsOpenOn, IsAtRest, ClosesOn, EndsOn}
 use Rattle.hybrid_tx.proofs.PoolGrounds.{is_ground}
 use Rattle.hybrid_tx.proofs.Opening.{stored_in-mine}
 
@@ -45,10 +47,16 @@ module _ (F : ℕ) (at : List (ℕ × Puddle)) (types : List (ℕ × ℕ)) where
       → graph_of types (stored_in F at (replayed (pool_place F at) (log_of image log) image)) ≡ Some g
   settled_graph log values image g s is = ap (graph_of types) (stored_in-mine F at values (replayed (pool_place F at) (log_of image log) image) s.settled) ∙ is
 
-  pub closed_graph : (log : ℕ) (before : Image) (undone : Graph) (old new : State) → ClosesOn F at types log before undone None old new → graph_of types (stored_in F at (reads new.now.words)) ≡ Some undone
-  closed_graph log before undone old new c =
-      ap (graph_of types) (stored_in-mine F at before (reads new.now.words) (λ k mine. (c.closes.durable refl k mine).each (reads new.now.words k) (inl refl))) ∙ c.was
+  -- own words that have one value each have the values that are read
+  at_rest : (log : ℕ) (values : Image) (g : Graph) (words : Words) → IsIdle (pool_ground F at) log values words → graph_of types (stored_in F at values) ≡ Some g → IsAtRest F at types log g words
+  at_rest log values g words idle is =
+      record {
+        idle = record { closed = idle.closed; single = λ k mine. HasOnly-own (words k) (values k) (idle.single k mine) };
+        is = ap (graph_of types) (stored_in-mine F at values (reads words) (IsIdle-reads (pool_ground F at) log values words idle)) ∙ is;
+      }
 
-  pub ended_graph : (log : ℕ) (before : Image) (undone next : Graph) (old new : State) → EndsOn F at types log before undone next None old new → graph_of types (stored_in F at (reads new.now.words)) ≡ Some next
-  ended_graph log before undone next old new e =
-      ap (graph_of types) (stored_in-mine F at e.after (reads new.now.words) (λ k mine. (e.ends.durable refl k mine).each (reads new.now.words k) (inl refl))) ∙ e.is
+  pub IsAtRest-closed : (log : ℕ) (before : Image) (undone : Graph) (old new : State) → ClosesOn F at types log before undone None old new → IsAtRest F at types log undone new.now.words
+  IsAtRest-closed log before undone old new c = at_rest log before undone new.now.words (Closes-idle (pool_ground F at) log before None old new refl c.closes) c.was
+
+  pub IsAtRest-ended : (log : ℕ) (before : Image) (undone next : Graph) (old new : State) → EndsOn F at types log before undone next None old new → IsAtRest F at types log next new.now.words
+  IsAtRest-ended log before undone next old new e = at_rest log e.after next new.now.words (Ends-idle (pool_ground F at) log before e.after None old new refl e.ends) e.is

@@ -16,7 +16,7 @@ use Rattle.pud_defs.specs.Stored.{stored_in}
 use Rattle.pud_defs.specs.Graph.{Object, Graph, object_in, field_count, graph_of}
 use Rattle.log_store.specs.Store.{OpenLog}
 use Rattle.word_transaction.specs.Ground.{IsUndo}
-use Rattle.word_transaction.specs.Running.{IsRunning, Runs, Closes, Ends}
+use Rattle.word_transaction.specs.Running.{IsRunning, IsIdle, Runs, Closes, Ends}
 use Rattle.hybrid_tx.specs.Grounds.{pool_ground}
 
 -- ---- what may be set
@@ -49,6 +49,12 @@ pub record IsOpenOn (F : ℕ) (at : List (ℕ × Puddle)) (types : List (ℕ × 
   pub saving : IsSaving F at log before words
   pub was : graph_of types (stored_in F at before) ≡ Some undone
   pub is : graph_of types (stored_in F at (reads words)) ≡ Some now
+
+-- No transaction is open on the pool: the log whose gate is this word counts nothing in any image, each word of the pool's frames has one value, and
+-- by these the pool has this graph.
+pub record IsAtRest (F : ℕ) (at : List (ℕ × Puddle)) (types : List (ℕ × ℕ)) (log_at : ℕ) (g : Graph) (words : Words) : Type 0 where
+  pub idle : IsIdle (pool_ground F at) log_at (reads words) words
+  pub is : graph_of types (stored_in F at (reads words)) ≡ Some g
 
 -- ---- what calls do
 

@@ -1,7 +1,7 @@
 //! What a transaction changes of objects: a field is set, and an object is made.
 #![tactic(auto)]
 
-ghost use Rattle.std.specs.Prelude.{◌≡◌, ◌≢◌, ◌+◌, ◌*◌, ◌<◌, ◌≤◌, ℕ, List, true, All, Option, Result, IfOk, OnErr, length};
+ghost use Rattle.std.specs.Prelude.{◌≡◌, ◌≢◌, ◌⊎◌, ◌+◌, ◌*◌, ◌<◌, ◌≤◌, ℕ, List, true, All, Option, Result, IfOk, OnErr, length};
 ghost use Rattle.pm_model.specs.Words.{reads};
 ghost use Rattle.pm_model.specs.Counts.{after_fault, fault_of};
 ghost use Rattle.pm_model.specs.Changes.{Changes};
@@ -113,6 +113,9 @@ impl Tx {
         ensures counts { H.tells → (types : List (ℕ × ℕ)) (before : Image) (undone : Graph) (now : Graph) → IsPlaced frames pool.now
             → IsOpenOn frames pool.now types self.old before undone now (H.state h.old).now.words → MaySet types now s f x
             → IfOk result (λ _. self.new ≡ longer SET_UNITS self.old) }
+        ensures nothing { H.tells → All (λ e. is_legal_base e.1.base ≡ true) pool.now
+            → (place_in_pool frames pool.now (reads (H.state h.old).now.words) s ≡ Option.None) ⊎ (word_for frames pool.now (reads (H.state h.old).now.words) x ≡ Option.None)
+            → (H.state h.new ≡ H.state h.old) × (self.new ≡ self.old) }
         ensures cause { H.counts h.new ≡ after_fault (fault_of result) (H.counts h.old) }
     {
         let found = find_serial(h, frames, pool, s)?;

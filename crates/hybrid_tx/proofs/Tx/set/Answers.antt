@@ -1,5 +1,5 @@
-use Rattle.std.proofs.Common.{◌≡◌, ℕ, ◌+◌, List, Option, Some, None, IfSome, option_map, ap, sym, subst, refl, ◌∙◌, arith}
-use Rattle.std.proofs.lemmas.Option.{slice_get_within}
+use Rattle.std.proofs.Common.{◌≡◌, inl, inr, ℕ, ◌+◌, List, Option, Some, None, IfSome, option_map, ap, sym, subst, refl, ◌∙◌, arith}
+use Rattle.std.proofs.lemmas.Option.{none-some, slice_get_within}
 use Rattle.std.proofs.lemmas.Result.{err_from_is_err_and}
 use Rattle.pm_model.specs.Words.{reads}
 use Rattle.pm_model.specs.Counts.{fault_of}
@@ -53,6 +53,14 @@ returns-in-Some-Some-clause-runs g c = λ t types before undone now placed rewri
     (sym (c.in_ok-word.ensures.word t placed.legal image kept) ∙ c.in-Some-Some.is-1)
     (ap (λ (k : ℕ). k + 2 + c.args.f) c.slot_at.ensures)
     (c.put_in_frame.ensures.saves t placed)
+
+pub returns-in-Some-Some-clause-nothing : goal.returns-in-Some-Some-clause-nothing
+returns-in-Some-Some-clause-nothing g c = λ t legal which.
+    let image = reads (g.H.Host.state c.args.h.now).now.words in
+    let kept = ap (λ (s : State). reads s.now.words) (c.in_ok-found.ensures.stays t) in
+    let place = sym (c.in_ok-found.ensures.found t image refl) ∙ ap (option_map place_at) c.in-Some-Some.is-0 in
+    let value = sym (c.in_ok-word.ensures.word t legal image kept) ∙ c.in-Some-Some.is-1 in
+    absurd (elim which [ inl none ↦ none-some _ (sym none ∙ place) | inr none ↦ none-some _ (sym none ∙ value) ])
 
 pub returns-in_default-clause-changes : goal.returns-in_default-clause-changes
 returns-in_default-clause-changes g c = λ t. Changes-still _ None _ _ (λ cut. cc) (c.in_ok-word.ensures.stays t ∙ c.in_ok-found.ensures.stays t)
