@@ -1,12 +1,12 @@
 -- A field is set within a transaction.
-use Rattle.std.proofs.Common.{◌≡◌, ℕ, ◌+◌, ◌*◌, ◌/◌, ◌%◌, ◌^◌, ◌<◌, ◌≤◌, true, List, [], ◌∷◌, All, map, Option, Some, None, get_or, option_map, refl, sym, ap, subst, ◌∙◌, arith}
+use Rattle.std.proofs.Common.{◌≡◌, ℕ, ◌+◌, ◌*◌, ◌/◌, ◌%◌, ◌^◌, ◌≤◌, true, List, [], ◌∷◌, All, map, Option, Some, None, option_map, sym, ap, subst, ◌∙◌, arith}
 use Rattle.std.specs.Prelude.{slice_get}
 use Rattle.std.proofs.lemmas.Option.{slice_get-map}
 use Rattle.pm_model.specs.declared.host.HostFault.{HostFault}
 use Rattle.pm_model.specs.declared.host.HostFault.TheVariants.{Cut}
 use Rattle.pm_model.specs.Words.{reads}
 use Rattle.pm_model.specs.Moments.{State}
-use Rattle.pm_model.specs.Changes.{Write, placed}
+use Rattle.pm_model.specs.Changes.{placed}
 use Rattle.pud_defs.specs.declared.layout.TheConstants.{LOG_WORDS}
 use Rattle.pud_defs.specs.declared.space.TheConstants.{WORD_BYTES}
 use Rattle.pud_defs.specs.declared.records.Puddle.{Puddle}
@@ -16,8 +16,7 @@ use Rattle.pud_defs.specs.Layout.{device_words, frames_at}
 use Rattle.pud_defs.specs.Image.{Image}
 use Rattle.pud_defs.specs.Bases.{is_legal_base}
 use Rattle.pud_defs.specs.Frames.{frame_at, slot_at}
-use Rattle.pud_defs.specs.Stored.{stored_in}
-use Rattle.pud_defs.specs.Graph.{Graph, graph_of}
+use Rattle.pud_defs.specs.Graph.{Graph}
 use Rattle.graph_laws.specs.Changes.{with_field}
 use Rattle.graph_laws.specs.Rewriting.{base_of}
 use Rattle.graph_read.specs.Reading.{place_in_pool, place_at, IsSlotOf}

@@ -1,5 +1,5 @@
 -- A field's word is stored in an image of a pool: its graph has the value in the field.
-use Rattle.std.proofs.Common.{◌≡◌, inl, inr, ℕ, ◌+◌, ◌-◌, ◌*◌, ◌/◌, ◌%◌, ◌<◌, ◌≤◌, true, false, cond, List, [], ◌∷◌, map, length, Option, Some, None, get_or, is_some, option_map, refl, sym, ap, ap₂, subst, ◌∙◌, arith, eqb, eq-eqb, ne_eqb, ⊎_elim}
+use Rattle.std.proofs.Common.{◌≡◌, inl, inr, ℕ, ◌+◌, ◌*◌, ◌/◌, ◌%◌, ◌<◌, true, false, cond, List, [], ◌∷◌, Option, Some, None, get_or, is_some, option_map, refl, sym, ap, ap₂, ◌∙◌, arith, eqb, eq-eqb, ne_eqb}
 use Rattle.std.specs.Prelude.{slice_get}
 use Rattle.std.proofs.lemmas.Bool.{cases_eq, cases_lt, cond-true, cond-false}
 use Rattle.std.proofs.lemmas.Option.{none-some, same_Some, slice_get-map, slice_get-get_or}
@@ -16,7 +16,7 @@ use Rattle.pud_defs.specs.Types.{map_of}
 use Rattle.pud_defs.specs.Image.{Image, written}
 use Rattle.pud_defs.specs.Frames.{frame_at, slot_at}
 use Rattle.pud_defs.specs.Replay.{overwritten}
-use Rattle.pud_defs.specs.Stored.{Stored, stored_in, places_of, place_word}
+use Rattle.pud_defs.specs.Stored.{Stored, stored_in, places_of}
 use Rattle.pud_defs.specs.Graph.{slot_address, table_of, place_of, object_at, Object, field_count, Graph, object_in, graph_of}
 use Rattle.pud_defs.proofs.Replay.{overwritten-there, overwritten-stays, value_at-there, value_at-apart}
 use Rattle.graph_laws.specs.Changes.{with_word, with_words, with_field_word, IsAddress, IsField, with_field}
@@ -39,9 +39,9 @@ overwritten-one w v image =
     λ k. elim (cases_eq k w) [
       | inl here ↦ overwritten-there (put_from w (v ∷ [])) image k v (value_at-there w 0 k (v ∷ []) (omega arith)) ∙ sym (cond-true _ _ _ (eq-eqb k w here))
       | inr other ↦
-        overwritten-stays (put_from w (v ∷ [])) image k
-        (value_at-apart w k (v ∷ []) (elim (cases_lt k w) [ inl below ↦ inl below | inr above ↦ inr (omega arith) ]))
-        ∙ sym (cond-false _ _ _ (ne_eqb k w other))
+          overwritten-stays (put_from w (v ∷ [])) image k
+          (value_at-apart w k (v ∷ []) (elim (cases_lt k w) [ inl below ↦ inl below | inr above ↦ inr (omega arith) ]))
+          ∙ sym (cond-false _ _ _ (ne_eqb k w other))
     ] in
     λ i k. each k i
 
@@ -126,8 +126,8 @@ module _ (types : List (ℕ × ℕ)) (F : ℕ) (at : List (ℕ × Puddle)) (imag
           graph_of-number types st g s p m f v is field number ∙ ap (λ k. Some (with_field s f (Num k) g)) (sym same)
       of_value (Ref r) v holds word = elim (cases_eq r 0) [
         | inl null ↦
-          let zero : 0 ≡ v = same_Some 0 v (sym (cond-true _ _ _ (eq-eqb r 0 null)) ∙ word) in
-          ap (λ k. graph_of types (with_field_word p f k st)) (sym zero) ∙ graph_of-null types st g s p m f is field holds.0 ∙ ap (λ k. Some (with_field s f (Ref k) g)) (sym null)
+            let zero : 0 ≡ v = same_Some 0 v (sym (cond-true _ _ _ (eq-eqb r 0 null)) ∙ word) in
+            ap (λ k. graph_of types (with_field_word p f k st)) (sym zero) ∙ graph_of-null types st g s p m f is field holds.0 ∙ ap (λ k. Some (with_field s f (Ref k) g)) (sym null)
         | inr other ↦ of_address r v (place_in_pool F at image r) holds.0 other refl word
       ]
 

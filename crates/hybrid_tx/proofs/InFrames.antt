@@ -1,7 +1,7 @@
 -- Words of a frame are saved and written, by the puddle's ordinal.
-use Rattle.std.proofs.Common.{◌≡◌, ◌⊎◌, inl, inr, ℕ, ◌+◌, ◌*◌, ◌%◌, ◌^◌, ◌<◌, ◌≤◌, true, List, [], ◌∷◌, ◌++◌, All, length, Option, Some, None, Result, Ok, Err, IfOk, refl, sym, ap, subst, ◌∙◌, arith}
+use Rattle.std.proofs.Common.{◌≡◌, inl, inr, ℕ, ◌+◌, ◌*◌, ◌%◌, ◌^◌, ◌<◌, ◌≤◌, true, List, [], ◌∷◌, ◌++◌, All, length, Option, Some, None, Result, Ok, Err, IfOk, refl, sym, ap, subst, ◌∙◌, arith}
 use Rattle.std.specs.Prelude.{slice_get}
-use Rattle.std.proofs.lemmas.Bool.{and_parts, leb-true, ltb-true}
+use Rattle.std.proofs.lemmas.Bool.{and_parts, ltb-true}
 use Rattle.std.proofs.lemmas.List.Elements.{All-nil, All-cons, All-append}
 use Rattle.pm_model.specs.declared.host.HostFault.{HostFault}
 use Rattle.pm_model.specs.Counts.{fault_of}
@@ -10,14 +10,14 @@ use Rattle.pm_model.specs.Changes.{Write, Changes, placed}
 use Rattle.pm_model.proofs.Changes.{Changes-wider}
 use Rattle.pm_persist.proofs.Ranges.{placed_within}
 use Rattle.pud_defs.specs.declared.layout.TheConstants.{FRAME_WORDS, LOG_WORDS}
-use Rattle.pud_defs.specs.declared.space.TheConstants.{WORD_BYTES, SPACE_START, SPACE_BYTES, RANGE_BYTES}
+use Rattle.pud_defs.specs.declared.space.TheConstants.{WORD_BYTES, SPACE_START, SPACE_BYTES}
 use Rattle.pud_defs.specs.declared.records.Puddle.{Puddle}
 use Rattle.pud_defs.specs.Layout.{device_words, frames_at}
 use Rattle.pud_defs.specs.Image.{Image}
 use Rattle.pud_defs.specs.Bases.{is_legal_base}
 use Rattle.pud_defs.specs.Frames.{frame_at}
 use Rattle.pud_defs.specs.Entries.{Entry}
-use Rattle.pud_defs.specs.Replay.{over, overwritten}
+use Rattle.pud_defs.specs.Replay.{over}
 use Rattle.log_store.specs.Store.{OpenLog}
 use Rattle.word_transaction.specs.Ground.{IsGround, IsUndo, undo_entry}
 use Rattle.word_transaction.specs.Running.{IsRunning, ByTransaction, Runs}
@@ -37,8 +37,8 @@ ByPut-in_frame F at o word log e vals fault old new there few c =
     (λ k v may. elim may [
       | inl inside ↦ inl inside
       | inr is ↦
-        let within = placed_within (frame_at F e.0 + word) k v vals is in
-        inr (pool_mine-from F at k (record { ordinal = o; puddle = e; there = there; low = omega arith; high = omega arith }))
+          let within = placed_within (frame_at F e.0 + word) k v vals is in
+          inr (pool_mine-from F at k (record { ordinal = o; puddle = e; there = there; low = omega arith; high = omega arith }))
     ]) c
 
 -- ---- addresses
@@ -82,7 +82,7 @@ module _ (F size : ℕ) (at : List (ℕ × Puddle)) (o word : ℕ) (e : ℕ × P
   pub Saves-put : IsPlaced F at → device_words F ≤ size → log.at + LOG_WORDS ≤ frames_at F → slice_get at o ≡ Some e → 1 ≤ length vals → word + length vals ≤ FRAME_WORDS
       → address ≡ (e.1.base + WORD_BYTES * word) % 2 ^ 64 → first ≡ frame_at F e.0 + word → IsSaving F at log before old.now.words
       → ((es : List Entry) → IsGround size log.at (pool_ground F at) → pool_may at address (length vals) ≡ true → pool_place F at address ≡ Some first
-        → IsRunning (pool_ground F at) log es before old.now.words → Runs (pool_ground F at) long (es ++ undo_entry address held ∷ []) before (placed first vals) fault old new)
+      → IsRunning (pool_ground F at) log es before old.now.words → Runs (pool_ground F at) long (es ++ undo_entry address held ∷ []) before (placed first vals) fault old new)
       → Saves F at long before (placed (frame_at F e.0 + word) vals) fault old new
   Saves-put is_placed device apart there some few is_address is_first s runs =
       let legal = all_there (λ d. is_legal_base d.1.base ≡ true) at o e is_placed.legal there in

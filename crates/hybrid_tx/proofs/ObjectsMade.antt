@@ -1,11 +1,11 @@
 -- A free slot of a pool is filled in an image, and the next serial is one more: its graph has one object more.
-use Rattle.std.proofs.Common.{◌≡◌, ◌⊎◌, inl, inr, ℕ, ◌+◌, ◌-◌, ◌*◌, ◌/◌, ◌%◌, ◌<◌, ◌≤◌, true, false, cond, ltb, suc, List, [], ◌∷◌, map, length, Option, Some, None, refl, sym, ap, ap₂, ◌∙◌, arith}
+use Rattle.std.proofs.Common.{◌≡◌, ◌⊎◌, inl, inr, ℕ, ◌+◌, ◌-◌, ◌/◌, ◌%◌, ◌<◌, ◌≤◌, cond, ltb, suc, List, [], ◌∷◌, length, Option, Some, None, refl, sym, ap, ap₂, ◌∙◌, arith}
 use Rattle.std.specs.Prelude.{slice_get, replicate}
 use Rattle.std.specs.Option.{option_or}
 use Rattle.std.proofs.lemmas.Bool.{cases_eq, cases_lt, cond-false, le-ltb}
 use Rattle.std.proofs.lemmas.Option.{slice_get_within, slice_get-get_or}
 use Rattle.std.proofs.lemmas.List.{length-map, get_or-replicate}
-use Rattle.pm_model.specs.Changes.{Write, placed}
+use Rattle.pm_model.specs.Changes.{placed}
 use Rattle.pud_defs.specs.declared.layout.TheConstants.{FRAME_WORDS, NUMBER_LIMIT}
 use Rattle.pud_defs.specs.declared.space.TheConstants.{FRAME_SLOTS, SLOT_WORDS, SLOT_SERIAL_WORD, SLOT_TYPE_WORD, SLOT_FIELDS_WORD, NEXT_SERIAL_WORD}
 use Rattle.pud_defs.specs.declared.records.Puddle.{Puddle}
@@ -13,10 +13,9 @@ use Rattle.pud_defs.specs.declared.records.Slot.{Slot}
 use Rattle.pud_defs.specs.Types.{map_of}
 use Rattle.pud_defs.specs.Image.{Image}
 use Rattle.pud_defs.specs.Frames.{frame_at, slot_at}
-use Rattle.pud_defs.specs.Headers.{slot_word}
-use Rattle.pud_defs.specs.Replay.{over, overwritten}
-use Rattle.pud_defs.specs.Stored.{Stored, stored_in, word_in_frame, places_of, place_word}
-use Rattle.pud_defs.specs.Graph.{field_count, Graph, next_serial_of, graph_of}
+use Rattle.pud_defs.specs.Replay.{overwritten}
+use Rattle.pud_defs.specs.Stored.{Stored, stored_in, word_in_frame, place_word}
+use Rattle.pud_defs.specs.Graph.{Graph, next_serial_of, graph_of}
 use Rattle.pud_defs.proofs.Graphs.{graph_of-each}
 use Rattle.pud_defs.proofs.Replay.{overwritten-there, overwritten-stays, value_at-there, value_at-apart}
 use Rattle.graph_laws.specs.Changes.{IsMade, blank_object, with_new}
@@ -114,14 +113,14 @@ module _ (types : List (ℕ × ℕ)) (F : ℕ) (at : List (ℕ × Puddle)) (imag
       elim (cases_eq e.0 slot.frame) [
         | inr differs ↦ elim (cases_lt e.0 slot.frame) [ inl low ↦ inl (omega arith) | inr high ↦ inr (omega arith) ]
         | inl same ↦
-          let here : o ≡ p / FRAME_SLOTS = is_placed.frames.each o slot.ordinal e (slot.frame, of.puddle) there of.there same ∙ sym ordinal in
-          elim (cases_lt k (slot_at slot.slot)) [
-            | inl low ↦ inl (omega arith)
-            | inr from ↦ elim (cases_lt k (slot_at slot.slot + SLOT_WORDS)) [
-              | inl within ↦ absurd (other_slot here (omega arith) (omega arith))
-              | inr high ↦ inr (omega arith)
+            let here : o ≡ p / FRAME_SLOTS = is_placed.frames.each o slot.ordinal e (slot.frame, of.puddle) there of.there same ∙ sym ordinal in
+            elim (cases_lt k (slot_at slot.slot)) [
+              | inl low ↦ inl (omega arith)
+              | inr from ↦ elim (cases_lt k (slot_at slot.slot + SLOT_WORDS)) [
+                | inl within ↦ absurd (other_slot here (omega arith) (omega arith))
+                | inr high ↦ inr (omega arith)
+              ]
             ]
-          ]
       ] in
       overwritten-stays (making F first.0 slot serial type_id) image (frame_at F e.0 + k)
       (making-other F first.0 serial type_id slot (frame_at F e.0 + k) apart

@@ -1,12 +1,10 @@
 -- A transaction on the words of a pool is one on the pool.
-use Rattle.std.proofs.Common.{◌≡◌, inl, inr, ℕ, ◌+◌, ◌<◌, ◌≤◌, true, List, [], All, length, Option, Some, None, refl, sym, ap, subst, ◌∙◌, arith}
-use Rattle.std.specs.Prelude.{slice_get}
+use Rattle.std.proofs.Common.{◌≡◌, inl, ℕ, ◌+◌, true, List, [], Option, Some, None, refl, ap, ◌∙◌, arith}
 use Rattle.std.proofs.lemmas.List.Elements.{All-nil}
 use Rattle.pm_model.specs.declared.host.HostFault.{HostFault}
 use Rattle.pm_model.specs.Words.{reads}
 use Rattle.pm_model.specs.Moments.{State}
 use Rattle.pm_model.specs.Changes.{Write}
-use Rattle.pud_defs.specs.declared.layout.TheConstants.{FRAME_WORDS}
 use Rattle.pud_defs.specs.declared.records.Puddle.{Puddle}
 use Rattle.pud_defs.specs.Image.{Image}
 use Rattle.pud_defs.specs.Frames.{frame_at}
@@ -18,7 +16,7 @@ use Rattle.log_store.specs.Store.{OpenLog}
 use Rattle.word_transaction.specs.Ground.{IsGround, IsUndo}
 use Rattle.word_transaction.specs.Running.{IsIdle, nothing, begun, Runs}
 use Rattle.hybrid_tx.specs.Grounds.{pool_mine, pool_ground}
-use Rattle.hybrid_tx.specs.Transactions.{IsSaving, IsOpenOn, Saves, RunsOn}
+use Rattle.hybrid_tx.specs.Transactions.{IsOpenOn, Saves, RunsOn}
 use Rattle.hybrid_tx.proofs.PoolGrounds.{pool_mine-from}
 
 -- images that agree on the pool's own words store the same of it

@@ -1,5 +1,5 @@
 -- A transaction on a pool ends, and what images left meanwhile settle to.
-use Rattle.std.proofs.Common.{◌≡◌, ℕ, ◌+◌, ◌≤◌, true, List, [], Option, Some, None, refl, sym, ap, ◌∙◌, arith}
+use Rattle.std.proofs.Common.{◌≡◌, ℕ, ◌+◌, ◌≤◌, List, Option, Some, None, refl, ap, ◌∙◌}
 use Rattle.pm_model.specs.declared.host.HostFault.{HostFault}
 use Rattle.pm_model.specs.Words.{Words, reads}
 use Rattle.pm_model.proofs.Words.{HasOnly-own}

@@ -1,5 +1,5 @@
 -- The ground of a pool: where addresses lie, which words are its own, and that it is one.
-use Rattle.std.proofs.Common.{◌≡◌, inl, inr, ℕ, zero, suc, ◌+◌, ◌-◌, ◌*◌, ◌/◌, ◌%◌, ◌<◌, ◌≤◌, Bool, true, false, ◌||◌, List, [], ◌∷◌, All, map, length, Option, Some, None, get_or, option_map, refl, sym, ap, subst, ◌∙◌, arith, eqb, leb, ltb, eq-eqb}
+use Rattle.std.proofs.Common.{◌≡◌, inl, inr, ℕ, zero, suc, ◌+◌, ◌-◌, ◌*◌, ◌/◌, ◌%◌, ◌<◌, ◌≤◌, Bool, true, false, ◌||◌, List, [], ◌∷◌, All, map, Option, Some, None, option_map, refl, sym, ap, subst, ◌∙◌, arith, eqb, leb, ltb, eq-eqb}
 use Rattle.std.specs.Prelude.{slice_get}
 use Rattle.std.specs.List.{list_any}
 use Rattle.std.specs.Option.{option_or}
@@ -15,7 +15,7 @@ use Rattle.pud_defs.specs.Places.{word_in}
 use Rattle.pud_defs.specs.Replay.{is_in_log}
 use Rattle.graph_laws.specs.Changes.{AreBases}
 use Rattle.graph_laws.proofs.Pointers.{behind}
-use Rattle.word_transaction.specs.Ground.{Ground, Spans, IsGround}
+use Rattle.word_transaction.specs.Ground.{Spans, IsGround}
 use Rattle.hybrid_tx.specs.Grounds.{word_by, pool_place, has_words, pool_may, is_in_frame, pool_mine, pool_ground, IsPlaced}
 
 -- ---- elements of lists
@@ -35,8 +35,8 @@ any_element test [] any = absurd (let it : false ≡ true = any in cc)
 any_element test (x ∷ xs) any = elim (cases_Bool (test x)) [
   | inl here ↦ record { index = 0; element = x; there = refl; passes = here }
   | inr fails ↦
-    let later = any_element test xs (sym (ap (λ b. b || list_any test xs) fails) ∙ any) in
-    record { index = suc later.index; element = later.element; there = later.there; passes = later.passes }
+      let later = any_element test xs (sym (ap (λ b. b || list_any test xs) fails) ∙ any) in
+      record { index = suc later.index; element = later.element; there = later.there; passes = later.passes }
 ]
 
 pub element_passes : {X : Type 0} (test : X → Bool) (xs : List X) (i : ℕ) (x : X) → slice_get xs i ≡ Some x → test x ≡ true → list_any test xs ≡ true
@@ -54,12 +54,12 @@ module _ (base address : ℕ) (low : base ≤ address) (high : address < base + 
   word_in-other other multiple others apart = elim (cases_Bool (leb other address)) [
     | inr above ↦ cond-false _ _ _ (and_left (leb other address) _ above)
     | inl below ↦
-      let from : other ≤ address = leb-true other address below in
-      let past : other + RANGE_BYTES ≤ address = elim (cases_Bool (ltb address (other + RANGE_BYTES))) [
-        | inl within ↦ absurd (let end = ltb-true address (other + RANGE_BYTES) within in apart (omega arith))
-        | inr behind ↦ grind (arith, Rattle.std.proofs.lemmas.Bool.Decides.nat_tests)
-      ] in
-      cond-false _ _ _ (and_right (leb other address) _ (le-ltb address (other + RANGE_BYTES) past))
+        let from : other ≤ address = leb-true other address below in
+        let past : other + RANGE_BYTES ≤ address = elim (cases_Bool (ltb address (other + RANGE_BYTES))) [
+          | inl within ↦ absurd (let end = ltb-true address (other + RANGE_BYTES) within in apart (omega arith))
+          | inr behind ↦ grind (arith, Rattle.std.proofs.lemmas.Bool.Decides.nat_tests)
+        ] in
+        cond-false _ _ _ (and_right (leb other address) _ (le-ltb address (other + RANGE_BYTES) past))
   ]
 
 abbrev bases_of : List (ℕ × Puddle) → List ℕ

@@ -1,5 +1,5 @@
 -- The ground of a transaction on a pool: its words are those of its puddles' frames, named by global addresses.
-use Rattle.std.specs.Prelude.{◌≡◌, ℕ, ◌+◌, ◌*◌, ◌%◌, Bool, true, ◌&&◌, nat_le, nat_lt, ◌==◌, List, [], ◌∷◌, All, map, Option, Some, None, option_map}
+use Rattle.std.specs.Prelude.{◌≡◌, ℕ, ◌+◌, ◌*◌, ◌%◌, Bool, true, ◌&&◌, nat_le, nat_lt, ◌==◌, List, [], ◌∷◌, All, map, Option, None, option_map}
 use Rattle.std.specs.List.{list_any}
 use Rattle.std.specs.Option.{option_or}
 use Rattle.pud_defs.specs.declared.layout.TheConstants.{FRAME_WORDS}

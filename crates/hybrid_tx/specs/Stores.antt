@@ -1,5 +1,5 @@
 -- Which words are stored for what is set or made.
-use Rattle.std.specs.Prelude.{◌≡◌, ◌⊎◌, ℕ, ◌+◌, ◌-◌, ◌==◌, cond, List, [], ◌∷◌, map, replicate, Option, Some, None, option_map}
+use Rattle.std.specs.Prelude.{◌≡◌, ◌⊎◌, ℕ, ◌+◌, ◌-◌, ◌==◌, cond, List, [], ◌∷◌, map, replicate, Option, Some, option_map}
 use Rattle.pm_model.specs.Changes.{Footprint, Write, placed}
 use Rattle.pud_defs.specs.declared.space.TheConstants.{SLOT_WORDS, SLOT_FIELDS_WORD, NEXT_SERIAL_WORD}
 use Rattle.pud_defs.specs.declared.records.Puddle.{Puddle}

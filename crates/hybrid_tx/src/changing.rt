@@ -29,7 +29,10 @@ use object_alloc::{AllocFault, alloc_slot};
 use pm_model::{Host, HostFault};
 use pud_defs::objects::Val;
 use pud_defs::records::{Puddle, Slot};
-use pud_defs::space::{NEXT_SERIAL_WORD, SLOT_FIELDS_WORD, SLOT_TYPE_WORD, SLOT_SERIAL_WORD, SLOT_WORDS, WORD_BYTES, slot_at};
+use pud_defs::space::{
+    NEXT_SERIAL_WORD, SLOT_FIELDS_WORD, SLOT_SERIAL_WORD, SLOT_TYPE_WORD, SLOT_WORDS, WORD_BYTES,
+    slot_at,
+};
 use puddle_header::next_serial;
 
 /// The address of a slot, over the pool's bases.
@@ -38,7 +41,9 @@ fn slot_address(pool: &[(u32, Puddle)], at: &Slot) -> u64
     ensures address { All (λ e. is_legal_base e.1.base ≡ true) pool.now → result ≡ address_at pool.now (place_at at.now) }
 {
     let (_, puddle) = pool[at.ordinal as usize];
-    puddle.base.wrapping_add((WORD_BYTES * slot_at(at.slot)) as u64)
+    puddle
+        .base
+        .wrapping_add((WORD_BYTES * slot_at(at.slot)) as u64)
 }
 
 /// The word that stands for a value: the number, 0 for null, or the address of the serial's object, None exactly where there
@@ -159,7 +164,14 @@ impl Tx {
         let serial = next_serial(h, frames, first)?;
         let words = new_words(serial, t);
         self.put_in_frame(h, frames, pool, at.ordinal, slot_at(at.slot), &words)?;
-        self.put_in_frame(h, frames, pool, 0, NEXT_SERIAL_WORD, &[serial.wrapping_add(1)])?;
+        self.put_in_frame(
+            h,
+            frames,
+            pool,
+            0,
+            NEXT_SERIAL_WORD,
+            &[serial.wrapping_add(1)],
+        )?;
         Ok(serial)
     }
 

@@ -73,7 +73,7 @@ impl Tx {
         ensures runs { H.tells → (size : ℕ) → size ≡ (H.counts h.old).size → (g : Ground) → (es : List Entry) → (before : Image) → IsGround size self.old.at g
             → g.may address (length vals.now) ≡ true → g.place address ≡ Option.Some first → IsRunning g self.old es before (H.state h.old).now.words
             → Runs g (longer (length vals.now + ENTRY_HEADER_WORDS) self.old) (es ++ undo_entry address (words_from (reads (H.state h.old).now.words) first (length vals.now)) ∷ []) before
-                (placed first vals.now) (fault_of result) (H.state h.old) (H.state h.new) }
+            (placed first vals.now) (fault_of result) (H.state h.old) (H.state h.new) }
         ensures cause { H.counts h.new ≡ after_fault (fault_of result) (H.counts h.old) }
     {
         let _words = h.words();

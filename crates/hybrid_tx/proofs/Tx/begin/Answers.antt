@@ -1,9 +1,6 @@
-use Rattle.std.proofs.Common.{◌≡◌, ℕ, [], None, refl, sym, ap, subst, arith}
+use Rattle.std.proofs.Common.{refl, sym, subst, arith}
 use Rattle.std.proofs.lemmas.Result.{err_from_is_err_and}
 use Rattle.log_store.specs.Store.{OpenLog}
-use Rattle.pud_defs.specs.declared.layout.TheConstants.{LOG_WORDS}
-use Rattle.pud_defs.specs.Layout.{frames_at}
-use Rattle.word_transaction.specs.Running.{IsIdle, nothing, begun, Runs}
 use Rattle.hybrid_tx.specs.Grounds.{pool_ground}
 use Rattle.hybrid_tx.specs.Transactions.{IsOpenOn}
 use Rattle.hybrid_tx.proofs.PoolGrounds.{is_ground}

@@ -1,9 +1,7 @@
-use Rattle.std.proofs.Common.{◌≡◌, ℕ, ◌+◌, ◌%◌, ◌^◌, ◌<◌, length, None, ap, sym, subst, refl, ◌∙◌, arith}
+use Rattle.std.proofs.Common.{None, refl, arith}
 use Rattle.std.proofs.lemmas.Option.{slice_get_within, slice_get-get_or}
 use Rattle.std.proofs.lemmas.Result.{err_from_is_err_and}
 use Rattle.pm_model.specs.Words.{reads}
-use Rattle.pm_model.specs.Counts.{fault_of}
-use Rattle.pm_model.specs.Moments.{State}
 use Rattle.pm_model.proofs.Changes.{Changes-still}
 use Rattle.hybrid_tx.specs.Grounds.{pool_ground}
 use Rattle.hybrid_tx.proofs.FieldPut.{RunsOn-stopped}

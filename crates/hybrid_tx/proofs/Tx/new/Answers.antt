@@ -1,4 +1,4 @@
-use Rattle.std.proofs.Common.{◌≡◌, ℕ, List, None, Some, Err, ap, sym, subst, refl, ◌∙◌}
+use Rattle.std.proofs.Common.{◌≡◌, None, Some, Err, subst, refl}
 use Rattle.pm_model.specs.Words.{reads}
 use Rattle.pm_model.specs.Counts.{fault_of}
 use Rattle.pm_model.specs.Moments.{State}
@@ -23,7 +23,7 @@ returns-in-Ok-clause-runs g c = λ t types m before undone now placed is_open de
     let new = g.H.Host.state c.make.new.h in
     let free = (c.in-Ok.ensures.free t (reads (g.H.Host.state c.args.h.now).now.words) refl).free in
     subst (λ (s : State). IsOpenOn F pool types c.args.self.now before undone now s.now.words → place_word (stored_in F pool (reads s.now.words)).word (place_at c.in-Ok.at) SLOT_SERIAL_WORD ≡ 0
-        → RunsOn F pool types c.make.new.self before undone (with_new (blank_object c.args.t m) now) fault s new)
+    → RunsOn F pool types c.make.new.self before undone (with_new (blank_object c.args.t m) now) fault s new)
     (c.in-Ok.ensures.stays t) (λ still it. c.make.ensures.runs t types m before undone now placed still defined room it) is_open free
 
 pub returns-in-Err-Full-clause-changes : goal.returns-in-Err-Full-clause-changes

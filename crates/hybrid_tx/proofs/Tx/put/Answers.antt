@@ -1,11 +1,10 @@
-use Rattle.std.proofs.Common.{◌≡◌, ◌∷◌, [], ◌++◌, ap, sym, subst, length, ◌∙◌}
+use Rattle.std.proofs.Common.{◌∷◌, [], ◌++◌, ap, sym, subst, length, ◌∙◌}
 use Rattle.std.proofs.lemmas.Result.{err_from_is_err_and}
 use Rattle.pm_model.specs.Words.{reads}
 use Rattle.pm_model.specs.Counts.{Counts, fault_of}
 use Rattle.pm_model.specs.Changes.{placed}
-use Rattle.pud_defs.specs.declared.layout.TheConstants.{ENTRY_HEADER_WORDS}
 use Rattle.pud_defs.specs.Entries.{words_from}
-use Rattle.log_store.specs.Store.{OpenLog, longer}
+use Rattle.log_store.specs.Store.{OpenLog}
 use Rattle.word_transaction.specs.Ground.{IsGround, undo_entry}
 use Rattle.word_transaction.specs.Running.{IsRunning, IsCovered, Runs}
 use Rattle.hybrid_tx.proofs.Putting.{Runs-unput, Runs-put, ByPut-saved, ByPut-written}

@@ -1,15 +1,12 @@
-use Rattle.std.proofs.Common.{◌≡◌, inl, inr, ℕ, ◌+◌, List, Option, Some, None, IfSome, option_map, ap, sym, subst, refl, ◌∙◌, arith}
+use Rattle.std.proofs.Common.{inl, inr, ℕ, ◌+◌, Option, None, IfSome, option_map, ap, sym, subst, refl, ◌∙◌}
 use Rattle.std.proofs.lemmas.Option.{none-some, slice_get_within}
 use Rattle.std.proofs.lemmas.Result.{err_from_is_err_and}
 use Rattle.pm_model.specs.Words.{reads}
 use Rattle.pm_model.specs.Counts.{fault_of}
 use Rattle.pm_model.specs.Moments.{State}
-use Rattle.pm_model.specs.Changes.{Changes}
 use Rattle.pm_model.proofs.Changes.{Changes-still}
 use Rattle.pud_defs.specs.declared.records.Slot.{Slot}
 use Rattle.graph_read.specs.Reading.{place_at, IsSlotOf}
-use Rattle.word_transaction.specs.Running.{ByTransaction}
-use Rattle.hybrid_tx.specs.Grounds.{pool_ground}
 use Rattle.hybrid_tx.proofs.FieldPut.{RunsOn-stopped, no_place, no_value, RunsOn-set}
 use Rattle.hybrid_tx.proofs.Tx.set.Goals as goal
 
