@@ -1,0 +1,9 @@
+pub mod PoolGrounds
+pub mod FieldsSet
+pub mod ObjectsMade
+pub mod Putting
+pub mod Opening
+pub mod InFrames
+pub mod FieldPut
+pub mod ObjectPut
+pub mod PoolEnding

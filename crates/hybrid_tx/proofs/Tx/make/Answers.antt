@@ -1,0 +1,63 @@
+use Rattle.std.proofs.Common.{None, refl, arith}
+use Rattle.std.proofs.lemmas.Option.{slice_get_within, slice_get-get_or}
+use Rattle.std.proofs.lemmas.Result.{err_from_is_err_and}
+use Rattle.pm_model.specs.Words.{reads}
+use Rattle.pm_model.proofs.Changes.{Changes-still}
+use Rattle.hybrid_tx.specs.Grounds.{pool_ground}
+use Rattle.hybrid_tx.proofs.FieldPut.{RunsOn-stopped}
+use Rattle.hybrid_tx.proofs.ObjectPut.{serial_is_next, Changes-made, RunsOn-unput, RunsOn-new}
+use Rattle.hybrid_tx.proofs.Tx.make.Goals as goal
+
+pub returns-in_err-serial-clause-changes : goal.returns-in_err-serial-clause-changes
+returns-in_err-serial-clause-changes g c =
+    let p = err_from_is_err_and c.from_residual.result c.from_residual.ensures.1 in
+    rw (p.1, p.2) (λ t. Changes-still _ _ _ _ c.in_err-serial.ensures.never_cut (c.in_err-serial.ensures.stays t))
+
+pub returns-in_err-serial-clause-runs : goal.returns-in_err-serial-clause-runs
+returns-in_err-serial-clause-runs g c =
+    let p = err_from_is_err_and c.from_residual.result c.from_residual.ensures.1 in
+    rw (p.1, p.2) (λ t types m before undone now placed is_open defined room free.
+    RunsOn-stopped _ _ types c.args.self.now _ before undone now _ _ _ _ refl c.in_err-serial.ensures.never_cut (c.in_err-serial.ensures.stays t) is_open)
+
+pub put_in_frame-requires-clause-there : goal.put_in_frame-requires-clause-there
+put_in_frame-requires-clause-there g c = slice_get_within c.args.pool.now c.args.at.now.ordinal (c.args.at.now.frame, c.requires.within.puddle) c.requires.within.there
+
+pub returns-in_err-put_in_frame-clause-runs : goal.returns-in_err-put_in_frame-clause-runs
+returns-in_err-put_in_frame-clause-runs g c =
+    let p = err_from_is_err_and c.from_residual-in_err-put_in_frame.result c.from_residual-in_err-put_in_frame.ensures.1 in
+    rw (p.1, p.2) (λ t types m before undone now placed is_open defined room free.
+    RunsOn-unput c.args.frames c.args.pool.now types c.args.self.now before undone now _ is_open _ _ _ _ (c.args.at.now.frame, c.requires.within.puddle) _ _ _ _
+    (c.in_ok-serial.ensures.stays t) c.requires.within.there (c.in_err-put_in_frame.ensures.saves t placed))
+
+pub returns-in_err-put_in_frame-2-clause-changes : goal.returns-in_err-put_in_frame-2-clause-changes
+returns-in_err-put_in_frame-2-clause-changes g c =
+    let p = err_from_is_err_and c.from_residual-in_err-put_in_frame-2.result c.from_residual-in_err-put_in_frame-2.ensures.1 in
+    rw (p.1, p.2) (λ t. Changes-made (pool_ground c.args.frames c.args.pool.now) _ _ _ _ _ _ _ (c.in_ok-serial.ensures.stays t) c.in_ok-put_in_frame.ensures.at (c.in_ok-put_in_frame.ensures.changes t) (c.in_err-put_in_frame-2.ensures.changes t))
+
+pub returns-in_err-put_in_frame-2-clause-runs : goal.returns-in_err-put_in_frame-2-clause-runs
+returns-in_err-put_in_frame-2-clause-runs g c =
+    let p = err_from_is_err_and c.from_residual-in_err-put_in_frame-2.result c.from_residual-in_err-put_in_frame-2.ensures.1 in
+    let some = slice_get_within c.args.pool.now c.args.at.now.ordinal (c.args.at.now.frame, c.requires.within.puddle) c.requires.within.there in
+    rw (p.1, p.2) (λ t types m before undone now placed is_open defined room free.
+    RunsOn-new c.args.frames c.args.pool.now types c.args.self.now before undone now (g.H.Host.state c.args.h.now) is_open _ _ _ _ c.args.at.now c.in_ok-serial.serial _ c.args.t m _ _ _ _ _ _
+    placed c.requires.device c.requires.place c.in_ok-put_in_frame.ensures.at c.in_err-put_in_frame-2.ensures.at (c.in_ok-serial.ensures.stays t)
+    (slice_get-get_or c.args.pool.now 0 _ (omega (arith, some))) c.requires.within free (c.in_ok-serial.ensures.word t (reads (g.H.Host.state c.args.h.now).now.words) refl) defined room
+    c.slot_at.ensures c.new_words-words.ensures (c.in_ok-put_in_frame.ensures.saves t placed) refl (c.in_err-put_in_frame-2.ensures.saves t placed))
+
+pub returns-clause-changes : goal.returns-clause-changes
+returns-clause-changes g c = λ t.
+    Changes-made (pool_ground c.args.frames c.args.pool.now) _ _ None _ _ _ _ (c.in_ok-serial.ensures.stays t) c.in_ok-put_in_frame.ensures.at (c.in_ok-put_in_frame.ensures.changes t) (c.in_ok-put_in_frame-2.ensures.changes t)
+
+pub returns-clause-runs : goal.returns-clause-runs
+returns-clause-runs g c = λ t types m before undone now placed is_open defined room free.
+    let some = slice_get_within c.args.pool.now c.args.at.now.ordinal (c.args.at.now.frame, c.requires.within.puddle) c.requires.within.there in
+    RunsOn-new c.args.frames c.args.pool.now types c.args.self.now before undone now (g.H.Host.state c.args.h.now) is_open _ _ _ _ c.args.at.now c.in_ok-serial.serial _ c.args.t m _ _ None _ _ _
+    placed c.requires.device c.requires.place c.in_ok-put_in_frame.ensures.at c.in_ok-put_in_frame-2.ensures.at (c.in_ok-serial.ensures.stays t)
+    (slice_get-get_or c.args.pool.now 0 _ (omega (arith, some))) c.requires.within free (c.in_ok-serial.ensures.word t (reads (g.H.Host.state c.args.h.now).now.words) refl) defined room
+    c.slot_at.ensures c.new_words-words.ensures (c.in_ok-put_in_frame.ensures.saves t placed) refl (c.in_ok-put_in_frame-2.ensures.saves t placed)
+
+pub returns-clause-serial : goal.returns-clause-serial
+returns-clause-serial g c = λ t types now is.
+    let some = slice_get_within c.args.pool.now c.args.at.now.ordinal (c.args.at.now.frame, c.requires.within.puddle) c.requires.within.there in
+    let image = reads (g.H.Host.state c.args.h.now).now.words in
+    serial_is_next c.args.frames c.args.pool.now types image _ (slice_get-get_or c.args.pool.now 0 _ (omega (arith, some))) c.in_ok-serial.serial (c.in_ok-serial.ensures.word t image refl) now is

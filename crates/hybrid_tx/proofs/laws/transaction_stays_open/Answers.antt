@@ -1,0 +1,5 @@
+use Rattle.hybrid_tx.proofs.Opening.{RunsOn-open}
+use Rattle.hybrid_tx.proofs.laws.transaction_stays_open.Goals as goal
+
+pub returns : goal.returns
+returns c = RunsOn-open

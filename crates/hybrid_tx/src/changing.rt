@@ -1,0 +1,215 @@
+//! What a transaction changes of objects: a field is set, and an object is made.
+#![tactic(auto)]
+
+ghost use Rattle.std.specs.Prelude.{◌≡◌, ◌≢◌, ◌⊎◌, ◌+◌, ◌*◌, ◌<◌, ◌≤◌, ℕ, List, true, All, Option, Result, IfOk, OnErr, length};
+ghost use Rattle.pm_model.specs.Words.{reads};
+ghost use Rattle.pm_model.specs.Counts.{after_fault, fault_of};
+ghost use Rattle.pm_model.specs.Changes.{Changes};
+ghost use Rattle.pud_defs.specs.declared.layout.TheConstants.{LOG_WORDS, LOG_ENTRY_WORDS, MAX_FRAMES, MAX_FIELDS, NUMBER_LIMIT};
+ghost use Rattle.pud_defs.specs.declared.space.TheConstants.{SLOT_SERIAL_WORD};
+ghost use Rattle.pud_defs.specs.Image.{Image};
+ghost use Rattle.pud_defs.specs.Layout.{device_words, frames_at};
+ghost use Rattle.pud_defs.specs.Bases.{is_legal_base};
+ghost use Rattle.pud_defs.specs.Types.{map_of};
+ghost use Rattle.pud_defs.specs.Stored.{IsOnDevice, stored_in, place_word};
+ghost use Rattle.pud_defs.specs.Graph.{Graph, graph_of};
+ghost use Rattle.log_store.specs.Store.{longer};
+ghost use Rattle.graph_laws.specs.Changes.{with_field, with_new, blank_object};
+ghost use Rattle.graph_laws.specs.Slots.{AreAllLive, IsLowestFreeSlot};
+ghost use Rattle.graph_read.specs.Reading.{place_at, place_in_pool, IsSlotOf};
+ghost use Rattle.word_transaction.specs.Running.{ByTransaction};
+ghost use Rattle.hybrid_tx.specs.declared.TheConstants.{SET_UNITS, NEW_UNITS};
+ghost use Rattle.hybrid_tx.specs.Grounds.{pool_ground, IsPlaced, IsRewritten};
+ghost use Rattle.hybrid_tx.specs.Stores.{address_at, word_for, new_words};
+ghost use Rattle.hybrid_tx.specs.Transactions.{MaySet, IsOpenOn, RunsOn};
+
+use crate::Tx;
+use graph_read::find_serial;
+use object_alloc::{AllocFault, alloc_slot};
+use pm_model::{Host, HostFault};
+use pud_defs::objects::Val;
+use pud_defs::records::{Puddle, Slot};
+use pud_defs::space::{
+    NEXT_SERIAL_WORD, SLOT_FIELDS_WORD, SLOT_SERIAL_WORD, SLOT_TYPE_WORD, SLOT_WORDS, WORD_BYTES,
+    slot_at,
+};
+use puddle_header::next_serial;
+
+/// The address of a slot, over the pool's bases.
+fn slot_address(pool: &[(u32, Puddle)], at: &Slot) -> u64
+    requires within { IsSlotOf pool.now at.now }
+    ensures address { All (λ e. is_legal_base e.1.base ≡ true) pool.now → result ≡ address_at pool.now (place_at at.now) }
+{
+    let (_, puddle) = pool[at.ordinal as usize];
+    puddle
+        .base
+        .wrapping_add((WORD_BYTES * slot_at(at.slot)) as u64)
+}
+
+/// The word that stands for a value: the number, 0 for null, or the address of the serial's object, None exactly where there
+/// is none.
+fn word_for<H: Host>(
+    h: &mut H,
+    frames: u32,
+    pool: &[(u32, Puddle)],
+    x: Val,
+) -> Result<Option<u64>, HostFault>
+    requires few { frames ≤ MAX_FRAMES }
+    requires room { device_words frames ≤ (H.counts h.old).size }
+    requires known { IsOnDevice frames pool.now }
+    ensures word { H.tells → All (λ e. is_legal_base e.1.base ≡ true) pool.now → (image : Image) → reads (H.state h.old).now.words ≡ image
+        → IfOk result (λ word. word ≡ word_for frames pool.now image x) }
+    ensures stays { H.tells → H.state h.new ≡ H.state h.old }
+    ensures cause { H.counts h.new ≡ after_fault (fault_of result) (H.counts h.old) }
+    ensures never_cut { fault_of result ≢ Option.Some HostFault.Cut }
+{
+    match x {
+        Val::Num(v) => Ok(Some(v)),
+        Val::Ref(r) => {
+            if r == 0 {
+                return Ok(Some(0));
+            }
+            match find_serial(h, frames, pool, r)? {
+                Some(at) => Ok(Some(slot_address(pool, &at))),
+                None => Ok(None),
+            }
+        }
+    }
+}
+
+/// The words of a slot that holds a new object of type `t`: its serial, its type, and 0 in each field.
+#[tactic(auto, unfolding(crate::specs::Stores::new_words))]
+fn new_words(serial: u64, t: u32) -> [u64; SLOT_WORDS as usize]
+    ensures { result ≡ new_words serial t }
+{
+    let mut words = [0u64; SLOT_WORDS as usize];
+    words[SLOT_SERIAL_WORD as usize] = serial;
+    words[SLOT_TYPE_WORD as usize] = t as u64;
+    words
+}
+
+impl Tx {
+    /// Gives field `f` of the object of serial `s` another value.
+    ///
+    /// The field is below 30, the log lies before the frames, and it has room for three units. Where the object is live, its
+    /// type has the field and the field may hold the value, the pool's graph has it so at `Ok`; each image left until the
+    /// transaction is committed is, with the log replayed, as at the beginning. Where no object has the serial, or none has
+    /// the one that is to be named, nothing is done. The only errors are the host's own. Two fences.
+    pub fn set<H: Host>(
+        &mut self,
+        h: &mut H,
+        frames: u32,
+        pool: &[(u32, Puddle)],
+        s: u64,
+        f: u32,
+        x: Val,
+    ) -> Result<(), HostFault>
+        requires few { frames ≤ MAX_FRAMES }
+        requires device { device_words frames ≤ (H.counts h.old).size }
+        requires known { IsOnDevice frames pool.now }
+        requires place { self.old.at + LOG_WORDS ≤ frames_at frames }
+        requires field { f < MAX_FIELDS }
+        requires room { self.old.used + SET_UNITS ≤ LOG_ENTRY_WORDS }
+        ensures at { self.new.at ≡ self.old.at }
+        ensures changes { H.tells → Changes (ByTransaction (pool_ground frames pool.now) self.old.at) (fault_of result) (H.state h.old) (H.state h.new) }
+        ensures runs { H.tells → (types : List (ℕ × ℕ)) (before : Image) (undone : Graph) (now : Graph) → IsPlaced frames pool.now → IsRewritten pool.now
+            → IsOpenOn frames pool.now types self.old before undone now (H.state h.old).now.words → MaySet types now s f x
+            → RunsOn frames pool.now types self.new before undone (with_field s f x now) (fault_of result) (H.state h.old) (H.state h.new) }
+        ensures counts { H.tells → (types : List (ℕ × ℕ)) (before : Image) (undone : Graph) (now : Graph) → IsPlaced frames pool.now
+            → IsOpenOn frames pool.now types self.old before undone now (H.state h.old).now.words → MaySet types now s f x
+            → IfOk result (λ _. self.new ≡ longer SET_UNITS self.old) }
+        ensures nothing { H.tells → All (λ e. is_legal_base e.1.base ≡ true) pool.now
+            → (place_in_pool frames pool.now (reads (H.state h.old).now.words) s ≡ Option.None) ⊎ (word_for frames pool.now (reads (H.state h.old).now.words) x ≡ Option.None)
+            → (H.state h.new ≡ H.state h.old) × (self.new ≡ self.old) }
+        ensures cause { H.counts h.new ≡ after_fault (fault_of result) (H.counts h.old) }
+    {
+        let found = find_serial(h, frames, pool, s)?;
+        let word = word_for(h, frames, pool, x)?;
+        match (found, word) {
+            (Some(at), Some(v)) => {
+                let field = slot_at(at.slot) + SLOT_FIELDS_WORD + f;
+                self.put_in_frame(h, frames, pool, at.ordinal, field, &[v])
+            }
+            _ => Ok(()),
+        }
+    }
+
+    /// Makes an object of type `t` in a slot, under the next serial, and counts that one up. The answer is the serial.
+    fn make<H: Host>(
+        &mut self,
+        h: &mut H,
+        frames: u32,
+        pool: &[(u32, Puddle)],
+        at: &Slot,
+        t: u32,
+    ) -> Result<u64, HostFault>
+        requires few { frames ≤ MAX_FRAMES }
+        requires device { device_words frames ≤ (H.counts h.old).size }
+        requires known { IsOnDevice frames pool.now }
+        requires place { self.old.at + LOG_WORDS ≤ frames_at frames }
+        requires within { IsSlotOf pool.now at.now }
+        requires room { self.old.used + NEW_UNITS ≤ LOG_ENTRY_WORDS }
+        ensures at { self.new.at ≡ self.old.at }
+        ensures changes { H.tells → Changes (ByTransaction (pool_ground frames pool.now) self.old.at) (fault_of result) (H.state h.old) (H.state h.new) }
+        ensures runs { H.tells → (types : List (ℕ × ℕ)) (m : ℕ) (before : Image) (undone : Graph) (now : Graph) → IsPlaced frames pool.now
+            → IsOpenOn frames pool.now types self.old before undone now (H.state h.old).now.words → map_of t types ≡ Option.Some m → now.next_serial < NUMBER_LIMIT
+            → place_word (stored_in frames pool.now (reads (H.state h.old).now.words)).word (place_at at.now) SLOT_SERIAL_WORD ≡ 0
+            → RunsOn frames pool.now types self.new before undone (with_new (blank_object t m) now) (fault_of result) (H.state h.old) (H.state h.new) }
+        ensures serial { H.tells → (types : List (ℕ × ℕ)) (now : Graph) → graph_of types (stored_in frames pool.now (reads (H.state h.old).now.words)) ≡ Option.Some now
+            → IfOk result (λ serial. serial ≡ now.next_serial) }
+        ensures counts { IfOk result (λ _. self.new ≡ longer NEW_UNITS self.old) }
+        ensures cause { H.counts h.new ≡ after_fault (fault_of result) (H.counts h.old) }
+    {
+        let (first, _) = pool[0];
+        let serial = next_serial(h, frames, first)?;
+        let words = new_words(serial, t);
+        self.put_in_frame(h, frames, pool, at.ordinal, slot_at(at.slot), &words)?;
+        self.put_in_frame(
+            h,
+            frames,
+            pool,
+            0,
+            NEXT_SERIAL_WORD,
+            &[serial.wrapping_add(1)],
+        )?;
+        Ok(serial)
+    }
+
+    /// Makes an object of type `t` in the lowest free slot, each of its fields 0 or null. The answer is its serial, the next
+    /// one of the pool, or 0 where no slot is free, and then nothing is done.
+    ///
+    /// The log lies before the frames, and has room for 37 units. Where the type is defined and the next serial is below 2^63,
+    /// the pool's graph has the object at `Ok`; each image left until the transaction is committed is, with the log replayed,
+    /// as at the beginning. The only errors are the host's own. Four fences.
+    pub fn new<H: Host>(
+        &mut self,
+        h: &mut H,
+        frames: u32,
+        pool: &[(u32, Puddle)],
+        t: u32,
+    ) -> Result<u64, HostFault>
+        requires few { frames ≤ MAX_FRAMES }
+        requires device { device_words frames ≤ (H.counts h.old).size }
+        requires known { IsOnDevice frames pool.now }
+        requires place { self.old.at + LOG_WORDS ≤ frames_at frames }
+        requires room { self.old.used + NEW_UNITS ≤ LOG_ENTRY_WORDS }
+        ensures at { self.new.at ≡ self.old.at }
+        ensures changes { H.tells → Changes (ByTransaction (pool_ground frames pool.now) self.old.at) (fault_of result) (H.state h.old) (H.state h.new) }
+        ensures runs { H.tells → (types : List (ℕ × ℕ)) (m : ℕ) (before : Image) (undone : Graph) (now : Graph) → IsPlaced frames pool.now
+            → IsOpenOn frames pool.now types self.old before undone now (H.state h.old).now.words → map_of t types ≡ Option.Some m → now.next_serial < NUMBER_LIMIT
+            → (AreAllLive (stored_in frames pool.now (reads (H.state h.old).now.words)) → ⊥)
+            → RunsOn frames pool.now types self.new before undone (with_new (blank_object t m) now) (fault_of result) (H.state h.old) (H.state h.new) }
+        ensures serial { H.tells → (types : List (ℕ × ℕ)) (now : Graph) → graph_of types (stored_in frames pool.now (reads (H.state h.old).now.words)) ≡ Option.Some now
+            → (AreAllLive (stored_in frames pool.now (reads (H.state h.old).now.words)) → ⊥) → IfOk result (λ serial. serial ≡ now.next_serial) }
+        ensures counts { H.tells → (AreAllLive (stored_in frames pool.now (reads (H.state h.old).now.words)) → ⊥) → IfOk result (λ _. self.new ≡ longer NEW_UNITS self.old) }
+        ensures full { H.tells → AreAllLive (stored_in frames pool.now (reads (H.state h.old).now.words))
+            → IfOk result (λ serial. serial ≡ 0) × (H.state h.new ≡ H.state h.old) × (self.new ≡ self.old) }
+        ensures cause { H.counts h.new ≡ after_fault (fault_of result) (H.counts h.old) }
+    {
+        match alloc_slot(h, frames, pool) {
+            Ok(at) => self.make(h, frames, pool, &at, t),
+            Err(AllocFault::Full) => Ok(0),
+            Err(AllocFault::Host(fault)) => Err(fault),
+        }
+    }
+}

@@ -1,0 +1,73 @@
+//! The laws. Each function here does nothing; its contract is the law.
+
+ghost use Rattle.std.specs.Prelude.{◌≡◌, ◌+◌, ◌*◌, ◌<◌, ◌≤◌, ℕ, List, [], ◌∷◌, slice_get, Option};
+ghost use Rattle.pm_model.specs.Moments.{State};
+ghost use Rattle.pm_model.specs.Changes.{placed};
+ghost use Rattle.pud_defs.specs.declared.layout.TheConstants.{LOG_WORDS, NUMBER_LIMIT};
+ghost use Rattle.pud_defs.specs.declared.space.TheConstants.{SLOT_SERIAL_WORD};
+ghost use Rattle.pud_defs.specs.declared.records.Puddle.{Puddle};
+ghost use Rattle.pud_defs.specs.declared.records.Slot.{Slot};
+ghost use Rattle.pud_defs.specs.declared.objects.Val.{Val};
+ghost use Rattle.pud_defs.specs.Layout.{device_words, frames_at};
+ghost use Rattle.pud_defs.specs.Types.{map_of};
+ghost use Rattle.pud_defs.specs.Image.{Image};
+ghost use Rattle.pud_defs.specs.Entries.{log_of};
+ghost use Rattle.pud_defs.specs.Frames.{frame_at};
+ghost use Rattle.pud_defs.specs.Replay.{overwritten, replayed};
+ghost use Rattle.pud_defs.specs.Stored.{stored_in, place_word};
+ghost use Rattle.pud_defs.specs.Graph.{Graph, graph_of, next_serial_of};
+ghost use Rattle.graph_laws.specs.Changes.{with_field, with_new, blank_object};
+ghost use Rattle.graph_read.specs.Reading.{place_in_pool, place_at, IsSlotOf};
+ghost use Rattle.log_store.specs.Store.{OpenLog};
+ghost use Rattle.word_transaction.specs.Ground.{IsGround};
+ghost use Rattle.word_transaction.specs.Running.{SettlesTo};
+ghost use Rattle.hybrid_tx.specs.Grounds.{pool_place, pool_ground, IsPlaced, IsRewritten};
+ghost use Rattle.hybrid_tx.specs.Stores.{word_for, field_word, making};
+ghost use Rattle.hybrid_tx.specs.Transactions.{MaySet, IsOpenOn, IsAtRest, RunsOn, ClosesOn, EndsOn};
+
+/// What the addresses of a pool's ranges name are words of its frames, none of which is one of a log before all frames.
+pub fn pools_are_grounds()
+    ensures { (frames : ℕ) (size : ℕ) (log : ℕ) (at : List (ℕ × Puddle)) → IsPlaced frames at → device_words frames ≤ size → log + LOG_WORDS ≤ frames_at frames
+        → IsGround size log (pool_ground frames at) }
+{}
+
+/// A field in whose word is stored what stands for a value has this value.
+pub fn stored_word_sets_the_field()
+    ensures { (types : List (ℕ × ℕ)) (frames : ℕ) (at : List (ℕ × Puddle)) (image : Image) (g : Graph) → graph_of types (stored_in frames at image) ≡ Option.Some g
+        → IsPlaced frames at → IsRewritten at → (s : ℕ) (f : ℕ) (slot : Slot) → IsSlotOf at slot → place_in_pool frames at image s ≡ Option.Some (place_at slot)
+        → (x : Val) (v : ℕ) → MaySet types g s f x → word_for frames at image x ≡ Option.Some v
+        → graph_of types (stored_in frames at (overwritten (placed (frame_at frames slot.frame + field_word slot.slot f) (v ∷ [])) image)) ≡ Option.Some (with_field s f x g) }
+{}
+
+/// A free slot that is filled under the next serial, which then is one more, is a new object.
+pub fn stored_words_make_the_object()
+    ensures { (types : List (ℕ × ℕ)) (frames : ℕ) (at : List (ℕ × Puddle)) (image : Image) → IsPlaced frames at → (first : ℕ × Puddle) → slice_get at 0 ≡ Option.Some first
+        → (slot : Slot) → IsSlotOf at slot → (serial : ℕ) (id : ℕ) (m : ℕ) → place_word (stored_in frames at image).word (place_at slot) SLOT_SERIAL_WORD ≡ 0
+        → serial ≡ next_serial_of (stored_in frames at image) → map_of id types ≡ Option.Some m
+        → (g : Graph) → graph_of types (stored_in frames at image) ≡ Option.Some g → g.next_serial < NUMBER_LIMIT
+        → graph_of types (stored_in frames at (overwritten (making frames first.0 slot serial id) image)) ≡ Option.Some (with_new (blank_object id m) g) }
+{}
+
+/// Behind a call within a transaction on a pool that did not fail one is open, on the next graph.
+pub fn transaction_stays_open()
+    ensures { (frames : ℕ) (at : List (ℕ × Puddle)) (types : List (ℕ × ℕ)) (log : OpenLog) (before : Image) (undone : Graph) (next : Graph) (old : State) (new : State)
+        → RunsOn frames at types log before undone next Option.None old new → IsOpenOn frames at types log before undone next new.now.words }
+{}
+
+/// With the log replayed an image has the graph of the words that it settles to.
+pub fn settled_pool_has_the_graph()
+    ensures { (frames : ℕ) (at : List (ℕ × Puddle)) (types : List (ℕ × ℕ)) (log : ℕ) (values : Image) (image : Image) (g : Graph) → SettlesTo (pool_ground frames at) log values image
+        → graph_of types (stored_in frames at values) ≡ Option.Some g → graph_of types (stored_in frames at (replayed (pool_place frames at) (log_of image log) image)) ≡ Option.Some g }
+{}
+
+/// Where a transaction was committed none is open any more, and the pool has the new graph.
+pub fn committed_pool_is_at_rest()
+    ensures { (frames : ℕ) (at : List (ℕ × Puddle)) (types : List (ℕ × ℕ)) (log : ℕ) (before : Image) (undone : Graph) (next : Graph) (old : State) (new : State)
+        → EndsOn frames at types log before undone next Option.None old new → IsAtRest frames at types log next new.now.words }
+{}
+
+/// Where a transaction was undone none is open any more, and the pool has the graph from the beginning.
+pub fn undone_pool_is_at_rest()
+    ensures { (frames : ℕ) (at : List (ℕ × Puddle)) (types : List (ℕ × ℕ)) (log : ℕ) (before : Image) (undone : Graph) (old : State) (new : State)
+        → ClosesOn frames at types log before undone Option.None old new → IsAtRest frames at types log undone new.now.words }
+{}
