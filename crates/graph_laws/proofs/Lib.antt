@@ -11,5 +11,6 @@ pub mod Unread
 pub mod Grown
 pub mod Rewritten
 pub mod Places
+pub mod LiveSlots
 pub mod ExamplesGraphs
 pub mod StoredImages

@@ -45,7 +45,7 @@ first_found : (o later : Option ℕ) (p : ℕ) → o ≡ Some p → option_or o 
 first_found o later p is = ap (λ v. option_or v later) is
 
 -- behind the first base there are bases too
-behind : (base : ℕ) (bases : List ℕ) → AreBases (base ∷ bases) → AreBases bases
+pub behind : (base : ℕ) (bases : List ℕ) → AreBases (base ∷ bases) → AreBases bases
 behind base bases h = record {
   multiples = λ i b is. h.multiples (suc i) b is;
   distinct = λ i j b is also. let same = h.distinct (suc i) (suc j) b is also in omega arith;

@@ -1,3 +1,4 @@
 pub mod Changes
 pub mod Reads
+pub mod Slots
 pub mod Rewriting

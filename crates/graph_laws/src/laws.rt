@@ -1,6 +1,6 @@
 //! The laws. Each function here does nothing; its contract is the law.
 
-ghost use Rattle.std.specs.Prelude.{◌≡◌, ◌+◌, ◌*◌, ◌/◌, ◌%◌, ◌<◌, ◌≤◌, ℕ, true, false, List, map, slice_get, slice_index, Option, option_map};
+ghost use Rattle.std.specs.Prelude.{◌≡◌, ◌↔◌, ◌+◌, ◌*◌, ◌/◌, ◌%◌, ◌<◌, ◌≤◌, ℕ, true, false, List, length, map, slice_get, slice_index, Option, option_map};
 ghost use Rattle.pud_defs.specs.declared.layout.TheConstants.{FRAME_WORDS, NUMBER_LIMIT};
 ghost use Rattle.pud_defs.specs.declared.space.TheConstants.{FRAME_SLOTS, FRAME_HEADER_WORDS, FRAME_ORDINAL_WORD, ROOT_WORD, SLOT_WORDS, SLOT_SERIAL_WORD, SLOT_TYPE_WORD, SLOT_FIELDS_WORD};
 ghost use Rattle.pud_defs.specs.declared.records.Puddle.{Puddle};
@@ -13,12 +13,23 @@ ghost use Rattle.pud_defs.specs.Stored.{Stored, stored_in, places_of, place_word
 ghost use Rattle.pud_defs.specs.Graph.{Graph, table_of, place_of, object_at, field_count, object_in, next_serial_of, is_held, graph_of, empty_graph};
 ghost use Rattle.graph_laws.specs.Changes.{with_word, with_words, with_slot_word, with_field_word, with_serial_word, with_root_word, AreBases, IsAddress, IsField, IsMade, blank_object, with_field, with_new, without_object, with_root};
 ghost use Rattle.graph_laws.specs.Reads.{ReadsSame, with_puddle, alone, IsGrown, AgreeOnFrames, HasDistinctFrames};
+ghost use Rattle.graph_laws.specs.Slots.{AreAllLive};
 ghost use Rattle.graph_laws.specs.Rewriting.{rewritten, stepped, RewritesSlot};
 
 /// The object of a serial is what stands at the place of the serial.
 pub fn object_stands_at_the_place_of_its_serial()
     ensures { (types : List (ℕ × ℕ)) (st : Stored) (g : Graph) (s : ℕ) → graph_of types st ≡ Option.Some g
         → object_in s g ≡ option_map (object_at (table_of types st)) (place_of s (table_of types st) (places_of st)) }
+{}
+
+/// Each slot is live exactly where there are as many objects as slots.
+pub fn all_slots_are_live_with_as_many_objects()
+    ensures { (types : List (ℕ × ℕ)) (st : Stored) (g : Graph) → graph_of types st ≡ Option.Some g → AreAllLive st ↔ (length g.objects ≡ places_of st) }
+{}
+
+/// There are no more objects than slots.
+pub fn objects_are_no_more_than_slots()
+    ensures { (types : List (ℕ × ℕ)) (st : Stored) (g : Graph) → graph_of types st ≡ Option.Some g → length g.objects ≤ places_of st }
 {}
 
 /// A word that is stored in a number field is its value.

@@ -19,7 +19,7 @@ use pud_defs::space::FRAME_SLOTS;
 use puddle_header::slot_serial;
 
 /// The slot at a place.
-pub(crate) fn slot_at_place(pool: &[(u32, Puddle)], place: u32) -> Slot
+pub fn slot_at_place(pool: &[(u32, Puddle)], place: u32) -> Slot
     requires { place < places_in pool.now }
     ensures place { place_at result ≡ place }
     ensures within { IsSlotOf pool.now result }
@@ -33,8 +33,8 @@ pub(crate) fn slot_at_place(pool: &[(u32, Puddle)], place: u32) -> Slot
     }
 }
 
-/// The serial at a place, 0 where the place is free.
-pub(crate) fn serial_at<H: Host>(
+/// The serial at a place, 0 where the place is free. One word is read.
+pub fn serial_at<H: Host>(
     h: &mut H,
     frames: u32,
     pool: &[(u32, Puddle)],

@@ -1,0 +1,2 @@
+mod Searched
+mod Freed

@@ -1,2 +1,113 @@
 //! Slots of a pool's puddles: the lowest free one, and freeing one.
+//!
+//! Each call takes the number of the device's frames, at most 1,024, on a device that has the words which so many frames
+//! need. It answers on every content of the device.
 #![tactic(auto)]
+
+ghost use Rattle.std.specs.Prelude.{◌≡◌, ◌≢◌, ◌↔◌, ◌<◌, ◌≤◌, ℕ, Option, Result, IfOk, IfSome, IfNone};
+ghost use Rattle.pm_model.specs.Words.{Image, reads};
+ghost use Rattle.pm_model.specs.Counts.{after_fault, fault_of};
+ghost use Rattle.pm_model.specs.Changes.{only, Writes};
+ghost use Rattle.pud_defs.specs.Layout.{device_words};
+ghost use Rattle.pud_defs.specs.Stored.{IsOnDevice, stored_in};
+ghost use Rattle.graph_laws.specs.Slots.{AreAllLive, IsLowestFreeSlot};
+ghost use Rattle.graph_read.specs.Reading.{places_in, place_at, IsSlotOf};
+ghost use Rattle.object_alloc.specs.Alloc.{alloc_fault, serial_word_at};
+
+use graph_read::{serial_at, slot_at_place};
+use pm_model::{Host, HostFault};
+use pm_persist::write_range;
+use pud_defs::layout::MAX_FRAMES;
+use pud_defs::records::{Puddle, Slot};
+use pud_defs::space::{FRAME_SLOTS, SLOT_SERIAL_WORD, frame_at, slot_at};
+
+/// Why no slot was found. Nothing changed.
+#[derive(Clone, Copy, Debug, PartialEq, Eq, thiserror::Error)]
+pub enum AllocFault {
+    /// Every slot is live.
+    #[error("every slot is live")]
+    Full,
+    /// The host's own fault.
+    #[error("the host failed")]
+    Host(HostFault),
+}
+
+impl From<HostFault> for AllocFault {
+    ghost use Rattle.object_alloc.specs.declared.AllocFault.TheVariants.{Host};
+
+    ghost from_gives = { λ fault e. e ≡ Host fault };
+
+    fn from(fault: HostFault) -> Self {
+        AllocFault::Host(fault)
+    }
+}
+
+/// The lowest free place of the pool, or None where every place is live.
+fn free_place<H: Host>(
+    h: &mut H,
+    frames: u32,
+    pool: &[(u32, Puddle)],
+) -> Result<Option<u32>, HostFault>
+    requires few { frames ≤ MAX_FRAMES }
+    requires room { device_words frames ≤ (H.counts h.old).size }
+    requires known { IsOnDevice frames pool.now }
+    ensures free { H.tells → (image : Image) → reads (H.state h.old).now.words ≡ image
+        → IfOk result (λ found. IfSome found (IsLowestFreeSlot (stored_in frames pool.now image))) }
+    ensures full { H.tells → (image : Image) → reads (H.state h.old).now.words ≡ image
+        → IfOk result (λ found. IfNone found (AreAllLive (stored_in frames pool.now image))) }
+    ensures within { IfOk result (λ found. IfSome found (λ place. place < places_in pool.now)) }
+    ensures stays { H.tells → H.state h.new ≡ H.state h.old }
+    ensures cause { H.counts h.new ≡ after_fault (fault_of result) (H.counts h.old) }
+    ensures never_cut { fault_of result ≢ Option.Some HostFault.Cut }
+{
+    for place in 0..FRAME_SLOTS * pool.len() as u32 {
+        if serial_at(h, frames, pool, place)? == 0 {
+            return Ok(Some(place));
+        }
+    }
+    Ok(None)
+}
+
+/// The lowest free slot of the lowest ordinal of a pool, which is given by the frames and the records of its puddles by
+/// their ordinals, at most 16.
+///
+/// `Full` comes exactly where every slot of these puddles is live, where the host does not fail first. The slots are read in
+/// turn, one word each, up to the first that is free.
+pub fn alloc_slot<H: Host>(
+    h: &mut H,
+    frames: u32,
+    pool: &[(u32, Puddle)],
+) -> Result<Slot, AllocFault>
+    requires few { frames ≤ MAX_FRAMES }
+    requires room { device_words frames ≤ (H.counts h.old).size }
+    requires known { IsOnDevice frames pool.now }
+    ensures free { H.tells → (image : Image) → reads (H.state h.old).now.words ≡ image
+        → IfOk result (λ slot. IsLowestFreeSlot (stored_in frames pool.now image) (place_at slot)) }
+    ensures full { H.tells → (image : Image) → reads (H.state h.old).now.words ≡ image → alloc_fault result ≡ Option.None
+        → (result ≡ Result.Err AllocFault.Full) ↔ AreAllLive (stored_in frames pool.now image) }
+    ensures within { IfOk result (IsSlotOf pool.now) }
+    ensures stays { H.tells → H.state h.new ≡ H.state h.old }
+    ensures cause { H.counts h.new ≡ after_fault (alloc_fault result) (H.counts h.old) }
+    ensures never_cut { alloc_fault result ≢ Option.Some HostFault.Cut }
+{
+    match free_place(h, frames, pool)? {
+        Some(place) => Ok(slot_at_place(pool, place)),
+        None => Err(AllocFault::Full),
+    }
+}
+
+/// Frees a slot: its serial word becomes 0 and is marked, so that it is durable after the next fence. No other word is
+/// written.
+///
+/// The slot lies in a frame of the device. The only errors are the host's own. Two device steps, no fence.
+pub fn free_slot<H: Host>(h: &mut H, frames: u32, slot: Slot) -> Result<(), HostFault>
+    requires few { frames ≤ MAX_FRAMES }
+    requires room { device_words frames ≤ (H.counts h.old).size }
+    requires known { slot.frame < frames }
+    requires within { slot.slot < FRAME_SLOTS }
+    ensures writes { H.tells → Writes (only (serial_word_at frames slot) 0) (fault_of result) (H.state h.old) (H.state h.new) }
+    ensures cause { H.counts h.new ≡ after_fault (fault_of result) (H.counts h.old) }
+{
+    let at = frame_at(frames, slot.frame) + slot_at(slot.slot) + SLOT_SERIAL_WORD;
+    write_range(h, at, &[0])
+}

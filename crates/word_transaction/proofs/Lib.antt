@@ -1,0 +1,10 @@
+pub mod Saved
+pub mod Images
+pub mod Calls
+pub mod Beginning
+pub mod Saving
+pub mod Writing
+pub mod Settling
+pub mod Committed
+pub mod Undone
+pub mod Ended

@@ -11,8 +11,9 @@ pub record Ground : Type 0 where
   pub may : (address count : ℕ) → Bool
   pub mine : ℕ → Bool
 
--- so many words from that of an address on lie in the device, and are the transaction's own
+-- so many words from that of an address on, one at least, lie in the device, and are the transaction's own
 pub record Spans (size : ℕ) (g : Ground) (address count : ℕ) : Type 0 where
+  pub some : 1 ≤ count
   pub first : ℕ
   pub placed : g.place address ≡ Some first
   pub within : first + count ≤ size

@@ -1,15 +1,17 @@
 -- When a transaction on words is open, what each call of it does at every moment, and how it ends.
-use Rattle.std.specs.Prelude.{◌≡◌, ◌⊎◌, ℕ, Bool, true, false, List, [], All, length, Option, Some, None}
+use Rattle.std.specs.Prelude.{◌≡◌, ◌⊎◌, ℕ, true, false, List, [], All, Option, Some, None}
 use Rattle.pm_model.specs.declared.host.HostFault.{HostFault}
 use Rattle.pm_model.specs.Words.{Has, values, Words, reads, HasOnly}
 use Rattle.pm_model.specs.Moments.{State}
 use Rattle.pm_model.specs.Changes.{Footprint, Write, Changes, Leaves, Silently}
-use Rattle.pud_defs.specs.declared.log_words.TheConstants.{RUNNING_LO, RUNNING_HI, CLOSED_GATE}
+use Rattle.pud_defs.specs.declared.layout.TheConstants.{PUDDLE_TABLE}
+use Rattle.pud_defs.specs.declared.log_words.TheConstants.{RUNNING_LO, RUNNING_HI, COMMITTING_LO, COMMITTING_HI, CLOSED_GATE}
 use Rattle.pud_defs.specs.Image.{Image}
-use Rattle.pud_defs.specs.Entries.{Entry, entries_of, log_of, is_idle_gate}
+use Rattle.pud_defs.specs.Layout.{tables_end, IsWithin}
+use Rattle.pud_defs.specs.Entries.{Entry, entries_of, log_of, gate_word, is_idle_gate}
 use Rattle.pud_defs.specs.Replay.{Place, overwritten, replayed, IsInLog, is_in_log}
 use Rattle.log_store.specs.Store.{OpenLog, IsOpen}
-use Rattle.word_transaction.specs.Ground.{Ground, IsOwn, IsUndo, saved}
+use Rattle.word_transaction.specs.Ground.{Ground, IsOwn, saved}
 
 -- ---- what is known between calls
 
@@ -38,6 +40,10 @@ pub record IsCovered (g : Ground) (es : List Entry) (write : Write) : Type 0 whe
 abbrev pub nothing : Write
 nothing k = None
 
+-- the log of a transaction that has just begun
+abbrev pub begun : (at : ℕ) → OpenLog
+begun at = record { at = at; lo = RUNNING_LO; hi = RUNNING_HI; used = 0 }
+
 -- ---- what an image has
 
 -- With the log replayed whose gate is this word the transaction's own words have these values; the log is well formed, and its entries are the
@@ -53,6 +59,11 @@ pub record SettlesTo (g : Ground) (at : ℕ) (values image : Image) : Type 0 whe
 -- any value may come to the words of the log, and to the transaction's own
 abbrev pub ByTransaction : Ground → (at : ℕ) → Footprint
 ByTransaction g at k v = IsInLog at k ⊎ (g.mine k ≡ true)
+
+-- the gate of the log may come to say the range of a committing one, and then that of a closed one
+pub record ByCommit (log : OpenLog) (k v : ℕ) : Type 0 where
+  pub gate : k ≡ log.at
+  pub value : (v ≡ gate_word COMMITTING_LO COMMITTING_HI log.used) ⊎ (v ≡ CLOSED_GATE)
 
 -- A call within the transaction: each image left meanwhile settles to the values from the beginning. Without a fault the transaction is open,
 -- with this log and these entries, and what is read outside the log is as it was but for these words.
@@ -71,13 +82,18 @@ pub record Closes (g : Ground) (at : ℕ) (values : Image) (fault : Option HostF
   pub closed : fault ≡ None → HasOnly (new.now.words at) CLOSED_GATE
 
 -- The transaction is committed: each image left meanwhile settles to the values from the beginning or to the new ones. Without a fault each own
--- word has its new value and no other, and the log is closed.
+-- word has its new value and no other, the log is closed, and what is read outside it is as it was.
 pub record Ends (g : Ground) (at : ℕ) (before after : Image) (fault : Option HostFault) (old new : State) : Type 0 where
   pub changes : Changes (ByTransaction g at) fault old new
   pub moments : Leaves (Silently (λ image. SettlesTo g at before image ⊎ SettlesTo g at after image)) old new
   pub durable : fault ≡ None → (k : ℕ) → g.mine k ≡ true → HasOnly (new.now.words k) (after k)
   pub closed : fault ≡ None → HasOnly (new.now.words at) CLOSED_GATE
+  pub now : fault ≡ None → (k : ℕ) → is_in_log at k ≡ false → reads new.now.words k ≡ reads old.now.words k
 
 -- What places read of an image agree with those of the transaction on all that it may name.
 pub record HasPlaces (g : Ground) (place : Place) : Type 0 where
   pub each : (address count : ℕ) → g.may address count ≡ true → place address ≡ g.place address
+
+-- each word of the puddle table of a device of so many frames has one value
+pub record HasOneTable (frames : ℕ) (words : Words) : Type 0 where
+  pub each : (k : ℕ) → IsWithin PUDDLE_TABLE (tables_end frames) k → HasOnly (words k) (reads words k)

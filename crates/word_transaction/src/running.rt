@@ -1,12 +1,121 @@
 //! How a transaction begins, and what is saved and written within it.
 #![tactic(auto)]
 
-ghost use Rattle.std.specs.Prelude.{◌≡◌, ◌≤◌};
-ghost use Rattle.pud_defs.specs.declared.layout.TheConstants.{LOG_ENTRY_WORDS};
+ghost use Rattle.std.specs.Prelude.{◌≡◌, ◌≢◌, ◌+◌, ◌≤◌, ◌++◌, ◌∷◌, [], ℕ, List, true, Option, IfOk, OnErr, length, take};
+ghost use Rattle.pm_model.specs.Words.{reads};
+ghost use Rattle.pm_model.specs.Counts.{after_fault, fault_of};
+ghost use Rattle.pm_model.specs.Changes.{only, placed, Changes, Persists, Writes};
+ghost use Rattle.pud_defs.specs.declared.layout.TheConstants.{LOG_WORDS, LOG_ENTRY_WORDS, ENTRY_HEADER_WORDS, MAX_ENTRY_VALUES};
+ghost use Rattle.pud_defs.specs.declared.log_words.TheConstants.{RUNNING_GATE};
+ghost use Rattle.pud_defs.specs.Image.{Image};
+ghost use Rattle.pud_defs.specs.Entries.{Entry, words_from};
+ghost use Rattle.log_store.specs.Store.{InLog, longer};
+ghost use Rattle.word_transaction.specs.Ground.{Ground, IsGround, undo_entry};
+ghost use Rattle.word_transaction.specs.Running.{IsRunning, IsIdle, IsCovered, nothing, begun, Runs};
 
 use crate::WordTransaction;
+use log_store::{AppendFault, Log};
+use pm_model::{Host, HostFault};
+use pm_persist::write_range;
+use pud_defs::layout::MAX_ENTRY_VALUES;
+use pud_defs::log_words::{UNDO_ORDER, UNDO_SEQ};
+
+/// Reads `n` words, from 1 to 32, from word `from` on: they stand at the front of the array.
+fn read_words<H: Host>(
+    h: &mut H,
+    from: u32,
+    n: u32,
+) -> Result<[u64; MAX_ENTRY_VALUES as usize], HostFault>
+    requires few { n ≤ MAX_ENTRY_VALUES }
+    requires within { from + n ≤ (H.counts h.old).size }
+    ensures taken { H.tells → IfOk result (λ values. take n values ≡ words_from (reads (H.state h.old).now.words) from n) }
+    ensures room { IfOk result (λ values. length values ≡ MAX_ENTRY_VALUES) }
+    ensures stays { H.tells → H.state h.new ≡ H.state h.old }
+    ensures cause { H.counts h.new ≡ after_fault (fault_of result) (H.counts h.old) }
+    ensures never_cut { fault_of result ≢ Option.Some HostFault.Cut }
+{
+    let words = h.words();
+    prove!(n <= words - from);
+    let mut values = [0u64; MAX_ENTRY_VALUES as usize];
+    for i in 0..n {
+        values[i as usize] = h.load(from + i)?;
+    }
+    Ok(values)
+}
 
 impl WordTransaction {
+    /// Begins a transaction whose log's gate is word `at`: at `Ok` that log is running, durably, with no entry.
+    ///
+    /// The log lies in the device. Where no transaction is open on these words, each image left meanwhile has them, with the
+    /// log replayed, as they are. The only errors are the host's own. The one word written is the gate. One fence.
+    pub fn begin<H: Host>(h: &mut H, at: u32) -> Result<WordTransaction, HostFault>
+        requires { at + LOG_WORDS ≤ (H.counts h.old).size }
+        ensures opened { IfOk result (λ transaction. transaction ≡ begun at) }
+        ensures persists { H.tells → Persists (only at RUNNING_GATE) (fault_of result) (H.state h.old) (H.state h.new) }
+        ensures runs { H.tells → (size : ℕ) → size ≡ (H.counts h.old).size → (g : Ground) → (before : Image) → IsGround size at g → IsIdle g at before (H.state h.old).now.words
+            → Runs g (begun at) [] before nothing (fault_of result) (H.state h.old) (H.state h.new) }
+        ensures cause { H.counts h.new ≡ after_fault (fault_of result) (H.counts h.old) }
+    {
+        let log = Log::open_running(h, at)?;
+        Ok(WordTransaction { log })
+    }
+
+    /// Keeps in the log what `count` words from device word `first` on hold, from 1 to 32, as those of `address`.
+    ///
+    /// The log and the words lie in the device, and the log has room for the words and two more. At `Ok` each image left has
+    /// the words with the log replayed as they were when the transaction began, whatever is then written to them; before it,
+    /// each image has them so too. After an error `self` is as it was; the only errors are the host's own. Two fences.
+    pub fn save<H: Host>(
+        &mut self,
+        h: &mut H,
+        address: u64,
+        first: u32,
+        count: u32,
+    ) -> Result<(), HostFault>
+        requires place { self.old.at + LOG_WORDS ≤ (H.counts h.old).size }
+        requires some { 1 ≤ count }
+        requires no_more { count ≤ MAX_ENTRY_VALUES }
+        requires within { first + count ≤ (H.counts h.old).size }
+        requires room { self.old.used + (count + ENTRY_HEADER_WORDS) ≤ LOG_ENTRY_WORDS }
+        ensures saved { IfOk result (λ _. self.new ≡ longer (count + ENTRY_HEADER_WORDS) self.old) }
+        ensures failed { OnErr result (self.new ≡ self.old) }
+        ensures changes { H.tells → Changes (InLog self.old.at) (fault_of result) (H.state h.old) (H.state h.new) }
+        ensures runs { H.tells → (size : ℕ) → size ≡ (H.counts h.old).size → (g : Ground) → (es : List Entry) → (before : Image) → IsGround size self.old.at g
+            → g.may address count ≡ true → g.place address ≡ Option.Some first → IsRunning g self.old es before (H.state h.old).now.words
+            → Runs g (longer (count + ENTRY_HEADER_WORDS) self.old) (es ++ undo_entry address (words_from (reads (H.state h.old).now.words) first count) ∷ []) before nothing
+            (fault_of result) (H.state h.old) (H.state h.new) }
+        ensures cause { H.counts h.new ≡ after_fault (fault_of result) (H.counts h.old) }
+    {
+        let values = read_words(h, first, count)?;
+        match self.log.append(h, address, UNDO_SEQ, UNDO_ORDER, &values[..count as usize]) {
+            Ok(()) => Ok(()),
+            Err(AppendFault::Host(fault)) => Err(fault),
+            Err(AppendFault::TooBig) => unreachable!(),
+        }
+    }
+
+    /// Gives the words from device word `first` on these values in turn, and marks them: they are durable after the next fence.
+    ///
+    /// The words lie in the device. Where each of them is saved, each image left meanwhile has them, with the log replayed, as
+    /// they were when the transaction began. The only errors are the host's own. No fence.
+    pub fn write<H: Host>(&self, h: &mut H, first: u32, vals: &[u64]) -> Result<(), HostFault>
+        requires { first + length vals.now ≤ (H.counts h.old).size }
+        ensures writes { H.tells → Writes (placed first vals.now) (fault_of result) (H.state h.old) (H.state h.new) }
+        ensures runs { H.tells → (size : ℕ) → size ≡ (H.counts h.old).size → (g : Ground) → (es : List Entry) → (before : Image) → IsGround size self.now.at g
+            → IsRunning g self.now es before (H.state h.old).now.words → IsCovered g es (placed first vals.now)
+            → Runs g self.now es before (placed first vals.now) (fault_of result) (H.state h.old) (H.state h.new) }
+        ensures cause { H.counts h.new ≡ after_fault (fault_of result) (H.counts h.old) }
+    {
+        write_range(h, first, vals)
+    }
+
+    /// The word of its log's gate.
+    pub fn at(&self) -> u32
+        ensures { result ≡ self.now.at }
+    {
+        self.log.at()
+    }
+
     /// How many entry words of its log count, from 0 to 1,016.
     pub fn units(&self) -> u32
         ensures used { result ≡ self.now.used }

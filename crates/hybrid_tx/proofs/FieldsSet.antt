@@ -1,0 +1,147 @@
+-- A field's word is stored in an image of a pool: its graph has the value in the field.
+use Rattle.std.proofs.Common.{◌≡◌, inl, inr, ℕ, ◌+◌, ◌-◌, ◌*◌, ◌/◌, ◌%◌, ◌<◌, ◌≤◌, true, false, cond, List, [], ◌∷◌, map, length, Option, Some, None, get_or, is_some, option_map, refl, sym, ap, ap₂, subst, ◌∙◌, arith, eqb, eq-eqb, ne_eqb, ⊎_elim}
+use Rattle.std.specs.Prelude.{slice_get}
+use Rattle.std.proofs.lemmas.Bool.{cases_eq, cases_lt, cond-true, cond-false}
+use Rattle.std.proofs.lemmas.Option.{none-some, same_Some, slice_get-map, slice_get-get_or}
+use Rattle.std.proofs.lemmas.List.{length-map}
+use Rattle.pm_model.specs.Changes.{placed as put_from}
+use Rattle.pud_defs.specs.declared.layout.TheConstants.{FRAME_WORDS}
+use Rattle.pud_defs.specs.declared.space.TheConstants.{FRAME_SLOTS, SLOT_FIELDS_WORD, LAST_FRONTIER}
+use Rattle.pud_defs.specs.declared.records.Puddle.{Puddle}
+use Rattle.pud_defs.specs.declared.records.Slot.{Slot}
+use Rattle.pud_defs.specs.declared.objects.Val.{Val}
+use Rattle.pud_defs.specs.declared.objects.Val.TheVariants.{Num, Ref}
+use Rattle.pud_defs.specs.TypeMap.{is_pointer}
+use Rattle.pud_defs.specs.Types.{map_of}
+use Rattle.pud_defs.specs.Image.{Image, written}
+use Rattle.pud_defs.specs.Frames.{frame_at, slot_at}
+use Rattle.pud_defs.specs.Replay.{overwritten}
+use Rattle.pud_defs.specs.Stored.{Stored, stored_in, places_of, place_word}
+use Rattle.pud_defs.specs.Graph.{slot_address, table_of, place_of, object_at, Object, field_count, Graph, object_in, graph_of}
+use Rattle.pud_defs.proofs.Replay.{overwritten-there, overwritten-stays, value_at-there, value_at-apart}
+use Rattle.graph_laws.specs.Changes.{with_word, with_words, with_field_word, IsAddress, IsField, with_field}
+use Rattle.graph_laws.specs.Rewriting.{base_of}
+use Rattle.graph_laws.proofs.Fields.{graph_of-number, graph_of-null, graph_of-reference}
+use Rattle.graph_laws.proofs.Places.{object_in-place}
+use Rattle.graph_laws.proofs.StoredImages.{stored_in-written}
+use Rattle.graph_laws.proofs.Words.{place_of-some, few_fields}
+use Rattle.graph_read.specs.Reading.{place_in_pool, place_at, IsSlotOf}
+use Rattle.graph_read.proofs.Placed.{place_ordinal, place_slot}
+use Rattle.hybrid_tx.specs.Grounds.{IsPlaced, IsRewritten}
+use Rattle.hybrid_tx.specs.Stores.{address_at, word_for, field_word}
+use Rattle.hybrid_tx.specs.Transactions.{MayHold, MaySet}
+use Rattle.hybrid_tx.proofs.PoolGrounds.{all_there}
+
+-- one word written over an image
+pub overwritten-one : (w v : ℕ) (image : Image) → overwritten (put_from w (v ∷ [])) image ≡ written w v image
+overwritten-one w v image =
+    let each : (k : ℕ) → overwritten (put_from w (v ∷ [])) image k ≡ written w v image k =
+    λ k. elim (cases_eq k w) [
+      | inl here ↦ overwritten-there (put_from w (v ∷ [])) image k v (value_at-there w 0 k (v ∷ []) (omega arith)) ∙ sym (cond-true _ _ _ (eq-eqb k w here))
+      | inr other ↦
+        overwritten-stays (put_from w (v ∷ [])) image k
+        (value_at-apart w k (v ∷ []) (elim (cases_lt k w) [ inl below ↦ inl below | inr above ↦ inr (omega arith) ]))
+        ∙ sym (cond-false _ _ _ (ne_eqb k w other))
+    ] in
+    λ i k. each k i
+
+-- ---- what a graph says of places
+
+module _ (types : List (ℕ × ℕ)) (F : ℕ) (at : List (ℕ × Puddle)) (image : Image) (g : Graph) (is : graph_of types (stored_in F at image) ≡ Some g) where
+  abbrev st : Stored
+  st = stored_in F at image
+
+  place_is : (s : ℕ) → place_of s (table_of types st) (places_of st) ≡ place_in_pool F at image s
+  place_is s = ap (λ n. place_of s (table_of types st) (FRAME_SLOTS * n)) (length-map at (λ (e : ℕ × Puddle). e.1))
+
+  object_at_place : (s p : ℕ) → place_in_pool F at image s ≡ Some p → object_in s g ≡ Some (object_at (table_of types st) p)
+  object_at_place s p found = object_in-place types st g s is ∙ ap (option_map (object_at (table_of types st))) (place_is s ∙ found)
+
+  -- a live object has a place
+  pub placed_if_live : (s : ℕ) (o : Object) → object_in s g ≡ Some o → place_in_pool F at image s ≡ None → ⊥
+  placed_if_live s o live none = none-some o (sym (object_in-place types st g s is ∙ ap (option_map (object_at (table_of types st))) (place_is s ∙ none)) ∙ live)
+
+  some_live : (o : Option Object) → is_some o ≡ true → (x : Object) × (o ≡ Some x)
+  some_live None live = absurd (let it : false ≡ true = live in cc)
+  some_live (Some x) live = (x, refl)
+
+  no_word : (r : ℕ) (o : Option ℕ) → (r ≡ 0 → ⊥) → cond (eqb r 0) (Some 0) (option_map (address_at at) o) ≡ None → o ≡ None
+  no_word r None other none = refl
+  no_word r (Some q) other none = absurd (none-some (address_at at q) (sym none ∙ cond-false _ _ _ (ne_eqb r 0 other)))
+
+  -- what a field may hold has a word
+  pub word_if_held : (m f : ℕ) (x : Val) → MayHold m f g x → word_for F at image x ≡ None → ⊥
+  word_if_held m f (Num v) holds none = none-some v (sym none)
+  word_if_held m f (Ref r) holds none = elim (cases_eq r 0) [
+    | inl null ↦ none-some 0 (sym none ∙ cond-true _ _ _ (eq-eqb r 0 null))
+    | inr other ↦ elim holds.1 [
+      | inl null ↦ other null
+      | inr live ↦ let object = some_live (object_in r g) live in placed_if_live r object.0 object.1 (no_word r (place_in_pool F at image r) other none)
+    ]
+  ]
+
+  -- ---- the field
+
+  module _ (placed : IsPlaced F at) (rewritten : IsRewritten at) (s f : ℕ) (slot : Slot) (of : IsSlotOf at slot) (found : place_in_pool F at image s ≡ Some (place_at slot)) where
+    abbrev p : ℕ
+    p = place_at slot
+
+    module _ (m : ℕ) (object : Object) (live : object_in s g ≡ Some object) (defined : map_of object.type_id types ≡ Some m) (below : f < field_count m) where
+      field : IsField types st s p m f
+      field =
+          let same : object_at (table_of types st) p ≡ object = same_Some _ _ (sym (object_at_place s p found) ∙ live) in
+          record { place = place_is s ∙ found; defined = ap (λ (o : Object). map_of o.type_id types) same ∙ defined; below = below }
+
+      home : slice_get st.puddles (p / FRAME_SLOTS) ≡ Some of.puddle
+      home =
+          ap (slice_get st.puddles) (place_ordinal slot.ordinal slot.slot of.below)
+          ∙ slice_get-map (λ (e : ℕ × Puddle). e.1) at slot.ordinal
+          ∙ ap (option_map (λ (e : ℕ × Puddle). e.1)) of.there
+
+      address : (q v : ℕ) → q < places_of st → address_at at q ≡ v → IsAddress st.puddles (p / FRAME_SLOTS) (p % FRAME_SLOTS + 1) q v
+      address q v within is =
+          let last : of.puddle.frontier ≡ LAST_FRONTIER = all_there (λ e. e.1.frontier ≡ LAST_FRONTIER) at slot.ordinal (slot.frame, of.puddle) rewritten.each of.there in
+          let there = slice_get-get_or st.puddles (q / FRAME_SLOTS) of.puddle (omega arith) in
+          record {
+            bases = placed.bases;
+            home = of.puddle;
+            here = home;
+            rewritten = omega arith;
+            away = get_or st.puddles (q / FRAME_SLOTS) of.puddle;
+            there = there;
+            address = sym is ∙ ap (λ (d : Option Puddle). slot_address (base_of d) (q % FRAME_SLOTS)) there;
+          }
+
+      of_address : (r v : ℕ) (o : Option ℕ) → is_pointer m f ≡ true → (r ≡ 0 → ⊥) → place_in_pool F at image r ≡ o → cond (eqb r 0) (Some 0) (option_map (address_at at) o) ≡ Some v
+          → graph_of types (with_field_word p f v st) ≡ Some (with_field s f (Ref r) g)
+      of_address r v None pointer other none word = absurd (none-some v (sym (cond-false _ _ _ (ne_eqb r 0 other)) ∙ word))
+      of_address r v (Some q) pointer other there word =
+          let is_word : address_at at q ≡ v = same_Some _ _ (sym (cond-false _ _ _ (ne_eqb r 0 other)) ∙ word) in
+          let within = (place_of-some (table_of types st) (places_of st) r q (place_is r ∙ there)).within in
+          graph_of-reference types st g s p m f v r q is field pointer (place_is r ∙ there) (address q v within is_word)
+
+      of_value : (x : Val) (v : ℕ) → MayHold m f g x → word_for F at image x ≡ Some v → graph_of types (with_field_word p f v st) ≡ Some (with_field s f x g)
+      of_value (Num n) v number word =
+          let same : n ≡ v = same_Some n v word in
+          graph_of-number types st g s p m f v is field number ∙ ap (λ k. Some (with_field s f (Num k) g)) (sym same)
+      of_value (Ref r) v holds word = elim (cases_eq r 0) [
+        | inl null ↦
+          let zero : 0 ≡ v = same_Some 0 v (sym (cond-true _ _ _ (eq-eqb r 0 null)) ∙ word) in
+          ap (λ k. graph_of types (with_field_word p f k st)) (sym zero) ∙ graph_of-null types st g s p m f is field holds.0 ∙ ap (λ k. Some (with_field s f (Ref k) g)) (sym null)
+        | inr other ↦ of_address r v (place_in_pool F at image r) holds.0 other refl word
+      ]
+
+      field_set : (x : Val) (v : ℕ) → MayHold m f g x → word_for F at image x ≡ Some v
+          → graph_of types (stored_in F at (written (frame_at F slot.frame + field_word slot.slot f) v image)) ≡ Some (with_field s f x g)
+      field_set x v holds word =
+          let few : field_word slot.slot f < FRAME_WORDS = (let most = few_fields m in let slots = of.below in omega arith) in
+          ap (graph_of types) (stored_in-written F at image slot.ordinal (field_word slot.slot f) v (slot.frame, of.puddle) placed.frames of.there few)
+          ∙ ap₂ (λ (i j : ℕ). graph_of types (with_words (with_word i (slot_at j + SLOT_FIELDS_WORD + f) v st.word) st))
+          (sym (place_ordinal slot.ordinal slot.slot of.below)) (sym (place_slot slot.ordinal slot.slot of.below))
+          ∙ of_value x v holds word
+
+    pub set_value : (x : Val) (v : ℕ) → MaySet types g s f x → word_for F at image x ≡ Some v
+        → graph_of types (stored_in F at (overwritten (put_from (frame_at F slot.frame + field_word slot.slot f) (v ∷ [])) image)) ≡ Some (with_field s f x g)
+    set_value x v may word =
+        ap (λ i. graph_of types (stored_in F at i)) (overwritten-one (frame_at F slot.frame + field_word slot.slot f) v image)
+        ∙ field_set may.map may.object may.live may.defined may.below x v may.holds word

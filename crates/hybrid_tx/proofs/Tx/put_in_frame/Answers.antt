@@ -1,0 +1,32 @@
+use Rattle.std.proofs.Common.{◌≡◌, ℕ, ◌+◌, ◌*◌, ◌%◌, ◌^◌, length, ap, refl, subst, ◌∙◌}
+use Rattle.std.proofs.lemmas.Option.{slice_get-get_or, get_or_from_slice_get}
+use Rattle.pm_model.specs.Counts.{fault_of}
+use Rattle.pm_model.specs.Changes.{Changes}
+use Rattle.pud_defs.specs.declared.records.Puddle.{Puddle}
+use Rattle.pud_defs.specs.Frames.{frame_at}
+use Rattle.log_store.specs.Store.{longer}
+use Rattle.hybrid_tx.specs.Grounds.{pool_ground}
+use Rattle.hybrid_tx.specs.Stores.{ByPut}
+use Rattle.hybrid_tx.proofs.InFrames.{ByPut-in_frame, Saves-put, Saves-behind}
+use Rattle.hybrid_tx.proofs.Tx.put_in_frame.Goals as goal
+
+pub returns-clause-changes : goal.returns-clause-changes
+returns-clause-changes g c = λ t.
+    let fault = fault_of c.put.result in
+    let old = g.H.Host.state c.args.h.now in
+    let new = g.H.Host.state c.put.new.h in
+    let log = c.args.self.now.at in
+    let there = slice_get-get_or c.args.pool.now c.args.ordinal _ c.requires.there in
+    ByPut-in_frame c.args.frames c.args.pool.now c.args.ordinal c.args.word log _ c.args.vals.now fault old new there c.requires.within
+    (subst (λ (k : ℕ). Changes (ByPut log (k + c.args.word) c.args.vals.now) fault old new) c.frame_at.ensures (c.put.ensures.changes t))
+
+pub returns-clause-saves : goal.returns-clause-saves
+returns-clause-saves g c = λ t placed e there before s.
+    let same = get_or_from_slice_get c.args.pool.now c.args.ordinal e _ there in
+    let long = longer (length c.args.vals.now + 2) c.args.self.now in
+    Saves-behind c.args.frames c.args.pool.now long _ before _ c.put.result _ _ c.put.ensures.at c.put.ensures.done
+    (Saves-put c.args.frames _ c.args.pool.now c.args.ordinal c.args.word e c.args.self.now long before _ _ c.args.vals.now _ (fault_of c.put.result) _ _
+    placed c.requires.device c.requires.place there c.requires.some c.requires.within
+    (ap (λ (d : ℕ × Puddle). (d.1.base + 8 * c.args.word) % 2 ^ 64) same)
+    (ap (λ (k : ℕ). k + c.args.word) (c.frame_at.ensures ∙ ap (λ (d : ℕ × Puddle). frame_at c.args.frames d.0) same)) s
+    (λ es ground may place running. c.put.ensures.runs t _ refl (pool_ground c.args.frames c.args.pool.now) es before ground may place running))

@@ -1,0 +1,5 @@
+use Rattle.hybrid_tx.proofs.ObjectsMade.{new_stored}
+use Rattle.hybrid_tx.proofs.laws.stored_words_make_the_object.Goals as goal
+
+pub returns : goal.returns
+returns c = new_stored

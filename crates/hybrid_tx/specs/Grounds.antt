@@ -1,0 +1,61 @@
+-- The ground of a transaction on a pool: its words are those of its puddles' frames, named by global addresses.
+use Rattle.std.specs.Prelude.{◌≡◌, ℕ, ◌+◌, ◌*◌, ◌%◌, Bool, true, ◌&&◌, nat_le, nat_lt, ◌==◌, List, [], ◌∷◌, All, map, Option, Some, None, option_map}
+use Rattle.std.specs.List.{list_any}
+use Rattle.std.specs.Option.{option_or}
+use Rattle.pud_defs.specs.declared.layout.TheConstants.{FRAME_WORDS}
+use Rattle.pud_defs.specs.declared.space.TheConstants.{RANGE_BYTES, WORD_BYTES, LAST_FRONTIER}
+use Rattle.pud_defs.specs.declared.records.Puddle.{Puddle}
+use Rattle.pud_defs.specs.Bases.{is_legal_base}
+use Rattle.pud_defs.specs.Frames.{frame_at}
+use Rattle.pud_defs.specs.Places.{word_in}
+use Rattle.pud_defs.specs.Replay.{Place}
+use Rattle.pud_defs.specs.Stored.{IsOnDevice}
+use Rattle.graph_laws.specs.Changes.{AreBases}
+use Rattle.graph_laws.specs.Reads.{HasDistinctFrames}
+use Rattle.word_transaction.specs.Ground.{Ground}
+
+-- ---- addresses
+
+-- the device word that an address lies in, where the range of this puddle has it
+abbrev pub word_by : (F address : ℕ) → ℕ × Puddle → Option ℕ
+word_by F address e = option_map (λ k. frame_at F e.0 + k) (word_in e.1.base address)
+
+-- the same of the first of these puddles whose range has it
+unfoldable pub pool_place : ℕ → List (ℕ × Puddle) → Place
+pool_place F [] address = None
+pool_place F (e ∷ at) address = let later = pool_place F at address in option_or (word_by F address e) later
+
+-- the range of this puddle has so many words from that of an address on
+abbrev pub has_words : (address count : ℕ) → ℕ × Puddle → Bool
+has_words address count e = nat_le e.1.base address && nat_le (address + WORD_BYTES * count) (e.1.base + RANGE_BYTES)
+
+-- the address is that of a word, and at least one word from it on lies in the range of one of these puddles, and all so many in the same
+unfoldable pub pool_may : List (ℕ × Puddle) → (address count : ℕ) → Bool
+pool_may at address count = (address % WORD_BYTES) == 0 && nat_le 1 count && list_any (has_words address count) at
+
+-- ---- words
+
+-- the word is one of the frame of this puddle
+abbrev pub is_in_frame : (F k : ℕ) → ℕ × Puddle → Bool
+is_in_frame F k e = nat_le (frame_at F e.0) k && nat_lt k (frame_at F e.0 + FRAME_WORDS)
+
+-- the word is one of the frames of these puddles
+unfoldable pub pool_mine : ℕ → List (ℕ × Puddle) → ℕ → Bool
+pool_mine F at k = list_any (is_in_frame F k) at
+
+-- the ground of a transaction on these puddles
+abbrev pub pool_ground : ℕ → List (ℕ × Puddle) → Ground
+pool_ground F at = record { place = pool_place F at; may = pool_may at; mine = pool_mine F at }
+
+-- ---- how puddles lie
+
+-- Puddles of one pool by their ordinals: in frames of the device, no two in one, with ranges of the space, no two of which meet.
+pub record IsPlaced (F : ℕ) (at : List (ℕ × Puddle)) : Type 0 where
+  pub on_device : IsOnDevice F at
+  pub frames : HasDistinctFrames at
+  pub legal : All (λ e. is_legal_base e.1.base ≡ true) at
+  pub bases : AreBases (map (λ d. d.base) (map (λ e. e.1) at))
+
+-- each pointer in these puddles stands over the pool's bases
+pub record IsRewritten (at : List (ℕ × Puddle)) : Type 0 where
+  pub each : All (λ e. e.1.frontier ≡ LAST_FRONTIER) at

@@ -1,0 +1,40 @@
+-- Which words are stored for what is set or made.
+use Rattle.std.specs.Prelude.{◌≡◌, ◌⊎◌, ℕ, ◌+◌, ◌-◌, ◌==◌, cond, List, [], ◌∷◌, map, replicate, Option, Some, None, option_map}
+use Rattle.pm_model.specs.Changes.{Footprint, Write, placed}
+use Rattle.pud_defs.specs.declared.space.TheConstants.{SLOT_WORDS, SLOT_FIELDS_WORD, NEXT_SERIAL_WORD}
+use Rattle.pud_defs.specs.declared.records.Puddle.{Puddle}
+use Rattle.pud_defs.specs.declared.records.Slot.{Slot}
+use Rattle.pud_defs.specs.declared.objects.Val.{Val}
+use Rattle.pud_defs.specs.declared.objects.Val.TheVariants.{Num, Ref}
+use Rattle.pud_defs.specs.Image.{Image}
+use Rattle.pud_defs.specs.Frames.{frame_at, slot_at}
+use Rattle.pud_defs.specs.Replay.{over, IsInLog}
+use Rattle.pud_defs.specs.Graph.{At}
+use Rattle.graph_laws.specs.Rewriting.{address_of}
+use Rattle.graph_read.specs.Reading.{place_in_pool}
+
+-- the address of the slot at a place, over the pool's bases
+abbrev pub address_at : List (ℕ × Puddle) → ℕ → ℕ
+address_at at p = address_of (map (λ e. e.1) at) (At p)
+
+-- the word that stands for a value: the number, 0 for null, or the address of the serial's object, where there is one
+abbrev pub word_for : (F : ℕ) → List (ℕ × Puddle) → Image → Val → Option ℕ
+word_for F at image (Num v) = Some v
+word_for F at image (Ref r) = cond (r == 0) (Some 0) (option_map (address_at at) (place_in_pool F at image r))
+
+-- the word of a frame that holds field f of a slot
+abbrev pub field_word : (slot f : ℕ) → ℕ
+field_word slot f = slot_at slot + SLOT_FIELDS_WORD + f
+
+-- the words of a slot that holds a new object: its serial, its type, and 0 in each field
+unfoldable pub new_words : (serial type_id : ℕ) → List ℕ
+new_words serial type_id = serial ∷ type_id ∷ replicate (SLOT_WORDS - SLOT_FIELDS_WORD) 0
+
+-- what is written to make an object in a slot: the words of the slot, and the next serial, which stands in the frame of ordinal 0
+abbrev pub making : (F first : ℕ) → Slot → (serial type_id : ℕ) → Write
+making F first slot serial type_id =
+    over (placed (frame_at F slot.frame + slot_at slot.slot) (new_words serial type_id)) (placed (frame_at F first + NEXT_SERIAL_WORD) ((serial + 1) ∷ []))
+
+-- any value may come to the words of the log whose gate is this word, and these values to the words from another on
+abbrev pub ByPut : (at first : ℕ) → List ℕ → Footprint
+ByPut at first vals k v = IsInLog at k ⊎ (placed first vals k ≡ Some v)

@@ -1,0 +1,116 @@
+//! How a transaction begins, and how words of a pool's frames are given values within it.
+#![tactic(auto)]
+
+ghost use Rattle.std.specs.Prelude.{◌≡◌, ◌≢◌, ◌+◌, ◌<◌, ◌≤◌, ◌++◌, ◌∷◌, [], ℕ, List, true, slice_get, Option, IfOk, OnErr, length};
+ghost use Rattle.pm_model.specs.Words.{reads};
+ghost use Rattle.pm_model.specs.Counts.{after_fault, fault_of};
+ghost use Rattle.pm_model.specs.Changes.{only, placed, Changes, Persists};
+ghost use Rattle.pud_defs.specs.declared.layout.TheConstants.{LOG_WORDS, LOG_ENTRY_WORDS, ENTRY_HEADER_WORDS, MAX_ENTRY_VALUES, MAX_FRAMES, FRAME_WORDS};
+ghost use Rattle.pud_defs.specs.declared.log_words.TheConstants.{RUNNING_GATE};
+ghost use Rattle.pud_defs.specs.declared.space.TheConstants.{WORD_BYTES};
+ghost use Rattle.pud_defs.specs.declared.records.Puddle.{Puddle};
+ghost use Rattle.pud_defs.specs.Image.{Image};
+ghost use Rattle.pud_defs.specs.Layout.{device_words, frames_at};
+ghost use Rattle.pud_defs.specs.Frames.{frame_at};
+ghost use Rattle.pud_defs.specs.Entries.{Entry, words_from};
+ghost use Rattle.pud_defs.specs.Settled.{ALL_LOGS, log_number_at};
+ghost use Rattle.pud_defs.specs.Stored.{IsOnDevice, stored_in};
+ghost use Rattle.pud_defs.specs.Graph.{Graph, graph_of};
+ghost use Rattle.log_store.specs.Store.{longer};
+ghost use Rattle.word_transaction.specs.Ground.{Ground, IsGround, undo_entry};
+ghost use Rattle.word_transaction.specs.Running.{IsRunning, IsIdle, nothing, begun, ByTransaction, Runs};
+ghost use Rattle.hybrid_tx.specs.Grounds.{pool_ground, IsPlaced};
+ghost use Rattle.hybrid_tx.specs.Stores.{ByPut};
+ghost use Rattle.hybrid_tx.specs.Transactions.{IsSaving, IsOpenOn, Saves};
+
+use crate::Tx;
+use pm_model::{Host, HostFault};
+use pud_defs::layout::{CLIENT_LOGS, log_at};
+use pud_defs::records::Puddle;
+use pud_defs::space::{WORD_BYTES, frame_at};
+use word_transaction::WordTransaction;
+
+impl Tx {
+    /// Begins a transaction in the log of this number, 0 to 31 over all clients: at `Ok` that log is running, durably, with no
+    /// entry.
+    ///
+    /// Where no transaction is open on the words of a pool that has a graph, one is open on it. The only errors are the host's
+    /// own. The one word written is the gate. One fence.
+    pub fn begin<H: Host>(h: &mut H, frames: u32, log: u32) -> Result<Tx, HostFault>
+        requires few { frames ≤ MAX_FRAMES }
+        requires device { device_words frames ≤ (H.counts h.old).size }
+        requires known { log < ALL_LOGS }
+        ensures opened { IfOk result (λ tx. tx ≡ begun (log_number_at frames log)) }
+        ensures persists { H.tells → Persists (only (log_number_at frames log) RUNNING_GATE) (fault_of result) (H.state h.old) (H.state h.new) }
+        ensures runs { H.tells → (at : List (ℕ × Puddle)) (before : Image) → IsPlaced frames at → IsIdle (pool_ground frames at) (log_number_at frames log) before (H.state h.old).now.words
+            → Runs (pool_ground frames at) (begun (log_number_at frames log)) [] before nothing (fault_of result) (H.state h.old) (H.state h.new) }
+        ensures open { H.tells → (at : List (ℕ × Puddle)) (before : Image) → IsPlaced frames at → IsIdle (pool_ground frames at) (log_number_at frames log) before (H.state h.old).now.words
+            → (types : List (ℕ × ℕ)) (g : Graph) → graph_of types (stored_in frames at before) ≡ Option.Some g
+            → IfOk result (λ tx. IsOpenOn frames at types tx before g g (H.state h.new).now.words) }
+        ensures cause { H.counts h.new ≡ after_fault (fault_of result) (H.counts h.old) }
+    {
+        let gate = log_at(frames, log / CLIENT_LOGS, log % CLIENT_LOGS);
+        let words = WordTransaction::begin(h, gate)?;
+        Ok(Tx { words })
+    }
+
+    /// Keeps in the log what the words from device word `first` on hold, and then gives them these values in turn, 1 to 32.
+    pub(crate) fn put<H: Host>(
+        &mut self,
+        h: &mut H,
+        address: u64,
+        first: u32,
+        vals: &[u64],
+    ) -> Result<(), HostFault>
+        requires place { self.old.at + LOG_WORDS ≤ (H.counts h.old).size }
+        requires some { 1 ≤ length vals.now }
+        requires no_more { length vals.now ≤ MAX_ENTRY_VALUES }
+        requires within { first + length vals.now ≤ (H.counts h.old).size }
+        requires room { self.old.used + (length vals.now + ENTRY_HEADER_WORDS) ≤ LOG_ENTRY_WORDS }
+        ensures at { self.new.at ≡ self.old.at }
+        ensures done { IfOk result (λ _. self.new ≡ longer (length vals.now + ENTRY_HEADER_WORDS) self.old) }
+        ensures changes { H.tells → Changes (ByPut self.old.at first vals.now) (fault_of result) (H.state h.old) (H.state h.new) }
+        ensures runs { H.tells → (size : ℕ) → size ≡ (H.counts h.old).size → (g : Ground) → (es : List Entry) → (before : Image) → IsGround size self.old.at g
+            → g.may address (length vals.now) ≡ true → g.place address ≡ Option.Some first → IsRunning g self.old es before (H.state h.old).now.words
+            → Runs g (longer (length vals.now + ENTRY_HEADER_WORDS) self.old) (es ++ undo_entry address (words_from (reads (H.state h.old).now.words) first (length vals.now)) ∷ []) before
+                (placed first vals.now) (fault_of result) (H.state h.old) (H.state h.new) }
+        ensures cause { H.counts h.new ≡ after_fault (fault_of result) (H.counts h.old) }
+    {
+        let _words = h.words();
+        self.words.save(h, address, first, vals.len() as u32)?;
+        self.words.write(h, first, vals)
+    }
+
+    /// Keeps in the log what the words from word `word` of a puddle's frame on hold, and then gives them these values in turn,
+    /// 1 to 32.
+    pub(crate) fn put_in_frame<H: Host>(
+        &mut self,
+        h: &mut H,
+        frames: u32,
+        pool: &[(u32, Puddle)],
+        ordinal: u32,
+        word: u32,
+        vals: &[u64],
+    ) -> Result<(), HostFault>
+        requires few { frames ≤ MAX_FRAMES }
+        requires device { device_words frames ≤ (H.counts h.old).size }
+        requires known { IsOnDevice frames pool.now }
+        requires place { self.old.at + LOG_WORDS ≤ frames_at frames }
+        requires there { ordinal < length pool.now }
+        requires some { 1 ≤ length vals.now }
+        requires no_more { length vals.now ≤ MAX_ENTRY_VALUES }
+        requires within { word + length vals.now ≤ FRAME_WORDS }
+        requires room { self.old.used + (length vals.now + ENTRY_HEADER_WORDS) ≤ LOG_ENTRY_WORDS }
+        ensures at { self.new.at ≡ self.old.at }
+        ensures done { IfOk result (λ _. self.new ≡ longer (length vals.now + ENTRY_HEADER_WORDS) self.old) }
+        ensures changes { H.tells → Changes (ByTransaction (pool_ground frames pool.now) self.old.at) (fault_of result) (H.state h.old) (H.state h.new) }
+        ensures saves { H.tells → IsPlaced frames pool.now → (e : ℕ × Puddle) → slice_get pool.now ordinal ≡ Option.Some e → (before : Image)
+            → IsSaving frames pool.now self.old before (H.state h.old).now.words
+            → Saves frames pool.now self.new before (placed (frame_at frames e.0 + word) vals.now) (fault_of result) (H.state h.old) (H.state h.new) }
+        ensures cause { H.counts h.new ≡ after_fault (fault_of result) (H.counts h.old) }
+    {
+        let (frame, puddle) = pool[ordinal as usize];
+        let address = puddle.base.wrapping_add((WORD_BYTES * word) as u64);
+        self.put(h, address, frame_at(frames, frame) + word, vals)
+    }
+}

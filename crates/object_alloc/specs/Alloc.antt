@@ -1,0 +1,18 @@
+-- What is answered where a free slot is looked for, and the word that frees one.
+use Rattle.std.specs.Prelude.{ℕ, ◌+◌, Option, Some, None, Result, Ok, Err}
+use Rattle.pm_model.specs.declared.host.HostFault.{HostFault}
+use Rattle.pud_defs.specs.declared.space.TheConstants.{SLOT_SERIAL_WORD}
+use Rattle.pud_defs.specs.declared.records.Slot.{Slot}
+use Rattle.pud_defs.specs.Frames.{frame_at, slot_at}
+use Rattle.object_alloc.specs.declared.AllocFault.{AllocFault}
+use Rattle.object_alloc.specs.declared.AllocFault.TheVariants as faults
+
+-- the host's fault that the search for a free slot answered
+abbrev pub alloc_fault : {T : Type 0} → Result T AllocFault → Option HostFault
+alloc_fault (Ok x) = None
+alloc_fault (Err faults.Full) = None
+alloc_fault (Err (faults.Host fault)) = Some fault
+
+-- the word of the device that holds the serial of a slot
+abbrev pub serial_word_at : (F : ℕ) → Slot → ℕ
+serial_word_at F s = frame_at F s.frame + (slot_at s.slot + SLOT_SERIAL_WORD)

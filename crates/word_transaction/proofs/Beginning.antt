@@ -1,0 +1,80 @@
+-- A transaction on words begins: its log is opened where none was.
+use Rattle.std.proofs.Common.{◌≡◌, inl, inr, ℕ, ◌+◌, true, false, [], Option, Some, None, refl, sym, ap, subst, ◌∙◌, arith}
+use Rattle.std.proofs.lemmas.List.Elements.{All-nil}
+use Rattle.pm_model.specs.declared.host.HostFault.{HostFault}
+use Rattle.pm_model.specs.Words.{Picks, HasOnly}
+use Rattle.pm_model.specs.Moments.{State}
+use Rattle.pm_model.specs.Changes.{IsFrom, Persists, only, written}
+use Rattle.pm_model.proofs.Words.{HasOnly-own, only_at}
+use Rattle.pm_model.proofs.OneWord.{one_word}
+use Rattle.pm_model.proofs.Changes.{Changes-wider, HasOnly-kept}
+use Rattle.pm_model.proofs.Leaves.{Leaves-changes}
+use Rattle.pud_defs.specs.declared.layout.TheConstants.{LOG_HEADER_WORDS}
+use Rattle.pud_defs.specs.declared.log_words.TheConstants.{RUNNING_GATE}
+use Rattle.pud_defs.specs.Image.{Image}
+use Rattle.pud_defs.specs.Entries.{log_of, is_idle_gate}
+use Rattle.pud_defs.specs.Replay.{IsInLog, is_in_log}
+use Rattle.pud_defs.proofs.Entries.{words_from-none, entries_in-nothing}
+use Rattle.pud_defs.proofs.Replay.{undone-none, not_inside}
+use Rattle.log_store.specs.Store.{saying}
+use Rattle.log_store.proofs.Open.{log_of-is, IsOpen-running}
+use Rattle.word_transaction.specs.Ground.{Ground, IsGround, IsOwn, running_range, saved}
+use Rattle.word_transaction.specs.Running.{IsRunning, IsIdle, nothing, begun, SettlesTo, ByTransaction, Runs}
+use Rattle.word_transaction.proofs.Saved.{some_not_none}
+use Rattle.word_transaction.proofs.Images.{SettlesTo-running, SettlesTo-idle}
+use Rattle.word_transaction.proofs.Calls.{not_cut}
+
+-- no word is saved yet
+nothing_saved : (g : Ground) (before : Image) (k v : ℕ) → saved g.place [] k ≡ Some v → v ≡ before k
+nothing_saved g before k v is = absurd (some_not_none (saved g.place [] k) v is (undone-none g.place running_range k))
+
+-- the gate of a running log alone makes a log that runs without entries
+log_of-begun : (at : ℕ) (image : Image) → image at ≡ RUNNING_GATE → log_of image at ≡ saying (begun at) []
+log_of-begun at image gate =
+    log_of-is image (begun at) [] [] (record { lo_fits = omega arith; hi_fits = omega arith; used_within = omega arith }) gate
+    (words_from-none image (at + LOG_HEADER_WORDS) 0 refl) (entries_in-nothing [] refl)
+
+module _ (size at : ℕ) (g : Ground) (before : Image) (fault : Option HostFault) (s t : State) (ground : IsGround size at g) (idle : IsIdle g at before s.now.words)
+    (p : Persists (only at RUNNING_GATE) fault s t) where
+  in_log : IsInLog at at
+  in_log = record { low = omega arith; high = omega arith }
+
+  other : (k : ℕ) → is_in_log at k ≡ false → k ≡ at → ⊥
+  other k out here = not_inside at k out (subst (λ (n : ℕ). IsInLog at n) (sym here) in_log)
+
+  gate_alone : (k : ℕ) → is_in_log at k ≡ false → (v : ℕ) → written (only at RUNNING_GATE) k v → ⊥
+  gate_alone k out v may = other k out (only_at at RUNNING_GATE k v may)
+
+  single : (k : ℕ) → g.mine k ≡ true → HasOnly (t.now.words k) (before k)
+  single k mine = HasOnly-kept (written (only at RUNNING_GATE)) fault s t k (before k) p.changes (gate_alone k (ground.apart k mine)) (idle.single k mine)
+
+  moment : (was image : Image) → Picks s.now.words was → IsFrom (written (only at RUNNING_GATE)) was image → SettlesTo g at before image
+  moment was image picked from =
+      let same : (k : ℕ) → g.mine k ≡ true → was k ≡ before k = λ k mine. (idle.single k mine).each (was k) (picked.each k) in
+      elim (one_word at RUNNING_GATE was image from) [
+        | inl still ↦ SettlesTo-idle g at before image (ap (λ (i : Image). is_idle_gate (i at)) still ∙ idle.closed (was at) (picked.each at)) (λ k mine. ap (λ (i : Image). i k) still ∙ same k mine)
+        | inr runs ↦ SettlesTo-running g (begun at) [] before image refl refl (All-nil (IsOwn g)) (log_of-begun at image runs.there)
+            (λ k v mine is. nothing_saved g before k v is) (λ k mine none. runs.others k (other k (ground.apart k mine)) ∙ same k mine)
+      ]
+
+  running : fault ≡ None → IsRunning g (begun at) [] before t.now.words
+  running none =
+      record {
+        opened = IsOpen-running at s t (subst (λ (f : Option HostFault). Persists (only at RUNNING_GATE) f s t) none p);
+        lo = refl;
+        hi = refl;
+        own = All-nil (IsOwn g);
+        saves = nothing_saved g before;
+        single = λ k mine _. single k mine;
+        marked = λ k mine. inr (HasOnly-own (t.now.words k) (before k) (single k mine));
+      }
+
+  pub Runs-begun : Runs g (begun at) [] before nothing fault s t
+  Runs-begun =
+      record {
+        changes = Changes-wider (written (only at RUNNING_GATE)) (ByTransaction g at) fault s t
+            (λ k v may. inl (let here = only_at at RUNNING_GATE k v may in record { low = omega arith; high = omega arith })) p.changes;
+        moments = Leaves-changes (SettlesTo g at before) (written (only at RUNNING_GATE)) fault s t moment p.changes;
+        running = running;
+        now = λ none k out. (p.changes.keeps (not_cut fault none) k (gate_alone k out)).newest;
+      }

@@ -1,0 +1,95 @@
+-- What calls within a transaction on words do, one behind the other.
+use Rattle.std.proofs.Common.{◌≡◌, ◌⊎◌, inl, inr, ℕ, true, List, [], Option, Some, None, refl, sym, ap, subst, ◌∙◌}
+use Rattle.std.specs.Prelude.{unwrap_or}
+use Rattle.std.proofs.lemmas.List.{append-nil}
+use Rattle.pm_model.specs.declared.host.HostFault.{HostFault}
+use Rattle.pm_model.specs.declared.host.HostFault.TheVariants.{Failed, Cut}
+use Rattle.pm_model.specs.Words.{reads, HasOnly}
+use Rattle.pm_model.specs.Moments.{State}
+use Rattle.pm_model.specs.Changes.{Footprint, Write, Changes, Leaves, Silently}
+use Rattle.pm_model.proofs.Words.{HasOnly-own}
+use Rattle.pm_model.proofs.Changes.{Changes-still, Changes-then, Changes-said, HasOnly-kept}
+use Rattle.pm_model.proofs.Leaves.{Leaves-still, Leaves-then}
+use Rattle.pud_defs.specs.Image.{Image}
+use Rattle.pud_defs.specs.Entries.{Entry}
+use Rattle.pud_defs.specs.Replay.{over, is_in_log}
+use Rattle.pud_defs.proofs.Replay.{overwritten-then}
+use Rattle.log_store.specs.Store.{OpenLog, InLog}
+use Rattle.log_store.proofs.Open.{IsOpen-kept}
+use Rattle.word_transaction.specs.Ground.{Ground}
+use Rattle.word_transaction.specs.Running.{IsRunning, SettlesTo, ByTransaction, Runs}
+use Rattle.word_transaction.proofs.Images.{IsRunning-settles}
+
+pub some_fault : (fault : HostFault) → Some fault ≡ None → ⊥
+some_fault fault e = absurd (cc)
+
+pub not_cut : (fault : Option HostFault) → fault ≡ None → fault ≡ Some Cut → ⊥
+not_cut fault none cut = absurd (let it : None ≡ Some Cut = sym none ∙ cut in cc)
+
+-- ---- words to which nothing comes
+
+-- one that is marked or has one value is so still
+pub marked_still : (may : Footprint) (fault : Option HostFault) (old new : State) (k : ℕ) → Changes may fault old new → ((v : ℕ) → may k v → ⊥)
+    → ((old.now.words k).kept ≡ []) ⊎ HasOnly (old.now.words k) (old.now.words k).newest → ((new.now.words k).kept ≡ []) ⊎ HasOnly (new.now.words k) (new.now.words k).newest
+marked_still may (Some Cut) old new k c none was = inr (record { each = ((c.rests refl).each k).each })
+marked_still may None old new k c none (inl marked) = inl ((c.keeps (λ cut. cc) k none).marked marked)
+marked_still may None old new k c none (inr one) = inr (HasOnly-own (new.now.words k) _ (HasOnly-kept may None old new k _ c none one))
+marked_still may (Some Failed) old new k c none (inl marked) = inl ((c.keeps (λ cut. cc) k none).marked marked)
+marked_still may (Some Failed) old new k c none (inr one) = inr (HasOnly-own (new.now.words k) _ (HasOnly-kept may (Some Failed) old new k _ c none one))
+
+-- a transaction is open still behind calls that give no value to a word of its log or to one of its own
+pub IsRunning-kept : (g : Ground) (log : OpenLog) (es : List Entry) (before : Image) (may : Footprint) (fault : Option HostFault) (old new : State) → Changes may fault old new
+    → ((k v : ℕ) → InLog log.at k v → may k v → ⊥) → ((k v : ℕ) → g.mine k ≡ true → may k v → ⊥) → IsRunning g log es before old.now.words → IsRunning g log es before new.now.words
+IsRunning-kept g log es before may fault old new c in_log own r =
+    record {
+      opened = IsOpen-kept may fault old new log es c in_log r.opened;
+      lo = r.lo;
+      hi = r.hi;
+      own = r.own;
+      saves = r.saves;
+      single = λ k mine none. HasOnly-kept may fault old new k (before k) c (λ v. own k v mine) (r.single k mine none);
+      marked = λ k mine. marked_still may fault old new k c (λ v. own k v mine) (r.marked k mine);
+    }
+
+-- ---- calls that do nothing, and calls in turn
+
+-- a call failed before it did anything
+pub Runs-stopped : (g : Ground) (log behind : OpenLog) (es es_behind : List Entry) (before : Image) (write : Write) (fault : HostFault) (old new : State) → behind.at ≡ log.at
+    → (Some fault ≡ Some Cut → ⊥) → new ≡ old → IsRunning g log es before old.now.words → Runs g behind es_behind before write (Some fault) old new
+Runs-stopped g log behind es es_behind before write fault old new at kept same r =
+    record {
+      changes = Changes-still (ByTransaction g behind.at) (Some fault) old new kept same;
+      moments = Leaves-still (Silently (SettlesTo g behind.at before)) old new
+          (λ image picked. (refl, subst (λ (k : ℕ). SettlesTo g k before image) (sym at) (IsRunning-settles g log es before image old.now.words r picked))) same;
+      running = λ none. absurd (some_fault fault none);
+      now = λ none. absurd (some_fault fault none);
+    }
+
+-- what failed did not do what was to come behind it
+pub Runs-failed : (g : Ground) (log behind : OpenLog) (es es_behind : List Entry) (before : Image) (write write_behind : Write) (fault : HostFault) (old new : State) → behind.at ≡ log.at
+    → Runs g log es before write (Some fault) old new → Runs g behind es_behind before write_behind (Some fault) old new
+Runs-failed g log behind es es_behind before write write_behind fault old new at r =
+    record {
+      changes = subst (λ (k : ℕ). Changes (ByTransaction g k) (Some fault) old new) (sym at) r.changes;
+      moments = subst (λ (k : ℕ). Leaves (Silently (SettlesTo g k before)) old new) (sym at) r.moments;
+      running = λ none. absurd (some_fault fault none);
+      now = λ none. absurd (some_fault fault none);
+    }
+
+-- one call and then another: what they write is written in turn
+pub Runs-then : (g : Ground) (log behind : OpenLog) (es es_behind : List Entry) (before : Image) (first later : Write) (fault : Option HostFault) (a b c : State) → behind.at ≡ log.at
+    → Runs g log es before first None a b → Runs g behind es_behind before later fault b c → Runs g behind es_behind before (over first later) fault a c
+Runs-then g log behind es es_behind before first later fault a b c at p q =
+    let P = Silently (SettlesTo g behind.at before) in
+    let changes : Changes (ByTransaction g behind.at) None a b = subst (λ (k : ℕ). Changes (ByTransaction g k) None a b) (sym at) p.changes in
+    let moments : Leaves P a b = subst (λ (k : ℕ). Leaves (Silently (SettlesTo g k before)) a b) (sym at) p.moments in
+    let said = Changes-said (ByTransaction g behind.at) None a b changes in
+    record {
+      changes = Changes-then (ByTransaction g behind.at) fault a b c changes q.changes;
+      moments = Leaves-then P P P [] a b c (said ∙ sym (append-nil a.now.said)) (λ front image x. x) (λ more image x. x) moments q.moments;
+      running = q.running;
+      now = λ none k out.
+          q.now none k out
+          ∙ ap (unwrap_or (later k)) (p.now refl k (ap (λ (n : ℕ). is_in_log n k) (sym at) ∙ out))
+          ∙ ap (λ (i : Image). i k) (overwritten-then first later (reads a.now.words));
+    }

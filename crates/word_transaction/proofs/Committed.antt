@@ -1,0 +1,203 @@
+-- A transaction committed: what is left at each moment, and at the end.
+use Rattle.std.proofs.Common.{◌≡◌, ◌⊎◌, inl, inr, ℕ, true, List, [], Option, Some, None, refl, sym, ap, subst, ◌∙◌, arith}
+use Rattle.std.proofs.lemmas.List.{append-nil}
+use Rattle.pm_model.specs.declared.host.HostFault.{HostFault}
+use Rattle.pm_model.specs.declared.host.HostFault.TheVariants.{Cut}
+use Rattle.pm_model.specs.Words.{Cell, reads, Picks, HasOnly, fenced, after_fence}
+use Rattle.pm_model.specs.Moments.{State}
+use Rattle.pm_model.specs.Calls.{Steps}
+use Rattle.pm_model.specs.Changes.{Footprint, Changes, Leaves, Silently, Persists, IsFrom, only, written}
+use Rattle.pm_model.proofs.Words.{HasOnly-newest, HasOnly-fenced, values-fenced, only_at}
+use Rattle.pm_model.proofs.Changes.{Changes-fence, Changes-then, Changes-wider, Changes-said, HasOnly-kept}
+use Rattle.pm_model.proofs.Leaves.{Leaves-changes, Leaves-then, Leaves-weaker}
+use Rattle.pm_model.proofs.OneWord.{one_word}
+use Rattle.pud_defs.specs.declared.log_words.TheConstants.{COMMITTING_LO, COMMITTING_HI, CLOSED_GATE}
+use Rattle.pud_defs.specs.Image.{Image}
+use Rattle.pud_defs.specs.Entries.{Entry, gate_word, is_idle_gate}
+use Rattle.pud_defs.proofs.Replay.{not_inside}
+use Rattle.log_store.specs.Store.{OpenLog, IsOpen, committing}
+use Rattle.log_store.proofs.Open.{IsOpen-log, IsOpen-kept, IsOpen-moved, log_of-moving, only_here, only_value}
+use Rattle.word_transaction.specs.Ground.{Ground, IsGround, pending}
+use Rattle.word_transaction.specs.Running.{IsRunning, SettlesTo, ByTransaction, ByCommit, Closes, Ends}
+use Rattle.word_transaction.proofs.Settling.{settles-running, settles-committing, settles-closed, IsRunning-settles}
+
+-- ---- words of the log, and the transaction's own
+
+pub no_fault : {A : Type 0} → (fault : HostFault) → Some fault ≡ None → A
+no_fault fault e = absurd (let it : None ≡ Some fault = sym e in cc)
+
+-- no own word is the gate
+pub mine_apart : (size at : ℕ) (g : Ground) (k : ℕ) → IsGround size at g → g.mine k ≡ true → k ≡ at → ⊥
+mine_apart size at g k ground mine here = absurd (not_inside at k (ground.apart k mine) (record { low = omega arith; high = omega arith }))
+
+-- what comes to the gate comes to a word of the log
+pub gate_by : (g : Ground) (at gate k v : ℕ) → written (only at gate) k v → ByTransaction g at k v
+gate_by g at gate k v new = let here = only_at at gate k v new in inl (record { low = omega arith; high = omega arith })
+
+-- what is written at a word is its value
+written_gate : {A : Type 0} → (w x k v : ℕ) → written (only w x) k v → (k ≡ w → v ≡ x → A) → A
+written_gate w x k v new make =
+    let here = only_at w x k v new in
+    make here (only_value w x v (subst (λ (n : ℕ). only w x n ≡ Some v) here new))
+
+-- ---- the log of words that each have one value is closed
+
+module _ (size at : ℕ) (g : Ground) (ground : IsGround size at g) (values : Image) (fault : Option HostFault) (c d : State)
+    (settles : (image : Image) → Picks c.now.words image → SettlesTo g at values image) (single : (k : ℕ) → g.mine k ≡ true → HasOnly (c.now.words k) (values k))
+    (p : Persists (only at CLOSED_GATE) fault c d) where
+  shut_image : (before image : Image) → Picks c.now.words before → IsFrom (written (only at CLOSED_GATE)) before image → SettlesTo g at values image
+  shut_image before image picked from = elim (one_word at CLOSED_GATE before image from) [
+    | inl same ↦ subst (λ (i : Image). SettlesTo g at values i) (sym same) (settles before picked)
+    | inr shut ↦ settles-closed g at values image (ap is_idle_gate shut.there)
+        (λ k mine. shut.others k (mine_apart size at g k ground mine) ∙ (single k mine).each (before k) (picked.each k))
+  ]
+
+  pub Closes-shut : Closes g at values fault c d
+  Closes-shut =
+      record {
+        changes = Changes-wider (written (only at CLOSED_GATE)) (ByTransaction g at) fault c d (gate_by g at CLOSED_GATE) p.changes;
+        moments = Leaves-changes (SettlesTo g at values) (written (only at CLOSED_GATE)) fault c d shut_image p.changes;
+        durable = λ none k mine.
+            HasOnly-kept (written (only at CLOSED_GATE)) fault c d k (values k) p.changes (λ x new. mine_apart size at g k ground mine (only_at at CLOSED_GATE k x new)) (single k mine);
+        closed = λ none. p.durable none at CLOSED_GATE (only_here at CLOSED_GATE);
+      }
+
+-- ---- a fence
+
+-- nothing may come to any word
+abbrev Nowhere : Footprint
+Nowhere k v = ⊥
+
+fenced_by : (c : Cell) → (c.kept ≡ []) ⊎ HasOnly c c.newest → HasOnly (fenced c) c.newest
+fenced_by c (inl kept) = HasOnly-fenced c c.newest refl kept
+fenced_by c (inr one) = record { each = λ x h. one.each x (values-fenced c x h) }
+
+-- ---- what is written: the gate alone
+
+-- the gate of the log with its range moved
+abbrev pub moved_gate : OpenLog → ℕ
+moved_gate log = gate_word COMMITTING_LO COMMITTING_HI log.used
+
+-- a fence, and then the range moved
+pub record Moves (log : OpenLog) (fault : Option HostFault) (a b c : State) : Type 0 where
+  pub fence : Steps after_fence None a b
+  pub move : Persists (only log.at (moved_gate log)) fault b c
+
+pub gate_moves : (log : OpenLog) (fault : Option HostFault) (a b c : State) → Moves log fault a b c → Changes (ByCommit log) fault a c
+gate_moves log fault a b c m =
+    Changes-then (ByCommit log) fault a b c (Changes-fence (ByCommit log) None a b m.fence)
+    (Changes-wider (written (only log.at (moved_gate log))) (ByCommit log) fault b c (λ k v new. written_gate log.at (moved_gate log) k v new (λ here is. record { gate = here; value = inl is }))
+    m.move.changes)
+
+pub gate_closes : (log : OpenLog) (fault : Option HostFault) (a b c d : State) → Moves log None a b c → Persists (only log.at CLOSED_GATE) fault c d → Changes (ByCommit log) fault a d
+gate_closes log fault a b c d m p =
+    Changes-then (ByCommit log) fault a c d (gate_moves log None a b c m)
+    (Changes-wider (written (only log.at CLOSED_GATE)) (ByCommit log) fault c d (λ k v new. written_gate log.at CLOSED_GATE k v new (λ here is. record { gate = here; value = inr is })) p.changes)
+
+-- ---- the moments of an open transaction
+
+module _ (size : ℕ) (log : OpenLog) (es : List Entry) (g : Ground) (before : Image) (a : State) (ground : IsGround size log.at g) (r : IsRunning g log es before a.now.words) where
+  -- what it has with the log replayed, at the start or at the end
+  abbrev Either : Image → Type 0
+  Either image = SettlesTo g log.at before image ⊎ SettlesTo g log.at (reads a.now.words) image
+
+  fence_image : (was image : Image) → Picks a.now.words was → IsFrom Nowhere was image → SettlesTo g log.at before image
+  fence_image was image picked from =
+      let each : (k : ℕ) → image k ≡ was k = λ k. elim (from.each k) [ inl is ↦ is | inr new ↦ absurd new ] in
+      let same : image ≡ was = λ i k. each k i in
+      subst (λ (i : Image). SettlesTo g log.at before i) (sym same) (IsRunning-settles g log es before a.now.words was r picked)
+
+  fence_left : (fault : Option HostFault) (b : State) → Steps after_fence fault a b → Leaves (Silently Either) a b
+  fence_left fault b step =
+      Leaves-weaker (Silently (SettlesTo g log.at before)) (Silently Either) a b (λ bytes image p. (p.0, inl p.1))
+      (Leaves-changes (SettlesTo g log.at before) Nowhere fault a b fence_image (Changes-fence Nowhere fault a b step))
+
+  -- behind it each own word has one value
+  fence_single : (b : State) → Steps after_fence None a b → (k : ℕ) → g.mine k ≡ true → HasOnly (b.now.words k) (reads a.now.words k)
+  fence_single b step k mine = subst (λ (s : State). HasOnly (s.now.words k) (reads a.now.words k)) (sym (step.done refl)) (fenced_by (a.now.words k) (r.marked k mine))
+
+  fence_open : (b : State) → Steps after_fence None a b → IsOpen log es b.now.words
+  fence_open b step = IsOpen-kept Nowhere None a b log es (Changes-fence Nowhere None a b step) (λ k v inside new. new) r.opened
+
+  fence_reads : (b : State) → Steps after_fence None a b → reads b.now.words ≡ reads a.now.words
+  fence_reads b step = ap (λ (s : State). reads s.now.words) (step.done refl)
+
+  -- ---- the range is moved
+
+  moved_own : (b c : State) (fault : Option HostFault) (m : Moves log fault a b c) (was image : Image) → Picks b.now.words was → IsFrom (written (only log.at (moved_gate log))) was image
+      → (k : ℕ) → g.mine k ≡ true → image k ≡ reads a.now.words k
+  moved_own b c fault m was image picked from k mine = elim (from.each k) [
+    | inl same ↦ same ∙ (fence_single b m.fence k mine).each (was k) (picked.each k)
+    | inr new ↦ absurd (mine_apart size log.at g k ground mine (only_at log.at (moved_gate log) k (image k) new))
+  ]
+
+  module _ (none : (k : ℕ) → pending g.place es k ≡ None) where
+    moved_image : (b c : State) (fault : Option HostFault) (m : Moves log fault a b c) (was image : Image) → Picks b.now.words was
+        → IsFrom (written (only log.at (moved_gate log))) was image → Either image
+    moved_image b c fault m was image picked from =
+        let own = moved_own b c fault m was image picked from in
+        elim (log_of-moving COMMITTING_LO COMMITTING_HI log es b.now.words was image (omega arith) (omega arith) (fence_open b m.fence) picked from) [
+          | inl says ↦ inl (settles-running g log es image r.own before r.lo r.hi says r.saves
+              (λ k mine kept. own k mine ∙ HasOnly-newest (a.now.words k) (before k) (r.single k mine kept)))
+          | inr says ↦ inr (settles-committing g log es image r.own (reads a.now.words) says none own)
+        ]
+
+    moved_left : (b c : State) (fault : Option HostFault) (m : Moves log fault a b c) → Leaves (Silently Either) a c
+    moved_left b c fault m =
+        let P = Silently Either in
+        let said = Changes-said Nowhere None a b (Changes-fence Nowhere None a b m.fence) in
+        Leaves-then P P P [] a b c (said ∙ sym (append-nil a.now.said)) (λ front image p. p) (λ more image p. p) (fence_left None b m.fence)
+        (Leaves-changes Either (written (only log.at (moved_gate log))) fault b c (moved_image b c fault m) m.move.changes)
+
+    -- behind it each image settles to what is read
+    moved_single : (b c : State) (m : Moves log None a b c) → (k : ℕ) → g.mine k ≡ true → HasOnly (c.now.words k) (reads a.now.words k)
+    moved_single b c m k mine =
+        HasOnly-kept (written (only log.at (moved_gate log))) None b c k (reads a.now.words k) m.move.changes
+        (λ x new. mine_apart size log.at g k ground mine (only_at log.at (moved_gate log) k x new)) (fence_single b m.fence k mine)
+
+    moved_settles : (b c : State) (m : Moves log None a b c) (image : Image) → Picks c.now.words image → SettlesTo g log.at (reads a.now.words) image
+    moved_settles b c m image picked =
+        let opened = IsOpen-moved COMMITTING_LO COMMITTING_HI log es b c (omega arith) (omega arith) (fence_open b m.fence) m.move in
+        settles-committing g log es image r.own (reads a.now.words) (IsOpen-log (committing log) es c.now.words image opened picked) none
+        (λ k mine. (moved_single b c m k mine).each (image k) (picked.each k))
+
+    -- ---- the call
+
+    own_gate : (k v : ℕ) → ByCommit log k v → ByTransaction g log.at k v
+    own_gate k v by = let here = by.gate in inl (record { low = omega arith; high = omega arith })
+
+    pub Ends-fence : (fault : HostFault) (b : State) → Steps after_fence (Some fault) a b → Ends g log.at before (reads a.now.words) (Some fault) a b
+    Ends-fence fault b step =
+        record {
+          changes = Changes-fence (ByTransaction g log.at) (Some fault) a b step;
+          moments = fence_left (Some fault) b step;
+          durable = λ e. no_fault fault e;
+          closed = λ e. no_fault fault e;
+          now = λ e. no_fault fault e;
+        }
+
+    pub Ends-move : (fault : HostFault) (b c : State) → Moves log (Some fault) a b c → Ends g log.at before (reads a.now.words) (Some fault) a c
+    Ends-move fault b c m =
+        record {
+          changes = Changes-wider (ByCommit log) (ByTransaction g log.at) (Some fault) a c own_gate (gate_moves log (Some fault) a b c m);
+          moments = moved_left b c (Some fault) m;
+          durable = λ e. no_fault fault e;
+          closed = λ e. no_fault fault e;
+          now = λ e. no_fault fault e;
+        }
+
+    pub Ends-close : (fault : Option HostFault) (b c d : State) → Moves log None a b c → Persists (only log.at CLOSED_GATE) fault c d → Ends g log.at before (reads a.now.words) fault a d
+    Ends-close fault b c d m p =
+        let shut = Closes-shut size log.at g ground (reads a.now.words) fault c d (moved_settles b c m) (moved_single b c m) p in
+        let changes = gate_closes log fault a b c d m p in
+        let said = Changes-said (ByCommit log) None a c (gate_moves log None a b c m) in
+        record {
+          changes = Changes-wider (ByCommit log) (ByTransaction g log.at) fault a d own_gate changes;
+          moments = Leaves-then (Silently Either) (Silently (SettlesTo g log.at (reads a.now.words))) (Silently Either) [] a c d (said ∙ sym (append-nil a.now.said))
+              (λ front image p. p) (λ more image p. (p.0, inr p.1)) (moved_left b c None m) shut.moments;
+          durable = shut.durable;
+          closed = shut.closed;
+          now = λ e k outside.
+              (changes.keeps (λ cut. absurd (let it : None ≡ Some Cut = sym e ∙ cut in cc)) k
+              (λ v by. not_inside log.at k outside (let here = by.gate in record { low = omega arith; high = omega arith }))).newest;
+        }

@@ -1,0 +1,52 @@
+-- What is known once a transaction has ended.
+use Rattle.std.proofs.Common.{◌≡◌, inl, inr, ℕ, true, false, Option, Some, None, sym, ap, ◌∙◌}
+use Rattle.pm_model.specs.declared.host.HostFault.{HostFault}
+use Rattle.pm_model.specs.declared.host.HostFault.TheVariants.{Cut}
+use Rattle.pm_model.specs.Words.{Words, reads, Picks}
+use Rattle.pm_model.specs.Moments.{State}
+use Rattle.pm_model.specs.Changes.{Changes}
+use Rattle.pm_model.proofs.Words.{HasOnly-newest}
+use Rattle.pud_defs.specs.Image.{Image}
+use Rattle.pud_defs.specs.Entries.{is_idle_gate}
+use Rattle.pud_defs.specs.Replay.{is_in_log}
+use Rattle.pud_defs.proofs.Replay.{not_inside}
+use Rattle.word_transaction.specs.Ground.{Ground}
+use Rattle.word_transaction.specs.Running.{ByTransaction, IsIdle, SettlesTo, Closes, Ends}
+use Rattle.word_transaction.proofs.Settling.{settles-closed}
+
+-- ---- none is open any more
+
+pub Ends-idle : (g : Ground) (at : ℕ) (before after : Image) (fault : Option HostFault) (old new : State) → fault ≡ None → Ends g at before after fault old new → IsIdle g at after new.now.words
+Ends-idle g at before after fault old new none e = record { closed = λ v has. ap is_idle_gate ((e.closed none).each v has); single = λ k mine. e.durable none k mine }
+
+pub Closes-idle : (g : Ground) (at : ℕ) (values : Image) (fault : Option HostFault) (old new : State) → fault ≡ None → Closes g at values fault old new → IsIdle g at values new.now.words
+Closes-idle g at values fault old new none c = record { closed = λ v has. ap is_idle_gate ((c.closed none).each v has); single = λ k mine. c.durable none k mine }
+
+-- ---- then each own word has the value
+
+module _ (g : Ground) (at : ℕ) (values : Image) (words : Words) (idle : IsIdle g at values words) where
+  -- as it is read
+  pub IsIdle-reads : (k : ℕ) → g.mine k ≡ true → reads words k ≡ values k
+  IsIdle-reads k mine = HasOnly-newest (words k) (values k) (idle.single k mine)
+
+  -- and in each image that is left, whose log is closed
+  pub IsIdle-image : (image : Image) → Picks words image → (k : ℕ) → g.mine k ≡ true → image k ≡ values k
+  IsIdle-image image picked k mine = (idle.single k mine).each (image k) (picked.each k)
+
+  pub IsIdle-gate : (image : Image) → Picks words image → is_idle_gate (image at) ≡ true
+  IsIdle-gate image picked = idle.closed (image at) (picked.each at)
+
+  pub IsIdle-settles : (image : Image) → Picks words image → SettlesTo g at values image
+  IsIdle-settles image picked = settles-closed g at values image (IsIdle-gate image picked) (IsIdle-image image picked)
+
+-- ---- what stays meanwhile
+
+-- nothing comes to a word that is none of the log's and not the transaction's own
+pub beside_transaction : (g : Ground) (at k v : ℕ) → is_in_log at k ≡ false → g.mine k ≡ false → ByTransaction g at k v → ⊥
+beside_transaction g at k v outside other (inl inside) = not_inside at k outside inside
+beside_transaction g at k v outside other (inr mine) = absurd (let it : true ≡ false = sym mine ∙ other in cc)
+
+-- so it reads as it did
+pub reads_beside : (g : Ground) (at : ℕ) (fault : Option HostFault) (old new : State) → Changes (ByTransaction g at) fault old new → (fault ≡ Some Cut → ⊥) → (k : ℕ) → is_in_log at k ≡ false
+    → g.mine k ≡ false → reads new.now.words k ≡ reads old.now.words k
+reads_beside g at fault old new changes uncut k outside other = (changes.keeps uncut k (λ v. beside_transaction g at k v outside other)).newest

@@ -1,0 +1,64 @@
+-- What an image says of a transaction on words, by its log's words and the transaction's own.
+use Rattle.std.proofs.Common.{◌≡◌, ℕ, true, List, [], Option, Some, None, refl, sym, ap, ap₂, ◌∙◌, arith}
+use Rattle.std.specs.Prelude.{All, unwrap_or}
+use Rattle.std.proofs.lemmas.List.Elements.{All-nil}
+use Rattle.pm_model.specs.Words.{Words, Picks}
+use Rattle.pud_defs.specs.declared.log_words.TheConstants.{RUNNING_LO, RUNNING_HI}
+use Rattle.pud_defs.specs.Image.{Image}
+use Rattle.pud_defs.specs.Entries.{Entry, Log, log_of, is_idle_gate}
+use Rattle.pud_defs.specs.Replay.{new_value, IsInLog}
+use Rattle.pud_defs.proofs.Entries.{log_of-same, used_within}
+use Rattle.pud_defs.proofs.Replay.{replayed-none, empty_range_of, entries_of-idle}
+use Rattle.log_store.specs.Store.{OpenLog, saying}
+use Rattle.log_store.proofs.Open.{IsOpen-log}
+use Rattle.word_transaction.specs.Ground.{Ground, IsOwn, saved}
+use Rattle.word_transaction.specs.Running.{IsRunning, SettlesTo}
+use Rattle.word_transaction.proofs.Saved.{new_value-running}
+
+-- it has to do with those words alone
+pub SettlesTo-local : (g : Ground) (at : ℕ) (values i j : Image) → ((k : ℕ) → IsInLog at k → j k ≡ i k) → ((k : ℕ) → g.mine k ≡ true → j k ≡ i k) → SettlesTo g at values i → SettlesTo g at values j
+SettlesTo-local g at values i j in_log own s =
+    let used = used_within i at s.es s.spells in
+    let same : log_of j at ≡ log_of i at =
+    sym (log_of-same i j at (sym (in_log at (record { low = omega arith; high = omega arith }))) (λ k low high. sym (in_log k (record { low = omega arith; high = omega arith })))) in
+    record {
+      es = s.es;
+      spells = ap (λ (l : Log). l.entries) same ∙ s.spells;
+      own = s.own;
+      settled = λ k mine. ap₂ (λ (l : Log) (v : ℕ). unwrap_or (new_value g.place l k) v) same (own k mine) ∙ s.settled k mine;
+    }
+
+-- ---- images with a running log
+
+unwrapped : (o : Option ℕ) (x y : ℕ) → ((v : ℕ) → o ≡ Some v → v ≡ y) → (o ≡ None → x ≡ y) → unwrap_or o x ≡ y
+unwrapped None x y some none = none refl
+unwrapped (Some v) x y some none = some v refl
+
+-- what is saved has its value of the beginning, and what is not is as it was then
+pub SettlesTo-running : (g : Ground) (log : OpenLog) (es : List Entry) (before image : Image) → log.lo ≡ RUNNING_LO → log.hi ≡ RUNNING_HI → All (IsOwn g) es → log_of image log.at ≡ saying log es
+    → ((k v : ℕ) → g.mine k ≡ true → saved g.place es k ≡ Some v → v ≡ before k) → ((k : ℕ) → g.mine k ≡ true → saved g.place es k ≡ None → image k ≡ before k) → SettlesTo g log.at before image
+SettlesTo-running g log es before image lo hi own says saves single =
+    record {
+      es = es;
+      spells = ap (λ (l : Log). l.entries) says;
+      own = own;
+      settled = λ k mine.
+          ap (λ (o : Option ℕ). unwrap_or o (image k)) (ap (λ (l : Log). new_value g.place l k) says ∙ new_value-running g (saying log es) es k lo hi refl own)
+          ∙ unwrapped (saved g.place es k) (image k) (before k) (λ v. saves k v mine) (single k mine);
+    }
+
+-- each image that may be left while a transaction is open settles to the values from its beginning
+pub IsRunning-settles : (g : Ground) (log : OpenLog) (es : List Entry) (before image : Image) (words : Words) → IsRunning g log es before words → Picks words image → SettlesTo g log.at before image
+IsRunning-settles g log es before image words r picked =
+    SettlesTo-running g log es before image r.lo r.hi r.own (IsOpen-log log es words image r.opened picked)
+    (λ k v mine is. r.saves k v is) (λ k mine none. (r.single k mine none).each (image k) (picked.each k))
+
+-- with a log that counts nothing it has them as they are
+pub SettlesTo-idle : (g : Ground) (at : ℕ) (before image : Image) → is_idle_gate (image at) ≡ true → ((k : ℕ) → g.mine k ≡ true → image k ≡ before k) → SettlesTo g at before image
+SettlesTo-idle g at before image idle same =
+    record {
+      es = [];
+      spells = entries_of-idle image at idle;
+      own = All-nil (IsOwn g);
+      settled = λ k mine. ap (λ (i : Image). i k) (replayed-none g.place (log_of image at) image (empty_range_of (image at) idle)) ∙ same k mine;
+    }

@@ -1,0 +1,131 @@
+-- What the entries of a transaction give to each word, while its log is running.
+use Rattle.std.proofs.Common.{◌≡◌, ◌⊎◌, inl, inr, ℕ, zero, suc, ◌+◌, ◌-◌, ◌<◌, ◌≤◌, true, false, ◌&&◌, cond, ltb, leb, eqb, List, [], ◌∷◌, ◌++◌, length, get_or, Option, Some, None, refl, sym, ap, ap₂, ◌∙◌, arith}
+use Rattle.std.specs.Prelude.{All, slice_get}
+use Rattle.std.specs.Option.{option_or}
+use Rattle.std.proofs.lemmas.Bool.{cond-true, cond-false, cases_Bool, le-leb}
+use Rattle.std.proofs.lemmas.Bool.Decides.{nat_tests}
+use Rattle.std.proofs.lemmas.List.Elements.{All-head, All-tail}
+use Rattle.pm_model.specs.Changes.{placed}
+use Rattle.pm_persist.proofs.Ranges.{placed_at, placed_within}
+use Rattle.pud_defs.specs.declared.log_words.TheConstants.{UNDO_ORDER, REDO_ORDER, RUNNING_LO, RUNNING_HI}
+use Rattle.pud_defs.specs.Image.{Image}
+use Rattle.pud_defs.specs.Entries.{Entry, Log, words_from}
+use Rattle.pud_defs.specs.Replay.{Place, is_in_range, value_from, value_in, given_by, undone, redone, new_value}
+use Rattle.pud_defs.proofs.Replay.{undone-first, undone-none, undone-append, redone-first, redone-none, given_by-out, given_by-other, new_value-of, or_none}
+use Rattle.word_transaction.specs.Ground.{Ground, IsGround, IsOwn, undo_entry, running_range, saved}
+
+pub some_not_none : (o : Option ℕ) (v : ℕ) → o ≡ Some v → o ≡ None → ⊥
+some_not_none o v is none = absurd (let it : Some v ≡ None = sym is ∙ none in cc)
+
+-- ---- which entries count
+
+-- it is the range that tells it
+given_by-range : (place : Place) (l m : Log) (order : ℕ) (e : Entry) (k : ℕ) → l.lo ≡ m.lo → l.hi ≡ m.hi → given_by place l order e k ≡ given_by place m order e k
+given_by-range place l m order e k lo hi = ap₂ (λ (a b : ℕ). cond ((ltb a e.seq && ltb e.seq b) && eqb e.order order) (value_in place e k) None) lo hi
+
+pub undone-range : (place : Place) (l m : Log) (es : List Entry) (k : ℕ) → l.lo ≡ m.lo → l.hi ≡ m.hi → undone place l es k ≡ undone place m es k
+undone-range place l m [] k lo hi = undone-none place l k ∙ sym (undone-none place m k)
+undone-range place l m (e ∷ es) k lo hi =
+    undone-first place l e es k ∙ ap₂ option_or (given_by-range place l m UNDO_ORDER e k lo hi) (undone-range place l m es k lo hi) ∙ sym (undone-first place m e es k)
+
+behind_range : (lo hi seq : ℕ) → hi ≤ seq → (ltb lo seq && ltb seq hi) ≡ false
+behind_range lo hi seq behind = grind (arith, nat_tests)
+
+-- a running log gives nothing by the redo entries of a transaction
+given_by-redo : (g : Ground) (log : Log) (e : Entry) (k : ℕ) → log.hi ≡ RUNNING_HI → IsOwn g e → given_by g.place log REDO_ORDER e k ≡ None
+given_by-redo g log e k hi own = elim own.kind [
+  | inl undo ↦ given_by-other g.place log REDO_ORDER e k (λ order. let is = undo.order in absurd (omega arith))
+  | inr redo ↦ given_by-out g.place log REDO_ORDER e k (let is = redo.seq in behind_range log.lo log.hi e.seq (omega arith))
+]
+
+redone-running : (g : Ground) (log : Log) (es : List Entry) (k : ℕ) → log.hi ≡ RUNNING_HI → All (IsOwn g) es → redone g.place log es k ≡ None
+redone-running g log [] k hi own = redone-none g.place log k
+redone-running g log (e ∷ es) k hi own =
+    redone-first g.place log e es k
+    ∙ ap₂ option_or (redone-running g log es k hi (All-tail (IsOwn g) e es own)) (given_by-redo g log e k hi (All-head (IsOwn g) e es own))
+
+-- it gives what is saved
+pub new_value-running : (g : Ground) (log : Log) (es : List Entry) (k : ℕ) → log.lo ≡ RUNNING_LO → log.hi ≡ RUNNING_HI → log.entries ≡ Some es → All (IsOwn g) es
+    → new_value g.place log k ≡ saved g.place es k
+new_value-running g log es k lo hi entries own =
+    new_value-of g.place log es k entries ∙ ap₂ option_or (redone-running g log es k hi own) (undone-range g.place log running_range es k lo hi)
+
+-- ---- which words are saved
+
+-- what an entry gives it gives to words that it names
+value_of_given : (place : Place) (log : Log) (order : ℕ) (e : Entry) (k v : ℕ) → given_by place log order e k ≡ Some v → value_in place e k ≡ Some v
+value_of_given place log order e k v is = elim (cases_Bool (is_in_range log e && eqb e.order order)) [
+  | inl counts ↦ sym (cond-true _ _ _ counts) ∙ is
+  | inr other ↦ absurd (some_not_none _ v is (cond-false _ _ _ other))
+]
+
+-- a word that an entry of the transaction names is one of its own
+named_is_mine : (size at : ℕ) (g : Ground) (e : Entry) (k v : ℕ) → IsGround size at g → IsOwn g e → value_in g.place e k ≡ Some v → g.mine k ≡ true
+named_is_mine size at g e k v ground own is =
+    let spans = ground.named e.address (length e.vals) own.may in
+    let within = placed_within spans.first k v e.vals (sym (ap (λ (o : Option ℕ). value_from o e.vals k) spans.placed) ∙ is) in
+    spans.own k within.0 within.1
+
+either_some : (a b : Option ℕ) (v : ℕ) → option_or a b ≡ Some v → (a ≡ Some v) ⊎ (b ≡ Some v)
+either_some None b v is = inr is
+either_some (Some x) b v is = inl is
+
+pub saved_is_mine : (size at : ℕ) (g : Ground) (es : List Entry) (k v : ℕ) → IsGround size at g → All (IsOwn g) es → saved g.place es k ≡ Some v → g.mine k ≡ true
+saved_is_mine size at g [] k v ground own is = absurd (some_not_none _ v is (undone-none g.place running_range k))
+saved_is_mine size at g (e ∷ es) k v ground own is =
+    elim (either_some (given_by g.place running_range UNDO_ORDER e k) (saved g.place es k) v (sym (undone-first g.place running_range e es k) ∙ is)) [
+      | inl first ↦ named_is_mine size at g e k v ground (All-head (IsOwn g) e es own) (value_of_given g.place running_range UNDO_ORDER e k v first)
+      | inr later ↦ saved_is_mine size at g es k v ground (All-tail (IsOwn g) e es own) later
+    ]
+
+-- ---- behind others
+
+pub saved-append : (place : Place) (es more : List Entry) (k : ℕ) → saved place (es ++ more) k ≡ option_or (saved place es k) (saved place more k)
+saved-append place es more k = undone-append place running_range es more k
+
+-- what is not saved by all of them is saved by none
+or_first_none : (a b : Option ℕ) → option_or a b ≡ None → a ≡ None
+or_first_none None b none = refl
+or_first_none (Some x) b none = none
+
+or_second_none : (a b : Option ℕ) → option_or a b ≡ None → b ≡ None
+or_second_none None b none = none
+or_second_none (Some x) b none = absurd (cc)
+
+pub saved-none_first : (place : Place) (es more : List Entry) (k : ℕ) → saved place (es ++ more) k ≡ None → saved place es k ≡ None
+saved-none_first place es more k none = or_first_none (saved place es k) (saved place more k) (sym (saved-append place es more k) ∙ none)
+
+pub saved-none_more : (place : Place) (es more : List Entry) (k : ℕ) → saved place (es ++ more) k ≡ None → saved place more k ≡ None
+saved-none_more place es more k none = or_second_none (saved place es k) (saved place more k) (sym (saved-append place es more k) ∙ none)
+
+-- ---- by one entry
+
+-- it saves its values, placed from its word on
+pub saved-one : (place : Place) (address first k : ℕ) (vals : List ℕ) → place address ≡ Some first → saved place (undo_entry address vals ∷ []) k ≡ placed first vals k
+saved-one place address first k vals is =
+    undone-first place running_range (undo_entry address vals) [] k
+    ∙ ap (option_or (value_from (place address) vals k)) (undone-none place running_range k)
+    ∙ sym (or_none (value_from (place address) vals k))
+    ∙ ap (λ (o : Option ℕ). value_from o vals k) is
+
+-- so each of its words is saved
+pub saved_there : (place : Place) (es : List Entry) (address first k : ℕ) (vals : List ℕ) → place address ≡ Some first → first ≤ k → k < first + length vals
+    → saved place (es ++ undo_entry address vals ∷ []) k ≡ None → ⊥
+saved_there place es address first k vals is low high none =
+    let here : placed first vals k ≡ Some (get_or vals (k - first) 0) = placed_at first (k - first) k vals (omega arith) (omega arith) in
+    some_not_none (placed first vals k) _ here (sym (saved-one place address first k vals is) ∙ saved-none_more place es (undo_entry address vals ∷ []) k none)
+
+-- ---- words of an image
+
+words_from-get : (image : Image) (at n i v : ℕ) → slice_get (words_from image at n) i ≡ Some v → v ≡ image (at + i)
+unfolding words_from
+words_from-get image at zero i v is = absurd (cc)
+words_from-get image at (suc n) zero v is = (let it : v ≡ image at = cc in it) ∙ ap image (let here : at ≡ at + 0 = omega arith in here)
+words_from-get image at (suc n) (suc i) v is = words_from-get image (at + 1) n i v is ∙ ap image (let it : (at + 1) + i ≡ at + suc i = omega arith in it)
+
+-- words of an image placed where they stand have their values of it
+pub placed_words : (image : Image) (first count k v : ℕ) → placed first (words_from image first count) k ≡ Some v → v ≡ image k
+placed_words image first count k v is =
+    let within = placed_within first k v (words_from image first count) is in
+    words_from-get image first count (k - first) v (sym (cond-true (leb first k) _ None (le-leb first k within.0)) ∙ is)
+    ∙ ap image (let low = within.0 in let it : first + (k - first) ≡ k = omega arith in it)

@@ -1,0 +1,32 @@
+use Rattle.std.proofs.Common.{◌∙◌, ℕ, sym, subst}
+use Rattle.pm_model.specs.Words.{reads}
+use Rattle.pm_model.specs.Counts.{fault_of}
+use Rattle.pm_model.specs.Changes.{Leaves, Silently}
+use Rattle.log_replay.specs.declared.Target.TheVariants.{Puddles}
+use Rattle.log_replay.specs.Replaying.{place_of, IsReplayable, HasDurableLog, IsSettling, SettlesLog}
+use Rattle.log_replay.proofs.Applying.{any_wider}
+use Rattle.word_transaction.proofs.Undone.{Closes-empty, replayable, durable_log, Closes-settled}
+use Rattle.word_transaction.proofs.WordTransaction.abort.Goals as goal
+
+pub returns-then-used-eq0-clause-closes : goal.returns-then-used-eq0-clause-closes
+returns-then-used-eq0-clause-closes g c =
+    rw (← c.self.view_is) (λ t size same ground es before is r places table.
+    Closes-empty size _ es ground before (fault_of c.close.result) _ _ is r (sym c.used.ensures.used ∙ c.if-used-eq0.true) (c.close.ensures.persists t))
+
+pub returns-then-used-eq0-clause-any : goal.returns-then-used-eq0-clause-any
+returns-then-used-eq0-clause-any g c = λ t. any_wider _ (fault_of c.close.result) _ _ (c.close.ensures.persists t).changes
+
+pub returns-clause-closes : goal.returns-clause-closes
+returns-clause-closes g c =
+    let F = c.args.frames in
+    let log = c.self.inside.log in
+    let old = g.H.Host.state c.args.h.now in
+    let new = g.H.Host.state c.settle_log.new.h in
+    let fault = fault_of c.settle_log.result in
+    let here = c.at.ensures in
+    rw (← c.self.view_is) (λ t size same ground es before is r places table.
+    let may = subst (λ (k : ℕ). IsReplayable (place_of (Puddles F) (reads old.now.words)) size k es (reads old.now.words)) (sym here) (replayable size F log es ground before old is r places table) in
+    let durable = subst (λ (k : ℕ). HasDurableLog (Puddles F) k old.now.words) (sym here) (durable_log size F log es ground before old is r places table) in
+    let settles = subst (λ (k : ℕ). SettlesLog (Puddles F) k fault old new) here (c.settle_log.ensures.settles t size same es may) in
+    let moments = subst (λ (k : ℕ). Leaves (Silently (IsSettling (Puddles F) k old.now.words)) old new) here (c.settle_log.ensures.moments t size same es may durable) in
+    Closes-settled size F log es ground before old is r places table fault new settles moments)

@@ -1,0 +1,90 @@
+-- Words of a transaction that are saved, and their values stored.
+use Rattle.std.proofs.Common.{◌≡◌, ◌⊎◌, inl, inr, ℕ, ◌+◌, ◌≤◌, true, List, [], ◌∷◌, ◌++◌, length, Option, Some, None, refl, sym, ◌∙◌, arith}
+use Rattle.pm_model.specs.declared.host.HostFault.{HostFault}
+use Rattle.pm_model.specs.Words.{reads, Picks, HasOnly}
+use Rattle.pm_model.specs.Moments.{State}
+use Rattle.pm_model.specs.Changes.{Write, IsFrom, Writes, placed, written}
+use Rattle.pm_model.proofs.Changes.{Changes-wider, HasOnly-kept}
+use Rattle.pm_model.proofs.Leaves.{Leaves-changes}
+use Rattle.pm_persist.proofs.Ranges.{placed_within}
+use Rattle.pud_defs.specs.Image.{Image}
+use Rattle.pud_defs.specs.Entries.{Entry}
+use Rattle.pud_defs.specs.Replay.{overwritten, IsInLog}
+use Rattle.pud_defs.proofs.Replay.{overwritten-stays, overwritten-there, not_inside}
+use Rattle.log_store.specs.Store.{OpenLog}
+use Rattle.log_store.proofs.Open.{IsOpen-fits, IsOpen-kept, IsOpen-log_by}
+use Rattle.word_transaction.specs.Ground.{Ground, IsGround, undo_entry}
+use Rattle.word_transaction.specs.Running.{IsRunning, IsCovered, SettlesTo, ByTransaction, Runs}
+use Rattle.word_transaction.proofs.Saved.{some_not_none, saved-none_first, saved_there}
+use Rattle.word_transaction.proofs.Images.{SettlesTo-running}
+use Rattle.word_transaction.proofs.Calls.{not_cut, marked_still}
+
+-- ---- which words are covered
+
+-- words that the last entry saved, or some of them
+pub IsCovered-saved : (size at : ℕ) (g : Ground) (es : List Entry) (address first from : ℕ) (vals stored : List ℕ) → IsGround size at g → g.may address (length vals) ≡ true → g.place address ≡ Some first
+    → first ≤ from → from + length stored ≤ first + length vals → IsCovered g (es ++ undo_entry address vals ∷ []) (placed from stored)
+IsCovered-saved size at g es address first from vals stored ground may place low high =
+    let spans = ground.named address (length vals) may in
+    let here : Some spans.first ≡ Some first = sym spans.placed ∙ place in
+    let same : spans.first ≡ first = cc in
+    record {
+      mine = λ k v is. let within = placed_within from k v stored is in spans.own k (omega arith) (omega arith);
+      kept = λ k v is none. let within = placed_within from k v stored is in saved_there g.place es address first k vals place (omega arith) (omega arith) none;
+    }
+
+-- words that were covered, with more entries
+pub IsCovered-more : (g : Ground) (es more : List Entry) (write : Write) → IsCovered g es write → IsCovered g (es ++ more) write
+IsCovered-more g es more write c = record { mine = c.mine; kept = λ k v is none. c.kept k v is (saved-none_first g.place es more k none) }
+
+-- ---- words that are covered are written
+
+module _ (size : ℕ) (g : Ground) (log : OpenLog) (es : List Entry) (before : Image) (write : Write) (fault : Option HostFault) (s t : State)
+    (ground : IsGround size log.at g) (r : IsRunning g log es before s.now.words) (covered : IsCovered g es write) (w : Writes write fault s t) where
+  -- none is of the log
+  beside_log : (k v : ℕ) → IsInLog log.at k → written write k v → ⊥
+  beside_log k v inside may = not_inside log.at k (ground.apart k (covered.mine k v may)) inside
+
+  none_comes : (k : ℕ) → write k ≡ None → (v : ℕ) → written write k v → ⊥
+  none_comes k none v may = some_not_none (write k) v may none
+
+  moment : (was image : Image) → Picks s.now.words was → IsFrom (written write) was image → SettlesTo g log.at before image
+  moment was image picked from =
+      let used = (IsOpen-fits log es s.now.words r.opened).used_within in
+      let in_log : (k : ℕ) → IsInLog log.at k → image k ≡ was k = λ k inside. elim (from.each k) [ inl same ↦ same | inr new ↦ absurd (beside_log k (image k) inside new) ] in
+      SettlesTo-running g log es before image r.lo r.hi r.own
+      (IsOpen-log_by log es s.now.words image r.opened
+      (in_log log.at (record { low = omega arith; high = omega arith }) ∙ r.opened.gate.each (was log.at) (picked.each log.at))
+      (λ k low high. in_log k (record { low = omega arith; high = omega arith }) ∙ (r.opened.counted k low high).each (was k) (picked.each k)))
+      (λ k v mine is. r.saves k v is)
+      (λ k mine none. (let it : image k ≡ was k = elim (from.each k) [ inl same ↦ same | inr new ↦ absurd (covered.kept k (image k) new none) ] in it)
+      ∙ (r.single k mine none).each (was k) (picked.each k))
+
+  marked_by : fault ≡ None → (k : ℕ) → g.mine k ≡ true → (o : Option ℕ) → write k ≡ o → ((t.now.words k).kept ≡ []) ⊎ HasOnly (t.now.words k) (t.now.words k).newest
+  marked_by none k mine (Some v) is = inl (w.marked none k v is)
+  marked_by none k mine None is = marked_still (written write) fault s t k w.changes (none_comes k is) (r.marked k mine)
+
+  running : fault ≡ None → IsRunning g log es before t.now.words
+  running none =
+      record {
+        opened = IsOpen-kept (written write) fault s t log es w.changes beside_log r.opened;
+        lo = r.lo;
+        hi = r.hi;
+        own = r.own;
+        saves = r.saves;
+        single = λ k mine free. HasOnly-kept (written write) fault s t k (before k) w.changes (λ v may. covered.kept k v may free) (r.single k mine free);
+        marked = λ k mine. marked_by none k mine (write k) refl;
+      }
+
+  now_by : fault ≡ None → (k : ℕ) → (o : Option ℕ) → write k ≡ o → reads t.now.words k ≡ overwritten write (reads s.now.words) k
+  now_by none k (Some v) is = w.newest none k v is ∙ sym (overwritten-there write (reads s.now.words) k v is)
+  now_by none k None is = (w.changes.keeps (not_cut fault none) k (none_comes k is)).newest ∙ sym (overwritten-stays write (reads s.now.words) k is)
+
+  pub Runs-written : Runs g log es before write fault s t
+  Runs-written =
+      record {
+        changes = Changes-wider (written write) (ByTransaction g log.at) fault s t (λ k v may. inr (covered.mine k v may)) w.changes;
+        moments = Leaves-changes (SettlesTo g log.at before) (written write) fault s t moment w.changes;
+        running = running;
+        now = λ none k out. now_by none k (write k) refl;
+      }
