@@ -4,3 +4,6 @@ pub mod ObjectsMade
 pub mod Putting
 pub mod Opening
 pub mod InFrames
+pub mod OpenMasks
+pub mod OpenSettled
+pub mod OpenWorlds
