@@ -1,26 +1,24 @@
 -- Which words a transaction's mask has, and with which values.
-use Rattle.std.proofs.Common.{◌≡◌, ◌⊎◌, inl, inr, ℕ, ◌+◌, ◌<◌, ◌≤◌, Bool, true, false, ◌&&◌, ◌||◌, leb, ltb, eqb, cond, List, Option, Some, None, refl, sym, ap, ◌∙◌, arith}
+use Rattle.std.proofs.Common.{◌≡◌, inl, inr, ℕ, ◌+◌, ◌<◌, ◌≤◌, Bool, true, false, ◌||◌, leb, ltb, eqb, cond, List, Some, None, refl, ap, ◌∙◌, arith}
 use Rattle.std.specs.List.{list_any}
-use Rattle.std.proofs.lemmas.Bool.{cases_Bool, cond-true, cond-false, and_parts, or_cases, or_left, or_right, leb-true, ltb-true}
-use Rattle.std.proofs.lemmas.List.Elements.{All-get_or}
-use Rattle.pud_defs.specs.declared.layout.TheConstants.{DAEMON_LOG, POOL_TABLE, SPACE_TABLE, PUDDLE_TABLE}
+use Rattle.std.proofs.lemmas.Bool.{cond-true, cond-false, and_parts, or_cases, or_left, or_right, leb-true, ltb-true}
+use Rattle.pud_defs.specs.declared.layout.TheConstants.{DAEMON_LOG, POOL_TABLE}
 use Rattle.pud_defs.specs.declared.log_words.TheConstants.{CLOSED_GATE}
 use Rattle.pud_defs.specs.declared.records.TheConstants.{POOL_RECORDS}
 use Rattle.pud_defs.specs.declared.records.Puddle.{Puddle}
 use Rattle.pud_defs.specs.Image.{Image}
-use Rattle.pud_defs.specs.Layout.{tables_end, frames_at, device_words}
-use Rattle.pud_defs.specs.Frames.{frame_at}
+use Rattle.pud_defs.specs.Layout.{tables_end, frames_at}
 use Rattle.pud_defs.specs.Pools.{pool_record_at}
 use Rattle.pud_defs.specs.Puddles.{puddle_record_at}
-use Rattle.pud_defs.specs.Replay.{IsInLog, is_in_log}
+use Rattle.pud_defs.specs.Replay.{is_in_log}
 use Rattle.pud_defs.specs.Settled.{ALL_LOGS, client_of_log, log_number_at}
 use Rattle.pud_defs.specs.Spaces.{space_record_at}
 use Rattle.pud_defs.specs.Stored.{IsOnDevice}
 use Rattle.pud_defs.proofs.Masked.{IsBesideLog}
-use Rattle.pud_defs.proofs.Replay.{outside_log, within_log}
+use Rattle.pud_defs.proofs.Replay.{outside_log}
 use Rattle.hybrid_tx.specs.Grounds.{pool_mine}
 use Rattle.hybrid_tx.specs.Masks.{OpenPool, is_in_pool_record, is_in_space_record, is_in_puddle_record, is_open_record, open_mask}
-use Rattle.hybrid_tx.proofs.PoolGrounds.{Passes, any_element, element_passes, all_there, IsMine, pool_mine-each}
+use Rattle.hybrid_tx.proofs.PoolGrounds.{any_element, all_there, pool_mine-each}
 
 not_so : (b : Bool) → (b ≡ true → ⊥) → b ≡ false
 not_so true never = absurd (never refl)

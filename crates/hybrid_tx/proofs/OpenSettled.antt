@@ -1,7 +1,7 @@
 -- An image that is left while a transaction is open, beside the masked one: both settle to the same, and neither has a log that is refused.
-use Rattle.std.proofs.Common.{◌≡◌, ◌⊎◌, inl, inr, ℕ, ◌+◌, ◌*◌, ◌<◌, ◌≤◌, Bool, true, false, not, Option, Some, None, refl, sym, ap, ap₂, subst, ◌∙◌, arith}
+use Rattle.std.proofs.Common.{◌≡◌, inl, inr, ℕ, ◌+◌, ◌*◌, ◌<◌, ◌≤◌, true, false, not, Option, Some, None, refl, sym, ap, ◌∙◌, arith}
 use Rattle.std.specs.Prelude.{unwrap_or, nat_le, nat_lt}
-use Rattle.std.proofs.lemmas.Bool.{cases_Bool, cases_eq, cases_lt, cond-true, cond-false, and_from, le-leb, lt-ltb}
+use Rattle.std.proofs.lemmas.Bool.{cases_Bool, cases_eq, cases_lt, cond-false, and_from, le-leb, lt-ltb}
 use Rattle.pud_defs.specs.declared.layout.TheConstants.{CLIENTS, LOG_WORDS}
 use Rattle.pud_defs.specs.Image.{Image}
 use Rattle.pud_defs.specs.Layout.{tables_end, frames_at}
@@ -10,7 +10,7 @@ use Rattle.pud_defs.specs.Replay.{new_value, replayed, IsInLog, is_in_log}
 use Rattle.pud_defs.specs.Spaces.{owner_of, are_closed_logs}
 use Rattle.pud_defs.specs.Tables.{tables_of}
 use Rattle.pud_defs.specs.Allowed.{puddle_word, is_allowed_log, is_refused, is_accepted}
-use Rattle.pud_defs.specs.Settled.{gives_to, ALL_LOGS, client_of_log, log_number_at, given_by_log, is_refused_log, given_in_turn, is_in_logs, settled_over}
+use Rattle.pud_defs.specs.Settled.{gives_to, ALL_LOGS, client_of_log, log_number_at, given_by_log, is_refused_log, is_in_logs, settled_over}
 use Rattle.pud_defs.proofs.Replay.{outside_log, within_log}
 use Rattle.pud_defs.proofs.Spaces.{log_of-within, owner_of-same}
 use Rattle.pud_defs.proofs.TablesOf.{tables_of-same}

@@ -1,5 +1,5 @@
 -- The words of an open transaction on a pool, with their values from its beginning.
-use Rattle.std.specs.Prelude.{◌≡◌, ℕ, ◌+◌, ◌<◌, Bool, true, ◌&&◌, ◌||◌, nat_le, nat_lt, ◌==◌, cond, List, Option, Some, None}
+use Rattle.std.specs.Prelude.{◌≡◌, ℕ, ◌+◌, ◌<◌, Bool, true, ◌&&◌, ◌||◌, nat_le, nat_lt, ◌==◌, cond, List, Some, None}
 use Rattle.std.specs.List.{list_any}
 use Rattle.pm_model.specs.Changes.{Write}
 use Rattle.pud_defs.specs.declared.layout.TheConstants.{DAEMON_LOG}
