@@ -5,5 +5,9 @@ pub mod Putting
 pub mod Opening
 pub mod InFrames
 pub mod OpenMasks
+pub mod PoolMembers
+pub mod PoolPlaces
+pub mod OwnEntries
+pub mod Rights
 pub mod OpenSettled
 pub mod OpenWorlds
