@@ -11,3 +11,4 @@ pub mod OwnEntries
 pub mod Rights
 pub mod OpenSettled
 pub mod OpenWorlds
+pub mod OpenPools
