@@ -17,7 +17,7 @@ use Rattle.pud_defs.specs.Image.{Image}
 use Rattle.pud_defs.specs.Bases.{is_legal_base}
 use Rattle.pud_defs.specs.Frames.{frame_at, slot_at}
 use Rattle.pud_defs.specs.Graph.{Graph}
-use Rattle.graph_laws.specs.Changes.{with_field}
+use Rattle.pud_defs.specs.GraphChanges.{with_field}
 use Rattle.graph_laws.specs.Rewriting.{base_of}
 use Rattle.graph_read.specs.Reading.{place_in_pool, place_at, IsSlotOf}
 use Rattle.graph_read.proofs.Placed.{place_ordinal, place_slot}

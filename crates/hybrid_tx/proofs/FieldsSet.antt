@@ -19,7 +19,8 @@ use Rattle.pud_defs.specs.Replay.{overwritten}
 use Rattle.pud_defs.specs.Stored.{Stored, stored_in, places_of}
 use Rattle.pud_defs.specs.Graph.{slot_address, table_of, place_of, object_at, Object, field_count, Graph, object_in, graph_of}
 use Rattle.pud_defs.proofs.Replay.{overwritten-there, overwritten-stays, value_at-there, value_at-apart}
-use Rattle.graph_laws.specs.Changes.{with_word, with_words, with_field_word, IsAddress, IsField, with_field}
+use Rattle.pud_defs.specs.GraphChanges.{with_field}
+use Rattle.graph_laws.specs.Changes.{with_word, with_words, with_field_word, IsAddress, IsField}
 use Rattle.graph_laws.specs.Rewriting.{base_of}
 use Rattle.graph_laws.proofs.Fields.{graph_of-number, graph_of-null, graph_of-reference}
 use Rattle.graph_laws.proofs.Places.{object_in-place}

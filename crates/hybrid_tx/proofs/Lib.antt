@@ -7,3 +7,11 @@ pub mod InFrames
 pub mod FieldPut
 pub mod ObjectPut
 pub mod PoolEnding
+pub mod OpenMasks
+pub mod PoolMembers
+pub mod PoolPlaces
+pub mod OwnEntries
+pub mod Rights
+pub mod OpenSettled
+pub mod OpenWorlds
+pub mod OpenPools

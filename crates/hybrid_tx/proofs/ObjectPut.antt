@@ -18,7 +18,7 @@ use Rattle.pud_defs.specs.Replay.{over}
 use Rattle.pud_defs.specs.Stored.{stored_in, place_word}
 use Rattle.pud_defs.specs.Graph.{Graph, next_serial_of, graph_of}
 use Rattle.pud_defs.proofs.Graphs.{graph_of-each}
-use Rattle.graph_laws.specs.Changes.{with_new, blank_object}
+use Rattle.pud_defs.specs.GraphChanges.{with_new, blank_object}
 use Rattle.graph_read.specs.Reading.{place_at, IsSlotOf}
 use Rattle.graph_read.proofs.Placed.{stored_word}
 use Rattle.log_store.specs.Store.{OpenLog}

@@ -18,7 +18,8 @@ use Rattle.pud_defs.specs.Stored.{Stored, stored_in, word_in_frame, place_word}
 use Rattle.pud_defs.specs.Graph.{Graph, next_serial_of, graph_of}
 use Rattle.pud_defs.proofs.Graphs.{graph_of-each}
 use Rattle.pud_defs.proofs.Replay.{overwritten-there, overwritten-stays, value_at-there, value_at-apart}
-use Rattle.graph_laws.specs.Changes.{IsMade, blank_object, with_new}
+use Rattle.pud_defs.specs.GraphChanges.{blank_object, with_new}
+use Rattle.graph_laws.specs.Changes.{IsMade}
 use Rattle.graph_laws.proofs.NewObjects.{graph_of-new}
 use Rattle.graph_laws.proofs.Words.{few_fields}
 use Rattle.graph_read.specs.Reading.{place_at, IsSlotOf}

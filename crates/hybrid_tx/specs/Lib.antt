@@ -1,3 +1,4 @@
 pub mod Grounds
+pub mod Masks
 pub mod Stores
 pub mod Transactions

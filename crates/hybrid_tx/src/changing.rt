@@ -14,7 +14,7 @@ ghost use Rattle.pud_defs.specs.Types.{map_of};
 ghost use Rattle.pud_defs.specs.Stored.{IsOnDevice, stored_in, place_word};
 ghost use Rattle.pud_defs.specs.Graph.{Graph, graph_of};
 ghost use Rattle.log_store.specs.Store.{longer};
-ghost use Rattle.graph_laws.specs.Changes.{with_field, with_new, blank_object};
+ghost use Rattle.pud_defs.specs.GraphChanges.{with_field, with_new, blank_object};
 ghost use Rattle.graph_laws.specs.Slots.{AreAllLive, IsLowestFreeSlot};
 ghost use Rattle.graph_read.specs.Reading.{place_at, place_in_pool, IsSlotOf};
 ghost use Rattle.word_transaction.specs.Running.{ByTransaction};

@@ -16,7 +16,7 @@ ghost use Rattle.pud_defs.specs.Frames.{frame_at};
 ghost use Rattle.pud_defs.specs.Replay.{overwritten, replayed};
 ghost use Rattle.pud_defs.specs.Stored.{stored_in, place_word};
 ghost use Rattle.pud_defs.specs.Graph.{Graph, graph_of, next_serial_of};
-ghost use Rattle.graph_laws.specs.Changes.{with_field, with_new, blank_object};
+ghost use Rattle.pud_defs.specs.GraphChanges.{with_field, with_new, blank_object};
 ghost use Rattle.graph_read.specs.Reading.{place_in_pool, place_at, IsSlotOf};
 ghost use Rattle.log_store.specs.Store.{OpenLog};
 ghost use Rattle.word_transaction.specs.Ground.{IsGround};

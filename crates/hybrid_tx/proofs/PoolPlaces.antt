@@ -1,0 +1,74 @@
+-- A pool's puddles in sound tables: they lie as those of a ground, whose places are those of the tables.
+use Rattle.std.proofs.Common.{◌≡◌, ℕ, ◌+◌, ◌-◌, ◌/◌, ◌%◌, ◌<◌, ◌≤◌, Bool, true, List, map, get_or, Option, Some, None, option_map, refl, sym, ap, ◌∙◌, arith}
+use Rattle.std.specs.Prelude.{All, slice_get}
+use Rattle.std.proofs.lemmas.Option.{none-some, same_Some, slice_get-map, slice_get-get_or}
+use Rattle.pud_defs.specs.declared.space.TheConstants.{RANGE_BYTES, WORD_BYTES}
+use Rattle.pud_defs.specs.declared.records.Puddle.{Puddle}
+use Rattle.pud_defs.specs.Allowed.{puddle_word}
+use Rattle.pud_defs.specs.Bases.{is_legal_base}
+use Rattle.pud_defs.specs.Frames.{frame_at}
+use Rattle.pud_defs.specs.SoundTables.{HasSoundTables}
+use Rattle.pud_defs.specs.Stored.{IsOnDevice}
+use Rattle.pud_defs.specs.Tables.{Tables, puddles_in_turn}
+use Rattle.pud_defs.proofs.PuddlesListed.{puddles_in_turn-on_device}
+use Rattle.graph_laws.specs.Changes.{AreBases}
+use Rattle.graph_laws.specs.Reads.{HasDistinctFrames}
+use Rattle.word_transaction.specs.Running.{HasPlaces}
+use Rattle.hybrid_tx.specs.Grounds.{pool_place, pool_may, pool_ground, IsPlaced}
+use Rattle.hybrid_tx.proofs.PoolGrounds.{IsNamed, pool_may-named, pool_place-there}
+use Rattle.hybrid_tx.proofs.PoolMembers.{IsMemberOf, HasMembers, members_in_turn, multiple_of_legal, legal_of_member, one_ordinal, one_frame, puddle_word_of_member}
+
+-- the puddle of a base
+pub record HasBase (at : List (ℕ × Puddle)) (i base : ℕ) : Type 0 where
+  pub puddle : ℕ × Puddle
+  pub there : slice_get at i ≡ Some puddle
+  pub is : puddle.1.base ≡ base
+
+based : (at : List (ℕ × Puddle)) (i base : ℕ) (o : Option (ℕ × Puddle)) → slice_get at i ≡ o → option_map (λ (d : Puddle). d.base) (option_map (λ (e : ℕ × Puddle). e.1) o) ≡ Some base → HasBase at i base
+based at i base None there is = absurd (none-some base is)
+based at i base (Some e) there is = record { puddle = e; there = there; is = same_Some e.1.base base is }
+
+base_of : (at : List (ℕ × Puddle)) (i base : ℕ) → slice_get (map (λ (d : Puddle). d.base) (map (λ (e : ℕ × Puddle). e.1) at)) i ≡ Some base → HasBase at i base
+base_of at i base is =
+    based at i base (slice_get at i) refl
+    (ap (option_map (λ (d : Puddle). d.base)) (sym (slice_get-map (λ (e : ℕ × Puddle). e.1) at i)) ∙ sym (slice_get-map (λ (d : Puddle). d.base) (map (λ (e : ℕ × Puddle). e.1) at) i) ∙ is)
+
+module _ (next : ℕ) (t : Tables) (sound : HasSoundTables next t) (slot : ℕ) (at : List (ℕ × Puddle)) (has : HasMembers t slot at) where
+  pub are_bases : AreBases (map (λ (d : Puddle). d.base) (map (λ (e : ℕ × Puddle). e.1) at))
+  are_bases = record {
+    multiples = λ i base is.
+        let b = base_of at i base is in
+        ap (λ (n : ℕ). n % RANGE_BYTES) (sym b.is) ∙ multiple_of_legal b.puddle.1.base (legal_of_member next t sound slot i b.puddle (has.each i b.puddle b.there));
+    distinct = λ i j base is also.
+        let b = base_of at i base is in
+        let c = base_of at j base also in
+        let first = has.each i b.puddle b.there in
+        let second = has.each j c.puddle c.there in
+        one_ordinal next t sound slot i j b.puddle c.puddle first second (one_frame next t sound slot i j b.puddle c.puddle first second (b.is ∙ sym c.is));
+  }
+
+  are_legal : All (λ (e : ℕ × Puddle). is_legal_base e.1.base ≡ true) at
+  are_legal n d below = legal_of_member next t sound slot n (get_or at n d) (has.each n (get_or at n d) (slice_get-get_or at n d below))
+
+  distinct_frames : HasDistinctFrames at
+  distinct_frames = record { each = λ i j e d here there same. one_ordinal next t sound slot i j e d (has.each i e here) (has.each j d there) same }
+
+  pub placed_of_members : IsOnDevice t.frames at → IsPlaced t.frames at
+  placed_of_members on_device = record { on_device = on_device; frames = distinct_frames; legal = are_legal; bases = are_bases }
+
+  -- what the ground may name lies where the tables have it
+  named_place : (address count : ℕ) → IsNamed at address count → puddle_word t address ≡ pool_place t.frames at address
+  named_place address count named =
+      let e = named.puddle in
+      let low = named.low in
+      let high = named.high in
+      let some = named.some in
+      puddle_word_of_member next t sound slot named.ordinal e (has.each named.ordinal e named.there) address low (omega arith)
+      ∙ sym (pool_place-there t.frames at named.ordinal e address are_bases named.there low (omega arith))
+
+  pub places_of_members : HasPlaces (pool_ground t.frames at) (puddle_word t)
+  places_of_members = record { each = λ address count may. named_place address count (pool_may-named at address count may) }
+
+-- the puddles of a pool in sound tables are placed
+pub placed_in_turn : (next : ℕ) (t : Tables) (slot : ℕ) → HasSoundTables next t → IsPlaced t.frames (puddles_in_turn t slot)
+placed_in_turn next t slot sound = placed_of_members next t sound slot (puddles_in_turn t slot) (members_in_turn t slot) (puddles_in_turn-on_device t slot)
