@@ -25,7 +25,7 @@ use Rattle.pud_defs.specs.Holdings.{held_as, held_by, graph_held, holding_in}
 use Rattle.pud_defs.specs.Holdings.Holding.{Sound, Wild}
 use Rattle.pud_defs.specs.Tables.{Tables, Pool, Reader, tables_of, member_of, puddles_of, listed, pool_of, pools_of}
 use Rattle.pud_defs.specs.Puts.{with_put, puddle_put, member_by, with_puddle_at}
-use Rattle.pud_defs.specs.PoolChanges.{changed_pool}
+use Rattle.pud_defs.specs.PoolChanges.{changed_pool, with_puddle_more, with_grown_pool}
 use Rattle.pud_defs.specs.World.{StoredWorld}
 use Rattle.pud_defs.proofs.FreshGraph.{fresh_word, fresh_header_words}
 use Rattle.pud_defs.proofs.Keyed.{first_free_some, under_apart}
@@ -37,7 +37,7 @@ use Rattle.graph_laws.specs.Reads.{with_puddle, IsGrown}
 use Rattle.graph_laws.proofs.Grown.{slice_get-front, slice_get-push, graph_of-grown}
 use Rattle.registry.specs.declared.growing.Growth.{Growth}
 use Rattle.registry.specs.Puts.{AreOfPools, number_put, with_puts}
-use Rattle.registry.specs.Growth.{grown_puddle, growing, IsGrowthFor, HoldsGraph, with_puddle_more, with_grown_pool}
+use Rattle.registry.specs.Growth.{grown_puddle, growing, IsGrowthFor, HoldsGraph}
 use Rattle.registry.proofs.Moved.{ReadsWorld, MakesPools, pools_next}
 use Rattle.registry.proofs.Changed.{found_pool, changed_there}
 use Rattle.registry.proofs.Made.{other_base, given}

@@ -1,9 +1,11 @@
 -- What the calls owe that make a pool grow, from what their batch does.
-use Rattle.std.proofs.Common.{◌≡◌, inr, ℕ, ◌+◌, ◌<◌, List, Option, None, sym, ap, subst, ◌∙◌}
+use Rattle.std.proofs.Common.{◌≡◌, inr, refl, ℕ, ◌+◌, ◌<◌, List, Option, None, sym, ap, subst, ◌∙◌}
 use Rattle.pm_model.specs.declared.host.HostFault.{HostFault}
 use Rattle.pm_model.specs.Words.{reads}
 use Rattle.pm_model.specs.Moments.{State}
-use Rattle.pm_model.specs.Changes.{Persists}
+use Rattle.pm_model.specs.Changes.{Write, written, Persists}
+use Rattle.pm_model.specs.Masks.{masked, masked_state, masked_image, IsOff}
+use Rattle.pm_model.proofs.Masks.{reads-masked}
 use Rattle.pud_defs.specs.declared.layout.TheConstants.{DAEMON_LOG, NEXT_NUMBER_WORD}
 use Rattle.pud_defs.specs.declared.records.TheConstants.{POOL_RECORDS}
 use Rattle.pud_defs.specs.declared.records.PoolRec.{PoolRec}
@@ -11,16 +13,17 @@ use Rattle.pud_defs.specs.Image.{Image}
 use Rattle.pud_defs.specs.Entries.{Entry}
 use Rattle.pud_defs.specs.Frames.{IsFreshFrame}
 use Rattle.pud_defs.specs.Graph.{Graph}
-use Rattle.pud_defs.specs.Tables.{Pool, tables_of}
-use Rattle.pud_defs.specs.PoolChanges.{changed_pool}
+use Rattle.pud_defs.specs.Tables.{Tables, Pool, tables_of}
+use Rattle.pud_defs.proofs.TablesOf.{frames_of_tables}
+use Rattle.pud_defs.specs.PoolChanges.{changed_pool, with_puddle_more, with_grown_pool}
 use Rattle.pud_defs.specs.World.{StoredWorld}
-use Rattle.batch.specs.Batches.{HasIdleGate}
+use Rattle.batch.specs.Batches.{HasIdleGate, ByBatch}
 use Rattle.batch.specs.Worlds.{IsSettled}
 use Rattle.batch.specs.Tables.{HasDurableTables}
 use Rattle.registry.specs.declared.growing.Growth.{Growth}
 use Rattle.registry.specs.Puts.{puts_batch}
-use Rattle.registry.specs.Pools.{frame_write, PersistsThenCommits, OrStill, IsPoolAt, ChangesPools}
-use Rattle.registry.specs.Growth.{puddle_count, IsGrowthFor, growing, GrowsSomewhere, HasFreshPuddle, HoldsGraph, with_puddle_more, with_grown_pool}
+use Rattle.registry.specs.Pools.{frame_write, PersistsThenCommits, OrStill, KeepsTables, IsPoolAt, ChangesPools}
+use Rattle.registry.specs.Growth.{puddle_count, IsGrowthFor, growing, GrowsSomewhere, HasFreshPuddle, IsOffGrowing, HoldsGraph}
 use Rattle.registry.proofs.Moved.{reads_world}
 use Rattle.registry.proofs.Grown.{MakesPools-grown, grown_world}
 use Rattle.registry.proofs.Joined.{free_there, MovesThen, filled_then, ChangesPools-weaker}
@@ -81,6 +84,32 @@ module _ (size : ℕ) (s next : StoredWorld) (F : ℕ) (image : Image) (slot : �
 
   pub ChangesPools-growth_found : (b : State) → b ≡ a → GrowsThere b → ChangesPools size s next (HasFreshPuddle (tables_of F image) s.next_number (puddle_count (tables_of F image) slot)) fault a c
   ChangesPools-growth_found b e = subst (λ (b : State). GrowsThere b → ChangesPools size s next (HasFreshPuddle (tables_of F image) s.next_number (puddle_count (tables_of F image) slot)) fault a c) (sym e) grows_here
+
+-- with words masked that are none of those that the puddle takes
+module _ (size : ℕ) (s next : StoredWorld) (F : ℕ) (image : Image) (slot : ℕ) (r : PoolRec) (p : Growth) (fault : Option HostFault) (mask : Write) (a b c : State) (read : reads a.now.words ≡ image) (same : F ≡ s.frames)
+    (keeps : KeepsTables F mask image) (off : IsOffGrowing mask (tables_of F image) (image NEXT_NUMBER_WORD) slot) (place : IsGrowthFor (tables_of F image) (image NEXT_NUMBER_WORD) slot p) where
+  read_masked : reads (masked mask a.now.words) ≡ masked_image mask image
+  read_masked = reads-masked mask a.now.words ∙ ap (masked_image mask) read
+
+  place_masked : IsGrowthFor (tables_of F (reads (masked mask a.now.words))) (reads (masked mask a.now.words) NEXT_NUMBER_WORD) slot p
+  place_masked =
+      subst (λ (i : Image). IsGrowthFor (tables_of F i) (i NEXT_NUMBER_WORD) slot p) (sym read_masked)
+      (subst (λ (n : ℕ). IsGrowthFor (tables_of F (masked_image mask image)) n slot p) (sym keeps.number)
+      (subst (λ (t : Tables). IsGrowthFor t (image NEXT_NUMBER_WORD) slot p) (sym keeps.tables) place))
+
+  off_frame : IsOff mask (written (frame_write F p.frame p.number p.ordinal))
+  off_frame = subst (λ (n : ℕ). IsOff mask (written (frame_write n p.frame p.number p.ordinal))) (frames_of_tables F image) (off.frame p place)
+
+  -- what the call that makes it grow owes, behind a search that changed nothing
+  pub ChangesPools-growth_masked : IsSettled size s (masked mask a.now.words) → IsPoolAt F slot r (masked mask a.now.words) → b ≡ a
+      → (IsOff mask (written (frame_write F p.frame p.number p.ordinal)) → IsOff mask (ByBatch DAEMON_LOG (puts_batch (growing slot p)))
+          → IsSettled size s (masked mask b.now.words) → IsPoolAt F slot r (masked mask b.now.words) → IsGrowthFor (tables_of F (reads (masked mask b.now.words))) s.next_number slot p
+          → ChangesPools size s next (IsFreshFrame F p.frame p.number p.ordinal) fault (masked_state mask b) (masked_state mask c))
+      → ChangesPools size s next (HasFreshPuddle (tables_of F image) s.next_number (puddle_count (tables_of F image) slot)) fault (masked_state mask a) (masked_state mask c)
+  ChangesPools-growth_masked settled at still grows =
+      subst (λ (t : Tables). ChangesPools size s next (HasFreshPuddle t s.next_number (puddle_count t slot)) fault (masked_state mask a) (masked_state mask c)) (ap (tables_of F) read_masked ∙ keeps.tables)
+      (ChangesPools-growth_found size s next F (reads (masked mask a.now.words)) slot r p fault (masked_state mask a) (masked_state mask c) refl same settled at place_masked (masked_state mask b) (ap (masked_state mask) still)
+      (grows off_frame (off.records p place)))
 
 -- on any content
 pub GrowsSomewhere-found : (F : ℕ) (image : Image) (number slot : ℕ) (p : Growth) (fault : Option HostFault) (a b c : State) → b ≡ a → IsGrowthFor (tables_of F image) number slot p

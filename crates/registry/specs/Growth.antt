@@ -2,7 +2,9 @@
 use Rattle.std.specs.Prelude.{◌≡◌, ℕ, ◌+◌, ◌<◌, Bool, ◌&&◌, nat_lt, List, [], ◌∷◌, Option, Some, is_some}
 use Rattle.pm_model.specs.declared.host.HostFault.{HostFault}
 use Rattle.pm_model.specs.Moments.{State}
-use Rattle.pud_defs.specs.declared.layout.TheConstants.{NUMBER_LIMIT}
+use Rattle.pm_model.specs.Changes.{Write, written}
+use Rattle.pm_model.specs.Masks.{IsOff}
+use Rattle.pud_defs.specs.declared.layout.TheConstants.{DAEMON_LOG, NUMBER_LIMIT}
 use Rattle.pud_defs.specs.declared.space.TheConstants.{LAST_FRONTIER}
 use Rattle.pud_defs.specs.declared.records.TheConstants.{MAX_PUDDLES}
 use Rattle.pud_defs.specs.declared.records.PuddleRec.{PuddleRec}
@@ -15,8 +17,9 @@ use Rattle.pud_defs.specs.Holdings.Holding.{Sound}
 use Rattle.pud_defs.specs.Places.{IsLowestBase}
 use Rattle.pud_defs.specs.Puts.{puddle_put}
 use Rattle.pud_defs.specs.Tables.{Tables, Pool, members}
-use Rattle.pud_defs.specs.PoolChanges.{pool_named, changed_pool}
+use Rattle.pud_defs.specs.PoolChanges.{pool_named}
 use Rattle.pud_defs.specs.World.{StoredWorld}
+use Rattle.batch.specs.Batches.{ByBatch}
 use Rattle.registry.specs.declared.growing.Growth.{Growth}
 use Rattle.registry.specs.Puts.{puts_batch, number_put}
 use Rattle.registry.specs.Pools.{frame_write, PersistsThenCommits}
@@ -73,6 +76,13 @@ pub record HasFreshPuddle (t : Tables) (number ordinal : ℕ) (image : Image) : 
   pub lowest : first_free t.puddles 0 t.frames ≡ Some frame
   pub fresh : IsFreshFrame t.frames frame number ordinal image
 
+-- ---- with words masked
+
+-- none of the words that a puddle more takes is masked, wherever it is to stand
+pub record IsOffGrowing (mask : Write) (t : Tables) (next slot : ℕ) : Type 0 where
+  pub frame : (g : Growth) → IsGrowthFor t next slot g → IsOff mask (written (frame_write t.frames g.frame g.number g.ordinal))
+  pub records : (g : Growth) → IsGrowthFor t next slot g → IsOff mask (ByBatch DAEMON_LOG (puts_batch (growing slot g)))
+
 -- ---- worlds
 
 -- the world has a pool of the name, and it holds this graph
@@ -80,11 +90,3 @@ pub record HoldsGraph (name : List ℕ) (s : StoredWorld) (g : Graph) : Type 0 w
   pub pool : Pool
   pub there : pool_named name s ≡ Some pool
   pub holds : pool.holding ≡ Sound g
-
--- the pool with one puddle more, which holds what it held
-abbrev pub with_puddle_more : Pool → Pool
-with_puddle_more p = record p { puddles = p.puddles + 1 }
-
--- the world with one puddle more in the pool of this name, which took the next UUID number
-unfoldable pub with_grown_pool : List ℕ → StoredWorld → StoredWorld
-with_grown_pool name s = record s { next_number = s.next_number + 1; pools = changed_pool name with_puddle_more s.pools }

@@ -3,7 +3,8 @@
 ghost use Rattle.std.specs.Prelude.{◌≡◌, ◌≢◌, ◌+◌, ◌<◌, ◌≤◌, true, false, is_some, ℕ, Option, IfOk, IfSome};
 ghost use Rattle.pm_model.specs.Words.{reads};
 ghost use Rattle.pm_model.specs.Counts.{after_fault, fault_of};
-ghost use Rattle.pm_model.specs.Changes.{Changes};
+ghost use Rattle.pm_model.specs.Changes.{Changes, Write, written};
+ghost use Rattle.pm_model.specs.Masks.{masked, masked_state, IsOff};
 ghost use Rattle.log_replay.specs.Replaying.{Anything};
 ghost use Rattle.pud_defs.specs.declared.layout.TheConstants.{DAEMON_LOG, NEXT_NUMBER_WORD};
 ghost use Rattle.pud_defs.specs.declared.records.PoolRec.{PoolRec};
@@ -13,12 +14,13 @@ ghost use Rattle.pud_defs.specs.Layout.{device_words, tables_end};
 ghost use Rattle.pud_defs.specs.Frames.{IsFreshFrame};
 ghost use Rattle.pud_defs.specs.Graph.{Graph};
 ghost use Rattle.pud_defs.specs.Tables.{tables_of};
+ghost use Rattle.pud_defs.specs.PoolChanges.{with_grown_pool};
 ghost use Rattle.pud_defs.specs.World.{StoredWorld};
-ghost use Rattle.batch.specs.Batches.{HasIdleGate};
+ghost use Rattle.batch.specs.Batches.{HasIdleGate, ByBatch};
 ghost use Rattle.batch.specs.Worlds.{IsSettled};
 ghost use Rattle.registry.specs.Puts.{puts_batch};
-ghost use Rattle.registry.specs.Pools.{frame_write, PersistsThenCommits, OrStill, IsPoolAt, ChangesPools};
-ghost use Rattle.registry.specs.Growth.{puddle_count, has_room, can_grow, IsGrowthFor, IsGrowthWithin, growing, GrowsSomewhere, HasFreshPuddle, HoldsGraph, with_grown_pool};
+ghost use Rattle.registry.specs.Pools.{frame_write, PersistsThenCommits, OrStill, KeepsTables, IsPoolAt, ChangesPools};
+ghost use Rattle.registry.specs.Growth.{puddle_count, has_room, can_grow, IsGrowthFor, IsGrowthWithin, growing, GrowsSomewhere, HasFreshPuddle, IsOffGrowing, HoldsGraph};
 
 use crate::frames::fill_frame;
 use crate::puts::{add_put, number_put};
@@ -128,10 +130,13 @@ fn grow_at<H: Host>(h: &mut H, frames: u32, slot: u32, growth: Growth) -> Result
     requires within { IsGrowthWithin frames growth }
     ensures commits { H.tells → (size : ℕ) → size ≡ (H.counts h.old).size → HasIdleGate DAEMON_LOG (H.state h.old).now.words
         → PersistsThenCommits (frame_write frames growth.frame growth.number growth.ordinal) (puts_batch (growing slot growth)) (fault_of result) (H.state h.old) (H.state h.new) }
-    ensures grows { H.tells → (size : ℕ) → size ≡ (H.counts h.old).size → (s : StoredWorld) → frames ≡ s.frames → IsSettled size s (H.state h.old).now.words
-        → (r : PoolRec) → IsPoolAt frames slot r (H.state h.old).now.words → (g : Graph) → HoldsGraph r.name s g
-        → IsGrowthFor (tables_of frames (reads (H.state h.old).now.words)) s.next_number slot growth
-        → ChangesPools size s (with_grown_pool r.name s) (IsFreshFrame frames growth.frame growth.number growth.ordinal) (fault_of result) (H.state h.old) (H.state h.new) }
+    ensures grows { H.tells → (size : ℕ) → size ≡ (H.counts h.old).size → (s : StoredWorld) → frames ≡ s.frames
+        → (mask : Write) → IsOff mask (written (frame_write frames growth.frame growth.number growth.ordinal)) → IsOff mask (ByBatch DAEMON_LOG (puts_batch (growing slot growth)))
+        → IsSettled size s (masked mask (H.state h.old).now.words)
+        → (r : PoolRec) → IsPoolAt frames slot r (masked mask (H.state h.old).now.words) → (g : Graph) → HoldsGraph r.name s g
+        → IsGrowthFor (tables_of frames (reads (masked mask (H.state h.old).now.words))) s.next_number slot growth
+        → ChangesPools size s (with_grown_pool r.name s) (IsFreshFrame frames growth.frame growth.number growth.ordinal) (fault_of result)
+            (masked_state mask (H.state h.old)) (masked_state mask (H.state h.new)) }
     ensures any { H.tells → Changes Anything (fault_of result) (H.state h.old) (H.state h.new) }
     ensures cause { H.counts h.new ≡ after_fault (fault_of result) (H.counts h.old) }
 {
@@ -157,9 +162,11 @@ pub fn grow_pool<H: Host>(h: &mut H, frames: u32, slot: u32) -> Result<(), HostF
         → can_grow (tables_of frames image) (image NEXT_NUMBER_WORD) slot ≡ true
         → OrStill (GrowsSomewhere (tables_of frames image) (image NEXT_NUMBER_WORD) slot) (fault_of result) (H.state h.old) (H.state h.new) }
     ensures grows { H.tells → (size : ℕ) → size ≡ (H.counts h.old).size → (s : StoredWorld) → frames ≡ s.frames → (image : Image) → reads (H.state h.old).now.words ≡ image
-        → IsSettled size s (H.state h.old).now.words → (r : PoolRec) → IsPoolAt frames slot r (H.state h.old).now.words → (g : Graph) → HoldsGraph r.name s g
+        → (mask : Write) → KeepsTables frames mask image → IsOffGrowing mask (tables_of frames image) (image NEXT_NUMBER_WORD) slot
+        → IsSettled size s (masked mask (H.state h.old).now.words) → (r : PoolRec) → IsPoolAt frames slot r (masked mask (H.state h.old).now.words) → (g : Graph) → HoldsGraph r.name s g
         → can_grow (tables_of frames image) (image NEXT_NUMBER_WORD) slot ≡ true
-        → ChangesPools size s (with_grown_pool r.name s) (HasFreshPuddle (tables_of frames image) s.next_number (puddle_count (tables_of frames image) slot)) (fault_of result) (H.state h.old) (H.state h.new) }
+        → ChangesPools size s (with_grown_pool r.name s) (HasFreshPuddle (tables_of frames image) s.next_number (puddle_count (tables_of frames image) slot)) (fault_of result)
+            (masked_state mask (H.state h.old)) (masked_state mask (H.state h.new)) }
     ensures any { H.tells → Changes Anything (fault_of result) (H.state h.old) (H.state h.new) }
     ensures cause { H.counts h.new ≡ after_fault (fault_of result) (H.counts h.old) }
 {

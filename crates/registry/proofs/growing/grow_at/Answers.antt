@@ -1,6 +1,11 @@
-use Rattle.std.proofs.Common.{inr, Some, None, refl, sym, ap, ◌∙◌, arith}
+use Rattle.std.proofs.Common.{inr, List, Some, None, refl, sym, ap, subst, ◌∙◌, arith}
 use Rattle.std.proofs.lemmas.Result.{err_from_is_err_and}
-use Rattle.pm_model.specs.Counts.{Counts}
+use Rattle.pm_model.specs.Counts.{Counts, fault_of}
+use Rattle.pm_model.specs.Masks.{masked_state, IsOff}
+use Rattle.pm_model.proofs.Masks.{Changes-masked, Persists-masked}
+use Rattle.pud_defs.specs.declared.layout.TheConstants.{DAEMON_LOG}
+use Rattle.pud_defs.specs.Entries.{Entry}
+use Rattle.batch.specs.Batches.{ByBatch}
 use Rattle.pm_model.specs.Changes.{written}
 use Rattle.pm_model.proofs.Changes.{Changes-wider, Changes-then}
 use Rattle.log_replay.specs.Replaying.{Anything}
@@ -15,9 +20,13 @@ use Rattle.registry.proofs.growing.grow_at.Goals as goal
 pub returns-in_err-fill_frame-clause-grows : goal.returns-in_err-fill_frame-clause-grows
 returns-in_err-fill_frame-clause-grows g c =
     let p = err_from_is_err_and c.from_residual.result c.from_residual.ensures.1 in
-    rw (p.1, p.2) (λ t size same s frames settled r at graph holds place.
-    ChangesPools-unfilled c.args.frames c.args.growth.frame c.args.growth.number c.args.growth.ordinal c.requires.within.frame size s frames _ _ c.in_err-fill_frame.field-0.0 _ _ settled
-    (record { tables = at.tables; free = free_there c.args.frames _ c.args.growth.frame place.frame }) (c.in_err-fill_frame.ensures.fills t).changes)
+    rw (p.1, p.2) (λ t size same s frames mask off_frame off settled r at graph holds place.
+    let write = frame_write c.args.frames c.args.growth.frame c.args.growth.number c.args.growth.ordinal in
+    let a = g.H.Host.state c.args.h.now in
+    let b = g.H.Host.state c.fill_frame.new.h in
+    ChangesPools-unfilled c.args.frames c.args.growth.frame c.args.growth.number c.args.growth.ordinal c.requires.within.frame size s frames _ _ c.in_err-fill_frame.field-0.0 (masked_state mask a) (masked_state mask b) settled
+    (record { tables = at.tables; free = free_there c.args.frames _ c.args.growth.frame place.frame })
+    (Changes-masked mask (written write) (Some c.in_err-fill_frame.field-0.0) a b (c.in_err-fill_frame.ensures.fills t).changes))
 
 pub returns-in_err-fill_frame-clause-any : goal.returns-in_err-fill_frame-clause-any
 returns-in_err-fill_frame-clause-any g c =
@@ -42,10 +51,15 @@ returns-clause-commits g c = λ t size same idle.
     }
 
 pub returns-clause-grows : goal.returns-clause-grows
-returns-clause-grows g c = λ t size same s frames settled r at graph holds place.
+returns-clause-grows g c = λ t size same s frames mask off_frame off settled r at graph holds place.
     let then = same ∙ sym (ap (λ (n : Counts). n.size) c.in_ok-fill_frame.ensures.cause) in
-    ChangesPools-grown size s c.args.slot r c.args.growth graph c.growing.result _ _ (g.H.Host.state c.fill_frame.new.h) _ settled c.requires.known holds c.growing.ensures c.args.frames frames c.requires.within.frame at place
-    (c.in_ok-fill_frame.ensures.fills t) (λ settled_then moves. c.commit.ensures.moves t size then s _ settled_then moves)
+    let write = frame_write c.args.frames c.args.growth.frame c.args.growth.number c.args.growth.ordinal in
+    let a = g.H.Host.state c.args.h.now in
+    let b = g.H.Host.state c.fill_frame.new.h in
+    let d = g.H.Host.state c.commit.new.h in
+    let apart = subst (λ (es : List Entry). IsOff mask (ByBatch DAEMON_LOG es)) (sym c.growing.ensures) off in
+    ChangesPools-grown size s c.args.slot r c.args.growth graph c.growing.result (fault_of c.commit.result) (masked_state mask a) (masked_state mask b) (masked_state mask d) settled c.requires.known holds c.growing.ensures c.args.frames frames
+    c.requires.within.frame at place (Persists-masked mask write None a b off_frame (c.in_ok-fill_frame.ensures.fills t)) (λ settled_then moves. c.commit.ensures.moves t size then s _ mask apart settled_then moves)
 
 pub returns-clause-any : goal.returns-clause-any
 returns-clause-any g c = λ t.
