@@ -11,3 +11,4 @@ pub mod PuddleMore
 pub mod GrowthPlaced
 pub mod Grown
 pub mod GrownJoined
+pub mod GrowthAllowed
