@@ -1,5 +1,5 @@
 -- A pool with an open transaction: what its records say in an image that has them as they were at the beginning, and the world of an image that is left.
-use Rattle.std.proofs.Common.{◌≡◌, ℕ, ◌+◌, ◌<◌, ◌≤◌, true, false, ◌&&◌, ◌||◌, leb, ltb, List, Option, Some, None, sym, ap, subst, ◌∙◌, arith}
+use Rattle.std.proofs.Common.{◌≡◌, ℕ, ◌+◌, ◌<◌, ◌≤◌, true, false, ◌||◌, leb, ltb, List, Option, Some, sym, ap, subst, ◌∙◌, arith}
 use Rattle.std.specs.Prelude.{slice_get, unwrap_or}
 use Rattle.std.specs.List.{list_any}
 use Rattle.std.proofs.lemmas.Bool.{and_from, or_left, or_right, le-leb, lt-ltb}
@@ -13,7 +13,7 @@ use Rattle.pud_defs.specs.Layout.{device_words}
 use Rattle.pud_defs.specs.Pools.{pool_record_at}
 use Rattle.pud_defs.specs.Puddles.{puddle_record_at}
 use Rattle.pud_defs.specs.Registry.{frames_of}
-use Rattle.pud_defs.specs.Replay.{IsInLog, is_in_log, settled_by}
+use Rattle.pud_defs.specs.Replay.{settled_by}
 use Rattle.pud_defs.specs.Settled.{ALL_LOGS, client_of_log, log_number_at, is_refused_log}
 use Rattle.pud_defs.specs.SoundTables.{are_sound_tables, HasSoundTables}
 use Rattle.pud_defs.specs.Spaces.{space_record_at, owner_by, owner_of}
