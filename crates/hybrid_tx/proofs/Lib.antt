@@ -12,3 +12,4 @@ pub mod Rights
 pub mod OpenSettled
 pub mod OpenWorlds
 pub mod OpenPools
+pub mod OpenIdle

@@ -1,5 +1,5 @@
 -- A pool with an open transaction: what its records say in an image that has them as they were at the beginning, and the world of an image that is left.
-use Rattle.std.proofs.Common.{◌≡◌, ℕ, ◌+◌, ◌<◌, ◌≤◌, true, false, ◌||◌, leb, ltb, List, Option, Some, sym, ap, subst, ◌∙◌, arith}
+use Rattle.std.proofs.Common.{◌≡◌, ℕ, ◌+◌, ◌<◌, ◌≤◌, true, false, ◌||◌, leb, ltb, List, Option, Some, None, sym, ap, subst, ◌∙◌, arith}
 use Rattle.std.specs.Prelude.{slice_get, unwrap_or}
 use Rattle.std.specs.List.{list_any}
 use Rattle.std.proofs.lemmas.Bool.{and_from, or_left, or_right, le-leb, lt-ltb}
@@ -13,7 +13,7 @@ use Rattle.pud_defs.specs.Layout.{device_words}
 use Rattle.pud_defs.specs.Pools.{pool_record_at}
 use Rattle.pud_defs.specs.Puddles.{puddle_record_at}
 use Rattle.pud_defs.specs.Registry.{frames_of}
-use Rattle.pud_defs.specs.Replay.{settled_by}
+use Rattle.pud_defs.specs.Replay.{device_word, new_value, settled_by}
 use Rattle.pud_defs.specs.Settled.{ALL_LOGS, client_of_log, log_number_at, is_refused_log}
 use Rattle.pud_defs.specs.SoundTables.{are_sound_tables, HasSoundTables}
 use Rattle.pud_defs.specs.Spaces.{space_record_at, owner_by, owner_of}
@@ -131,6 +131,19 @@ placed_by_tables next F image slot at sound is =
 
 -- ---- the world of an image that is left
 
+-- behind the daemon log its tables are sound
+pub sound_with_open : (size F : ℕ) (s : StoredWorld) (p : OpenPool) (before j : Image) → F ≡ s.frames → IsOpenPool F p before
+    → ((k v : ℕ) → open_mask F p before k ≡ Some v → new_value device_word (log_of j DAEMON_LOG) k ≡ None) → ((k : ℕ) → is_open_record p k ≡ true → j k ≡ before k)
+    → idle_world_of size (masked_image (open_mask F p before) j) ≡ Some s → HasSoundTables s.next_number (tables_of F (settled_by DAEMON_LOG j))
+sound_with_open size F s p before j frames opened unnamed records world =
+    let on_device = open_on_device F p before opened in
+    let d = settled_by DAEMON_LOG j in
+    let m = settled_by DAEMON_LOG (masked_image (open_mask F p before) j) in
+    let like = like_masked F p before j opened.slot opened.known on_device unnamed records in
+    let held = (stands F p before j opened.slot opened.known on_device unnamed records size s frames world).holds Pools in
+    sound_from s.next_number (tables_of F d)
+    (ap (are_sound_tables s.next_number) (same_tables F p before d m opened.known like ∙ ap (λ (n : ℕ). tables_of n m) frames) ∙ held.sound)
+
 module _ (size F : ℕ) (s : StoredWorld) (p : OpenPool) (before j : Image) (frames : F ≡ s.frames) (opened : IsOpenPool F p before) (left : IsLeftOpen F p before j)
     (world : idle_world_of size (masked_image (open_mask F p before) j) ≡ Some s) where
   abbrev behind : Image
@@ -141,14 +154,6 @@ module _ (size F : ℕ) (s : StoredWorld) (p : OpenPool) (before j : Image) (fra
 
   records_behind : (k : ℕ) → is_open_record p k ≡ true → behind k ≡ before k
   records_behind = record_stays F p before j opened.slot opened.known on_device left.unnamed left.records
-
-  sound_behind : HasSoundTables s.next_number (tables_of F behind)
-  sound_behind =
-      let m = settled_by DAEMON_LOG (masked_image (open_mask F p before) j) in
-      let like = like_masked F p before j opened.slot opened.known on_device left.unnamed left.records in
-      let held = (stands F p before j opened.slot opened.known on_device left.unnamed left.records size s frames world).holds Pools in
-      sound_from s.next_number (tables_of F behind)
-      (ap (are_sound_tables s.next_number) (same_tables F p before behind m opened.known like ∙ ap (λ (n : ℕ). tables_of n m) frames) ∙ held.sound)
 
   settles_behind : SettlesTo (pool_ground F p.at) (log_number_at F p.number) before behind
   settles_behind =
@@ -161,7 +166,7 @@ module _ (size F : ℕ) (s : StoredWorld) (p : OpenPool) (before j : Image) (fra
       left.settles
 
   gives_behind : GivesOwn F p before behind
-  gives_behind = gives_own F p before behind opened records_behind s.next_number sound_behind settles_behind
+  gives_behind = gives_own F p before behind opened records_behind s.next_number (sound_with_open size F s p before j frames opened left.unnamed left.records world) settles_behind
 
   -- An image that may be left while a transaction is open stands for the world that it would with the pool's part as it was at the beginning.
   pub world_with_open : world_of size j ≡ Some s

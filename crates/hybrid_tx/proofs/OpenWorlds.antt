@@ -8,7 +8,7 @@ use Rattle.pud_defs.specs.declared.records.TheConstants.{POOL_RECORDS}
 use Rattle.pud_defs.specs.Image.{Image}
 use Rattle.pud_defs.specs.Layout.{tables_end, frames_at}
 use Rattle.pud_defs.specs.Entries.{log_of}
-use Rattle.pud_defs.specs.Registry.{frames_of, has_legal_log}
+use Rattle.pud_defs.specs.Registry.{frames_of, has_legal_log, are_allowed}
 use Rattle.pud_defs.specs.Replay.{device_word, new_value, overwritten, is_in_log, settled_by}
 use Rattle.pud_defs.specs.Settled.{ALL_LOGS, log_number_at, is_refused_log, is_in_logs, settled}
 use Rattle.pud_defs.specs.Spaces.{are_closed_logs, are_legal_spaces}
@@ -17,7 +17,6 @@ use Rattle.pud_defs.specs.World.{StoredWorld, world_of, idle_world_of}
 use Rattle.pud_defs.proofs.Replay.{overwritten-stays, overwritten-there, settled_by-outside, within_log}
 use Rattle.pud_defs.proofs.Spaces.{are_legal_spaces-same}
 use Rattle.pud_defs.proofs.Masked.{log_of-masked, settled_by-masked}
-use Rattle.pud_defs.proofs.Logged.{has_legal_log-of}
 use Rattle.pud_defs.proofs.Idle.{world_of_idle, no_log_is_refused}
 use Rattle.pud_defs.proofs.IdleWorlds.{standing_of_idle_world, legal_log_of_idle_world, frames_of_idle_world}
 use Rattle.pud_defs.proofs.LogsBeside.{IsReadBeside, world_again}
@@ -49,7 +48,17 @@ module _ (F : ℕ) (p : OpenPool) (before j : Image) (slot : p.slot < POOL_RECOR
   pub masked_word_stays : (k v : ℕ) → open_mask F p before k ≡ Some v → settled_by DAEMON_LOG j k ≡ j k
   masked_word_stays k v is = settled_by-outside DAEMON_LOG j k (beside_daemon k v is) ∙ ap (λ (o : Option ℕ). unwrap_or o (j k)) (unnamed k v is)
 
-  masked_settles : settled_by DAEMON_LOG (masked_image (open_mask F p before) j) ≡ overwritten (open_mask F p before) (settled_by DAEMON_LOG j)
+  -- the number of frames and the daemon log are the same masked
+  same_frames : frames_of (masked_image (open_mask F p before) j) ≡ frames_of j
+  same_frames = overwritten-stays (open_mask F p before) j FRAMES_WORD (mask_below F p before slot known on_device FRAMES_WORD (omega arith))
+
+  pub same_legal : has_legal_log (masked_image (open_mask F p before) j) ≡ has_legal_log j
+  unfolding has_legal_log
+  same_legal =
+      let log = log_of-masked DAEMON_LOG (open_mask F p before) (mask_beside_daemon F p before slot known on_device) j in
+      λ q. are_allowed (same_frames q) (log q) (log q).entries
+
+  pub masked_settles : settled_by DAEMON_LOG (masked_image (open_mask F p before) j) ≡ overwritten (open_mask F p before) (settled_by DAEMON_LOG j)
   masked_settles = settled_by-masked DAEMON_LOG (open_mask F p before) (mask_beside_daemon F p before slot known on_device) j unnamed
 
   module _ (records : (k : ℕ) → is_open_record p k ≡ true → j k ≡ before k) where
@@ -81,18 +90,11 @@ module _ (F : ℕ) (p : OpenPool) (before j : Image) (slot : p.slot < POOL_RECOR
       closed : are_closed_logs (settled_by DAEMON_LOG (masked_image (open_mask F p before) j)) F ≡ true
       closed = ap (are_closed_logs (settled_by DAEMON_LOG (masked_image (open_mask F p before) j))) frames ∙ (stands.holds Spaces).logs
 
-      same_frames : frames_of j ≡ frames_of (masked_image (open_mask F p before) j)
-      same_frames = sym (overwritten-stays (open_mask F p before) j FRAMES_WORD (mask_below F p before slot known on_device FRAMES_WORD (omega arith)))
-
       masked_frames : frames_of (masked_image (open_mask F p before) j) ≡ F
       masked_frames = frames_of_idle_world size (masked_image (open_mask F p before) j) s world ∙ sym frames
 
       legal : has_legal_log j ≡ true
-      unfolding has_legal_log
-      legal =
-          has_legal_log-of j (frames_of (masked_image (open_mask F p before) j)) (log_of (masked_image (open_mask F p before) j) DAEMON_LOG) same_frames
-          (sym (log_of-masked DAEMON_LOG (open_mask F p before) (mask_beside_daemon F p before slot known on_device) j))
-          (legal_log_of_idle_world size (masked_image (open_mask F p before) j) s world)
+      legal = sym same_legal ∙ legal_log_of_idle_world size (masked_image (open_mask F p before) j) s world
 
       module _ (gives : GivesOwn F p before (settled_by DAEMON_LOG j)) where
         same_settled : (k : ℕ) → IsReadBeside F k → settled F j k ≡ settled F (masked_image (open_mask F p before) j) k
@@ -120,7 +122,7 @@ module _ (F : ℕ) (p : OpenPool) (before j : Image) (slot : p.slot < POOL_RECOR
         pub none_refused_of_own : (number : ℕ) → number < ALL_LOGS → is_refused_log (frames_of j) (settled_by DAEMON_LOG j) number ≡ false
         none_refused_of_own number few =
             let m = settled_by DAEMON_LOG (masked_image (open_mask F p before) j) in
-            ap (λ (n : ℕ). is_refused_log n (settled_by DAEMON_LOG j) number) (same_frames ∙ masked_frames)
+            ap (λ (n : ℕ). is_refused_log n (settled_by DAEMON_LOG j) number) (sym same_frames ∙ masked_frames)
             ∙ refused_alike F p before (settled_by DAEMON_LOG j) m known like_masked gives
             (λ n below. ap (λ (f : ℕ). is_refused_log f m n) (sym masked_frames) ∙ no_log_is_refused size (masked_image (open_mask F p before) j) s world n below)
             number few
