@@ -3,16 +3,16 @@ use Rattle.std.proofs.Common.{◌≡◌, inl, inr, ℕ, ◌+◌, ◌*◌, ◌<�
 use Rattle.std.specs.Prelude.{is_some}
 use Rattle.std.proofs.lemmas.Bool.{cases_Bool, cases_eq, or_cases, or_left, or_right, and_from, le-leb, lt-ltb}
 use Rattle.pm_model.specs.Masks.{masked_image}
-use Rattle.pud_defs.specs.declared.layout.TheConstants.{DAEMON_LOG, TYPE_TABLE, POOL_TABLE, SPACE_TABLE, PUDDLE_TABLE, CLIENTS, CLIENT_LOGS}
+use Rattle.pud_defs.specs.declared.layout.TheConstants.{DAEMON_LOG, POOL_TABLE, CLIENTS, CLIENT_LOGS}
 use Rattle.pud_defs.specs.declared.log_words.TheConstants.{CLOSED_GATE}
 use Rattle.pud_defs.specs.Allowed.{puddle_word}
 use Rattle.pud_defs.specs.Entries.{Entry, log_of, is_idle_gate, entries_of}
 use Rattle.pud_defs.specs.Image.{Image}
-use Rattle.pud_defs.specs.Layout.{tables_end, frames_at, device_words, log_at}
+use Rattle.pud_defs.specs.Layout.{tables_end, log_at}
 use Rattle.pud_defs.specs.Replay.{device_word, new_value, IsInLog, is_in_log, settled_by}
 use Rattle.pud_defs.specs.Settled.{ALL_LOGS, client_of_log, log_number_at}
 use Rattle.pud_defs.specs.SoundTables.{HasSoundTables}
-use Rattle.pud_defs.specs.Spaces.{space_record_at, owner_of, is_closed_range, is_closed_log, has_closed_logs, are_closed_logs}
+use Rattle.pud_defs.specs.Spaces.{space_record_at, is_closed_range, is_closed_log, has_closed_logs, are_closed_logs}
 use Rattle.pud_defs.specs.Stored.{IsOnDevice}
 use Rattle.pud_defs.specs.Tables.{Tables, tables_of, puddles_in_turn}
 use Rattle.pud_defs.specs.World.{StoredWorld, idle_world_of}
@@ -28,8 +28,9 @@ use Rattle.hybrid_tx.specs.Grounds.{pool_mine, pool_ground}
 use Rattle.hybrid_tx.specs.Masks.{OpenPool, is_open_record, open_mask, IsOpenPool}
 use Rattle.hybrid_tx.proofs.OpenMasks.{mask_of_mine, mask_of_log, mask_of_gate}
 use Rattle.hybrid_tx.proofs.OpenSettled.{IsLikeMasked, other_log_apart}
-use Rattle.hybrid_tx.proofs.OpenWorlds.{masked_word_stays, masked_settles, same_legal, like_masked}
-use Rattle.hybrid_tx.proofs.OpenPools.{open_on_device, sound_with_open, open_places}
+use Rattle.hybrid_tx.proofs.OpenImages.{masked_word_stays, masked_settles, same_legal, like_masked}
+use Rattle.hybrid_tx.proofs.OpenPools.{open_on_device, open_places}
+use Rattle.hybrid_tx.proofs.OpenWorlds.{sound_with_open}
 
 -- ---- images that differ in one log, which is closed
 
