@@ -13,5 +13,7 @@ pub mod PoolPlaces
 pub mod OwnEntries
 pub mod Rights
 pub mod OpenSettled
-pub mod OpenWorlds
+pub mod OpenImages
 pub mod OpenPools
+pub mod OpenWorlds
+pub mod OpenIdle

@@ -1,7 +1,7 @@
 -- Which words a transaction's mask has, and with which values.
-use Rattle.std.proofs.Common.{◌≡◌, inl, inr, ℕ, ◌+◌, ◌<◌, ◌≤◌, Bool, true, false, ◌||◌, leb, ltb, eqb, cond, List, Some, None, refl, ap, ◌∙◌, arith}
+use Rattle.std.proofs.Common.{◌≡◌, inl, inr, ℕ, ◌+◌, ◌<◌, ◌≤◌, Bool, true, false, ◌||◌, leb, ltb, eqb, cond, List, Some, None, refl, ap, ◌∙◌, arith, eq-eqb}
 use Rattle.std.specs.List.{list_any}
-use Rattle.std.proofs.lemmas.Bool.{cond-true, cond-false, and_parts, or_cases, or_left, or_right, leb-true, ltb-true}
+use Rattle.std.proofs.lemmas.Bool.{cond-true, cond-false, and_parts, or_cases, or_left, or_right, leb-true, ltb-true, and_from, le-leb, lt-ltb}
 use Rattle.pud_defs.specs.declared.layout.TheConstants.{DAEMON_LOG, POOL_TABLE}
 use Rattle.pud_defs.specs.declared.log_words.TheConstants.{CLOSED_GATE}
 use Rattle.pud_defs.specs.declared.records.TheConstants.{POOL_RECORDS}
@@ -84,6 +84,12 @@ module _ (F : ℕ) (p : OpenPool) (before : Image) where
   pub mask_of_log : (k : ℕ) → is_in_log (log_number_at F p.number) k ≡ true → (v : ℕ) × (open_mask F p before k ≡ Some v)
   unfolding open_mask
   mask_of_log k inside = (cond (eqb k (log_number_at F p.number)) CLOSED_GATE 0, cond-true _ _ _ inside)
+
+  pub mask_of_gate : open_mask F p before (log_number_at F p.number) ≡ Some CLOSED_GATE
+  unfolding open_mask
+  mask_of_gate =
+      cond-true _ _ _ (and_from (leb (log_number_at F p.number) (log_number_at F p.number)) _ (le-leb _ _ (omega arith)) (lt-ltb _ _ (omega arith)))
+      ∙ ap (λ (v : ℕ). Some v) (cond-true _ _ _ (eq-eqb (log_number_at F p.number) (log_number_at F p.number) refl))
 
   module _ (slot : p.slot < POOL_RECORDS) (known : p.number < ALL_LOGS) (on_device : IsOnDevice F p.at) where
     -- no word in front of the pool table is one of them

@@ -1,10 +1,8 @@
--- A pool with an open transaction: what its records say in an image that has them as they were at the beginning, and the world of an image that is left.
-use Rattle.std.proofs.Common.{◌≡◌, ℕ, ◌+◌, ◌<◌, ◌≤◌, true, false, ◌&&◌, ◌||◌, leb, ltb, List, Option, Some, None, sym, ap, subst, ◌∙◌, arith}
+-- A pool with an open transaction: what its records say in an image that has them as they were at the beginning.
+use Rattle.std.proofs.Common.{◌≡◌, ℕ, ◌+◌, ◌<◌, ◌≤◌, true, ◌||◌, leb, ltb, List, Option, Some, sym, ap, subst, ◌∙◌, arith}
 use Rattle.std.specs.Prelude.{slice_get, unwrap_or}
 use Rattle.std.specs.List.{list_any}
 use Rattle.std.proofs.lemmas.Bool.{and_from, or_left, or_right, le-leb, lt-ltb}
-use Rattle.pm_model.specs.Masks.{masked_image}
-use Rattle.pud_defs.specs.declared.layout.TheConstants.{DAEMON_LOG}
 use Rattle.pud_defs.specs.declared.records.Puddle.{Puddle}
 use Rattle.pud_defs.specs.Allowed.{puddle_word}
 use Rattle.pud_defs.specs.Entries.{log_of}
@@ -12,26 +10,18 @@ use Rattle.pud_defs.specs.Image.{Image}
 use Rattle.pud_defs.specs.Layout.{device_words}
 use Rattle.pud_defs.specs.Pools.{pool_record_at}
 use Rattle.pud_defs.specs.Puddles.{puddle_record_at}
-use Rattle.pud_defs.specs.Registry.{frames_of}
-use Rattle.pud_defs.specs.Replay.{IsInLog, is_in_log, settled_by}
-use Rattle.pud_defs.specs.Settled.{ALL_LOGS, client_of_log, log_number_at, is_refused_log}
-use Rattle.pud_defs.specs.SoundTables.{are_sound_tables, HasSoundTables}
+use Rattle.pud_defs.specs.Settled.{client_of_log, log_number_at}
+use Rattle.pud_defs.specs.SoundTables.{HasSoundTables}
 use Rattle.pud_defs.specs.Spaces.{space_record_at, owner_by, owner_of}
 use Rattle.pud_defs.specs.Stored.{IsOnDevice}
 use Rattle.pud_defs.specs.Tables.{tables_of, puddles_in_turn}
-use Rattle.pud_defs.specs.World.{StoredWorld, world_of, idle_world_of}
-use Rattle.pud_defs.proofs.Parts.Part.{Pools}
 use Rattle.pud_defs.proofs.PuddlesListed.{puddles_in_turn-on_device}
-use Rattle.pud_defs.proofs.SoundChanged.{sound_from}
 use Rattle.pud_defs.proofs.TablesOf.{pools_below, puddles_below, frames_of_tables, pool_at-same, puddle_at-same}
 use Rattle.word_transaction.specs.Ground.{IsGround}
 use Rattle.word_transaction.specs.Running.{SettlesTo, HasPlaces}
-use Rattle.word_transaction.proofs.Images.{SettlesTo-local}
 use Rattle.hybrid_tx.specs.Grounds.{pool_ground, IsPlaced}
-use Rattle.hybrid_tx.specs.Masks.{OpenPool, is_in_pool_record, is_in_space_record, is_in_puddle_record, is_open_record, open_mask, IsOpenPool, IsLeftOpen}
-use Rattle.hybrid_tx.proofs.OpenMasks.{mask_of_mine, mask_of_log}
-use Rattle.hybrid_tx.proofs.OpenSettled.{GivesOwn, same_tables}
-use Rattle.hybrid_tx.proofs.OpenWorlds.{masked_word_stays, record_stays, like_masked, stands, world_of_own, none_refused_of_own}
+use Rattle.hybrid_tx.specs.Masks.{OpenPool, is_in_pool_record, is_in_space_record, is_in_puddle_record, is_open_record, IsOpenPool}
+use Rattle.hybrid_tx.proofs.OpenSettled.{GivesOwn}
 use Rattle.hybrid_tx.proofs.OwnEntries.{new_value_placed, new_value_own}
 use Rattle.hybrid_tx.proofs.PoolGrounds.{all_there, element_passes, is_ground}
 use Rattle.hybrid_tx.proofs.PoolMembers.{HasMembers, members_in_turn, HasMembers-same}
@@ -128,45 +118,3 @@ pub placed_by_tables : (next F : ℕ) (image : Image) (slot : ℕ) (at : List (�
 placed_by_tables next F image slot at sound is =
     subst (λ puddles. IsPlaced F puddles) is
     (subst (λ (n : ℕ). IsPlaced n (puddles_in_turn (tables_of F image) slot)) (frames_of_tables F image) (placed_in_turn next (tables_of F image) slot sound))
-
--- ---- the world of an image that is left
-
-module _ (size F : ℕ) (s : StoredWorld) (p : OpenPool) (before j : Image) (frames : F ≡ s.frames) (opened : IsOpenPool F p before) (left : IsLeftOpen F p before j)
-    (world : idle_world_of size (masked_image (open_mask F p before) j) ≡ Some s) where
-  abbrev behind : Image
-  behind = settled_by DAEMON_LOG j
-
-  on_device : IsOnDevice F p.at
-  on_device = open_on_device F p before opened
-
-  records_behind : (k : ℕ) → is_open_record p k ≡ true → behind k ≡ before k
-  records_behind = record_stays F p before j opened.slot opened.known on_device left.unnamed left.records
-
-  sound_behind : HasSoundTables s.next_number (tables_of F behind)
-  sound_behind =
-      let m = settled_by DAEMON_LOG (masked_image (open_mask F p before) j) in
-      let like = like_masked F p before j opened.slot opened.known on_device left.unnamed left.records in
-      let held = (stands F p before j opened.slot opened.known on_device left.unnamed left.records size s frames world).holds Pools in
-      sound_from s.next_number (tables_of F behind)
-      (ap (are_sound_tables s.next_number) (same_tables F p before behind m opened.known like ∙ ap (λ (n : ℕ). tables_of n m) frames) ∙ held.sound)
-
-  settles_behind : SettlesTo (pool_ground F p.at) (log_number_at F p.number) before behind
-  settles_behind =
-      let stays = masked_word_stays F p before j opened.slot opened.known on_device left.unnamed in
-      SettlesTo-local (pool_ground F p.at) (log_number_at F p.number) before j behind
-      (λ k inside.
-      let v = mask_of_log F p before k (and_from (leb (log_number_at F p.number) k) _ (le-leb _ _ inside.low) (lt-ltb _ _ inside.high)) in
-      stays k v.0 v.1)
-      (λ k mine. stays k (before k) (mask_of_mine F p before k opened.known mine))
-      left.settles
-
-  gives_behind : GivesOwn F p before behind
-  gives_behind = gives_own F p before behind opened records_behind s.next_number sound_behind settles_behind
-
-  -- An image that may be left while a transaction is open stands for the world that it would with the pool's part as it was at the beginning.
-  pub world_with_open : world_of size j ≡ Some s
-  world_with_open = world_of_own F p before j opened.slot opened.known on_device left.unnamed left.records size s frames world gives_behind
-
-  -- And no log is refused in it.
-  pub none_refused_with_open : (number : ℕ) → number < ALL_LOGS → is_refused_log (frames_of j) behind number ≡ false
-  none_refused_with_open = none_refused_of_own F p before j opened.slot opened.known on_device left.unnamed left.records size s frames world gives_behind

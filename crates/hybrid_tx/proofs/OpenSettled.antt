@@ -38,6 +38,21 @@ pub record GivesOwn (F : ℕ) (p : OpenPool) (before d : Image) : Type 0 where
 log_place : (F number : ℕ) → log_number_at F number ≡ tables_end F + LOG_WORDS * number
 log_place F number = omega arith
 
+-- no word of another log is one of this log
+pub other_log_apart : (F number other k : ℕ) → (other ≡ number → ⊥) → IsInLog (log_number_at F other) k → is_in_log (log_number_at F number) k ≡ false
+other_log_apart F number other k apart inside =
+    let low = inside.low in
+    let high = inside.high in
+    let here = log_place F number in
+    let there = log_place F other in
+    elim (cases_lt other number) [
+      | inl less ↦ outside_log (log_number_at F number) k (inl (omega arith))
+      | inr more ↦ elim (cases_eq other number) [
+        | inl same ↦ absurd (apart same)
+        | inr differs ↦ outside_log (log_number_at F number) k (inr (omega arith))
+      ]
+    ]
+
 nothing_given : (o : Option ℕ) (x : ℕ) → ((v : ℕ) → o ≡ Some v → ⊥) → unwrap_or o x ≡ x
 nothing_given None x never = refl
 nothing_given (Some v) x never = absurd (never v refl)
@@ -53,24 +68,10 @@ module _ (F : ℕ) (p : OpenPool) (before d m : Image) (known : p.number < ALL_L
   same_owner client few = owner_of-same d m client few (λ k low high. same_below k (omega arith))
 
   -- logs of other numbers
-  other_log_apart : (other k : ℕ) → (other ≡ p.number → ⊥) → IsInLog (log_number_at F other) k → is_in_log (log_number_at F p.number) k ≡ false
-  other_log_apart other k apart inside =
-      let low = inside.low in
-      let high = inside.high in
-      let here = log_place F p.number in
-      let there = log_place F other in
-      elim (cases_lt other p.number) [
-        | inl less ↦ outside_log (log_number_at F p.number) k (inl (omega arith))
-        | inr more ↦ elim (cases_eq other p.number) [
-          | inl same ↦ absurd (apart same)
-          | inr differs ↦ outside_log (log_number_at F p.number) k (inr (omega arith))
-        ]
-      ]
-
   other_log : (other : ℕ) → other < ALL_LOGS → (other ≡ p.number → ⊥) → log_of d (log_number_at F other) ≡ log_of m (log_number_at F other)
   other_log other few apart = log_of-within d m (log_number_at F other) (λ k inside.
       let high = inside.high in
-      sym (like.others k (other_log_apart other k apart inside) (mine_behind F p.at k (omega arith))))
+      sym (like.others k (other_log_apart F p.number other k apart inside) (mine_behind F p.at k (omega arith))))
 
   other_gives : (other w : ℕ) → other < ALL_LOGS → (other ≡ p.number → ⊥) → given_by_log F d other w ≡ given_by_log F m other w
   other_gives other w few apart = λ q. gives_to (same_tables q) (same_owner (client_of_log other) (omega arith) q) (other_log other few apart q) w

@@ -1,5 +1,5 @@
 -- What entries of a transaction give to words, over places that agree with its own: to own words alone, whatever its range.
-use Rattle.std.proofs.Common.{◌≡◌, ◌⊎◌, inl, inr, ℕ, ◌+◌, ◌<◌, ◌≤◌, true, ◌&&◌, eqb, cond, List, [], ◌∷◌, length, Option, Some, None, sym, ap, ap₂, ◌∙◌}
+use Rattle.std.proofs.Common.{◌≡◌, ◌⊎◌, inl, inr, ℕ, true, ◌&&◌, eqb, cond, List, [], ◌∷◌, length, Option, Some, None, sym, ap, ap₂, ◌∙◌}
 use Rattle.std.specs.Prelude.{All}
 use Rattle.std.specs.Option.{option_or}
 use Rattle.std.proofs.lemmas.Bool.{cond-true, cond-false, cases_Bool}
@@ -7,7 +7,7 @@ use Rattle.std.proofs.lemmas.List.Elements.{All-head, All-tail}
 use Rattle.pm_persist.proofs.Ranges.{placed_within}
 use Rattle.pud_defs.specs.declared.log_words.TheConstants.{UNDO_ORDER, REDO_ORDER}
 use Rattle.pud_defs.specs.Entries.{Entry, Log}
-use Rattle.pud_defs.specs.Replay.{Place, is_in_range, value_from, value_in, given_by, undone, redone, new_value}
+use Rattle.pud_defs.specs.Replay.{Place, is_in_range, value_from, given_by, undone, redone, new_value}
 use Rattle.pud_defs.proofs.Replay.{undone-first, redone-first, undone-none, redone-none, new_value-of}
 use Rattle.word_transaction.specs.Ground.{Ground, IsGround, IsOwn}
 use Rattle.word_transaction.specs.Running.{HasPlaces}

@@ -1,12 +1,11 @@
 -- A pool's puddles in sound tables: they lie as those of a ground, whose places are those of the tables.
-use Rattle.std.proofs.Common.{◌≡◌, ℕ, ◌+◌, ◌-◌, ◌/◌, ◌%◌, ◌<◌, ◌≤◌, Bool, true, List, map, get_or, Option, Some, None, option_map, refl, sym, ap, ◌∙◌, arith}
+use Rattle.std.proofs.Common.{◌≡◌, ℕ, ◌%◌, true, List, map, get_or, Option, Some, None, option_map, refl, sym, ap, ◌∙◌, arith}
 use Rattle.std.specs.Prelude.{All, slice_get}
 use Rattle.std.proofs.lemmas.Option.{none-some, same_Some, slice_get-map, slice_get-get_or}
-use Rattle.pud_defs.specs.declared.space.TheConstants.{RANGE_BYTES, WORD_BYTES}
+use Rattle.pud_defs.specs.declared.space.TheConstants.{RANGE_BYTES}
 use Rattle.pud_defs.specs.declared.records.Puddle.{Puddle}
 use Rattle.pud_defs.specs.Allowed.{puddle_word}
 use Rattle.pud_defs.specs.Bases.{is_legal_base}
-use Rattle.pud_defs.specs.Frames.{frame_at}
 use Rattle.pud_defs.specs.SoundTables.{HasSoundTables}
 use Rattle.pud_defs.specs.Stored.{IsOnDevice}
 use Rattle.pud_defs.specs.Tables.{Tables, puddles_in_turn}
@@ -14,9 +13,9 @@ use Rattle.pud_defs.proofs.PuddlesListed.{puddles_in_turn-on_device}
 use Rattle.graph_laws.specs.Changes.{AreBases}
 use Rattle.graph_laws.specs.Reads.{HasDistinctFrames}
 use Rattle.word_transaction.specs.Running.{HasPlaces}
-use Rattle.hybrid_tx.specs.Grounds.{pool_place, pool_may, pool_ground, IsPlaced}
+use Rattle.hybrid_tx.specs.Grounds.{pool_place, pool_ground, IsPlaced}
 use Rattle.hybrid_tx.proofs.PoolGrounds.{IsNamed, pool_may-named, pool_place-there}
-use Rattle.hybrid_tx.proofs.PoolMembers.{IsMemberOf, HasMembers, members_in_turn, multiple_of_legal, legal_of_member, one_ordinal, one_frame, puddle_word_of_member}
+use Rattle.hybrid_tx.proofs.PoolMembers.{HasMembers, members_in_turn, multiple_of_legal, legal_of_member, one_ordinal, one_frame, puddle_word_of_member}
 
 -- the puddle of a base
 pub record HasBase (at : List (ℕ × Puddle)) (i base : ℕ) : Type 0 where

@@ -1,5 +1,5 @@
 -- The log of a transaction on a pool is allowed where its client may write the pool.
-use Rattle.std.proofs.Common.{◌≡◌, ℕ, ◌+◌, ◌-◌, ◌/◌, ◌%◌, ◌<◌, ◌≤◌, Bool, true, false, not, ◌&&◌, ◌||◌, leb, eqb, List, [], ◌∷◌, length, Option, Some, None, refl, sym, ap, ap₂, ◌∙◌, arith, ne_eqb, eq-eqb}
+use Rattle.std.proofs.Common.{◌≡◌, ℕ, ◌+◌, ◌-◌, ◌/◌, ◌%◌, ◌≤◌, true, not, ◌||◌, leb, eqb, List, [], ◌∷◌, length, Some, refl, ap, ◌∙◌, arith, ne_eqb, eq-eqb}
 use Rattle.std.specs.Prelude.{All}
 use Rattle.std.specs.List.{list_all}
 use Rattle.std.proofs.lemmas.Bool.{and_from, or_right, le-leb}
@@ -10,7 +10,6 @@ use Rattle.pud_defs.specs.declared.records.PoolRec.{PoolRec}
 use Rattle.pud_defs.specs.declared.records.Puddle.{Puddle}
 use Rattle.pud_defs.specs.Allowed.{may_write_record, may_write_puddle, are_writable, is_allowed_entry, are_allowed_entries, is_allowed_log}
 use Rattle.pud_defs.specs.Entries.{Entry, Log}
-use Rattle.pud_defs.specs.Puddles.{Member}
 use Rattle.pud_defs.specs.Places.{located}
 use Rattle.pud_defs.specs.Replay.{is_in_range}
 use Rattle.pud_defs.specs.Rights.{may_write}
