@@ -1,26 +1,19 @@
 -- A batch that names no word that is masked, told of the device with these words masked.
-use Rattle.std.proofs.Common.{◌≡◌, ◌⊎◌, inl, inr, ℕ, ◌+◌, ◌<◌, true, List, Option, Some, None, unwrap_or, refl, sym, ap, subst, ◌∙◌, arith}
-use Rattle.std.specs.Prelude.{All}
+use Rattle.std.proofs.Common.{◌≡◌, ◌⊎◌, inl, inr, ℕ, true, List, Option, Some, None, unwrap_or, refl, sym, ap, subst, ◌∙◌, arith}
 use Rattle.pm_model.specs.declared.host.HostFault.{HostFault}
 use Rattle.pm_model.specs.Words.{Has, Cell, values, Words, Image, Picks}
 use Rattle.pm_model.specs.Moments.{State}
 use Rattle.pm_model.specs.Changes.{Write, Silently}
 use Rattle.pm_model.specs.Masks.{masked, masked_state, masked_image, no_mask, IsOff}
 use Rattle.pm_model.proofs.Leaves.{Leaves-weaker}
-use Rattle.pm_model.proofs.Masks.{IsOff-none, Picks-masked, masked-elsewhere, masked_image-there, masked_image-elsewhere, HasOnly-masked, unmasked, Changes-masked, Leaves-masked}
-use Rattle.pud_defs.specs.declared.layout.TheConstants.{DAEMON_LOG}
+use Rattle.pm_model.proofs.Masks.{IsOff-none, Picks-masked, masked-elsewhere, masked_image-elsewhere, HasOnly-masked, unmasked, Changes-masked, Leaves-masked}
 use Rattle.pud_defs.specs.Entries.{Entry, Log, log_of, is_idle_gate}
-use Rattle.pud_defs.specs.Replay.{device_word, new_value, overwritten, is_in_log, settled_by, IsInLog}
-use Rattle.pud_defs.proofs.Replay.{empty_range_of, new_value-closed}
-use Rattle.pud_defs.proofs.Masked.{IsBesideLog, log_of-masked, settled_by-masked, settled_by-masked_idle}
+use Rattle.pud_defs.specs.Replay.{device_word, new_value, overwritten, settled_by, IsInLog}
+use Rattle.pud_defs.proofs.Masked.{swapped, IsBesideLog, log_of-masked, settled_by-masked, settled_by-masked_idle}
 use Rattle.batch.specs.Batches.{batch_write, committed, AreBatched, IsFree, ByBatch, IsBatched, Commits}
 use Rattle.pud_defs.specs.World.{StoredWorld}
 use Rattle.batch.specs.Worlds.{Moves}
 use Rattle.batch.proofs.Writes.{new_value-committed}
-
-swapped : (f g : Option ℕ) (v : ℕ) → ((x : ℕ) → f ≡ Some x → g ≡ None) → unwrap_or f (unwrap_or g v) ≡ unwrap_or g (unwrap_or f v)
-swapped None g v none = refl
-swapped (Some x) g v none = sym (ap (λ (o : Option ℕ). unwrap_or o x) (none x refl))
 
 module _ (mask : Write) (at : ℕ) (es : List Entry) (off : IsOff mask (ByBatch at es)) where
   log_off : (k : ℕ) → IsInLog at k → mask k ≡ None
@@ -45,7 +38,7 @@ module _ (mask : Write) (at : ℕ) (es : List Entry) (off : IsOff mask (ByBatch 
 
   -- the batch's words and those that are masked, in either order
   pub batch-masked : (image : Image) → overwritten (batch_write es) (masked_image mask image) ≡ masked_image mask (overwritten (batch_write es) image)
-  batch-masked image = λ i k. sym (swapped (mask k) (batch_write es k) (image k) (λ x is. not_written k x is)) i
+  batch-masked image = λ i k. swapped (mask k) (batch_write es k) (image k) (λ x is. not_written k x is) i
 
   module _ (words : Words) (batched : AreBatched es) (idle : (v : ℕ) → Has (values (words at)) v → is_idle_gate v ≡ true) where
     -- with the log replayed
@@ -84,8 +77,8 @@ module _ (mask : Write) (at : ℕ) (es : List Entry) (off : IsOff mask (ByBatch 
       record {
         changes = Changes-masked mask (ByBatch at es) fault old new c.changes;
         moments = Leaves-masked mask P old new
-        (Leaves-weaker (Silently (IsBatched old.now.words at es)) (λ bytes image. P bytes (masked_image mask image)) old new
-        (λ bytes image p. (p.0, IsBatched-masked old.now.words batched idle image p.1)) c.moments);
+            (Leaves-weaker (Silently (IsBatched old.now.words at es)) (λ bytes image. P bytes (masked_image mask image)) old new
+            (λ bytes image p. (p.0, IsBatched-masked old.now.words batched idle image p.1)) c.moments);
         durable = λ e k v is. HasOnly-masked mask new.now.words k v (batch_off k v is) (c.durable e k v is);
         closed = λ e. HasOnly-masked mask new.now.words at _ gate_off (c.closed e);
       }

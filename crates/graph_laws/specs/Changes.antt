@@ -1,18 +1,11 @@
 -- Which words are stored of a graph, and how they change.
-use Rattle.std.specs.Prelude.{◌≡◌, ℕ, ◌+◌, ◌/◌, ◌%◌, ◌<◌, ◌≤◌, ◌&&◌, ◌==◌, cond, List, map, set, slice_get, Option, Some, None, option_map}
-use Rattle.std.specs.Ordering.{nat_cmp}
-use Rattle.std.specs.List.{range_with_len}
-use Rattle.std.specs.FinMap.Entries.{put}
+use Rattle.std.specs.Prelude.{◌≡◌, ℕ, ◌+◌, ◌/◌, ◌%◌, ◌<◌, ◌≤◌, ◌&&◌, ◌==◌, cond, List, map, slice_get, Some}
 use Rattle.pud_defs.specs.declared.space.TheConstants.{RANGE_BYTES, FRAME_SLOTS, SLOT_WORDS, SLOT_SERIAL_WORD, SLOT_TYPE_WORD, SLOT_FIELDS_WORD, NEXT_SERIAL_WORD, ROOT_WORD}
 use Rattle.pud_defs.specs.declared.records.Puddle.{Puddle}
-use Rattle.pud_defs.specs.declared.objects.Val.{Val}
-use Rattle.pud_defs.specs.declared.objects.Val.TheVariants.{Num, Ref}
-use Rattle.pud_defs.specs.TypeMap.{is_pointer}
 use Rattle.pud_defs.specs.Types.{map_of}
-use Rattle.pud_defs.specs.Keyed.{without}
 use Rattle.pud_defs.specs.Frames.{slot_at}
 use Rattle.pud_defs.specs.Stored.{Stored, places_of, place_word}
-use Rattle.pud_defs.specs.Graph.{slot_address, field_count, table_of, place_of, Object, Graph, next_serial_of, object_in}
+use Rattle.pud_defs.specs.Graph.{slot_address, field_count, table_of, place_of, next_serial_of}
 
 -- ---- words
 

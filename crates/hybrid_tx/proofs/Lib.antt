@@ -8,7 +8,6 @@ pub mod FieldPut
 pub mod ObjectPut
 pub mod PoolEnding
 pub mod OpenMasks
-pub mod PoolMembers
 pub mod PoolPlaces
 pub mod OwnEntries
 pub mod Rights

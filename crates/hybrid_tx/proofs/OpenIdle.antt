@@ -1,18 +1,17 @@
 -- Where the log of a transaction is closed and its frames are as they were at the beginning, an image and the masked one stand for the same world.
-use Rattle.std.proofs.Common.{◌≡◌, inl, inr, ℕ, ◌+◌, ◌*◌, ◌<◌, ◌≤◌, true, false, ◌||◌, ◌&&◌, eqb, leb, List, [], Option, Some, None, sym, ap, ap₂, subst, ◌∙◌, arith}
-use Rattle.std.specs.Prelude.{is_some}
+use Rattle.std.proofs.Common.{◌≡◌, inl, inr, ℕ, ◌+◌, ◌*◌, ◌<◌, ◌≤◌, true, false, ◌||◌, eqb, leb, Some, None, sym, ap, subst, ◌∙◌, arith}
 use Rattle.std.proofs.lemmas.Bool.{cases_Bool, cases_eq, or_cases, or_left, or_right, and_from, le-leb, lt-ltb}
 use Rattle.pm_model.specs.Masks.{masked_image}
 use Rattle.pud_defs.specs.declared.layout.TheConstants.{DAEMON_LOG, POOL_TABLE, CLIENTS, CLIENT_LOGS}
 use Rattle.pud_defs.specs.declared.log_words.TheConstants.{CLOSED_GATE}
 use Rattle.pud_defs.specs.Allowed.{puddle_word}
-use Rattle.pud_defs.specs.Entries.{Entry, log_of, is_idle_gate, entries_of}
+use Rattle.pud_defs.specs.Entries.{log_of, is_idle_gate}
 use Rattle.pud_defs.specs.Image.{Image}
 use Rattle.pud_defs.specs.Layout.{tables_end, log_at}
 use Rattle.pud_defs.specs.Replay.{device_word, new_value, IsInLog, is_in_log, settled_by}
 use Rattle.pud_defs.specs.Settled.{ALL_LOGS, client_of_log, log_number_at}
 use Rattle.pud_defs.specs.SoundTables.{HasSoundTables}
-use Rattle.pud_defs.specs.Spaces.{space_record_at, is_closed_range, is_closed_log, has_closed_logs, are_closed_logs}
+use Rattle.pud_defs.specs.Spaces.{space_record_at, is_closed_log, has_closed_logs, are_closed_logs}
 use Rattle.pud_defs.specs.Stored.{IsOnDevice}
 use Rattle.pud_defs.specs.Tables.{Tables, tables_of, puddles_in_turn}
 use Rattle.pud_defs.specs.World.{StoredWorld, idle_world_of}
@@ -20,10 +19,11 @@ use Rattle.pud_defs.proofs.IdleWorlds.{standing_logs, standing_of_idle_world, id
 use Rattle.pud_defs.proofs.LogsBeside.{agree_tables}
 use Rattle.pud_defs.proofs.Parts.{StandsFor}
 use Rattle.pud_defs.proofs.Parts.Part.{Spaces}
-use Rattle.pud_defs.proofs.Replay.{overwritten-there, new_value-closed, empty_range_of, entries_of-idle, settled_by-idle, outside_log}
+use Rattle.pud_defs.proofs.Replay.{overwritten-there, new_value-closed, empty_range_of, settled_by-idle, outside_log}
 use Rattle.pud_defs.proofs.Spaces.{all_below-from, all_below-each, is_closed_log-same, owner_of-same}
 use Rattle.pud_defs.proofs.TablesOf.{tables_of-same}
 use Rattle.word_transaction.specs.Running.{HasPlaces}
+use Rattle.pud_defs.proofs.ClosedLogs.{closed_by_gate}
 use Rattle.hybrid_tx.specs.Grounds.{pool_mine, pool_ground}
 use Rattle.hybrid_tx.specs.Masks.{OpenPool, is_open_record, open_mask, IsOpenPool}
 use Rattle.hybrid_tx.proofs.OpenMasks.{mask_of_mine, mask_of_log, mask_of_gate}
@@ -63,11 +63,6 @@ standing_beside_own size number a b s known same shut h =
 
 is_in : (at k : ℕ) → IsInLog at k → is_in_log at k ≡ true
 is_in at k inside = and_from (leb at k) _ (le-leb _ _ inside.low) (lt-ltb _ _ inside.high)
-
-closed_by_gate : (image : Image) (at : ℕ) → image at ≡ CLOSED_GATE → is_closed_log image at ≡ true
-closed_by_gate image at gate =
-    let empty : entries_of image at ≡ Some [] = entries_of-idle image at (ap is_idle_gate gate) in
-    ap₂ (λ (v : ℕ) (es : Option (List Entry)). is_closed_range v && is_some es) gate empty
 
 -- ---- a closed daemon log
 

@@ -24,7 +24,7 @@ use Rattle.hybrid_tx.specs.Masks.{OpenPool, is_in_pool_record, is_in_space_recor
 use Rattle.hybrid_tx.proofs.OpenSettled.{GivesOwn}
 use Rattle.hybrid_tx.proofs.OwnEntries.{new_value_placed, new_value_own}
 use Rattle.hybrid_tx.proofs.PoolGrounds.{all_there, element_passes, is_ground}
-use Rattle.hybrid_tx.proofs.PoolMembers.{HasMembers, members_in_turn, HasMembers-same}
+use Rattle.pud_defs.proofs.PoolMembers.{HasMembers, members_in_turn, HasMembers-same}
 use Rattle.hybrid_tx.proofs.PoolPlaces.{placed_of_members, places_of_members, placed_in_turn}
 use Rattle.hybrid_tx.proofs.Rights.{MayWritePool, own_log_allowed}
 

@@ -15,7 +15,7 @@ use Rattle.graph_laws.specs.Reads.{HasDistinctFrames}
 use Rattle.word_transaction.specs.Running.{HasPlaces}
 use Rattle.hybrid_tx.specs.Grounds.{pool_place, pool_ground, IsPlaced}
 use Rattle.hybrid_tx.proofs.PoolGrounds.{IsNamed, pool_may-named, pool_place-there}
-use Rattle.hybrid_tx.proofs.PoolMembers.{HasMembers, members_in_turn, multiple_of_legal, legal_of_member, one_ordinal, one_frame, puddle_word_of_member}
+use Rattle.pud_defs.proofs.PoolMembers.{HasMembers, members_in_turn, multiple_of_legal, legal_of_member, one_ordinal, one_frame, puddle_word_of_member}
 
 -- the puddle of a base
 pub record HasBase (at : List (ℕ × Puddle)) (i base : ℕ) : Type 0 where

@@ -19,7 +19,7 @@ use Rattle.pud_defs.specs.Tables.{Tables}
 use Rattle.word_transaction.specs.Ground.{IsOwn}
 use Rattle.hybrid_tx.specs.Grounds.{pool_ground}
 use Rattle.hybrid_tx.proofs.PoolGrounds.{IsNamed, pool_may-named}
-use Rattle.hybrid_tx.proofs.PoolMembers.{IsMemberOf, HasMembers, located_of_member}
+use Rattle.pud_defs.proofs.PoolMembers.{IsMemberOf, HasMembers, located_of_member}
 
 -- The pool of the slot is there, and its mode lets this owner write it.
 pub record MayWritePool (t : Tables) (slot : ℕ) (who : Owner) : Type 0 where

@@ -5,7 +5,7 @@ ghost use Rattle.std.specs.Prelude.{◌≡◌, ◌≢◌, ◌⊎◌, ◌+◌, �
 ghost use Rattle.pm_model.specs.Words.{reads};
 ghost use Rattle.pm_model.specs.Counts.{after_fault, fault_of};
 ghost use Rattle.pm_model.specs.Changes.{Changes};
-ghost use Rattle.pud_defs.specs.declared.layout.TheConstants.{LOG_WORDS, LOG_ENTRY_WORDS, MAX_FRAMES, MAX_FIELDS, NUMBER_LIMIT};
+ghost use Rattle.pud_defs.specs.declared.layout.TheConstants.{LOG_WORDS, LOG_ENTRY_WORDS, MAX_FRAMES, MAX_FIELDS, NUMBER_LIMIT, SET_UNITS, NEW_UNITS};
 ghost use Rattle.pud_defs.specs.declared.space.TheConstants.{SLOT_SERIAL_WORD};
 ghost use Rattle.pud_defs.specs.Image.{Image};
 ghost use Rattle.pud_defs.specs.Layout.{device_words, frames_at};
@@ -18,7 +18,6 @@ ghost use Rattle.pud_defs.specs.GraphChanges.{with_field, with_new, blank_object
 ghost use Rattle.graph_laws.specs.Slots.{AreAllLive, IsLowestFreeSlot};
 ghost use Rattle.graph_read.specs.Reading.{place_at, place_in_pool, IsSlotOf};
 ghost use Rattle.word_transaction.specs.Running.{ByTransaction};
-ghost use Rattle.hybrid_tx.specs.declared.TheConstants.{SET_UNITS, NEW_UNITS};
 ghost use Rattle.hybrid_tx.specs.Grounds.{pool_ground, IsPlaced, IsRewritten};
 ghost use Rattle.hybrid_tx.specs.Stores.{address_at, word_for, new_words};
 ghost use Rattle.hybrid_tx.specs.Transactions.{MaySet, IsOpenOn, RunsOn};

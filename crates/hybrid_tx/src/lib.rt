@@ -16,16 +16,8 @@ mod running;
 
 ghost use Rattle.log_store.specs.Store.{OpenLog};
 
-use pud_defs::layout::ENTRY_HEADER_WORDS;
-use pud_defs::space::SLOT_WORDS;
 use std::marker::Model;
 use word_transaction::WordTransaction;
-
-/// How many units of its log a transaction takes to set a field: those of an entry of one value.
-pub const SET_UNITS: u32 = ENTRY_HEADER_WORDS + 1;
-
-/// How many units it takes to make an object: those of an entry of a slot's words, and of one of the next serial.
-pub const NEW_UNITS: u32 = ENTRY_HEADER_WORDS + SLOT_WORDS + SET_UNITS;
 
 /// An open transaction on the objects of a pool. It is spent by `commit` or `abort`, or by `lose` where power was lost or the
 /// host failed.

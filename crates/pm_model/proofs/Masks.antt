@@ -2,10 +2,9 @@
 use Rattle.std.proofs.Common.{◌≡◌, ◌⊎◌, inl, inr, ℕ, List, [], ◌∷◌, ◌++◌, map, Option, Some, None, unwrap_or, refl, sym, ap, subst, ◌∙◌}
 use Rattle.std.proofs.lemmas.List.{map-append, append_cancel_right}
 use Rattle.pm_model.specs.declared.host.HostFault.{HostFault}
-use Rattle.pm_model.specs.declared.host.HostFault.TheVariants.{Cut}
 use Rattle.pm_model.specs.Words.{Has, Cell, single, values, Words, Image, reads, Picks, HasOnly, IsRested}
 use Rattle.pm_model.specs.Moments.{Moment, State}
-use Rattle.pm_model.specs.Changes.{LeavesAt, Leaves, Footprint, IsKept, Changes, Write, written, Writes, Persists}
+use Rattle.pm_model.specs.Changes.{Leaves, Footprint, IsKept, Changes, Write, written, Persists}
 use Rattle.pm_model.specs.Masks.{masked_cell, masked, masked_moment, masked_state, masked_image, no_mask, IsOff}
 
 -- ---- words and images

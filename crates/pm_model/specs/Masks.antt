@@ -1,5 +1,5 @@
 -- The device as it would be if some words had a value of their own, and no other, at every moment.
-use Rattle.std.specs.Prelude.{◌≡◌, ℕ, List, map, Option, Some, None, unwrap_or}
+use Rattle.std.specs.Prelude.{◌≡◌, ℕ, map, Option, Some, None, unwrap_or}
 use Rattle.pm_model.specs.Words.{Cell, single, Words, Image}
 use Rattle.pm_model.specs.Moments.{Moment, State}
 use Rattle.pm_model.specs.Changes.{Footprint, Write}

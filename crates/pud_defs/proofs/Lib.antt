@@ -12,6 +12,8 @@ pub mod TablesOf
 pub mod PutsMade
 pub mod PoolsChanged
 pub mod SoundChanged
+pub mod PuddleMore
+pub mod PoolMembers
 pub mod RecordsPlaced
 pub mod PoolsCounted
 pub mod PuddlesListed

@@ -1,14 +1,14 @@
 -- Clients' logs replayed and closed one after the other: what each step leaves of the tables, of the other logs, and of the settled image.
-use Rattle.std.proofs.Common.{◌≡◌, inl, inr, ℕ, zero, suc, ◌+◌, ◌*◌, ◌-◌, ◌<◌, ◌≤◌, true, false, not, ◌&&◌, List, [], Option, Some, None, refl, sym, ap, ap₂, ◌∙◌, arith}
-use Rattle.std.specs.Prelude.{unwrap_or, is_some, nat_le, nat_lt}
+use Rattle.std.proofs.Common.{◌≡◌, inl, inr, ℕ, zero, suc, ◌+◌, ◌*◌, ◌-◌, ◌<◌, ◌≤◌, true, false, not, List, [], Option, Some, None, refl, sym, ap, ap₂, ◌∙◌, arith}
+use Rattle.std.specs.Prelude.{unwrap_or, nat_le, nat_lt}
 use Rattle.std.specs.Option.{option_or}
 use Rattle.std.proofs.lemmas.Bool.{and_from, cases_Bool, cases_eq, cond-true, cond-false, le-leb, lt-ltb}
 use Rattle.pud_defs.specs.declared.layout.TheConstants.{CLIENTS, CLIENT_LOGS}
 use Rattle.pud_defs.specs.declared.log_words.TheConstants.{CLOSED_GATE}
 use Rattle.pud_defs.specs.Image.{Image}
 use Rattle.pud_defs.specs.Layout.{tables_end, log_at, frames_at}
-use Rattle.pud_defs.specs.Entries.{Entry, Log, log_of, is_idle_gate, entries_of}
-use Rattle.pud_defs.specs.Spaces.{Owner, owner_of, is_closed_range, is_closed_log, has_closed_logs}
+use Rattle.pud_defs.specs.Entries.{Entry, Log, log_of, is_idle_gate}
+use Rattle.pud_defs.specs.Spaces.{Owner, owner_of, is_closed_log, has_closed_logs}
 use Rattle.pud_defs.specs.Tables.{Tables, tables_of}
 use Rattle.pud_defs.specs.Allowed.{are_allowed_entries, is_allowed_log, is_refused}
 use Rattle.pud_defs.specs.Settled.{gives_to, ALL_LOGS, client_of_log, log_number_at, given_by_log, is_refused_log, given_in_turn, is_in_logs, settled_over}
@@ -16,6 +16,7 @@ use Rattle.pud_defs.specs.LogsTaken.{TakesLog, GivesNothingBelow}
 use Rattle.pud_defs.proofs.Replay.{entries_of-idle, empty_range_of}
 use Rattle.pud_defs.proofs.Spaces.{all_below-from, all_below-each, log_of-within, is_closed_log-same, owner_of-same}
 use Rattle.pud_defs.proofs.TablesOf.{tables_of-same, frames_of_tables}
+use Rattle.pud_defs.proofs.ClosedLogs.{closed_by_gate}
 use Rattle.pud_defs.proofs.Settled.{or_empty, gives_to-below, gives_to-closed, given_in_turn-same}
 
 -- ---- what a client's log gives lies in frames
@@ -74,12 +75,6 @@ not_a_gate : (F number w : ℕ) → number < ALL_LOGS → is_in_logs F w ≡ fal
 not_a_gate F number w known outside here =
     let inside : is_in_logs F w ≡ true = and_from (nat_le (tables_end F) w) (nat_lt w (frames_at F)) (le-leb (tables_end F) w (omega arith)) (lt-ltb w (frames_at F) (omega arith)) in
     absurd (let it : true ≡ false = sym inside ∙ outside in cc)
-
--- a log with the gate of a closed one is closed
-closed_by_gate : (image : Image) (at : ℕ) → image at ≡ CLOSED_GATE → is_closed_log image at ≡ true
-closed_by_gate image at gate =
-    let empty : entries_of image at ≡ Some [] = entries_of-idle image at (ap is_idle_gate gate) in
-    λ p. is_closed_range (gate p) && is_some (empty p)
 
 -- ---- one log is taken
 

@@ -1,5 +1,5 @@
 -- An image with words over it that a log neither has nor names: the log is as it was, and so is its replay beside these words.
-use Rattle.std.proofs.Common.{◌≡◌, ◌⊎◌, inl, inr, ℕ, true, false, cond, Option, Some, None, refl, sym, ap, ◌∙◌}
+use Rattle.std.proofs.Common.{◌≡◌, inl, inr, ℕ, true, Option, Some, None, refl, sym, ap, ◌∙◌}
 use Rattle.std.specs.Prelude.{unwrap_or}
 use Rattle.std.proofs.lemmas.Bool.{cond-true, cond-false, cases_Bool}
 use Rattle.pud_defs.specs.Image.{Image}
@@ -12,7 +12,8 @@ use Rattle.pud_defs.proofs.Spaces.{log_of-within}
 pub record IsBesideLog (at : ℕ) (mask : ℕ → Option ℕ) : Type 0 where
   pub each : (k : ℕ) → IsInLog at k → mask k ≡ None
 
-swapped : (f g : Option ℕ) (v : ℕ) → ((x : ℕ) → f ≡ Some x → g ≡ None) → unwrap_or g (unwrap_or f v) ≡ unwrap_or f (unwrap_or g v)
+-- words apart are written in either order
+pub swapped : (f g : Option ℕ) (v : ℕ) → ((x : ℕ) → f ≡ Some x → g ≡ None) → unwrap_or g (unwrap_or f v) ≡ unwrap_or f (unwrap_or g v)
 swapped None g v none = refl
 swapped (Some x) g v none = ap (λ (o : Option ℕ). unwrap_or o x) (none x refl)
 

@@ -224,11 +224,11 @@ given_later next later number more h =
     let below = ltb-true number next parts.1 in
     and_from _ _ parts.0 (lt-ltb number later (omega arith))
 
-sound_pool_later : (next later : ℕ) → next ≤ later → (o : Option PoolRec) → is_sound_pool next o ≡ true → is_sound_pool later o ≡ true
+pub sound_pool_later : (next later : ℕ) → next ≤ later → (o : Option PoolRec) → is_sound_pool next o ≡ true → is_sound_pool later o ≡ true
 sound_pool_later next later more None h = refl
 sound_pool_later next later more (Some r) h = let parts = and_parts _ (is_given next r.number) h in and_from _ _ parts.0 (given_later next later r.number more parts.1)
 
-legal_puddle_later : (next later : ℕ) → next ≤ later → (p : Puddle) → is_legal_puddle next p ≡ true → is_legal_puddle later p ≡ true
+pub legal_puddle_later : (next later : ℕ) → next ≤ later → (p : Puddle) → is_legal_puddle next p ≡ true → is_legal_puddle later p ≡ true
 legal_puddle_later next later more p h =
     let three = and_parts (is_given next p.number && is_legal_base p.base && is_legal_base p.old_base) (is_legal_frontier p.frontier) h in
     let two = and_parts (is_given next p.number && is_legal_base p.base) (is_legal_base p.old_base) three.0 in

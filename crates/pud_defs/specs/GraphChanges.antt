@@ -1,5 +1,5 @@
 -- How graphs change: an object more or less, a field with another value, another root.
-use Rattle.std.specs.Prelude.{ℕ, ◌+◌, cond, List, map, set, Option, Some, None, option_map}
+use Rattle.std.specs.Prelude.{ℕ, ◌+◌, cond, map, set, Option, Some, None, option_map}
 use Rattle.std.specs.Ordering.{nat_cmp}
 use Rattle.std.specs.List.{range_with_len}
 use Rattle.std.specs.FinMap.Entries.{put}

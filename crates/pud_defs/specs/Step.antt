@@ -1,5 +1,5 @@
 -- What a line does to the world, and what is answered.
-use Rattle.std.specs.Prelude.{◌≡◌, ℕ, ◌+◌, ◌*◌, Bool, true, false, not, ◌&&◌, ◌||◌, nat_le, nat_lt, ◌==◌, cond, List, [], ◌∷◌, length, find, count_by, slice_get, bytes_eq, Option, Some, None, is_none, is_some, unwrap_or, option_map}
+use Rattle.std.specs.Prelude.{◌≡◌, ℕ, ◌+◌, ◌*◌, Bool, true, false, not, ◌&&◌, ◌||◌, nat_le, nat_lt, ◌==◌, cond, List, [], ◌∷◌, length, find, count_by, slice_get, bytes_eq, Option, Some, None, is_none, is_some, unwrap_or}
 use Rattle.pud_defs.specs.declared.layout.TheConstants.{TYPE_RECORDS, CLIENT_LOGS, LOG_ENTRY_WORDS, MAX_DEPTH, SET_UNITS, NEW_UNITS, NUMBER_LIMIT}
 use Rattle.pud_defs.specs.declared.records.TheConstants.{MAX_PUDDLES}
 use Rattle.pud_defs.specs.declared.space.TheConstants.{FRAME_SLOTS}

@@ -1,5 +1,5 @@
 -- Open transactions of a world: whose they are, what they use, how they begin and end.
-use Rattle.std.specs.Prelude.{ℕ, ◌+◌, ◌-◌, Bool, false, true, not, nat_le, ◌==◌, cond, List, bytes_eq, Option, Some, None, option_map}
+use Rattle.std.specs.Prelude.{ℕ, ◌+◌, ◌-◌, Bool, false, not, nat_le, ◌==◌, cond, List, bytes_eq, Option, Some, None, option_map}
 use Rattle.pud_defs.specs.Graph.{Graph}
 use Rattle.pud_defs.specs.Holdings.Holding.{Sound}
 use Rattle.pud_defs.specs.Tables.{Pool}

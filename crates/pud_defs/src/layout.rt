@@ -75,11 +75,12 @@ pub const CLIENT_LOGS: u32 = 4;
 /// How often a transaction may be begun before it ends.
 pub const MAX_DEPTH: u32 = 16;
 
-/// How many units of its log a transaction uses to set a field.
-pub const SET_UNITS: u32 = 3;
+/// How many units of its log a transaction uses to set a field: the entry words of an entry of one word.
+pub const SET_UNITS: u32 = ENTRY_HEADER_WORDS + 1;
 
-/// How many units of its log a transaction uses to make an object.
-pub const NEW_UNITS: u32 = 37;
+/// How many units of its log a transaction uses to make an object: the entry words of an entry of a slot's words, as many as an entry has at
+/// most, and those of an entry of the next serial.
+pub const NEW_UNITS: u32 = ENTRY_HEADER_WORDS + MAX_ENTRY_VALUES + SET_UNITS;
 
 /// The first word of the puddle table, which has a record for each frame.
 pub const PUDDLE_TABLE: u32 = 1536;

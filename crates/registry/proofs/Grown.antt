@@ -41,7 +41,7 @@ use Rattle.registry.specs.Growth.{grown_puddle, growing, IsGrowthFor, HoldsGraph
 use Rattle.registry.proofs.Moved.{ReadsWorld, MakesPools, pools_next}
 use Rattle.registry.proofs.Changed.{found_pool, changed_there}
 use Rattle.registry.proofs.Made.{other_base, given}
-use Rattle.registry.proofs.PuddleMore.{IsNextPuddle, sound_more, pools_more}
+use Rattle.pud_defs.proofs.PuddleMore.{IsNextPuddle, sound_more, pools_more}
 
 -- ---- the graph
 

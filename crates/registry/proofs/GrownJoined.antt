@@ -103,8 +103,8 @@ module _ (size : ℕ) (s next : StoredWorld) (F : ℕ) (image : Image) (slot : �
   -- what the call that makes it grow owes, behind a search that changed nothing
   pub ChangesPools-growth_masked : IsSettled size s (masked mask a.now.words) → IsPoolAt F slot r (masked mask a.now.words) → b ≡ a
       → (IsOff mask (written (frame_write F p.frame p.number p.ordinal)) → IsOff mask (ByBatch DAEMON_LOG (puts_batch (growing slot p)))
-          → IsSettled size s (masked mask b.now.words) → IsPoolAt F slot r (masked mask b.now.words) → IsGrowthFor (tables_of F (reads (masked mask b.now.words))) s.next_number slot p
-          → ChangesPools size s next (IsFreshFrame F p.frame p.number p.ordinal) fault (masked_state mask b) (masked_state mask c))
+      → IsSettled size s (masked mask b.now.words) → IsPoolAt F slot r (masked mask b.now.words) → IsGrowthFor (tables_of F (reads (masked mask b.now.words))) s.next_number slot p
+      → ChangesPools size s next (IsFreshFrame F p.frame p.number p.ordinal) fault (masked_state mask b) (masked_state mask c))
       → ChangesPools size s next (HasFreshPuddle (tables_of F image) s.next_number (puddle_count (tables_of F image) slot)) fault (masked_state mask a) (masked_state mask c)
   ChangesPools-growth_masked settled at still grows =
       subst (λ (t : Tables). ChangesPools size s next (HasFreshPuddle t s.next_number (puddle_count t slot)) fault (masked_state mask a) (masked_state mask c)) (ap (tables_of F) read_masked ∙ keeps.tables)

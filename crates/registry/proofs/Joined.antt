@@ -219,9 +219,9 @@ module _ (size : ℕ) (s next : StoredWorld) (F : ℕ) (image : Image) (name : L
   -- what the call that makes it owes, behind a search that changed nothing
   pub ChangesPools-found_masked : IsSettled size s (masked mask a.now.words) → HasDurableTables F (masked mask a.now.words) → b ≡ a
       → (IsOff mask (written (frame_write F p.frame (p.number + 1) 0))
-          → IsOff mask (ByBatch DAEMON_LOG (puts_batch (making p (record { name = name; uid = uid; gid = gid; mode = mode; number = p.number }))))
-          → IsSettled size s (masked mask b.now.words) → HasDurableTables F (masked mask b.now.words) → IsPlaceFor (tables_of F (reads (masked mask b.now.words))) s.next_number name p
-          → ChangesPools size s next (IsFreshFrame F p.frame (p.number + 1) 0) fault (masked_state mask b) (masked_state mask c))
+      → IsOff mask (ByBatch DAEMON_LOG (puts_batch (making p (record { name = name; uid = uid; gid = gid; mode = mode; number = p.number }))))
+      → IsSettled size s (masked mask b.now.words) → HasDurableTables F (masked mask b.now.words) → IsPlaceFor (tables_of F (reads (masked mask b.now.words))) s.next_number name p
+      → ChangesPools size s next (IsFreshFrame F p.frame (p.number + 1) 0) fault (masked_state mask b) (masked_state mask c))
       → ChangesPools size s next (HasFreshFrame (tables_of F image) (s.next_number + 1)) fault (masked_state mask a) (masked_state mask c)
   ChangesPools-found_masked settled tables still makes =
       subst (λ (t : Tables). ChangesPools size s next (HasFreshFrame t (s.next_number + 1)) fault (masked_state mask a) (masked_state mask c)) (ap (tables_of F) read_masked ∙ keeps.tables)

@@ -7,7 +7,6 @@ pub mod Filled
 pub mod Gathered
 pub mod Joined
 pub mod Placed
-pub mod PuddleMore
 pub mod GrowthPlaced
 pub mod Grown
 pub mod GrownJoined

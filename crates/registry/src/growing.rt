@@ -136,7 +136,7 @@ fn grow_at<H: Host>(h: &mut H, frames: u32, slot: u32, growth: Growth) -> Result
         → (r : PoolRec) → IsPoolAt frames slot r (masked mask (H.state h.old).now.words) → (g : Graph) → HoldsGraph r.name s g
         → IsGrowthFor (tables_of frames (reads (masked mask (H.state h.old).now.words))) s.next_number slot growth
         → ChangesPools size s (with_grown_pool r.name s) (IsFreshFrame frames growth.frame growth.number growth.ordinal) (fault_of result)
-            (masked_state mask (H.state h.old)) (masked_state mask (H.state h.new)) }
+        (masked_state mask (H.state h.old)) (masked_state mask (H.state h.new)) }
     ensures any { H.tells → Changes Anything (fault_of result) (H.state h.old) (H.state h.new) }
     ensures cause { H.counts h.new ≡ after_fault (fault_of result) (H.counts h.old) }
 {
@@ -166,7 +166,7 @@ pub fn grow_pool<H: Host>(h: &mut H, frames: u32, slot: u32) -> Result<(), HostF
         → IsSettled size s (masked mask (H.state h.old).now.words) → (r : PoolRec) → IsPoolAt frames slot r (masked mask (H.state h.old).now.words) → (g : Graph) → HoldsGraph r.name s g
         → can_grow (tables_of frames image) (image NEXT_NUMBER_WORD) slot ≡ true
         → ChangesPools size s (with_grown_pool r.name s) (HasFreshPuddle (tables_of frames image) s.next_number (puddle_count (tables_of frames image) slot)) (fault_of result)
-            (masked_state mask (H.state h.old)) (masked_state mask (H.state h.new)) }
+        (masked_state mask (H.state h.old)) (masked_state mask (H.state h.new)) }
     ensures any { H.tells → Changes Anything (fault_of result) (H.state h.old) (H.state h.new) }
     ensures cause { H.counts h.new ≡ after_fault (fault_of result) (H.counts h.old) }
 {

@@ -164,7 +164,7 @@ fn make_at<H: Host>(h: &mut H, frames: u32, place: Place, rec: PoolRec) -> Resul
         → IsSettled size s (masked mask (H.state h.old).now.words) → HasDurableTables frames (masked mask (H.state h.old).now.words)
         → IsPlaceFor (tables_of frames (reads (masked mask (H.state h.old).now.words))) s.next_number rec.name place → IsLegalPool rec.name rec.uid rec.gid rec.mode
         → ChangesPools size s (with_new_pool rec.name (owner rec.uid rec.gid) rec.mode s) (IsFreshFrame frames place.frame (place.number + 1) 0) (fault_of result)
-            (masked_state mask (H.state h.old)) (masked_state mask (H.state h.new)) }
+        (masked_state mask (H.state h.old)) (masked_state mask (H.state h.new)) }
     ensures any { H.tells → Changes Anything (fault_of result) (H.state h.old) (H.state h.new) }
     ensures cause { H.counts h.new ≡ after_fault (fault_of result) (H.counts h.old) }
 {
@@ -202,7 +202,7 @@ pub fn make_pool<H: Host>(
         → IsSettled size s (masked mask (H.state h.old).now.words) → HasDurableTables frames (masked mask (H.state h.old).now.words) → IsLegalPool name uid gid mode
         → make_refusal (tables_of frames image) (image NEXT_NUMBER_WORD) name ≡ Option.None
         → ChangesPools size s (with_new_pool name (owner uid gid) mode s) (HasFreshFrame (tables_of frames image) (s.next_number + 1)) (make_fault result)
-            (masked_state mask (H.state h.old)) (masked_state mask (H.state h.new)) }
+        (masked_state mask (H.state h.old)) (masked_state mask (H.state h.new)) }
     ensures any { H.tells → Changes Anything (make_fault result) (H.state h.old) (H.state h.new) }
     ensures cause { H.counts h.new ≡ after_fault (make_fault result) (H.counts h.old) }
 {

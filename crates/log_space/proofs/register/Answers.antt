@@ -30,5 +30,5 @@ returns-clause-registers g c = λ t size same s mask off settled logs.
     let whole : 1 ∷ c.from.result ∷ c.from-2.result ∷ [] ≡ vals = ap₂ (λ (x y : ℕ). 1 ∷ x ∷ y ∷ []) c.from.ensures c.from-2.ensures in
     Registers-moves size s slot uid gid fault (masked_state mask a) (masked_state mask b) gives
     (subst (λ (vs : List ℕ). IsOff mask (ByBatch DAEMON_LOG (record_batch slot vs)) → MovesBy size s s (record_batch slot vs) (masked mask a.now.words)
-        → Moves size s s (record_batch slot vs) fault (masked_state mask a) (masked_state mask b)) whole (λ apart. c.write_record.ensures.moves t size same s s mask apart settled)
+    → Moves size s s (record_batch slot vs) fault (masked_state mask a) (masked_state mask b)) whole (λ apart. c.write_record.ensures.moves t size same s s mask apart settled)
     off (MovesBy-record size s slot (Some (owner uid gid)) vals (masked mask a.now.words) gives settled))

@@ -47,5 +47,5 @@ returns-clause-changes g c = λ t size same s frames mask keeps off settled r at
     ChangesPools-dropped size s F slot r batch (fault_of c.commit.result) (masked_state mask a) (masked_state mask b) (masked_state mask d) (ap (masked_state mask) (c.in_ok-dropping.ensures.stays t)) frames c.requires.known settled at
     gathered
     (λ settled_then moves. c.commit.ensures.moves t size then s _ mask
-        (subst (λ (es : List Entry). IsOff mask (ByBatch DAEMON_LOG es)) (sym (whole_batch size s F slot r mask a batch frames c.requires.known settled at tables (λ few. c.in_ok-dropping.ensures.batch t (reads a.now.words) refl few))) off)
-        settled_then moves)
+    (subst (λ (es : List Entry). IsOff mask (ByBatch DAEMON_LOG es)) (sym (whole_batch size s F slot r mask a batch frames c.requires.known settled at tables (λ few. c.in_ok-dropping.ensures.batch t (reads a.now.words) refl few))) off)
+    settled_then moves)

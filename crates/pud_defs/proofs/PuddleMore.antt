@@ -1,5 +1,5 @@
 -- A puddle more in sound tables: it comes last of its pool, all else stays, and the tables stay sound.
-use Rattle.std.proofs.Common.{◌≡◌, inl, inr, ℕ, ◌+◌, ◌-◌, ◌<◌, ◌≤◌, true, false, not, ◌&&◌, ◌||◌, leb, ltb, eqb, List, [], ◌∷◌, ◌++◌, map, length, Option, Some, None, nat_cmp, is_some, is_none, option_map, refl, sym, ap, ap₂, ◌∙◌, subst, arith, ne_eqb, eq-eqb, eqb-true}
+use Rattle.std.proofs.Common.{◌≡◌, inl, inr, ℕ, ◌+◌, ◌-◌, ◌<◌, ◌≤◌, true, false, not, ◌&&◌, ◌||◌, ltb, eqb, List, [], ◌∷◌, ◌++◌, map, length, Option, Some, None, nat_cmp, is_some, is_none, option_map, refl, sym, ap, ap₂, ◌∙◌, subst, arith, ne_eqb, eq-eqb, eqb-true}
 use Rattle.std.specs.FinMap.{nat_cmp-IsAntisymmetric}
 use Rattle.std.specs.FinMap.Entries.{by_order, put, find}
 use Rattle.std.specs.Cmp.{nat_cmp_is, tied_itself}
@@ -8,24 +8,22 @@ use Rattle.std.specs.Ordering.{is_eq}
 use Rattle.std.specs.declared.cmp.Ordering.{Ordering}
 use Rattle.std.specs.declared.cmp.Ordering.TheVariants.{Greater}
 use Rattle.std.proofs.lemmas.Cmp.{nat_cmp_total}
-use Rattle.std.proofs.lemmas.Bool.{cases_eq, cond-true, cond-false, and_parts, and_from, ltb-true, lt-ltb, le-leb}
+use Rattle.std.proofs.lemmas.Bool.{cases_eq, cond-true, cond-false, and_parts, and_from, lt-ltb, le-leb}
 use Rattle.std.proofs.lemmas.List.{length_push}
 use Rattle.pud_defs.specs.declared.records.TheConstants.{POOL_RECORDS, MAX_PUDDLES}
 use Rattle.pud_defs.specs.declared.records.PoolRec.{PoolRec}
 use Rattle.pud_defs.specs.declared.records.Puddle.{Puddle}
 use Rattle.pud_defs.specs.Names.{name_cmp}
 use Rattle.pud_defs.specs.Keyed.{under, keyed}
-use Rattle.pud_defs.specs.Bases.{is_legal_base, is_legal_frontier}
-use Rattle.pud_defs.specs.Pools.{is_given}
 use Rattle.pud_defs.specs.Puddles.{Member, is_legal_puddle}
 use Rattle.pud_defs.specs.Tables.{Tables, Reader, member_of, members, puddles_of, pool_of, entries, pools_of}
-use Rattle.pud_defs.specs.SoundTables.{is_sound_pool, is_pool, is_sound_puddle, bases, old_bases, count_up, are_counted, HasSoundTables}
+use Rattle.pud_defs.specs.SoundTables.{is_pool, is_sound_puddle, bases, old_bases, count_up, are_counted, HasSoundTables}
 use Rattle.pud_defs.specs.Puts.{with_puddle_at}
 use Rattle.pud_defs.proofs.Keyed.{HasDistinctKeys, HasDistinctKeys-set, is_free_for, alone_there, first_from_none_each, find-keyed, keyed-put}
 use Rattle.pud_defs.proofs.PoolsChanged.{changed_here, changed_elsewhere, same_name, entry_of, distinct_entries}
 use Rattle.pud_defs.proofs.PoolsCounted.{few_members}
 use Rattle.pud_defs.proofs.PuddlesListed.{passed_by}
-use Rattle.pud_defs.proofs.SoundChanged.{sound_by, legal_pool, legal_puddle, distinct_names, distinct_bases, distinct_old_bases, distinct_ordinals, counted_puddles}
+use Rattle.pud_defs.proofs.SoundChanged.{sound_pool_later, legal_puddle_later, sound_by, legal_pool, legal_puddle, distinct_names, distinct_bases, distinct_old_bases, distinct_ordinals, counted_puddles}
 
 -- ---- lists whose keys count up
 
@@ -57,25 +55,6 @@ module _ {X : Type 0} where
   count_up-next k from (e ∷ es) v next up =
       let parts = and_parts (eqb e.0 from) (count_up (from + 1) (map (λ d. d.0) es)) up in
       and_from (eqb e.0 from) _ parts.0 (count_up-next k (from + 1) es v (omega arith) parts.1)
-
--- ---- what was legal still is, where later numbers were given out
-
-given_later : (next later number : ℕ) → next ≤ later → is_given next number ≡ true → is_given later number ≡ true
-given_later next later number more h =
-    let parts = and_parts (leb 1 number) (ltb number next) h in
-    let below = ltb-true number next parts.1 in
-    and_from _ _ parts.0 (lt-ltb number later (omega arith))
-
-sound_pool_later : (next later : ℕ) → next ≤ later → (o : Option PoolRec) → is_sound_pool next o ≡ true → is_sound_pool later o ≡ true
-sound_pool_later next later more None h = refl
-sound_pool_later next later more (Some r) h = let parts = and_parts _ (is_given next r.number) h in and_from _ _ parts.0 (given_later next later r.number more parts.1)
-
-legal_puddle_later : (next later : ℕ) → next ≤ later → (p : Puddle) → is_legal_puddle next p ≡ true → is_legal_puddle later p ≡ true
-legal_puddle_later next later more p h =
-    let three = and_parts (is_given next p.number && is_legal_base p.base && is_legal_base p.old_base) (is_legal_frontier p.frontier) h in
-    let two = and_parts (is_given next p.number && is_legal_base p.base) (is_legal_base p.old_base) three.0 in
-    let one = and_parts (is_given next p.number) (is_legal_base p.base) two.0 in
-    and_from _ _ (and_from _ _ (and_from _ _ (given_later next later p.number more one.0) one.1) two.1) three.1
 
 -- ---- the tables
 
