@@ -43,13 +43,15 @@ ByPut-in_frame F at o word log e vals fault old new there few c =
 
 -- ---- addresses
 
+below_end : (base word : ℕ) → base < SPACE_START + SPACE_BYTES → word < FRAME_WORDS → (base + WORD_BYTES * word) % 2 ^ 64 ≡ base + WORD_BYTES * word
+below_end base word low below = omega arith
+
 -- the range of a puddle of the space does not reach the end of the numbers of 64 bits
 pub no_wrap : (base word : ℕ) → is_legal_base base ≡ true → word < FRAME_WORDS → (base + WORD_BYTES * word) % 2 ^ 64 ≡ base + WORD_BYTES * word
 no_wrap base word legal below =
     let parts = and_parts _ _ legal in
     let ends = and_parts _ _ parts.0 in
-    let high = ltb-true base (SPACE_START + SPACE_BYTES) ends.1 in
-    omega arith
+    below_end base word (ltb-true base (SPACE_START + SPACE_BYTES) ends.1) below
 
 -- ---- saved alone
 
