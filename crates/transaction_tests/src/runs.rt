@@ -1,6 +1,6 @@
 //! Whole transactions: what is called in turn, how they end, and how far they come.
 use crate::device::{FRAMES, LOG, POOL, Placed, is_on_device};
-use hybrid_tx::{NEW_UNITS, Tx};
+use hybrid_tx::Tx;
 use pm_model::{Host, HostFault};
 use pud_defs::layout::{
     LOG_ENTRY_WORDS, LOG_WORDS, MAX_FIELDS, MAX_FRAMES, device_words, frames_at,

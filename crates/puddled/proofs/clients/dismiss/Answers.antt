@@ -6,7 +6,7 @@ use Rattle.pm_model.specs.Masks.{no_mask}
 use Rattle.pm_model.proofs.Masks.{unmasked, IsOff-no_mask}
 use Rattle.pud_defs.specs.declared.layout.TheConstants.{DAEMON_LOG}
 use Rattle.batch.specs.Batches.{ByBatch}
-use Rattle.log_space.specs.Records.{registration, unregistration, Registers, Unregisters}
+use Rattle.log_space.specs.Records.{unregistration, Unregisters}
 use Rattle.log_space.specs.Closed.{ByClosing, Closes}
 use Rattle.pud_defs.specs.World.{closed}
 use Rattle.puddled.proofs.Coming.{Applies-unclosed, Applies-dismissed, ClosesFirst-closing, ClosesFirst-freed}

@@ -4,11 +4,10 @@ use Rattle.pm_model.specs.Moments.{State}
 use Rattle.pm_model.specs.Masks.{no_mask}
 use Rattle.pm_model.proofs.Masks.{unmasked, IsOff-no_mask}
 use Rattle.pud_defs.specs.declared.layout.TheConstants.{DAEMON_LOG}
-use Rattle.pud_defs.specs.Tables.{tables_of}
-use Rattle.pud_defs.specs.PoolChanges.{with_pool_mode, without_pool}
+use Rattle.pud_defs.specs.PoolChanges.{with_pool_mode}
 use Rattle.batch.specs.Batches.{ByBatch}
 use Rattle.registry.specs.Puts.{puts_batch}
-use Rattle.registry.specs.Pools.{changing, dropping, ChangesPools}
+use Rattle.registry.specs.Pools.{changing, ChangesPools}
 use Rattle.pm_model.specs.Words.{reads}
 use Rattle.pud_defs.specs.declared.machine.Refusal.{Refusal}
 use Rattle.puddled.specs.Owning.{refusal_found, IsSlotOf}

@@ -5,10 +5,10 @@ use Rattle.pm_model.specs.Masks.{no_mask}
 use Rattle.pm_model.proofs.Masks.{unmasked, IsOff-no_mask}
 use Rattle.pud_defs.specs.declared.layout.TheConstants.{DAEMON_LOG}
 use Rattle.pud_defs.specs.Tables.{tables_of}
-use Rattle.pud_defs.specs.PoolChanges.{with_pool_mode, without_pool}
+use Rattle.pud_defs.specs.PoolChanges.{without_pool}
 use Rattle.batch.specs.Batches.{ByBatch}
 use Rattle.registry.specs.Puts.{puts_batch}
-use Rattle.registry.specs.Pools.{changing, dropping, ChangesPools}
+use Rattle.registry.specs.Pools.{dropping, ChangesPools}
 use Rattle.pm_model.specs.Words.{reads}
 use Rattle.pud_defs.specs.declared.machine.Refusal.{Refusal}
 use Rattle.puddled.specs.Owning.{refusal_found, IsSlotOf}

@@ -44,7 +44,7 @@ returns-clause-applies g c = λ t size e w memory frames ready legal.
     Applies-making size w memory c.args.client c.in-Some.who.uid c.in-Some.who.gid c.args.mode c.args.frames c.args.name c.make_pool.result c.reply_of.result _ _ (g.H.Host.state c.make_pool.new.h) ready who same (c.owner.ensures.stays t) c.reply_of.ensures _
     (λ tables settled none. unmasked
     (λ (x y : State). ChangesPools size w.stored (with_new_pool c.args.name (owner c.in-Some.who.uid c.in-Some.who.gid) c.args.mode w.stored) (HasFreshFrame (tables_of c.args.frames (reads (g.H.Host.state c.args.h.now).now.words)) (w.stored.next_number + 1))
-        (make_fault c.make_pool.result) x y) (g.H.Host.state c.owner.new.h) (g.H.Host.state c.make_pool.new.h)
+    (make_fault c.make_pool.result) x y) (g.H.Host.state c.owner.new.h) (g.H.Host.state c.make_pool.new.h)
     (c.make_pool.ensures.makes t size then w.stored same _ read no_mask (record { tables = refl; number = refl }) (record { frame = λ p is. IsOff-no_mask _; records = λ p is. IsOff-no_mask _ }) settled tables
     (record { is_name = legal.1; has_legal_name = legal.2; has_legal_mode = legal.3; uid_fits = who.uid_fits; gid_fits = who.gid_fits }) none))
     (c.make_pool.ensures.unchanged t _ read)
