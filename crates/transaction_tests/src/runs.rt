@@ -3,7 +3,7 @@ use crate::device::{FRAMES, LOG, POOL, Placed, is_on_device};
 use hybrid_tx::Tx;
 use pm_model::{Host, HostFault};
 use pud_defs::layout::{
-    LOG_ENTRY_WORDS, LOG_WORDS, MAX_FIELDS, MAX_FRAMES, device_words, frames_at,
+    LOG_ENTRY_WORDS, LOG_WORDS, MAX_FIELDS, MAX_FRAMES, NEW_UNITS, device_words, frames_at,
 };
 use pud_defs::objects::Val;
 use std::process::Abort;
