@@ -21,7 +21,7 @@ use Rattle.pud_defs.specs.Changing.{file_in, KeepsFiles}
 use Rattle.pud_defs.proofs.Changing.{KeepsFiles-still, KeepsUnwritable-still, KeepsUnwritable-then, KeepsUnwritable-line}
 use Rattle.pud_defs.proofs.Commands.{command_of-front}
 use Rattle.pud_defs.proofs.Lines.{open_rest-newline, open_rest-other, open_rest-nothing, lines_taken-nothing, lines_taken-newline, lines_taken-other, lines_taken-end, lines_among_empty, lines_among_line}
-use Rattle.pud_defs.proofs.Idle.{world_of_idle}
+use Rattle.puddled.proofs.Beside.{ready_stands}
 use Rattle.pud_defs.proofs.Runs.{IsRun-append, last_world-append}
 use Rattle.pud_defs.proofs.Said.{replies_text-append}
 use Rattle.pud_defs.proofs.Stands.{StandsAfter-more, StandsWith-later}
@@ -109,7 +109,7 @@ AnswersLine-nothing size w memory line before after old new ready none uncounted
       few = omega arith;
       lines = sym (lines_among_empty line (ap length (nothing_from_take line none)));
       is_run = tt;
-      moments = Leaves-still (StandsWith size w []) old old (λ image picked. world_of_idle size image (closed w) (ready.settled.stands image picked)) refl;
+      moments = Leaves-still (StandsWith size w []) old old (λ image picked. (ready_stands size w _ _ ready image picked).0) refl;
       says = record { bytes = []; rest = []; part = refl; said = sym (append-nil old.now.said); whole = λ _. refl };
       ready = λ _. ready;
       counted = (λ lost. cc, uncounted);
@@ -129,7 +129,7 @@ Leaves-script : (P : List ℕ → Image → Type 0) (bytes : List ℕ) (start no
 Leaves-script P bytes start now l = record { added = l.added; history = l.history; start = l.start; later = l.later }
 
 IsReady-script : (size : ℕ) (w : World) (memory : Memory) (bytes : List ℕ) (s : State) → IsReady size w memory s → IsReady size w memory (with_script bytes s)
-IsReady-script size w memory bytes s r = record { settled = r.settled; tables = r.tables; clients = r.clients; frames = r.frames; shelf = r.shelf; nothing = r.nothing }
+IsReady-script size w memory bytes s r = record { mask = r.mask; settled = r.settled; tables = r.tables; clients = r.clients; frames = r.frames; shelf = r.shelf; held = r.held }
 
 -- ready where the bytes taken left the daemon, after a byte more was read
 pub ready_read : (size : ℕ) (w : World) (before : Counts) (start : State) (counts : Counts) (memory : Memory) (now after : State) (piece : List ℕ) (byte : Option ℕ)
@@ -323,7 +323,7 @@ Serves-start size w memory before start now same ready =
       under_way = sym (ap (λ (l : List ℕ). take 129 l) open_rest-nothing);
       script = refl;
       said = sym (append-nil start.now.said);
-      moments = Leaves-still (StandsWith size w []) start start (λ image picked. world_of_idle size image (closed w) (ready.settled.stands image picked)) refl;
+      moments = Leaves-still (StandsWith size w []) start start (λ image picked. (ready_stands size w _ _ ready image picked).0) refl;
       ready = ready;
       counted = refl;
     })

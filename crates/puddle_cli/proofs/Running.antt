@@ -15,7 +15,7 @@ use Rattle.pud_defs.specs.Run.{last_world, Turn, cuts_of, newlines}
 use Rattle.pud_defs.specs.Texts.{replies_text}
 use Rattle.pud_defs.specs.StartText.{start_text}
 use Rattle.pud_defs.specs.Stands.{StandsWith, StandsBehind}
-use Rattle.pud_defs.proofs.Idle.{world_of_idle}
+use Rattle.puddled.proofs.Beside.{ready_stands}
 use Rattle.pud_defs.proofs.Changing.{KeepsFiles-still, KeepsUnwritable-still, KeepsUnwritable-then, KeepsUnwritable-none}
 use Rattle.pud_defs.proofs.Lines.{newlines-append, newlines_part, lines_taken-nothing}
 use Rattle.pud_defs.proofs.Stands.{StandsBehind-closed, StandsBehind-after}
@@ -183,7 +183,7 @@ module _ (size : ℕ) (w : World) (start : State) (rested : IsRested start.now.w
               (nothing, ap (λ (l : List ℕ). text ++ replies_text a.answered ++ l) no_more ∙ append-nil (text ++ replies_text a.answered));
           all_lines = done;
           not_ended = too_long;
-          ends = λ none image picked. world_of_idle size image (closed (last_world w a.answered)) ((a.ready (sym is ∙ none)).settled.stands image picked);
+          ends = λ none image picked. (ready_stands size (last_world w a.answered) _ _ (a.ready (sym is ∙ none)) image picked).0;
           files = a.files;
           shelf_of_run = λ none. (a.ready (sym is ∙ none)).shelf;
         };

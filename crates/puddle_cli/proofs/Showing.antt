@@ -27,7 +27,7 @@ use Rattle.pud_defs.proofs.Held.{pools_in-same, frame_among}
 use Rattle.pud_defs.proofs.SoundChanged.{sound_from}
 use Rattle.pud_defs.proofs.Parts.{HoldsWorld}
 use Rattle.pud_defs.proofs.Worlds.{holding_of_world, frames_of_world}
-use Rattle.pud_defs.proofs.Idle.{world_of_idle}
+use Rattle.puddled.proofs.Beside.{ready_stands}
 use Rattle.puddled.specs.declared.daemon.StartFault.{StartFault}
 use Rattle.puddled.specs.declared.daemon.StartFault.TheVariants as starts
 use Rattle.puddled.specs.Memory.{Memory}
@@ -151,4 +151,4 @@ module _ (size : ℕ) (s : StoredWorld) (old : State) where
   Leaves-shown memory mid new text fault p says =
       let P : List ℕ → Image → Type 0 = λ bytes image. world_of size image ≡ Some s in
       Leaves-then P P P p.says.bytes old mid new p.says.said (λ front image m. m) (λ more image m. m) (Leaves-start (Ok memory) mid p)
-      (Leaves-says text fault P mid new (λ front image prefix picked. world_of_idle size image s (p.ready.settled.stands image picked)) says)
+      (Leaves-says text fault P mid new (λ front image prefix picked. (ready_stands size _ _ _ p.ready image picked).0) says)

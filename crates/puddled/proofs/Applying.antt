@@ -11,12 +11,13 @@ use Rattle.pud_defs.specs.World.{World}
 use Rattle.pud_defs.specs.Step.{refusal_of, after, unless_refused, world_by}
 use Rattle.puddled.specs.Memory.{Memory}
 use Rattle.puddled.specs.Daemon.{IsReady, Applies}
+use Rattle.puddled.proofs.Beside.{ready_stands}
 
 -- nothing happened
 pub Applies-still : (size : ℕ) (w : World) (memory : Memory) (fault : Option HostFault) (old new : State) → IsReady size w memory old → new ≡ old → (fault ≡ Some Cut → IsRested new.now.words)
     → Applies size w w memory fault old new
 Applies-still size w memory fault old new ready same rests = record {
-  moments = Leaves-still _ old new (λ image picked. (refl, inl (ready.settled.stands image picked))) same;
+  moments = Leaves-still _ old new (λ image picked. let stands = ready_stands size w memory old ready image picked in (refl, (inl stands.0, stands.1))) same;
   quiet = ap (λ (s : State). s.now.said) same;
   ready = λ _. subst (λ (n : State). IsReady size w memory n) (sym same) ready;
   rests = rests;
@@ -38,3 +39,14 @@ pub Applies-accepted : (size : ℕ) (w : World) (memory : Memory) (c : Command) 
 Applies-accepted size w memory c fault a b d none same applies ready =
     subst (λ (v : World). Applies size w v memory fault a d) (sym (ap (λ o. unless_refused o w (after w c)) none))
     (subst (λ (s : State). Applies size w (after w c) memory fault s d) same (applies (subst (λ (s : State). IsReady size w memory s) (sym same) ready)))
+
+-- a fault came, which was no power loss, before anything was changed
+pub Applies-failed : (size : ℕ) (w next : World) (memory : Memory) (fault : HostFault) (old new : State) → IsReady size w memory old → new ≡ old → (Some fault ≡ Some Cut → ⊥)
+    → Applies size w next memory (Some fault) old new
+Applies-failed size w next memory fault old new ready same never_cut = record {
+  moments = Leaves-still _ old new (λ image picked. let stands = ready_stands size w memory old ready image picked in (refl, (inl stands.0, stands.1))) same;
+  quiet = ap (λ (s : State). s.now.said) same;
+  ready = λ none. absurd (let it : None ≡ Some fault = sym none in cc);
+  rests = λ cut. absurd (never_cut cut);
+  script = ap (λ (s : State). s.script) same;
+}

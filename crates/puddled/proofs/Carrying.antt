@@ -23,7 +23,7 @@ use Rattle.puddled.specs.Memory.{Memory}
 use Rattle.puddled.specs.declared.answers.Answered.{Answered}
 use Rattle.puddled.specs.declared.answers.Answered.TheVariants as answers
 use Rattle.puddled.specs.Answered.{as_answered}
-use Rattle.puddled.specs.Daemon.{KeepsRest, KeepsLine, IsReady, Applies, ClosesFirst, ClosesLogs, CarriesOut}
+use Rattle.puddled.specs.Daemon.{KeepsRest, KeepsLine, IsReady, Applies, ClosesBefore, ClosesLogs, CarriesOut}
 use Rattle.puddled.proofs.Applying.{Applies-idle}
 
 -- where nothing happened the rest stays
@@ -78,15 +78,15 @@ restart_line w command pick is = absurd (let no : ordinary ≡ loses pick = is i
 -- ---- a client that goes
 
 -- its own call closes its logs first
-pub ClosesLogs-leave : (w : World) (client : ℕ) (old new : State) → (true ≡ is_some (w.clients client) → ClosesFirst w.stored.frames client old new) → ClosesLogs w (Some (Leave client)) old new
+pub ClosesLogs-leave : (w : World) (client : ℕ) (old new : State) → (true ≡ is_some (w.clients client) → ClosesBefore w.stored.frames client old new) → ClosesLogs ClosesBefore w (Some (Leave client)) old new
 ClosesLogs-leave w client old new closes = record {
   first = λ other is present.
       let same : client ≡ other = cc in
-      subst (λ (n : ℕ). ClosesFirst w.stored.frames n old new) same (closes (subst (λ (n : ℕ). true ≡ is_some (w.clients n)) (sym same) present));
+      subst (λ (n : ℕ). ClosesBefore w.stored.frames n old new) same (closes (subst (λ (n : ℕ). true ≡ is_some (w.clients n)) (sym same) present));
 }
 
 -- no other command lets one go
-pub ClosesLogs-other : (w : World) (command : Option Command) (old new : State) → ((client : ℕ) → command ≡ Some (Leave client) → ⊥) → ClosesLogs w command old new
+pub ClosesLogs-other : (w : World) (command : Option Command) (old new : State) → ((client : ℕ) → command ≡ Some (Leave client) → ⊥) → ClosesLogs ClosesBefore w command old new
 ClosesLogs-other w command old new other = record { first = λ client is present. absurd (other client is) }
 
 -- ---- each command
@@ -94,7 +94,7 @@ ClosesLogs-other w command old new other = record { first = λ client is present
 module _ (size : ℕ) (w : World) (memory : Memory) (before after : Counts) (old new : State) where
   -- one that counts nothing of its own, and writes no file
   pub CarriesOut-plain : (c : Command) (done : Result Reply HostFault) → kind_of (Some c) ≡ ordinary → file_of c ≡ None → IfOk done (λ reply. of_reply reply ≡ answer_by w (Some c))
-      → Applies size w (world_by w (Some c)) memory (fault_of done) old new → ClosesLogs w (Some c) old new → KeepsRest old new → after ≡ after_fault (fault_of done) before
+      → Applies size w (world_by w (Some c)) memory (fault_of done) old new → ClosesLogs ClosesBefore w (Some c) old new → KeepsRest old new → after ≡ after_fault (fault_of done) before
       → CarriesOut size w memory (Some c) (as_answered done) before after old new
   CarriesOut-plain c (Ok reply) plain none replied applies closes rest cause = record {
     replied = replied;

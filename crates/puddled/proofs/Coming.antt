@@ -1,34 +1,42 @@
 -- Clients that come and go: their logs closed, and then their record of the log-space table changed.
-use Rattle.std.proofs.Common.{◌≡◌, ◌⊎◌, inl, inr, ⊎_elim, ℕ, ◌<◌, Bool, true, false, eqb, cond, List, [], ◌∷◌, Option, Some, None, refl, sym, ap, subst, ◌∙◌, arith}
+use Rattle.std.proofs.Common.{◌≡◌, ◌⊎◌, inl, inr, ⊎_elim, ℕ, ◌<◌, ◌≤◌, Bool, true, false, eqb, cond, List, [], ◌∷◌, length, Option, Some, None, refl, sym, ap, subst, ◌∙◌, arith}
 use Rattle.std.specs.Prelude.{is_some}
 use Rattle.std.proofs.lemmas.List.{append-nil}
+use Rattle.std.proofs.lemmas.List.Elements.{All-nil, All-cons}
 use Rattle.std.proofs.lemmas.Bool.{eqb-true}
 use Rattle.pm_model.specs.declared.host.HostFault.{HostFault}
-use Rattle.pm_model.specs.Words.{Words, Picks, HasOnly, reads}
+use Rattle.pm_model.specs.Words.{Picks, HasOnly, reads}
 use Rattle.pm_model.specs.Moments.{State}
-use Rattle.pm_model.specs.Changes.{Silently, IsFrom}
+use Rattle.pm_model.specs.Changes.{Changes, Leaves, Silently, IsFrom}
+use Rattle.pm_model.specs.Masks.{masked, masked_state, IsOff}
 use Rattle.pm_model.proofs.Changes.{Changes-said}
 use Rattle.pm_model.proofs.Leaves.{Leaves-changes, Leaves-weaker, Leaves-then, Leaves-still}
-use Rattle.pud_defs.specs.declared.layout.TheConstants.{DAEMON_LOG, CLIENTS}
-use Rattle.pud_defs.specs.Layout.{tables_end}
+use Rattle.pud_defs.specs.declared.layout.TheConstants.{DAEMON_LOG, CLIENTS, SPACE_RECORD_WORDS}
+use Rattle.pud_defs.specs.Layout.{tables_end, log_at}
 use Rattle.pud_defs.specs.Image.{Image}
-use Rattle.pud_defs.specs.Entries.{Entry, is_idle_gate}
+use Rattle.pud_defs.specs.Entries.{Entry, log_of, is_idle_gate}
+use Rattle.pud_defs.specs.Replay.{device_word}
 use Rattle.pud_defs.specs.Spaces.{Owner, space_record_at, owner_by, owner_of, has_closed_logs, owner, with_owner}
 use Rattle.pud_defs.specs.World.{World, idle_world_of, closed}
 use Rattle.pud_defs.specs.declared.machine.Command.TheVariants.{Client, Leave}
 use Rattle.pud_defs.specs.declared.machine.Refusal.TheVariants as refusals
-use Rattle.pud_defs.specs.Transactions.{Opened, without_client}
 use Rattle.pud_defs.specs.Step.{refusal_of, after}
-use Rattle.pud_defs.proofs.Replay.{settled_by-idle, outside_log}
+use Rattle.pud_defs.proofs.Replay.{empty_range_of, new_value-closed, outside_log}
+use Rattle.pud_defs.proofs.ClosedLogs.{has_closed_logs-gates}
 use Rattle.pud_defs.proofs.Spaces.{used_is_some, owner_of-same, has_closed_logs-same}
 use Rattle.pud_defs.proofs.Steps.{client-taken, client-new, leave-absent, leave-present}
-use Rattle.batch.specs.Batches.{ByBatch}
+use Rattle.batch.specs.Batches.{batch_entry, IsBatchEntry, AreBatched, HasIdleGate, ByBatch, IsBatched, Commits}
 use Rattle.batch.specs.Tables.{HasDurableTables}
 use Rattle.batch.proofs.Tables.{reads_kept, HasDurableTables-kept, HasDurableTables-committed}
-use Rattle.log_space.specs.Records.{record_batch, registration, unregistration, HasClosedLogs, MayHaveOwner, ChangesOwner, Registers, Unregisters}
-use Rattle.log_space.specs.Closed.{ByClosing, Closes}
+use Rattle.log_space.specs.Records.{record_batch, registration, unregistration, MayHaveOwner, ChangesOwner, Registers, Unregisters}
+use Rattle.log_space.specs.Closed.{ByClosing, ClosesGates, Closes}
+use Rattle.log_space.proofs.Writing.{writes_elsewhere}
 use Rattle.puddled.specs.Memory.{Memory}
-use Rattle.puddled.specs.Daemon.{IsReady, Applies, IsUsedStill, IsClosedIfFree, ClosesFirst}
+use Rattle.puddled.specs.Held.{ByOthers, IsOthers, IsBeside}
+use Rattle.puddled.specs.Daemon.{IsReady, Applies, IsUsedAlone, IsClosedIfNamed, ClosesBefore}
+use Rattle.puddled.proofs.Beside.{ready_idle, Applies-beside}
+use Rattle.puddled.proofs.Beneath.{ready_gate, gate_kept, IsBeside-changes, IsBeside-commits, IsBeside-then, read_masked-kept}
+use Rattle.puddled.proofs.Others.{off_gates, off_record, keeps_held, gone}
 
 -- ---- what is read of the log-space table
 
@@ -52,123 +60,183 @@ no_gate F slot k v below gate = let is = gate.0.is in absurd (omega arith)
 
 -- ---- the logs closed, and then the record changed
 
-module _ (size : ℕ) (w : World) (memory : Memory) (slot : ℕ) (known : slot < CLIENTS) where
+-- a batch of one record is one of a batch
+record_batched : (slot : ℕ) (vals : List ℕ) → AreBatched (record_batch slot vals)
+record_batched slot vals = All-cons IsBatchEntry (batch_entry (space_record_at slot) vals) [] (record { seq = refl; order = refl }) (All-nil IsBatchEntry)
+
+-- the client's owner changed
+abbrev pub after_this : World → ℕ → Option Owner → World
+after_this w slot now = record w { clients = with_owner slot now w.clients }
+
+module _ (size : ℕ) (w : World) (memory : Memory) (slot : ℕ) (known : slot < CLIENTS) (others : IsOthers slot memory.held) (a : State) (ready : IsReady size w memory a) where
   abbrev may_stand : World → Image → Type 0
   may_stand next image = (idle_world_of size image ≡ Some (closed w)) ⊎ (idle_world_of size image ≡ Some (closed next))
 
-  -- the logs were not closed, for a fault
-  pub Applies-unclosed : (next : World) (fault : HostFault) (a b : State) → Closes size (closed w) slot (Some fault) a b → Applies size w next memory (Some fault) a b
-  Applies-unclosed next fault a b p = record {
-    moments = Leaves-weaker _ _ a b (λ bytes image m. (m.0, inl m.1)) p.moments;
-    quiet = Changes-said (ByClosing w.stored.frames slot) (Some fault) a b p.changes;
-    ready = λ none. absurd (let it : None ≡ Some fault = sym none in cc);
-    rests = p.changes.rests;
-    script = p.changes.script;
-  }
+  -- the gates are none of the words that are masked
+  pub gates_apart : (F : ℕ) → F ≡ w.stored.frames → IsOff ready.mask (ByClosing F slot)
+  gates_apart F is = subst (λ (n : ℕ). IsOff ready.mask (ByClosing n slot)) (sym is) (off_gates w memory.held ready.mask a.now.words slot ready.held known others)
 
-  module _ (now : Option Owner) (es : List Entry) (a b c : State) (ready : IsReady size w memory a) (p : Closes size (closed w) slot None a b) where
-    abbrev after_this : World
-    after_this = record w { clients = with_owner slot now w.clients }
+  -- nor is the record
+  pub record_apart : (vals : List ℕ) → length vals ≤ SPACE_RECORD_WORDS → IsOff ready.mask (ByBatch DAEMON_LOG (record_batch slot vals))
+  record_apart vals few = off_record w memory.held ready.mask a.now.words slot vals ready.held known few others
+
+  beside_closing : (F : ℕ) (fault : Option HostFault) (b : State) → F ≡ w.stored.frames → ClosesGates F slot fault a b → IsBeside ready.mask fault a b
+  beside_closing F fault b is p =
+      IsBeside-changes ready.mask (ByClosing F slot) fault a b (gates_apart F is) (λ v gate. no_gate F slot DAEMON_LOG v (omega arith) gate) (ready_gate size w memory a ready) p.changes
+
+  -- the logs were not closed, for a fault
+  unclosed : (F : ℕ) (now : Option Owner) (fault : HostFault) (b : State) → F ≡ w.stored.frames → ClosesGates F slot (Some fault) a b
+      → Closes size (closed w) slot (Some fault) (masked_state ready.mask a) (masked_state ready.mask b) → Applies size w (after_this w slot now) memory (Some fault) a b
+  unclosed F now fault b is gates p =
+      let none : Some fault ≡ None → ⊥ = λ no. let it : None ≡ Some fault = sym no in cc in
+      Applies-beside size w (after_this w slot now) memory (Some fault) a b ready (keeps_held w memory.held slot now others) (record {
+        beside = beside_closing F (Some fault) b is gates;
+        moments = Leaves-weaker (Silently (λ (image : Image). idle_world_of size image ≡ Some (closed w))) (Silently (may_stand (after_this w slot now))) (masked_state ready.mask a) (masked_state ready.mask b)
+            (λ bytes image m. (m.0, inl m.1)) p.moments;
+        settled = λ no. absurd (none no);
+        tables = λ no. absurd (none no);
+        clients = λ no. absurd (none no);
+        shelf = refl;
+      })
+
+  module _ (F : ℕ) (now : Option Owner) (vals : List ℕ) (few : length vals ≤ SPACE_RECORD_WORDS) (b c : State) (is : F ≡ w.stored.frames) (gates : ClosesGates F slot None a b)
+      (p : Closes size (closed w) slot None (masked_state ready.mask a) (masked_state ready.mask b)) where
+    abbrev es : List Entry
+    es = record_batch slot vals
 
     -- the tables are as they were while the logs were closed
+    gates_behind : (k v : ℕ) → k < tables_end w.stored.frames → ByClosing F slot k v → ⊥
+    gates_behind k v below = no_gate F slot k v (subst (λ (n : ℕ). k < tables_end n) (sym is) below)
+
     tables_closed : HasDurableTables w.stored.frames b.now.words
-    tables_closed = HasDurableTables-kept w.stored.frames (ByClosing w.stored.frames slot) None a b p.changes (no_gate w.stored.frames slot) ready.tables
+    tables_closed = HasDurableTables-kept w.stored.frames (ByClosing F slot) None a b gates.changes gates_behind ready.tables
 
     clients_closed : (client : ℕ) → client < CLIENTS → owner_of (reads b.now.words) client ≡ w.clients client
     clients_closed client low =
         owner_of-same (reads b.now.words) (reads a.now.words) client low
-        (λ k from to. reads_kept (ByClosing w.stored.frames slot) a b k p.changes (λ v. no_gate w.stored.frames slot k v (omega arith)))
+        (λ k from to. reads_kept (ByClosing F slot) a b k gates.changes (λ v. gates_behind k v (omega arith)))
         ∙ ready.clients client low
 
-    ready_changed : (q : ChangesOwner size (closed w) slot now es None b c) → IsReady size after_this memory c
-    ready_changed q = record {
-      settled = q.settled refl;
-      tables = HasDurableTables-committed w.stored.frames es None b c q.changes (q.durable refl) tables_closed;
-      clients = λ client low. q.read refl client low ∙ ap (cond (eqb client slot) now) (clients_closed client low);
-      frames = ready.frames;
-      shelf = q.changes.shelf ∙ p.changes.shelf ∙ ready.shelf;
-      nothing = ready.nothing;
-    }
+    module _ (fault : Option HostFault) (k : Commits DAEMON_LOG es fault b c) (q : ChangesOwner size (closed w) slot now es fault (masked_state ready.mask b) (masked_state ready.mask c)) where
+      beside_changed : IsBeside ready.mask fault a c
+      beside_changed =
+          IsBeside-then ready.mask fault a b c (beside_closing F None b is gates)
+          (IsBeside-commits ready.mask es fault b c (record_apart vals few) (record_batched slot vals) k)
 
-    pub Applies-changed : (fault : Option HostFault) → ChangesOwner size (closed w) slot now es fault b c → Applies size w after_this memory fault a c
-    Applies-changed fault q =
-        let P = Silently (may_stand after_this) in
-        let said = Changes-said (ByClosing w.stored.frames slot) None a b p.changes in
-        record {
-          moments = Leaves-then P P P [] a b c (said ∙ sym (append-nil a.now.said)) (λ front image m. m) (λ more image m. m)
-              (Leaves-weaker _ P a b (λ bytes image m. (m.0, inl m.1)) p.moments)
-              (Leaves-weaker _ P b c (λ bytes image m. (m.0, inl m.1.stands)) q.moments);
-          quiet = Changes-said (ByBatch DAEMON_LOG es) fault b c q.changes ∙ said;
-          ready = λ none. ready_changed (subst (λ (f : Option HostFault). ChangesOwner size (closed w) slot now es f b c) none q);
-          rests = q.changes.rests;
-          script = q.changes.script ∙ p.changes.script;
-        }
+      -- what is read of the table, masked or not
+      masked_owner : (s : State) (client : ℕ) → client < CLIENTS → Changes (ByOthers ready.mask) None a s → owner_of (reads s.now.words) client ≡ owner_of (reads (masked ready.mask s.now.words)) client
+      masked_owner s client low changes =
+          owner_of-same (reads s.now.words) (reads (masked ready.mask s.now.words)) client low
+          (λ n from to. sym (read_masked-kept w memory.held ready.mask a s ready.held changes n (omega arith)))
+
+      clients_changed : fault ≡ None → (client : ℕ) → client < CLIENTS → owner_of (reads c.now.words) client ≡ with_owner slot now w.clients client
+      clients_changed none client low =
+          masked_owner c client low (subst (λ (f : Option HostFault). Changes (ByOthers ready.mask) f a c) none beside_changed.changes)
+          ∙ q.read none client low
+          ∙ ap (cond (eqb client slot) now) (sym (masked_owner b client low (beside_closing F None b is gates).changes) ∙ clients_closed client low)
+
+      changed_moments : Leaves (Silently (may_stand (after_this w slot now))) (masked_state ready.mask a) (masked_state ready.mask c)
+      changed_moments =
+          let P = Silently (may_stand (after_this w slot now)) in
+          let said = Changes-said (ByClosing F slot) None a b gates.changes in
+          Leaves-then P P P [] (masked_state ready.mask a) (masked_state ready.mask b) (masked_state ready.mask c) (said ∙ sym (append-nil a.now.said)) (λ front image m. m) (λ more image m. m)
+          (Leaves-weaker (Silently (λ (image : Image). idle_world_of size image ≡ Some (closed w))) P (masked_state ready.mask a) (masked_state ready.mask b) (λ bytes image m. (m.0, inl m.1)) p.moments)
+          (Leaves-weaker (Silently (MayHaveOwner size (closed w) slot now es (masked ready.mask b.now.words))) P (masked_state ready.mask b) (masked_state ready.mask c) (λ bytes image m. (m.0, inl m.1.stands)) q.moments)
+
+      -- the record was changed, or not, for a fault
+      changed : Applies size w (after_this w slot now) memory fault a c
+      changed = Applies-beside size w (after_this w slot now) memory fault a c ready (keeps_held w memory.held slot now others) (record {
+        beside = beside_changed;
+        moments = changed_moments;
+        settled = q.settled;
+        tables = λ none. HasDurableTables-committed w.stored.frames es fault b c k.changes (k.durable none) tables_closed;
+        clients = clients_changed;
+        shelf = refl;
+      })
 
   -- a client came
-  pub Applies-admitted : (uid gid : ℕ) (fault : Option HostFault) (a b c : State) → IsReady size w memory a → Closes size (closed w) slot None a b → Registers size (closed w) slot uid gid fault b c
-      → Applies size w (after w (Client slot uid gid)) memory fault a c
+  pub Applies-unadmitted : (F uid gid : ℕ) (fault : HostFault) (b : State) → F ≡ w.stored.frames → ClosesGates F slot (Some fault) a b
+      → Closes size (closed w) slot (Some fault) (masked_state ready.mask a) (masked_state ready.mask b) → Applies size w (after w (Client slot uid gid)) memory (Some fault) a b
   unfolding after
-  Applies-admitted uid gid fault a b c ready p r = Applies-changed (Some (owner uid gid)) (registration slot uid gid) a b c ready p fault r.table
+  Applies-unadmitted F uid gid fault b is gates p = unclosed F (Some (owner uid gid)) fault b is gates p
+
+  pub Applies-admitted : (F uid gid : ℕ) (fault : Option HostFault) (b c : State) → F ≡ w.stored.frames → ClosesGates F slot None a b
+      → Closes size (closed w) slot None (masked_state ready.mask a) (masked_state ready.mask b) → Commits DAEMON_LOG (registration slot uid gid) fault b c
+      → Registers size (closed w) slot uid gid fault (masked_state ready.mask b) (masked_state ready.mask c) → Applies size w (after w (Client slot uid gid)) memory fault a c
+  unfolding after
+  Applies-admitted F uid gid fault b c is gates p k r = changed F (Some (owner uid gid)) (1 ∷ uid ∷ gid ∷ []) (omega arith) b c is gates p fault k r.table
 
   -- a client went
-  pub Applies-dismissed : (fault : Option HostFault) (a b c : State) → IsReady size w memory a → Closes size (closed w) slot None a b → Unregisters size (closed w) slot fault b c
-      → Applies size w (after w (Leave slot)) memory fault a c
-  unfolding after
-  Applies-dismissed fault a b c ready p r =
-      let gone = record w { clients = with_owner slot None w.clients } in
-      let here : record gone { transactions = without_client slot w.transactions } ≡ gone =
-      ap (λ (opened : Opened). record gone { transactions = without_client slot opened }) ready.nothing ∙ ap (λ (opened : Opened). record gone { transactions = opened }) (sym ready.nothing) in
-      subst (λ (v : World). Applies size w v memory fault a c) (sym here) (Applies-changed None (unregistration slot) a b c ready p fault r.table)
+  to_gone : (fault : Option HostFault) (c : State) → Applies size w (after_this w slot None) memory fault a c → Applies size w (after w (Leave slot)) memory fault a c
+  to_gone fault c applies = subst (λ (v : World). Applies size w v memory fault a c) (sym (gone w memory.held ready.mask a.now.words slot ready.held others)) applies
 
-  -- ---- a client that goes
+  pub Applies-undismissed : (F : ℕ) (fault : HostFault) (b : State) → F ≡ w.stored.frames → ClosesGates F slot (Some fault) a b
+      → Closes size (closed w) slot (Some fault) (masked_state ready.mask a) (masked_state ready.mask b) → Applies size w (after w (Leave slot)) memory (Some fault) a b
+  Applies-undismissed F fault b is gates p = to_gone (Some fault) b (unclosed F None fault b is gates p)
 
-  -- a record that is used is so still where the daemon log is closed
-  used_still : (image : Image) → image (space_record_at slot) ≡ 1 → is_idle_gate (image DAEMON_LOG) ≡ true → IsUsedStill slot image
-  used_still image used gate = record { now = used; replayed = settled_by-idle DAEMON_LOG image (space_record_at slot) gate (outside_log DAEMON_LOG (space_record_at slot) (inr (omega arith))) ∙ used }
+  pub Applies-dismissed : (F : ℕ) (fault : Option HostFault) (b c : State) → F ≡ w.stored.frames → ClosesGates F slot None a b
+      → Closes size (closed w) slot None (masked_state ready.mask a) (masked_state ready.mask b) → Commits DAEMON_LOG (unregistration slot) fault b c
+      → Unregisters size (closed w) slot fault (masked_state ready.mask b) (masked_state ready.mask c) → Applies size w (after w (Leave slot)) memory fault a c
+  Applies-dismissed F fault b c is gates p k r = to_gone fault c (changed F None (0 ∷ []) (omega arith) b c is gates p fault k r.table)
+
+-- the daemon log counts nothing behind the closing
+pub gate_closed : (size : ℕ) (w : World) (memory : Memory) (F slot : ℕ) (a b : State) → IsReady size w memory a → ClosesGates F slot None a b → HasIdleGate DAEMON_LOG b.now.words
+gate_closed size w memory F slot a b ready gates =
+    gate_kept (ByClosing F slot) None a b gates.changes (λ v gate. no_gate F slot DAEMON_LOG v (omega arith) gate) (ready_gate size w memory a ready)
+
+-- ---- a client that goes
+
+module _ (size : ℕ) (w : World) (memory : Memory) (slot : ℕ) (known : slot < CLIENTS) where
+  -- where the daemon log is closed, it gives a record that is used no value
+  used_alone : (image : Image) → image (space_record_at slot) ≡ 1 → is_idle_gate (image DAEMON_LOG) ≡ true → IsUsedAlone slot image
+  used_alone image used gate = record { now = used; unnamed = new_value-closed device_word (log_of image DAEMON_LOG) (space_record_at slot) (empty_range_of (image DAEMON_LOG) gate) }
 
   module _ (present : true ≡ is_some (w.clients slot)) where
     used_before : (a : State) → IsReady size w memory a → (image : Image) → Picks a.now.words image → image (space_record_at slot) ≡ 1
     used_before a ready image picked = (space_used size w memory a slot known ready present).each (image (space_record_at slot)) (picked.each (space_record_at slot))
 
     -- nothing was done
-    pub ClosesFirst-idle : (a b : State) → IsReady size w memory a → b ≡ a → ClosesFirst w.stored.frames slot a b
-    ClosesFirst-idle a b ready same =
-        Leaves-still _ a b (λ image picked. inl (used_still image (used_before a ready image picked) (ready.settled.idle (image DAEMON_LOG) (picked.each DAEMON_LOG)))) same
+    pub ClosesBefore-idle : (a b : State) → IsReady size w memory a → b ≡ a → ClosesBefore w.stored.frames slot a b
+    ClosesBefore-idle a b ready same =
+        Leaves-still _ a b (λ image picked. inl (used_alone image (used_before a ready image picked) (ready_idle size w memory a ready image picked))) same
 
     -- nothing was done before
-    pub ClosesFirst-behind : (a b c : State) → IsReady size w memory a → b ≡ a → (IsReady size w memory b → ClosesFirst w.stored.frames slot b c) → ClosesFirst w.stored.frames slot a c
-    ClosesFirst-behind a b c ready same closes = subst (λ (s : State). ClosesFirst w.stored.frames slot s c) same (closes (subst (λ (s : State). IsReady size w memory s) (sym same) ready))
+    pub ClosesBefore-behind : (a b c : State) → IsReady size w memory a → b ≡ a → (IsReady size w memory b → ClosesBefore w.stored.frames slot b c) → ClosesBefore w.stored.frames slot a c
+    ClosesBefore-behind a b c ready same closes = subst (λ (s : State). ClosesBefore w.stored.frames slot s c) same (closes (subst (λ (s : State). IsReady size w memory s) (sym same) ready))
 
     below_gates : (before image : Image) (k : ℕ) → IsFrom (ByClosing w.stored.frames slot) before image → k < tables_end w.stored.frames → image k ≡ before k
     below_gates before image k from below = ⊎_elim (λ same. same) (λ gate. absurd (no_gate w.stored.frames slot k (image k) below gate)) (from.each k)
 
     -- the logs were to be closed
-    pub ClosesFirst-closing : (fault : Option HostFault) (a b : State) → IsReady size w memory a → Closes size (closed w) slot fault a b → ClosesFirst w.stored.frames slot a b
-    ClosesFirst-closing fault a b ready p =
+    closing : (fault : Option HostFault) (a b : State) → IsReady size w memory a → ClosesGates w.stored.frames slot fault a b → ClosesBefore w.stored.frames slot a b
+    closing fault a b ready p =
         Leaves-weaker _ _ a b (λ bytes image m. m.1)
-        (Leaves-changes (IsClosedIfFree w.stored.frames slot) (ByClosing w.stored.frames slot) fault a b
+        (Leaves-changes (IsClosedIfNamed w.stored.frames slot) (ByClosing w.stored.frames slot) fault a b
         (λ before image picked from.
         let record_word = below_gates before image (space_record_at slot) from (omega arith) in
         let gate_word = below_gates before image DAEMON_LOG from (omega arith) in
-        inl (used_still image (record_word ∙ used_before a ready before picked) (ap is_idle_gate gate_word ∙ ready.settled.idle (before DAEMON_LOG) (picked.each DAEMON_LOG)))) p.changes)
+        inl (used_alone image (record_word ∙ used_before a ready before picked) (ap is_idle_gate gate_word ∙ ready_idle size w memory a ready before picked))) p.changes)
+
+    pub ClosesBefore-closing : (F : ℕ) (fault : Option HostFault) (a b : State) → F ≡ w.stored.frames → IsReady size w memory a → ClosesGates F slot fault a b → ClosesBefore w.stored.frames slot a b
+    ClosesBefore-closing F fault a b is ready p = closing fault a b ready (subst (λ (n : ℕ). ClosesGates n slot fault a b) is p)
 
     -- a batch that writes the record leaves the logs
-    closed_outside : (words : Words) (image : Image) → HasClosedLogs w.stored.frames slot words → MayHaveOwner size (closed w) slot None (record_batch slot (0 ∷ [])) words image
-        → has_closed_logs image w.stored.frames slot ≡ true
-    closed_outside words image closed_before m =
+    left_closed : (a b : State) (image : Image) → ClosesGates w.stored.frames slot None a b → IsBatched b.now.words DAEMON_LOG (unregistration slot) image → has_closed_logs image w.stored.frames slot ≡ true
+    left_closed a b image p m =
         has_closed_logs-same image m.before w.stored.frames slot known
-        (λ k from to. m.behind k (omega arith))
-        ∙ closed_before.each m.before m.picked
+        (λ k from to. m.outside k (outside_log DAEMON_LOG k (inr (omega arith))) (writes_elsewhere slot k (0 ∷ []) (inr (omega arith))))
+        ∙ has_closed_logs-gates w.stored.frames slot m.before (λ n low. (p.durable refl n low).each (m.before (log_at w.stored.frames slot n)) (m.picked.each (log_at w.stored.frames slot n)))
 
     -- and then the record was to be freed
-    pub ClosesFirst-freed : (fault : Option HostFault) (a b c : State) → IsReady size w memory a → Closes size (closed w) slot None a b
-        → ChangesOwner size (closed w) slot None (record_batch slot (0 ∷ [])) fault b c → ClosesFirst w.stored.frames slot a c
-    ClosesFirst-freed fault a b c ready p q =
-        let P : List ℕ → Image → Type 0 = λ bytes image. IsClosedIfFree w.stored.frames slot image in
+    pub ClosesBefore-freed : (F : ℕ) (fault : Option HostFault) (a b c : State) → F ≡ w.stored.frames → IsReady size w memory a → ClosesGates F slot None a b
+        → Commits DAEMON_LOG (unregistration slot) fault b c → ClosesBefore w.stored.frames slot a c
+    ClosesBefore-freed F fault a b c is ready gates k =
+        let P : List ℕ → Image → Type 0 = λ bytes image. IsClosedIfNamed w.stored.frames slot image in
+        let p : ClosesGates w.stored.frames slot None a b = subst (λ (n : ℕ). ClosesGates n slot None a b) is gates in
         let said = Changes-said (ByClosing w.stored.frames slot) None a b p.changes in
         Leaves-then P P P [] a b c (said ∙ sym (append-nil a.now.said)) (λ front image m. m) (λ more image m. m)
-        (ClosesFirst-closing None a b ready p)
-        (Leaves-weaker _ P b c (λ bytes image m. inr (closed_outside b.now.words image (p.closed refl) m.1)) q.moments)
+        (closing None a b ready p)
+        (Leaves-weaker (Silently (IsBatched b.now.words DAEMON_LOG (unregistration slot))) P b c (λ bytes image m. inr (left_closed a b image p m.1)) k.moments)
 
 -- ---- refusals, by whether the client is present
 

@@ -1,3 +1,10 @@
+pub mod Beside
+pub mod Beneath
+pub mod PoolsBeside
+pub mod PoolsApart
+pub mod Others
+pub mod TablesBeside
+pub mod OpenBeside
 pub mod Applying
 pub mod Defining
 pub mod Coming

@@ -12,7 +12,6 @@ use Rattle.pm_model.proofs.Said.{words-all_said, said-all_said, script-all_said,
 use Rattle.pud_defs.specs.Spaces.{owner_of}
 use Rattle.pud_defs.specs.Image.{Image}
 use Rattle.pud_defs.specs.World.{World, world_of, closed, restart}
-use Rattle.pud_defs.proofs.Idle.{world_of_idle}
 use Rattle.pud_defs.specs.Grammar.{command_of}
 use Rattle.pud_defs.specs.Step.{Answer}
 use Rattle.pud_defs.specs.Run.{Turn, IsTurn, cuts_of, newlines}
@@ -32,7 +31,10 @@ use Rattle.puddled.specs.Answered.{answer_of, said_text}
 use Rattle.puddled.specs.declared.daemon.StartFault.{StartFault}
 use Rattle.puddled.specs.declared.daemon.StartFault.TheVariants as starts
 use Rattle.puddled.specs.Faults.{start_fault, run_fault, CountsLine}
-use Rattle.puddled.specs.Daemon.{KeepsRest, KeepsLine, IsReady, IsPart, SaysPart, IsClosedIfFree, ClosesLogs, RefusesNone, Recovers, Settles, Starts, spoken, Answers}
+use Rattle.pm_model.specs.Masks.{masked}
+use Rattle.puddled.specs.Held.{Holds}
+use Rattle.puddled.proofs.Beside.{ready_stands}
+use Rattle.puddled.specs.Daemon.{KeepsRest, KeepsLine, IsReady, IsPart, SaysPart, IsClosedIfFree, ClosesFirst, ClosesLogs, RefusesNone, Recovers, Settles, Starts, spoken, Answers}
 use Rattle.puddled.proofs.Listed.{said_when_ready}
 use Rattle.puddled.proofs.Settling.{Between}
 use Rattle.puddled.proofs.Carrying.{KeepsLine-then}
@@ -67,12 +69,13 @@ shelf_said text fault old new s = ap (λ (x : State). x.shelf) s.is ∙ shelf-al
 IsReady-said : (size : ℕ) (w : World) (memory : Memory) (old new : State) → new.now.words ≡ old.now.words → new.shelf ≡ old.shelf → IsReady size w memory old → IsReady size w memory new
 IsReady-said size w memory old new words shelf ready =
     record {
-      settled = subst (λ (x : Words). IsSettled size (closed w) x) (sym words) ready.settled;
+      mask = ready.mask;
+      settled = subst (λ (x : Words). IsSettled size (closed w) (masked ready.mask x)) (sym words) ready.settled;
       tables = subst (λ (x : Words). HasDurableTables w.stored.frames x) (sym words) ready.tables;
       clients = λ client low. ap (λ (x : Words). owner_of (reads x) client) words ∙ ready.clients client low;
       frames = ready.frames;
       shelf = shelf ∙ ready.shelf;
-      nothing = ready.nothing;
+      held = subst (λ (x : Words). Holds w memory.held ready.mask x) (sym words) ready.held;
     }
 
 -- what was recovered holds of the result behind it
@@ -93,7 +96,7 @@ Starts-says size w memory result old mid new r says same =
       says = record { bytes = part.bytes; rest = part.rest; part = part.part; said = part.said ∙ ap (λ (l : List ℕ). l ++ part.bytes) r.quiet; whole = part.whole };
       moments = Leaves-then (Silently (λ image. world_of size image ≡ Some (closed w))) P P [] old mid new (r.quiet ∙ sym (append-nil old.now.said))
           (λ front image m. (record { rest = text; is = ap (λ (l : List ℕ). l ++ text) (sym m.0) }, m.1)) (λ more image m. m) r.moments
-          (Leaves-says text fault P mid new (λ front image prefix picked. (record { rest = prefix.rest; is = prefix.is }, world_of_idle size image (closed w) (r.ready.settled.stands image picked))) says);
+          (Leaves-says text fault P mid new (λ front image prefix picked. (record { rest = prefix.rest; is = prefix.is }, (ready_stands size (restart w) memory mid r.ready image picked).0)) says);
       rights = Leaves-then D D D [] old mid new (r.quiet ∙ sym (append-nil old.now.said)) (λ front image m. m) (λ more image m. m) r.rights
           (Leaves-says text fault D mid new (λ front image prefix picked. Leaves-now D [] old mid (r.quiet ∙ sym (append-nil old.now.said)) r.rights image picked) says);
       ready = ready_by size (restart w) memory new result same (IsReady-said size (restart w) memory mid new (words_said text fault mid new says) (shelf_said text fault mid new says) r.ready);
@@ -193,10 +196,10 @@ module _ (size : ℕ) (w : World) (memory : Memory) (line : List ℕ) (answered 
       (silent_moments size w t old mid s.moments)
       (Leaves-says (answer_text t.answer) fault (StandsWith size w (t ∷ [])) mid new
       (λ front image prefix picked. stands_by_count size w t (newlines front) image s.is_turn (front_of_answer t.answer front prefix)
-      (world_of_idle size image (closed t.next) (ready.settled.stands image picked))) says)
+      (ready_stands size t.next memory mid ready image picked).0) says)
 
   -- what is said leaves the words
-  closes_said : (text : List ℕ) (fault : Option HostFault) → Says text fault mid new → ClosesLogs w (command_of line) old new
+  closes_said : (text : List ℕ) (fault : Option HostFault) → Says text fault mid new → ClosesLogs ClosesFirst w (command_of line) old new
   closes_said text fault says = record {
     first = λ client is present.
         let P : List ℕ → Image → Type 0 = λ bytes image. IsClosedIfFree w.stored.frames client image in

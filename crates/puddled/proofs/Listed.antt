@@ -1,34 +1,35 @@
 -- What is said of a ready device is what the machine answers.
-use Rattle.std.proofs.Common.{◌≡◌, ℕ, ◌++◌, codes, Option, refl, ap, subst, ◌∙◌}
+use Rattle.std.proofs.Common.{◌≡◌, ℕ, ◌++◌, codes, Option, refl, sym, ap, subst, ◌∙◌}
 use Rattle.pm_model.specs.Words.{reads}
 use Rattle.pm_model.specs.declared.host.HostFault.{HostFault}
 use Rattle.pm_model.specs.Moments.{State}
+use Rattle.pm_model.specs.Masks.{masked}
 use Rattle.pm_model.specs.Calls.{Says}
 use Rattle.pud_defs.specs.declared.layout.TheConstants.{MACHINE_WORD}
 use Rattle.pud_defs.specs.Image.{Image}
-use Rattle.pud_defs.specs.Tables.{tables_of}
+use Rattle.pud_defs.specs.Tables.{Tables, tables_of}
 use Rattle.pud_defs.specs.Holdings.{holding_in}
 use Rattle.pud_defs.specs.World.{World}
 use Rattle.pud_defs.specs.Texts.{line_of, answer_text}
-use Rattle.pud_defs.proofs.Parts.Part.{Header}
 use Rattle.pool_list.specs.Listed.{listed_text}
 use Rattle.pool_list.proofs.ListedPools.{line_of-listed_text}
-use Rattle.registry.proofs.Moved.{reads_world}
 use Rattle.puddled.specs.Memory.{Memory}
 use Rattle.puddled.specs.declared.answers.Answered.{Answered}
 use Rattle.puddled.specs.declared.answers.Answered.TheVariants as answers
 use Rattle.puddled.specs.Answered.{answer_of, said_text}
 use Rattle.puddled.specs.Daemon.{IsReady}
-use Rattle.puddled.proofs.Defining.{standing}
+use Rattle.puddled.proofs.TablesBeside.{tables_read, world_under, header_read}
 
 pub said_when_ready : (size : ℕ) (w : World) (memory : Memory) (s : State) (answered : Answered) → IsReady size w memory s → said_text memory.frames (reads s.now.words) answered ≡ answer_text (answer_of w answered)
 said_when_ready size w memory s (answers.Reply reply) ready = refl
 said_when_ready size w memory s answers.Pools ready =
     let image = reads s.now.words in
-    let world = reads_world size w.stored s.now.words ready.settled ready.tables in
-    let machine = ((standing size w memory s ready).holds Header).machine in
+    let under = reads (masked ready.mask s.now.words) in
+    let world = world_under size w memory s ready in
+    let machine = (header_read size w memory s ready).machine in
     ap (λ (n : ℕ). line_of (codes "ok" ++ listed_text (image MACHINE_WORD) (tables_of n image))) ready.frames
-    ∙ line_of-listed_text (holding_in w.stored.types w.stored.frames image) w.stored.next_number (tables_of w.stored.frames image) w.stored (image MACHINE_WORD) world.sound world.pools machine
+    ∙ ap (λ (t : Tables). line_of (codes "ok" ++ listed_text (image MACHINE_WORD) t)) (sym (tables_read size w memory s ready))
+    ∙ line_of-listed_text (holding_in w.stored.types w.stored.frames under) w.stored.next_number (tables_of w.stored.frames under) w.stored (image MACHINE_WORD) world.sound world.pools machine
 
 -- what is said on so many frames
 pub said_by : (frames now : ℕ) (image : Image) (answered : Answered) (fault : Option HostFault) (old new : State) → frames ≡ now → Says (said_text frames image answered) fault old new → Says (said_text now image answered) fault old new

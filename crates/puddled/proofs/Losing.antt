@@ -8,9 +8,10 @@ use Rattle.pm_model.specs.Changes.{Footprint, Changes, Leaves, Silently}
 use Rattle.pm_model.proofs.Changes.{Changes-fence, Changes-said, Changes-now}
 use Rattle.pm_model.proofs.Leaves.{Leaves-changes, Leaves-still, Leaves-weaker}
 use Rattle.pud_defs.specs.Image.{Image}
-use Rattle.pud_defs.specs.World.{World, idle_world_of, closed, restart}
+use Rattle.pud_defs.specs.World.{World, world_of, closed, restart}
 use Rattle.puddled.specs.Memory.{Memory}
-use Rattle.puddled.specs.Daemon.{KeepsRest, IsReady, Applies}
+use Rattle.puddled.specs.Daemon.{KeepsRest, RefusesNone, IsReady, Applies}
+use Rattle.puddled.proofs.Beside.{ready_stands}
 
 -- no value comes to any word
 abbrev Nothing : Footprint
@@ -60,7 +61,7 @@ pub Applies-lost : (size : ℕ) (w : World) (memory : Memory) (a b : State) → 
 Applies-lost size w memory a b ready loses =
     let lost = lost_at_once a b loses in
     record {
-      moments = Leaves-weaker _ _ a b (λ bytes image m. (m.0, inl m.1)) (lost.moments (λ (image : Image). idle_world_of size image ≡ Some (closed w)) ready.settled.stands);
+      moments = Leaves-weaker _ _ a b (λ bytes image m. (m.0, (inl m.1.0, m.1.1))) (lost.moments (λ (image : Image). (world_of size image ≡ Some (closed w)) × RefusesNone image) (ready_stands size w memory a ready));
       quiet = lost.quiet;
       ready = λ none. absurd (let no : Some Cut ≡ None = none in cc);
       rests = λ _. lost.rested;

@@ -1,19 +1,19 @@
 -- Pools made, changed and dropped by lines.
-use Rattle.std.proofs.Common.{◌≡◌, ◌⊎◌, inl, inr, ℕ, ◌+◌, ◌%◌, ◌^◌, ◌<◌, ◌≤◌, Bool, true, false, not, cond, ◌&&◌, ◌||◌, leb, ltb, eqb, List, length, Option, Some, None, Result, Ok, Err, option_map, is_some, is_none, refl, sym, ap, ap₂, sum_by, subst, ◌∙◌, arith, leb-true, eq-eqb, ne_eqb}
-use Rattle.std.specs.Prelude.{IfOk, unwrap_or}
-use Rattle.std.specs.FinMap.Entries.{find}
-use Rattle.std.proofs.lemmas.Bool.{cases_eq, cond-true, cond-false, and_parts}
+use Rattle.std.proofs.Common.{◌≡◌, inl, inr, ℕ, ◌+◌, ◌%◌, ◌^◌, ◌<◌, ◌≤◌, Bool, true, false, not, cond, ◌&&◌, ◌||◌, leb, ltb, eqb, List, length, Option, Some, None, Result, Ok, Err, option_map, is_some, is_none, refl, sym, ap, ap₂, sum_by, subst, ◌∙◌, arith, leb-true, eq-eqb, ne_eqb}
+use Rattle.std.specs.Prelude.{⊤, IfOk, bytes_eq, unwrap_or}
+use Rattle.std.specs.FinMap.Entries.{find, put}
+use Rattle.std.proofs.lemmas.Bool.{cases_eq, cases_lt, cond-true, cond-false, and_parts}
 use Rattle.std.proofs.lemmas.Option.{none-some, same_Some}
 use Rattle.pm_model.specs.declared.host.HostFault.{HostFault}
 use Rattle.pm_model.specs.declared.host.HostFault.TheVariants.{Cut}
 use Rattle.pm_model.specs.Counts.{fault_of}
-use Rattle.pm_model.specs.Words.{IsRested, reads}
+use Rattle.pm_model.specs.Words.{IsRested, Words, reads}
 use Rattle.pm_model.specs.Moments.{State}
-use Rattle.pm_model.specs.Changes.{Changes, Silently}
-use Rattle.pm_model.proofs.Changes.{Changes-said}
-use Rattle.pm_model.proofs.Leaves.{Leaves-weaker}
-use Rattle.pud_defs.specs.declared.layout.TheConstants.{CLIENTS, MAX_OWNER_ID, NEXT_NUMBER_WORD, SPACE_TABLE, PUDDLE_TABLE}
-use Rattle.pud_defs.specs.declared.records.TheConstants.{POOL_RECORDS}
+use Rattle.pm_model.specs.Changes.{Write}
+use Rattle.pm_model.specs.Masks.{masked, masked_state, IsOff}
+use Rattle.pm_model.proofs.Masks.{reads-masked}
+use Rattle.pud_defs.specs.declared.layout.TheConstants.{CLIENTS, MAX_OWNER_ID, NEXT_NUMBER_WORD, DAEMON_LOG}
+use Rattle.pud_defs.specs.declared.records.TheConstants.{POOL_RECORDS, MAX_PUDDLES}
 use Rattle.pud_defs.specs.declared.records.PoolRec.{PoolRec}
 use Rattle.pud_defs.specs.declared.records.Owner.{Owner}
 use Rattle.pud_defs.specs.declared.machine.Command.{Command}
@@ -23,38 +23,44 @@ use Rattle.pud_defs.specs.declared.machine.Reply.{Reply}
 use Rattle.pud_defs.specs.declared.machine.Refusal.{Refusal}
 use Rattle.pud_defs.specs.declared.machine.Refusal.TheVariants as refusals
 use Rattle.pud_defs.specs.Image.{Image}
-use Rattle.pud_defs.specs.Keyed.{first_free}
+use Rattle.pud_defs.specs.Keyed.{first_free, count_used}
 use Rattle.pud_defs.specs.Pools.{pool_read}
 use Rattle.pud_defs.specs.Names.{name_cmp}
-use Rattle.pud_defs.specs.Spaces.{owner, owner_by, owner_of, is_space, is_legal_space, space_record_at}
-use Rattle.pud_defs.specs.Tables.{Tables, Pool, Reader, tables_of, records_of, pool_in, pool_of}
-use Rattle.pud_defs.specs.PoolChanges.{pool_named, lacks_numbers, is_full_of_pools, lacks_frames, with_new_pool, with_pool_mode, without_pool}
 use Rattle.pud_defs.specs.Holdings.{holding_in}
-use Rattle.pud_defs.specs.World.{StoredWorld, World, idle_world_of, closed}
-use Rattle.pud_defs.specs.Step.{owns, refusal_of, after, answer_by, world_by}
+use Rattle.pud_defs.specs.Spaces as spaces
+use Rattle.pud_defs.specs.Spaces.{owner, owner_by, owner_of, is_space, is_legal_space, space_record_at}
+use Rattle.pud_defs.specs.Tables.{Tables, Pool, Reader, tables_of, members, records_of, pool_in, pool_of}
+use Rattle.pud_defs.specs.PoolChanges.{pool_named, lacks_numbers, is_full_of_pools, lacks_frames, new_pool, with_new_pool, with_pool_mode, without_pool}
+use Rattle.pud_defs.specs.World.{StoredWorld, Transaction, World}
+use Rattle.pud_defs.specs.Step.{graph_in, owns, refusal_of, after, answer_by, world_by}
 use Rattle.pud_defs.specs.Step.Answer.{of_reply}
-use Rattle.pud_defs.proofs.Parts.Part.{Spaces}
 use Rattle.pud_defs.proofs.PoolsCounted.{IsMasked}
 use Rattle.pud_defs.specs.Transactions.{Opened, is_own, is_others}
-use Rattle.pud_defs.proofs.PoolRefusals.{refusal_of-pool, refusal_of-drop, refusal_of-owned, pool_by_record, pool_by_name, found_by_table, full_by_table, space_by_table, found_record, owning_refusal}
-use Rattle.pud_defs.proofs.Spaces.{all_below-each, owner_of-same}
+use Rattle.pud_defs.proofs.PoolRefusals.{making_refusal, refusal_of-pool, refusal_of-drop, refusal_of-owned, pool_by_record, pool_by_name, found_by_table, full_by_table, space_by_table, found_record}
+use Rattle.pud_defs.proofs.Spaces.{all_below-each}
 use Rattle.pud_defs.proofs.Steps.{answer_is_ok, refused_answer, refused_world, done_world}
 use Rattle.pud_defs.proofs.TablesOf.{pools_beyond, frames_of_tables}
 use Rattle.batch.specs.Worlds.{IsSettled}
 use Rattle.batch.specs.Tables.{HasDurableTables}
-use Rattle.batch.proofs.Tables.{reads_kept}
+use Rattle.batch.specs.Batches.{HasIdleGate, ByBatch, Commits}
 use Rattle.log_space.specs.Owners.{owner_read}
 use Rattle.registry.specs.declared.making.MakeFault.{MakeFault}
 use Rattle.registry.specs.declared.making.MakeFault.TheVariants as faults
-use Rattle.registry.specs.Puts.{ByPools}
+use Rattle.registry.specs.Puts.{puts_batch}
 use Rattle.registry.specs.Places.{make_fault, refusal_in, make_refusal}
-use Rattle.registry.specs.Pools.{MayStand, IsPoolAt, ChangesPools}
-use Rattle.registry.proofs.Moved.{ReadsWorld, reads_world}
-use Rattle.puddled.specs.Memory.{Memory}
-use Rattle.puddled.specs.Owning.{reply_of_making, IsSlotOf}
+use Rattle.registry.specs.Pools.{changing, dropping, OrStill, CommitsPuts, MakesSomewhere, KeepsTables, IsOffMaking, IsPoolAt, ChangesPools}
+use Rattle.registry.proofs.Joined.{few_puddles}
+use Rattle.puddled.specs.Memory.{Held, Memory}
+use Rattle.puddled.specs.Held.{Holds, IsBeside}
+use Rattle.puddled.specs.Owning.{reply_of_making, holder_of, opened_by, refusal_beside, IsSlotOf}
 use Rattle.puddled.specs.Daemon.{IsReady, Applies}
 use Rattle.puddled.proofs.Applying.{Applies-still}
-use Rattle.puddled.proofs.Defining.{standing}
+use Rattle.puddled.proofs.Beside.{Applies-beside}
+use Rattle.puddled.proofs.Beneath.{ready_gate, keeps_tables}
+use Rattle.puddled.proofs.PoolsBeside.{held_is, held_pool}
+use Rattle.puddled.proofs.PoolsApart.{off_making, off_changing, off_dropping, IsBeside-makes, IsBeside-puts, AppliesMasked-pools, KeepsHeld-stored, found_beside_put, found_beside_without}
+use Rattle.puddled.proofs.OpenBeside.{not_named}
+use Rattle.puddled.proofs.TablesBeside.{HasDurableTables-masked, header_read, pools_read, sound_read, spaces_read}
 
 -- ---- as whom a client acts
 
@@ -92,15 +98,12 @@ module _ (size : ℕ) (w : World) (memory : Memory) (s : State) (ready : IsReady
   abbrev t : Tables
   t = tables_of w.stored.frames image
 
-  pub world : ReadsWorld w.stored image
-  world = reads_world size w.stored s.now.words ready.settled ready.tables
-
-  masked : IsMasked t
-  masked = record { beyond = λ slot beyond. pools_beyond w.stored.frames image slot beyond }
+  beyond : IsMasked t
+  beyond = record { beyond = λ slot beyond. pools_beyond w.stored.frames image slot beyond }
 
   pub acting : (client : ℕ) (who : Owner) → client < CLIENTS → Some who ≡ option_map owner_read (owner_of image client) → IsActing w client who.uid who.gid
   acting client who known is =
-      let legal = all_below-each CLIENTS (is_legal_space image) ((standing size w memory s ready).holds Spaces).spaces client known in
+      let legal = all_below-each CLIENTS (is_legal_space image) (spaces_read size w memory s ready) client known in
       let read = read_by (image (space_record_at client)) (image (space_record_at client + 1)) (image (space_record_at client + 2)) who legal is in
       record { is = sym (ready.clients client known) ∙ read.is; uid_fits = read.uid_fits; gid_fits = read.gid_fits }
 
@@ -110,7 +113,8 @@ module _ (size : ℕ) (w : World) (memory : Memory) (s : State) (ready : IsReady
       no_owner : (o : Option _) → None ≡ option_map owner_read o → o ≡ None
       no_owner None e = refl
       no_owner (Some x) e = absurd (none-some (owner_read x) e)
-      -- ---- a pool is made
+
+-- ---- a pool is made
 
 -- a fault of the table as the machine's refusal
 as_refusal : Option MakeFault → Option Refusal
@@ -142,9 +146,6 @@ module _ (size : ℕ) (w : World) (memory : Memory) (s : State) (ready : IsReady
   abbrev tables : Tables
   tables = tables_of w.stored.frames read
 
-  abbrev hold : Reader
-  hold = holding_in w.stored.types w.stored.frames read
-
   abbrev refused : Option MakeFault
   refused = make_refusal tables (read NEXT_NUMBER_WORD) name
 
@@ -154,14 +155,16 @@ module _ (size : ℕ) (w : World) (memory : Memory) (s : State) (ready : IsReady
   -- the machine refuses what the table refuses
   refusal_made : refusal_of w c ≡ as_refusal refused
   refusal_made =
-      let known = world size w memory s ready in
+      let hold : Reader = holding_in w.stored.types w.stored.frames (reads (masked ready.mask s.now.words)) in
+      let pools = pools_read size w memory s ready in
+      let sound = sound_read size w memory s ready in
       let there : not (is_some (w.clients client)) ≡ false = ap (λ o. not (is_some o)) who.is in
-      let found : is_some (pool_named name w.stored) ≡ is_some (pool_in tables name) = ap (λ ps. is_some (find name_cmp name ps)) (sym known.pools) ∙ sym (found_by_table hold tables name) in
-      let slots : leb POOL_RECORDS (length w.stored.pools) ≡ is_none (first_free tables.pools 0 POOL_RECORDS) = ap (λ ps. leb POOL_RECORDS (length ps)) (sym known.pools) ∙ sym (full_by_table hold w.stored.next_number tables known.sound) in
-      let numbers : lacks_numbers w.stored.next_number ≡ lacks_numbers (read NEXT_NUMBER_WORD) = ap lacks_numbers (sym known.number) in
+      let found : is_some (pool_named name w.stored) ≡ is_some (pool_in tables name) = ap (λ ps. is_some (find name_cmp name ps)) (sym pools) ∙ sym (found_by_table hold tables name) in
+      let slots : leb POOL_RECORDS (length w.stored.pools) ≡ is_none (first_free tables.pools 0 POOL_RECORDS) = ap (λ ps. leb POOL_RECORDS (length ps)) (sym pools) ∙ sym (full_by_table hold w.stored.next_number tables sound) in
+      let numbers : lacks_numbers w.stored.next_number ≡ lacks_numbers (read NEXT_NUMBER_WORD) = ap lacks_numbers (sym (header_read size w memory s ready).next_number) in
       let frames : lacks_frames w.stored 1 ≡ is_none (first_free tables.puddles 0 tables.frames) =
-      ap₂ (λ n ps. ltb n (sum_by (λ (e : List ℕ × Pool). e.1.puddles) ps + 1)) (sym (frames_of_tables w.stored.frames read)) (sym known.pools)
-      ∙ sym (space_by_table hold w.stored.next_number tables known.sound (masked size w memory s ready)) in
+      ap₂ (λ n ps. ltb n (sum_by (λ (e : List ℕ × Pool). e.1.puddles) ps + 1)) (sym (frames_of_tables w.stored.frames read)) (sym pools)
+      ∙ sym (space_by_table hold w.stored.next_number tables sound (beyond size w memory s ready)) in
       refusal_of-pool w client mode name
       ∙ (λ p. cond (there p) (Some refusals.Client) (cond (found p) (Some refusals.Exists) (cond (slots p || numbers p) (Some refusals.Full) (cond (frames p) (Some refusals.Space) None))))
       ∙ sym (refusal_by (is_some (pool_in tables name)) (is_none (first_free tables.pools 0 POOL_RECORDS) || lacks_numbers (read NEXT_NUMBER_WORD)) (is_none (first_free tables.puddles 0 tables.frames)))
@@ -182,48 +185,74 @@ module _ (size : ℕ) (w : World) (memory : Memory) (s : State) (ready : IsReady
 
 -- ---- what a batch of pools does to a ready daemon
 
-not_spaces : (F k v : ℕ) → SPACE_TABLE ≤ k → k < PUDDLE_TABLE → ByPools F k v → ⊥
-not_spaces F k v low high (inl log) = let to = log.high in absurd (omega arith)
-not_spaces F k v low high (inr (inl (inl word))) = let to = word.high in absurd (omega arith)
-not_spaces F k v low high (inr (inl (inr (inl word)))) = let to = word.high in absurd (omega arith)
-not_spaces F k v low high (inr (inl (inr (inr word)))) = let from = word.low in absurd (omega arith)
-not_spaces F k v low high (inr (inr frame)) = let from = frame.low in absurd (omega arith)
+-- pools are changed beside what is held
+pub record ChangesBeside (size : ℕ) (s next : StoredWorld) (also : Image → Type 0) (mask : Write) (fault : Option HostFault) (old new : State) : Type 0 where
+  pub beside : IsBeside mask fault old new
+  pub pools : ChangesPools size s next also fault (masked_state mask old) (masked_state mask new)
+
+-- the next world has the same frames and types, and the pool that is held as it was
+pub record KeepsPool (s next : StoredWorld) (o : Option Held) : Type 0 where
+  pub frames : next.frames ≡ s.frames
+  pub types : next.types ≡ s.types
+  pub pool : (h : Held) → o ≡ Some h → pool_named h.name next ≡ pool_named h.name s
 
 -- pools were changed: the command gives the world with the next stored one
-pub Applies-pools : (size : ℕ) (w : World) (memory : Memory) (c : Command) (next : StoredWorld) (also : Image → Type 0) (fault : Option HostFault) (old new : State) → IsReady size w memory old → refusal_of w c ≡ None
-    → after w c ≡ record w { stored = next } → next.frames ≡ w.stored.frames → ChangesPools size w.stored next also fault old new → Applies size w (world_by w (Some c)) memory fault old new
-Applies-pools size w memory c next also fault old new ready free gives frames p =
-    subst (λ (v : World). Applies size w v memory fault old new) (sym (done_world w c free ∙ gives)) (record {
-      moments = Leaves-weaker (Silently (MayStand size w.stored next also)) (Silently (λ image. (idle_world_of size image ≡ Some (closed w)) ⊎ (idle_world_of size image ≡ Some next))) old new
-          (λ bytes image m. (m.0, elim m.1 [ inl before ↦ inl before | inr after ↦ inr after.0 ])) p.moments;
-      quiet = Changes-said (ByPools w.stored.frames) fault old new p.changes;
-      ready = λ none. record {
-        settled = p.settled none;
-        tables = subst (λ (n : ℕ). HasDurableTables n new.now.words) (sym frames) (p.tables none);
-        clients = λ client low.
-            let changes = subst (λ (f : Option HostFault). Changes (ByPools w.stored.frames) f old new) none p.changes in
-            owner_of-same (reads new.now.words) (reads old.now.words) client low
-            (λ k from to. reads_kept (ByPools w.stored.frames) old new k changes (λ v. not_spaces w.stored.frames k v from to))
-            ∙ ready.clients client low;
-        frames = ready.frames ∙ sym frames;
-        shelf = p.changes.shelf ∙ ready.shelf;
-        nothing = ready.nothing;
-      };
-      rests = p.changes.rests;
-      script = p.changes.script;
-    })
+pub Applies-pools : (size : ℕ) (w : World) (memory : Memory) (c : Command) (next : StoredWorld) (also : Image → Type 0) (fault : Option HostFault) (old new : State) (ready : IsReady size w memory old)
+    → refusal_of w c ≡ None → after w c ≡ record w { stored = next } → KeepsPool w.stored next memory.held → ChangesBeside size w.stored next also ready.mask fault old new
+    → Applies size w (world_by w (Some c)) memory fault old new
+Applies-pools size w memory c next also fault old new ready free gives keeps b =
+    subst (λ (v : World). Applies size w v memory fault old new) (sym (done_world w c free ∙ gives))
+    (Applies-beside size w (record w { stored = next }) memory fault old new ready
+    (KeepsHeld-stored w next memory.held keeps.frames keeps.types (λ h e. ap graph_in (keeps.pool h e)))
+    (AppliesMasked-pools size w memory next also fault old new ready b.beside b.pools keeps.frames))
 
-new_frames : (name : List ℕ) (uid gid mode : ℕ) (s : StoredWorld) → (with_new_pool name (owner uid gid) mode s).frames ≡ s.frames
+-- behind calls that changed nothing
+pub Applies-behind : (size : ℕ) (w next : World) (memory : Memory) (fault : Option HostFault) (a b d : State) → b ≡ a → (IsReady size w memory b → Applies size w next memory fault b d)
+    → IsReady size w memory a → Applies size w next memory fault a d
+Applies-behind size w next memory fault a b d same applies ready =
+    subst (λ (s : State). Applies size w next memory fault s d) same (applies (subst (λ (s : State). IsReady size w memory s) (sym same) ready))
+
+-- a pool more, of another name than that which is held
+keeps_made : (s : StoredWorld) (name : List ℕ) (who : spaces.Owner) (mode : ℕ) (o : Option Held) → ((h : Held) → o ≡ Some h → h.name ≡ name → ⊥) → KeepsPool s (with_new_pool name who mode s) o
 unfolding with_new_pool
-new_frames name uid gid mode s = refl
+keeps_made s name who mode o apart = record {
+  frames = refl;
+  types = refl;
+  pool = λ h e. found_beside_put name h.name (new_pool who mode s.next_number) s.pools (apart h e);
+}
 
-mode_frames : (name : List ℕ) (mode : ℕ) (s : StoredWorld) → (with_pool_mode name mode s).frames ≡ s.frames
+mode_beside : (name other : List ℕ) (change : Pool → Pool) (ps : List (List ℕ × Pool)) (p : Option Pool) → find name_cmp name ps ≡ p → (other ≡ name → ⊥)
+    → find name_cmp other (unwrap_or (option_map (λ q. put name_cmp name (change q) ps) p) ps) ≡ find name_cmp other ps
+mode_beside name other change ps None is apart = refl
+mode_beside name other change ps (Some p) is apart = found_beside_put name other (change p) ps apart
+
+keeps_mode : (s : StoredWorld) (name : List ℕ) (mode : ℕ) (o : Option Held) → ((h : Held) → o ≡ Some h → h.name ≡ name → ⊥) → KeepsPool s (with_pool_mode name mode s) o
 unfolding with_pool_mode
-mode_frames name mode s = refl
+keeps_mode s name mode o apart = record {
+  frames = refl;
+  types = refl;
+  pool = λ h e. mode_beside name h.name (λ p. record p { mode = mode }) s.pools (find name_cmp name s.pools) refl (apart h e);
+}
 
-drop_frames : (name : List ℕ) (s : StoredWorld) → (without_pool name s).frames ≡ s.frames
+keeps_drop : (s : StoredWorld) (name : List ℕ) (o : Option Held) → ((h : Held) → o ≡ Some h → h.name ≡ name → ⊥) → KeepsPool s (without_pool name s) o
 unfolding without_pool
-drop_frames name s = refl
+keeps_drop s name o apart = record {
+  frames = refl;
+  types = refl;
+  pool = λ h e. found_beside_without name h.name s.pools (apart h e);
+}
+
+-- the name of a pool that is not there is not that of the one that is held
+absent_apart : (w : World) (o : Option Held) (mask : Write) (words : Words) (name : List ℕ) → Holds w o mask words → pool_named name w.stored ≡ None → (h : Held) → o ≡ Some h → h.name ≡ name → ⊥
+absent_apart w o mask words name holds none h e same =
+    let is = held_is w o mask words holds h e in
+    let no : Some is.undone ≡ None = sym is.stored ∙ ap (λ (n : List ℕ). graph_in (pool_named n w.stored)) same ∙ ap graph_in none in
+    cc
+
+absent_of : (who : Option spaces.Owner) (found : Option Pool) (full lacks : Bool) → making_refusal who found full lacks ≡ None → found ≡ None
+absent_of None found full lacks free = absurd (let no : Some refusals.Client ≡ None = free in cc)
+absent_of (Some who) None full lacks free = refl
+absent_of (Some who) (Some p) full lacks free = absurd (let no : Some refusals.Exists ≡ None = free in cc)
 
 -- a pool is made, or refused
 module _ (size : ℕ) (w : World) (memory : Memory) (client uid gid mode : ℕ) (name : List ℕ) (also : Image → Type 0) (fault : Option HostFault) (old new : State) (ready : IsReady size w memory old) (who : IsActing w client uid gid) where
@@ -233,17 +262,22 @@ module _ (size : ℕ) (w : World) (memory : Memory) (client uid gid mode : ℕ) 
   abbrev line : Command
   line = commands.Pool client name mode
 
+  abbrev made : StoredWorld
+  made = with_new_pool name (owner uid gid) mode w.stored
+
   -- it was refused, and nothing changed
   made_refused : (r : Refusal) → refusal_of w line ≡ Some r → new ≡ old → (fault ≡ Some Cut → IsRested new.now.words) → Applies size w (world_by w (Some line)) memory fault old new
   made_refused r refused same rests =
       subst (λ (v : World). Applies size w v memory fault old new) (sym (refused_world w line r refused)) (Applies-still size w memory fault old new ready same rests)
 
-  made_by : (r : Option MakeFault) → refused_there ≡ r → (refused_there ≡ None → ChangesPools size w.stored (with_new_pool name (owner uid gid) mode w.stored) also fault old new)
+  made_by : (r : Option MakeFault) → refused_there ≡ r → (refused_there ≡ None → ChangesBeside size w.stored made also ready.mask fault old new)
       → ((refused_there ≡ None → ⊥) → new ≡ old) → (fault ≡ Some Cut → IsRested new.now.words) → Applies size w (world_by w (Some line)) memory fault old new
   unfolding as_refusal
   made_by None is makes still rests =
-      Applies-pools size w memory line (with_new_pool name (owner uid gid) mode w.stored) also fault old new ready (refusal_made size w memory old ready client uid gid mode name who ∙ ap as_refusal is)
-      (given_world size w memory old ready client uid gid mode name who) (new_frames name uid gid mode w.stored) (makes is)
+      let free : refusal_of w line ≡ None = refusal_made size w memory old ready client uid gid mode name who ∙ ap as_refusal is in
+      let none = absent_of (w.clients client) (pool_named name w.stored) (is_full_of_pools w.stored) (lacks_frames w.stored 1) (sym (refusal_of-pool w client mode name) ∙ free) in
+      Applies-pools size w memory line made also fault old new ready free (given_world size w memory old ready client uid gid mode name who)
+      (keeps_made w.stored name (owner uid gid) mode memory.held (absent_apart w memory.held ready.mask old.now.words name ready.held none)) (makes is)
   made_by (Some (faults.Host f)) is makes still rests = absurd (no_host _ _ _ f is)
   made_by (Some faults.Exists) is makes still rests =
       made_refused refusals.Exists (refusal_made size w memory old ready client uid gid mode name who ∙ ap as_refusal is) (still (λ none. none-some faults.Exists (sym none ∙ is))) rests
@@ -252,7 +286,7 @@ module _ (size : ℕ) (w : World) (memory : Memory) (client uid gid mode : ℕ) 
   made_by (Some faults.NoSpace) is makes still rests =
       made_refused refusals.Space (refusal_made size w memory old ready client uid gid mode name who ∙ ap as_refusal is) (still (λ none. none-some faults.NoSpace (sym none ∙ is))) rests
 
-  pub Applies-made : (refused_there ≡ None → ChangesPools size w.stored (with_new_pool name (owner uid gid) mode w.stored) also fault old new)
+  pub Applies-made : (refused_there ≡ None → ChangesBeside size w.stored made also ready.mask fault old new)
       → ((refused_there ≡ None → ⊥) → new ≡ old) → (fault ≡ Some Cut → IsRested new.now.words) → Applies size w (world_by w (Some line)) memory fault old new
   Applies-made makes still rests = made_by refused_there refl makes still rests
 
@@ -270,125 +304,258 @@ fault_of_making (Err faults.Full) = refl
 fault_of_making (Err faults.NoSpace) = refl
 fault_of_making (Err (faults.Host fault)) = refl
 
--- a pool is made, or refused, behind a read
-module _ (size : ℕ) (w : World) (memory : Memory) (client uid gid mode F : ℕ) (name : List ℕ) (done : Result (Unit {0}) MakeFault) (result : Result Reply HostFault) (old mid new : State) (ready : IsReady size w memory old)
-    (who : IsActing w client uid gid) (frames : F ≡ w.stored.frames) (same : mid ≡ old) (is : result ≡ reply_of_making done) where
+-- the reply to the making of a pool, on a device of so many frames
+module _ (size : ℕ) (w : World) (memory : Memory) (client uid gid mode F : ℕ) (name : List ℕ) (done : Result (Unit {0}) MakeFault) (result : Result Reply HostFault) (old new : State) (ready : IsReady size w memory old)
+    (who : IsActing w client uid gid) (frames : F ≡ w.stored.frames) (is : result ≡ reply_of_making done) where
   abbrev refused_on : ℕ → Option MakeFault
   refused_on n = make_refusal (tables_of n (reads old.now.words)) (reads old.now.words NEXT_NUMBER_WORD) name
+
+  abbrev world_made : StoredWorld
+  world_made = with_new_pool name (owner uid gid) mode w.stored
 
   pub reply_making : (make_fault done ≡ None → refusal_in done ≡ refused_on F) → IfOk result (λ reply. of_reply reply ≡ answer_by w (Some (commands.Pool client name mode)))
   reply_making told =
       subst (λ (r : Result Reply HostFault). IfOk r (λ reply. of_reply reply ≡ answer_by w (Some (commands.Pool client name mode)))) (sym is)
       (reply_made size w memory old ready client uid gid mode name who done (λ none. told none ∙ ap refused_on frames))
 
-  pub Applies-making : (also : Image → Type 0)
-      → (HasDurableTables F mid.now.words → IsSettled size w.stored mid.now.words → refused_on F ≡ None → ChangesPools size w.stored (with_new_pool name (owner uid gid) mode w.stored) also (make_fault done) mid new)
-      → ((refused_on F ≡ None → ⊥) → new ≡ mid) → (fault_of result ≡ Some Cut → IsRested new.now.words)
+  -- what the call does, on so many frames, with these words masked
+  abbrev Makes : ℕ → (Image → Type 0) → Type 0
+  Makes n also =
+      KeepsTables n ready.mask (reads old.now.words) → IsOffMaking ready.mask (tables_of n (reads old.now.words)) (reads old.now.words NEXT_NUMBER_WORD) name uid gid mode
+      → IsSettled size w.stored (masked ready.mask old.now.words) → HasDurableTables n (masked ready.mask old.now.words) → refused_on n ≡ None
+      → ChangesPools size w.stored world_made also (make_fault done) (masked_state ready.mask old) (masked_state ready.mask new)
+
+  abbrev Does : ℕ → Type 0
+  Does n = HasIdleGate DAEMON_LOG old.now.words → refused_on n ≡ None
+      → OrStill (MakesSomewhere (tables_of n (reads old.now.words)) (reads old.now.words NEXT_NUMBER_WORD) name uid gid mode) (make_fault done) old new
+
+  making_there : (also : Image → Type 0) → Makes w.stored.frames also → Does w.stored.frames → ((refused_on w.stored.frames ≡ None → ⊥) → new ≡ old) → (make_fault done ≡ Some Cut → IsRested new.now.words)
+      → Applies size w (world_by w (Some (commands.Pool client name mode))) memory (make_fault done) old new
+  making_there also makes does still rests =
+      let off = off_making w memory.held ready.mask old.now.words ready.held (reads old.now.words NEXT_NUMBER_WORD) name uid gid mode in
+      Applies-made size w memory client uid gid mode name also (make_fault done) old new ready who
+      (λ none. record {
+        beside = IsBeside-makes ready.mask (tables_of w.stored.frames (reads old.now.words)) (reads old.now.words NEXT_NUMBER_WORD) name uid gid mode (make_fault done) old new off
+            (ready_gate size w memory old ready) rests (does (ready_gate size w memory old ready) none);
+        pools = makes (keeps_tables w memory.held ready.mask old.now.words ready.held) off ready.settled (HasDurableTables-masked w.stored.frames ready.mask old.now.words ready.tables) none;
+      }) still rests
+
+  pub Applies-making : (also : ℕ → Image → Type 0) → Makes F (also F) → Does F → ((refused_on F ≡ None → ⊥) → new ≡ old) → (make_fault done ≡ Some Cut → IsRested new.now.words)
       → Applies size w (world_by w (Some (commands.Pool client name mode))) memory (fault_of result) old new
-  Applies-making also makes still rests =
+  Applies-making also =
       let fault : fault_of result ≡ make_fault done = ap (λ (r : Result Reply HostFault). fault_of r) is ∙ fault_of_making done in
-      let here = subst (λ (m : State). HasDurableTables F m.now.words → IsSettled size w.stored m.now.words → refused_on F ≡ None → ChangesPools size w.stored (with_new_pool name (owner uid gid) mode w.stored) also (make_fault done) m new) same makes in
-      let tables = subst (λ (n : ℕ). HasDurableTables n old.now.words) (sym frames) ready.tables in
-      let on = ap refused_on frames in
-      subst (λ (f : Option HostFault). Applies size w (world_by w (Some (commands.Pool client name mode))) memory f old new) (sym fault)
-      (Applies-made size w memory client uid gid mode name also (make_fault done) old new ready who
-      (λ none. here tables ready.settled (on ∙ none)) (λ refused. still (λ none. refused (sym on ∙ none)) ∙ same) (λ cut. rests (fault ∙ cut)))
+      subst (λ (f : Option HostFault). Makes F (also F) → Does F → ((refused_on F ≡ None → ⊥) → new ≡ old) → (make_fault done ≡ Some Cut → IsRested new.now.words)
+      → Applies size w (world_by w (Some (commands.Pool client name mode))) memory f old new) (sym fault)
+      (subst (λ (n : ℕ). Makes n (also n) → Does n → ((refused_on n ≡ None → ⊥) → new ≡ old) → (make_fault done ≡ Some Cut → IsRested new.now.words)
+      → Applies size w (world_by w (Some (commands.Pool client name mode))) memory (make_fault done) old new) (sym frames) (making_there (also w.stored.frames)))
 
 -- ---- a pool is found for its owner
+
+-- the refusals beside what is open
+abbrev open_refusal : ℕ → Option Transaction → Option Refusal
+open_refusal client on = cond (is_others client on) (Some refusals.Busy) (cond (is_own client on) (Some refusals.Open) None)
+
+-- one is open on the pool, the client's or another's
+by_holder : (own : Bool) → cond (not own) (Some refusals.Busy) (cond own (Some refusals.Open) None) ≡ cond own (Some refusals.Open) (Some refusals.Busy)
+by_holder true = refl
+by_holder false = refl
+
+on_pool : (there : Bool) (client holder : ℕ) (t : Transaction) → t.client ≡ holder → open_refusal client (cond there (Some t) None) ≡ refusal_beside (cond there (Some holder) None) client
+on_pool true client holder t is = by_holder (eqb t.client client) ∙ ap (λ (n : ℕ). cond (eqb n client) (Some refusals.Open) (Some refusals.Busy)) is
+on_pool false client holder t is = refl
+
+-- they are those beside what is held
+open_beside : (w : World) (o : Option Held) (mask : Write) (words : Words) (client : ℕ) (name : List ℕ) → Holds w o mask words
+    → open_refusal client (w.transactions name) ≡ refusal_beside (opened_by (holder_of o) name) client
+open_beside w None mask words client name holds = ap (λ (opened : Opened). open_refusal client (opened name)) holds.0
+open_beside w (Some h) mask words client name is =
+    ap (λ (opened : Opened). open_refusal client (opened name)) is.is ∙ on_pool (bytes_eq name h.name) client h.client is.transaction is.client
+
+some_beside : (own : Bool) → cond own (Some refusals.Open) (Some refusals.Busy) ≡ None → ⊥
+some_beside true none = let no : Some refusals.Open ≡ None = none in cc
+some_beside false none = let no : Some refusals.Busy ≡ None = none in cc
+
+-- nothing is open where it refuses nothing
+none_open : (holder : Option ℕ) (client : ℕ) → refusal_beside holder client ≡ None → holder ≡ None
+none_open None client none = refl
+none_open (Some holder) client none = absurd (some_beside (eqb holder client) none)
+
+-- a line that is not refused finds nothing open
+all_free : (a b c : Bool) (beside : Option Refusal) → cond a (Some refusals.Client) (cond b (Some refusals.Pool) (cond c (Some refusals.Denied) beside)) ≡ None → beside ≡ None
+all_free true b c beside none = absurd (let no : Some refusals.Client ≡ None = none in cc)
+all_free false true c beside none = absurd (let no : Some refusals.Pool ≡ None = none in cc)
+all_free false false true beside none = absurd (let no : Some refusals.Denied ≡ None = none in cc)
+all_free false false false beside none = none
+
+-- a record as it is read
+abbrev read_record : ℕ × PoolRec → ℕ × PoolRec
+read_record p = (p.0, pool_read p.1)
+
+pub no_record : (o : Option (ℕ × PoolRec)) → None ≡ option_map read_record o → o ≡ None
+no_record None e = refl
+no_record (Some x) e = let read : ℕ × PoolRec = (x.0, pool_read x.1) in absurd (none-some read e)
+
+-- the record of the name in these tables, as it is there and as it is read
+pub record IsNamed (t : Tables) (name : List ℕ) (slot : ℕ) (rec : PoolRec) : Type 0 where
+  pub r : PoolRec
+  pub found : find name_cmp name (records_of t) ≡ Some (slot, r)
+  pub same : rec ≡ pool_read r
+
+pub named_by : (t : Tables) (name : List ℕ) (slot : ℕ) (rec : PoolRec) (o : Option (ℕ × PoolRec)) → find name_cmp name (records_of t) ≡ o
+    → ◌≡◌ {A = Option (ℕ × PoolRec)} (Some (slot, rec)) (option_map read_record o) → IsNamed t name slot rec
+named_by t name slot rec None e is = absurd (none-some {A = ℕ × PoolRec} (slot, rec) (sym is))
+named_by t name slot rec (Some x) e is =
+    let same : ◌≡◌ {A = ℕ × PoolRec} (slot, rec) (read_record x) = same_Some {A = ℕ × PoolRec} (slot, rec) (read_record x) is in
+    let place : slot ≡ x.0 = ap (λ (p : ℕ × PoolRec). p.0) same in
+    record { r = x.1; found = e ∙ ap (λ n. Some (n, x.1)) (sym place); same = ap (λ (p : ℕ × PoolRec). p.1) same }
+
+-- the world's pool of the name
+pub pool_there : (size : ℕ) (w : World) (memory : Memory) (s : State) (ready : IsReady size w memory s) (name : List ℕ)
+    → pool_named name w.stored ≡ option_map (pool_by_record (holding_in w.stored.types w.stored.frames (reads (masked ready.mask s.now.words))) (tables_of w.stored.frames (reads s.now.words)))
+    (find name_cmp name (records_of (tables_of w.stored.frames (reads s.now.words))))
+pool_there size w memory s ready name =
+    ap (find name_cmp name) (sym (pools_read size w memory s ready))
+    ∙ pool_by_name (holding_in w.stored.types w.stored.frames (reads (masked ready.mask s.now.words))) (tables_of w.stored.frames (reads s.now.words)) name
 
 module _ (size : ℕ) (w : World) (memory : Memory) (s : State) (ready : IsReady size w memory s) (client : ℕ) (name : List ℕ) where
   abbrev found_tables : Tables
   found_tables = tables_of w.stored.frames (reads s.now.words)
 
   abbrev held : Reader
-  held = holding_in w.stored.types w.stored.frames (reads s.now.words)
+  held = holding_in w.stored.types w.stored.frames (reads (masked ready.mask s.now.words))
 
   abbrev asked : Command
   asked = commands.Drop client name
 
-  -- no transaction is open
-  owned_refusal : refusal_of w asked ≡ owning_refusal (w.clients client) (pool_named name w.stored) false false
+  abbrev beside_held : Option Refusal
+  beside_held = refusal_beside (opened_by (holder_of memory.held) name) client
+
+  abbrev owned : Option spaces.Owner → Option Pool → Option Refusal
+  owned who found = cond (not (is_some who)) (Some refusals.Client) (cond (is_none found) (Some refusals.Pool) (cond (not (owns who found)) (Some refusals.Denied) beside_held))
+
+  owned_refusal : refusal_of w asked ≡ owned (w.clients client) (pool_named name w.stored)
   owned_refusal =
+      let who = w.clients client in
+      let found = pool_named name w.stored in
       refusal_of-drop w client name
-      ∙ ap (λ (opened : Opened). owning_refusal (w.clients client) (pool_named name w.stored) (is_others client (opened name)) (is_own client (opened name))) ready.nothing
+      ∙ ap (λ (beside : Option Refusal). cond (not (is_some who)) (Some refusals.Client) (cond (is_none found) (Some refusals.Pool) (cond (not (owns who found)) (Some refusals.Denied) beside)))
+      (open_beside w memory.held ready.mask s.now.words client name ready.held)
+
+  -- so the pool is not the one that is held
+  pub held_apart : refusal_of w asked ≡ None → (h : Held) → memory.held ≡ Some h → h.name ≡ name → ⊥
+  held_apart free =
+      not_named w memory.held ready.mask s.now.words name ready.held
+      (none_open (opened_by (holder_of memory.held) name) client
+      (all_free (not (is_some (w.clients client))) (is_none (pool_named name w.stored)) (not (owns (w.clients client) (pool_named name w.stored))) beside_held (sym owned_refusal ∙ free)))
 
   pub refused_client : w.clients client ≡ None → refusal_of w asked ≡ Some refusals.Client
-  refused_client none =
-      owned_refusal
-      ∙ ap (λ who. cond (not (is_some who)) (Some refusals.Client) (cond (is_none (pool_named name w.stored)) (Some refusals.Pool) (cond (not (owns who (pool_named name w.stored))) (Some refusals.Denied) None))) none
+  refused_client none = owned_refusal ∙ ap (λ who. owned who (pool_named name w.stored)) none
 
-  by_owner : (uid gid : ℕ) (found : Option Pool) → w.clients client ≡ Some (owner uid gid) → pool_named name w.stored ≡ found
-      → refusal_of w asked ≡ cond (is_none found) (Some refusals.Pool) (cond (not (owns (Some (owner uid gid)) found)) (Some refusals.Denied) None)
-  by_owner uid gid found there is =
-      owned_refusal
-      ∙ ap₂ (λ who pool. cond (not (is_some who)) (Some refusals.Client) (cond (is_none pool) (Some refusals.Pool) (cond (not (owns who pool)) (Some refusals.Denied) None))) there is
-
-  pub pool_there : pool_named name w.stored ≡ option_map (pool_by_record held found_tables) (find name_cmp name (records_of found_tables))
-  pool_there = ap (find name_cmp name) (sym (world size w memory s ready).pools) ∙ pool_by_name held found_tables name
-
-  -- a record as it is read
-  abbrev read_record : ℕ × PoolRec → ℕ × PoolRec
-  read_record p = (p.0, pool_read p.1)
-
-  no_record : (o : Option (ℕ × PoolRec)) → None ≡ option_map read_record o → o ≡ None
-  no_record None e = refl
-  no_record (Some x) e = absurd (none-some (read_record x) e)
+  by_owner : (uid gid : ℕ) (found : Option Pool) → w.clients client ≡ Some (owner uid gid) → pool_named name w.stored ≡ found → refusal_of w asked ≡ owned (Some (owner uid gid)) found
+  by_owner uid gid found there is = owned_refusal ∙ ap₂ owned there is
 
   pub refused_pool : (uid gid : ℕ) → w.clients client ≡ Some (owner uid gid) → None ≡ pool_in found_tables name → refusal_of w asked ≡ Some refusals.Pool
   refused_pool uid gid there none =
-      by_owner uid gid None there (pool_there ∙ ap (option_map (pool_by_record held found_tables)) (no_record (find name_cmp name (records_of found_tables)) none))
-
-  -- the record that was found
-  pub record IsRecord (slot : ℕ) (rec : PoolRec) : Type 0 where
-    pub r : PoolRec
-    pub found : find name_cmp name (records_of found_tables) ≡ Some (slot, r)
-    pub same : rec ≡ pool_read r
-
-  pub the_record : (slot : ℕ) (rec : PoolRec) (o : Option (ℕ × PoolRec)) → find name_cmp name (records_of found_tables) ≡ o → ◌≡◌ {A = Option (ℕ × PoolRec)} (Some (slot, rec)) (option_map read_record o) → IsRecord slot rec
-  the_record slot rec None e is = absurd (none-some {A = ℕ × PoolRec} (slot, rec) (sym is))
-  the_record slot rec (Some x) e is =
-      let same : ◌≡◌ {A = ℕ × PoolRec} (slot, rec) (read_record x) = same_Some {A = ℕ × PoolRec} (slot, rec) (read_record x) is in
-      let place : slot ≡ x.0 = ap (λ (p : ℕ × PoolRec). p.0) same in
-      record { r = x.1; found = e ∙ ap (λ n. Some (n, x.1)) (sym place); same = ap (λ (p : ℕ × PoolRec). p.1) same }
+      by_owner uid gid None there (pool_there size w memory s ready name ∙ ap (option_map (pool_by_record held found_tables)) (no_record (find name_cmp name (records_of found_tables)) none))
 
   module _ (uid gid slot : ℕ) (rec : PoolRec) (there : w.clients client ≡ Some (owner uid gid)) (is : ◌≡◌ {A = Option (ℕ × PoolRec)} (Some (slot, rec)) (pool_in found_tables name)) where
-    rec_of : IsRecord slot rec
-    rec_of = the_record slot rec (find name_cmp name (records_of found_tables)) refl is
+    rec_of : IsNamed found_tables name slot rec
+    rec_of = named_by found_tables name slot rec (find name_cmp name (records_of found_tables)) refl is
 
-    by_uid : refusal_of w asked ≡ cond (not (eqb uid rec.uid)) (Some refusals.Denied) None
+    by_uid : refusal_of w asked ≡ cond (not (eqb uid rec.uid)) (Some refusals.Denied) beside_held
     unfolding pool_of
     by_uid =
-        by_owner uid gid (Some (pool_by_record held found_tables (slot, rec_of.r))) there (pool_there ∙ ap (option_map (pool_by_record held found_tables)) rec_of.found)
-        ∙ ap (λ n. cond (not (eqb uid n)) (Some refusals.Denied) None) (sym (ap (λ (x : PoolRec). x.uid) rec_of.same))
+        by_owner uid gid (Some (pool_by_record held found_tables (slot, rec_of.r))) there (pool_there size w memory s ready name ∙ ap (option_map (pool_by_record held found_tables)) rec_of.found)
+        ∙ ap (λ n. cond (not (eqb uid n)) (Some refusals.Denied) beside_held) (sym (ap (λ (x : PoolRec). x.uid) rec_of.same))
 
     pub refused_denied : eqb uid rec.uid ≡ false → refusal_of w asked ≡ Some refusals.Denied
-    refused_denied other = by_uid ∙ ap (λ b. cond (not b) (Some refusals.Denied) None) other
+    refused_denied other = by_uid ∙ ap (λ b. cond (not b) (Some refusals.Denied) beside_held) other
 
-    pub not_denied : eqb uid rec.uid ≡ true → refusal_of w asked ≡ None
-    not_denied same = by_uid ∙ ap (λ b. cond (not b) (Some refusals.Denied) None) same
+    -- the owner's own pool
+    pub not_denied : (holder : Option (ℕ × List ℕ)) → holder_of memory.held ≡ holder → eqb uid rec.uid ≡ true → refusal_of w asked ≡ refusal_beside (opened_by holder name) client
+    not_denied holder holds same = by_uid ∙ ap (λ b. cond (not b) (Some refusals.Denied) beside_held) same ∙ ap (λ (x : Option (ℕ × List ℕ)). refusal_beside (opened_by x name) client) holds
 
     pub slot_is : IsSlotOf w.stored.frames name (reads s.now.words) slot
     slot_is = let at = found_record found_tables name slot rec_of.r rec_of.found in record { rec = rec_of.r; used = at.used; name_is = at.name_is }
 
 -- ---- a pool that was found is changed, or dropped
 
-at_slot : (size : ℕ) (w : World) (memory : Memory) (s : State) (name : List ℕ) (slot : ℕ) → IsReady size w memory s → (at : IsSlotOf w.stored.frames name (reads s.now.words) slot) → IsPoolAt w.stored.frames slot at.rec s.now.words
-at_slot size w memory s name slot ready at = record { tables = ready.tables; used = at.used }
+-- its slot is one of the table
+slot_within : (F slot : ℕ) (image : Image) (r : PoolRec) → (tables_of F image).pools slot ≡ Some r → slot < POOL_RECORDS
+slot_within F slot image r used = elim (cases_lt slot POOL_RECORDS) [
+  | inl within ↦ within
+  | inr beyond ↦ absurd (let no : None ≡ Some r = sym (pools_beyond F image slot beyond) ∙ used in cc)
+]
 
-module _ (size : ℕ) (w : World) (memory : Memory) (client slot : ℕ) (name : List ℕ) (also : Image → Type 0) (fault : Option HostFault) (old mid new : State) (ready : IsReady size w memory old) (same : mid ≡ old)
+module _ (size : ℕ) (w : World) (memory : Memory) (client slot : ℕ) (name : List ℕ) (fault : Option HostFault) (old new : State) (ready : IsReady size w memory old)
     (free : refusal_of w (commands.Drop client name) ≡ None) (at : IsSlotOf w.stored.frames name (reads old.now.words) slot) where
-  pub Applies-mode : (mode : ℕ) → ((r : PoolRec) → IsSettled size w.stored mid.now.words → IsPoolAt w.stored.frames slot r mid.now.words → ChangesPools size w.stored (with_pool_mode r.name mode w.stored) also fault mid new)
+  abbrev N : ℕ
+  N = w.stored.frames
+
+  abbrev m : Write
+  m = ready.mask
+
+  within : slot < POOL_RECORDS
+  within = slot_within N slot (reads old.now.words) at.rec at.used
+
+  name_apart : (h : Held) → memory.held ≡ Some h → h.name ≡ name → ⊥
+  name_apart = held_apart size w memory old ready client name free
+
+  slot_apart : (h : Held) → memory.held ≡ Some h → slot ≡ h.slot → ⊥
+  slot_apart h e same =
+      let pool = held_pool w memory.held m old.now.words ready.held h e in
+      let both : Some pool.rec ≡ Some at.rec = sym pool.used ∙ ap (tables_of N (reads old.now.words)).pools (sym same) ∙ at.used in
+      name_apart h e (sym pool.name ∙ ap (λ (r : PoolRec). r.name) (same_Some pool.rec at.rec both) ∙ at.name_is)
+
+  same_tables : tables_of N (reads (masked m old.now.words)) ≡ tables_of N (reads old.now.words)
+  same_tables = ap (tables_of N) (reads-masked m old.now.words) ∙ (keeps_tables w memory.held m old.now.words ready.held).tables
+
+  masked_at : IsPoolAt N slot at.rec (masked m old.now.words)
+  masked_at = record { tables = HasDurableTables-masked N m old.now.words ready.tables; used = ap (λ (t : Tables). t.pools slot) same_tables ∙ at.used }
+
+  pub Applies-mode : (mode : ℕ) → (fault ≡ Some Cut → IsRested new.now.words)
+      → (HasIdleGate DAEMON_LOG old.now.words → Commits DAEMON_LOG (puts_batch (changing slot mode)) fault old new)
+      → (IsOff m (ByBatch DAEMON_LOG (puts_batch (changing slot mode))) → IsSettled size w.stored (masked m old.now.words) → (r : PoolRec) → IsPoolAt N slot r (masked m old.now.words)
+      → ChangesPools size w.stored (with_pool_mode r.name mode w.stored) (λ _. ⊤) fault (masked_state m old) (masked_state m new))
       → Applies size w (world_by w (Some (Chmod client name mode))) memory fault old new
   unfolding after
-  Applies-mode mode changes =
-      let here = subst (λ (m : State). (r : PoolRec) → IsSettled size w.stored m.now.words → IsPoolAt w.stored.frames slot r m.now.words → ChangesPools size w.stored (with_pool_mode r.name mode w.stored) also fault m new) same changes in
-      let done = subst (λ n. ChangesPools size w.stored (with_pool_mode n mode w.stored) also fault old new) at.name_is (here at.rec ready.settled (at_slot size w memory old name slot ready at)) in
-      Applies-pools size w memory (Chmod client name mode) (with_pool_mode name mode w.stored) also fault old new ready (refusal_of-owned w client mode name ∙ free) refl (mode_frames name mode w.stored) done
+  Applies-mode mode rests commits changes =
+      let off = off_changing w memory.held m old.now.words ready.held slot within slot_apart mode in
+      let idle = ready_gate size w memory old ready in
+      Applies-pools size w memory (Chmod client name mode) (with_pool_mode name mode w.stored) (λ _. ⊤) fault old new ready (refusal_of-owned w client mode name ∙ free) refl
+      (keeps_mode w.stored name mode memory.held name_apart)
+      (record {
+        beside = IsBeside-puts m (changing slot mode) fault old new off idle rests (inr (commits idle));
+        pools = subst (λ (n : List ℕ). ChangesPools size w.stored (with_pool_mode n mode w.stored) (λ _. ⊤) fault (masked_state m old) (masked_state m new)) at.name_is (changes off ready.settled at.rec masked_at);
+      })
 
-  pub Applies-drop : ((r : PoolRec) → IsSettled size w.stored mid.now.words → IsPoolAt w.stored.frames slot r mid.now.words → ChangesPools size w.stored (without_pool r.name w.stored) also fault mid new)
-      → Applies size w (world_by w (Some (commands.Drop client name))) memory fault old new
+  -- what the call does, on so many frames, with these words masked
+  abbrev Frees : ℕ → Type 0
+  Frees n =
+      HasIdleGate DAEMON_LOG old.now.words → count_used (members (tables_of n (reads old.now.words)) slot) 0 n ≤ MAX_PUDDLES
+      → OrStill (CommitsPuts (dropping (tables_of n (reads old.now.words)) slot)) fault old new
+
+  abbrev Drops : ℕ → Type 0
+  Drops n =
+      KeepsTables n m (reads old.now.words) → IsOff m (ByBatch DAEMON_LOG (puts_batch (dropping (tables_of n (reads old.now.words)) slot)))
+      → IsSettled size w.stored (masked m old.now.words) → (r : PoolRec) → IsPoolAt N slot r (masked m old.now.words)
+      → ChangesPools size w.stored (without_pool r.name w.stored) (λ _. ⊤) fault (masked_state m old) (masked_state m new)
+
+  few : count_used (members (tables_of N (reads old.now.words)) slot) 0 N ≤ MAX_PUDDLES
+  few = subst (λ (t : Tables). count_used (members t slot) 0 N ≤ MAX_PUDDLES) same_tables (few_puddles size w.stored slot at.rec (masked_state m old) within ready.settled masked_at)
+
+  drop_there : (fault ≡ Some Cut → IsRested new.now.words) → Frees N → Drops N → Applies size w (world_by w (Some (commands.Drop client name))) memory fault old new
   unfolding after
-  Applies-drop changes =
-      let here = subst (λ (m : State). (r : PoolRec) → IsSettled size w.stored m.now.words → IsPoolAt w.stored.frames slot r m.now.words → ChangesPools size w.stored (without_pool r.name w.stored) also fault m new) same changes in
-      let done = subst (λ n. ChangesPools size w.stored (without_pool n w.stored) also fault old new) at.name_is (here at.rec ready.settled (at_slot size w memory old name slot ready at)) in
-      Applies-pools size w memory (commands.Drop client name) (without_pool name w.stored) also fault old new ready free refl (drop_frames name w.stored) done
+  drop_there rests frees drops =
+      let off = off_dropping w memory.held m old.now.words ready.held slot within slot_apart in
+      let idle = ready_gate size w memory old ready in
+      Applies-pools size w memory (commands.Drop client name) (without_pool name w.stored) (λ _. ⊤) fault old new ready free refl (keeps_drop w.stored name memory.held name_apart)
+      (record {
+        beside = IsBeside-puts m (dropping (tables_of N (reads old.now.words)) slot) fault old new off idle rests (frees idle few);
+        pools = subst (λ (n : List ℕ). ChangesPools size w.stored (without_pool n w.stored) (λ _. ⊤) fault (masked_state m old) (masked_state m new)) at.name_is
+            (drops (keeps_tables w memory.held m old.now.words ready.held) off ready.settled at.rec masked_at);
+      })
+
+  pub Applies-drop : (F : ℕ) → F ≡ w.stored.frames → (fault ≡ Some Cut → IsRested new.now.words) → Frees F → Drops F → Applies size w (world_by w (Some (commands.Drop client name))) memory fault old new
+  Applies-drop F frames rests =
+      subst (λ (n : ℕ). Frees n → Drops n → Applies size w (world_by w (Some (commands.Drop client name))) memory fault old new) (sym frames) (drop_there rests)

@@ -1,10 +1,13 @@
 -- Lines that read a field: which pool is readable, and what is replied.
-use Rattle.std.proofs.Common.{◌≡◌, ℕ, Bool, true, false, not, cond, List, Option, Some, None, is_some, is_none, option_map, refl, sym, ap, ap₂, subst, ◌∙◌}
+use Rattle.std.proofs.Common.{◌≡◌, ℕ, Bool, true, false, not, cond, List, Option, Some, None, is_some, is_none, option_map, eqb, eqb-true, refl, sym, ap, ap₂, subst, ◌∙◌}
+use Rattle.std.specs.Prelude.{IfOk}
 use Rattle.std.specs.FinMap.Entries.{find}
 use Rattle.std.proofs.lemmas.Option.{none-some, same_Some}
 use Rattle.pm_model.specs.declared.host.HostFault.{HostFault}
 use Rattle.pm_model.specs.declared.host.HostFault.TheVariants.{Cut}
 use Rattle.pm_model.specs.Words.{reads}
+use Rattle.pm_model.specs.Masks.{masked}
+use Rattle.pm_model.proofs.Masks.{reads-masked}
 use Rattle.pm_model.specs.Moments.{State}
 use Rattle.pud_defs.specs.declared.records.PoolRec.{PoolRec}
 use Rattle.pud_defs.specs.declared.records.Puddle.{Puddle}
@@ -16,33 +19,33 @@ use Rattle.pud_defs.specs.declared.machine.Refusal.{Refusal}
 use Rattle.pud_defs.specs.declared.machine.Refusal.TheVariants as refusals
 use Rattle.pud_defs.specs.Image.{Image}
 use Rattle.pud_defs.specs.Spaces.{Owner, owner}
-use Rattle.pud_defs.specs.Pools.{pool_read}
 use Rattle.pud_defs.specs.Names.{name_cmp}
 use Rattle.pud_defs.specs.Rights.{may_read}
 use Rattle.pud_defs.specs.Types.{types_of}
 use Rattle.pud_defs.specs.Stored.{Stored, stored_in}
 use Rattle.pud_defs.specs.Graph.{Graph, Object, graph_of, object_in}
 use Rattle.pud_defs.specs.Holdings.{held_as, graph_held, holding_in}
-use Rattle.pud_defs.specs.SoundTables.{is_sound_pool}
+use Rattle.pud_defs.specs.SoundTables.{is_sound_pool, HasSoundTables}
 use Rattle.pud_defs.specs.Tables.{Tables, Pool, Reader, tables_of, records_of, pool_in, puddles_of, puddles_in_turn, listed, pool_of}
 use Rattle.pud_defs.specs.PoolChanges.{pool_named}
-use Rattle.pud_defs.specs.World.{World, nothing_open}
-use Rattle.pud_defs.specs.Transactions.{Opened, is_others}
+use Rattle.pud_defs.specs.World.{Transaction, World}
+use Rattle.pud_defs.specs.Transactions.{is_others}
 use Rattle.pud_defs.specs.Step.{reads as reads_pool, graph_in, graph_seen, object_of, field_of, value_or_ok, text_or, refusal_of, holds, after, answer, answer_by, answer_unless, unless_refused, world_by}
 use Rattle.pud_defs.specs.Step.Answer.{of_reply}
 use Rattle.pud_defs.proofs.PuddlesListed.{puddles_in_turn-listed}
 use Rattle.pud_defs.proofs.PoolRefusals.{pool_by_record, found_record}
 use Rattle.pud_defs.proofs.RecordsPlaced.{legal_mode, mode_read}
 use Rattle.pud_defs.proofs.SoundChanged.{legal_pool}
-use Rattle.pud_defs.proofs.Parts.Part.{Types}
 use Rattle.graph_read.specs.declared.fields.FieldRead.{FieldRead}
 use Rattle.graph_read.specs.Reading.{read_value, read_by}
 use Rattle.puddled.specs.Memory.{Memory}
-use Rattle.puddled.specs.Reading.{reading_refusal, refusal_to_read, puddles_with_graph, HoldsGraph, reply_of_read}
+use Rattle.puddled.specs.Owning.{refusal_found, holder_of, opened_by}
+use Rattle.puddled.specs.Reading.{reading_refusal, refusal_to_read, puddles_held, reading_open, puddles_with_graph, HoldsGraph, HoldsFound, reply_of_read}
 use Rattle.puddled.specs.Daemon.{IsReady, Applies}
 use Rattle.puddled.proofs.Applying.{Applies-still}
-use Rattle.puddled.proofs.Defining.{standing}
-use Rattle.puddled.proofs.Pooling.{IsRecord, the_record, pool_there, world}
+use Rattle.puddled.proofs.OpenBeside.{open_here, not_open, pool_unmasked}
+use Rattle.puddled.proofs.TablesBeside.{types_read, sound_read}
+use Rattle.puddled.proofs.Pooling.{IsNamed, no_record, named_by, pool_there}
 
 -- ---- puddles that are judged as they were read
 
@@ -65,9 +68,17 @@ graph_held-as : (st : Stored) (g : Option Graph) → graph_held (held_as st g) �
 graph_held-as st None = refl
 graph_held-as st (Some g) = refl
 
+-- why a pool is not read that is there, by whether it has a graph and its mode allows it, and by what is open on it
+abbrev unless_wild : Option Graph → Bool → (client : ℕ) → Option Transaction → Option Refusal
+unless_wild g right client opened = cond (is_none g) (Some refusals.Wild) (cond (not right) (Some refusals.Denied) (cond (is_others client opened) (Some refusals.Busy) None))
+
 module _ (size : ℕ) (w : World) (memory : Memory) (s : State) (ready : IsReady size w memory s) (client : ℕ) (name : List ℕ) where
   abbrev image : Image
   image = reads s.now.words
+
+  -- as it is with the words masked
+  abbrev under : Image
+  under = reads (masked ready.mask s.now.words)
 
   abbrev F : ℕ
   F = w.stored.frames
@@ -76,56 +87,43 @@ module _ (size : ℕ) (w : World) (memory : Memory) (s : State) (ready : IsReady
   t = tables_of F image
 
   abbrev hold : Reader
-  hold = holding_in w.stored.types F image
+  hold = holding_in w.stored.types F under
 
-  -- a record as it is read
-  abbrev read_record : ℕ × PoolRec → ℕ × PoolRec
-  read_record p = (p.0, pool_read p.1)
+  sound : HasSoundTables w.stored.next_number t
+  sound = sound_read size w memory s ready
+
+  there_by : pool_named name w.stored ≡ option_map (pool_by_record hold t) (find name_cmp name (records_of t))
+  there_by = pool_there size w memory s ready name
 
   -- the client is not there
   pub unread_client : w.clients client ≡ None → refusal_to_read w client name ≡ Some refusals.Client
-  unread_client none = ap (λ who. reading_refusal who (pool_named name w.stored)) none
+  unread_client none = ap (λ who. reading_refusal who (pool_named name w.stored) client (w.transactions name)) none
 
   -- no pool has the name
   pub unread_pool : (who : Owner) → w.clients client ≡ Some who → None ≡ pool_in t name → refusal_to_read w client name ≡ Some refusals.Pool
-  unread_pool who there none = ap₂ reading_refusal there (pool_there size w memory s ready client name ∙ ap (option_map (pool_by_record hold t)) (no_record (find name_cmp name (records_of t)) none))
-    where
-      no_record : (o : Option (ℕ × PoolRec)) → None ≡ option_map read_record o → o ≡ None
-      no_record None e = refl
-      no_record (Some x) e = let read : ℕ × PoolRec = (x.0, pool_read x.1) in absurd (none-some read e)
+  unread_pool who there none =
+      ap₂ (λ (acts : Option Owner) (found : Option Pool). reading_refusal acts found client (w.transactions name)) there
+      (there_by ∙ ap (option_map (pool_by_record hold t)) (no_record (find name_cmp name (records_of t)) none))
 
   module _ (slot : ℕ) (rec : PoolRec) (is : ◌≡◌ {A = Option (ℕ × PoolRec)} (Some (slot, rec)) (pool_in t name)) where
-    found : IsRecord size w memory s ready client name slot rec
-    found = the_record size w memory s ready client name slot rec (find name_cmp name (records_of t)) refl is
-
-    -- the pool of the record
-    pool : Pool
-    pool = pool_by_record hold t (slot, found.r)
+    found : IsNamed t name slot rec
+    found = named_by t name slot rec (find name_cmp name (records_of t)) refl is
 
     named : pool_named name w.stored ≡ Some (pool_by_record hold t (slot, found.r))
-    named = pool_there size w memory s ready client name ∙ ap (option_map (pool_by_record hold t)) found.found
+    named = there_by ∙ ap (option_map (pool_by_record hold t)) found.found
 
     -- its puddles as they are read one by one are those that it has
     puddles_are : puddles_in_turn t slot ≡ listed (puddles_of t slot)
     puddles_are =
         let at = found_record t name slot found.r found.found in
-        puddles_in_turn-listed w.stored.next_number t slot found.r (world size w memory s ready).sound at.below at.used
-
-    -- so it has the graph that these puddles have
-    graph_read : (frames : ℕ) → frames ≡ F → graph_in (pool_named name w.stored) ≡ graph_of (types_of image) (stored_in frames (puddles_in_turn (tables_of frames image) slot) image)
-    unfolding pool_of
-    graph_read frames on =
-        ap graph_in named
-        ∙ graph_held-as (stored_in F (listed (puddles_of t slot)) image) (graph_of w.stored.types (stored_in F (listed (puddles_of t slot)) image))
-        ∙ ap₂ (λ types at. graph_of types (stored_in F at image)) (sym ((standing size w memory s ready).holds Types).types) (sym puddles_are)
-        ∙ ap (λ (n : ℕ). graph_of (types_of image) (stored_in n (puddles_in_turn (tables_of n image) slot) image)) (sym on)
+        puddles_in_turn-listed w.stored.next_number t slot found.r sound at.below at.used
 
     -- the mode as it was read lets the same be read
     mode_same : rec.mode ≡ found.r.mode
     mode_same =
         let at = found_record t name slot found.r found.found in
         ap (λ (x : PoolRec). x.mode) found.same
-        ∙ mode_read found.r.mode (legal_mode w.stored.next_number found.r (ap (is_sound_pool w.stored.next_number) (sym at.used) ∙ legal_pool w.stored.next_number t (world size w memory s ready).sound slot at.below))
+        ∙ mode_read found.r.mode (legal_mode w.stored.next_number found.r (ap (is_sound_pool w.stored.next_number) (sym at.used) ∙ legal_pool w.stored.next_number t sound slot at.below))
 
     right_read : (uid gid : ℕ) → reads_pool (Some (owner uid gid)) (Some (pool_by_record hold t (slot, found.r))) ≡ may_read rec.mode (owner rec.uid rec.gid) (owner uid gid)
     unfolding pool_of
@@ -135,48 +133,110 @@ module _ (size : ℕ) (w : World) (memory : Memory) (s : State) (ready : IsReady
         λ p. may_read (sym mode_same p) (owner (sym uid_same p) (sym gid_same p)) (owner uid gid)
 
     -- why it is not read, by what was read of it
-    pub refusal_there : (uid gid : ℕ) (g : Option Graph) → w.clients client ≡ Some (owner uid gid) → graph_in (pool_named name w.stored) ≡ g
-        → refusal_to_read w client name ≡ cond (is_none g) (Some refusals.Wild) (cond (not (may_read rec.mode (owner rec.uid rec.gid) (owner uid gid))) (Some refusals.Denied) None)
-    refusal_there uid gid g there graph =
-        ap₂ reading_refusal there named
-        ∙ ap₂ (λ (h : Option Graph) (b : Bool). cond (is_none h) (Some refusals.Wild) (cond (not b) (Some refusals.Denied) None)) (ap graph_in (sym named) ∙ graph) (right_read uid gid)
+    refusal_there : (uid gid : ℕ) (g : Option Graph) (opened : Option Transaction) → w.clients client ≡ Some (owner uid gid) → graph_in (pool_named name w.stored) ≡ g → w.transactions name ≡ opened
+        → refusal_to_read w client name ≡ unless_wild g (may_read rec.mode (owner rec.uid rec.gid) (owner uid gid)) client opened
+    refusal_there uid gid g opened there graph open_on =
+        (λ p. reading_refusal (there p) (named p) client (open_on p))
+        ∙ ap₂ (λ (h : Option Graph) (b : Bool). unless_wild h b client opened) (ap graph_in (sym named) ∙ graph) (right_read uid gid)
 
-    no_graph : (puddles : List (ℕ × Puddle)) (g : Option Graph) → None ≡ option_map (λ graph. puddles) g → g ≡ None
-    no_graph puddles None none = refl
-    no_graph puddles (Some graph) none = absurd (none-some puddles none)
+    -- ---- none is open on it
 
-    holds_by : (frames : ℕ) (had puddles : List (ℕ × Puddle)) (g : Option Graph) → graph_of (types_of image) (stored_in frames had image) ≡ g → graph_in (pool_named name w.stored) ≡ g
-        → Some puddles ≡ option_map (λ graph. had) g → HoldsGraph w frames name image puddles
-    holds_by frames had puddles None stored there some = absurd (none-some puddles (sym some))
-    holds_by frames had puddles (Some graph) stored there some = record {
-      graph = graph;
-      stored = ap (λ at. graph_of (types_of image) (stored_in frames at image)) (same_Some puddles had some) ∙ stored;
-      is = there;
-    }
+    module _ (shut : opened_by (holder_of memory.held) name ≡ None) where
+      shut_there : w.transactions name ≡ None
+      shut_there = not_open w memory.held ready.mask s.now.words name ready.held shut
 
-    -- the puddles that were found with a graph hold that of the pool
-    pub holds_graph : (frames : ℕ) (puddles : List (ℕ × Puddle)) → frames ≡ F → Some puddles ≡ puddles_with_graph frames image slot → HoldsGraph w frames name image puddles
-    unfolding puddles_with_graph
-    holds_graph frames puddles on some = holds_by frames (puddles_in_turn (tables_of frames image) slot) puddles _ refl (graph_read frames on) some
+      stored_read : stored_in F (puddles_in_turn t slot) under ≡ stored_in F (puddles_in_turn t slot) image
+      stored_read =
+          let at = found_record t name slot found.r found.found in
+          ap (stored_in F (puddles_in_turn t slot)) (reads-masked ready.mask s.now.words) ∙ pool_unmasked w memory.held ready.mask s.now.words name slot found.r ready.held shut at.used at.name_is
 
-    module _ (uid gid frames : ℕ) (on : frames ≡ F) (there : w.clients client ≡ Some (owner uid gid)) where
-      abbrev right : Bool
-      right = may_read rec.mode (owner rec.uid rec.gid) (owner uid gid)
+      -- so it has the graph that these puddles have
+      graph_read : (frames : ℕ) → frames ≡ F → graph_in (pool_named name w.stored) ≡ graph_of (types_of image) (stored_in frames (puddles_in_turn (tables_of frames image) slot) image)
+      unfolding pool_of
+      graph_read frames on =
+          ap graph_in named
+          ∙ graph_held-as (stored_in F (listed (puddles_of t slot)) under) (graph_of w.stored.types (stored_in F (listed (puddles_of t slot)) under))
+          ∙ ap₂ (λ types at. graph_of types (stored_in F at under)) (sym (types_read size w memory s ready).types) (sym puddles_are)
+          ∙ ap (graph_of (types_of image)) stored_read
+          ∙ ap (λ (n : ℕ). graph_of (types_of image) (stored_in n (puddles_in_turn (tables_of n image) slot) image)) (sym on)
 
-      -- none were found with a graph
-      pub unread_wild : None ≡ puddles_with_graph frames image slot → refusal_to_read w client name ≡ Some refusals.Wild
+      no_graph : (puddles : List (ℕ × Puddle)) (g : Option Graph) → None ≡ option_map (λ graph. puddles) g → g ≡ None
+      no_graph puddles None none = refl
+      no_graph puddles (Some graph) none = absurd (none-some puddles none)
+
+      holds_by : (frames : ℕ) (had puddles : List (ℕ × Puddle)) (g : Option Graph) → graph_of (types_of image) (stored_in frames had image) ≡ g → graph_in (pool_named name w.stored) ≡ g
+          → Some puddles ≡ option_map (λ graph. had) g → HoldsGraph w frames name image puddles
+      holds_by frames had puddles None stored there some = absurd (none-some puddles (sym some))
+      holds_by frames had puddles (Some graph) stored there some = record {
+        graph = graph;
+        stored = ap (λ at. graph_of (types_of image) (stored_in frames at image)) (same_Some puddles had some) ∙ stored;
+        is = ap (λ (o : Option Transaction). graph_seen o (pool_named name w.stored)) shut_there ∙ there;
+      }
+
+      -- the puddles that were found with a graph hold that of the pool
+      pub holds_graph : (frames : ℕ) (puddles : List (ℕ × Puddle)) → frames ≡ F → Some puddles ≡ puddles_with_graph frames image slot → HoldsGraph w frames name image puddles
       unfolding puddles_with_graph
-      unread_wild none = refusal_there uid gid None there (graph_read frames on ∙ no_graph (puddles_in_turn (tables_of frames image) slot) _ none)
+      holds_graph frames puddles on some = holds_by frames (puddles_in_turn (tables_of frames image) slot) puddles _ refl (graph_read frames on) some
 
-      module _ (puddles : List (ℕ × Puddle)) (some : Some puddles ≡ puddles_with_graph frames image slot) where
-        by_right : refusal_to_read w client name ≡ cond (not right) (Some refusals.Denied) None
-        by_right = let holds = holds_graph frames puddles on some in refusal_there uid gid (Some holds.graph) there holds.is
+      module _ (uid gid frames : ℕ) (on : frames ≡ F) (there : w.clients client ≡ Some (owner uid gid)) where
+        abbrev right : Bool
+        right = may_read rec.mode (owner rec.uid rec.gid) (owner uid gid)
 
-        pub unread_denied : right ≡ false → refusal_to_read w client name ≡ Some refusals.Denied
-        unread_denied no_right = by_right ∙ ap (λ b. cond (not b) (Some refusals.Denied) None) no_right
+        -- none were found with a graph
+        pub unread_wild : None ≡ puddles_with_graph frames image slot → refusal_to_read w client name ≡ Some refusals.Wild
+        unfolding puddles_with_graph
+        unread_wild none = refusal_there uid gid None None there (graph_read frames on ∙ no_graph (puddles_in_turn (tables_of frames image) slot) _ none) shut_there
 
-        pub is_readable : right ≡ true → refusal_to_read w client name ≡ None
-        is_readable has_right = by_right ∙ ap (λ b. cond (not b) (Some refusals.Denied) None) has_right
+        module _ (puddles : List (ℕ × Puddle)) (some : Some puddles ≡ puddles_with_graph frames image slot) where
+          by_right : refusal_to_read w client name ≡ cond (not right) (Some refusals.Denied) None
+          by_right = refusal_there uid gid (graph_in (pool_named name w.stored)) None there refl shut_there
+              ∙ ap (λ (g : Option Graph). unless_wild g right client None) (had (holds_graph frames puddles on some))
+            where
+              had : (holds : HoldsGraph w frames name image puddles) → graph_in (pool_named name w.stored) ≡ Some holds.graph
+              had holds = sym (ap (λ (o : Option Transaction). graph_seen o (pool_named name w.stored)) shut_there) ∙ holds.is
+
+          pub unread_denied : right ≡ false → refusal_to_read w client name ≡ Some refusals.Denied
+          unread_denied no_right = by_right ∙ ap (λ b. cond (not b) (Some refusals.Denied) None) no_right
+
+          pub is_readable : right ≡ true → refusal_to_read w client name ≡ None
+          is_readable has_right = by_right ∙ ap (λ b. cond (not b) (Some refusals.Denied) None) has_right
+
+    -- ---- one is open on it
+
+    module _ (other : ℕ) (at : opened_by (holder_of memory.held) name ≡ Some other) (uid gid : ℕ) (there : w.clients client ≡ Some (owner uid gid)) where
+      by_open : (right : Bool) → refusal_found (reading_open right (eqb other client)) ≡ cond (not right) (Some refusals.Denied) (cond (not (eqb other client)) (Some refusals.Busy) None)
+      by_open true = elim (eqb other client) as (λ b. refusal_found (reading_open true b) ≡ cond (not b) (Some refusals.Busy) None) [ true ↦ refl | false ↦ refl ]
+      by_open false = refl
+
+      -- the client's own is read, unless the mode denies it
+      pub refusal_open : (right : Bool) → right ≡ may_read rec.mode (owner rec.uid rec.gid) (owner uid gid) → refusal_found (reading_open right (eqb other client)) ≡ refusal_to_read w client name
+      refusal_open right is_right =
+          let open_on = open_here w memory.held ready.mask s.now.words name other ready.held at in
+          by_open right
+          ∙ ap₂ (λ (b : Bool) (whose : ℕ). cond (not b) (Some refusals.Denied) (cond (not (eqb whose client)) (Some refusals.Busy) None)) is_right (sym open_on.whose)
+          ∙ sym (refusal_there uid gid (Some open_on.undone) (Some open_on.transaction) there open_on.stored open_on.is)
+
+-- what is found then
+pub found_open : (w : World) (F : ℕ) (opened : Option (ℕ × List ℕ)) (client other : ℕ) (name : List ℕ) (image : Image) (right : Bool) → opened_by opened name ≡ Some other
+    → IfOk (reading_open right (eqb other client)) (HoldsFound w F opened client name image)
+found_open w F opened client other name image right at = by_own right (eqb other client) refl
+  where
+    by_own : (right own : Bool) → eqb other client ≡ own → IfOk (reading_open right own) (HoldsFound w F opened client name image)
+    by_own false own e = tt
+    by_own true false e = tt
+    by_own true true e = at ∙ ap (λ (n : ℕ). Some n) (eqb-true other client e)
+
+-- the client's own transaction has the graph that is read of its puddles
+pub holds_own : (size : ℕ) (w : World) (memory : Memory) (s : State) (ready : IsReady size w memory s) (frames client : ℕ) (name : List ℕ) (at : List (ℕ × Puddle)) → frames ≡ w.stored.frames
+    → puddles_held memory.held ≡ at → opened_by (holder_of memory.held) name ≡ Some client → HoldsGraph w frames name (reads s.now.words) at
+holds_own size w memory s ready frames client name at on same opened =
+    let here = open_here w memory.held ready.mask s.now.words name client ready.held opened in
+    record {
+      graph = here.transaction.now;
+      stored =
+          (λ p. graph_of ((types_read size w memory s ready).types p) (stored_in (on p) (sym same p) (reads s.now.words))) ∙ here.now;
+      is = ap (λ (o : Option Transaction). graph_seen o (pool_named name w.stored)) here.is;
+    }
 
 -- ---- what is replied
 
@@ -185,46 +245,36 @@ abbrev behind : Option Refusal → Option Object → Option Val → Option Refus
 behind None object field = cond (is_none object) (Some refusals.Object) (cond (is_none field) (Some refusals.Field) None)
 behind (Some r) object field = Some r
 
-module _ (w : World) (client : ℕ) (name : List ℕ) (serial f : ℕ) (nothing : w.transactions ≡ nothing_open) where
+behind_test : (b : Bool) (r : Refusal) (rest : Option Refusal) (o : Option Object) (v : Option Val) → cond b (Some r) (behind rest o v) ≡ behind (cond b (Some r) rest) o v
+behind_test true r rest o v = refl
+behind_test false r rest o v = refl
+
+module _ (w : World) (client : ℕ) (name : List ℕ) (serial f : ℕ) where
   abbrev c : Command
   c = Get client name serial f
 
   abbrev object : Option Object
-  object = object_of serial (graph_in (pool_named name w.stored))
+  object = object_of serial (graph_seen (w.transactions name) (pool_named name w.stored))
 
-  parts : (who : Option Owner) (found : Option Pool) (o : Option Object) (v : Option Val)
+  parts : (who : Option Owner) (found : Option Pool) (opened : Option Transaction) (o : Option Object) (v : Option Val)
       → cond (not (is_some who)) (Some refusals.Client) (cond (is_none found) (Some refusals.Pool) (cond (is_none (graph_in found)) (Some refusals.Wild)
-      (cond (not (reads_pool who found)) (Some refusals.Denied) (cond (is_none o) (Some refusals.Object) (cond (is_none v) (Some refusals.Field) None)))))
-      ≡ behind (reading_refusal who found) o v
-  parts None found o v = refl
-  parts (Some who) None o v = refl
-  parts (Some who) (Some pool) o v =
-      elim (is_none (graph_held pool.holding)) as (λ b. cond b (Some refusals.Wild) (cond (not (reads_pool (Some who) (Some pool))) (Some refusals.Denied) (cond (is_none o) (Some refusals.Object) (cond (is_none v) (Some refusals.Field) None)))
-      ≡ behind (cond b (Some refusals.Wild) (cond (not (reads_pool (Some who) (Some pool))) (Some refusals.Denied) None)) o v) [
-        | true ↦ refl
-        | false ↦
-            elim (reads_pool (Some who) (Some pool)) as (λ b. cond (not b) (Some refusals.Denied) (cond (is_none o) (Some refusals.Object) (cond (is_none v) (Some refusals.Field) None))
-            ≡ behind (cond (not b) (Some refusals.Denied) None) o v) [ true ↦ refl | false ↦ refl ]
-      ]
-
-  -- by what is open
-  abbrev seen_object : Opened → Option Object
-  seen_object opened = object_of serial (graph_seen (opened name) (pool_named name w.stored))
-
-  abbrev by_opened : Opened → Option Refusal
-  by_opened opened =
-      let found = pool_named name w.stored in
-      cond (not (is_some (w.clients client))) (Some refusals.Client) (cond (is_none found) (Some refusals.Pool) (cond (is_none (graph_in found)) (Some refusals.Wild)
-      (cond (not (reads_pool (w.clients client) found)) (Some refusals.Denied) (cond (is_others client (opened name)) (Some refusals.Busy)
-      (cond (is_none (seen_object opened)) (Some refusals.Object) (cond (is_none (field_of f (seen_object opened))) (Some refusals.Field) None))))))
+      (cond (not (reads_pool who found)) (Some refusals.Denied) (cond (is_others client opened) (Some refusals.Busy)
+      (cond (is_none o) (Some refusals.Object) (cond (is_none v) (Some refusals.Field) None))))))
+      ≡ behind (reading_refusal who found client opened) o v
+  parts who found opened o v =
+      let busy = behind_test (is_others client opened) refusals.Busy None o v in
+      let denied = ap (cond (not (reads_pool who found)) (Some refusals.Denied)) busy ∙ behind_test (not (reads_pool who found)) refusals.Denied _ o v in
+      let wild = ap (cond (is_none (graph_in found)) (Some refusals.Wild)) denied ∙ behind_test (is_none (graph_in found)) refusals.Wild _ o v in
+      let pool = ap (cond (is_none found) (Some refusals.Pool)) wild ∙ behind_test (is_none found) refusals.Pool _ o v in
+      ap (cond (not (is_some who)) (Some refusals.Client)) pool ∙ behind_test (not (is_some who)) refusals.Client _ o v
 
   pub refusal_of-get : refusal_of w c ≡ behind (refusal_to_read w client name) object (field_of f object)
   unfolding refusal_of holds
-  refusal_of-get = (let here : refusal_of w c ≡ by_opened w.transactions = refl in here) ∙ ap by_opened nothing ∙ parts (w.clients client) (pool_named name w.stored) object (field_of f object)
+  refusal_of-get = parts (w.clients client) (pool_named name w.stored) (w.transactions name) object (field_of f object)
 
   answer_of-get : answer w c ≡ text_or (value_or_ok (field_of f object)) None
   unfolding answer
-  answer_of-get = ap (λ (opened : Opened). text_or (value_or_ok (field_of f (seen_object opened))) None) nothing
+  answer_of-get = refl
 
   -- it is not read
   pub get_refused : (r : Refusal) → refusal_to_read w client name ≡ Some r → refusal_of w c ≡ Some r
@@ -247,7 +297,7 @@ module _ (w : World) (client : ℕ) (name : List ℕ) (serial f : ℕ) (nothing 
       ap (λ (x : FieldRead). of_reply (reply_of_read x)) (e ∙ ap read_value same)
       ∙ sym (ap (answer_unless (refusal_of w c)) answer_of-get ∙ (λ p. answer_unless ((refusal_of-get ∙ (λ q. behind (free q) (is q) (there q))) p) (text_or (value_or_ok (there p)) None)))
 
-  pub reply_read : (g : Graph) (read : FieldRead) → graph_in (pool_named name w.stored) ≡ Some g → read ≡ read_by (object_in serial g) f → refusal_to_read w client name ≡ None
+  pub reply_read : (g : Graph) (read : FieldRead) → graph_seen (w.transactions name) (pool_named name w.stored) ≡ Some g → read ≡ read_by (object_in serial g) f → refusal_to_read w client name ≡ None
       → of_reply (reply_of_read read) ≡ answer_by w (Some c)
   reply_read g read is e free =
       let there : object ≡ object_in serial g = ap (object_of serial) is in

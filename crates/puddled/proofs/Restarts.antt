@@ -1,21 +1,24 @@
 -- A device recovered, as the daemon has it.
-use Rattle.std.proofs.Common.{◌≡◌, ◌≢◌, ◌⊎◌, ◌↔◌, inl, inr, ⊎_elim, ℕ, ◌<◌, ◌≤◌, Bool, true, false, ◌&&◌, ltb, Option, Some, None, Result, Ok, Err, IfOk, refl, sym, ap, ◌∙◌, arith}
+use Rattle.std.proofs.Common.{◌≡◌, ◌≢◌, ◌⊎◌, ◌↔◌, inl, inr, ⊎_elim, ℕ, ◌<◌, ◌≤◌, Bool, true, false, ◌&&◌, ltb, Option, Some, None, Result, Ok, Err, IfOk, refl, sym, ap, subst, ◌∙◌, arith}
 use Rattle.std.proofs.lemmas.Bool.{lt-leb}
 use Rattle.pm_model.specs.declared.host.HostFault.{HostFault}
 use Rattle.pm_model.specs.Words.{reads}
 use Rattle.pm_model.specs.Moments.{State}
 use Rattle.pm_model.specs.Changes.{Changes, Silently}
+use Rattle.pm_model.specs.Masks.{no_mask}
 use Rattle.pm_model.proofs.Words.{Picks-reads}
 use Rattle.pm_model.proofs.Changes.{Changes-said}
 use Rattle.pm_model.proofs.Leaves.{Leaves-weaker}
-use Rattle.pud_defs.specs.declared.layout.TheConstants.{DAEMON_LOG, FRAMES_WORD, SPACE_TABLE, PUDDLE_TABLE}
+use Rattle.pud_defs.specs.declared.layout.TheConstants.{DAEMON_LOG, FRAMES_WORD, SPACE_TABLE, PUDDLE_TABLE, CLIENTS}
+use Rattle.pud_defs.specs.Image.{Image}
 use Rattle.pud_defs.specs.Layout.{tables_end, frames_at}
-use Rattle.pud_defs.specs.Spaces.{owner_by}
-use Rattle.pud_defs.specs.Replay.{is_in_log, settled_by}
+use Rattle.pud_defs.specs.Entries.{log_of}
+use Rattle.pud_defs.specs.Spaces.{owner_by, space_record_at}
+use Rattle.pud_defs.specs.Replay.{device_word, new_value, is_in_log, settled_by}
 use Rattle.pud_defs.specs.Registry.{frames_of}
 use Rattle.pud_defs.specs.Settled.{is_refused_log, is_in_logs, settled}
 use Rattle.pud_defs.specs.World.{World, StoredWorld, world_of, closed, restart}
-use Rattle.pud_defs.proofs.Replay.{outside_log}
+use Rattle.pud_defs.proofs.Replay.{overwritten-stays, settled_by-outside, outside_log}
 use Rattle.pud_defs.proofs.Logged.{settled_by-unlogged}
 use Rattle.pud_defs.proofs.Worlds.{legal_log_of_world, frames_of_world, settled-below}
 use Rattle.pud_defs.proofs.Idle.{world_of_idle}
@@ -23,12 +26,13 @@ use Rattle.log_replay.specs.Replaying.{Anything}
 use Rattle.recover.specs.declared.recovery.Report.{Report}
 use Rattle.recover.specs.declared.recovery.RecoverFault.{RecoverFault}
 use Rattle.recover.specs.declared.recovery.RecoverFault.TheVariants as recoveries
-use Rattle.recover.specs.Recovery.{recover_fault, ByRecovery, DiffersByRecovery, StandsStill, RecoversDevice}
+use Rattle.recover.specs.Recovery.{recover_fault, ByRecovery, DiffersByRecovery, RefusesNo, StandsStill, RecoversDevice}
 use Rattle.puddled.specs.declared.daemon.StartFault.{StartFault}
 use Rattle.puddled.specs.declared.daemon.StartFault.TheVariants as starts
 use Rattle.puddled.specs.Faults.{start_fault, of_recover}
-use Rattle.puddled.specs.Memory.{Memory}
-use Rattle.puddled.specs.Daemon.{KeepsRest, IsReady, IsReplayed, RefusesNone, Recovers}
+use Rattle.puddled.specs.Memory.{Held, Memory}
+use Rattle.puddled.specs.Held.{Holds}
+use Rattle.puddled.specs.Daemon.{KeepsRest, IsReady, IsReplayed, IsUsedAlone, IsClosedIfFree, IsClosedIfNamed, RefusesNone, Recovers}
 
 -- a recovery's fault is the host's or none, at a start too
 pub fault_of_recover : (fault : RecoverFault) → start_fault {T = Memory} (Err (of_recover fault)) ≡ recover_fault {T = Report} (Err fault)
@@ -49,12 +53,41 @@ KeepsRest-any fault old new changes = record { script = changes.script; shelf = 
 nobody : (used uid gid : ℕ) → used ≡ 0 → owner_by used uid gid ≡ None
 nobody used uid gid free = ap (λ (v : ℕ). owner_by v uid gid) free
 
+-- a client's record that is used, and that the daemon log gives no value, is used also once that log is replayed
+used_settles : (client : ℕ) (image : Image) → IsUsedAlone client image → settled_by DAEMON_LOG image (space_record_at client) ≡ 1
+used_settles client image used =
+    let at = space_record_at client in
+    settled_by-outside DAEMON_LOG image at (outside_log DAEMON_LOG at (inr (omega arith)))
+    ∙ overwritten-stays (new_value device_word (log_of image DAEMON_LOG)) image at used.unnamed ∙ used.now
+
+-- so logs that are closed before a batch names the record are closed before it is free
+pub closed_if_free : (F client : ℕ) (image : Image) → IsClosedIfNamed F client image → IsClosedIfFree F client image
+closed_if_free F client image (inl used) = inl (record { now = used.now; replayed = used_settles client image used })
+closed_if_free F client image (inr shut) = inr shut
+
 -- ---- a rested device that stands for a world
 
 module _ (size : ℕ) (w : World) (a b : State) where
   not_true : (x : Bool) → (x ≡ true → ⊥) → x ≡ false
   not_true true never = absurd (never refl)
   not_true false never = refl
+
+  none_refused : world_of size (reads a.now.words) ≡ Some (closed w) → RefusesNone (reads a.now.words) → RefusesNo w.stored.frames (reads a.now.words)
+  none_refused world none = record {
+    each = λ number few.
+        ap (λ (F : ℕ). is_refused_log F (settled_by DAEMON_LOG (reads a.now.words)) number) (sym (frames_of_world size (reads a.now.words) (closed w) world)) ∙ none.each number few;
+  }
+
+  -- a client's logs are closed, unless its record is used still
+  closed_still : (image : Image) → StandsStill size (closed w) (reads a.now.words) image → RefusesNo w.stored.frames (reads a.now.words) → (client : ℕ) → client < CLIENTS
+      → IsClosedIfNamed w.stored.frames client (reads a.now.words) → IsClosedIfFree w.stored.frames client image
+  closed_still image still none client few (inr was) = inr (still.closed client few was)
+  closed_still image still none client few (inl used) =
+      let settles = used_settles client (reads a.now.words) used in
+      elim (still.free none client few settles) [
+        | inl kept ↦ inl (record { now = kept.now used.unnamed ∙ used.now; replayed = kept.replayed ∙ settles })
+        | inr shut ↦ inr shut
+      ]
 
   Recovers-by : (fault : Option HostFault) (result : Result Memory StartFault) → world_of size (reads a.now.words) ≡ Some (closed w) → RecoversDevice size (closed w) fault a b
       → IfOk result (λ memory. IsReady size (restart w) memory b) → Recovers size w result a b
@@ -64,13 +97,12 @@ module _ (size : ℕ) (w : World) (a b : State) where
     allowed = λ none. Leaves-weaker (Silently (StandsStill size (closed w) (reads a.now.words))) (λ bytes image. RefusesNone image) a b (λ bytes image m. record {
       each = λ number few.
           let frames : frames_of image ≡ w.stored.frames = frames_of_world size image (closed w) m.1.stands in
-          let before : frames_of (reads a.now.words) ≡ w.stored.frames = frames_of_world size (reads a.now.words) (closed w) world in
-          let was : is_refused_log w.stored.frames (settled_by DAEMON_LOG (reads a.now.words)) number ≡ false =
-          ap (λ (F : ℕ). is_refused_log F (settled_by DAEMON_LOG (reads a.now.words)) number) (sym before) ∙ none.each number few in
+          let was = (none_refused world none).each number few in
           ap (λ (F : ℕ). is_refused_log F (settled_by DAEMON_LOG image) number) frames
           ∙ not_true (is_refused_log w.stored.frames (settled_by DAEMON_LOG image) number) (λ refused. let it : true ≡ false = sym (m.1.refused number few refused) ∙ was in cc);
     }) r.moments;
-    logs = λ client few was. Leaves-weaker (Silently (StandsStill size (closed w) (reads a.now.words))) _ a b (λ bytes image m. m.1.closed client few was) r.moments;
+    logs = λ none client few was. Leaves-weaker (Silently (StandsStill size (closed w) (reads a.now.words))) (λ bytes image. IsClosedIfFree w.stored.frames client image) a b
+        (λ bytes image m. closed_still image m.1 (none_refused world none) client few was) r.moments;
     quiet = Changes-said (ByRecovery w.stored.frames (reads a.now.words)) fault a b r.changes;
     ready = ready;
     script = r.changes.script;
@@ -78,20 +110,21 @@ module _ (size : ℕ) (w : World) (a b : State) where
   }
 
   -- the daemon is ready behind it
-  ready_behind : (memory : Memory) → memory.frames ≡ w.stored.frames → a.shelf ≡ w.shelf → RecoversDevice size (closed w) None a b → IsReady size (restart w) memory b
-  ready_behind memory frames shelf r = record {
+  ready_behind : (memory : Memory) → memory.frames ≡ w.stored.frames → memory.held ≡ None → a.shelf ≡ w.shelf → RecoversDevice size (closed w) None a b → IsReady size (restart w) memory b
+  ready_behind memory frames idle shelf r = record {
+    mask = no_mask;
     settled = r.settled_now refl;
     tables = record { each = λ k beside below. r.single refl k (outside_log DAEMON_LOG k (⊎_elim (λ low. inl low) (λ high. inr (omega arith)) beside)) };
     clients = λ client few. nobody _ _ _ (r.cleared refl client few);
     frames = frames;
     shelf = r.changes.shelf ∙ shelf;
-    nothing = refl;
+    held = subst (λ (o : Option Held). Holds (restart w) o no_mask b.now.words) (sym idle) (refl, refl);
   }
 
-  pub Recovers-done : (memory : Memory) → world_of size (reads a.now.words) ≡ Some (closed w) → memory.frames ≡ frames_of (reads a.now.words) → a.shelf ≡ w.shelf → RecoversDevice size (closed w) None a b
+  pub Recovers-done : (memory : Memory) → world_of size (reads a.now.words) ≡ Some (closed w) → memory.frames ≡ frames_of (reads a.now.words) → memory.held ≡ None → a.shelf ≡ w.shelf → RecoversDevice size (closed w) None a b
       → Recovers size w (Ok memory) a b
-  Recovers-done memory world frames shelf r =
-      Recovers-by None (Ok memory) world r (ready_behind memory (frames ∙ frames_of_world size (reads a.now.words) (closed w) world) shelf r)
+  Recovers-done memory world frames idle shelf r =
+      Recovers-by None (Ok memory) world r (ready_behind memory (frames ∙ frames_of_world size (reads a.now.words) (closed w) world) idle shelf r)
 
   pub Recovers-failed : (fault : RecoverFault) → (fault ≡ recoveries.NotSound → ⊥) → world_of size (reads a.now.words) ≡ Some (closed w) → RecoversDevice size (closed w) (recover_fault {T = Report} (Err fault)) a b
       → Recovers size w (Err (of_recover fault)) a b

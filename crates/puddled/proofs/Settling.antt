@@ -1,5 +1,5 @@
 -- A line without a word: its command carried out, and what goes on behind it.
-use Rattle.std.proofs.Common.{◌≡◌, ◌≢◌, ◌⊎◌, inl, inr, ℕ, ◌<◌, ◌≤◌, true, ◌||◌, eqb, List, [], Option, Some, None, Result, Ok, Err, refl, sym, ap, subst, ◌∙◌}
+use Rattle.std.proofs.Common.{◌≡◌, ◌≢◌, ◌⊎◌, inl, inr, ℕ, List, [], Option, Some, None, Result, Ok, Err, refl, sym, ap, subst, ◌∙◌}
 use Rattle.std.proofs.lemmas.List.{append-nil}
 use Rattle.pm_model.specs.declared.host.HostFault.{HostFault}
 use Rattle.pm_model.specs.declared.host.HostFault.TheVariants as hosts
@@ -14,22 +14,13 @@ use Rattle.pud_defs.specs.Image.{Image}
 use Rattle.pud_defs.specs.declared.machine.Command.{Command}
 use Rattle.pud_defs.specs.declared.machine.Command.TheVariants.{Leave}
 use Rattle.pud_defs.specs.declared.machine.Refusal.{Refusal}
-use Rattle.pud_defs.specs.declared.layout.TheConstants.{DAEMON_LOG, CLIENTS}
-use Rattle.pud_defs.specs.Layout.{tables_end, frames_at}
-use Rattle.pud_defs.specs.Replay.{settled_by}
-use Rattle.pud_defs.specs.Spaces.{space_record_at, has_closed_logs}
-use Rattle.pud_defs.specs.World.{World, StoredWorld, world_of, idle_world_of, closed, restart}
+use Rattle.pud_defs.specs.World.{World, world_of, closed, restart}
 use Rattle.pud_defs.specs.Grammar.{command_of}
 use Rattle.pud_defs.specs.Step.{refusal_of, after, unless_refused, world_by, step_world}
 use Rattle.pud_defs.specs.Changing.{Part, part_of, with_part, file_in}
 use Rattle.pud_defs.specs.Changing.Part.{types, pools, clients, transactions, nothing}
-use Rattle.pud_defs.proofs.Parts.Part.{Spaces}
 use Rattle.pud_defs.proofs.Changing.{after-part, shelf_by, KeepsFiles-none}
 use Rattle.pud_defs.proofs.Commands.{command_of-legal}
-use Rattle.pud_defs.proofs.Logged.{settled_by-client_logs}
-use Rattle.pud_defs.proofs.Spaces.{all_below-each, has_closed_logs-same}
-use Rattle.pud_defs.proofs.IdleWorlds.{standing_of_idle_world, legal_log_of_idle_world, frames_of_idle_world}
-use Rattle.pud_defs.proofs.Idle.{world_of_idle, no_log_is_refused}
 use Rattle.puddled.specs.declared.daemon.StartFault.{StartFault}
 use Rattle.puddled.specs.declared.daemon.StartFault.TheVariants as starts
 use Rattle.puddled.specs.declared.daemon.RunFault.TheVariants as faults
@@ -38,30 +29,31 @@ use Rattle.puddled.specs.Faults.Kind.{ordinary, loses, arms}
 use Rattle.puddled.specs.Memory.{Memory}
 use Rattle.puddled.specs.declared.answers.Answered.{Answered}
 use Rattle.puddled.specs.declared.answers.Answered.TheVariants as answers
-use Rattle.puddled.specs.Daemon.{IsReady, Applies, IsClosedIfFree, ClosesLogs, CarriesOut, RefusesNone, Recovers, Settles}
+use Rattle.puddled.specs.Daemon.{IsReady, Applies, IsClosedIfFree, IsClosedIfNamed, ClosesFirst, ClosesBefore, ClosesLogs, CarriesOut, RefusesNone, StandsBetween, Recovers, Settles}
 use Rattle.puddled.proofs.Turns.{turn_of, is_turn_of, cut_turn, is_cut_turn}
 use Rattle.puddled.proofs.Counted.{counted_step, counted_cut, counted_nothing, kind_done, kind_faulty, kind_unstarted, host_is_sound}
 use Rattle.puddled.proofs.Carrying.{restart_line}
+use Rattle.puddled.proofs.Restarts.{closed_if_free}
 
 -- the images between the world before a turn and the one that it gives
 abbrev pub Between : (size : ℕ) → World → World → Image → Type 0
 Between size w under image = (world_of size image ≡ Some (closed w)) ⊎ (world_of size image ≡ Some (closed under))
 
--- so stand the images of a command, whose registered logs are closed besides
-stands_idle : (size : ℕ) (w under : World) (image : Image) → (idle_world_of size image ≡ Some (closed w)) ⊎ (idle_world_of size image ≡ Some (closed under)) → Between size w under image
-stands_idle size w under image (inl before) = inl (world_of_idle size image (closed w) before)
-stands_idle size w under image (inr after) = inr (world_of_idle size image (closed under) after)
-
+-- so stand the images of a command
 stands_applied : (size : ℕ) (w under : World) (memory : Memory) (fault : Option HostFault) (old mid : State) → Applies size w under memory fault old mid → Leaves (Silently (Between size w under)) old mid
-stands_applied size w under memory fault old mid p = Leaves-weaker _ _ old mid (λ bytes image m. (m.0, stands_idle size w under image m.1)) p.moments
+stands_applied size w under memory fault old mid p = Leaves-weaker (Silently (StandsBetween size w under)) (Silently (Between size w under)) old mid (λ bytes image m. (m.0, m.1.0)) p.moments
 
--- in no image of a command a registered log is refused
-refuses_none : (size : ℕ) (w under : World) (image : Image) → (idle_world_of size image ≡ Some (closed w)) ⊎ (idle_world_of size image ≡ Some (closed under)) → RefusesNone image
-refuses_none size w under image (inl before) = record { each = no_log_is_refused size image (closed w) before }
-refuses_none size w under image (inr after) = record { each = no_log_is_refused size image (closed under) after }
-
+-- and in none of them a registered log is refused
 allowed_applied : (size : ℕ) (w under : World) (memory : Memory) (fault : Option HostFault) (old mid : State) → Applies size w under memory fault old mid → Leaves (λ bytes image. RefusesNone image) old mid
-allowed_applied size w under memory fault old mid p = Leaves-weaker _ (λ bytes image. RefusesNone image) old mid (λ bytes image m. refuses_none size w under image m.1) p.moments
+allowed_applied size w under memory fault old mid p = Leaves-weaker (Silently (StandsBetween size w under)) (λ bytes image. RefusesNone image) old mid (λ bytes image m. m.1.1) p.moments
+
+-- logs that are closed before a batch names the record are closed before it is free
+closes_first : (w : World) (command : Option Command) (old new : State) → ClosesLogs ClosesBefore w command old new → ClosesLogs ClosesFirst w command old new
+closes_first w command old new closes = record {
+  first = λ client is present.
+      Leaves-weaker (λ bytes image. IsClosedIfNamed w.stored.frames client image) (λ bytes image. IsClosedIfFree w.stored.frames client image) old new
+      (λ bytes image m. closed_if_free w.stored.frames client image m) (closes.first client is present);
+}
 
 -- the restart's fault is that of the start
 pub unsound_start : (fault : StartFault) → of_start fault ≡ faults.NotSound → fault ≡ starts.NotSound
@@ -79,7 +71,7 @@ module _ (size : ℕ) (w : World) (memory : Memory) (line : List ℕ) (before be
         replied = sym k.replied;
         moments = stands_applied size w (step_world w line) memory None old mid k.applies;
         quiet = k.applies.quiet;
-        closes = k.closes;
+        closes = closes_first w (command_of line) old mid k.closes;
         allowed = allowed_applied size w (step_world w line) memory None old mid k.applies;
         ready = λ _. k.applies.ready refl;
         counted = counted_step w line None before between (kind_done (kind_of (command_of line)) before between k.counted);
@@ -97,7 +89,7 @@ module _ (size : ℕ) (w : World) (memory : Memory) (line : List ℕ) (before be
         replied = tt;
         moments = stands_applied size w (step_world w line) memory (Some hosts.Failed) old mid k.applies;
         quiet = k.applies.quiet;
-        closes = k.closes;
+        closes = closes_first w (command_of line) old mid k.closes;
         allowed = allowed_applied size w (step_world w line) memory (Some hosts.Failed) old mid k.applies;
         ready = λ no. absurd (cc);
         counted = counted_step w line (Some faults.Failed) before between (kind_faulty (kind_of (command_of line)) before between k.counted);
@@ -123,25 +115,11 @@ frames_by : (w : World) (c : Option Command) → (world_by w c).stored.frames �
 frames_by w None = refl
 frames_by w (Some c) = frames_unless (refusal_of w c) w (after w c) (ap (λ (x : World). x.stored.frames) (after-part w c) ∙ frames_of_part (part_of c) (after w c) w)
 
--- In an idle image the logs of a client are closed whose record is used still, or whose logs are closed first.
-closed_at_loss : (size F client : ℕ) (image : Image) (s : StoredWorld) → client < CLIENTS → idle_world_of size image ≡ Some s → s.frames ≡ F → IsClosedIfFree F client image → has_closed_logs image F client ≡ true
-closed_at_loss size F client image s known world same (inr shut) = shut
-closed_at_loss size F client image s known world same (inl used) =
-    let later = settled_by DAEMON_LOG image in
-    let spaces = (standing_of_idle_world size image s world).holds Spaces in
-    let each = all_below-each CLIENTS (λ c. eqb (later (space_record_at c)) 0 || has_closed_logs later s.frames c) spaces.logs client known in
-    let shut : has_closed_logs later s.frames client ≡ true = sym (ap (λ (v : ℕ). eqb v 0 || has_closed_logs later s.frames client) used.replayed) ∙ each in
-    let frames = frames_of_idle_world size image s world in
-    let legal = legal_log_of_idle_world size image s world in
-    let raw = has_closed_logs-same image later s.frames client known
-    (λ k low high. sym (settled_by-client_logs image k legal (subst (λ (n : ℕ). tables_end n ≤ k) (sym frames) low) (subst (λ (n : ℕ). k < frames_at n) (sym frames) high))) in
-    subst (λ (n : ℕ). has_closed_logs image n client ≡ true) same (raw ∙ shut)
-
--- After a power loss the device reads as one of the two worlds, with each registered log closed, and the daemon recovers that one.
+-- After a power loss the device reads as one of the two worlds, with no registered log refused, and the daemon recovers that one.
 record Found (size : ℕ) (w : World) (line : List ℕ) (mid : State) : Type 0 where
   next : World
   which : (next ≡ restart w) ⊎ (next ≡ restart (step_world w line))
-  stands : idle_world_of size (reads mid.now.words) ≡ Some (closed next)
+  stands : world_of size (reads mid.now.words) ≡ Some (closed next)
   shelf : mid.shelf ≡ next.shelf
   again : restart next ≡ next
   frames : next.stored.frames ≡ w.stored.frames
@@ -155,23 +133,23 @@ module _ (size : ℕ) (w : World) (memory : Memory) (line : List ℕ) (before be
   given : (step_world w line).shelf ≡ w.shelf
   given = shelf_by w (command_of line) (k.no_file refl)
 
-  read_image : (idle_world_of size (reads mid.now.words) ≡ Some (closed w)) ⊎ (idle_world_of size (reads mid.now.words) ≡ Some (closed (step_world w line)))
-  read_image = (Leaves-now (Silently (λ image. (idle_world_of size image ≡ Some (closed w)) ⊎ (idle_world_of size image ≡ Some (closed (step_world w line))))) [] old mid (k.applies.quiet ∙ sym (append-nil old.now.said)) k.applies.moments (reads mid.now.words) (Picks-reads mid.now.words)).1
+  read_image : StandsBetween size w (step_world w line) (reads mid.now.words)
+  read_image = (Leaves-now (Silently (StandsBetween size w (step_world w line))) [] old mid (k.applies.quiet ∙ sym (append-nil old.now.said)) k.applies.moments (reads mid.now.words) (Picks-reads mid.now.words)).1
 
   found : Found size w line mid
-  found = elim read_image [
+  found = elim read_image.0 [
     | inl first ↦ record { next = restart w; which = inl refl; stands = first; shelf = kept; again = refl; frames = refl }
     | inr later ↦ record { next = restart (step_world w line); which = inr refl; stands = later; shelf = kept ∙ sym given; again = refl; frames = frames_by w (command_of line) }
   ]
 
   -- the restart finds a sound device
   pub restart_sound : world_of size (reads mid.now.words) ≢ None
-  restart_sound none = let it : Some (closed found.next) ≡ None = sym (world_of_idle size (reads mid.now.words) (closed found.next) found.stands) ∙ none in cc
+  restart_sound none = let it : Some (closed found.next) ≡ None = sym found.stands ∙ none in cc
 
   pub found_world : World
   found_world = found.next
 
-  pub found_stands : idle_world_of size (reads mid.now.words) ≡ Some (closed found_world)
+  pub found_stands : world_of size (reads mid.now.words) ≡ Some (closed found_world)
   unfolding found_world
   found_stands = found.stands
 
@@ -221,22 +199,22 @@ module _ (size : ℕ) (w : World) (memory : Memory) (line : List ℕ) (before be
       let P : List ℕ → Image → Type 0 = λ bytes image. RefusesNone image in
       Leaves-then P P P [] old mid new (k.applies.quiet ∙ sym (append-nil old.now.said)) (λ front image m. m) (λ more image m. m)
       (allowed_applied size w (step_world w line) memory (Some hosts.Cut) old mid k.applies)
-      (r.allowed (record { each = no_log_is_refused size (reads mid.now.words) (closed found_world) found_stands }))
+      (r.allowed read_image.1)
 
-  -- a client that went had its logs closed as power was lost, and the restart leaves them so
-  closes_behind : (result : Result Memory StartFault) (new : State) → Recovers size found_world result mid new → ClosesLogs w (command_of line) old new
+  -- a client that goes has its logs closed, or its record used, as power is lost, and so the restart leaves it
+  closes_behind : (result : Result Memory StartFault) (new : State) → Recovers size found_world result mid new → ClosesLogs ClosesFirst w (command_of line) old new
   closes_behind result new r = record {
     first = λ client is present.
         let F = w.stored.frames in
         let P : List ℕ → Image → Type 0 = λ bytes image. IsClosedIfFree F client image in
+        let Q : List ℕ → Image → Type 0 = λ bytes image. IsClosedIfNamed F client image in
         let said = k.applies.quiet ∙ sym (append-nil old.now.said) in
         let first = k.closes.first client is present in
         let known = command_of-legal line (Leave client) is in
-        let at_loss = Leaves-now P [] old mid said first (reads mid.now.words) (Picks-reads mid.now.words) in
-        let shut = closed_at_loss size F client (reads mid.now.words) (closed found_world) known found_stands found_frames at_loss in
-        let logs = subst (λ (n : ℕ). Leaves (λ bytes image. has_closed_logs image n client ≡ true) mid new) found_frames
-        (r.logs client known (ap (λ (n : ℕ). has_closed_logs (reads mid.now.words) n client) found_frames ∙ shut)) in
-        Leaves-then P (λ bytes image. has_closed_logs image F client ≡ true) P [] old mid new said (λ front image m. m) (λ more image m. inr m) first logs;
+        let at_loss = Leaves-now Q [] old mid said first (reads mid.now.words) (Picks-reads mid.now.words) in
+        let here = subst (λ (n : ℕ). IsClosedIfNamed n client (reads mid.now.words)) (sym found_frames) at_loss in
+        let logs = subst (λ (n : ℕ). Leaves (λ bytes image. IsClosedIfFree n client image) mid new) found_frames (r.logs read_image.1 client known here) in
+        Leaves-then Q P P [] old mid new said (λ front image m. closed_if_free F client image m) (λ more image m. m) first logs;
   }
 
   module _ (now : Memory) (after : Counts) (new : State) where

@@ -5,15 +5,17 @@ use Rattle.pm_model.specs.declared.host.HostFault.TheVariants as hosts
 use Rattle.pm_model.specs.Words.{reads, IsRested}
 use Rattle.pm_model.specs.Counts.{Counts, fault_of}
 use Rattle.pm_model.specs.Moments.{State}
-use Rattle.pm_model.specs.Changes.{Leaves, Silently}
+use Rattle.pm_model.specs.Changes.{Leaves, Silently, Write}
+use Rattle.pm_model.specs.Masks.{masked, masked_state}
 use Rattle.pud_defs.specs.Step.{Answer, answer_by, world_by}
 use Rattle.pud_defs.specs.declared.layout.TheConstants.{DAEMON_LOG, SPACE_TABLE, PUDDLE_TABLE, CLIENTS}
 use Rattle.pud_defs.specs.Image.{Image}
-use Rattle.pud_defs.specs.Replay.{is_in_log, settled_by}
+use Rattle.pud_defs.specs.Entries.{log_of}
+use Rattle.pud_defs.specs.Replay.{device_word, new_value, is_in_log, settled_by}
 use Rattle.pud_defs.specs.Spaces.{space_record_at, owner_of, has_closed_logs}
 use Rattle.pud_defs.specs.Registry.{frames_of}
 use Rattle.pud_defs.specs.Settled.{ALL_LOGS, is_refused_log, is_in_logs, settled}
-use Rattle.pud_defs.specs.World.{World, world_of, idle_world_of, closed, restart, nothing_open}
+use Rattle.pud_defs.specs.World.{World, world_of, idle_world_of, closed, restart}
 use Rattle.pud_defs.specs.declared.machine.Command.{Command}
 use Rattle.pud_defs.specs.declared.machine.Command.TheVariants.{Leave}
 use Rattle.pud_defs.specs.Grammar.{command_of}
@@ -29,6 +31,7 @@ use Rattle.recover.specs.declared.judge.Mark.TheVariants.{Closed}
 use Rattle.recover.specs.Verdicts.{is_refused_mark}
 use Rattle.recover.specs.Recovery.{DiffersByRecovery}
 use Rattle.puddled.specs.Memory.{Memory}
+use Rattle.puddled.specs.Held.{Holds, IsBeside}
 use Rattle.puddled.specs.declared.answers.Answered.{Answered}
 use Rattle.puddled.specs.Answered.{answer_of}
 use Rattle.puddled.specs.declared.daemon.StartFault.{StartFault}
@@ -46,16 +49,18 @@ pub record KeepsLine (file : Option (List ℕ)) (old new : State) : Type 0 where
   pub script : new.script ≡ old.script
   pub files : KeepsFiles file old.shelf new.shelf
 
--- What the daemon needs of a device between two lines: each image that may be left stands for the world with nothing under way, each registered
--- log and the daemon log are closed in it, the daemon log counts no word, the tables are durable, and what is read of them has the clients that are present. The number of
--- frames is the one that the daemon holds, and the shelf is the world's. No transaction is open.
+-- What the daemon needs of a device between two lines. With the words masked of the transaction that it holds each image that may be left
+-- stands for the closed world with nothing under way, each registered log and the daemon log closed in it, and the daemon log counts no word. The
+-- tables are durable, and what is read of them has the clients that are present. The number of frames is the one that the daemon holds, and the
+-- shelf is the world's.
 pub record IsReady (size : ℕ) (w : World) (memory : Memory) (s : State) : Type 0 where
-  pub settled : IsSettled size (closed w) s.now.words
+  pub mask : Write
+  pub settled : IsSettled size (closed w) (masked mask s.now.words)
   pub tables : HasDurableTables w.stored.frames s.now.words
   pub clients : (client : ℕ) → client < CLIENTS → owner_of (reads s.now.words) client ≡ w.clients client
   pub frames : memory.frames ≡ w.stored.frames
   pub shelf : s.shelf ≡ w.shelf
-  pub nothing : w.transactions ≡ nothing_open
+  pub held : Holds w memory.held mask s.now.words
 
 -- these bytes are the front of a text
 pub record IsPart (bytes text : List ℕ) : Type 0 where
@@ -70,10 +75,28 @@ pub record SaysPart {Fault : Type 0} (text : List ℕ) (fault : Option Fault) (o
   pub said : new.now.said ≡ old.now.said ++ bytes
   pub whole : fault ≡ None → rest ≡ []
 
+-- no registered log of the image is refused: a start on it says `ready` alone
+pub record RefusesNone (image : Image) : Type 0 where
+  pub each : (number : ℕ) → number < ALL_LOGS → is_refused_log (frames_of image) (settled_by DAEMON_LOG image) number ≡ false
+
+-- the image stands for the world before or for the next, and no registered log is refused in it
+abbrev pub StandsBetween : (size : ℕ) → (w next : World) → Image → Type 0
+StandsBetween size w next image = ((world_of size image ≡ Some (closed w)) ⊎ (world_of size image ≡ Some (closed next))) × RefusesNone image
+
+-- A command was carried out beside what is held, whose words are masked: masked, at every moment the images stand for the world before it or for
+-- the one that it gives, idle, and without a fault for that one, with tables that are durable and have its clients.
+pub record AppliesMasked (size : ℕ) (w next : World) (mask : Write) (fault : Option HostFault) (old new : State) : Type 0 where
+  pub beside : IsBeside mask fault old new
+  pub moments : Leaves (Silently (λ image. (idle_world_of size image ≡ Some (closed w)) ⊎ (idle_world_of size image ≡ Some (closed next)))) (masked_state mask old) (masked_state mask new)
+  pub settled : fault ≡ None → IsSettled size (closed next) (masked mask new.now.words)
+  pub tables : fault ≡ None → HasDurableTables next.stored.frames new.now.words
+  pub clients : fault ≡ None → (client : ℕ) → client < CLIENTS → owner_of (reads new.now.words) client ≡ next.clients client
+  pub shelf : next.shelf ≡ w.shelf
+
 -- A command was carried out, or refused, without a word: at every moment the images stand for the world before it or the one that it gives,
--- with each registered log closed, and without a fault the daemon is ready in that one, with this memory.
+-- with no registered log refused, and without a fault the daemon is ready in that one, with this memory.
 pub record Applies (size : ℕ) (w next : World) (memory : Memory) (fault : Option HostFault) (old new : State) : Type 0 where
-  pub moments : Leaves (Silently (λ image. (idle_world_of size image ≡ Some (closed w)) ⊎ (idle_world_of size image ≡ Some (closed next)))) old new
+  pub moments : Leaves (Silently (StandsBetween size w next)) old new
   pub quiet : new.now.said ≡ old.now.said
   pub ready : fault ≡ None → IsReady size next memory new
   pub rests : fault ≡ Some hosts.Cut → IsRested new.now.words
@@ -88,13 +111,26 @@ pub record IsUsedStill (client : ℕ) (image : Image) : Type 0 where
 abbrev pub IsClosedIfFree : ℕ → ℕ → Image → Type 0
 IsClosedIfFree F client image = IsUsedStill client image ⊎ (has_closed_logs image F client ≡ true)
 
+-- The client's record is used, and the daemon log gives its first word no value: no replay of that log writes it.
+pub record IsUsedAlone (client : ℕ) (image : Image) : Type 0 where
+  pub now : image (space_record_at client) ≡ 1
+  pub unnamed : new_value device_word (log_of image DAEMON_LOG) (space_record_at client) ≡ None
+
+-- the client's record is used, and no batch under way names it, or each of its logs is closed
+abbrev pub IsClosedIfNamed : ℕ → ℕ → Image → Type 0
+IsClosedIfNamed F client image = IsUsedAlone client image ⊎ (has_closed_logs image F client ≡ true)
+
 -- Each image left at any moment has each of the client's logs closed, unless its record is used still.
 abbrev pub ClosesFirst : ℕ → ℕ → State → State → Type 0
 ClosesFirst F client old new = Leaves (λ bytes image. IsClosedIfFree F client image) old new
 
--- Where the command lets a client go that is present, its logs are closed before its record is free.
-pub record ClosesLogs (w : World) (command : Option Command) (old new : State) : Type 0 where
-  pub first : (client : ℕ) → command ≡ Some (Leave client) → true ≡ is_some (w.clients client) → ClosesFirst w.stored.frames client old new
+-- Each has them closed, unless its record is used, and no batch under way names it: the logs are closed before the batch that frees it.
+abbrev pub ClosesBefore : ℕ → ℕ → State → State → Type 0
+ClosesBefore F client old new = Leaves (λ bytes image. IsClosedIfNamed F client image) old new
+
+-- Where the command lets a client go that is present, its logs are closed first, in the sense given.
+pub record ClosesLogs (closes : ℕ → ℕ → State → State → Type 0) (w : World) (command : Option Command) (old new : State) : Type 0 where
+  pub first : (client : ℕ) → command ≡ Some (Leave client) → true ≡ is_some (w.clients client) → closes w.stored.frames client old new
 
 -- What each command owes, before the daemon goes on behind it: it was carried out, or refused, and the reply is the machine's; only a file that
 -- it names was written, and it names none where power was lost; a client that goes has its logs closed first; it was counted by its kind.
@@ -103,12 +139,8 @@ pub record CarriesOut (size : ℕ) (w : World) (memory : Memory) (command : Opti
   pub applies : Applies size w (world_by w command) memory (fault_of done) old new
   pub files : KeepsFiles (file_in command) old.shelf new.shelf
   pub no_file : fault_of done ≡ Some hosts.Cut → file_in command ≡ None
-  pub closes : ClosesLogs w command old new
+  pub closes : ClosesLogs ClosesBefore w command old new
   pub counted : CountsCommand (kind_of command) (fault_of done) before after
-
--- no registered log of the image is refused: a start on it says `ready` alone
-pub record RefusesNone (image : Image) : Type 0 where
-  pub each : (number : ℕ) → number < ALL_LOGS → is_refused_log (frames_of image) (settled_by DAEMON_LOG image) number ≡ false
 
 -- A line was carried out, or refused, or cut off and the daemon started again, all without a word: at every moment the images stand for the
 -- world before it or the one that it gives, and without a fault the daemon is ready, with this memory, in the world from which the run goes on.
@@ -120,7 +152,7 @@ pub record Settles (size : ℕ) (w : World) (line : List ℕ) (result : Result A
   pub replied : IfOk result (λ answered. turn.answer ≡ answer_of turn.next answered)
   pub moments : Leaves (Silently (λ image. (world_of size image ≡ Some (closed w)) ⊎ (world_of size image ≡ Some (closed turn.under)))) old new
   pub quiet : new.now.said ≡ old.now.said
-  pub closes : ClosesLogs w (command_of line) old new
+  pub closes : ClosesLogs ClosesFirst w (command_of line) old new
   pub allowed : Leaves (λ bytes image. RefusesNone image) old new
   pub ready : run_fault result ≡ None → IsReady size turn.next memory new
   pub counted : CountsLine (command_of line) (run_fault result) (cuts_of (turn ∷ [])) before after
@@ -129,13 +161,14 @@ pub record Settles (size : ℕ) (w : World) (line : List ℕ) (result : Result A
 
 -- The daemon recovered what a rested device stands for, without a word: at each moment each image stands for the world, differs from what was
 -- read only where a recovery may write, refuses no log where none
--- was refused, and has a client's logs closed where they were closed; without a fault the daemon is ready in it.
+-- was refused, and then has a client's logs closed unless its record is used still, where they were unless it was used and no batch named it;
+-- without a fault the daemon is ready in it.
 pub record Recovers (size : ℕ) (w : World) (result : Result Memory StartFault) (old new : State) : Type 0 where
   pub moments : Leaves (Silently (λ image. world_of size image ≡ Some (closed w))) old new
   pub rights : Leaves (λ bytes image. DiffersByRecovery w.stored.frames (reads old.now.words) image) old new
   pub allowed : RefusesNone (reads old.now.words) → Leaves (λ bytes image. RefusesNone image) old new
-  pub logs : (client : ℕ) → client < CLIENTS → has_closed_logs (reads old.now.words) w.stored.frames client ≡ true
-      → Leaves (λ bytes image. has_closed_logs image w.stored.frames client ≡ true) old new
+  pub logs : RefusesNone (reads old.now.words) → (client : ℕ) → client < CLIENTS → IsClosedIfNamed w.stored.frames client (reads old.now.words)
+      → Leaves (λ bytes image. IsClosedIfFree w.stored.frames client image) old new
   pub quiet : new.now.said ≡ old.now.said
   pub ready : IfOk result (λ memory. IsReady size (restart w) memory new)
   pub script : new.script ≡ old.script
@@ -178,7 +211,7 @@ pub record Answers (size : ℕ) (w : World) (line : List ℕ) (aloud : Bool) (re
   pub ok : IfOk result (λ ok. ok ≡ begins_with_ok turn.answer)
   pub moments : Leaves (StandsWith size w (turn ∷ [])) old new
   pub says : SaysPart (spoken aloud turn.answer) (run_fault result) old new
-  pub closes : ClosesLogs w (command_of line) old new
+  pub closes : ClosesLogs ClosesFirst w (command_of line) old new
   pub allowed : Leaves (λ bytes image. RefusesNone image) old new
   pub ready : run_fault result ≡ None → IsReady size turn.next memory new
   pub counted : CountsLine (command_of line) (run_fault result) (cuts_of (turn ∷ [])) before after

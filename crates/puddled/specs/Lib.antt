@@ -1,4 +1,5 @@
 pub mod Memory
+pub mod Held
 pub mod Defined
 pub mod Answered
 pub mod Owning

@@ -1,5 +1,5 @@
 -- Why a client may not read a pool, and what is replied to a line that reads a field.
-use Rattle.std.specs.Prelude.{◌≡◌, ℕ, not, cond, List, Option, Some, None, is_some, is_none, option_map}
+use Rattle.std.specs.Prelude.{◌≡◌, ℕ, Bool, not, cond, List, [], Option, Some, None, is_some, is_none, option_map, Result, Ok, Err}
 use Rattle.pud_defs.specs.declared.objects.Val.TheVariants.{Num, Ref}
 use Rattle.pud_defs.specs.declared.records.Puddle.{Puddle}
 use Rattle.pud_defs.specs.declared.machine.Reply.{Reply}
@@ -13,22 +13,40 @@ use Rattle.pud_defs.specs.Stored.{stored_in}
 use Rattle.pud_defs.specs.Graph.{Graph, graph_of}
 use Rattle.pud_defs.specs.Tables.{Pool, tables_of, puddles_in_turn}
 use Rattle.pud_defs.specs.PoolChanges.{pool_named}
-use Rattle.pud_defs.specs.World.{World}
-use Rattle.pud_defs.specs.Step.{reads, graph_in}
+use Rattle.pud_defs.specs.World.{Transaction, World}
+use Rattle.pud_defs.specs.Transactions.{is_others}
+use Rattle.pud_defs.specs.Step.{reads, graph_in, graph_seen}
 use Rattle.graph_read.specs.declared.fields.FieldRead.{FieldRead}
 use Rattle.graph_read.specs.declared.fields.FieldRead.TheVariants.{NoObject, NoField, Value}
+use Rattle.puddled.specs.Memory.{Held}
+use Rattle.puddled.specs.Owning.{opened_by}
 
--- why this pool is not read for one who acts so: no one does, there is none, it is wild, or its mode is against it
-abbrev pub reading_refusal : Option Owner → Option Pool → Option Refusal
-reading_refusal who found =
+-- why this pool is not read for a client that acts so, where this is open on it: no one does, there is no pool, it is wild, its mode is against it, or
+-- the transaction is another's
+abbrev pub reading_refusal : Option Owner → Option Pool → (client : ℕ) → Option Transaction → Option Refusal
+reading_refusal who found client opened =
     cond (not (is_some who)) (Some refusals.Client)
     (cond (is_none found) (Some refusals.Pool)
     (cond (is_none (graph_in found)) (Some refusals.Wild)
-    (cond (not (reads who found)) (Some refusals.Denied) None)))
+    (cond (not (reads who found)) (Some refusals.Denied)
+    (cond (is_others client opened) (Some refusals.Busy) None))))
 
 -- the same of a client and a name
 abbrev pub refusal_to_read : World → (client : ℕ) → List ℕ → Option Refusal
-refusal_to_read w client name = reading_refusal (w.clients client) (pool_named name w.stored)
+refusal_to_read w client name = reading_refusal (w.clients client) (pool_named name w.stored) client (w.transactions name)
+
+-- ---- what is held, as a line that reads is told of it
+
+-- the puddles of its pool
+abbrev pub puddles_held : Option Held → List (ℕ × Puddle)
+puddles_held None = []
+puddles_held (Some held) = held.at
+
+-- a pool on which a transaction is open is read as it has it, where the mode allows it and the transaction is the client's own
+abbrev pub reading_open : (right own : Bool) → Result (Option (List (ℕ × Puddle))) Refusal
+reading_open right own = cond (not right) (Err refusals.Denied) (cond (not own) (Err refusals.Busy) (Ok None))
+
+-- ---- what is read
 
 -- the puddles of the pool in this slot as they are read, where they have a graph
 unfoldable pub puddles_with_graph : ℕ → Image → (slot : ℕ) → Option (List (ℕ × Puddle))
@@ -36,11 +54,16 @@ puddles_with_graph F image slot =
     let puddles = puddles_in_turn (tables_of F image) slot in
     option_map (λ graph. puddles) (graph_of (types_of image) (stored_in F puddles image))
 
--- these puddles have a graph, and it is that of the world's pool of this name
+-- these puddles have a graph, and it is that of the world's pool of this name, as the transaction has it that is open on it
 pub record HoldsGraph (w : World) (F : ℕ) (name : List ℕ) (image : Image) (puddles : List (ℕ × Puddle)) : Type 0 where
   pub graph : Graph
   pub stored : graph_of (types_of image) (stored_in F puddles image) ≡ Some graph
-  pub is : graph_in (pool_named name w.stored) ≡ Some graph
+  pub is : graph_seen (w.transactions name) (pool_named name w.stored) ≡ Some graph
+
+-- the puddles that were found hold the pool's graph, or none were, since the client's own transaction is open on the pool
+abbrev pub HoldsFound : World → ℕ → Option (ℕ × List ℕ) → (client : ℕ) → List ℕ → Image → Option (List (ℕ × Puddle)) → Type 0
+HoldsFound w F held client name image None = opened_by held name ≡ Some client
+HoldsFound w F held client name image (Some puddles) = HoldsGraph w F name image puddles
 
 -- what is replied, by what was read of a field
 abbrev pub reply_of_read : FieldRead → Reply

@@ -9,7 +9,8 @@ ghost use Rattle.pud_defs.specs.Step.{answer_by, after, world_by};
 ghost use Rattle.pud_defs.specs.Step.Answer.{of_reply};
 ghost use Rattle.pud_defs.specs.declared.machine.Command.TheVariants as commands;
 ghost use Rattle.puddled.specs.Memory.{Memory};
-ghost use Rattle.puddled.specs.Daemon.{KeepsRest, IsReady, Applies, ClosesFirst};
+ghost use Rattle.puddled.specs.Held.{IsOthers};
+ghost use Rattle.puddled.specs.Daemon.{KeepsRest, IsReady, Applies, ClosesBefore};
 
 use log_space::{close_logs, is_registered, register, unregister};
 use pm_model::{Host, HostFault};
@@ -22,7 +23,7 @@ fn admit<H: Host>(h: &mut H, frames: u32, client: u32, uid: u32, gid: u32) -> Re
     requires gid_fits { gid ≤ MAX_OWNER_ID }
     requires few { frames ≤ MAX_FRAMES }
     requires room { device_words frames ≤ (H.counts h.old).size }
-    ensures applies { H.tells → (size : ℕ) → size ≡ (H.counts h.old).size → (w : World) → (memory : Memory) → memory.frames ≡ frames → IsReady size w memory (H.state h.old)
+    ensures applies { H.tells → (size : ℕ) → size ≡ (H.counts h.old).size → (w : World) → (memory : Memory) → memory.frames ≡ frames → IsReady size w memory (H.state h.old) → IsOthers client memory.held
         → Applies size w (after w (commands.Client client uid gid)) memory (fault_of result) (H.state h.old) (H.state h.new) }
     ensures rest { H.tells → KeepsRest (H.state h.old) (H.state h.new) }
     ensures rests { H.tells → fault_of result ≡ Option.Some HostFault.Cut → IsRested (H.state h.new).now.words }
@@ -66,11 +67,11 @@ fn dismiss<H: Host>(h: &mut H, frames: u32, client: u32) -> Result<(), HostFault
     requires known { client < CLIENTS }
     requires few { frames ≤ MAX_FRAMES }
     requires room { device_words frames ≤ (H.counts h.old).size }
-    ensures applies { H.tells → (size : ℕ) → size ≡ (H.counts h.old).size → (w : World) → (memory : Memory) → memory.frames ≡ frames → IsReady size w memory (H.state h.old)
+    ensures applies { H.tells → (size : ℕ) → size ≡ (H.counts h.old).size → (w : World) → (memory : Memory) → memory.frames ≡ frames → IsReady size w memory (H.state h.old) → IsOthers client memory.held
         → Applies size w (after w (commands.Leave client)) memory (fault_of result) (H.state h.old) (H.state h.new) }
-    // Its logs are closed in each image in which its record is free, or is with the daemon log replayed.
+    // Its logs are closed in each image in which its record is free, or the daemon log gives it a value.
     ensures closes_first { H.tells → (size : ℕ) → size ≡ (H.counts h.old).size → (w : World) → (memory : Memory) → memory.frames ≡ frames → IsReady size w memory (H.state h.old)
-        → true ≡ is_some (w.clients client) → ClosesFirst w.stored.frames client (H.state h.old) (H.state h.new) }
+        → true ≡ is_some (w.clients client) → ClosesBefore w.stored.frames client (H.state h.old) (H.state h.new) }
     ensures rest { H.tells → KeepsRest (H.state h.old) (H.state h.new) }
     ensures rests { H.tells → fault_of result ≡ Option.Some HostFault.Cut → IsRested (H.state h.new).now.words }
     ensures cause { H.counts h.new ≡ after_fault (fault_of result) (H.counts h.old) }
@@ -87,11 +88,11 @@ pub fn leave<H: Host>(h: &mut H, frames: u32, client: u32) -> Result<Reply, Host
     requires room { device_words frames ≤ (H.counts h.old).size }
     ensures reply { H.tells → (size : ℕ) → size ≡ (H.counts h.old).size → (w : World) → (memory : Memory) → memory.frames ≡ frames → IsReady size w memory (H.state h.old)
         → IfOk result (λ reply. of_reply reply ≡ answer_by w (Option.Some (commands.Leave client))) }
-    ensures applies { H.tells → (size : ℕ) → size ≡ (H.counts h.old).size → (w : World) → (memory : Memory) → memory.frames ≡ frames → IsReady size w memory (H.state h.old)
+    ensures applies { H.tells → (size : ℕ) → size ≡ (H.counts h.old).size → (w : World) → (memory : Memory) → memory.frames ≡ frames → IsReady size w memory (H.state h.old) → IsOthers client memory.held
         → Applies size w (world_by w (Option.Some (commands.Leave client))) memory (fault_of result) (H.state h.old) (H.state h.new) }
-    // Its logs are closed in each image in which its record is free, or is with the daemon log replayed.
+    // Its logs are closed in each image in which its record is free, or the daemon log gives it a value.
     ensures closes_first { H.tells → (size : ℕ) → size ≡ (H.counts h.old).size → (w : World) → (memory : Memory) → memory.frames ≡ frames → IsReady size w memory (H.state h.old)
-        → true ≡ is_some (w.clients client) → ClosesFirst w.stored.frames client (H.state h.old) (H.state h.new) }
+        → true ≡ is_some (w.clients client) → ClosesBefore w.stored.frames client (H.state h.old) (H.state h.new) }
     ensures rest { H.tells → KeepsRest (H.state h.old) (H.state h.new) }
     ensures rests { H.tells → fault_of result ≡ Option.Some HostFault.Cut → IsRested (H.state h.new).now.words }
     ensures cause { H.counts h.new ≡ after_fault (fault_of result) (H.counts h.old) }

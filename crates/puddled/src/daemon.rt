@@ -95,13 +95,13 @@ pub struct Daemon {
 }
 
 impl Model for Daemon {
-    ghost use Rattle.std.specs.Prelude.{◌≤◌};
+    ghost use Rattle.std.specs.Prelude.{◌≤◌, None};
     ghost use Rattle.pud_defs.specs.declared.layout.TheConstants.{MIN_FRAMES, MAX_FRAMES};
     ghost use Rattle.puddled.specs.Memory.{Memory};
 
     ghost Value = { Memory };
 
-    ghost view = { λ d. record { frames = d.frames } };
+    ghost view = { λ d. record { frames = d.frames; held = None } };
 
     ghost invariant = { λ d. (MIN_FRAMES ≤ d.frames) × (d.frames ≤ MAX_FRAMES) };
 }
@@ -208,13 +208,13 @@ fn apply<H: Host>(daemon: &Daemon, h: &mut H, command: Command) -> Result<Answer
             with_reply(make(h, daemon.frames, u32::from(client), name, mode))
         }
         Command::Chmod { client, name, mode } => {
-            with_reply(change(h, u32::from(client), name, mode))
+            with_reply(change(h, None, u32::from(client), name, mode))
         }
         Command::Drop { client, name } => {
-            with_reply(drop_owned(h, daemon.frames, u32::from(client), name))
+            with_reply(drop_owned(h, daemon.frames, None, u32::from(client), name))
         }
         Command::Get { client, name, s, f } => {
-            with_reply(get(h, daemon.frames, u32::from(client), name, s, f))
+            with_reply(get(h, daemon.frames, None, &[], u32::from(client), name, s, f))
         }
         Command::Begin { .. }
         | Command::Commit { .. }

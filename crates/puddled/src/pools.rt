@@ -11,9 +11,10 @@ ghost use Rattle.pud_defs.specs.Grammar.{IsLegalCommand};
 ghost use Rattle.pud_defs.specs.Step.{refusal_of, answer_by, world_by};
 ghost use Rattle.pud_defs.specs.Step.Answer.{of_reply};
 ghost use Rattle.puddled.specs.Memory.{Memory};
-ghost use Rattle.puddled.specs.Owning.{reply_of_making, refusal_found, IsSlotOf};
+ghost use Rattle.puddled.specs.Owning.{reply_of_making, refusal_found, holder_of, refusal_beside, IsSlotOf};
 ghost use Rattle.puddled.specs.Daemon.{KeepsRest, IsReady, Applies};
 
+use crate::reading::opened_by;
 use log_space::owner;
 use pm_model::{Host, HostFault};
 use pool_table::find;
@@ -61,15 +62,28 @@ pub fn make<H: Host>(
     reply_of(make_pool(h, frames, name, who.uid, who.gid, mode))
 }
 
-/// The slot of the pool of this name, where the client is its owner, or why the client may not change it.
+/// Why the client may not change a pool on which the transaction of this client is open.
+fn refusal_beside(holder: Option<u32>, client: u32) -> Option<Refusal>
+    ensures { result ≡ refusal_beside holder client }
+{
+    if holder? == client {
+        Some(Refusal::Open)
+    } else {
+        Some(Refusal::Busy)
+    }
+}
+
+/// The slot of the pool of this name, where the client is its owner and no transaction is open on it, or why the client may not change it. What
+/// is held is given by its client and the name of its pool.
 fn find_owned<H: Host>(
     h: &mut H,
+    held: Option<(u32, Name)>,
     client: u32,
     name: Name,
 ) -> Result<Result<u32, Refusal>, HostFault>
     requires known { client < CLIENTS }
     requires table { PUDDLE_TABLE ≤ (H.counts h.old).size }
-    ensures refusal { H.tells → (size : ℕ) → (w : World) → (memory : Memory) → IsReady size w memory (H.state h.old)
+    ensures refusal { H.tells → (size : ℕ) → (w : World) → (memory : Memory) → holder_of memory.held ≡ held → IsReady size w memory (H.state h.old)
         → IfOk result (λ found. refusal_found found ≡ refusal_of w (commands.Drop client name)) }
     ensures slot { H.tells → (size : ℕ) → (w : World) → (memory : Memory) → IsReady size w memory (H.state h.old)
         → IfOk result (λ found. IfOk found (IsSlotOf w.stored.frames name (reads (H.state h.old).now.words))) }
@@ -87,23 +101,33 @@ fn find_owned<H: Host>(
     if who.uid != rec.uid {
         return Ok(Err(Refusal::Denied));
     }
-    Ok(Ok(slot))
+    match refusal_beside(opened_by(held, name), client) {
+        Some(refusal) => Ok(Err(refusal)),
+        None => Ok(Ok(slot)),
+    }
 }
 
-/// Gives the client's pool of this name the mode, or refuses to. A refused one changes nothing.
-pub fn change<H: Host>(h: &mut H, client: u32, name: Name, mode: u32) -> Result<Reply, HostFault>
+/// Gives the client's pool of this name the mode, or refuses to. A refused one changes nothing. What is held is given by its client and the
+/// name of its pool.
+pub fn change<H: Host>(
+    h: &mut H,
+    held: Option<(u32, Name)>,
+    client: u32,
+    name: Name,
+    mode: u32,
+) -> Result<Reply, HostFault>
     requires known { client < CLIENTS }
     requires table { PUDDLE_TABLE ≤ (H.counts h.old).size }
-    ensures reply { H.tells → (size : ℕ) → (w : World) → (memory : Memory) → IsReady size w memory (H.state h.old)
+    ensures reply { H.tells → (size : ℕ) → (w : World) → (memory : Memory) → holder_of memory.held ≡ held → IsReady size w memory (H.state h.old)
         → IfOk result (λ reply. of_reply reply ≡ answer_by w (Option.Some (commands.Chmod client name mode))) }
-    ensures applies { H.tells → (size : ℕ) → size ≡ (H.counts h.old).size → (w : World) → (memory : Memory) → IsReady size w memory (H.state h.old)
+    ensures applies { H.tells → (size : ℕ) → size ≡ (H.counts h.old).size → (w : World) → (memory : Memory) → holder_of memory.held ≡ held → IsReady size w memory (H.state h.old)
         → IsLegalCommand (commands.Chmod client name mode)
         → Applies size w (world_by w (Option.Some (commands.Chmod client name mode))) memory (fault_of result) (H.state h.old) (H.state h.new) }
     ensures rest { H.tells → KeepsRest (H.state h.old) (H.state h.new) }
     ensures rests { H.tells → fault_of result ≡ Option.Some HostFault.Cut → IsRested (H.state h.new).now.words }
     ensures cause { H.counts h.new ≡ after_fault (fault_of result) (H.counts h.old) }
 {
-    match find_owned(h, client, name)? {
+    match find_owned(h, held, client, name)? {
         Err(refusal) => Ok(Reply::No(refusal)),
         Ok(slot) => {
             change_mode(h, slot, mode)?;
@@ -112,25 +136,27 @@ pub fn change<H: Host>(h: &mut H, client: u32, name: Name, mode: u32) -> Result<
     }
 }
 
-/// Drops the client's pool of this name with its puddles, or refuses to. A refused one changes nothing. The device has so many frames.
+/// Drops the client's pool of this name with its puddles, or refuses to. A refused one changes nothing. The device has so many frames. What is
+/// held is given by its client and the name of its pool.
 pub fn drop_owned<H: Host>(
     h: &mut H,
     frames: u32,
+    held: Option<(u32, Name)>,
     client: u32,
     name: Name,
 ) -> Result<Reply, HostFault>
     requires known { client < CLIENTS }
     requires few { frames ≤ MAX_FRAMES }
     requires room { device_words frames ≤ (H.counts h.old).size }
-    ensures reply { H.tells → (size : ℕ) → (w : World) → (memory : Memory) → IsReady size w memory (H.state h.old)
+    ensures reply { H.tells → (size : ℕ) → (w : World) → (memory : Memory) → holder_of memory.held ≡ held → IsReady size w memory (H.state h.old)
         → IfOk result (λ reply. of_reply reply ≡ answer_by w (Option.Some (commands.Drop client name))) }
-    ensures applies { H.tells → (size : ℕ) → size ≡ (H.counts h.old).size → (w : World) → (memory : Memory) → memory.frames ≡ frames → IsReady size w memory (H.state h.old)
+    ensures applies { H.tells → (size : ℕ) → size ≡ (H.counts h.old).size → (w : World) → (memory : Memory) → memory.frames ≡ frames → holder_of memory.held ≡ held → IsReady size w memory (H.state h.old)
         → Applies size w (world_by w (Option.Some (commands.Drop client name))) memory (fault_of result) (H.state h.old) (H.state h.new) }
     ensures rest { H.tells → KeepsRest (H.state h.old) (H.state h.new) }
     ensures rests { H.tells → fault_of result ≡ Option.Some HostFault.Cut → IsRested (H.state h.new).now.words }
     ensures cause { H.counts h.new ≡ after_fault (fault_of result) (H.counts h.old) }
 {
-    match find_owned(h, client, name)? {
+    match find_owned(h, held, client, name)? {
         Err(refusal) => Ok(Reply::No(refusal)),
         Ok(slot) => {
             drop_pool(h, frames, slot)?;

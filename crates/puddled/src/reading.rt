@@ -12,8 +12,8 @@ ghost use Rattle.pud_defs.specs.World.{World};
 ghost use Rattle.pud_defs.specs.Step.{answer_by};
 ghost use Rattle.pud_defs.specs.Step.Answer.{of_reply};
 ghost use Rattle.puddled.specs.Memory.{Memory};
-ghost use Rattle.puddled.specs.Owning.{refusal_found};
-ghost use Rattle.puddled.specs.Reading.{refusal_to_read, puddles_with_graph, HoldsGraph, reply_of_read};
+ghost use Rattle.puddled.specs.Owning.{refusal_found, holder_of, opened_by};
+ghost use Rattle.puddled.specs.Reading.{refusal_to_read, puddles_held, reading_open, puddles_with_graph, HoldsFound, reply_of_read};
 ghost use Rattle.puddled.specs.Daemon.{IsReady};
 
 use graph_read::{FieldRead, pool_is_sound, read_field};
@@ -23,7 +23,7 @@ use pm_model::{Host, HostFault};
 use pool_table::find;
 use pud_defs::machine::{Refusal, Reply};
 use pud_defs::objects::Val;
-use pud_defs::records::Name;
+use pud_defs::records::{Name, Puddle};
 use puddle_table::{Puddles, find_places};
 
 /// The puddles of the pool in this slot, where they have a graph. The device has so many frames.
@@ -45,21 +45,53 @@ fn find_graph<H: Host>(h: &mut H, frames: u32, slot: u32) -> Result<Option<Puddl
     Ok(Some(puddles))
 }
 
-/// The puddles of the pool of this name, where it has a graph that the client may read, or why not. The device has so many frames.
+/// The client whose transaction is open on the pool of this name. What is held is given by its client and the name of its pool.
+pub(crate) fn opened_by(held: Option<(u32, Name)>, name: Name) -> Option<u32>
+    ensures { result ≡ opened_by held name }
+{
+    match held {
+        Some(holder) => {
+            if name == holder.1 {
+                Some(holder.0)
+            } else {
+                None
+            }
+        }
+        None => None,
+    }
+}
+
+/// No puddles where a pool is read as the client's own transaction has it that is open on it, or why not.
+fn reading_open(right: bool, own: bool) -> Result<Option<Puddles>, Refusal>
+    ensures { result ≡ reading_open right own }
+{
+    if !right {
+        return Err(Refusal::Denied);
+    }
+    if !own {
+        return Err(Refusal::Busy);
+    }
+    Ok(None)
+}
+
+/// The puddles of the pool of this name, where it has a graph that the client may read, or why not. None where the client's own
+/// transaction is open on the pool: it is read as the transaction has it. The device has so many frames, and what is held is
+/// given by its client and the name of its pool.
 fn find_readable<H: Host>(
     h: &mut H,
     frames: u32,
+    held: Option<(u32, Name)>,
     client: u32,
     name: Name,
-) -> Result<Result<Puddles, Refusal>, HostFault>
+) -> Result<Result<Option<Puddles>, Refusal>, HostFault>
     requires known { client < CLIENTS }
     requires few { frames ≤ MAX_FRAMES }
     requires room { device_words frames ≤ (H.counts h.old).size }
-    ensures refusal { H.tells → (size : ℕ) → (w : World) → (memory : Memory) → memory.frames ≡ frames → IsReady size w memory (H.state h.old)
+    ensures refusal { H.tells → (size : ℕ) → (w : World) → (memory : Memory) → memory.frames ≡ frames → holder_of memory.held ≡ held → IsReady size w memory (H.state h.old)
         → IfOk result (λ found. refusal_found found ≡ refusal_to_read w client name) }
-    ensures graph { H.tells → (size : ℕ) → (w : World) → (memory : Memory) → memory.frames ≡ frames → IsReady size w memory (H.state h.old)
-        → IfOk result (λ found. IfOk found (HoldsGraph w frames name (reads (H.state h.old).now.words))) }
-    ensures known { IfOk result (λ found. IfOk found (IsOnDevice frames)) }
+    ensures graph { H.tells → (size : ℕ) → (w : World) → (memory : Memory) → memory.frames ≡ frames → holder_of memory.held ≡ held → IsReady size w memory (H.state h.old)
+        → IfOk result (λ found. IfOk found (HoldsFound w frames held client name (reads (H.state h.old).now.words))) }
+    ensures known { IfOk result (λ found. IfOk found (λ puddles. IfSome puddles (IsOnDevice frames))) }
     ensures stays { H.tells → H.state h.new ≡ H.state h.old }
     ensures cause { H.counts h.new ≡ after_fault (fault_of result) (H.counts h.old) }
     ensures never_cut { fault_of result ≢ Option.Some HostFault.Cut }
@@ -70,13 +102,17 @@ fn find_readable<H: Host>(
     let Some((slot, rec)) = find(h, name)? else {
         return Ok(Err(Refusal::Pool));
     };
+    let right = may_read(rec.mode, rec.uid, rec.gid, who.uid, who.gid);
+    if let Some(other) = opened_by(held, name) {
+        return Ok(reading_open(right, other == client));
+    }
     let Some(puddles) = find_graph(h, frames, slot)? else {
         return Ok(Err(Refusal::Wild));
     };
-    if !may_read(rec.mode, rec.uid, rec.gid, who.uid, who.gid) {
+    if !right {
         return Ok(Err(Refusal::Denied));
     }
-    Ok(Ok(puddles))
+    Ok(Ok(Some(puddles)))
 }
 
 /// What is replied, by what was read of the field.
@@ -92,10 +128,13 @@ fn reply_of(read: FieldRead) -> Reply
 }
 
 /// Reads field `f` of the object of serial `s` in the pool of this name for the client, or refuses to. Nothing changes. The device
-/// has so many frames.
+/// has so many frames. What is held is given by its client and the name of its pool, and `at` are the puddles of that pool by
+/// their ordinals, each with its frame: it is read as the transaction has it, and by its client alone.
 pub fn get<H: Host>(
     h: &mut H,
     frames: u32,
+    held: Option<(u32, Name)>,
+    at: &[(u32, Puddle)],
     client: u32,
     name: Name,
     s: u64,
@@ -104,17 +143,22 @@ pub fn get<H: Host>(
     requires known { client < CLIENTS }
     requires few { frames ≤ MAX_FRAMES }
     requires room { device_words frames ≤ (H.counts h.old).size }
+    requires at { IsOnDevice frames at.now }
     requires field { f < MAX_FIELDS }
-    ensures reply { H.tells → (size : ℕ) → (w : World) → (memory : Memory) → memory.frames ≡ frames → IsReady size w memory (H.state h.old)
-        → IfOk result (λ reply. of_reply reply ≡ answer_by w (Option.Some (Get client name s f))) }
+    ensures reply { H.tells → (size : ℕ) → (w : World) → (memory : Memory) → memory.frames ≡ frames → holder_of memory.held ≡ held → puddles_held memory.held ≡ at.now
+        → IsReady size w memory (H.state h.old) → IfOk result (λ reply. of_reply reply ≡ answer_by w (Option.Some (Get client name s f))) }
     ensures stays { H.tells → H.state h.new ≡ H.state h.old }
     ensures cause { H.counts h.new ≡ after_fault (fault_of result) (H.counts h.old) }
     ensures never_cut { fault_of result ≢ Option.Some HostFault.Cut }
 {
-    match find_readable(h, frames, client, name)? {
+    match find_readable(h, frames, held, client, name)? {
         Err(refusal) => Ok(Reply::No(refusal)),
-        Ok(puddles) => {
+        Ok(Some(puddles)) => {
             let read = read_field(h, frames, puddles.as_slice(), s, f)?;
+            Ok(reply_of(read))
+        }
+        Ok(None) => {
+            let read = read_field(h, frames, at, s, f)?;
             Ok(reply_of(read))
         }
     }

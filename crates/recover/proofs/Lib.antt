@@ -5,4 +5,5 @@ pub mod Marks
 pub mod Accepting
 pub mod TurnTaken
 pub mod TurnsTaken
+pub mod Moments
 pub mod Recovered

@@ -1,5 +1,5 @@
 -- A device recovered, stage by stage: the daemon log applied, the clients' logs replayed and closed, the log-space table emptied.
-use Rattle.std.proofs.Common.{◌≡◌, ◌⊎◌, inl, inr, ℕ, ◌+◌, ◌<◌, ◌≤◌, true, false, cond, [], List, Option, Some, None, Result, Ok, Err, refl, sym, ap, subst, ◌∙◌, arith}
+use Rattle.std.proofs.Common.{◌≡◌, ◌⊎◌, inl, inr, ⊎_elim, ℕ, ◌+◌, ◌*◌, ◌<◌, ◌≤◌, Bool, true, false, not, cond, [], List, Option, Some, None, Result, Ok, Err, refl, sym, ap, subst, ◌∙◌, arith}
 use Rattle.std.proofs.lemmas.Bool.{cases_Bool, cases_lt, cond-false}
 use Rattle.std.proofs.lemmas.List.{append-nil}
 use Rattle.std.proofs.lemmas.Option.{none-some}
@@ -10,19 +10,19 @@ use Rattle.pm_model.specs.Changes.{Changes, Leaves, Silently}
 use Rattle.pm_model.proofs.Words.{Picks-reads, reads_only, HasOnly-newest, HasOnly-own}
 use Rattle.pm_model.proofs.Changes.{Changes-said, Changes-wider, Changes-then, HasOnly-kept}
 use Rattle.pm_model.proofs.Leaves.{Leaves-changes, Leaves-now, Leaves-then, Leaves-weaker}
-use Rattle.pud_defs.specs.declared.layout.TheConstants.{DAEMON_LOG, FRAMES_WORD, TYPE_TABLE, SPACE_TABLE, PUDDLE_TABLE, CLIENTS}
+use Rattle.pud_defs.specs.declared.layout.TheConstants.{DAEMON_LOG, FRAMES_WORD, TYPE_TABLE, SPACE_TABLE, PUDDLE_TABLE, CLIENTS, CLIENT_LOGS}
 use Rattle.pud_defs.specs.Image.{Image}
-use Rattle.pud_defs.specs.Layout.{IsWithin, tables_end, frames_at}
+use Rattle.pud_defs.specs.Layout.{IsWithin, tables_end, log_at, frames_at}
 use Rattle.pud_defs.specs.Entries.{Entry, log_of, is_idle_gate}
 use Rattle.pud_defs.specs.Replay.{device_word, new_value, overwritten, IsInLog, is_in_log, settled_by}
-use Rattle.pud_defs.specs.Spaces.{Owner, owner_by, owner_of, are_legal_spaces, has_closed_logs, space_record_at}
+use Rattle.pud_defs.specs.Spaces.{Owner, owner, owner_by, owner_of, are_legal_spaces, is_closed_log, has_closed_logs, space_record_at}
 use Rattle.pud_defs.specs.Tables.{tables_of}
-use Rattle.pud_defs.specs.Allowed.{is_refused}
+use Rattle.pud_defs.specs.Allowed.{is_allowed_log, is_refused, is_accepted}
 use Rattle.pud_defs.specs.Settled.{ALL_LOGS, client_of_log, log_number_at, given_by_log, is_refused_log, is_accepted_log, is_in_logs, beside_logs, settled_over, settled}
 use Rattle.pud_defs.specs.Registry.{frames_of, has_legal_log}
 use Rattle.pud_defs.specs.World.{StoredWorld, world_of}
 use Rattle.pud_defs.proofs.Replay.{overwritten-stays, overwritten-there, settled_by-inside, settled_by-outside, settled_by-idle, outside_log, within_log, not_inside}
-use Rattle.pud_defs.proofs.Spaces.{is_closed_log-same, has_closed_logs-same, are_legal_spaces-same, are_legal_spaces-none}
+use Rattle.pud_defs.proofs.Spaces.{all_below-from, is_closed_log-same, has_closed_logs-same, are_legal_spaces-same, are_legal_spaces-none}
 use Rattle.pud_defs.proofs.Settled.{settled_over-none}
 use Rattle.pud_defs.proofs.Accepted.{accepted_not_refused}
 use Rattle.pud_defs.proofs.LogsTaken.{given_by_log-below}
@@ -44,11 +44,16 @@ use Rattle.registry.specs.Registry.{load_fault, StillStands, AppliesLog}
 use Rattle.recover.specs.declared.recovery.Report.{Report}
 use Rattle.recover.specs.Verdicts.{verdict_by, verdict_of}
 use Rattle.recover.specs.Turns.{ByLogs, IsAlike, TakesTurns}
-use Rattle.recover.specs.Recovery.{recover_fault, of_load, ByRecovery, DiffersByRecovery, StandsStill, RecoversDevice}
+use Rattle.recover.specs.Recovery.{recover_fault, of_load, ByRecovery, DiffersByRecovery, RefusesNo, StandsStill, RecoversDevice}
+use Rattle.recover.proofs.Moments.{Leaves-both}
 use Rattle.recover.proofs.TurnsTaken.{none_of_fault}
 
 abbrev emptied : List Entry
 emptied = clearing CLIENTS
+
+not_false : (b : Bool) → not b ≡ false → b ≡ true
+not_false true never = refl
+not_false false never = absurd (let it : true ≡ false = never in cc)
 
 -- a record that is free has no owner
 free_record : (image : Image) (client : ℕ) → image (space_record_at client) ≡ 0 → owner_of image client ≡ None
@@ -57,6 +62,17 @@ free_record image client free = ap (λ (used : ℕ). owner_by used (image (space
 -- without an owner no log is refused
 unowned_not_refused : (F : ℕ) (image : Image) (number : ℕ) → owner_of image (client_of_log number) ≡ None → is_refused_log F image number ≡ false
 unowned_not_refused F image number none = ap (λ (who : Option Owner). is_refused (tables_of F image) who (log_of image (log_number_at F number))) none
+
+-- a log of a record that is used is accepted where it is not refused
+accepted_owner : (F : ℕ) (image : Image) (number : ℕ) (who : Option Owner) (used uid gid : ℕ) → who ≡ owner_by used uid gid → used ≡ 1
+    → is_refused (tables_of F image) who (log_of image (log_number_at F number)) ≡ false → is_accepted (tables_of F image) who (log_of image (log_number_at F number)) ≡ true
+accepted_owner F image number None used uid gid of_record is allowed = absurd (none-some (owner uid gid) (of_record ∙ ap (λ (v : ℕ). owner_by v uid gid) is))
+accepted_owner F image number (Some who) used uid gid of_record is allowed = not_false (is_allowed_log (tables_of F image) who (log_of image (log_number_at F number))) allowed
+
+allowed_accepted : (F : ℕ) (image : Image) (number : ℕ) → image (space_record_at (client_of_log number)) ≡ 1 → is_refused_log F image number ≡ false → is_accepted_log F image number ≡ true
+allowed_accepted F image number used allowed =
+    let at = space_record_at (client_of_log number) in
+    accepted_owner F image number (owner_of image (client_of_log number)) (image at) (image (at + 1)) (image (at + 2)) refl used allowed
 
 -- the words of the log-space table are those that the batch may name
 in_table : (k v : ℕ) → batch_write emptied k ≡ Some v → IsWithin SPACE_TABLE PUDDLE_TABLE k
@@ -67,6 +83,10 @@ in_table k v is = elim (cases_lt k SPACE_TABLE) [
     | inr beyond ↦ absurd (none-some v (sym (clearing-outside CLIENTS k (omega arith) (inr beyond)) ∙ is))
   ]
 ]
+
+-- a word beside the gate of the daemon log is as in another image, where the log of that one gives it no value
+record StaysUnnamed (start image : Image) : Type 0 where
+  each : (k : ℕ) → (k ≡ DAEMON_LOG → ⊥) → new_value device_word (log_of start DAEMON_LOG) k ≡ None → image k ≡ start k
 
 module _ (size : ℕ) (s : StoredWorld) (a : State) (rested : IsRested a.now.words) (world : world_of size (reads a.now.words) ≡ Some s) where
   abbrev F : ℕ
@@ -90,21 +110,34 @@ module _ (size : ℕ) (s : StoredWorld) (a : State) (rested : IsRested a.now.wor
       sym (settled_by-client_logs image k (legal_log_of_world size image s p.stands) (rw frames low) (rw frames high)) ∙ ap (λ (x : Image). x k) p.settled
       ∙ settled_by-client_logs i k (legal_log_of_world size i s world) (rw frames_i low) (rw frames_i high)
 
-  first_still : (image : Image) → StillStands size s i image → StandsStill size s i image
+  first_still : (image : Image) → StillStands size s i image → StaysUnnamed i image → StandsStill size s i image
   unfolding settled
-  first_still image p = record {
+  first_still image p stays = record {
     stands = p.stands;
     settles = λ k outside. ap (λ (x : Image). settled_over F x k) p.settled;
     refused = λ number few refused. sym (ap (λ (x : Image). is_refused_log F x number) p.settled) ∙ refused;
     closed = λ client few was. has_closed_logs-same image i F client few (logs_stay image p) ∙ was;
+    free = λ none client few used. inl (record {
+      replayed = ap (λ (x : Image). x (space_record_at client)) p.settled;
+      now = stays.each (space_record_at client) (λ same. absurd (omega arith));
+    });
   }
 
   first_may : (k v : ℕ) → ByOneLog DAEMON_LOG (new_value device_word (log_of i DAEMON_LOG)) k v → ByRecovery F i k v
   first_may k v (inl here) = inl (record { low = omega arith; high = omega arith })
   first_may k v (inr named) = inr (inl named)
 
-  first_moments : (fault : Option HostFault) (b : State) → AppliesLog size s fault a b → Leaves Still a b
-  first_moments fault b applies = Leaves-weaker (Silently (StillStands size s i)) Still a b (λ bytes image p. (p.0, first_still image p.1)) applies.moments
+  first_words : (fault : Option HostFault) (b : State) → SettlesLog targets.Words DAEMON_LOG fault a b → Leaves (Silently (StaysUnnamed i)) a b
+  first_words fault b settles = Leaves-changes (StaysUnnamed i) (ByOneLog DAEMON_LOG (new_value device_word (log_of i DAEMON_LOG))) fault a b (λ before image picked from. record {
+    each = λ k apart nothing. elim (from.each k) [
+      | inl same ↦ same ∙ ap (λ (x : Image). x k) (reads_only a.now.words before rested picked)
+      | inr by ↦ absurd (⊎_elim (λ gate. apart gate) (λ named. none-some named.value (sym nothing ∙ named.is)) by)
+    ];
+  }) settles.changes
+
+  first_moments : (fault : Option HostFault) (b : State) → AppliesLog size s fault a b → SettlesLog targets.Words DAEMON_LOG fault a b → Leaves Still a b
+  first_moments fault b applies settles = Leaves-weaker (Silently (λ image. StillStands size s i image × StaysUnnamed i image)) Still a b (λ bytes image p. (p.0, first_still image p.1.0 p.1.1))
+      (Leaves-both (StillStands size s i) (StaysUnnamed i) a b applies.moments (first_words fault b settles))
 
   first_changes : (fault : Option HostFault) (b : State) → SettlesLog targets.Words DAEMON_LOG fault a b → Changes (ByRecovery F i) fault a b
   first_changes fault b settles = Changes-wider (ByOneLog DAEMON_LOG (new_value device_word (log_of i DAEMON_LOG))) (ByRecovery F i) fault a b first_may settles.changes
@@ -133,7 +166,7 @@ module _ (size : ℕ) (s : StoredWorld) (a : State) (rested : IsRested a.now.wor
   }
 
   pub Recovers-load : (fault : HostFault) (b : State) → AppliesLog size s (Some fault) a b → SettlesLog targets.Words DAEMON_LOG (Some fault) a b → RecoversDevice size s (Some fault) a b
-  Recovers-load fault b applies settles = broken_off fault b (first_changes (Some fault) b settles) (first_moments (Some fault) b applies)
+  Recovers-load fault b applies settles = broken_off fault b (first_changes (Some fault) b settles) (first_moments (Some fault) b applies settles)
 
   -- also where the load refused nothing
   pub Recovers-loaded : (fault : LoadFault) (b : State) → (fault ≡ loads.NotSound → ⊥) → AppliesLog size s (load_fault {T = Geo} (Err fault)) a b
@@ -163,6 +196,13 @@ module _ (size : ℕ) (s : StoredWorld) (a : State) (rested : IsRested a.now.wor
 
     given_b : (number w : ℕ) → number < ALL_LOGS → given_by_log F m number w ≡ given_by_log F (settled_by DAEMON_LOG i) number w
     given_b number w few = sym (idle_given F m idle_b number w few) ∙ ap (λ (x : Image). given_by_log F x number w) now_b.settled
+
+    -- the words of the log-space table are as they settle to, and as they were where the daemon log gives them no value
+    plain_b : (k : ℕ) → is_in_log DAEMON_LOG k ≡ false → m k ≡ settled_by DAEMON_LOG i k
+    plain_b k outside = sym (settled_by-idle DAEMON_LOG m k idle_b outside) ∙ ap (λ (x : Image). x k) now_b.settled
+
+    unnamed_b : (k : ℕ) → (k ≡ DAEMON_LOG → ⊥) → new_value device_word (log_of i DAEMON_LOG) k ≡ None → m k ≡ i k
+    unnamed_b k apart nothing = settles.reads_so refl k apart ∙ overwritten-stays (new_value device_word (log_of i DAEMON_LOG)) i k nothing
 
     -- ---- the clients' logs
 
@@ -194,6 +234,14 @@ module _ (size : ℕ) (s : StoredWorld) (a : State) (rested : IsRested a.now.wor
         settles = λ k outside. alike_settles k;
         refused = λ number few refused. sym (refused_b number few) ∙ sym (alike.refused number few) ∙ sym (idle_refused F image idle_j number few) ∙ refused;
         closed = λ client few was. alike.closed client few (has_closed_logs-same m i F client few (logs_stay m now_b) ∙ was);
+        free = λ none client few used.
+            let at = space_record_at client in
+            let outside : is_in_log DAEMON_LOG at ≡ false = outside_log DAEMON_LOG at (inr (omega arith)) in
+            let same : image at ≡ m at = alike.below at (omega arith) in
+            inl (record {
+              replayed = settled_by-idle DAEMON_LOG image at idle_j outside ∙ same ∙ plain_b at outside;
+              now = λ nothing. same ∙ unnamed_b at (λ gate. absurd (omega arith)) nothing;
+            });
       }
 
     second_may : (k v : ℕ) → ByLogs F ALL_LOGS m k v → ByRecovery F i k v
@@ -213,7 +261,7 @@ module _ (size : ℕ) (s : StoredWorld) (a : State) (rested : IsRested a.now.wor
     second_changes fault c turns = Changes-then (ByRecovery F i) fault a b c (first_changes None b settles) (Changes-wider (ByLogs F ALL_LOGS m) (ByRecovery F i) fault b c second_may turns.changes)
 
     second_moments : (fault : Option HostFault) (c : State) → TakesTurns F ALL_LOGS m fault b c → Leaves Still a c
-    second_moments fault c turns = Leaves-then Still Still Still [] a b c (said_b ∙ sym (append-nil a.now.said)) (λ front image p. p) (λ more image p. p) (first_moments None b applies)
+    second_moments fault c turns = Leaves-then Still Still Still [] a b c (said_b ∙ sym (append-nil a.now.said)) (λ front image p. p) (λ more image p. p) (first_moments None b applies settles)
         (Leaves-weaker (Silently (IsAlike F m)) Still b c (λ bytes image p. (p.0, alike_still image p.1)) turns.moments)
 
     pub Recovers-logs : (fault : HostFault) (c : State) → TakesTurns F ALL_LOGS m (Some fault) b c → RecoversDevice size s (Some fault) a c
@@ -244,6 +292,16 @@ module _ (size : ℕ) (s : StoredWorld) (a : State) (rested : IsRested a.now.wor
       unfolding settled
       plain_c = settled_over-none F (settled_by DAEMON_LOG n) (λ number w few. idle_given F n idle_c number w few ∙ (turns.gone refl).each number w few)
 
+      -- where no log is refused, each log of a client whose record is used is closed
+      used_closed : RefusesNo F i → (client : ℕ) → client < CLIENTS → settled_by DAEMON_LOG i (space_record_at client) ≡ 1 → has_closed_logs n F client ≡ true
+      used_closed none client few used = all_below-from CLIENT_LOGS (λ k. is_closed_log n (log_at F client k)) (λ k below.
+          let number = CLIENT_LOGS * client + k in
+          let at : log_at F client k ≡ log_number_at F number = omega arith in
+          let of_client : client_of_log number ≡ client = omega arith in
+          let accepted : is_accepted_log F (settled_by DAEMON_LOG i) number ≡ true = allowed_accepted F (settled_by DAEMON_LOG i) number
+          (ap (λ (c : ℕ). settled_by DAEMON_LOG i (space_record_at c)) of_client ∙ used) (none.each number (omega arith)) in
+          ap (is_closed_log n) at ∙ turns.closed refl number (omega arith) (accepted_b number (omega arith) ∙ accepted))
+
       -- ---- the log-space table
 
       module _ (image : Image) (batched : IsBatched c.now.words DAEMON_LOG emptied image) where
@@ -262,11 +320,13 @@ module _ (size : ℕ) (s : StoredWorld) (a : State) (rested : IsRested a.now.wor
         ]
 
         -- the clients' logs are none of the batch's words
-        closed_j : (client : ℕ) → client < CLIENTS → has_closed_logs i F client ≡ true → has_closed_logs image F client ≡ true
-        closed_j client few was =
+        logs_j : (client : ℕ) → client < CLIENTS → has_closed_logs image F client ≡ has_closed_logs n F client
+        logs_j client few =
             has_closed_logs-same image n F client few (λ k low high.
             batched.outside k (outside_log DAEMON_LOG k (inr (omega arith))) (clearing-outside CLIENTS k (omega arith) (inr (omega arith))) ∙ ap (λ (x : Image). x k) before_c)
-            ∙ (alike_still n alike_c).closed client few was
+
+        closed_j : (client : ℕ) → client < CLIENTS → has_closed_logs i F client ≡ true → has_closed_logs image F client ≡ true
+        closed_j client few was = logs_j client few ∙ (alike_still n alike_c).closed client few was
 
         -- as it was
         same_still : settled_by DAEMON_LOG image ≡ settled_by DAEMON_LOG batched.before → StandsStill size s i image
@@ -280,6 +340,7 @@ module _ (size : ℕ) (s : StoredWorld) (a : State) (rested : IsRested a.now.wor
               settles = λ k outside. settles_so k;
               refused = λ number few refused. (alike_still n alike_c).refused number few (sym (ap (λ (x : Image). is_refused_log F x number) is) ∙ refused);
               closed = closed_j;
+              free = λ none client few used. inr (logs_j client few ∙ used_closed none client few used);
             }
 
         -- or with the table emptied
@@ -304,6 +365,7 @@ module _ (size : ℕ) (s : StoredWorld) (a : State) (rested : IsRested a.now.wor
               settles = settles_so;
               refused = λ number few refused. absurd (let it : false ≡ true = sym (unowned_not_refused F (settled_by DAEMON_LOG image) number (unowned (client_of_log number) (omega arith))) ∙ refused in cc);
               closed = closed_j;
+              free = λ none client few used. inr (logs_j client few ∙ used_closed none client few used);
             }
 
         pub batched_still : StandsStill size s i image

@@ -44,14 +44,27 @@ ByRecovery F start k v =
 pub record DiffersByRecovery (F : ℕ) (start image : Image) : Type 0 where
   pub each : (k : ℕ) → (image k ≡ start k) ⊎ ByRecovery F start k (image k)
 
+-- no log of the image is refused, judged behind the daemon log
+pub record RefusesNo (F : ℕ) (image : Image) : Type 0 where
+  pub each : (number : ℕ) → number < ALL_LOGS → is_refused_log F (settled_by DAEMON_LOG image) number ≡ false
+
+-- The first word of a client's record of the log-space table, which tells whether it is used, is that of another image once the daemon log is
+-- replayed, and also as it stands where that log gives it no value.
+pub record KeepsRecord (client : ℕ) (start image : Image) : Type 0 where
+  pub replayed : settled_by DAEMON_LOG image (space_record_at client) ≡ settled_by DAEMON_LOG start (space_record_at client)
+  pub now : new_value device_word (log_of start DAEMON_LOG) (space_record_at client) ≡ None → image (space_record_at client) ≡ start (space_record_at client)
+
 -- An image from which a start makes what it makes of another: it stands for the same world, but for the log-space table it settles to the same,
--- no log of it is refused that is not refused of the other, and a client's logs that are closed in the other are closed in it.
+-- no log of it is refused that is not refused of the other, and a client's logs that are closed in the other are closed in it. Where none is
+-- refused of the other, a client's record that is used stays until each of its logs is closed.
 pub record StandsStill (size : ℕ) (s : StoredWorld) (start image : Image) : Type 0 where
   pub stands : world_of size image ≡ Some s
   pub settles : (k : ℕ) → (k < SPACE_TABLE) ⊎ (PUDDLE_TABLE ≤ k) → settled s.frames image k ≡ settled s.frames start k
   pub refused : (number : ℕ) → number < ALL_LOGS → is_refused_log s.frames (settled_by DAEMON_LOG image) number ≡ true
       → is_refused_log s.frames (settled_by DAEMON_LOG start) number ≡ true
   pub closed : (client : ℕ) → client < CLIENTS → has_closed_logs start s.frames client ≡ true → has_closed_logs image s.frames client ≡ true
+  pub free : RefusesNo s.frames start → (client : ℕ) → client < CLIENTS → settled_by DAEMON_LOG start (space_record_at client) ≡ 1
+      → KeepsRecord client start image ⊎ (has_closed_logs image s.frames client ≡ true)
 
 -- A rested device that stands for a world was recovered: at each moment each image stands for it still, and differs from what was read only where
 -- a recovery may write. Without a fault no log is registered

@@ -1,4 +1,4 @@
-use Rattle.std.proofs.Common.{Bool, true, Result, None, refl, sym, subst, ◌∙◌}
+use Rattle.std.proofs.Common.{Bool, true, false, Result, None, refl, sym, subst, ◌∙◌}
 use Rattle.std.proofs.lemmas.Result.{err_from_is_err_and}
 use Rattle.pud_defs.specs.Run.{last_world, open_rest}
 use Rattle.puddled.specs.declared.daemon.RunFault.{RunFault}
@@ -14,6 +14,13 @@ loop-taken-init g c = record {
   serves = λ t size e w ready. rw c.new-piece.ensures (Serves-start size w _ _ _ _ refl ready);
   room = c.requires;
 }
+
+pub returns-in_err-serve_byte-clause-answered : goal.returns-in_err-serve_byte-clause-answered
+returns-in_err-serve_byte-clause-answered g c = λ t size e w ready.
+    let p = err_from_is_err_and c.from_residual.result c.from_residual.ensures.1 in
+    let same = e ∙ sym c.loop-taken.invariant.counts.size in
+    subst (λ (r : Result Bool RunFault). AnsweredBy size w r (g.H.Host.counts c.args.h.now) (g.H.Host.counts c.serve_byte.new.h) (g.H.Host.state c.args.h.now) (g.H.Host.state c.serve_byte.new.h)) (sym p.1)
+    (rw p.2 (false, c.in_err-serve_byte.ensures.answered t size same w _ _ (c.loop-taken.invariant.serves t size e w ready)))
 
 pub returns-in_err-answer-clause-answered : goal.returns-in_err-answer-clause-answered
 returns-in_err-answer-clause-answered g c = λ t size e w ready.

@@ -3,10 +3,18 @@ use Rattle.std.proofs.lemmas.Result.{err_from_is_err_and}
 use Rattle.pm_model.specs.Counts.{Counts}
 use Rattle.pud_defs.specs.declared.machine.Command.TheVariants.{Client}
 use Rattle.pud_defs.specs.declared.machine.Refusal.TheVariants as refusals
+use Rattle.pud_defs.specs.Step.{world_by}
 use Rattle.pud_defs.proofs.Steps.{refused_answer, answer_is_ok}
-use Rattle.puddled.proofs.Applying.{Applies-refused, Applies-accepted}
+use Rattle.puddled.proofs.Applying.{Applies-failed, Applies-refused, Applies-accepted}
 use Rattle.puddled.proofs.Coming.{presence_read, taken, is_new}
+use Rattle.puddled.proofs.Others.{others_absent}
 use Rattle.puddled.proofs.clients.come.Goals as goal
+
+pub returns-in_err-is_registered-clause-applies : goal.returns-in_err-is_registered-clause-applies
+returns-in_err-is_registered-clause-applies g c =
+    let p = err_from_is_err_and c.from_residual.result c.from_residual.ensures.1 in
+    rw (p.1, p.2) (λ t size e w memory frames ready.
+    Applies-failed size w (world_by w (Some (Client c.args.client c.args.uid c.args.gid))) memory c.in_err-is_registered.field-0.0 _ _ ready (c.in_err-is_registered.ensures.stays t) c.in_err-is_registered.ensures.never_cut)
 
 pub returns-then-branch-clause-reply : goal.returns-then-branch-clause-reply
 returns-then-branch-clause-reply g c = λ t size e w memory frames ready.
@@ -26,14 +34,16 @@ pub returns-in_err-admit-clause-applies : goal.returns-in_err-admit-clause-appli
 returns-in_err-admit-clause-applies g c =
     let p = err_from_is_err_and c.from_residual-in_err-admit.result c.from_residual-in_err-admit.ensures.1 in
     rw (p.1, p.2) (λ t size e w memory frames ready.
+    let absent = sym c.if-branch.false ∙ presence_read size w memory _ c.args.client _ c.requires.known ready (c.in_ok-is_registered.ensures.registered t) in
     let after = e ∙ sym (ap (λ (n : Counts). n.size) c.in_ok-is_registered.ensures.cause) in
     Applies-accepted size w memory (Client c.args.client c.args.uid c.args.gid) (Some c.in_err-admit.field-0.0) _ _ _
-    (is_new w c.args.client c.args.uid c.args.gid (sym c.if-branch.false ∙ presence_read size w memory _ c.args.client _ c.requires.known ready (c.in_ok-is_registered.ensures.registered t)))
-    (c.in_ok-is_registered.ensures.stays t) (c.in_err-admit.ensures.applies t size after w memory frames) ready)
+    (is_new w c.args.client c.args.uid c.args.gid absent)
+    (c.in_ok-is_registered.ensures.stays t) (λ ready_b. c.in_err-admit.ensures.applies t size after w memory frames ready_b (others_absent w memory.held ready.mask _ c.args.client ready.held absent)) ready)
 
 pub returns-clause-applies : goal.returns-clause-applies
 returns-clause-applies g c = λ t size e w memory frames ready.
+    let absent = sym c.if-branch.false ∙ presence_read size w memory _ c.args.client _ c.requires.known ready (c.in_ok-is_registered.ensures.registered t) in
     let after = e ∙ sym (ap (λ (n : Counts). n.size) c.in_ok-is_registered.ensures.cause) in
     Applies-accepted size w memory (Client c.args.client c.args.uid c.args.gid) _ _ _ _
-    (is_new w c.args.client c.args.uid c.args.gid (sym c.if-branch.false ∙ presence_read size w memory _ c.args.client _ c.requires.known ready (c.in_ok-is_registered.ensures.registered t)))
-    (c.in_ok-is_registered.ensures.stays t) (c.in_ok-admit.ensures.applies t size after w memory frames) ready
+    (is_new w c.args.client c.args.uid c.args.gid absent)
+    (c.in_ok-is_registered.ensures.stays t) (λ ready_b. c.in_ok-admit.ensures.applies t size after w memory frames ready_b (others_absent w memory.held ready.mask _ c.args.client ready.held absent)) ready

@@ -1,39 +1,35 @@
-use Rattle.std.proofs.Common.{Some, None, refl, sym, ap, ◌∙◌}
+use Rattle.std.proofs.Common.{[], ◌∷◌, refl, sym, ap, ◌∙◌, arith}
 use Rattle.std.proofs.lemmas.Result.{err_from_is_err_and}
-use Rattle.pm_model.specs.Counts.{Counts, fault_of}
-use Rattle.pm_model.specs.Moments.{State}
-use Rattle.pm_model.specs.Masks.{no_mask}
-use Rattle.pm_model.proofs.Masks.{unmasked, IsOff-no_mask}
-use Rattle.pud_defs.specs.declared.layout.TheConstants.{DAEMON_LOG}
-use Rattle.batch.specs.Batches.{ByBatch}
-use Rattle.log_space.specs.Records.{unregistration, Unregisters}
-use Rattle.log_space.specs.Closed.{ByClosing, Closes}
+use Rattle.pm_model.specs.Counts.{Counts}
 use Rattle.pud_defs.specs.World.{closed}
-use Rattle.puddled.proofs.Coming.{Applies-unclosed, Applies-dismissed, ClosesFirst-closing, ClosesFirst-freed}
+use Rattle.puddled.proofs.Coming.{gates_apart, record_apart, gate_closed, Applies-undismissed, Applies-dismissed, ClosesBefore-closing, ClosesBefore-freed}
 use Rattle.puddled.proofs.clients.dismiss.Goals as goal
 
 pub returns-in_err-close_logs-clause-applies : goal.returns-in_err-close_logs-clause-applies
 returns-in_err-close_logs-clause-applies g c =
     let p = err_from_is_err_and c.from_residual.result c.from_residual.ensures.1 in
-    rw (p.1, p.2) (λ t size e w memory frames ready.
-    Applies-unclosed size w memory c.args.client c.requires.known _ c.in_err-close_logs.field-0.0 _ _ (unmasked (λ (x y : State). Closes size (closed w) c.args.client (Some c.in_err-close_logs.field-0.0) x y) _ _ (c.in_err-close_logs.ensures.closes t size e (closed w) (sym frames ∙ ready.frames) no_mask (IsOff-no_mask (ByClosing c.args.frames c.args.client)) ready.settled)))
+    rw (p.1, p.2) (λ t size e w memory frames ready others.
+    let is = sym frames ∙ ready.frames in
+    Applies-undismissed size w memory c.args.client c.requires.known others _ ready c.args.frames c.in_err-close_logs.field-0.0 _ is (c.in_err-close_logs.ensures.gates t)
+    (c.in_err-close_logs.ensures.closes t size e (closed w) is ready.mask (gates_apart size w memory c.args.client c.requires.known others _ ready c.args.frames is) ready.settled))
 
 pub returns-clause-applies : goal.returns-clause-applies
-returns-clause-applies g c = λ t size e w memory frames ready.
-    let closes = unmasked (λ (x y : State). Closes size (closed w) c.args.client None x y) (g.H.Host.state c.args.h.now) (g.H.Host.state c.close_logs.new.h)
-    (c.in_ok-close_logs.ensures.closes t size e (closed w) (sym frames ∙ ready.frames) no_mask (IsOff-no_mask (ByClosing c.args.frames c.args.client)) ready.settled) in
+returns-clause-applies g c = λ t size e w memory frames ready others.
+    let is = sym frames ∙ ready.frames in
+    let gates = c.in_ok-close_logs.ensures.gates t in
+    let closes = c.in_ok-close_logs.ensures.closes t size e (closed w) is ready.mask (gates_apart size w memory c.args.client c.requires.known others _ ready c.args.frames is) ready.settled in
     let then = e ∙ sym (ap (λ (n : Counts). n.size) c.in_ok-close_logs.ensures.cause) in
-    Applies-dismissed size w memory c.args.client c.requires.known _ _ _ _ ready closes (unmasked (λ (x y : State). Unregisters size (closed w) c.args.client (fault_of c.unregister.result) x y) (g.H.Host.state c.close_logs.new.h) (g.H.Host.state c.unregister.new.h)
-    (c.unregister.ensures.unregisters t size then (closed w) no_mask (IsOff-no_mask (ByBatch DAEMON_LOG (unregistration c.args.client))) (closes.settled refl)))
+    Applies-dismissed size w memory c.args.client c.requires.known others _ ready c.args.frames _ _ _ is gates closes
+    (c.unregister.ensures.commits t (gate_closed size w memory c.args.frames c.args.client _ _ ready gates))
+    (c.unregister.ensures.unregisters t size then (closed w) ready.mask
+    (record_apart size w memory c.args.client c.requires.known others _ ready (0 ∷ []) (omega arith)) (closes.settled refl))
 
 pub returns-in_err-close_logs-clause-closes_first : goal.returns-in_err-close_logs-clause-closes_first
 returns-in_err-close_logs-clause-closes_first g c = λ t size e w memory frames ready present.
-    ClosesFirst-closing size w memory c.args.client c.requires.known present _ _ _ ready (unmasked (λ (x y : State). Closes size (closed w) c.args.client (Some c.in_err-close_logs.field-0.0) x y) _ _ (c.in_err-close_logs.ensures.closes t size e (closed w) (sym frames ∙ ready.frames) no_mask (IsOff-no_mask (ByClosing c.args.frames c.args.client)) ready.settled))
+    ClosesBefore-closing size w memory c.args.client c.requires.known present c.args.frames _ _ _ (sym frames ∙ ready.frames) ready (c.in_err-close_logs.ensures.gates t)
 
 pub returns-clause-closes_first : goal.returns-clause-closes_first
 returns-clause-closes_first g c = λ t size e w memory frames ready present.
-    let closes = unmasked (λ (x y : State). Closes size (closed w) c.args.client None x y) (g.H.Host.state c.args.h.now) (g.H.Host.state c.close_logs.new.h)
-    (c.in_ok-close_logs.ensures.closes t size e (closed w) (sym frames ∙ ready.frames) no_mask (IsOff-no_mask (ByClosing c.args.frames c.args.client)) ready.settled) in
-    let then = e ∙ sym (ap (λ (n : Counts). n.size) c.in_ok-close_logs.ensures.cause) in
-    ClosesFirst-freed size w memory c.args.client c.requires.known present _ _ _ _ ready closes (unmasked (λ (x y : State). Unregisters size (closed w) c.args.client (fault_of c.unregister.result) x y) (g.H.Host.state c.close_logs.new.h) (g.H.Host.state c.unregister.new.h)
-    (c.unregister.ensures.unregisters t size then (closed w) no_mask (IsOff-no_mask (ByBatch DAEMON_LOG (unregistration c.args.client))) (closes.settled refl))).table
+    let gates = c.in_ok-close_logs.ensures.gates t in
+    ClosesBefore-freed size w memory c.args.client c.requires.known present c.args.frames _ _ _ _ (sym frames ∙ ready.frames) ready gates
+    (c.unregister.ensures.commits t (gate_closed size w memory c.args.frames c.args.client _ _ ready gates))

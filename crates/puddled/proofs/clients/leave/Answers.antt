@@ -3,17 +3,24 @@ use Rattle.std.proofs.lemmas.Result.{err_from_is_err_and}
 use Rattle.pm_model.specs.Counts.{Counts}
 use Rattle.pud_defs.specs.declared.machine.Command.TheVariants.{Leave}
 use Rattle.pud_defs.specs.declared.machine.Refusal.TheVariants as refusals
+use Rattle.pud_defs.specs.Step.{world_by}
 use Rattle.pud_defs.proofs.Steps.{refused_answer, answer_is_ok}
-use Rattle.puddled.proofs.Applying.{Applies-refused, Applies-accepted}
-use Rattle.puddled.proofs.Coming.{presence_read, is_absent, is_there, ClosesFirst-idle, ClosesFirst-behind}
+use Rattle.puddled.proofs.Applying.{Applies-failed, Applies-refused, Applies-accepted}
+use Rattle.puddled.proofs.Coming.{presence_read, is_absent, is_there, ClosesBefore-idle, ClosesBefore-behind}
 use Rattle.puddled.proofs.clients.leave.Goals as goal
+
+pub returns-in_err-is_registered-clause-applies : goal.returns-in_err-is_registered-clause-applies
+returns-in_err-is_registered-clause-applies g c =
+    let p = err_from_is_err_and c.from_residual.result c.from_residual.ensures.1 in
+    rw (p.1, p.2) (λ t size e w memory frames ready others.
+    Applies-failed size w (world_by w (Some (Leave c.args.client))) memory c.in_err-is_registered.field-0.0 _ _ ready (c.in_err-is_registered.ensures.stays t) c.in_err-is_registered.ensures.never_cut)
 
 pub returns-then-not-branch-clause-reply : goal.returns-then-not-branch-clause-reply
 returns-then-not-branch-clause-reply g c = λ t size e w memory frames ready.
     sym (refused_answer w (Leave c.args.client) refusals.Client (is_absent w c.args.client 0 0 (sym c.if-not-branch.true ∙ presence_read size w memory _ c.args.client _ c.requires.known ready (c.in_ok-is_registered.ensures.registered t))))
 
 pub returns-then-not-branch-clause-applies : goal.returns-then-not-branch-clause-applies
-returns-then-not-branch-clause-applies g c = λ t size e w memory frames ready.
+returns-then-not-branch-clause-applies g c = λ t size e w memory frames ready others.
     Applies-refused size w memory (Leave c.args.client) refusals.Client _ _ ready
     (is_absent w c.args.client 0 0 (sym c.if-not-branch.true ∙ presence_read size w memory _ c.args.client _ c.requires.known ready (c.in_ok-is_registered.ensures.registered t)))
     (c.in_ok-is_registered.ensures.stays t)
@@ -25,22 +32,22 @@ returns-clause-reply g c = λ t size e w memory frames ready.
 pub returns-in_err-dismiss-clause-applies : goal.returns-in_err-dismiss-clause-applies
 returns-in_err-dismiss-clause-applies g c =
     let p = err_from_is_err_and c.from_residual-in_err-dismiss.result c.from_residual-in_err-dismiss.ensures.1 in
-    rw (p.1, p.2) (λ t size e w memory frames ready.
+    rw (p.1, p.2) (λ t size e w memory frames ready others.
     let after = e ∙ sym (ap (λ (n : Counts). n.size) c.in_ok-is_registered.ensures.cause) in
     Applies-accepted size w memory (Leave c.args.client) (Some c.in_err-dismiss.field-0.0) _ _ _
     (is_there w c.args.client 0 0 (sym c.if-not-branch.false ∙ presence_read size w memory _ c.args.client _ c.requires.known ready (c.in_ok-is_registered.ensures.registered t)))
-    (c.in_ok-is_registered.ensures.stays t) (c.in_err-dismiss.ensures.applies t size after w memory frames) ready)
+    (c.in_ok-is_registered.ensures.stays t) (λ ready_b. c.in_err-dismiss.ensures.applies t size after w memory frames ready_b others) ready)
 
 pub returns-clause-applies : goal.returns-clause-applies
-returns-clause-applies g c = λ t size e w memory frames ready.
+returns-clause-applies g c = λ t size e w memory frames ready others.
     let after = e ∙ sym (ap (λ (n : Counts). n.size) c.in_ok-is_registered.ensures.cause) in
     Applies-accepted size w memory (Leave c.args.client) _ _ _ _
     (is_there w c.args.client 0 0 (sym c.if-not-branch.false ∙ presence_read size w memory _ c.args.client _ c.requires.known ready (c.in_ok-is_registered.ensures.registered t)))
-    (c.in_ok-is_registered.ensures.stays t) (c.in_ok-dismiss.ensures.applies t size after w memory frames) ready
+    (c.in_ok-is_registered.ensures.stays t) (λ ready_b. c.in_ok-dismiss.ensures.applies t size after w memory frames ready_b others) ready
 
 pub returns-in_err-is_registered-clause-closes_first : goal.returns-in_err-is_registered-clause-closes_first
 returns-in_err-is_registered-clause-closes_first g c = λ t size e w memory frames ready present.
-    ClosesFirst-idle size w memory c.args.client c.requires.known present _ _ ready (c.in_err-is_registered.ensures.stays t)
+    ClosesBefore-idle size w memory c.args.client c.requires.known present _ _ ready (c.in_err-is_registered.ensures.stays t)
 
 pub returns-then-not-branch-clause-closes_first : goal.returns-then-not-branch-clause-closes_first
 returns-then-not-branch-clause-closes_first g c = λ t size e w memory frames ready present.
@@ -49,9 +56,9 @@ returns-then-not-branch-clause-closes_first g c = λ t size e w memory frames re
 pub returns-in_err-dismiss-clause-closes_first : goal.returns-in_err-dismiss-clause-closes_first
 returns-in_err-dismiss-clause-closes_first g c = λ t size e w memory frames ready present.
     let after = e ∙ sym (ap (λ (n : Counts). n.size) c.in_ok-is_registered.ensures.cause) in
-    ClosesFirst-behind size w memory c.args.client c.requires.known present _ _ _ ready (c.in_ok-is_registered.ensures.stays t) (λ ready_b. c.in_err-dismiss.ensures.closes_first t size after w memory frames ready_b present)
+    ClosesBefore-behind size w memory c.args.client c.requires.known present _ _ _ ready (c.in_ok-is_registered.ensures.stays t) (λ ready_b. c.in_err-dismiss.ensures.closes_first t size after w memory frames ready_b present)
 
 pub returns-clause-closes_first : goal.returns-clause-closes_first
 returns-clause-closes_first g c = λ t size e w memory frames ready present.
     let after = e ∙ sym (ap (λ (n : Counts). n.size) c.in_ok-is_registered.ensures.cause) in
-    ClosesFirst-behind size w memory c.args.client c.requires.known present _ _ _ ready (c.in_ok-is_registered.ensures.stays t) (λ ready_b. c.in_ok-dismiss.ensures.closes_first t size after w memory frames ready_b present)
+    ClosesBefore-behind size w memory c.args.client c.requires.known present _ _ _ ready (c.in_ok-is_registered.ensures.stays t) (λ ready_b. c.in_ok-dismiss.ensures.closes_first t size after w memory frames ready_b present)

@@ -1,12 +1,16 @@
-use Rattle.std.proofs.Common.{◌≡◌, ℕ, Some, Ok, refl, sym, ap, subst, ◌∙◌}
+use Rattle.std.proofs.Common.{◌≡◌, ℕ, Option, Some, Ok, refl, sym, ap, subst, ◌∙◌}
 use Rattle.pud_defs.specs.declared.machine.Command.{Command}
 use Rattle.pud_defs.specs.declared.machine.Command.TheVariants.{Client, Leave, Define, Chmod, Pools, Get, Cut, Arm}
 use Rattle.pud_defs.specs.declared.machine.Command.TheVariants as commands
 use Rattle.pud_defs.specs.Grammar.{IsLegalCommand}
-use Rattle.puddled.specs.Memory.{Memory}
+use Rattle.puddled.specs.Memory.{Held, Memory}
+use Rattle.puddled.specs.Held.{IsOthers}
 use Rattle.puddled.specs.declared.answers.Answered.TheVariants as answers
+use Rattle.puddled.specs.Owning.{holder_of}
+use Rattle.puddled.specs.Reading.{puddles_held}
 use Rattle.puddled.specs.Daemon.{CarriesOut}
 use Rattle.puddled.proofs.Carrying.{keeps_still, ClosesLogs-leave, ClosesLogs-other, CarriesOut-plain, CarriesOut-as, CarriesOut-listed, CarriesOut-lost, CarriesOut-armed}
+use Rattle.puddled.proofs.Others.{others_none}
 use Rattle.puddled.proofs.Readable.{Applies-get}
 use Rattle.puddled.proofs.daemon.apply.Goals as goal
 
@@ -22,8 +26,9 @@ pub returns-in-Leave-clause-carries : goal.returns-in-Leave-clause-carries
 returns-in-Leave-clause-carries g c = λ t size e w ready.
     let is : c.args.command ≡ Leave c.from-in-Leave.result = c.in-Leave.is ∙ ap Leave (sym c.from-in-Leave.ensures) in
     let frames = sym (ap (λ (m : Memory). m.frames) c.daemon.view_is) in
+    let others = subst (λ (o : Option Held). IsOthers c.from-in-Leave.result o) (ap (λ (m : Memory). m.held) c.daemon.view_is) (others_none c.from-in-Leave.result) in
     CarriesOut-as size w c.args.daemon.now _ _ _ _ c.args.command (Leave c.from-in-Leave.result) c.with_reply-in-Leave.result c.leave.result is c.with_reply-in-Leave.ensures
-    (CarriesOut-plain size w c.args.daemon.now _ _ _ _ (Leave c.from-in-Leave.result) c.leave.result refl refl (c.leave.ensures.reply t size e w _ frames ready) (c.leave.ensures.applies t size e w _ frames ready)
+    (CarriesOut-plain size w c.args.daemon.now _ _ _ _ (Leave c.from-in-Leave.result) c.leave.result refl refl (c.leave.ensures.reply t size e w _ frames ready) (c.leave.ensures.applies t size e w _ frames ready others)
     (ClosesLogs-leave w _ _ _ (c.leave.ensures.closes_first t size e w _ frames ready)) (c.leave.ensures.rest t) c.leave.ensures.cause)
 
 pub returns-in-Define-clause-carries : goal.returns-in-Define-clause-carries
@@ -49,16 +54,18 @@ returns-in-Chmod-clause-carries g c = λ t size e w ready.
     let is : c.args.command ≡ Chmod c.from-in-Chmod.result c.in-Chmod.name c.in-Chmod.mode = c.in-Chmod.is ∙ ap (λ (k : ℕ). Chmod k c.in-Chmod.name c.in-Chmod.mode) (sym c.from-in-Chmod.ensures) in
     let frames = sym (ap (λ (m : Memory). m.frames) c.daemon.view_is) in
     let legal = subst IsLegalCommand is c.requires.legal in
+    let holder = sym (ap (λ (m : Memory). holder_of m.held) c.daemon.view_is) in
     CarriesOut-as size w c.args.daemon.now _ _ _ _ c.args.command (Chmod c.from-in-Chmod.result c.in-Chmod.name c.in-Chmod.mode) c.with_reply-in-Chmod.result c.change.result is c.with_reply-in-Chmod.ensures
-    (CarriesOut-plain size w c.args.daemon.now _ _ _ _ (Chmod c.from-in-Chmod.result c.in-Chmod.name c.in-Chmod.mode) c.change.result refl refl (c.change.ensures.reply t size w _ ready) (c.change.ensures.applies t size e w _ ready legal)
+    (CarriesOut-plain size w c.args.daemon.now _ _ _ _ (Chmod c.from-in-Chmod.result c.in-Chmod.name c.in-Chmod.mode) c.change.result refl refl (c.change.ensures.reply t size w _ holder ready) (c.change.ensures.applies t size e w _ holder ready legal)
     (ClosesLogs-other w _ _ _ (λ client no. cc)) (c.change.ensures.rest t) c.change.ensures.cause)
 
 pub returns-in-Drop-clause-carries : goal.returns-in-Drop-clause-carries
 returns-in-Drop-clause-carries g c = λ t size e w ready.
     let is : c.args.command ≡ commands.Drop c.from-in-Drop.result c.in-Drop.name = c.in-Drop.is ∙ ap (λ (k : ℕ). commands.Drop k c.in-Drop.name) (sym c.from-in-Drop.ensures) in
     let frames = sym (ap (λ (m : Memory). m.frames) c.daemon.view_is) in
+    let holder = sym (ap (λ (m : Memory). holder_of m.held) c.daemon.view_is) in
     CarriesOut-as size w c.args.daemon.now _ _ _ _ c.args.command (commands.Drop c.from-in-Drop.result c.in-Drop.name) c.with_reply-in-Drop.result c.drop_owned.result is c.with_reply-in-Drop.ensures
-    (CarriesOut-plain size w c.args.daemon.now _ _ _ _ (commands.Drop c.from-in-Drop.result c.in-Drop.name) c.drop_owned.result refl refl (c.drop_owned.ensures.reply t size w _ ready) (c.drop_owned.ensures.applies t size e w _ frames ready)
+    (CarriesOut-plain size w c.args.daemon.now _ _ _ _ (commands.Drop c.from-in-Drop.result c.in-Drop.name) c.drop_owned.result refl refl (c.drop_owned.ensures.reply t size w _ holder ready) (c.drop_owned.ensures.applies t size e w _ frames holder ready)
     (ClosesLogs-other w _ _ _ (λ client no. cc)) (c.drop_owned.ensures.rest t) c.drop_owned.ensures.cause)
 
 pub returns-in-Get-clause-carries : goal.returns-in-Get-clause-carries
@@ -66,9 +73,11 @@ returns-in-Get-clause-carries g c = λ t size e w ready.
     let get = Get c.from-in-Get.result c.in-Get.name c.in-Get.s c.in-Get.f in
     let is : c.args.command ≡ get = c.in-Get.is ∙ ap (λ (k : ℕ). Get k c.in-Get.name c.in-Get.s c.in-Get.f) (sym c.from-in-Get.ensures) in
     let frames = sym (ap (λ (m : Memory). m.frames) c.daemon.view_is) in
+    let held = sym (ap (λ (m : Memory). holder_of m.held) c.daemon.view_is) in
+    let at = sym (ap (λ (m : Memory). puddles_held m.held) c.daemon.view_is) in
     CarriesOut-as size w c.args.daemon.now _ _ _ _ c.args.command get c.with_reply-in-Get.result c.get.result is c.with_reply-in-Get.ensures
-    (CarriesOut-plain size w c.args.daemon.now _ _ _ _ get c.get.result refl refl (c.get.ensures.reply t size w _ frames ready)
-    (Applies-get w c.from-in-Get.result c.in-Get.name c.in-Get.s c.in-Get.f ready.nothing size c.args.daemon.now _ _ _ ready (c.get.ensures.stays t) c.get.ensures.never_cut)
+    (CarriesOut-plain size w c.args.daemon.now _ _ _ _ get c.get.result refl refl (c.get.ensures.reply t size w _ frames held at ready)
+    (Applies-get w c.from-in-Get.result c.in-Get.name c.in-Get.s c.in-Get.f size c.args.daemon.now _ _ _ ready (c.get.ensures.stays t) c.get.ensures.never_cut)
     (ClosesLogs-other w _ _ _ (λ client no. cc)) (keeps_still _ _ (c.get.ensures.stays t)) c.get.ensures.cause)
 
 pub returns-in-Pools-clause-carries : goal.returns-in-Pools-clause-carries

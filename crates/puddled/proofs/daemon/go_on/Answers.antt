@@ -5,8 +5,7 @@ use Rattle.pm_model.specs.declared.host.HostFault.TheVariants as hosts
 use Rattle.pm_model.specs.Words.{reads}
 use Rattle.pm_model.specs.Counts.{fault_of}
 use Rattle.puddled.specs.declared.answers.Answered.{Answered}
-use Rattle.pud_defs.specs.World.{world_of, closed}
-use Rattle.pud_defs.proofs.Idle.{world_of_idle}
+use Rattle.pud_defs.specs.World.{world_of}
 use Rattle.pud_defs.specs.Grammar.{command_of}
 use Rattle.puddled.specs.Memory.{Memory}
 use Rattle.puddled.specs.Daemon.{CarriesOut}
@@ -28,7 +27,7 @@ returns-in_err-daemon-in-Err-Cut-clause-settles g c = λ t size e w line counted
     (λ unsound.
     let none = (c.in_err-daemon-in-Err-Cut.ensures.not_sound t (ap (λ (f : StartFault). start_fault {T = Memory} (Err f)) unsound)).0 (ap Err unsound) in
     restart_sound size w _ line _ _ before mid k shelf (ap (λ (n : ℕ). world_of n (reads mid.now.words)) e ∙ none))
-    (c.in_err-daemon-in-Err-Cut.ensures.recovers t size e next (k.applies.rests refl) (world_of_idle size (reads mid.now.words) (closed next) (found_stands size w _ line _ _ before mid k shelf)) (found_shelf size w _ line _ _ before mid k shelf))
+    (c.in_err-daemon-in-Err-Cut.ensures.recovers t size e next (k.applies.rests refl) (found_stands size w _ line _ _ before mid k shelf) (found_shelf size w _ line _ _ before mid k shelf))
     c.in_err-daemon-in-Err-Cut.ensures.cause)
 
 pub returns-in_err-daemon-in-Err-Cut-clause-cause : goal.returns-in_err-daemon-in-Err-Cut-clause-cause
@@ -70,7 +69,7 @@ returns-in_ok-daemon-in-Err-Cut-clause-settles g c = λ t size e w line counted 
     let k = subst (λ (r : Result Answered HostFault). CarriesOut size w c.args.daemon.now (command_of line) r counted (g.H.Host.counts c.args.h.now) before mid) is carries in
     let next = found_world size w _ line _ _ before mid k shelf in
     rw c.reply_behind_loss.ensures (Settles-again size w _ line _ _ before mid k shelf _ _ _ (kind_of (Some c.args.command)) (ap kind_of of_line)
-    (c.in_ok-daemon-in-Err-Cut.ensures.recovers t size e next (k.applies.rests refl) (world_of_idle size (reads mid.now.words) (closed next) (found_stands size w _ line _ _ before mid k shelf)) (found_shelf size w _ line _ _ before mid k shelf))
+    (c.in_ok-daemon-in-Err-Cut.ensures.recovers t size e next (k.applies.rests refl) (found_stands size w _ line _ _ before mid k shelf) (found_shelf size w _ line _ _ before mid k shelf))
     c.in_ok-daemon-in-Err-Cut.ensures.cause)
 
 pub returns-in_ok-daemon-in-Err-Cut-clause-cause : goal.returns-in_ok-daemon-in-Err-Cut-clause-cause

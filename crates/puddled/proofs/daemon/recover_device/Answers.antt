@@ -18,7 +18,7 @@ returns-in_err-report-clause-recovers g c =
 
 pub returns-clause-recovers : goal.returns-clause-recovers
 returns-clause-recovers g c = λ t size same w rested world shelf.
-    Recovers-done size w (g.H.Host.state c.args.h.now) (g.H.Host.state c.recover.new.h) _ world (c.in_ok-report.ensures.frames t) shelf (c.in_ok-report.ensures.recovers t size same (closed w) rested world)
+    Recovers-done size w (g.H.Host.state c.args.h.now) (g.H.Host.state c.recover.new.h) _ world (c.in_ok-report.ensures.frames t) refl shelf (c.in_ok-report.ensures.recovers t size same (closed w) rested world)
 
 pub returns-in_err-report-clause-quiet : goal.returns-in_err-report-clause-quiet
 returns-in_err-report-clause-quiet g c = λ t. Changes-said _ _ _ _ (c.in_err-report.ensures.any t)

@@ -1,22 +1,23 @@
-use Rattle.std.proofs.Common.{◌+◌, Result, refl, sym, ap, ◌∙◌}
-use Rattle.pm_model.specs.declared.host.HostFault.{HostFault}
+use Rattle.std.proofs.Common.{◌+◌, Some, refl, sym, ap, ◌∙◌}
+use Rattle.std.proofs.lemmas.Result.{err_from_is_err_and}
 use Rattle.pm_model.specs.Counts.{Counts, fault_of}
 use Rattle.pm_model.specs.Words.{reads}
 use Rattle.pm_model.specs.Moments.{State}
-use Rattle.pm_model.specs.Masks.{no_mask}
-use Rattle.pm_model.proofs.Masks.{unmasked, IsOff-no_mask}
-use Rattle.pud_defs.specs.Spaces.{owner}
 use Rattle.pud_defs.specs.Tables.{tables_of}
-use Rattle.pud_defs.specs.PoolChanges.{with_new_pool}
-use Rattle.registry.specs.Places.{make_fault}
-use Rattle.registry.specs.Pools.{HasFreshFrame, ChangesPools}
+use Rattle.pud_defs.specs.Step.{world_by}
+use Rattle.registry.specs.Pools.{HasFreshFrame}
 use Rattle.pud_defs.specs.declared.machine.Command.TheVariants as commands
 use Rattle.pud_defs.specs.declared.machine.Refusal.TheVariants as refusals
-use Rattle.pud_defs.specs.declared.machine.Reply.{Reply}
 use Rattle.pud_defs.proofs.Steps.{refused_answer}
-use Rattle.puddled.proofs.Applying.{Applies-refused}
-use Rattle.puddled.proofs.Pooling.{acting, absent, refused_pool_client, reply_making, Applies-making, fault_of_making}
+use Rattle.puddled.proofs.Applying.{Applies-failed, Applies-refused}
+use Rattle.puddled.proofs.Pooling.{acting, absent, refused_pool_client, Applies-behind, reply_making, Applies-making}
 use Rattle.puddled.proofs.pools.make.Goals as goal
+
+pub returns-in_err-who-clause-applies : goal.returns-in_err-who-clause-applies
+returns-in_err-who-clause-applies g c =
+    let p = err_from_is_err_and c.from_residual.result c.from_residual.ensures.1 in
+    rw (p.1, p.2) (λ t size e w memory frames ready legal.
+    Applies-failed size w (world_by w (Some (commands.Pool c.args.client c.args.name c.args.mode))) memory c.in_err-who.field-0.0 _ _ ready (c.in_err-who.ensures.stays t) c.in_err-who.ensures.never_cut)
 
 pub returns-in_default-clause-reply : goal.returns-in_default-clause-reply
 returns-in_default-clause-reply g c = λ t size e w memory frames ready.
@@ -32,20 +33,22 @@ pub returns-clause-reply : goal.returns-clause-reply
 returns-clause-reply g c = λ t size e w memory frames ready.
     let who = acting size w memory _ ready c.args.client c.in-Some.who c.requires.known (sym c.in-Some.is ∙ c.in_ok-who.ensures.owner t _ refl) in
     let read = ap (λ (s : State). reads s.now.words) (c.owner.ensures.stays t) in
-    reply_making size w memory c.args.client c.in-Some.who.uid c.in-Some.who.gid c.args.mode c.args.frames c.args.name c.make_pool.result c.reply_of.result _ _ (g.H.Host.state c.make_pool.new.h) ready who (sym frames ∙ ready.frames) (c.owner.ensures.stays t) c.reply_of.ensures
+    reply_making size w memory c.args.client c.in-Some.who.uid c.in-Some.who.gid c.args.mode c.args.frames c.args.name c.make_pool.result c.reply_of.result _ (g.H.Host.state c.make_pool.new.h) ready who (sym frames ∙ ready.frames) c.reply_of.ensures
     (c.make_pool.ensures.refusal t _ read)
 
 pub returns-clause-applies : goal.returns-clause-applies
 returns-clause-applies g c = λ t size e w memory frames ready legal.
     let who = acting size w memory _ ready c.args.client c.in-Some.who c.requires.known (sym c.in-Some.is ∙ c.in_ok-who.ensures.owner t _ refl) in
-    let read = ap (λ (s : State). reads s.now.words) (c.owner.ensures.stays t) in
     let then = e ∙ sym (ap (λ (n : Counts). n.size) c.in_ok-who.ensures.cause) in
     let same = sym frames ∙ ready.frames in
-    Applies-making size w memory c.args.client c.in-Some.who.uid c.in-Some.who.gid c.args.mode c.args.frames c.args.name c.make_pool.result c.reply_of.result _ _ (g.H.Host.state c.make_pool.new.h) ready who same (c.owner.ensures.stays t) c.reply_of.ensures _
-    (λ tables settled none. unmasked
-    (λ (x y : State). ChangesPools size w.stored (with_new_pool c.args.name (owner c.in-Some.who.uid c.in-Some.who.gid) c.args.mode w.stored) (HasFreshFrame (tables_of c.args.frames (reads (g.H.Host.state c.args.h.now).now.words)) (w.stored.next_number + 1))
-    (make_fault c.make_pool.result) x y) (g.H.Host.state c.owner.new.h) (g.H.Host.state c.make_pool.new.h)
-    (c.make_pool.ensures.makes t size then w.stored same _ read no_mask (record { tables = refl; number = refl }) (record { frame = λ p is. IsOff-no_mask _; records = λ p is. IsOff-no_mask _ }) settled tables
-    (record { is_name = legal.1; has_legal_name = legal.2; has_legal_mode = legal.3; uid_fits = who.uid_fits; gid_fits = who.gid_fits }) none))
-    (c.make_pool.ensures.unchanged t _ read)
-    (λ cut. (c.make_pool.ensures.any t).rests (sym (fault_of_making c.make_pool.result) ∙ sym (ap (λ (r : Result Reply HostFault). fault_of r) c.reply_of.ensures) ∙ cut))
+    let b = g.H.Host.state c.owner.new.h in
+    let d = g.H.Host.state c.make_pool.new.h in
+    Applies-behind size w (world_by w (Some (commands.Pool c.args.client c.args.name c.args.mode))) memory (fault_of c.reply_of.result) (g.H.Host.state c.args.h.now) b d (c.owner.ensures.stays t)
+    (λ ready_then.
+    Applies-making size w memory c.args.client c.in-Some.who.uid c.in-Some.who.gid c.args.mode c.args.frames c.args.name c.make_pool.result c.reply_of.result b d ready_then who same c.reply_of.ensures
+    (λ n. HasFreshFrame (tables_of n (reads b.now.words)) (w.stored.next_number + 1))
+    (λ keeps off settled tables none. c.make_pool.ensures.makes t size then w.stored same _ refl ready_then.mask keeps off settled tables
+    (record { is_name = legal.1; has_legal_name = legal.2; has_legal_mode = legal.3; uid_fits = who.uid_fits; gid_fits = who.gid_fits }) none)
+    (λ idle none. c.make_pool.ensures.commits t size then _ refl idle none)
+    (c.make_pool.ensures.unchanged t _ refl)
+    (c.make_pool.ensures.any t).rests) ready
