@@ -12,7 +12,10 @@ pub mod PoolPlaces
 pub mod OwnEntries
 pub mod Rights
 pub mod OpenSettled
-pub mod OpenImages
 pub mod OpenPools
+pub mod ManyMasks
+pub mod OpenImages
+pub mod OpenAlone
 pub mod OpenWorlds
 pub mod OpenIdle
+pub mod ManyIdle

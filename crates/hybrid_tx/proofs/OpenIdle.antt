@@ -1,6 +1,7 @@
 -- Where the log of a transaction is closed and its frames are as they were at the beginning, an image and the masked one stand for the same world.
 use Rattle.std.proofs.Common.{◌≡◌, inl, inr, ℕ, ◌+◌, ◌*◌, ◌<◌, ◌≤◌, true, false, ◌||◌, eqb, leb, Some, None, sym, ap, subst, ◌∙◌, arith}
-use Rattle.std.proofs.lemmas.Bool.{cases_Bool, cases_eq, or_cases, or_left, or_right, and_from, le-leb, lt-ltb}
+use Rattle.std.proofs.lemmas.Bool.{cases_eq, or_cases, or_left, or_right, and_from, le-leb, lt-ltb}
+use Rattle.pm_model.specs.Changes.{Write}
 use Rattle.pm_model.specs.Masks.{masked_image}
 use Rattle.pud_defs.specs.declared.layout.TheConstants.{DAEMON_LOG, POOL_TABLE, CLIENTS, CLIENT_LOGS}
 use Rattle.pud_defs.specs.declared.log_words.TheConstants.{CLOSED_GATE}
@@ -12,25 +13,27 @@ use Rattle.pud_defs.specs.Replay.{device_word, new_value, IsInLog, is_in_log, se
 use Rattle.pud_defs.specs.Settled.{ALL_LOGS, client_of_log, log_number_at}
 use Rattle.pud_defs.specs.SoundTables.{HasSoundTables}
 use Rattle.pud_defs.specs.Spaces.{space_record_at, is_closed_log, has_closed_logs, are_closed_logs}
-use Rattle.pud_defs.specs.Stored.{IsOnDevice}
 use Rattle.pud_defs.specs.Tables.{Tables, tables_of, puddles_in_turn}
 use Rattle.pud_defs.specs.World.{StoredWorld, idle_world_of}
 use Rattle.pud_defs.proofs.IdleWorlds.{standing_logs, standing_of_idle_world, idle_world_of_standing, legal_log_of_idle_world}
 use Rattle.pud_defs.proofs.LogsBeside.{agree_tables}
 use Rattle.pud_defs.proofs.Parts.{StandsFor}
 use Rattle.pud_defs.proofs.Parts.Part.{Spaces}
-use Rattle.pud_defs.proofs.Replay.{overwritten-there, new_value-closed, empty_range_of, settled_by-idle, outside_log}
+use Rattle.pud_defs.proofs.Replay.{new_value-closed, empty_range_of, settled_by-idle, outside_log}
 use Rattle.pud_defs.proofs.Spaces.{all_below-from, all_below-each, is_closed_log-same, owner_of-same}
 use Rattle.pud_defs.proofs.TablesOf.{tables_of-same}
 use Rattle.word_transaction.specs.Running.{HasPlaces}
 use Rattle.pud_defs.proofs.ClosedLogs.{closed_by_gate}
 use Rattle.hybrid_tx.specs.Grounds.{pool_mine, pool_ground}
 use Rattle.hybrid_tx.specs.Masks.{OpenPool, is_open_record, open_mask, IsOpenPool}
-use Rattle.hybrid_tx.proofs.OpenMasks.{mask_of_mine, mask_of_log, mask_of_gate}
-use Rattle.hybrid_tx.proofs.OpenSettled.{IsLikeMasked, other_log_apart}
-use Rattle.hybrid_tx.proofs.OpenImages.{masked_word_stays, masked_settles, same_legal, like_masked}
+use Rattle.hybrid_tx.specs.ManyOpen.{OpenTransaction, Opens, AreOpenPools, HasRecords}
+use Rattle.hybrid_tx.proofs.OpenMasks.{mask_of_log, mask_of_gate, mask_cases, mask_below}
+use Rattle.hybrid_tx.proofs.OpenSettled.{other_log_apart}
+use Rattle.hybrid_tx.proofs.OpenImages.{masked_word_stays, masked_word, masked_same, same_legal}
 use Rattle.hybrid_tx.proofs.OpenPools.{open_on_device, open_places}
-use Rattle.hybrid_tx.proofs.OpenWorlds.{sound_with_open}
+use Rattle.hybrid_tx.proofs.OpenWorlds.{sound_with_masked}
+use Rattle.hybrid_tx.proofs.OpenAlone.{alone, are_alone, masks_alone, records_alone}
+use Rattle.hybrid_tx.proofs.ManyMasks.{MasksAll}
 
 -- ---- images that differ in one log, which is closed
 
@@ -70,14 +73,23 @@ is_in at k inside = and_from (leb at k) _ (le-leb _ _ inside.low) (lt-ltb _ _ in
 pub unnamed_idle : (j : Image) (k : ℕ) → is_idle_gate (j DAEMON_LOG) ≡ true → new_value device_word (log_of j DAEMON_LOG) k ≡ None
 unnamed_idle j k idle = new_value-closed device_word (log_of j DAEMON_LOG) k (empty_range_of (j DAEMON_LOG) idle)
 
--- so the tables of an image that is left are sound, and the transaction's places are theirs
+-- so the tables of an image that is left are sound, and each transaction's places are theirs
+module _ (size F : ℕ) (s : StoredWorld) (opens : Opens) (mask : Write) (j : Image) (frames : F ≡ s.frames) (are : AreOpenPools F opens) (all : MasksAll F opens mask)
+    (idle : is_idle_gate (j DAEMON_LOG) ≡ true) (records : HasRecords opens j) (world : idle_world_of size (masked_image mask j) ≡ Some s) where
+  pub sound_masked : HasSoundTables s.next_number (tables_of F j)
+  sound_masked =
+      subst (λ (t : Tables). HasSoundTables s.next_number t)
+      (agree_tables F j (settled_by DAEMON_LOG j) (λ k low. settled_by-idle DAEMON_LOG j k idle (outside_log DAEMON_LOG k (inr (omega arith)))))
+      (sound_with_masked size F s opens mask j frames are all world (λ k v is. unnamed_idle j k idle) records)
+
+  pub places_masked : (n : ℕ) (o : OpenTransaction) → opens n ≡ Some o → HasPlaces (pool_ground F o.pool.at) (puddle_word (tables_of F j))
+  places_masked n o there = open_places F o.pool o.before j (are.pool n o there) (records.each n o there) s.next_number sound_masked
+
+-- of one that is open alone
 module _ (size F : ℕ) (s : StoredWorld) (p : OpenPool) (before j : Image) (frames : F ≡ s.frames) (opened : IsOpenPool F p before) (idle : is_idle_gate (j DAEMON_LOG) ≡ true)
     (records : (k : ℕ) → is_open_record p k ≡ true → j k ≡ before k) (world : idle_world_of size (masked_image (open_mask F p before) j) ≡ Some s) where
   pub sound_now : HasSoundTables s.next_number (tables_of F j)
-  sound_now =
-      subst (λ (t : Tables). HasSoundTables s.next_number t)
-      (agree_tables F j (settled_by DAEMON_LOG j) (λ k low. settled_by-idle DAEMON_LOG j k idle (outside_log DAEMON_LOG k (inr (omega arith)))))
-      (sound_with_open size F s p before j frames opened (λ k v is. unnamed_idle j k idle) records world)
+  sound_now = sound_masked size F s (alone p before) (open_mask F p before) j frames (are_alone p before F opened) (masks_alone p before F) idle (records_alone p before j records) world
 
   pub places_now : HasPlaces (pool_ground F p.at) (puddle_word (tables_of F j))
   places_now = open_places F p before j opened records s.next_number sound_now
@@ -87,50 +99,53 @@ module _ (size F : ℕ) (s : StoredWorld) (p : OpenPool) (before j : Image) (fra
 module _ (size : ℕ) (s : StoredWorld) (p : OpenPool) (before j : Image) (opened : IsOpenPool s.frames p before)
     (unnamed : (k v : ℕ) → open_mask s.frames p before k ≡ Some v → new_value device_word (log_of j DAEMON_LOG) k ≡ None)
     (records : (k : ℕ) → is_open_record p k ≡ true → j k ≡ before k) (mine : (k : ℕ) → pool_mine s.frames p.at k ≡ true → j k ≡ before k) where
+  abbrev mask : Write
+  mask = open_mask s.frames p before
+
   abbrev masked_j : Image
-  masked_j = masked_image (open_mask s.frames p before) j
+  masked_j = masked_image mask j
 
-  on_device : IsOnDevice s.frames p.at
-  on_device = open_on_device s.frames p before opened
+  front : (k : ℕ) → k < POOL_TABLE → mask k ≡ None
+  front = mask_below s.frames p before opened.slot opened.known (open_on_device s.frames p before opened)
 
-  like : IsLikeMasked s.frames p before (settled_by DAEMON_LOG j) (settled_by DAEMON_LOG masked_j)
-  like = like_masked s.frames p before j opened.slot opened.known on_device unnamed records
-
-  stays : (k v : ℕ) → open_mask s.frames p before k ≡ Some v → settled_by DAEMON_LOG j k ≡ j k
-  stays = masked_word_stays s.frames p before j opened.slot opened.known on_device unnamed
+  -- a masked word that is none of the log has the value with which it is masked
+  as_masked : (k : ℕ) → is_in_log (log_number_at s.frames p.number) k ≡ false → (v : ℕ) → mask k ≡ Some v → j k ≡ v
+  as_masked k outside v is = elim (mask_cases s.frames p before k v is) [
+    | inl inside ↦ absurd (let it : true ≡ false = sym inside ∙ outside in cc)
+    | inr own ↦ elim (or_cases (pool_mine s.frames p.at k) (is_open_record p k) own.0) [
+      | inl of_frame ↦ mine k of_frame ∙ own.1
+      | inr of_record ↦ records k of_record ∙ own.1
+    ]
+  ]
 
   -- all but the words of the log are the same masked
   same_words : (k : ℕ) → is_in_log (log_number_at s.frames p.number) k ≡ false → settled_by DAEMON_LOG masked_j k ≡ settled_by DAEMON_LOG j k
-  same_words k outside = elim (cases_Bool (pool_mine s.frames p.at k)) [
-    | inl own ↦ like.own k own ∙ sym (mine k own) ∙ sym (stays k (before k) (mask_of_mine s.frames p before k opened.known own))
-    | inr other ↦ like.others k outside other
-  ]
+  same_words k outside = masked_same mask front j unnamed k (as_masked k outside)
 
   masked_is_closed : is_closed_log (settled_by DAEMON_LOG masked_j) (log_number_at s.frames p.number) ≡ true
   masked_is_closed =
       closed_by_gate (settled_by DAEMON_LOG masked_j) (log_number_at s.frames p.number)
-      (ap (λ (i : Image). i (log_number_at s.frames p.number)) (masked_settles s.frames p before j opened.slot opened.known on_device unnamed)
-      ∙ overwritten-there (open_mask s.frames p before) (settled_by DAEMON_LOG j) (log_number_at s.frames p.number) CLOSED_GATE (mask_of_gate s.frames p before))
+      (masked_word mask front j unnamed (log_number_at s.frames p.number) CLOSED_GATE (mask_of_gate s.frames p before))
 
   -- As a transaction begins: an image that stands for a world with each log closed does so masked.
   pub idle_world_masked : idle_world_of size j ≡ Some s → idle_world_of size masked_j ≡ Some s
   idle_world_masked world =
       idle_world_of_standing size masked_j s
-      (same_legal s.frames p before j opened.slot opened.known on_device unnamed ∙ legal_log_of_idle_world size j s world)
+      (same_legal mask front j unnamed ∙ legal_log_of_idle_world size j s world)
       (standing_beside_own size p.number (settled_by DAEMON_LOG j) (settled_by DAEMON_LOG masked_j) s opened.known same_words masked_is_closed (standing_of_idle_world size j s world))
 
   own_is_closed : is_closed_log j (log_number_at s.frames p.number) ≡ true → is_closed_log (settled_by DAEMON_LOG j) (log_number_at s.frames p.number) ≡ true
   own_is_closed shut =
       is_closed_log-same (settled_by DAEMON_LOG j) j (log_number_at s.frames p.number) (λ k inside.
       let v = mask_of_log s.frames p before k (is_in (log_number_at s.frames p.number) k inside) in
-      stays k v.0 v.1)
+      masked_word_stays mask front j unnamed k v.0 v.1)
       ∙ shut
 
   -- As it ends, with its log closed: an image that stands for a world masked does so as it is.
   pub idle_world_unmasked : is_closed_log j (log_number_at s.frames p.number) ≡ true → idle_world_of size masked_j ≡ Some s → idle_world_of size j ≡ Some s
   idle_world_unmasked shut world =
       idle_world_of_standing size j s
-      (sym (same_legal s.frames p before j opened.slot opened.known on_device unnamed) ∙ legal_log_of_idle_world size masked_j s world)
+      (sym (same_legal mask front j unnamed) ∙ legal_log_of_idle_world size masked_j s world)
       (standing_beside_own size p.number (settled_by DAEMON_LOG masked_j) (settled_by DAEMON_LOG j) s opened.known (λ k outside. sym (same_words k outside)) (own_is_closed shut)
       (standing_of_idle_world size masked_j s world))
 

@@ -1,7 +1,8 @@
 -- Which words a transaction's mask has, and with which values.
-use Rattle.std.proofs.Common.{◌≡◌, inl, inr, ℕ, ◌+◌, ◌<◌, ◌≤◌, Bool, true, false, ◌||◌, leb, ltb, eqb, cond, List, Some, None, refl, ap, ◌∙◌, arith, eq-eqb}
+use Rattle.std.proofs.Common.{◌≡◌, ◌⊎◌, inl, inr, ℕ, ◌+◌, ◌<◌, ◌≤◌, Bool, true, false, ◌||◌, leb, ltb, eqb, cond, List, Some, None, refl, sym, ap, ◌∙◌, arith, eq-eqb}
 use Rattle.std.specs.List.{list_any}
-use Rattle.std.proofs.lemmas.Bool.{cond-true, cond-false, and_parts, or_cases, or_left, or_right, leb-true, ltb-true, and_from, le-leb, lt-ltb}
+use Rattle.std.proofs.lemmas.Bool.{cases_Bool, cond-true, cond-false, and_parts, or_cases, or_left, or_right, leb-true, ltb-true, and_from, le-leb, lt-ltb}
+use Rattle.std.proofs.lemmas.Option.{cond_some}
 use Rattle.pud_defs.specs.declared.layout.TheConstants.{DAEMON_LOG, POOL_TABLE}
 use Rattle.pud_defs.specs.declared.log_words.TheConstants.{CLOSED_GATE}
 use Rattle.pud_defs.specs.declared.records.TheConstants.{POOL_RECORDS}
@@ -64,6 +65,11 @@ open_record_place F p k slot known on_device is =
 -- ---- the values of its words
 
 module _ (F : ℕ) (p : OpenPool) (before : Image) where
+  own_same : (after : Image) (k : ℕ) → ((pool_mine F p.at k || is_open_record p k) ≡ true → after k ≡ before k) → (b : Bool) → (pool_mine F p.at k || is_open_record p k) ≡ b
+      → cond b (Some (after k)) None ≡ cond b (Some (before k)) None
+  own_same after k same true own = ap (λ (v : ℕ). Some v) (same own)
+  own_same after k same false own = refl
+
   pub mask_of_own : (k : ℕ) → is_in_log (log_number_at F p.number) k ≡ false → (pool_mine F p.at k || is_open_record p k) ≡ true → open_mask F p before k ≡ Some (before k)
   unfolding open_mask
   mask_of_own k outside own = cond-false _ _ _ outside ∙ cond-true _ _ _ own
@@ -90,6 +96,23 @@ module _ (F : ℕ) (p : OpenPool) (before : Image) where
   mask_of_gate =
       cond-true _ _ _ (and_from (leb (log_number_at F p.number) (log_number_at F p.number)) _ (le-leb _ _ (omega arith)) (lt-ltb _ _ (omega arith)))
       ∙ ap (λ (v : ℕ). Some v) (cond-true _ _ _ (eq-eqb (log_number_at F p.number) (log_number_at F p.number) refl))
+
+  -- a masked word is one of the log, or one of the frames or of a record with its value of the beginning
+  pub mask_cases : (k v : ℕ) → open_mask F p before k ≡ Some v
+      → (is_in_log (log_number_at F p.number) k ≡ true) ⊎ (((pool_mine F p.at k || is_open_record p k) ≡ true) × (before k ≡ v))
+  unfolding open_mask
+  mask_cases k v is = elim (cases_Bool (is_in_log (log_number_at F p.number) k)) [
+    | inl inside ↦ inl inside
+    | inr outside ↦ inr (cond_some (pool_mine F p.at k || is_open_record p k) (before k) v (sym (cond-false _ _ _ outside) ∙ is))
+  ]
+
+  -- of a word of a frame or a record its value alone counts
+  pub open_mask-same : (after : Image) (k : ℕ) → ((pool_mine F p.at k || is_open_record p k) ≡ true → after k ≡ before k) → open_mask F p after k ≡ open_mask F p before k
+  unfolding open_mask
+  open_mask-same after k same = elim (cases_Bool (is_in_log (log_number_at F p.number) k)) [
+    | inl inside ↦ cond-true _ _ _ inside ∙ sym (cond-true _ _ _ inside)
+    | inr outside ↦ cond-false _ _ _ outside ∙ own_same after k same (pool_mine F p.at k || is_open_record p k) refl ∙ sym (cond-false _ _ _ outside)
+  ]
 
   module _ (slot : p.slot < POOL_RECORDS) (known : p.number < ALL_LOGS) (on_device : IsOnDevice F p.at) where
     -- no word in front of the pool table is one of them

@@ -60,7 +60,7 @@ open_on_device F p before opened =
 
 -- in any image that has them as they were at the beginning
 module _ (F : ℕ) (p : OpenPool) (before image : Image) (opened : IsOpenPool F p before) (records : (k : ℕ) → is_open_record p k ≡ true → image k ≡ before k) where
-  open_members : HasMembers (tables_of F image) p.slot p.at
+  pub open_members : HasMembers (tables_of F image) p.slot p.at
   open_members =
       HasMembers-same (tables_of F before) (tables_of F image) p.slot p.at (frames_of_tables F before ∙ sym (frames_of_tables F image))
       (λ o e there.

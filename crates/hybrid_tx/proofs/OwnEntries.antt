@@ -39,7 +39,7 @@ module _ (g : Ground) (place : Place) (log : Log) (places : HasPlaces g place) w
 
 -- ---- own words
 
-either_of : (a b : Option ℕ) (v : ℕ) → option_or a b ≡ Some v → (a ≡ Some v) ⊎ (b ≡ Some v)
+pub either_of : {A : Type 0} (a b : Option A) (v : A) → option_or a b ≡ Some v → (a ≡ Some v) ⊎ (b ≡ Some v)
 either_of None b v is = inr is
 either_of (Some x) b v is = inl is
 

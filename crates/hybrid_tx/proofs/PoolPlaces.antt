@@ -1,11 +1,13 @@
--- A pool's puddles in sound tables: they lie as those of a ground, whose places are those of the tables.
-use Rattle.std.proofs.Common.{◌≡◌, ℕ, ◌%◌, true, List, map, get_or, Option, Some, None, option_map, refl, sym, ap, ◌∙◌, arith}
+-- A pool's puddles in sound tables: they lie as those of a ground, whose places are those of the tables, and apart from those of another pool.
+use Rattle.std.proofs.Common.{◌≡◌, ◌≢◌, inl, inr, ℕ, ◌%◌, true, false, List, map, get_or, Option, Some, None, option_map, refl, sym, ap, ◌∙◌, arith}
 use Rattle.std.specs.Prelude.{All, slice_get}
+use Rattle.std.proofs.lemmas.Bool.{cases_Bool}
 use Rattle.std.proofs.lemmas.Option.{none-some, same_Some, slice_get-map, slice_get-get_or}
 use Rattle.pud_defs.specs.declared.space.TheConstants.{RANGE_BYTES}
 use Rattle.pud_defs.specs.declared.records.Puddle.{Puddle}
 use Rattle.pud_defs.specs.Allowed.{puddle_word}
 use Rattle.pud_defs.specs.Bases.{is_legal_base}
+use Rattle.pud_defs.specs.Puddles.{Member}
 use Rattle.pud_defs.specs.SoundTables.{HasSoundTables}
 use Rattle.pud_defs.specs.Stored.{IsOnDevice}
 use Rattle.pud_defs.specs.Tables.{Tables, puddles_in_turn}
@@ -13,8 +15,8 @@ use Rattle.pud_defs.proofs.PuddlesListed.{puddles_in_turn-on_device}
 use Rattle.graph_laws.specs.Changes.{AreBases}
 use Rattle.graph_laws.specs.Reads.{HasDistinctFrames}
 use Rattle.word_transaction.specs.Running.{HasPlaces}
-use Rattle.hybrid_tx.specs.Grounds.{pool_place, pool_ground, IsPlaced}
-use Rattle.hybrid_tx.proofs.PoolGrounds.{IsNamed, pool_may-named, pool_place-there}
+use Rattle.hybrid_tx.specs.Grounds.{pool_place, pool_mine, pool_ground, IsPlaced}
+use Rattle.hybrid_tx.proofs.PoolGrounds.{IsNamed, pool_may-named, pool_place-there, pool_mine-each}
 use Rattle.pud_defs.proofs.PoolMembers.{HasMembers, members_in_turn, multiple_of_legal, legal_of_member, one_ordinal, one_frame, puddle_word_of_member}
 
 -- the puddle of a base
@@ -71,3 +73,29 @@ module _ (next : ℕ) (t : Tables) (sound : HasSoundTables next t) (slot : ℕ) 
 -- the puddles of a pool in sound tables are placed
 pub placed_in_turn : (next : ℕ) (t : Tables) (slot : ℕ) → HasSoundTables next t → IsPlaced t.frames (puddles_in_turn t slot)
 placed_in_turn next t slot sound = placed_of_members next t sound slot (puddles_in_turn t slot) (members_in_turn t slot) (puddles_in_turn-on_device t slot)
+
+-- ---- two pools
+
+same_member : (a b : Member) (o : Option Member) → o ≡ Some a → o ≡ Some b → a.pool ≡ b.pool
+same_member a b o first second = ap (λ (m : Member). m.pool) (same_Some a b (sym first ∙ second))
+
+-- no word of the frames of one is of those of the other
+pub members_apart : (F : ℕ) (t : Tables) (slot other : ℕ) (at bt : List (ℕ × Puddle)) → HasMembers t slot at → HasMembers t other bt → slot ≢ other
+    → (k : ℕ) → pool_mine F at k ≡ true → pool_mine F bt k ≡ false
+members_apart F t slot other at bt has its apart k mine = elim (cases_Bool (pool_mine F bt k)) [
+  | inr beside ↦ beside
+  | inl also ↦ absurd (
+      let here = pool_mine-each F at k mine in
+      let there = pool_mine-each F bt k also in
+      let one = has.each here.ordinal here.puddle here.there in
+      let two = its.each there.ordinal there.puddle there.there in
+      let a = here.low in
+      let b = here.high in
+      let c = there.low in
+      let d = there.high in
+      let frame : here.puddle.0 ≡ there.puddle.0 = omega arith in
+      let pool = same_member one.member two.member (t.puddles there.puddle.0) (ap t.puddles (sym frame) ∙ one.used) two.used in
+      let x = one.pool in
+      let y = two.pool in
+      apart (omega (arith, pool, x, y)))
+]

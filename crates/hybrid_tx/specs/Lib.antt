@@ -1,4 +1,5 @@
 pub mod Grounds
+pub mod ManyOpen
 pub mod Masks
 pub mod Stores
 pub mod Transactions
