@@ -1,33 +1,35 @@
 -- Calls that know nothing of a transaction, told of a device on which one may be open.
-use Rattle.std.proofs.Common.{◌≡◌, inl, inr, ℕ, ◌<◌, true, false, List, [], Option, Some, None, refl, sym, ap, subst, ◌∙◌, arith}
+use Rattle.std.proofs.Common.{◌≡◌, inl, inr, ℕ, ◌<◌, ◌≤◌, true, false, List, [], Option, Some, None, refl, sym, ap, subst, ◌∙◌, arith}
 use Rattle.std.proofs.lemmas.Bool.{cases_Bool}
 use Rattle.std.proofs.lemmas.List.{append-nil}
 use Rattle.pm_model.specs.declared.host.HostFault.{HostFault}
-use Rattle.pm_model.specs.Words.{Has, Cell, values, Words, reads}
+use Rattle.pm_model.specs.Words.{Has, Cell, values, Words, reads, HasOnly}
 use Rattle.pm_model.specs.Moments.{State}
-use Rattle.pm_model.specs.Changes.{Write, Footprint, Changes, Leaves, Silently}
+use Rattle.pm_model.specs.Changes.{Write, Footprint, written, Persists, Changes, Leaves, Silently}
 use Rattle.pm_model.specs.Masks.{masked, masked_image, IsOff}
-use Rattle.pm_model.proofs.Changes.{Changes-said, Changes-now, Changes-then, Changes-wider}
+use Rattle.pm_model.proofs.Changes.{Changes-said, Changes-now, Changes-then, Changes-wider, HasOnly-kept}
+use Rattle.pm_model.proofs.Words.{HasOnly-own}
 use Rattle.pm_model.proofs.Leaves.{Leaves-changes, Leaves-weaker, Leaves-then}
 use Rattle.pm_model.proofs.Masks.{IsOff-none, masked-elsewhere, masked_image-there, masked_image-elsewhere, reads-masked}
 use Rattle.pud_defs.specs.declared.layout.TheConstants.{DAEMON_LOG, NEXT_NUMBER_WORD}
 use Rattle.pud_defs.specs.Image.{Image}
-use Rattle.pud_defs.specs.Layout.{tables_end}
+use Rattle.pud_defs.specs.Layout.{tables_end, frames_at, log_at}
+use Rattle.pud_defs.specs.Spaces.{Owner}
 use Rattle.pud_defs.specs.Entries.{Entry, Log, is_idle_gate}
-use Rattle.pud_defs.specs.Replay.{device_word, new_value}
+use Rattle.pud_defs.specs.Replay.{device_word, new_value, is_in_log}
 use Rattle.pud_defs.specs.Settled.{log_number_at}
 use Rattle.pud_defs.specs.World.{World}
-use Rattle.pud_defs.proofs.Replay.{outside_log}
+use Rattle.pud_defs.proofs.Replay.{outside_log, not_inside}
 use Rattle.pud_defs.proofs.TablesOf.{tables_of-same}
-use Rattle.batch.specs.Batches.{AreBatched, HasIdleGate, ByBatch, IsBatched, Commits}
+use Rattle.batch.specs.Batches.{batch_write, AreBatched, HasIdleGate, ByBatch, IsBatched, Commits}
 use Rattle.batch.proofs.Masked.{not_written}
-use Rattle.batch.proofs.Tables.{reads_kept}
+use Rattle.batch.proofs.Tables.{StaysDurable, reads_kept}
 use Rattle.batch.proofs.Writes.{new_value-committed}
 use Rattle.registry.specs.Pools.{KeepsTables}
 use Rattle.hybrid_tx.specs.Masks.{is_open_record}
 use Rattle.hybrid_tx.proofs.OpenMasks.{mine_behind, mask_of_record, mask_of_others}
 use Rattle.puddled.specs.Memory.{Held, Memory}
-use Rattle.puddled.specs.Held.{pool_held, IsHeld, Holds, ByOthers, NamesNone, IsBeside}
+use Rattle.puddled.specs.Held.{pool_held, IsHeld, Holds, HasIdleLogs, ByOthers, NamesNone, StaysSingle, IsBeside}
 use Rattle.puddled.specs.Daemon.{IsReady}
 use Rattle.puddled.proofs.Beside.{daemon_log_unmasked, names_none_idle}
 
@@ -39,14 +41,27 @@ ready_gate size w memory s ready =
     let none : ready.mask DAEMON_LOG ≡ None = daemon_log_unmasked w memory.held ready.mask s.now.words ready.held in
     record { each = λ v had. ready.settled.idle v (subst (λ (c : Cell). Has (values c) v) (sym (masked-elsewhere ready.mask s.now.words DAEMON_LOG none)) had) }
 
--- and still does where its gate was not written
+-- a log that counts nothing still does where its gate got no other value
+pub idle_kept : (at : ℕ) (may : Footprint) (fault : Option HostFault) (old new : State) → Changes may fault old new → ((v : ℕ) → may at v → is_idle_gate v ≡ true) → HasIdleGate at old.now.words
+    → HasIdleGate at new.now.words
+idle_kept at may fault old new c told idle = record {
+  each = λ v had. elim (Changes-now may fault old new c at v had) [
+    | inl was ↦ idle.each v was
+    | inr wrote ↦ told v wrote
+  ];
+}
+
+-- so does the daemon log where its gate was not written
 pub gate_kept : (may : Footprint) (fault : Option HostFault) (old new : State) → Changes may fault old new → ((v : ℕ) → may DAEMON_LOG v → ⊥) → HasIdleGate DAEMON_LOG old.now.words
     → HasIdleGate DAEMON_LOG new.now.words
-gate_kept may fault old new c apart idle = record {
-  each = λ v had. elim (Changes-now may fault old new c DAEMON_LOG v had) [
-    | inl was ↦ idle.each v was
-    | inr wrote ↦ absurd (apart v wrote)
-  ];
+gate_kept may fault old new c apart idle = idle_kept DAEMON_LOG may fault old new c (λ v wrote. absurd (apart v wrote)) idle
+
+-- and each log of a client
+pub logs_kept : (F : ℕ) (clients : ℕ → Option Owner) (may : Footprint) (fault : Option HostFault) (old new : State) → Changes may fault old new
+    → ((k v : ℕ) → tables_end F ≤ k → k < frames_at F → may k v → ⊥) → HasIdleLogs F clients old.now.words → HasIdleLogs F clients new.now.words
+logs_kept F clients may fault old new c apart idle = record {
+  each = λ client number low few present.
+      idle_kept (log_at F client number) may fault old new c (λ v wrote. absurd (apart (log_at F client number) v (omega arith) (omega arith) wrote)) (idle.each client number low few present);
 }
 
 -- ---- it names no word that is masked
@@ -87,13 +102,37 @@ IsOff-each mask may each = record { apart = λ k x v is m. absurd (let no : None
 pub by_others : (mask : Write) (may : Footprint) (fault : Option HostFault) (old new : State) → IsOff mask may → Changes may fault old new → Changes (ByOthers mask) fault old new
 by_others mask may fault old new off c = Changes-wider may (ByOthers mask) fault old new (λ k v m. IsOff-none mask may k v off m) c
 
+-- words that have one value have one behind calls that give each word one value, or write none of it
+pub single_changes : (may : Footprint) (fault : Option HostFault) (old new : State) → Changes may fault old new → ((k : ℕ) → is_in_log DAEMON_LOG k ≡ false → StaysDurable may new k) → StaysSingle old new
+single_changes may fault old new c told = record {
+  each = λ k outside one. elim (told k outside) [
+    | inl none ↦ HasOnly-own (new.now.words k) (old.now.words k).newest (HasOnly-kept may fault old new k (old.now.words k).newest c none one)
+    | inr now ↦ now
+  ];
+}
+
 -- words were written beside the daemon log
 pub IsBeside-changes : (mask : Write) (may : Footprint) (fault : Option HostFault) (old new : State) → IsOff mask may → ((v : ℕ) → may DAEMON_LOG v → ⊥) → HasIdleGate DAEMON_LOG old.now.words
-    → Changes may fault old new → IsBeside mask fault old new
-IsBeside-changes mask may fault old new off apart idle c = record {
+    → (fault ≡ None → (k : ℕ) → StaysDurable may new k) → Changes may fault old new → IsBeside mask fault old new
+IsBeside-changes mask may fault old new off apart idle told c = record {
   changes = by_others mask may fault old new off c;
   names = names_none-changes mask may fault old new apart idle c;
+  single = λ none. single_changes may fault old new c (λ k outside. told none k);
 }
+
+single_by : (write : Write) (new : State) (k : ℕ) (o : Option ℕ) → write k ≡ o → ((v : ℕ) → write k ≡ Some v → HasOnly (new.now.words k) v) → StaysDurable (written write) new k
+single_by write new k None is durable = inl (λ v may. absurd (let it : None ≡ Some v = sym is ∙ may in cc))
+single_by write new k (Some v) is durable = inr (HasOnly-own (new.now.words k) v (durable v is))
+
+-- words that are made durable have one value each
+pub persisted_single : (write : Write) (fault : Option HostFault) (old new : State) → Persists write fault old new → fault ≡ None → (k : ℕ) → StaysDurable (written write) new k
+persisted_single write fault old new p none k = single_by write new k (write k) refl (p.durable none k)
+
+-- and so have those of a batch
+committed_single : (es : List Entry) (new : State) (k : ℕ) (o : Option ℕ) → batch_write es k ≡ o → is_in_log DAEMON_LOG k ≡ false → ((v : ℕ) → batch_write es k ≡ Some v → HasOnly (new.now.words k) v)
+    → StaysDurable (ByBatch DAEMON_LOG es) new k
+committed_single es new k None none outside done = inl (λ v may. elim may [ inl inside ↦ not_inside DAEMON_LOG k outside inside | inr named ↦ absurd (let it : None ≡ Some named.value = sym none ∙ named.is in cc) ])
+committed_single es new k (Some v) is outside done = inr (HasOnly-own (new.now.words k) v (done v is))
 
 -- a batch was committed
 pub IsBeside-commits : (mask : Write) (es : List Entry) (fault : Option HostFault) (old new : State) → IsOff mask (ByBatch DAEMON_LOG es) → AreBatched es → Commits DAEMON_LOG es fault old new
@@ -101,6 +140,7 @@ pub IsBeside-commits : (mask : Write) (es : List Entry) (fault : Option HostFaul
 IsBeside-commits mask es fault old new off batched c = record {
   changes = by_others mask (ByBatch DAEMON_LOG es) fault old new off c.changes;
   names = names_none-commits mask es fault old new off batched c;
+  single = λ none. single_changes (ByBatch DAEMON_LOG es) fault old new c.changes (λ k outside. committed_single es new k (batch_write es k) refl outside (c.durable none k));
 }
 
 -- these calls and then those
@@ -110,6 +150,7 @@ IsBeside-then mask fault a b c p q =
     record {
       changes = Changes-then (ByOthers mask) fault a b c p.changes q.changes;
       names = Leaves-then P P P [] a b c (Changes-said (ByOthers mask) None a b p.changes ∙ sym (append-nil a.now.said)) (λ front image m. m) (λ more image m. m) p.names q.names;
+      single = λ none. record { each = λ k outside one. (q.single none).each k outside ((p.single refl).each k outside one) };
     }
 
 -- ---- what is read of the tables

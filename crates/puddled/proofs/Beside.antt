@@ -4,10 +4,10 @@ use Rattle.std.proofs.lemmas.Bool.{and_from, le-leb, lt-ltb}
 use Rattle.std.proofs.lemmas.List.{append_cancel_right}
 use Rattle.pm_model.specs.declared.host.HostFault.{HostFault}
 use Rattle.pm_model.specs.declared.host.HostFault.TheVariants.{Cut}
-use Rattle.pm_model.specs.Words.{Has, Cell, values, Words, reads, Picks}
+use Rattle.pm_model.specs.Words.{Has, Cell, values, Words, reads, Picks, HasOnly}
 use Rattle.pm_model.specs.Moments.{Moment, State}
 use Rattle.pm_model.specs.Changes.{Write, Footprint, Changes, Leaves, Silently}
-use Rattle.pm_model.specs.Masks.{no_mask, masked_image}
+use Rattle.pm_model.specs.Masks.{masked_cell, masked, no_mask, masked_image}
 use Rattle.pm_model.proofs.Changes.{Changes-said}
 use Rattle.pm_model.proofs.Leaves.{HasOrigin, Leaves-weaker, Leaves-changes}
 use Rattle.pm_model.proofs.Masks.{masked-elsewhere, Picks-masked, Leaves-unmasked}
@@ -19,7 +19,7 @@ use Rattle.pud_defs.specs.Stored.{IsOnDevice, stored_in}
 use Rattle.pud_defs.specs.Graph.{graph_of}
 use Rattle.pud_defs.specs.Settled.{log_number_at}
 use Rattle.pud_defs.specs.World.{World, StoredWorld, world_of, idle_world_of, closed}
-use Rattle.pud_defs.proofs.Replay.{empty_range_of, new_value-closed}
+use Rattle.pud_defs.proofs.Replay.{empty_range_of, new_value-closed, outside_log}
 use Rattle.pud_defs.proofs.Idle.{world_of_idle, no_log_is_refused}
 use Rattle.hybrid_tx.specs.Grounds.{pool_mine, pool_ground}
 use Rattle.hybrid_tx.specs.Masks.{OpenPool, is_open_record, open_mask, IsOpenPool, IsLeftOpen}
@@ -33,7 +33,8 @@ use Rattle.word_transaction.specs.Running.{SettlesTo}
 use Rattle.word_transaction.proofs.Calls.{IsRunning-kept}
 use Rattle.word_transaction.proofs.Images.{SettlesTo-local, IsRunning-settles}
 use Rattle.puddled.specs.Memory.{Held, Memory}
-use Rattle.puddled.specs.Held.{pool_held, IsHeld, Holds, ByOthers, NamesNone, KeepsHeld}
+use Rattle.puddled.specs.Held.{pool_held, IsHeld, Holds, HasDurableFrames, ByOthers, NamesNone, StaysSingle, KeepsHeld}
+use Rattle.puddled.specs.KnownPools.{KnowsPools}
 use Rattle.puddled.specs.Daemon.{IsReady, RefusesNone, StandsBetween, AppliesMasked, Applies}
 
 -- ---- moments
@@ -96,29 +97,33 @@ module _ (size : ℕ) (w : World) (held : Held) (mask : Write) (words : Words) (
   mask_at k v e = ap (λ (m : Write). m k) is.masked ∙ e
 
   -- no value comes to a word of the log, or of the pool's frames
-  log_apart : (k : ℕ) → IsInLog held.log.at k → mask k ≡ None → ⊥
+  pub log_apart : (k : ℕ) → IsInLog held.log.at k → mask k ≡ None → ⊥
   log_apart k inside none =
       let there = subst (λ (n : ℕ). IsInLog n k) is.gate inside in
       let m = mask_of_log F p is.before k (in_log (log_number_at F held.number) k there) in
       not_none (mask k) m.0 (mask_at k m.0 m.1) none
 
-  own_apart : (k : ℕ) → pool_mine F held.at k ≡ true → mask k ≡ None → ⊥
+  pub own_apart : (k : ℕ) → pool_mine F held.at k ≡ true → mask k ≡ None → ⊥
   own_apart k mine none = not_none (mask k) (is.before k) (mask_at k (is.before k) (mask_of_mine F p is.before k is.pool.known mine)) none
 
-  record_apart : (k : ℕ) → is_open_record p k ≡ true → mask k ≡ None → ⊥
+  pub record_apart : (k : ℕ) → is_open_record p k ≡ true → mask k ≡ None → ⊥
   record_apart k of none =
       let place = open_record_place F p k is.pool.slot is.pool.known on_device of in
       not_none (mask k) (is.before k) (mask_at k (is.before k) (mask_of_record F p is.before k place.high of)) none
+
+  -- an image that may be left has its records as they were
+  pub record_picked : HasDurableTables F words → (image : Image) → Picks words image → (k : ℕ) → is_open_record p k ≡ true → image k ≡ is.before k
+  record_picked tables image picked k of =
+      let place = open_record_place F p k is.pool.slot is.pool.known on_device of in
+      let low = place.low in
+      (tables.each k (inr (omega arith)) place.high).each (image k) (picked.each k) ∙ is.records k of
 
   module _ (tables : HasDurableTables F words) (image : Image) (o : HasOrigin (ByOthers mask) words image) (names : NamesNone mask image) where
     same : (k : ℕ) → (mask k ≡ None → ⊥) → image k ≡ o.before k
     same k apart = elim (o.from.each k) [ inl e ↦ e | inr none ↦ absurd (apart none) ]
 
     was_record : (k : ℕ) → is_open_record p k ≡ true → o.before k ≡ is.before k
-    was_record k of =
-        let place = open_record_place F p k is.pool.slot is.pool.known on_device of in
-        let low = place.low in
-        (tables.each k (inr (omega arith)) place.high).each (o.before k) (o.picked.each k) ∙ is.records k of
+    was_record k of = record_picked tables o.before o.picked k of
 
     left : IsLeftOpen F p is.before image
     left = record {
@@ -193,19 +198,33 @@ module _ (w next : World) (held : Held) (mask : Write) (old new : State) (is : I
         gate = is.gate ∙ ap (λ (m : ℕ). log_number_at m held.number) back;
         name = is.name;
         stored = keeps.stored held refl ∙ is.stored;
+        count = keeps.puddles held refl ∙ is.count;
         pool = subst (λ (m : ℕ). IsOpenPool m (pool_held held is.rec is.who) is.before) back is.pool;
         records = λ k of. kept_word mask old new k c (record_apart 0 w held mask old.now.words is k of) ∙ is.records k of;
         running = subst (λ (m : ℕ). IsOpenOn m held.at next.stored.types held.log is.before is.undone is.transaction.now new.now.words) back still_running;
         masked = is.masked ∙ ap (λ (m : ℕ). open_mask m (pool_held held is.rec is.who) is.before) back;
       }
 
-holds_still : (w next : World) (o : Option Held) (mask : Write) (old new : State) → Holds w o mask old.now.words → KeepsHeld w next o → Changes (ByOthers mask) None old new → Holds next o mask new.now.words
+pub holds_still : (w next : World) (o : Option Held) (mask : Write) (old new : State) → Holds w o mask old.now.words → KeepsHeld w next o → Changes (ByOthers mask) None old new → Holds next o mask new.now.words
 holds_still w next None mask old new holds keeps c = (keeps.transactions ∙ holds.0, holds.1)
 holds_still w next (Some held) mask old new holds keeps c = held_still w next held mask old new holds keeps c
 
+-- ---- words of the frames
+
+-- each has one value, masked, where those keep one that are not
+masked_single : (o : Option ℕ) (before after : Cell) → (HasOnly before before.newest → HasOnly after after.newest) → HasOnly (masked_cell o before) (masked_cell o before).newest
+    → HasOnly (masked_cell o after) (masked_cell o after).newest
+masked_single None before after still one = still one
+masked_single (Some v) before after still one = record { each = λ x had. elim had [ inl e ↦ e | inr none ↦ absurd none ] }
+
+pub durable_frames_still : (F : ℕ) (mask : Write) (old new : State) → StaysSingle old new → HasDurableFrames F (masked mask old.now.words) → HasDurableFrames F (masked mask new.now.words)
+durable_frames_still F mask old new stays frames = record {
+  each = λ k above. masked_single (mask k) (old.now.words k) (new.now.words k) (stays.each k (outside_log DAEMON_LOG k (inr (omega arith)))) (frames.each k above);
+}
+
 -- ---- the command
 
-module _ (size : ℕ) (w next : World) (memory : Memory) (fault : Option HostFault) (old new : State) (ready : IsReady size w memory old) (keeps : KeepsHeld w next memory.held)
+module _ (size : ℕ) (w next : World) (memory : Memory) (fault : Option HostFault) (old new : State) (ready : IsReady size w memory old) (frames : next.stored.frames ≡ w.stored.frames)
     (a : AppliesMasked size w next ready.mask fault old new) where
   abbrev MaskedBetween : Image → Type 0
   MaskedBetween image = (idle_world_of size (masked_image ready.mask image) ≡ Some (closed w)) ⊎ (idle_world_of size (masked_image ready.mask image) ≡ Some (closed next))
@@ -216,28 +235,37 @@ module _ (size : ℕ) (w next : World) (memory : Memory) (fault : Option HostFau
       (inl (under.stands (closed w) refl before), under.none (closed w) refl before)
   stands_between image (inr after) names origin =
       let under = under_mask size w memory.held ready.mask old.now.words ready.held ready.tables image origin names in
-      (inr (under.stands (closed next) (sym keeps.frames) after), under.none (closed next) (sym keeps.frames) after)
+      (inr (under.stands (closed next) (sym frames) after), under.none (closed next) (sym frames) after)
 
-  all_moments : Leaves (Silently (StandsBetween size w next)) old new
-  all_moments =
+  -- at every moment each image stands for one of the worlds
+  pub moments_beside : Leaves (Silently (StandsBetween size w next)) old new
+  moments_beside =
       let idle = Leaves-unmasked ready.mask (Silently (λ image. (idle_world_of size image ≡ Some (closed w)) ⊎ (idle_world_of size image ≡ Some (closed next)))) (ByOthers ready.mask) fault old new a.beside.changes a.moments in
       let both = Leaves-both MaskedBetween (NamesNone ready.mask) old new idle a.beside.names in
       let from = Leaves-from (λ image. MaskedBetween image × NamesNone ready.mask image) (ByOthers ready.mask) fault old new a.beside.changes both in
       Leaves-weaker (Silently (λ image. (MaskedBetween image × NamesNone ready.mask image) × HasOrigin (ByOthers ready.mask) old.now.words image)) (Silently (StandsBetween size w next)) old new
       (λ bytes image m. (m.0, stands_between image m.1.0.0 m.1.0.1 m.1.1)) from
 
-  pub Applies-beside : Applies size w next memory fault old new
-  Applies-beside = record {
-    moments = all_moments;
+module _ (size : ℕ) (w next : World) (memory : Memory) (fault : Option HostFault) (old new : State) (ready : IsReady size w memory old) (keeps : KeepsHeld w next memory.held)
+    (a : AppliesMasked size w next ready.mask fault old new) where
+  -- with this memory behind it, which holds the same
+  pub Applies-beside : (behind : Memory) → behind.frames ≡ memory.frames → behind.held ≡ memory.held → (fault ≡ None → KnowsPools next.stored.frames behind.judged behind.held (reads new.now.words))
+      → Applies size w next behind fault old new
+  Applies-beside behind frames holds knows = record {
+    moments = moments_beside size w next memory fault old new ready keeps.frames a;
     quiet = Changes-said (ByOthers ready.mask) fault old new a.beside.changes;
     ready = λ none. record {
       mask = ready.mask;
       settled = a.settled none;
       tables = a.tables none;
       clients = a.clients none;
-      frames = ready.frames ∙ sym keeps.frames;
+      frames = frames ∙ ready.frames ∙ sym keeps.frames;
       shelf = a.beside.changes.shelf ∙ ready.shelf ∙ sym a.shelf;
-      held = holds_still w next memory.held ready.mask old new ready.held keeps (subst (λ (f : Option HostFault). Changes (ByOthers ready.mask) f old new) none a.beside.changes);
+      held = subst (λ (o : Option Held). Holds next o ready.mask new.now.words) (sym holds)
+          (holds_still w next memory.held ready.mask old new ready.held keeps (subst (λ (f : Option HostFault). Changes (ByOthers ready.mask) f old new) none a.beside.changes));
+      rest = subst (λ (n : ℕ). HasDurableFrames n (masked ready.mask new.now.words)) (sym keeps.frames) (durable_frames_still w.stored.frames ready.mask old new (a.beside.single none) ready.rest);
+      logs = a.logs none;
+      knows = knows none;
     };
     rests = a.beside.changes.rests;
     script = a.beside.changes.script;

@@ -1,17 +1,20 @@
 -- Clients that come and go: their logs closed, and then their record of the log-space table changed.
-use Rattle.std.proofs.Common.{◌≡◌, ◌⊎◌, inl, inr, ⊎_elim, ℕ, ◌<◌, ◌≤◌, Bool, true, false, eqb, cond, List, [], ◌∷◌, length, Option, Some, None, refl, sym, ap, subst, ◌∙◌, arith}
+use Rattle.std.proofs.Common.{◌≡◌, ◌⊎◌, inl, inr, ⊎_elim, ℕ, ◌<◌, ◌≤◌, Bool, true, false, eqb, cond, List, [], ◌∷◌, length, Option, Some, None, refl, sym, ap, ap₂, subst, ◌∙◌, arith, ne_eqb}
 use Rattle.std.specs.Prelude.{is_some}
 use Rattle.std.proofs.lemmas.List.{append-nil}
 use Rattle.std.proofs.lemmas.List.Elements.{All-nil, All-cons}
-use Rattle.std.proofs.lemmas.Bool.{eqb-true}
+use Rattle.std.proofs.lemmas.Bool.{eqb-true, cases_eq, cond-false}
 use Rattle.pm_model.specs.declared.host.HostFault.{HostFault}
-use Rattle.pm_model.specs.Words.{Picks, HasOnly, reads}
+use Rattle.pm_model.specs.Words.{Has, Cell, values, Picks, HasOnly, reads}
 use Rattle.pm_model.specs.Moments.{State}
-use Rattle.pm_model.specs.Changes.{Changes, Leaves, Silently, IsFrom}
+use Rattle.pm_model.specs.Changes.{Footprint, Changes, Leaves, Silently, IsFrom}
 use Rattle.pm_model.specs.Masks.{masked, masked_state, IsOff}
 use Rattle.pm_model.proofs.Changes.{Changes-said}
+use Rattle.pm_model.proofs.Masks.{IsOff-none, masked-elsewhere, Changes-masked}
 use Rattle.pm_model.proofs.Leaves.{Leaves-changes, Leaves-weaker, Leaves-then, Leaves-still}
-use Rattle.pud_defs.specs.declared.layout.TheConstants.{DAEMON_LOG, CLIENTS, SPACE_RECORD_WORDS}
+use Rattle.pud_defs.specs.declared.layout.TheConstants.{DAEMON_LOG, CLIENTS, CLIENT_LOGS, SPACE_RECORD_WORDS}
+use Rattle.pud_defs.specs.declared.log_words.TheConstants.{CLOSED_GATE}
+use Rattle.pm_model.proofs.Words.{HasOnly-own}
 use Rattle.pud_defs.specs.Layout.{tables_end, log_at}
 use Rattle.pud_defs.specs.Image.{Image}
 use Rattle.pud_defs.specs.Entries.{Entry, log_of, is_idle_gate}
@@ -27,16 +30,20 @@ use Rattle.pud_defs.proofs.Spaces.{used_is_some, owner_of-same, has_closed_logs-
 use Rattle.pud_defs.proofs.Steps.{client-taken, client-new, leave-absent, leave-present}
 use Rattle.batch.specs.Batches.{batch_entry, IsBatchEntry, AreBatched, HasIdleGate, ByBatch, IsBatched, Commits}
 use Rattle.batch.specs.Tables.{HasDurableTables}
-use Rattle.batch.proofs.Tables.{reads_kept, HasDurableTables-kept, HasDurableTables-committed}
+use Rattle.batch.proofs.Tables.{StaysDurable, reads_kept, HasDurableTables-kept, HasDurableTables-committed}
 use Rattle.log_space.specs.Records.{record_batch, registration, unregistration, MayHaveOwner, ChangesOwner, Registers, Unregisters}
 use Rattle.log_space.specs.Closed.{ByClosing, ClosesGates, Closes}
 use Rattle.log_space.proofs.Writing.{writes_elsewhere}
 use Rattle.puddled.specs.Memory.{Memory}
-use Rattle.puddled.specs.Held.{ByOthers, IsOthers, IsBeside}
+use Rattle.puddled.specs.Held.{HasIdleLogs, ByOthers, IsOthers, IsBeside}
+use Rattle.puddled.specs.KnownPools.{KnowsPools}
 use Rattle.puddled.specs.Daemon.{IsReady, Applies, IsUsedAlone, IsClosedIfNamed, ClosesBefore}
 use Rattle.puddled.proofs.Beside.{ready_idle, Applies-beside}
-use Rattle.puddled.proofs.Beneath.{ready_gate, gate_kept, IsBeside-changes, IsBeside-commits, IsBeside-then, read_masked-kept}
+use Rattle.puddled.proofs.Beneath.{ready_gate, gate_kept, idle_kept, logs_kept, IsBeside-changes, IsBeside-commits, IsBeside-then, read_masked-kept}
 use Rattle.puddled.proofs.Others.{off_gates, off_record, keeps_held, gone}
+use Rattle.puddled.proofs.JudgedKept.{KeepsPools}
+use Rattle.puddled.proofs.JudgedLines.{KeepsPools-client}
+use Rattle.puddled.proofs.JudgedOpen.{KnowsPools-all}
 
 -- ---- what is read of the log-space table
 
@@ -57,6 +64,25 @@ space_used size w memory s client known ready present =
 -- the gates of a client's logs lie behind the tables
 no_gate : (F slot k v : ℕ) → k < tables_end F → ByClosing F slot k v → ⊥
 no_gate F slot k v below gate = let is = gate.0.is in absurd (omega arith)
+
+-- which have one value each once they are closed
+closed_single : (F slot : ℕ) (fault : Option HostFault) (a b : State) → ClosesGates F slot fault a b → fault ≡ None → (k : ℕ) → StaysDurable (ByClosing F slot) b k
+closed_single F slot fault a b p none k =
+    let one : (m : ℕ) → m < CLIENT_LOGS → k ≡ log_at F slot m → StaysDurable (ByClosing F slot) b k = λ m few here.
+    inr (subst (λ (n : ℕ). HasOnly (b.now.words n) (b.now.words n).newest) (sym here) (HasOnly-own (b.now.words (log_at F slot m)) CLOSED_GATE (p.durable none m few))) in
+    elim (cases_eq k (log_at F slot 0)) [
+      | inl first ↦ one 0 (omega arith) first
+      | inr a0 ↦ elim (cases_eq k (log_at F slot 1)) [
+        | inl second ↦ one 1 (omega arith) second
+        | inr a1 ↦ elim (cases_eq k (log_at F slot 2)) [
+          | inl third ↦ one 2 (omega arith) third
+          | inr a2 ↦ elim (cases_eq k (log_at F slot 3)) [
+            | inl fourth ↦ one 3 (omega arith) fourth
+            | inr a3 ↦ inl (λ v gate. let is = gate.0.is in let few = gate.0.below in let b0 = a0 in absurd (omega (arith, a0, a1, a2, a3)))
+          ]
+        ]
+      ]
+    ]
 
 -- ---- the logs closed, and then the record changed
 
@@ -82,7 +108,7 @@ module _ (size : ℕ) (w : World) (memory : Memory) (slot : ℕ) (known : slot <
 
   beside_closing : (F : ℕ) (fault : Option HostFault) (b : State) → F ≡ w.stored.frames → ClosesGates F slot fault a b → IsBeside ready.mask fault a b
   beside_closing F fault b is p =
-      IsBeside-changes ready.mask (ByClosing F slot) fault a b (gates_apart F is) (λ v gate. no_gate F slot DAEMON_LOG v (omega arith) gate) (ready_gate size w memory a ready) p.changes
+      IsBeside-changes ready.mask (ByClosing F slot) fault a b (gates_apart F is) (λ v gate. no_gate F slot DAEMON_LOG v (omega arith) gate) (ready_gate size w memory a ready) (closed_single F slot fault a b p) p.changes
 
   -- the logs were not closed, for a fault
   unclosed : (F : ℕ) (now : Option Owner) (fault : HostFault) (b : State) → F ≡ w.stored.frames → ClosesGates F slot (Some fault) a b
@@ -96,8 +122,9 @@ module _ (size : ℕ) (w : World) (memory : Memory) (slot : ℕ) (known : slot <
         settled = λ no. absurd (none no);
         tables = λ no. absurd (none no);
         clients = λ no. absurd (none no);
+        logs = λ no. absurd (none no);
         shelf = refl;
-      })
+      }) memory refl refl (λ no. absurd (none no))
 
   module _ (F : ℕ) (now : Option Owner) (vals : List ℕ) (few : length vals ≤ SPACE_RECORD_WORDS) (b c : State) (is : F ≡ w.stored.frames) (gates : ClosesGates F slot None a b)
       (p : Closes size (closed w) slot None (masked_state ready.mask a) (masked_state ready.mask b)) where
@@ -135,6 +162,32 @@ module _ (size : ℕ) (w : World) (memory : Memory) (slot : ℕ) (known : slot <
           ∙ q.read none client low
           ∙ ap (cond (eqb client slot) now) (sym (masked_owner b client low (beside_closing F None b is gates).changes) ∙ clients_closed client low)
 
+      -- the client's logs were closed, and the others' are as they were
+      logs_closed : HasIdleLogs w.stored.frames (with_owner slot now w.clients) (masked ready.mask b.now.words)
+      logs_closed = record {
+        each = λ client number low few present. elim (cases_eq client slot) [
+          | inl here ↦
+              let own : log_at F slot number ≡ log_at w.stored.frames client number = ap₂ (λ (frames whose : ℕ). log_at frames whose number) is (sym here) in
+              let none : ready.mask (log_at F slot number) ≡ None =
+              IsOff-none ready.mask (ByClosing F slot) (log_at F slot number) CLOSED_GATE (gates_apart F is) (record { number = number; below = few; is = refl }, refl) in
+              subst (λ (at : ℕ). HasIdleGate at (masked ready.mask b.now.words)) own
+              (record { each = λ v had. ap is_idle_gate ((gates.durable refl number few).each v (subst (λ (c : Cell). Has (values c) v) (masked-elsewhere ready.mask b.now.words (log_at F slot number) none) had)) })
+          | inr other ↦
+              idle_kept (log_at w.stored.frames client number) (ByClosing F slot) None (masked_state ready.mask a) (masked_state ready.mask b)
+              (Changes-masked ready.mask (ByClosing F slot) None a b gates.changes) (λ v wrote. ap is_idle_gate wrote.1)
+              (ready.logs.each client number low few (sym (ap is_some (cond-false _ _ _ (ne_eqb client slot other))) ∙ present))
+        ];
+      }
+
+      not_named : (k v : ℕ) → tables_end w.stored.frames ≤ k → ByBatch DAEMON_LOG es k v → ⊥
+      not_named k v low (inl log) = let to = log.high in absurd (omega arith)
+      not_named k v low (inr named) = absurd (let it : None ≡ Some named.value = sym (writes_elsewhere slot k vals (inr (omega arith))) ∙ named.is in cc)
+
+      logs_changed : fault ≡ None → HasIdleLogs w.stored.frames (with_owner slot now w.clients) (masked ready.mask c.now.words)
+      logs_changed none =
+          logs_kept w.stored.frames (with_owner slot now w.clients) (ByBatch DAEMON_LOG es) fault (masked_state ready.mask b) (masked_state ready.mask c)
+          (Changes-masked ready.mask (ByBatch DAEMON_LOG es) fault b c k.changes) (λ at v low high. not_named at v low) logs_closed
+
       changed_moments : Leaves (Silently (may_stand (after_this w slot now))) (masked_state ready.mask a) (masked_state ready.mask c)
       changed_moments =
           let P = Silently (may_stand (after_this w slot now)) in
@@ -142,6 +195,13 @@ module _ (size : ℕ) (w : World) (memory : Memory) (slot : ℕ) (known : slot <
           Leaves-then P P P [] (masked_state ready.mask a) (masked_state ready.mask b) (masked_state ready.mask c) (said ∙ sym (append-nil a.now.said)) (λ front image m. m) (λ more image m. m)
           (Leaves-weaker (Silently (λ (image : Image). idle_world_of size image ≡ Some (closed w))) P (masked_state ready.mask a) (masked_state ready.mask b) (λ bytes image m. (m.0, inl m.1)) p.moments)
           (Leaves-weaker (Silently (MayHaveOwner size (closed w) slot now es (masked ready.mask b.now.words))) P (masked_state ready.mask b) (masked_state ready.mask c) (λ bytes image m. (m.0, inl m.1.stands)) q.moments)
+
+      -- each pool that was judged stays
+      knows_changed : fault ≡ None → KnowsPools w.stored.frames memory.judged memory.held (reads c.now.words)
+      knows_changed none =
+          let committed = subst (λ (f : Option HostFault). Commits DAEMON_LOG es f b c) none k in
+          KnowsPools-all w.stored.frames memory.judged memory.held (reads a.now.words) (reads c.now.words)
+          (subst (λ (n : ℕ). KeepsPools n None (reads a.now.words) (reads c.now.words)) is (KeepsPools-client F slot vals a b c known few gates committed)) ready.knows
 
       -- the record was changed, or not, for a fault
       changed : Applies size w (after_this w slot now) memory fault a c
@@ -151,8 +211,9 @@ module _ (size : ℕ) (w : World) (memory : Memory) (slot : ℕ) (known : slot <
         settled = q.settled;
         tables = λ none. HasDurableTables-committed w.stored.frames es fault b c k.changes (k.durable none) tables_closed;
         clients = clients_changed;
+        logs = logs_changed;
         shelf = refl;
-      })
+      }) memory refl refl knows_changed
 
   -- a client came
   pub Applies-unadmitted : (F uid gid : ℕ) (fault : HostFault) (b : State) → F ≡ w.stored.frames → ClosesGates F slot (Some fault) a b
@@ -204,18 +265,22 @@ module _ (size : ℕ) (w : World) (memory : Memory) (slot : ℕ) (known : slot <
     pub ClosesBefore-behind : (a b c : State) → IsReady size w memory a → b ≡ a → (IsReady size w memory b → ClosesBefore w.stored.frames slot b c) → ClosesBefore w.stored.frames slot a c
     ClosesBefore-behind a b c ready same closes = subst (λ (s : State). ClosesBefore w.stored.frames slot s c) same (closes (subst (λ (s : State). IsReady size w memory s) (sym same) ready))
 
-    below_gates : (before image : Image) (k : ℕ) → IsFrom (ByClosing w.stored.frames slot) before image → k < tables_end w.stored.frames → image k ≡ before k
-    below_gates before image k from below = ⊎_elim (λ same. same) (λ gate. absurd (no_gate w.stored.frames slot k (image k) below gate)) (from.each k)
+    -- no word changed in front of the clients' logs
+    pub ClosesBefore-changes : (may : Footprint) (fault : Option HostFault) (a b : State) → IsReady size w memory a → ((k v : ℕ) → k < tables_end w.stored.frames → may k v → ⊥) → Changes may fault a b
+        → ClosesBefore w.stored.frames slot a b
+    ClosesBefore-changes may fault a b ready behind c =
+        let below : (before image : Image) (k : ℕ) → IsFrom may before image → k < tables_end w.stored.frames → image k ≡ before k = λ before image k from low.
+        ⊎_elim (λ same. same) (λ wrote. absurd (behind k (image k) low wrote)) (from.each k) in
+        Leaves-weaker _ _ a b (λ bytes image m. m.1)
+        (Leaves-changes (IsClosedIfNamed w.stored.frames slot) may fault a b
+        (λ before image picked from.
+        let record_word = below before image (space_record_at slot) from (omega arith) in
+        let gate_word = below before image DAEMON_LOG from (omega arith) in
+        inl (used_alone image (record_word ∙ used_before a ready before picked) (ap is_idle_gate gate_word ∙ ready_idle size w memory a ready before picked))) c)
 
     -- the logs were to be closed
     closing : (fault : Option HostFault) (a b : State) → IsReady size w memory a → ClosesGates w.stored.frames slot fault a b → ClosesBefore w.stored.frames slot a b
-    closing fault a b ready p =
-        Leaves-weaker _ _ a b (λ bytes image m. m.1)
-        (Leaves-changes (IsClosedIfNamed w.stored.frames slot) (ByClosing w.stored.frames slot) fault a b
-        (λ before image picked from.
-        let record_word = below_gates before image (space_record_at slot) from (omega arith) in
-        let gate_word = below_gates before image DAEMON_LOG from (omega arith) in
-        inl (used_alone image (record_word ∙ used_before a ready before picked) (ap is_idle_gate gate_word ∙ ready_idle size w memory a ready before picked))) p.changes)
+    closing fault a b ready p = ClosesBefore-changes (ByClosing w.stored.frames slot) fault a b ready (λ k v below gate. no_gate w.stored.frames slot k v below gate) p.changes
 
     pub ClosesBefore-closing : (F : ℕ) (fault : Option HostFault) (a b : State) → F ≡ w.stored.frames → IsReady size w memory a → ClosesGates F slot fault a b → ClosesBefore w.stored.frames slot a b
     ClosesBefore-closing F fault a b is ready p = closing fault a b ready (subst (λ (n : ℕ). ClosesGates n slot fault a b) is p)

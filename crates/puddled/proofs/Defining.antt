@@ -50,10 +50,14 @@ use Rattle.batch.specs.Tables.{HasDurableTables}
 use Rattle.batch.specs.Worlds.{IsSettled}
 use Rattle.batch.proofs.Tables.{reads_kept, HasDurableTables-persisted}
 use Rattle.puddled.specs.Memory.{Held, Memory}
-use Rattle.puddled.specs.Held.{IsHeld, Holds, ByOthers, NamesNone, KeepsHeld}
+use Rattle.puddled.specs.Held.{puddles_in, HasIdleLogs, IsHeld, Holds, ByOthers, NamesNone, KeepsHeld}
+use Rattle.puddled.proofs.Beneath.{single_changes, persisted_single, logs_kept}
 use Rattle.puddled.specs.Defined.{reply_of}
 use Rattle.puddled.specs.Daemon.{KeepsRest, IsReady, AppliesMasked, Applies}
+use Rattle.puddled.specs.KnownPools.{KnowsPools}
 use Rattle.puddled.proofs.Beside.{ready_idle, names_none_idle, Applies-beside}
+use Rattle.puddled.proofs.JudgedLines.{KeepsPools-defined}
+use Rattle.puddled.proofs.JudgedOpen.{KnowsPools-all}
 use Rattle.puddled.proofs.TablesBeside.{ready_beside, read_beside, under_durable, standing}
 use Rattle.puddled.proofs.Applying.{Applies-still}
 
@@ -244,6 +248,15 @@ pool_kept id map s name g is =
     let more = with_type id map s.types in
     ap graph_in (find-mapped name_cmp (read_by more) name s.pools) ∙ graph_kept more (pool_named name s) g is
 
+read_puddles : (more : List (ℕ × ℕ)) (o : Option Pool) → puddles_in (option_map (read_by more) o) ≡ puddles_in o
+read_puddles more None = refl
+read_puddles more (Some p) = refl
+
+-- and as many puddles as it has
+puddles_kept : (id map : ℕ) (s : StoredWorld) (name : List ℕ) → puddles_in (pool_named name (with_type_defined id map s)) ≡ puddles_in (pool_named name s)
+unfolding with_type_defined
+puddles_kept id map s name = ap puddles_in (find-mapped name_cmp (read_by (with_type id map s.types)) name s.pools) ∙ read_puddles (with_type id map s.types) (pool_named name s)
+
 graphs_kept : (id map : ℕ) (s : StoredWorld) → map_of id s.types ≡ None → (st : Stored) (g : Graph) → graph_of s.types st ≡ Some g → graph_of (with_type_defined id map s).types st ≡ Some g
 unfolding with_type_defined
 graphs_kept id map s none st g is = graph_of-more id map s.types st g none is
@@ -261,6 +274,7 @@ KeepsHeld-define w o mask words id map holds none = record {
   stored = λ h there.
       let is : IsHeld w h mask words = subst (λ (x : Option Held). Holds w x mask words) there holds in
       pool_kept id map w.stored h.name is.undone is.stored ∙ sym is.stored;
+  puddles = λ h there. puddles_kept id map w.stored h.name;
   graphs = graphs_kept id map w.stored none;
 }
 
@@ -321,20 +335,33 @@ module _ (size : ℕ) (w : World) (memory : Memory) (id map r : ℕ) (old : Stat
         (λ k from to. let there = known in reads_kept (written (record_write r id map)) old new k (now_done none).persists.changes (λ v. not_outside r id map k v there (inr (omega arith))))
         ∙ ready.clients client low ∙ sym (ap (λ (c : ℕ → Option Owner). c client) clients_next)
 
+    logs_now : HasIdleLogs next.stored.frames next.clients (masked m new.now.words)
+    logs_now =
+        subst (λ (n : ℕ). HasIdleLogs n next.clients (masked m new.now.words)) (sym frames_next)
+        (subst (λ (c : ℕ → Option Owner). HasIdleLogs F c (masked m new.now.words)) (sym clients_next)
+        (logs_kept F w.clients (written (record_write r id map)) fault (masked_state m old) (masked_state m new) under_mask.persists.changes
+        (λ k v low high. not_outside r id map k v known (inr (omega arith))) ready.logs))
+
     applies_masked : AppliesMasked size w next m fault old new
     applies_masked = record {
-      beside = record { changes = Changes-wider (written (record_write r id map)) (ByOthers m) fault old new by_others d.persists.changes; names = names_meanwhile };
+      beside = record { changes = Changes-wider (written (record_write r id map)) (ByOthers m) fault old new by_others d.persists.changes; names = names_meanwhile; single = λ none. single_changes (written (record_write r id map)) fault old new d.persists.changes (λ k outside. persisted_single (record_write r id map) fault old new d.persists none k) };
       moments = stands_meanwhile size w id map r (masked_state m old) ready.settled (under_durable size w memory old ready) (standing size w memory old ready) legal_id legal_map is_new fault (masked_state m new) under_mask;
       settled = λ none. settled_now size w id map r (masked_state m old) ready.settled (under_durable size w memory old ready) (standing size w memory old ready) legal_id legal_map is_new (masked_state m new)
           (subst (λ (f : Option HostFault). Defines r id map f (masked_state m old) (masked_state m new)) none under_mask);
       tables = λ none. subst (λ (n : ℕ). HasDurableTables n new.now.words) (sym frames_next) (HasDurableTables-persisted F (record_write r id map) old new (now_done none).persists ready.tables);
       clients = clients_now;
+      logs = λ none. logs_now;
       shelf = shelf_next;
     }
 
-    new_applies : Applies size w (world_by w (Some (Define id map))) memory fault old new
-    new_applies = subst (λ (v : World). Applies size w v memory fault old new) (sym is_new.world)
-        (Applies-beside size w next memory fault old new ready (KeepsHeld-define w memory.held m old.now.words id map ready.held is_new.missing) applies_masked)
+    knows_now : place_for (reads old.now.words) id ≡ Some r → fault ≡ None → KnowsPools next.stored.frames memory.judged memory.held (reads new.now.words)
+    knows_now place none =
+        subst (λ (n : ℕ). KnowsPools n memory.judged memory.held (reads new.now.words)) (sym frames_next)
+        (KnowsPools-all F memory.judged memory.held (reads old.now.words) (reads new.now.words) (KeepsPools-defined r id map old new place legal_id (now_done none) F) ready.knows)
+
+    new_applies : place_for (reads old.now.words) id ≡ Some r → Applies size w (world_by w (Some (Define id map))) memory fault old new
+    new_applies place = subst (λ (v : World). Applies size w v memory fault old new) (sym is_new.world)
+        (Applies-beside size w next memory fault old new ready (KeepsHeld-define w memory.held m old.now.words id map ready.held is_new.missing) applies_masked memory refl refl (knows_now place))
 
 -- ---- the table as it is read
 
@@ -382,7 +409,7 @@ module _ (size : ℕ) (w : World) (memory : Memory) (id map : ℕ) (fault : Opti
       (Applies-still size w memory fault old new ready (idle place) rests)
   place_applies (Some r) place idle defines rests =
       new_applies size w memory id map r old ready legal_id legal_map
-      (new_type size w (reads (masked ready.mask old.now.words)) id map (standing size w memory old ready) r (place_same size w memory old ready id ∙ place)) fault new (defines r place)
+      (new_type size w (reads (masked ready.mask old.now.words)) id map (standing size w memory old ready) r (place_same size w memory old ready id ∙ place)) fault new (defines r place) place
 
 -- a definition is carried out or refused as the machine has it
 pub Applies-define : (size : ℕ) (w : World) (memory : Memory) (id map : ℕ) (fault : Option HostFault) (old new : State) → IsReady size w memory old → is_legal_type_id id ≡ true → is_legal_map map ≡ true

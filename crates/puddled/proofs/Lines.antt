@@ -26,13 +26,14 @@ use Rattle.recover.specs.Recovery.{DiffersByRecovery}
 use Rattle.puddled.specs.declared.daemon.RunFault.{RunFault}
 use Rattle.puddled.specs.declared.daemon.RunFault.TheVariants.{NotSound}
 use Rattle.puddled.specs.Memory.{Memory}
+use Rattle.puddled.specs.KnownPools.{KnowsPools}
 use Rattle.puddled.specs.declared.answers.Answered.{Answered}
 use Rattle.puddled.specs.Answered.{answer_of, said_text}
 use Rattle.puddled.specs.declared.daemon.StartFault.{StartFault}
 use Rattle.puddled.specs.declared.daemon.StartFault.TheVariants as starts
 use Rattle.puddled.specs.Faults.{start_fault, run_fault, CountsLine}
 use Rattle.pm_model.specs.Masks.{masked}
-use Rattle.puddled.specs.Held.{Holds}
+use Rattle.puddled.specs.Held.{Holds, HasDurableFrames, HasIdleLogs}
 use Rattle.puddled.proofs.Beside.{ready_stands}
 use Rattle.puddled.specs.Daemon.{KeepsRest, KeepsLine, IsReady, IsPart, SaysPart, IsClosedIfFree, ClosesFirst, ClosesLogs, RefusesNone, Recovers, Settles, Starts, spoken, Answers}
 use Rattle.puddled.proofs.Listed.{said_when_ready}
@@ -76,6 +77,9 @@ IsReady-said size w memory old new words shelf ready =
       frames = ready.frames;
       shelf = shelf ∙ ready.shelf;
       held = subst (λ (x : Words). Holds w memory.held ready.mask x) (sym words) ready.held;
+      logs = subst (λ (x : Words). HasIdleLogs w.stored.frames w.clients (masked ready.mask x)) (sym words) ready.logs;
+      rest = subst (λ (x : Words). HasDurableFrames w.stored.frames (masked ready.mask x)) (sym words) ready.rest;
+      knows = subst (λ (x : Words). KnowsPools w.stored.frames memory.judged memory.held (reads x)) (sym words) ready.knows;
     }
 
 -- what was recovered holds of the result behind it

@@ -11,7 +11,6 @@ use Rattle.pud_defs.specs.declared.records.Puddle.{Puddle}
 use Rattle.pud_defs.specs.Image.{Image}
 use Rattle.pud_defs.specs.Graph.{Graph, graph_of}
 use Rattle.pud_defs.specs.PoolChanges.{pool_named}
-use Rattle.pud_defs.specs.Puddles.{Member}
 use Rattle.pud_defs.specs.Settled.{log_number_at}
 use Rattle.pud_defs.specs.Step.{graph_in}
 use Rattle.pud_defs.specs.Stored.{stored_in}
@@ -25,6 +24,7 @@ use Rattle.hybrid_tx.proofs.OpenMasks.{open_record_place, mask_of_others}
 use Rattle.hybrid_tx.proofs.Opening.{stored_in-mine}
 use Rattle.hybrid_tx.proofs.OpenPools.{open_on_device}
 use Rattle.hybrid_tx.proofs.PoolGrounds.{pool_mine-each}
+use Rattle.hybrid_tx.proofs.PoolPlaces.{members_apart}
 use Rattle.puddled.specs.Memory.{Held}
 use Rattle.puddled.specs.Held.{pool_held, IsHeld, Holds}
 use Rattle.puddled.proofs.PoolsBeside.{used_still, members_still}
@@ -81,9 +81,6 @@ not_named w o mask words name holds at h e same =
 
 -- ---- frames of other pools
 
-same_member : (a b : Member) (o : Option Member) → o ≡ Some a → o ≡ Some b → a.pool ≡ b.pool
-same_member a b o first second = ap (λ (m : Member). m.pool) (same_Some a b (sym first ∙ second))
-
 module _ (w : World) (held : Held) (mask : Write) (words : Words) (is : IsHeld w held mask words) where
   abbrev F : ℕ
   F = w.stored.frames
@@ -98,25 +95,12 @@ module _ (w : World) (held : Held) (mask : Write) (words : Words) (is : IsHeld w
   p = pool_held held is.rec is.who
 
   module _ (slot : ℕ) (r : PoolRec) (used : t.pools slot ≡ Some r) (other : r.name ≢ held.name) where
-    other_slot : slot ≡ held.slot → ⊥
+    -- it does not stand in the slot of the held one
+    pub other_slot : slot ≡ held.slot → ⊥
     other_slot same = other (ap (λ (x : PoolRec). x.name) (same_Some r is.rec (sym used ∙ ap t.pools same ∙ used_still w held mask words is)) ∙ is.name)
 
-    not_mine : (k : ℕ) (mine : Bool) → pool_mine F held.at k ≡ mine → pool_mine F (puddles_in_turn t slot) k ≡ true → mine ≡ false
-    not_mine k false e of = refl
-    not_mine k true e of =
-        let here = pool_mine-each F (puddles_in_turn t slot) k of in
-        let there = pool_mine-each F held.at k e in
-        let one = (members_in_turn t slot).each here.ordinal here.puddle here.there in
-        let two = (members_still w held mask words is).each there.ordinal there.puddle there.there in
-        let a = here.low in
-        let b = here.high in
-        let c = there.low in
-        let d = there.high in
-        let frame : here.puddle.0 ≡ there.puddle.0 = omega arith in
-        let pool = same_member one.member two.member (t.puddles there.puddle.0) (ap t.puddles (sym frame) ∙ one.used) two.used in
-        let x = one.pool in
-        let y = two.pool in
-        absurd (other_slot (omega (arith, pool, x, y)))
+    not_mine : (k : ℕ) → pool_mine F (puddles_in_turn t slot) k ≡ true → pool_mine F held.at k ≡ false
+    not_mine = members_apart F t slot held.slot (puddles_in_turn t slot) held.at (members_in_turn t slot) (members_still w held mask words is) other_slot
 
     not_record : (k : ℕ) (of : Bool) → is_open_record p k ≡ of → pool_mine F (puddles_in_turn t slot) k ≡ true → of ≡ false
     not_record k false e mine = refl
@@ -133,7 +117,7 @@ module _ (w : World) (held : Held) (mask : Write) (words : Words) (is : IsHeld w
         let low = here.low in
         let few = is.pool.known in
         ap (λ (m : Write). m k) is.masked
-        ∙ mask_of_others F p is.before k (outside_log (log_number_at F held.number) k (inr (omega arith))) (not_mine k (pool_mine F held.at k) refl mine) (not_record k (is_open_record p k) refl mine)
+        ∙ mask_of_others F p is.before k (outside_log (log_number_at F held.number) k (inr (omega arith))) (not_mine k mine) (not_record k (is_open_record p k) refl mine)
 
     other_read : stored_in F (puddles_in_turn t slot) (masked_image mask now) ≡ stored_in F (puddles_in_turn t slot) now
     other_read = stored_in-mine F (puddles_in_turn t slot) now (masked_image mask now) (λ k mine. masked_image-elsewhere mask now k (unmasked_frames k mine))

@@ -139,6 +139,7 @@ keeps_held w o client now others = record {
   transactions = refl;
   present = λ h is. cond-false _ _ _ (ne_eqb h.client client (others.each h is));
   stored = λ h is. refl;
+  puddles = λ h is. refl;
   graphs = λ st g is. is;
 }
 

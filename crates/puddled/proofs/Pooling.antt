@@ -1,6 +1,6 @@
 -- Pools made, changed and dropped by lines.
 use Rattle.std.proofs.Common.{◌≡◌, inl, inr, ℕ, ◌+◌, ◌%◌, ◌^◌, ◌<◌, ◌≤◌, Bool, true, false, not, cond, ◌&&◌, ◌||◌, leb, ltb, eqb, List, length, Option, Some, None, Result, Ok, Err, option_map, is_some, is_none, refl, sym, ap, ap₂, sum_by, subst, ◌∙◌, arith, leb-true, eq-eqb, ne_eqb}
-use Rattle.std.specs.Prelude.{⊤, IfOk, bytes_eq, unwrap_or}
+use Rattle.std.specs.Prelude.{⊤, IfOk, bytes_eq, unwrap_or, set}
 use Rattle.std.specs.FinMap.Entries.{find, put}
 use Rattle.std.proofs.lemmas.Bool.{cases_eq, cases_lt, cond-true, cond-false, and_parts}
 use Rattle.std.proofs.lemmas.Option.{none-some, same_Some}
@@ -16,6 +16,7 @@ use Rattle.pud_defs.specs.declared.layout.TheConstants.{CLIENTS, MAX_OWNER_ID, N
 use Rattle.pud_defs.specs.declared.records.TheConstants.{POOL_RECORDS, MAX_PUDDLES}
 use Rattle.pud_defs.specs.declared.records.PoolRec.{PoolRec}
 use Rattle.pud_defs.specs.declared.records.Owner.{Owner}
+use Rattle.pud_defs.specs.declared.records.Puddle.{Puddle}
 use Rattle.pud_defs.specs.declared.machine.Command.{Command}
 use Rattle.pud_defs.specs.declared.machine.Command.TheVariants.{Chmod}
 use Rattle.pud_defs.specs.declared.machine.Command.TheVariants as commands
@@ -52,6 +53,7 @@ use Rattle.registry.specs.Pools.{changing, dropping, OrStill, CommitsPuts, Makes
 use Rattle.registry.proofs.Joined.{few_puddles}
 use Rattle.puddled.specs.Memory.{Held, Memory}
 use Rattle.puddled.specs.Held.{Holds, IsBeside}
+use Rattle.puddled.specs.KnownPools.{KnowsPools}
 use Rattle.puddled.specs.Owning.{reply_of_making, holder_of, opened_by, refusal_beside, IsSlotOf}
 use Rattle.puddled.specs.Daemon.{IsReady, Applies}
 use Rattle.puddled.proofs.Applying.{Applies-still}
@@ -60,6 +62,9 @@ use Rattle.puddled.proofs.Beneath.{ready_gate, keeps_tables}
 use Rattle.puddled.proofs.PoolsBeside.{held_is, held_pool}
 use Rattle.puddled.proofs.PoolsApart.{off_making, off_changing, off_dropping, IsBeside-makes, IsBeside-puts, AppliesMasked-pools, KeepsHeld-stored, found_beside_put, found_beside_without}
 use Rattle.puddled.proofs.OpenBeside.{not_named}
+use Rattle.puddled.proofs.JudgedKept.{KeepsPools}
+use Rattle.puddled.proofs.JudgedPools.{KeepsPools-or_still, KeepsPools-making, KeepsPools-mode, KeepsPools-drop}
+use Rattle.puddled.proofs.JudgedOpen.{KnowsPools-all, KnowsPools-dropped}
 use Rattle.puddled.proofs.TablesBeside.{HasDurableTables-masked, header_read, pools_read, sound_read, spaces_read}
 
 -- ---- as whom a client acts
@@ -199,18 +204,26 @@ pub record KeepsPool (s next : StoredWorld) (o : Option Held) : Type 0 where
 -- pools were changed: the command gives the world with the next stored one
 pub Applies-pools : (size : ℕ) (w : World) (memory : Memory) (c : Command) (next : StoredWorld) (also : Image → Type 0) (fault : Option HostFault) (old new : State) (ready : IsReady size w memory old)
     → refusal_of w c ≡ None → after w c ≡ record w { stored = next } → KeepsPool w.stored next memory.held → ChangesBeside size w.stored next also ready.mask fault old new
-    → Applies size w (world_by w (Some c)) memory fault old new
-Applies-pools size w memory c next also fault old new ready free gives keeps b =
-    subst (λ (v : World). Applies size w v memory fault old new) (sym (done_world w c free ∙ gives))
+    → (judged : List (Option (List (ℕ × Puddle)))) → (fault ≡ None → KnowsPools w.stored.frames judged memory.held (reads new.now.words))
+    → Applies size w (world_by w (Some c)) (record memory { judged = judged }) fault old new
+Applies-pools size w memory c next also fault old new ready free gives keeps b judged knows =
+    let behind : Memory = record memory { judged = judged } in
+    subst (λ (v : World). Applies size w v behind fault old new) (sym (done_world w c free ∙ gives))
     (Applies-beside size w (record w { stored = next }) memory fault old new ready
-    (KeepsHeld-stored w next memory.held keeps.frames keeps.types (λ h e. ap graph_in (keeps.pool h e)))
-    (AppliesMasked-pools size w memory next also fault old new ready b.beside b.pools keeps.frames))
+    (KeepsHeld-stored w next memory.held keeps.frames keeps.types keeps.pool)
+    (AppliesMasked-pools size w memory next also fault old new ready b.beside b.pools keeps.frames)
+    behind refl refl (λ none. subst (λ (n : ℕ). KnowsPools n judged memory.held (reads new.now.words)) (sym keeps.frames) (knows none)))
+
+-- each pool that was judged stays
+knows_still : (size : ℕ) (w : World) (memory : Memory) (old new : State) → IsReady size w memory old → KeepsPools w.stored.frames None (reads old.now.words) (reads new.now.words)
+    → KnowsPools w.stored.frames memory.judged memory.held (reads new.now.words)
+knows_still size w memory old new ready keeps = KnowsPools-all w.stored.frames memory.judged memory.held (reads old.now.words) (reads new.now.words) keeps ready.knows
 
 -- behind calls that changed nothing
-pub Applies-behind : (size : ℕ) (w next : World) (memory : Memory) (fault : Option HostFault) (a b d : State) → b ≡ a → (IsReady size w memory b → Applies size w next memory fault b d)
-    → IsReady size w memory a → Applies size w next memory fault a d
-Applies-behind size w next memory fault a b d same applies ready =
-    subst (λ (s : State). Applies size w next memory fault s d) same (applies (subst (λ (s : State). IsReady size w memory s) (sym same) ready))
+pub Applies-behind : (size : ℕ) (w next : World) (memory behind : Memory) (fault : Option HostFault) (a b d : State) → b ≡ a → (IsReady size w memory b → Applies size w next behind fault b d)
+    → IsReady size w memory a → Applies size w next behind fault a d
+Applies-behind size w next memory behind fault a b d same applies ready =
+    subst (λ (s : State). Applies size w next behind fault s d) same (applies (subst (λ (s : State). IsReady size w memory s) (sym same) ready))
 
 -- a pool more, of another name than that which is held
 keeps_made : (s : StoredWorld) (name : List ℕ) (who : spaces.Owner) (mode : ℕ) (o : Option Held) → ((h : Held) → o ≡ Some h → h.name ≡ name → ⊥) → KeepsPool s (with_new_pool name who mode s) o
@@ -271,24 +284,27 @@ module _ (size : ℕ) (w : World) (memory : Memory) (client uid gid mode : ℕ) 
       subst (λ (v : World). Applies size w v memory fault old new) (sym (refused_world w line r refused)) (Applies-still size w memory fault old new ready same rests)
 
   made_by : (r : Option MakeFault) → refused_there ≡ r → (refused_there ≡ None → ChangesBeside size w.stored made also ready.mask fault old new)
+      → (refused_there ≡ None → fault ≡ None → KeepsPools w.stored.frames None (reads old.now.words) (reads new.now.words))
       → ((refused_there ≡ None → ⊥) → new ≡ old) → (fault ≡ Some Cut → IsRested new.now.words) → Applies size w (world_by w (Some line)) memory fault old new
   unfolding as_refusal
-  made_by None is makes still rests =
+  made_by None is makes pools still rests =
       let free : refusal_of w line ≡ None = refusal_made size w memory old ready client uid gid mode name who ∙ ap as_refusal is in
       let none = absent_of (w.clients client) (pool_named name w.stored) (is_full_of_pools w.stored) (lacks_frames w.stored 1) (sym (refusal_of-pool w client mode name) ∙ free) in
       Applies-pools size w memory line made also fault old new ready free (given_world size w memory old ready client uid gid mode name who)
-      (keeps_made w.stored name (owner uid gid) mode memory.held (absent_apart w memory.held ready.mask old.now.words name ready.held none)) (makes is)
-  made_by (Some (faults.Host f)) is makes still rests = absurd (no_host _ _ _ f is)
-  made_by (Some faults.Exists) is makes still rests =
+      (keeps_made w.stored name (owner uid gid) mode memory.held (absent_apart w memory.held ready.mask old.now.words name ready.held none)) (makes is) memory.judged
+      (λ none. knows_still size w memory old new ready (pools is none))
+  made_by (Some (faults.Host f)) is makes pools still rests = absurd (no_host _ _ _ f is)
+  made_by (Some faults.Exists) is makes pools still rests =
       made_refused refusals.Exists (refusal_made size w memory old ready client uid gid mode name who ∙ ap as_refusal is) (still (λ none. none-some faults.Exists (sym none ∙ is))) rests
-  made_by (Some faults.Full) is makes still rests =
+  made_by (Some faults.Full) is makes pools still rests =
       made_refused refusals.Full (refusal_made size w memory old ready client uid gid mode name who ∙ ap as_refusal is) (still (λ none. none-some faults.Full (sym none ∙ is))) rests
-  made_by (Some faults.NoSpace) is makes still rests =
+  made_by (Some faults.NoSpace) is makes pools still rests =
       made_refused refusals.Space (refusal_made size w memory old ready client uid gid mode name who ∙ ap as_refusal is) (still (λ none. none-some faults.NoSpace (sym none ∙ is))) rests
 
   pub Applies-made : (refused_there ≡ None → ChangesBeside size w.stored made also ready.mask fault old new)
+      → (refused_there ≡ None → fault ≡ None → KeepsPools w.stored.frames None (reads old.now.words) (reads new.now.words))
       → ((refused_there ≡ None → ⊥) → new ≡ old) → (fault ≡ Some Cut → IsRested new.now.words) → Applies size w (world_by w (Some line)) memory fault old new
-  Applies-made makes still rests = made_by refused_there refl makes still rests
+  Applies-made makes pools still rests = made_by refused_there refl makes pools still rests
 
 -- a client that is not present makes none
 pub refused_pool_client : (w : World) (client mode : ℕ) (name : List ℕ) → w.clients client ≡ None → refusal_of w (commands.Pool client name mode) ≡ Some refusals.Client
@@ -338,7 +354,13 @@ module _ (size : ℕ) (w : World) (memory : Memory) (client uid gid mode F : ℕ
         beside = IsBeside-makes ready.mask (tables_of w.stored.frames (reads old.now.words)) (reads old.now.words NEXT_NUMBER_WORD) name uid gid mode (make_fault done) old new off
             (ready_gate size w memory old ready) rests (does (ready_gate size w memory old ready) none);
         pools = makes (keeps_tables w memory.held ready.mask old.now.words ready.held) off ready.settled (HasDurableTables-masked w.stored.frames ready.mask old.now.words ready.tables) none;
-      }) still rests
+      })
+      (λ none done.
+      let number = reads old.now.words NEXT_NUMBER_WORD in
+      let tables = tables_of w.stored.frames (reads old.now.words) in
+      KeepsPools-or_still w.stored.frames None (MakesSomewhere tables number name uid gid mode) old new
+      (subst (λ (f : Option HostFault). OrStill (MakesSomewhere tables number name uid gid mode) f old new) done (does (ready_gate size w memory old ready) none))
+      (KeepsPools-making w.stored.frames w.stored.next_number number name uid gid mode old new (sound_read size w memory old ready))) still rests
 
   pub Applies-making : (also : ℕ → Image → Type 0) → Makes F (also F) → Does F → ((refused_on F ≡ None → ⊥) → new ≡ old) → (make_fault done ≡ Some Cut → IsRested new.now.words)
       → Applies size w (world_by w (Some (commands.Pool client name mode))) memory (fault_of result) old new
@@ -527,7 +549,8 @@ module _ (size : ℕ) (w : World) (memory : Memory) (client slot : ℕ) (name : 
       (record {
         beside = IsBeside-puts m (changing slot mode) fault old new off idle rests (inr (commits idle));
         pools = subst (λ (n : List ℕ). ChangesPools size w.stored (with_pool_mode n mode w.stored) (λ _. ⊤) fault (masked_state m old) (masked_state m new)) at.name_is (changes off ready.settled at.rec masked_at);
-      })
+      }) memory.judged
+      (λ done. knows_still size w memory old new ready (KeepsPools-mode N slot mode old new within (subst (λ (f : Option HostFault). Commits DAEMON_LOG (puts_batch (changing slot mode)) f old new) done (commits idle))))
 
   -- what the call does, on so many frames, with these words masked
   abbrev Frees : ℕ → Type 0
@@ -544,7 +567,11 @@ module _ (size : ℕ) (w : World) (memory : Memory) (client slot : ℕ) (name : 
   few : count_used (members (tables_of N (reads old.now.words)) slot) 0 N ≤ MAX_PUDDLES
   few = subst (λ (t : Tables). count_used (members t slot) 0 N ≤ MAX_PUDDLES) same_tables (few_puddles size w.stored slot at.rec (masked_state m old) within ready.settled masked_at)
 
-  drop_there : (fault ≡ Some Cut → IsRested new.now.words) → Frees N → Drops N → Applies size w (world_by w (Some (commands.Drop client name))) memory fault old new
+  -- nothing is known of it any more
+  abbrev pub less : Memory
+  less = record memory { judged = set memory.judged slot None }
+
+  drop_there : (fault ≡ Some Cut → IsRested new.now.words) → Frees N → Drops N → Applies size w (world_by w (Some (commands.Drop client name))) less fault old new
   unfolding after
   drop_there rests frees drops =
       let off = off_dropping w memory.held m old.now.words ready.held slot within slot_apart in
@@ -554,8 +581,11 @@ module _ (size : ℕ) (w : World) (memory : Memory) (client slot : ℕ) (name : 
         beside = IsBeside-puts m (dropping (tables_of N (reads old.now.words)) slot) fault old new off idle rests (frees idle few);
         pools = subst (λ (n : List ℕ). ChangesPools size w.stored (without_pool n w.stored) (λ _. ⊤) fault (masked_state m old) (masked_state m new)) at.name_is
             (drops (keeps_tables w memory.held m old.now.words ready.held) off ready.settled at.rec masked_at);
-      })
+      }) (set memory.judged slot None)
+      (λ done.
+      KnowsPools-dropped N slot memory.judged memory.held (reads old.now.words) (reads new.now.words)
+      (KeepsPools-drop N slot old new within (subst (λ (f : Option HostFault). OrStill (CommitsPuts (dropping (tables_of N (reads old.now.words)) slot)) f old new) done (frees idle few))) ready.knows)
 
-  pub Applies-drop : (F : ℕ) → F ≡ w.stored.frames → (fault ≡ Some Cut → IsRested new.now.words) → Frees F → Drops F → Applies size w (world_by w (Some (commands.Drop client name))) memory fault old new
+  pub Applies-drop : (F : ℕ) → F ≡ w.stored.frames → (fault ≡ Some Cut → IsRested new.now.words) → Frees F → Drops F → Applies size w (world_by w (Some (commands.Drop client name))) less fault old new
   Applies-drop F frames rests =
-      subst (λ (n : ℕ). Frees n → Drops n → Applies size w (world_by w (Some (commands.Drop client name))) memory fault old new) (sym frames) (drop_there rests)
+      subst (λ (n : ℕ). Frees n → Drops n → Applies size w (world_by w (Some (commands.Drop client name))) less fault old new) (sym frames) (drop_there rests)

@@ -13,7 +13,7 @@ use Rattle.pm_model.specs.declared.host.HostFault.TheVariants.{Cut}
 use Rattle.pm_model.specs.Words.{Cell, Words, HasOnly, IsRested, reads}
 use Rattle.pm_model.specs.Moments.{State}
 use Rattle.pm_model.specs.Changes.{Write, written, Changes, Silently}
-use Rattle.pm_model.specs.Masks.{masked_state, IsOff}
+use Rattle.pm_model.specs.Masks.{masked, masked_state, IsOff}
 use Rattle.pm_model.proofs.Leaves.{Leaves-still, Leaves-weaker}
 use Rattle.pm_model.proofs.Masks.{masked-elsewhere, reads-masked}
 use Rattle.pm_persist.proofs.Ranges.{placed_within}
@@ -24,7 +24,7 @@ use Rattle.pud_defs.specs.declared.records.Put.{Put}
 use Rattle.pud_defs.specs.Image.{Image}
 use Rattle.pud_defs.specs.Entries.{Entry}
 use Rattle.pud_defs.specs.Frames.{frame_at, fresh_frame}
-use Rattle.pud_defs.specs.Layout.{tables_end}
+use Rattle.pud_defs.specs.Layout.{tables_end, frames_at}
 use Rattle.pud_defs.specs.Keyed.{first_free, without}
 use Rattle.pud_defs.specs.Names.{name_cmp}
 use Rattle.pud_defs.specs.Pools.{pool_record_at}
@@ -49,10 +49,10 @@ use Rattle.registry.proofs.PutBatches.{puts_batched}
 use Rattle.registry.proofs.Made.{making_of}
 use Rattle.registry.proofs.Changed.{changing_of, dropping_of}
 use Rattle.puddled.specs.Memory.{Held, Memory}
-use Rattle.puddled.specs.Held.{Holds, ByOthers, NamesNone, IsBeside, KeepsHeld}
+use Rattle.puddled.specs.Held.{puddles_in, Holds, HasIdleLogs, ByOthers, NamesNone, IsBeside, KeepsHeld}
 use Rattle.puddled.specs.Daemon.{IsReady, AppliesMasked}
 use Rattle.puddled.proofs.Beside.{names_none_idle}
-use Rattle.puddled.proofs.Beneath.{IsBeside-changes, IsBeside-commits, IsBeside-then, table_reads, table_reads-kept}
+use Rattle.puddled.proofs.Beneath.{IsBeside-changes, IsBeside-commits, IsBeside-then, table_reads, table_reads-kept, persisted_single, logs_kept}
 use Rattle.puddled.proofs.PoolsBeside.{IsOfOthers, unmasked_front, unmasked_pool, unmasked_puddle, unmasked_frame, held_pool}
 
 -- ---- changes of records that write no masked word
@@ -127,16 +127,16 @@ module _ (w : World) (o : Option Held) (mask : Write) (words : Words) (holds : H
 
   -- and the lowest free frame
   module _ (frame : ℕ) (first : first_free t.puddles 0 t.frames ≡ Some frame) where
-    frame_below : frame < F
+    pub frame_below : frame < F
     frame_below = let free = first_free_some t.puddles 0 t.frames frame first in let high = free.high in omega (arith, frames_of_tables F (reads words))
 
     frame_free : t.puddles frame ≡ None
     frame_free = (first_free_some t.puddles 0 t.frames frame first).free
 
-    new_frame : (k : ℕ) → puddle_record_at frame ≤ k → k < puddle_record_at (frame + 1) → mask k ≡ None
+    pub new_frame : (k : ℕ) → puddle_record_at frame ≤ k → k < puddle_record_at (frame + 1) → mask k ≡ None
     new_frame k low high = unmasked_puddle w o mask words holds frame k frame_below (free_others frame frame_free) low high
 
-    filling_off : (number ordinal : ℕ) → IsOff mask (written (frame_write t.frames frame number ordinal))
+    pub filling_off : (number ordinal : ℕ) → IsOff mask (written (frame_write t.frames frame number ordinal))
     filling_off number ordinal = record {
       apart = λ k x v is may.
           let within = placed_within (frame_at t.frames frame) k v (fresh_frame number ordinal) may in
@@ -194,6 +194,14 @@ not_spaces F k v low high (inr (inl (inr (inl word)))) = let to = word.high in a
 not_spaces F k v low high (inr (inl (inr (inr word)))) = let from = word.low in absurd (omega arith)
 not_spaces F k v low high (inr (inr frame)) = let from = frame.low in absurd (omega arith)
 
+-- nor is the log of a client
+not_logs : (F k v : ℕ) → tables_end F ≤ k → k < frames_at F → ByPools F k v → ⊥
+not_logs F k v low high (inl log) = let to = log.high in absurd (omega arith)
+not_logs F k v low high (inr (inl (inl word))) = let to = word.high in absurd (omega arith)
+not_logs F k v low high (inr (inl (inr (inl word)))) = let to = word.high in absurd (omega arith)
+not_logs F k v low high (inr (inl (inr (inr word)))) = let to = word.high in absurd (omega arith)
+not_logs F k v low high (inr (inr frame)) = let from = frame.low in absurd (omega arith)
+
 module _ (size : ℕ) (w : World) (memory : Memory) (next : StoredWorld) (also : Image → Type 0) (fault : Option HostFault) (old new : State) (ready : IsReady size w memory old)
     (b : IsBeside ready.mask fault old new) (p : ChangesPools size w.stored next also fault (masked_state ready.mask old) (masked_state ready.mask new)) where
   stays_durable : fault ≡ None → (k : ℕ) (x : Option ℕ) → ready.mask k ≡ x → (k < DAEMON_LOG) ⊎ (TYPE_TABLE ≤ k) → k < tables_end w.stored.frames → StaysDurable (ByOthers ready.mask) new k
@@ -222,6 +230,8 @@ module _ (size : ℕ) (w : World) (memory : Memory) (next : StoredWorld) (also :
         (λ bytes image m. (m.0, elim m.1 [ inl before ↦ inl before | inr after ↦ inr after.0 ])) p.moments;
     settled = p.settled;
     tables = λ none. subst (λ (n : ℕ). HasDurableTables n new.now.words) (sym frames) (tables_then none);
+    logs = λ none. subst (λ (n : ℕ). HasIdleLogs n w.clients (masked ready.mask new.now.words)) (sym frames)
+        (logs_kept w.stored.frames w.clients (ByPools w.stored.frames) fault (masked_state ready.mask old) (masked_state ready.mask new) p.changes (λ k v low high. not_logs w.stored.frames k v low high) ready.logs);
     clients = λ none client low. owner_of-same (reads new.now.words) (reads old.now.words) client low (λ k from to. space_then none k from to) ∙ ready.clients client low;
     shelf = refl;
   }
@@ -229,12 +239,13 @@ module _ (size : ℕ) (w : World) (memory : Memory) (next : StoredWorld) (also :
 -- ---- what stays of the pool that is held
 
 pub KeepsHeld-stored : (w : World) (next : StoredWorld) (o : Option Held) → next.frames ≡ w.stored.frames → next.types ≡ w.stored.types
-    → ((h : Held) → o ≡ Some h → graph_in (pool_named h.name next) ≡ graph_in (pool_named h.name w.stored)) → KeepsHeld w (record w { stored = next }) o
-KeepsHeld-stored w next o frames types stored = record {
+    → ((h : Held) → o ≡ Some h → pool_named h.name next ≡ pool_named h.name w.stored) → KeepsHeld w (record w { stored = next }) o
+KeepsHeld-stored w next o frames types pool = record {
   frames = frames;
   transactions = refl;
   present = λ h e. refl;
-  stored = stored;
+  stored = λ h e. ap graph_in (pool h e);
+  puddles = λ h e. ap puddles_in (pool h e);
   graphs = λ st g is. ap (λ (ts : List (ℕ × ℕ)). graph_of ts st) types ∙ is;
 }
 
@@ -270,6 +281,7 @@ IsBeside-still mask fault old new idle rests same =
         shelf = refl;
       };
       names = Leaves-still (Silently (NamesNone mask)) old old (λ image picked. (refl, names_none_idle mask image (idle.each (image DAEMON_LOG) (picked.each DAEMON_LOG)))) refl;
+      single = λ none. record { each = λ k outside one. one };
     }) rests
 
 -- a batch was committed, or nothing happened
@@ -279,10 +291,10 @@ IsBeside-puts mask puts fault old new off idle rests (inl still) = IsBeside-stil
 IsBeside-puts mask puts fault old new off idle rests (inr commits) = IsBeside-commits mask (puts_batch puts) fault old new off (puts_batched puts) commits
 
 -- words were made durable, and then a batch was committed
-IsBeside-filled : (mask write : Write) (es : List Entry) (fault : Option HostFault) (old new : State) → IsOff mask (written write) → IsOff mask (ByBatch DAEMON_LOG es) → ((v : ℕ) → written write DAEMON_LOG v → ⊥)
+pub IsBeside-filled : (mask write : Write) (es : List Entry) (fault : Option HostFault) (old new : State) → IsOff mask (written write) → IsOff mask (ByBatch DAEMON_LOG es) → ((v : ℕ) → written write DAEMON_LOG v → ⊥)
     → AreBatched es → HasIdleGate DAEMON_LOG old.now.words → PersistsThenCommits write es fault old new → IsBeside mask fault old new
 IsBeside-filled mask write es fault old new off_write off apart batched idle c =
-    let first : IsBeside mask c.first old c.mid = IsBeside-changes mask (written write) c.first old c.mid off_write apart idle c.persists.changes in
+    let first : IsBeside mask c.first old c.mid = IsBeside-changes mask (written write) c.first old c.mid off_write apart idle (persisted_single write c.first old c.mid c.persists) c.persists.changes in
     elim c.then [
       | inl end ↦ subst (λ (s : State). IsBeside mask fault old s) (sym end.0) (subst (λ (f : Option HostFault). IsBeside mask f old c.mid) (sym end.1) first)
       | inr on ↦ IsBeside-then mask fault old c.mid new (subst (λ (f : Option HostFault). IsBeside mask f old c.mid) on.0 first) (IsBeside-commits mask es fault c.mid new off batched on.1)

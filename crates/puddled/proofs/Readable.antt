@@ -38,12 +38,14 @@ use Rattle.pud_defs.proofs.RecordsPlaced.{legal_mode, mode_read}
 use Rattle.pud_defs.proofs.SoundChanged.{legal_pool}
 use Rattle.graph_read.specs.declared.fields.FieldRead.{FieldRead}
 use Rattle.graph_read.specs.Reading.{read_value, read_by}
-use Rattle.puddled.specs.Memory.{Memory}
+use Rattle.puddled.specs.Memory.{Held, Memory}
+use Rattle.puddled.specs.Held.{Holds}
+use Rattle.puddled.specs.KnownPools.{KnowsPools}
 use Rattle.puddled.specs.Owning.{refusal_found, holder_of, opened_by}
 use Rattle.puddled.specs.Reading.{reading_refusal, refusal_to_read, puddles_held, reading_open, puddles_with_graph, HoldsGraph, HoldsFound, reply_of_read}
 use Rattle.puddled.specs.Daemon.{IsReady, Applies}
-use Rattle.puddled.proofs.Applying.{Applies-still}
-use Rattle.puddled.proofs.OpenBeside.{open_here, not_open, pool_unmasked}
+use Rattle.puddled.proofs.Applying.{Applies-still, IsReady-beside}
+use Rattle.puddled.proofs.OpenBeside.{open_here, not_open, not_named, other_slot, pool_unmasked}
 use Rattle.puddled.proofs.TablesBeside.{types_read, sound_read}
 use Rattle.puddled.proofs.Pooling.{IsNamed, no_record, named_by, pool_there}
 
@@ -106,10 +108,10 @@ module _ (size : ℕ) (w : World) (memory : Memory) (s : State) (ready : IsReady
       (there_by ∙ ap (option_map (pool_by_record hold t)) (no_record (find name_cmp name (records_of t)) none))
 
   module _ (slot : ℕ) (rec : PoolRec) (is : ◌≡◌ {A = Option (ℕ × PoolRec)} (Some (slot, rec)) (pool_in t name)) where
-    found : IsNamed t name slot rec
+    pub found : IsNamed t name slot rec
     found = named_by t name slot rec (find name_cmp name (records_of t)) refl is
 
-    named : pool_named name w.stored ≡ Some (pool_by_record hold t (slot, found.r))
+    pub named : pool_named name w.stored ≡ Some (pool_by_record hold t (slot, found.r))
     named = there_by ∙ ap (option_map (pool_by_record hold t)) found.found
 
     -- its puddles as they are read one by one are those that it has
@@ -119,7 +121,7 @@ module _ (size : ℕ) (w : World) (memory : Memory) (s : State) (ready : IsReady
         puddles_in_turn-listed w.stored.next_number t slot found.r sound at.below at.used
 
     -- the mode as it was read lets the same be read
-    mode_same : rec.mode ≡ found.r.mode
+    pub mode_same : rec.mode ≡ found.r.mode
     mode_same =
         let at = found_record t name slot found.r found.found in
         ap (λ (x : PoolRec). x.mode) found.same
@@ -142,8 +144,15 @@ module _ (size : ℕ) (w : World) (memory : Memory) (s : State) (ready : IsReady
     -- ---- none is open on it
 
     module _ (shut : opened_by (holder_of memory.held) name ≡ None) where
-      shut_there : w.transactions name ≡ None
+      pub shut_there : w.transactions name ≡ None
       shut_there = not_open w memory.held ready.mask s.now.words name ready.held shut
+
+      -- it does not stand in the slot of the pool on which a transaction is open
+      pub apart_from : (mine : Held) → memory.held ≡ Some mine → mine.slot ≡ slot → ⊥
+      apart_from mine e same =
+          let at = found_record t name slot found.r found.found in
+          let holds = subst (λ (o : Option Held). Holds w o ready.mask s.now.words) e ready.held in
+          other_slot w mine ready.mask s.now.words holds slot found.r at.used (λ named. not_named w memory.held ready.mask s.now.words name ready.held shut mine e (sym named ∙ at.name_is)) (sym same)
 
       stored_read : stored_in F (puddles_in_turn t slot) under ≡ stored_in F (puddles_in_turn t slot) image
       stored_read =
@@ -151,7 +160,7 @@ module _ (size : ℕ) (w : World) (memory : Memory) (s : State) (ready : IsReady
           ap (stored_in F (puddles_in_turn t slot)) (reads-masked ready.mask s.now.words) ∙ pool_unmasked w memory.held ready.mask s.now.words name slot found.r ready.held shut at.used at.name_is
 
       -- so it has the graph that these puddles have
-      graph_read : (frames : ℕ) → frames ≡ F → graph_in (pool_named name w.stored) ≡ graph_of (types_of image) (stored_in frames (puddles_in_turn (tables_of frames image) slot) image)
+      pub graph_read : (frames : ℕ) → frames ≡ F → graph_in (pool_named name w.stored) ≡ graph_of (types_of image) (stored_in frames (puddles_in_turn (tables_of frames image) slot) image)
       unfolding pool_of
       graph_read frames on =
           ap graph_in named
@@ -217,11 +226,11 @@ module _ (size : ℕ) (w : World) (memory : Memory) (s : State) (ready : IsReady
           ∙ sym (refusal_there uid gid (Some open_on.undone) (Some open_on.transaction) there open_on.stored open_on.is)
 
 -- what is found then
-pub found_open : (w : World) (F : ℕ) (opened : Option (ℕ × List ℕ)) (client other : ℕ) (name : List ℕ) (image : Image) (right : Bool) → opened_by opened name ≡ Some other
-    → IfOk (reading_open right (eqb other client)) (HoldsFound w F opened client name image)
-found_open w F opened client other name image right at = by_own right (eqb other client) refl
+pub found_open : (w : World) (F : ℕ) (opened : Option (ℕ × List ℕ)) (client other : ℕ) (name : List ℕ) (image : Image) (judged : List (Option (List (ℕ × Puddle)))) (right : Bool)
+    → opened_by opened name ≡ Some other → IfOk (reading_open right (eqb other client)) (HoldsFound w F opened client name image judged)
+found_open w F opened client other name image judged right at = by_own right (eqb other client) refl
   where
-    by_own : (right own : Bool) → eqb other client ≡ own → IfOk (reading_open right own) (HoldsFound w F opened client name image)
+    by_own : (right own : Bool) → eqb other client ≡ own → IfOk (reading_open right own) (HoldsFound w F opened client name image judged)
     by_own false own e = tt
     by_own true false e = tt
     by_own true true e = at ∙ ap (λ (n : ℕ). Some n) (eqb-true other client e)
@@ -321,6 +330,9 @@ module _ (w : World) (client : ℕ) (name : List ℕ) (serial f : ℕ) where
   unfolding after
   world_of_get = world_unless (refusal_of w c)
 
-  pub Applies-get : (size : ℕ) (memory : Memory) (fault : Option HostFault) (old new : State) → IsReady size w memory old → new ≡ old → (fault ≡ Some Cut → ⊥) → Applies size w (world_by w (Some c)) memory fault old new
-  Applies-get size memory fault old new ready same never =
-      subst (λ (v : World). Applies size w v memory fault old new) (sym world_of_get) (Applies-still size w memory fault old new ready same (λ cut. absurd (never cut)))
+  -- what is known of pools alone changes
+  pub Applies-get : (size : ℕ) (memory next : Memory) (fault : Option HostFault) (old new : State) → next.frames ≡ memory.frames → next.held ≡ memory.held → KnowsPools w.stored.frames next.judged next.held (reads old.now.words)
+      → IsReady size w memory old → new ≡ old → (fault ≡ Some Cut → ⊥) → Applies size w (world_by w (Some c)) next fault old new
+  Applies-get size memory next fault old new frames held knows ready same never =
+      subst (λ (v : World). Applies size w v next fault old new) (sym world_of_get)
+      (Applies-still size w next fault old new (IsReady-beside size w memory next old frames held knows ready) same (λ cut. absurd (never cut)))

@@ -32,6 +32,7 @@ use Rattle.puddled.specs.declared.daemon.StartFault.TheVariants as starts
 use Rattle.puddled.specs.Faults.{start_fault, of_recover}
 use Rattle.puddled.specs.Memory.{Held, Memory}
 use Rattle.puddled.specs.Held.{Holds}
+use Rattle.puddled.specs.KnownPools.{KnowsPools}
 use Rattle.puddled.specs.Daemon.{KeepsRest, IsReady, IsReplayed, IsUsedAlone, IsClosedIfFree, IsClosedIfNamed, RefusesNone, Recovers}
 
 -- a recovery's fault is the host's or none, at a start too
@@ -110,8 +111,9 @@ module _ (size : ℕ) (w : World) (a b : State) where
   }
 
   -- the daemon is ready behind it
-  ready_behind : (memory : Memory) → memory.frames ≡ w.stored.frames → memory.held ≡ None → a.shelf ≡ w.shelf → RecoversDevice size (closed w) None a b → IsReady size (restart w) memory b
-  ready_behind memory frames idle shelf r = record {
+  ready_behind : (memory : Memory) → memory.frames ≡ w.stored.frames → memory.held ≡ None → KnowsPools w.stored.frames memory.judged memory.held (reads b.now.words) → a.shelf ≡ w.shelf
+      → RecoversDevice size (closed w) None a b → IsReady size (restart w) memory b
+  ready_behind memory frames idle knows shelf r = record {
     mask = no_mask;
     settled = r.settled_now refl;
     tables = record { each = λ k beside below. r.single refl k (outside_log DAEMON_LOG k (⊎_elim (λ low. inl low) (λ high. inr (omega arith)) beside)) };
@@ -119,12 +121,15 @@ module _ (size : ℕ) (w : World) (a b : State) where
     frames = frames;
     shelf = r.changes.shelf ∙ shelf;
     held = subst (λ (o : Option Held). Holds (restart w) o no_mask b.now.words) (sym idle) (refl, refl);
+    logs = record { each = λ client number low few present. absurd (let it : false ≡ true = present in cc) };
+    rest = record { each = λ k above. r.single refl k (outside_log DAEMON_LOG k (inr (omega arith))) };
+    knows = knows;
   }
 
-  pub Recovers-done : (memory : Memory) → world_of size (reads a.now.words) ≡ Some (closed w) → memory.frames ≡ frames_of (reads a.now.words) → memory.held ≡ None → a.shelf ≡ w.shelf → RecoversDevice size (closed w) None a b
-      → Recovers size w (Ok memory) a b
-  Recovers-done memory world frames idle shelf r =
-      Recovers-by None (Ok memory) world r (ready_behind memory (frames ∙ frames_of_world size (reads a.now.words) (closed w) world) idle shelf r)
+  pub Recovers-done : (memory : Memory) → world_of size (reads a.now.words) ≡ Some (closed w) → memory.frames ≡ frames_of (reads a.now.words) → memory.held ≡ None
+      → KnowsPools w.stored.frames memory.judged memory.held (reads b.now.words) → a.shelf ≡ w.shelf → RecoversDevice size (closed w) None a b → Recovers size w (Ok memory) a b
+  Recovers-done memory world frames idle knows shelf r =
+      Recovers-by None (Ok memory) world r (ready_behind memory (frames ∙ frames_of_world size (reads a.now.words) (closed w) world) idle knows shelf r)
 
   pub Recovers-failed : (fault : RecoverFault) → (fault ≡ recoveries.NotSound → ⊥) → world_of size (reads a.now.words) ≡ Some (closed w) → RecoversDevice size (closed w) (recover_fault {T = Report} (Err fault)) a b
       → Recovers size w (Err (of_recover fault)) a b

@@ -31,7 +31,8 @@ use Rattle.recover.specs.declared.judge.Mark.TheVariants.{Closed}
 use Rattle.recover.specs.Verdicts.{is_refused_mark}
 use Rattle.recover.specs.Recovery.{DiffersByRecovery}
 use Rattle.puddled.specs.Memory.{Memory}
-use Rattle.puddled.specs.Held.{Holds, IsBeside}
+use Rattle.puddled.specs.Held.{Holds, HasDurableFrames, HasIdleLogs, IsBeside}
+use Rattle.puddled.specs.KnownPools.{KnowsPools}
 use Rattle.puddled.specs.declared.answers.Answered.{Answered}
 use Rattle.puddled.specs.Answered.{answer_of}
 use Rattle.puddled.specs.declared.daemon.StartFault.{StartFault}
@@ -51,8 +52,9 @@ pub record KeepsLine (file : Option (List ℕ)) (old new : State) : Type 0 where
 
 -- What the daemon needs of a device between two lines. With the words masked of the transaction that it holds each image that may be left
 -- stands for the closed world with nothing under way, each registered log and the daemon log closed in it, and the daemon log counts no word. The
--- tables are durable, and what is read of them has the clients that are present. The number of frames is the one that the daemon holds, and the
--- shelf is the world's.
+-- tables are durable, and what is read of them has the clients that are present. Masked, each word of the frames has one value, and each log of a
+-- client that is present counts nothing. The number of frames is the one that the daemon holds, and the shelf is the world's. What it knows of pools
+-- that it judged is what a scan gives, and nothing of the one on which the transaction is open.
 pub record IsReady (size : ℕ) (w : World) (memory : Memory) (s : State) : Type 0 where
   pub mask : Write
   pub settled : IsSettled size (closed w) (masked mask s.now.words)
@@ -61,6 +63,9 @@ pub record IsReady (size : ℕ) (w : World) (memory : Memory) (s : State) : Type
   pub frames : memory.frames ≡ w.stored.frames
   pub shelf : s.shelf ≡ w.shelf
   pub held : Holds w memory.held mask s.now.words
+  pub rest : HasDurableFrames w.stored.frames (masked mask s.now.words)
+  pub logs : HasIdleLogs w.stored.frames w.clients (masked mask s.now.words)
+  pub knows : KnowsPools w.stored.frames memory.judged memory.held (reads s.now.words)
 
 -- these bytes are the front of a text
 pub record IsPart (bytes text : List ℕ) : Type 0 where
@@ -84,13 +89,14 @@ abbrev pub StandsBetween : (size : ℕ) → (w next : World) → Image → Type 
 StandsBetween size w next image = ((world_of size image ≡ Some (closed w)) ⊎ (world_of size image ≡ Some (closed next))) × RefusesNone image
 
 -- A command was carried out beside what is held, whose words are masked: masked, at every moment the images stand for the world before it or for
--- the one that it gives, idle, and without a fault for that one, with tables that are durable and have its clients.
+-- the one that it gives, idle, and without a fault for that one, with tables that are durable and have its clients, whose logs count nothing.
 pub record AppliesMasked (size : ℕ) (w next : World) (mask : Write) (fault : Option HostFault) (old new : State) : Type 0 where
   pub beside : IsBeside mask fault old new
   pub moments : Leaves (Silently (λ image. (idle_world_of size image ≡ Some (closed w)) ⊎ (idle_world_of size image ≡ Some (closed next)))) (masked_state mask old) (masked_state mask new)
   pub settled : fault ≡ None → IsSettled size (closed next) (masked mask new.now.words)
   pub tables : fault ≡ None → HasDurableTables next.stored.frames new.now.words
   pub clients : fault ≡ None → (client : ℕ) → client < CLIENTS → owner_of (reads new.now.words) client ≡ next.clients client
+  pub logs : fault ≡ None → HasIdleLogs next.stored.frames next.clients (masked mask new.now.words)
   pub shelf : next.shelf ≡ w.shelf
 
 -- A command was carried out, or refused, without a word: at every moment the images stand for the world before it or the one that it gives,

@@ -6,3 +6,9 @@ pub mod Owning
 pub mod Reading
 pub mod Faults
 pub mod Daemon
+pub mod Judged
+pub mod KnownPools
+pub mod Beginning
+pub mod Changing
+pub mod Refusing
+pub mod Leaving

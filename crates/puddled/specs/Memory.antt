@@ -19,3 +19,5 @@ pub record Memory : Type 0 where
   pub frames : ℕ
   -- the transaction that is open, where one is
   pub held : Option Held
+  -- the puddles of pools that have a graph, by the slots of the pools' records, as far as they were asked for
+  pub judged : List (Option (List (ℕ × Puddle)))

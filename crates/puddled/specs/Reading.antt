@@ -1,5 +1,5 @@
 -- Why a client may not read a pool, and what is replied to a line that reads a field.
-use Rattle.std.specs.Prelude.{◌≡◌, ℕ, Bool, not, cond, List, [], Option, Some, None, is_some, is_none, option_map, Result, Ok, Err}
+use Rattle.std.specs.Prelude.{◌≡◌, ℕ, Bool, not, cond, List, [], Option, Some, None, is_some, is_none, option_map, unwrap_or, slice_index_or, Result, Ok, Err}
 use Rattle.pud_defs.specs.declared.objects.Val.TheVariants.{Num, Ref}
 use Rattle.pud_defs.specs.declared.records.Puddle.{Puddle}
 use Rattle.pud_defs.specs.declared.machine.Reply.{Reply}
@@ -43,7 +43,7 @@ puddles_held None = []
 puddles_held (Some held) = held.at
 
 -- a pool on which a transaction is open is read as it has it, where the mode allows it and the transaction is the client's own
-abbrev pub reading_open : (right own : Bool) → Result (Option (List (ℕ × Puddle))) Refusal
+abbrev pub reading_open : (right own : Bool) → Result (Option ℕ) Refusal
 reading_open right own = cond (not right) (Err refusals.Denied) (cond (not own) (Err refusals.Busy) (Ok None))
 
 -- ---- what is read
@@ -60,10 +60,11 @@ pub record HoldsGraph (w : World) (F : ℕ) (name : List ℕ) (image : Image) (p
   pub stored : graph_of (types_of image) (stored_in F puddles image) ≡ Some graph
   pub is : graph_seen (w.transactions name) (pool_named name w.stored) ≡ Some graph
 
--- the puddles that were found hold the pool's graph, or none were, since the client's own transaction is open on the pool
-abbrev pub HoldsFound : World → ℕ → Option (ℕ × List ℕ) → (client : ℕ) → List ℕ → Image → Option (List (ℕ × Puddle)) → Type 0
-HoldsFound w F held client name image None = opened_by held name ≡ Some client
-HoldsFound w F held client name image (Some puddles) = HoldsGraph w F name image puddles
+-- the puddles that are known of the pool in the slot that was found hold the pool's graph, or none was found, since the client's own transaction is open on
+-- the pool
+abbrev pub HoldsFound : World → ℕ → Option (ℕ × List ℕ) → (client : ℕ) → List ℕ → Image → List (Option (List (ℕ × Puddle))) → Option ℕ → Type 0
+HoldsFound w F held client name image judged None = opened_by held name ≡ Some client
+HoldsFound w F held client name image judged (Some slot) = HoldsGraph w F name image (unwrap_or (slice_index_or judged slot None) [])
 
 -- what is replied, by what was read of a field
 abbrev pub reply_of_read : FieldRead → Reply

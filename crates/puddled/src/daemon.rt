@@ -14,9 +14,10 @@ ghost use Rattle.puddled.specs.Memory.{Memory};
 ghost use Rattle.puddled.specs.Daemon.{KeepsRest, KeepsLine, IsReady, IsReplayed, AreMarks, Applies, CarriesOut, Recovers, Settles, without_marks};
 
 use crate::answers::{Answered, say_answer, with_reply};
-use crate::clients::{come, leave};
-use crate::pools::{change, drop_owned, make};
-use crate::reading::get;
+use crate::clients::come;
+use crate::judged::Judged;
+use crate::opened::{Opened, holder_of, lose};
+use crate::pools::{change, make};
 use crate::starting::{Marks, say_start};
 use crate::types::define_type;
 use pm_model::{Host, HostFault};
@@ -25,6 +26,7 @@ use recover::{RecoverFault, recover};
 use script::parse_line;
 use std::alloc::Global;
 use std::marker::Model;
+use std::mem;
 
 /// Why the daemon did not start.
 #[derive(Clone, Copy, Debug, PartialEq, Eq, thiserror::Error)]
@@ -87,23 +89,28 @@ impl From<StartFault> for RunFault {
     }
 }
 
-/// A daemon that has started on a device, and what it holds in memory between two lines.
-#[derive(Drop)]
+/// A daemon that has started on a device, and what it holds in memory between two lines. It is spent by `stop` alone.
 pub struct Daemon {
     /// How many frames the device has, 4 to 1,024.
-    frames: u32,
+    pub(crate) frames: u32,
+    /// The transaction that is open, where one is.
+    pub(crate) opened: Option<Opened>,
+    /// Which pools were judged since the start, but for the one on which the transaction is open.
+    pub(crate) judged: Judged,
 }
 
 impl Model for Daemon {
-    ghost use Rattle.std.specs.Prelude.{◌≤◌, None};
+    ghost use Rattle.std.specs.Prelude.{◌≤◌, IfSome};
     ghost use Rattle.pud_defs.specs.declared.layout.TheConstants.{MIN_FRAMES, MAX_FRAMES};
     ghost use Rattle.puddled.specs.Memory.{Memory};
+    ghost use Rattle.puddled.specs.Held.{IsHeldWithin};
+    ghost use Rattle.puddled.specs.Judged.{AreOnDevice};
 
     ghost Value = { Memory };
 
-    ghost view = { λ d. record { frames = d.frames; held = None } };
+    ghost view = { λ d. record { frames = d.frames; held = d.opened; judged = d.judged } };
 
-    ghost invariant = { λ d. (MIN_FRAMES ≤ d.frames) × (d.frames ≤ MAX_FRAMES) };
+    ghost invariant = { λ d. (MIN_FRAMES ≤ d.frames) × (d.frames ≤ MAX_FRAMES) × IfSome d.opened (IsHeldWithin d.frames) × AreOnDevice d.frames d.judged };
 }
 
 impl From<RecoverFault> for StartFault {
@@ -142,6 +149,8 @@ fn recover_device<H: Host>(h: &mut H) -> Result<(Daemon, Marks), StartFault>
     let marks = report.marks;
     let daemon = Daemon {
         frames: report.frames,
+        opened: None,
+        judged: Judged::none(),
     };
     Ok((daemon, marks))
 }
@@ -189,11 +198,12 @@ fn arm<H: Host>(h: &mut H, step: u32, pick: u64) -> Result<Reply, HostFault>
 
 /// Carries out the command, or refuses it, without a word.
 #[tactic(auto, using(crate::proofs::Carrying::keeps_line))]
-fn apply<H: Host>(daemon: &Daemon, h: &mut H, command: Command) -> Result<Answered, HostFault>
+fn apply<H: Host>(daemon: &mut Daemon, h: &mut H, command: Command) -> Result<Answered, HostFault>
     requires legal { IsLegalCommand command }
-    requires room { device_words daemon.now.frames ≤ (H.counts h.old).size }
-    ensures carries { H.tells → (size : ℕ) → size ≡ (H.counts h.old).size → (w : World) → IsReady size w daemon.now (H.state h.old)
-        → CarriesOut size w daemon.now (Option.Some command) result (H.counts h.old) (H.counts h.new) (H.state h.old) (H.state h.new) }
+    requires room { device_words daemon.old.frames ≤ (H.counts h.old).size }
+    ensures carries { H.tells → (size : ℕ) → size ≡ (H.counts h.old).size → (w : World) → IsReady size w daemon.old (H.state h.old)
+        → CarriesOut size w daemon.new (Option.Some command) result (H.counts h.old) (H.counts h.new) (H.state h.old) (H.state h.new) }
+    ensures frames { daemon.new.frames ≡ daemon.old.frames }
     ensures rest { H.tells → KeepsLine (file_of command) (H.state h.old) (H.state h.new) }
     ensures rests { H.tells → fault_of result ≡ Option.Some HostFault.Cut → IsRested (H.state h.new).now.words }
     ensures cause { CountsCommand (kind_of (Option.Some command)) (fault_of result) (H.counts h.old) (H.counts h.new) }
@@ -202,19 +212,18 @@ fn apply<H: Host>(daemon: &Daemon, h: &mut H, command: Command) -> Result<Answer
         Command::Client { client, uid, gid } => {
             with_reply(come(h, daemon.frames, u32::from(client), uid, gid))
         }
-        Command::Leave { client } => with_reply(leave(h, daemon.frames, u32::from(client))),
+        Command::Leave { client } => with_reply(daemon.leave(h, u32::from(client))),
         Command::Define { t, map } => with_reply(define_type(h, t, map)),
         Command::Pool { client, name, mode } => {
             with_reply(make(h, daemon.frames, u32::from(client), name, mode))
         }
         Command::Chmod { client, name, mode } => {
-            with_reply(change(h, None, u32::from(client), name, mode))
+            let held = holder_of(&daemon.opened);
+            with_reply(change(h, held, u32::from(client), name, mode))
         }
-        Command::Drop { client, name } => {
-            with_reply(drop_owned(h, daemon.frames, None, u32::from(client), name))
-        }
+        Command::Drop { client, name } => with_reply(daemon.drop_for(h, u32::from(client), name)),
         Command::Get { client, name, s, f } => {
-            with_reply(get(h, daemon.frames, None, &[], u32::from(client), name, s, f))
+            with_reply(daemon.get_for(h, u32::from(client), name, s, f))
         }
         Command::Begin { .. }
         | Command::Commit { .. }
@@ -265,7 +274,9 @@ fn go_on<H: Host>(
         Ok(answered) => Ok(answered),
         Err(HostFault::Failed) => Err(RunFault::Failed),
         Err(HostFault::Cut) => {
-            *daemon = restart(h)?;
+            let started = restart(h)?;
+            let lost = mem::replace(daemon, started);
+            lost.stop();
             Ok(Answered::Reply(reply_behind_loss(command)))
         }
     }
@@ -322,8 +333,13 @@ impl Daemon {
         ensures cause { H.counts h.new ≡ after_fault (start_fault result) (H.counts h.old) }
     {
         let (daemon, marks) = recover_device(h)?;
-        say_start(h, &marks)?;
-        Ok(daemon)
+        match say_start(h, &marks) {
+            Ok(()) => Ok(daemon),
+            Err(fault) => {
+                daemon.stop();
+                Err(StartFault::from(fault))
+            }
+        }
     }
 
     /// How many frames the device has, 4 to 1,024, as the start found it.
@@ -375,6 +391,11 @@ impl Daemon {
 
     /// Ends the daemon. It touches no device: the next start does what is to be done.
     pub fn stop(self) {
-        let Daemon { frames: _frames } = self;
+        let Daemon {
+            frames: _frames,
+            opened,
+            judged: _judged,
+        } = self;
+        lose(opened);
     }
 }

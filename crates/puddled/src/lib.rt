@@ -2,11 +2,17 @@
 #![tactic(auto)]
 
 mod answers;
+mod changing;
 mod clients;
+mod commands;
 mod daemon;
+mod judged;
+mod opened;
 mod pools;
 mod reading;
+mod refusals;
 mod starting;
+mod transactions;
 mod types;
 
 pub use daemon::{Daemon, RunFault, StartFault};

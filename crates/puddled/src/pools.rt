@@ -12,8 +12,12 @@ ghost use Rattle.pud_defs.specs.Step.{refusal_of, answer_by, world_by};
 ghost use Rattle.pud_defs.specs.Step.Answer.{of_reply};
 ghost use Rattle.puddled.specs.Memory.{Memory};
 ghost use Rattle.puddled.specs.Owning.{reply_of_making, refusal_found, holder_of, refusal_beside, IsSlotOf};
+ghost use Rattle.puddled.specs.Judged.{AreOnDevice, ForgetsPool};
 ghost use Rattle.puddled.specs.Daemon.{KeepsRest, IsReady, Applies};
 
+use crate::daemon::Daemon;
+use crate::judged::Judged;
+use crate::opened::holder_of;
 use crate::reading::opened_by;
 use log_space::owner;
 use pm_model::{Host, HostFault};
@@ -136,12 +140,13 @@ pub fn change<H: Host>(
     }
 }
 
-/// Drops the client's pool of this name with its puddles, or refuses to. A refused one changes nothing. The device has so many frames. What is
-/// held is given by its client and the name of its pool.
-pub fn drop_owned<H: Host>(
+/// Drops the client's pool of this name with its puddles, or refuses to. A refused one changes nothing; of one that is dropped nothing is
+/// known any more. The device has so many frames. What is held is given by its client and the name of its pool.
+fn drop_owned<H: Host>(
     h: &mut H,
     frames: u32,
     held: Option<(u32, Name)>,
+    judged: &mut Judged,
     client: u32,
     name: Name,
 ) -> Result<Reply, HostFault>
@@ -150,8 +155,13 @@ pub fn drop_owned<H: Host>(
     requires room { device_words frames ≤ (H.counts h.old).size }
     ensures reply { H.tells → (size : ℕ) → (w : World) → (memory : Memory) → holder_of memory.held ≡ held → IsReady size w memory (H.state h.old)
         → IfOk result (λ reply. of_reply reply ≡ answer_by w (Option.Some (commands.Drop client name))) }
-    ensures applies { H.tells → (size : ℕ) → size ≡ (H.counts h.old).size → (w : World) → (memory : Memory) → memory.frames ≡ frames → holder_of memory.held ≡ held → IsReady size w memory (H.state h.old)
-        → Applies size w (world_by w (Option.Some (commands.Drop client name))) memory (fault_of result) (H.state h.old) (H.state h.new) }
+    ensures applies { H.tells → (size : ℕ) → size ≡ (H.counts h.old).size → (w : World) → (memory : Memory) → memory.frames ≡ frames → holder_of memory.held ≡ held → memory.judged ≡ judged.old → IsReady size w memory (H.state h.old)
+        → Applies size w (world_by w (Option.Some (commands.Drop client name))) (record memory { judged = judged.new }) (fault_of result) (H.state h.old) (H.state h.new) }
+    ensures keeps { H.tells → (size : ℕ) → (w : World) → (memory : Memory) → holder_of memory.held ≡ held → IsReady size w memory (H.state h.old)
+        → refusal_of w (commands.Drop client name) ≢ Option.None → judged.new ≡ judged.old }
+    ensures forgets { H.tells → (size : ℕ) → (w : World) → (memory : Memory) → holder_of memory.held ≡ held → IsReady size w memory (H.state h.old)
+        → refusal_of w (commands.Drop client name) ≡ Option.None → IfOk result (λ reply. ForgetsPool w.stored.frames name (reads (H.state h.old).now.words) judged.old judged.new) }
+    ensures within { AreOnDevice frames judged.old → AreOnDevice frames judged.new }
     ensures rest { H.tells → KeepsRest (H.state h.old) (H.state h.new) }
     ensures rests { H.tells → fault_of result ≡ Option.Some HostFault.Cut → IsRested (H.state h.new).now.words }
     ensures cause { H.counts h.new ≡ after_fault (fault_of result) (H.counts h.old) }
@@ -159,8 +169,35 @@ pub fn drop_owned<H: Host>(
     match find_owned(h, held, client, name)? {
         Err(refusal) => Ok(Reply::No(refusal)),
         Ok(slot) => {
+            judged.forget(slot);
             drop_pool(h, frames, slot)?;
             Ok(Reply::Ok)
         }
+    }
+}
+
+impl Daemon {
+    /// Drops the client's pool of this name with its puddles, or refuses to. A refused one changes nothing; of one that is dropped nothing is
+    /// known any more.
+    pub(crate) fn drop_for<H: Host>(
+        &mut self,
+        h: &mut H,
+        client: u32,
+        name: Name,
+    ) -> Result<Reply, HostFault>
+        requires known { client < CLIENTS }
+        requires room { device_words (self.old).frames ≤ (H.counts h.old).size }
+        ensures reply { H.tells → (size : ℕ) → (w : World) → IsReady size w self.old (H.state h.old)
+            → IfOk result (λ reply. of_reply reply ≡ answer_by w (Option.Some (commands.Drop client name))) }
+        ensures applies { H.tells → (size : ℕ) → size ≡ (H.counts h.old).size → (w : World) → IsReady size w self.old (H.state h.old)
+            → Applies size w (world_by w (Option.Some (commands.Drop client name))) self.new (fault_of result) (H.state h.old) (H.state h.new) }
+        ensures held { (self.new).held ≡ (self.old).held }
+        ensures frames { (self.new).frames ≡ (self.old).frames }
+        ensures rest { H.tells → KeepsRest (H.state h.old) (H.state h.new) }
+        ensures rests { H.tells → fault_of result ≡ Option.Some HostFault.Cut → IsRested (H.state h.new).now.words }
+        ensures cause { H.counts h.new ≡ after_fault (fault_of result) (H.counts h.old) }
+    {
+        let held = holder_of(&self.opened);
+        drop_owned(h, self.frames, held, &mut self.judged, client, name)
     }
 }

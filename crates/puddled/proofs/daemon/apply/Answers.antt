@@ -1,17 +1,13 @@
-use Rattle.std.proofs.Common.{◌≡◌, ℕ, Option, Some, Ok, refl, sym, ap, subst, ◌∙◌}
+use Rattle.std.proofs.Common.{◌≡◌, ℕ, Some, Ok, refl, sym, ap, subst, ◌∙◌}
 use Rattle.pud_defs.specs.declared.machine.Command.{Command}
 use Rattle.pud_defs.specs.declared.machine.Command.TheVariants.{Client, Leave, Define, Chmod, Pools, Get, Cut, Arm}
 use Rattle.pud_defs.specs.declared.machine.Command.TheVariants as commands
 use Rattle.pud_defs.specs.Grammar.{IsLegalCommand}
-use Rattle.puddled.specs.Memory.{Held, Memory}
-use Rattle.puddled.specs.Held.{IsOthers}
+use Rattle.puddled.specs.Memory.{Memory}
 use Rattle.puddled.specs.declared.answers.Answered.TheVariants as answers
 use Rattle.puddled.specs.Owning.{holder_of}
-use Rattle.puddled.specs.Reading.{puddles_held}
 use Rattle.puddled.specs.Daemon.{CarriesOut}
 use Rattle.puddled.proofs.Carrying.{keeps_still, ClosesLogs-leave, ClosesLogs-other, CarriesOut-plain, CarriesOut-as, CarriesOut-listed, CarriesOut-lost, CarriesOut-armed}
-use Rattle.puddled.proofs.Others.{others_none}
-use Rattle.puddled.proofs.Readable.{Applies-get}
 use Rattle.puddled.proofs.daemon.apply.Goals as goal
 
 pub returns-in-Client-clause-carries : goal.returns-in-Client-clause-carries
@@ -25,16 +21,13 @@ returns-in-Client-clause-carries g c = λ t size e w ready.
 pub returns-in-Leave-clause-carries : goal.returns-in-Leave-clause-carries
 returns-in-Leave-clause-carries g c = λ t size e w ready.
     let is : c.args.command ≡ Leave c.from-in-Leave.result = c.in-Leave.is ∙ ap Leave (sym c.from-in-Leave.ensures) in
-    let frames = sym (ap (λ (m : Memory). m.frames) c.daemon.view_is) in
-    let others = subst (λ (o : Option Held). IsOthers c.from-in-Leave.result o) (ap (λ (m : Memory). m.held) c.daemon.view_is) (others_none c.from-in-Leave.result) in
-    CarriesOut-as size w c.args.daemon.now _ _ _ _ c.args.command (Leave c.from-in-Leave.result) c.with_reply-in-Leave.result c.leave.result is c.with_reply-in-Leave.ensures
-    (CarriesOut-plain size w c.args.daemon.now _ _ _ _ (Leave c.from-in-Leave.result) c.leave.result refl refl (c.leave.ensures.reply t size e w _ frames ready) (c.leave.ensures.applies t size e w _ frames ready others)
-    (ClosesLogs-leave w _ _ _ (c.leave.ensures.closes_first t size e w _ frames ready)) (c.leave.ensures.rest t) c.leave.ensures.cause)
+    CarriesOut-as size w c.leave.new.self _ _ _ _ c.args.command (Leave c.from-in-Leave.result) c.with_reply-in-Leave.result c.leave.result is c.with_reply-in-Leave.ensures
+    (CarriesOut-plain size w c.leave.new.self _ _ _ _ (Leave c.from-in-Leave.result) c.leave.result refl refl (c.leave.ensures.reply t size e w ready) (c.leave.ensures.applies t size e w ready)
+    (ClosesLogs-leave w _ _ _ (c.leave.ensures.closes_first t size e w ready)) (c.leave.ensures.rest t) c.leave.ensures.cause)
 
 pub returns-in-Define-clause-carries : goal.returns-in-Define-clause-carries
 returns-in-Define-clause-carries g c = λ t size e w ready.
     let is : c.args.command ≡ Define c.in-Define.t c.in-Define.map = c.in-Define.is in
-    let frames = sym (ap (λ (m : Memory). m.frames) c.daemon.view_is) in
     let legal = subst IsLegalCommand is c.requires.legal in
     CarriesOut-as size w c.args.daemon.now _ _ _ _ c.args.command (Define c.in-Define.t c.in-Define.map) c.with_reply-in-Define.result c.define_type.result is c.with_reply-in-Define.ensures
     (CarriesOut-plain size w c.args.daemon.now _ _ _ _ (Define c.in-Define.t c.in-Define.map) c.define_type.result refl refl (c.define_type.ensures.reply t size e w _ ready) (c.define_type.ensures.applies t size e w _ ready legal.0 legal.1)
@@ -43,7 +36,7 @@ returns-in-Define-clause-carries g c = λ t size e w ready.
 pub returns-in-Pool-clause-carries : goal.returns-in-Pool-clause-carries
 returns-in-Pool-clause-carries g c = λ t size e w ready.
     let is : c.args.command ≡ commands.Pool c.from-in-Pool.result c.in-Pool.name c.in-Pool.mode = c.in-Pool.is ∙ ap (λ (k : ℕ). commands.Pool k c.in-Pool.name c.in-Pool.mode) (sym c.from-in-Pool.ensures) in
-    let frames = sym (ap (λ (m : Memory). m.frames) c.daemon.view_is) in
+    let frames = sym (ap (λ (m : Memory). m.frames) c.daemon-in-Pool.view_is) in
     let legal = subst IsLegalCommand is c.requires.legal in
     CarriesOut-as size w c.args.daemon.now _ _ _ _ c.args.command (commands.Pool c.from-in-Pool.result c.in-Pool.name c.in-Pool.mode) c.with_reply-in-Pool.result c.make.result is c.with_reply-in-Pool.ensures
     (CarriesOut-plain size w c.args.daemon.now _ _ _ _ (commands.Pool c.from-in-Pool.result c.in-Pool.name c.in-Pool.mode) c.make.result refl refl (c.make.ensures.reply t size e w _ frames ready) (c.make.ensures.applies t size e w _ frames ready legal)
@@ -52,9 +45,9 @@ returns-in-Pool-clause-carries g c = λ t size e w ready.
 pub returns-in-Chmod-clause-carries : goal.returns-in-Chmod-clause-carries
 returns-in-Chmod-clause-carries g c = λ t size e w ready.
     let is : c.args.command ≡ Chmod c.from-in-Chmod.result c.in-Chmod.name c.in-Chmod.mode = c.in-Chmod.is ∙ ap (λ (k : ℕ). Chmod k c.in-Chmod.name c.in-Chmod.mode) (sym c.from-in-Chmod.ensures) in
-    let frames = sym (ap (λ (m : Memory). m.frames) c.daemon.view_is) in
+    let frames = sym (ap (λ (m : Memory). m.frames) c.daemon-in-Chmod.view_is) in
     let legal = subst IsLegalCommand is c.requires.legal in
-    let holder = sym (ap (λ (m : Memory). holder_of m.held) c.daemon.view_is) in
+    let holder = sym (ap (λ (m : Memory). holder_of m.held) c.daemon-in-Chmod.view_is) ∙ c.holder_of-held.ensures in
     CarriesOut-as size w c.args.daemon.now _ _ _ _ c.args.command (Chmod c.from-in-Chmod.result c.in-Chmod.name c.in-Chmod.mode) c.with_reply-in-Chmod.result c.change.result is c.with_reply-in-Chmod.ensures
     (CarriesOut-plain size w c.args.daemon.now _ _ _ _ (Chmod c.from-in-Chmod.result c.in-Chmod.name c.in-Chmod.mode) c.change.result refl refl (c.change.ensures.reply t size w _ holder ready) (c.change.ensures.applies t size e w _ holder ready legal)
     (ClosesLogs-other w _ _ _ (λ client no. cc)) (c.change.ensures.rest t) c.change.ensures.cause)
@@ -62,23 +55,17 @@ returns-in-Chmod-clause-carries g c = λ t size e w ready.
 pub returns-in-Drop-clause-carries : goal.returns-in-Drop-clause-carries
 returns-in-Drop-clause-carries g c = λ t size e w ready.
     let is : c.args.command ≡ commands.Drop c.from-in-Drop.result c.in-Drop.name = c.in-Drop.is ∙ ap (λ (k : ℕ). commands.Drop k c.in-Drop.name) (sym c.from-in-Drop.ensures) in
-    let frames = sym (ap (λ (m : Memory). m.frames) c.daemon.view_is) in
-    let holder = sym (ap (λ (m : Memory). holder_of m.held) c.daemon.view_is) in
-    CarriesOut-as size w c.args.daemon.now _ _ _ _ c.args.command (commands.Drop c.from-in-Drop.result c.in-Drop.name) c.with_reply-in-Drop.result c.drop_owned.result is c.with_reply-in-Drop.ensures
-    (CarriesOut-plain size w c.args.daemon.now _ _ _ _ (commands.Drop c.from-in-Drop.result c.in-Drop.name) c.drop_owned.result refl refl (c.drop_owned.ensures.reply t size w _ holder ready) (c.drop_owned.ensures.applies t size e w _ frames holder ready)
-    (ClosesLogs-other w _ _ _ (λ client no. cc)) (c.drop_owned.ensures.rest t) c.drop_owned.ensures.cause)
+    CarriesOut-as size w c.drop_for.new.self _ _ _ _ c.args.command (commands.Drop c.from-in-Drop.result c.in-Drop.name) c.with_reply-in-Drop.result c.drop_for.result is c.with_reply-in-Drop.ensures
+    (CarriesOut-plain size w c.drop_for.new.self _ _ _ _ (commands.Drop c.from-in-Drop.result c.in-Drop.name) c.drop_for.result refl refl (c.drop_for.ensures.reply t size w ready) (c.drop_for.ensures.applies t size e w ready)
+    (ClosesLogs-other w _ _ _ (λ client no. cc)) (c.drop_for.ensures.rest t) c.drop_for.ensures.cause)
 
 pub returns-in-Get-clause-carries : goal.returns-in-Get-clause-carries
 returns-in-Get-clause-carries g c = λ t size e w ready.
     let get = Get c.from-in-Get.result c.in-Get.name c.in-Get.s c.in-Get.f in
     let is : c.args.command ≡ get = c.in-Get.is ∙ ap (λ (k : ℕ). Get k c.in-Get.name c.in-Get.s c.in-Get.f) (sym c.from-in-Get.ensures) in
-    let frames = sym (ap (λ (m : Memory). m.frames) c.daemon.view_is) in
-    let held = sym (ap (λ (m : Memory). holder_of m.held) c.daemon.view_is) in
-    let at = sym (ap (λ (m : Memory). puddles_held m.held) c.daemon.view_is) in
-    CarriesOut-as size w c.args.daemon.now _ _ _ _ c.args.command get c.with_reply-in-Get.result c.get.result is c.with_reply-in-Get.ensures
-    (CarriesOut-plain size w c.args.daemon.now _ _ _ _ get c.get.result refl refl (c.get.ensures.reply t size w _ frames held at ready)
-    (Applies-get w c.from-in-Get.result c.in-Get.name c.in-Get.s c.in-Get.f size c.args.daemon.now _ _ _ ready (c.get.ensures.stays t) c.get.ensures.never_cut)
-    (ClosesLogs-other w _ _ _ (λ client no. cc)) (keeps_still _ _ (c.get.ensures.stays t)) c.get.ensures.cause)
+    CarriesOut-as size w c.get_for.new.self _ _ _ _ c.args.command get c.with_reply-in-Get.result c.get_for.result is c.with_reply-in-Get.ensures
+    (CarriesOut-plain size w c.get_for.new.self _ _ _ _ get c.get_for.result refl refl (c.get_for.ensures.reply t size w ready) (c.get_for.ensures.applies t size w ready)
+    (ClosesLogs-other w _ _ _ (λ client no. cc)) (keeps_still _ _ (c.get_for.ensures.stays t)) c.get_for.ensures.cause)
 
 pub returns-in-Pools-clause-carries : goal.returns-in-Pools-clause-carries
 returns-in-Pools-clause-carries g c = λ t size e w ready.

@@ -15,27 +15,27 @@ use Rattle.puddled.proofs.Counted.{kind_done, kind_faulty, kind_restarted, kind_
 use Rattle.puddled.proofs.Settling.{Settles-done, Settles-failed, Settles-again, Settles-unstarted, restart_sound, found_world, found_stands, found_shelf}
 use Rattle.puddled.proofs.daemon.go_on.Goals as goal
 
-pub returns-in_err-daemon-in-Err-Cut-clause-settles : goal.returns-in_err-daemon-in-Err-Cut-clause-settles
-returns-in_err-daemon-in-Err-Cut-clause-settles g c = λ t size e w line counted before of_line shelf carries.
+pub returns-in_err-started-in-Err-Cut-clause-settles : goal.returns-in_err-started-in-Err-Cut-clause-settles
+returns-in_err-started-in-Err-Cut-clause-settles g c = λ t size e w line counted before of_line shelf carries.
     let p = err_from_is_err_and c.from_residual.result c.from_residual.ensures.1 in
     let is : c.args.done ≡ Err hosts.Cut = c.in-Err-Cut.is ∙ ap Err (rw c.in-Err-Cut.is at c.in-Err-Cut.field-0-is) in
     let mid = g.H.Host.state c.args.h.now in
     let k = subst (λ (r : Result Answered HostFault). CarriesOut size w c.args.daemon.now (command_of line) r counted (g.H.Host.counts c.args.h.now) before mid) is carries in
-    let fault = c.in_err-daemon-in-Err-Cut.field-0.0 in
+    let fault = c.in_err-started-in-Err-Cut.field-0.0 in
     let next = found_world size w _ line _ _ before mid k shelf in
     rw (p.1, p.2) (Settles-unstarted size w _ line _ _ before mid k shelf _ _ _ fault
     (λ unsound.
-    let none = (c.in_err-daemon-in-Err-Cut.ensures.not_sound t (ap (λ (f : StartFault). start_fault {T = Memory} (Err f)) unsound)).0 (ap Err unsound) in
+    let none = (c.in_err-started-in-Err-Cut.ensures.not_sound t (ap (λ (f : StartFault). start_fault {T = Memory} (Err f)) unsound)).0 (ap Err unsound) in
     restart_sound size w _ line _ _ before mid k shelf (ap (λ (n : ℕ). world_of n (reads mid.now.words)) e ∙ none))
-    (c.in_err-daemon-in-Err-Cut.ensures.recovers t size e next (k.applies.rests refl) (found_stands size w _ line _ _ before mid k shelf) (found_shelf size w _ line _ _ before mid k shelf))
-    c.in_err-daemon-in-Err-Cut.ensures.cause)
+    (c.in_err-started-in-Err-Cut.ensures.recovers t size e next (k.applies.rests refl) (found_stands size w _ line _ _ before mid k shelf) (found_shelf size w _ line _ _ before mid k shelf))
+    c.in_err-started-in-Err-Cut.ensures.cause)
 
-pub returns-in_err-daemon-in-Err-Cut-clause-cause : goal.returns-in_err-daemon-in-Err-Cut-clause-cause
-returns-in_err-daemon-in-Err-Cut-clause-cause g c = λ counted counts.
+pub returns-in_err-started-in-Err-Cut-clause-cause : goal.returns-in_err-started-in-Err-Cut-clause-cause
+returns-in_err-started-in-Err-Cut-clause-cause g c = λ counted counts.
     let p = err_from_is_err_and c.from_residual.result c.from_residual.ensures.1 in
     let is : c.args.done ≡ Err hosts.Cut = c.in-Err-Cut.is ∙ ap Err (rw c.in-Err-Cut.is at c.in-Err-Cut.field-0-is) in
     let k = subst (λ (r : Result Answered HostFault). CountsCommand (kind_of (Some c.args.command)) (fault_of r) counted (g.H.Host.counts c.args.h.now)) is counts in
-    rw (p.1, p.2) (kind_unstarted (kind_of (Some c.args.command)) c.in_err-daemon-in-Err-Cut.field-0.0 _ _ _ k c.in_err-daemon-in-Err-Cut.ensures.cause)
+    rw (p.1, p.2) (kind_unstarted (kind_of (Some c.args.command)) c.in_err-started-in-Err-Cut.field-0.0 _ _ _ k c.in_err-started-in-Err-Cut.ensures.cause)
 
 pub returns-in-Ok-clause-settles : goal.returns-in-Ok-clause-settles
 returns-in-Ok-clause-settles g c = λ t size e w line counted before of_line shelf carries.
@@ -62,23 +62,23 @@ returns-in-Err-Failed-clause-cause g c = λ counted counts.
     let is : c.args.done ≡ Err hosts.Failed = c.in-Err-Failed.is ∙ ap Err (rw c.in-Err-Failed.is at c.in-Err-Failed.field-0-is) in
     kind_faulty (kind_of (Some c.args.command)) _ _ (subst (λ (r : Result Answered HostFault). CountsCommand (kind_of (Some c.args.command)) (fault_of r) counted (g.H.Host.counts c.args.h.now)) is counts)
 
-pub returns-in_ok-daemon-in-Err-Cut-clause-settles : goal.returns-in_ok-daemon-in-Err-Cut-clause-settles
-returns-in_ok-daemon-in-Err-Cut-clause-settles g c = λ t size e w line counted before of_line shelf carries.
+pub returns-in_ok-started-in-Err-Cut-clause-settles : goal.returns-in_ok-started-in-Err-Cut-clause-settles
+returns-in_ok-started-in-Err-Cut-clause-settles g c = λ t size e w line counted before of_line shelf carries.
     let is : c.args.done ≡ Err hosts.Cut = c.in-Err-Cut.is ∙ ap Err (rw c.in-Err-Cut.is at c.in-Err-Cut.field-0-is) in
     let mid = g.H.Host.state c.args.h.now in
     let k = subst (λ (r : Result Answered HostFault). CarriesOut size w c.args.daemon.now (command_of line) r counted (g.H.Host.counts c.args.h.now) before mid) is carries in
     let next = found_world size w _ line _ _ before mid k shelf in
-    rw c.reply_behind_loss.ensures (Settles-again size w _ line _ _ before mid k shelf _ _ _ (kind_of (Some c.args.command)) (ap kind_of of_line)
-    (c.in_ok-daemon-in-Err-Cut.ensures.recovers t size e next (k.applies.rests refl) (found_stands size w _ line _ _ before mid k shelf) (found_shelf size w _ line _ _ before mid k shelf))
-    c.in_ok-daemon-in-Err-Cut.ensures.cause)
+    rw (c.reply_behind_loss.ensures, c.replace-lost.ensures.after) (Settles-again size w _ line _ _ before mid k shelf _ _ _ (kind_of (Some c.args.command)) (ap kind_of of_line)
+    (c.in_ok-started-in-Err-Cut.ensures.recovers t size e next (k.applies.rests refl) (found_stands size w _ line _ _ before mid k shelf) (found_shelf size w _ line _ _ before mid k shelf))
+    c.in_ok-started-in-Err-Cut.ensures.cause)
 
-pub returns-in_ok-daemon-in-Err-Cut-clause-cause : goal.returns-in_ok-daemon-in-Err-Cut-clause-cause
-returns-in_ok-daemon-in-Err-Cut-clause-cause g c = λ counted counts.
+pub returns-in_ok-started-in-Err-Cut-clause-cause : goal.returns-in_ok-started-in-Err-Cut-clause-cause
+returns-in_ok-started-in-Err-Cut-clause-cause g c = λ counted counts.
     let is : c.args.done ≡ Err hosts.Cut = c.in-Err-Cut.is ∙ ap Err (rw c.in-Err-Cut.is at c.in-Err-Cut.field-0-is) in
     kind_restarted (kind_of (Some c.args.command)) _ _ _ (subst (λ (r : Result Answered HostFault). CountsCommand (kind_of (Some c.args.command)) (fault_of r) counted (g.H.Host.counts c.args.h.now)) is counts)
-    c.in_ok-daemon-in-Err-Cut.ensures.cause
+    c.in_ok-started-in-Err-Cut.ensures.cause
 
-pub returns-in_ok-daemon-in-Err-Cut-clause-restarted : goal.returns-in_ok-daemon-in-Err-Cut-clause-restarted
-returns-in_ok-daemon-in-Err-Cut-clause-restarted g c = λ t rested counted counts ok moved.
+pub returns-in_ok-started-in-Err-Cut-clause-restarted : goal.returns-in_ok-started-in-Err-Cut-clause-restarted
+returns-in_ok-started-in-Err-Cut-clause-restarted g c = λ t rested counted counts ok moved.
     let is : c.args.done ≡ Err hosts.Cut = c.in-Err-Cut.is ∙ ap Err (rw c.in-Err-Cut.is at c.in-Err-Cut.field-0-is) in
-    c.in_ok-daemon-in-Err-Cut.ensures.sound t (rested (ap fault_of is))
+    c.in_ok-started-in-Err-Cut.ensures.sound t (rested (ap fault_of is))

@@ -1,8 +1,13 @@
-use Rattle.std.proofs.Common.{ℕ, refl, sym, ap, ◌∙◌}
+use Rattle.std.proofs.Common.{rules, ℕ, None, refl, sym, ap, subst, ◌∙◌}
 use Rattle.std.proofs.lemmas.Result.{err_from_is_err_and}
 use Rattle.pm_model.specs.Words.{reads}
 use Rattle.pm_model.proofs.Changes.{Changes-said}
 use Rattle.pud_defs.specs.World.{world_of, closed}
+use Rattle.pud_defs.specs.declared.records.TheConstants.{POOL_RECORDS}
+use Rattle.puddled.specs.Judged.{AreOnDevice}
+use Rattle.puddled.specs.KnownPools.{KnowsPools}
+use Rattle.puddled.proofs.JudgedOpen.{KnowsPools-none}
+use Rattle.puddled.proofs.Known.{AreOnDevice-none}
 use Rattle.puddled.proofs.Restarts.{Recovers-done, Recovers-failed, sound_recovery, recovered_any}
 use Rattle.puddled.proofs.daemon.recover_device.Goals as goal
 
@@ -18,7 +23,9 @@ returns-in_err-report-clause-recovers g c =
 
 pub returns-clause-recovers : goal.returns-clause-recovers
 returns-clause-recovers g c = λ t size same w rested world shelf.
-    Recovers-done size w (g.H.Host.state c.args.h.now) (g.H.Host.state c.recover.new.h) _ world (c.in_ok-report.ensures.frames t) refl shelf (c.in_ok-report.ensures.recovers t size same (closed w) rested world)
+    let b = g.H.Host.state c.recover.new.h in
+    let knows = subst (λ known. KnowsPools w.stored.frames known None (reads b.now.words)) (sym c.none.ensures) (KnowsPools-none w.stored.frames POOL_RECORDS (reads b.now.words)) in
+    Recovers-done size w (g.H.Host.state c.args.h.now) b _ world (c.in_ok-report.ensures.frames t) refl knows shelf (c.in_ok-report.ensures.recovers t size same (closed w) rested world)
 
 pub returns-in_err-report-clause-quiet : goal.returns-in_err-report-clause-quiet
 returns-in_err-report-clause-quiet g c = λ t. Changes-said _ _ _ _ (c.in_err-report.ensures.any t)
@@ -48,3 +55,8 @@ returns-clause-frames g c = λ t rested.
     let a = g.H.Host.state c.args.h.now in
     c.in_ok-report.ensures.frames t ∙ (recovered_any size c.in_ok-report.report a (g.H.Host.state c.recover.new.h) (world_of size (reads a.now.words)) refl (c.in_ok-report.ensures.not_sound t refl)
     (λ s world. c.in_ok-report.ensures.recovers t size refl s rested world)).frames
+
+-- ---- what the daemon holds
+
+pub invariant_of-daemon : goal.invariant_of-daemon
+invariant_of-daemon g c = (search rules, search rules, tt, subst (AreOnDevice c.in_ok-report.report.frames) (sym c.none.ensures) (AreOnDevice-none c.in_ok-report.report.frames POOL_RECORDS))

@@ -26,7 +26,7 @@ returns-in-Ok-clause-settles g c = λ t size e w ready.
     let is : command_of c.args.line.now ≡ Some c.in-Ok.command = sym c.in-Ok.ensures.command in
     let after = e ∙ sym (size_of_command (kind_of (Some c.in-Ok.command)) (fault_of c.apply-done.result) _ _ c.apply-done.ensures.cause) in
     c.go_on.ensures.settles t size after w c.args.line.now _ _ is ready.shelf
-    (subst (λ (o : Option Command). CarriesOut size w c.args.daemon.now o c.apply-done.result (g.H.Host.counts c.args.h.now) (g.H.Host.counts c.apply-done.new.h) (g.H.Host.state c.args.h.now) (g.H.Host.state c.apply-done.new.h)) (sym is) (c.apply-done.ensures.carries t size e w ready))
+    (subst (λ (o : Option Command). CarriesOut size w c.apply-done.new.daemon o c.apply-done.result (g.H.Host.counts c.args.h.now) (g.H.Host.counts c.apply-done.new.h) (g.H.Host.state c.args.h.now) (g.H.Host.state c.apply-done.new.h)) (sym is) (c.apply-done.ensures.carries t size e w ready))
 
 pub returns-in-Ok-clause-restarted : goal.returns-in-Ok-clause-restarted
 returns-in-Ok-clause-restarted g c = λ t ok moved none.

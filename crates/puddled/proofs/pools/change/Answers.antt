@@ -41,7 +41,7 @@ returns-in_err-change_mode-in-Ok-clause-applies g c =
     rw (p.1, p.2) (λ t size e w memory holder ready legal.
     let then = e ∙ sym (ap (λ (n : Counts). n.size) c.in_ok-refusal.ensures.cause) in
     let found = subst (λ (r : Result ℕ Refusal). IfOk r (IsSlotOf w.stored.frames c.args.name (reads (g.H.Host.state c.args.h.now).now.words))) c.in-Ok.is (c.in_ok-refusal.ensures.slot t size w memory ready) in
-    Applies-behind size w (world_by w (Some (Chmod c.args.client c.args.name c.args.mode))) memory (Some c.in_err-change_mode-in-Ok.field-0.0) (g.H.Host.state c.args.h.now) (g.H.Host.state c.find_owned.new.h) (g.H.Host.state c.change_mode.new.h)
+    Applies-behind size w (world_by w (Some (Chmod c.args.client c.args.name c.args.mode))) memory memory (Some c.in_err-change_mode-in-Ok.field-0.0) (g.H.Host.state c.args.h.now) (g.H.Host.state c.find_owned.new.h) (g.H.Host.state c.change_mode.new.h)
     (c.find_owned.ensures.stays t)
     (λ ready_then.
     Applies-mode size w memory c.args.client c.in-Ok.slot c.args.name (Some c.in_err-change_mode-in-Ok.field-0.0) (g.H.Host.state c.find_owned.new.h) (g.H.Host.state c.change_mode.new.h) ready_then
@@ -54,7 +54,7 @@ pub returns-in_ok-change_mode-in-Ok-clause-applies : goal.returns-in_ok-change_m
 returns-in_ok-change_mode-in-Ok-clause-applies g c = λ t size e w memory holder ready legal.
     let then = e ∙ sym (ap (λ (n : Counts). n.size) c.in_ok-refusal.ensures.cause) in
     let found = subst (λ (r : Result ℕ Refusal). IfOk r (IsSlotOf w.stored.frames c.args.name (reads (g.H.Host.state c.args.h.now).now.words))) c.in-Ok.is (c.in_ok-refusal.ensures.slot t size w memory ready) in
-    Applies-behind size w (world_by w (Some (Chmod c.args.client c.args.name c.args.mode))) memory None (g.H.Host.state c.args.h.now) (g.H.Host.state c.find_owned.new.h) (g.H.Host.state c.change_mode.new.h)
+    Applies-behind size w (world_by w (Some (Chmod c.args.client c.args.name c.args.mode))) memory memory None (g.H.Host.state c.args.h.now) (g.H.Host.state c.find_owned.new.h) (g.H.Host.state c.change_mode.new.h)
     (c.find_owned.ensures.stays t)
     (λ ready_then.
     Applies-mode size w memory c.args.client c.in-Ok.slot c.args.name None (g.H.Host.state c.find_owned.new.h) (g.H.Host.state c.change_mode.new.h) ready_then

@@ -43,7 +43,7 @@ returns-clause-applies g c = λ t size e w memory frames ready legal.
     let same = sym frames ∙ ready.frames in
     let b = g.H.Host.state c.owner.new.h in
     let d = g.H.Host.state c.make_pool.new.h in
-    Applies-behind size w (world_by w (Some (commands.Pool c.args.client c.args.name c.args.mode))) memory (fault_of c.reply_of.result) (g.H.Host.state c.args.h.now) b d (c.owner.ensures.stays t)
+    Applies-behind size w (world_by w (Some (commands.Pool c.args.client c.args.name c.args.mode))) memory memory (fault_of c.reply_of.result) (g.H.Host.state c.args.h.now) b d (c.owner.ensures.stays t)
     (λ ready_then.
     Applies-making size w memory c.args.client c.in-Some.who.uid c.in-Some.who.gid c.args.mode c.args.frames c.args.name c.make_pool.result c.reply_of.result b d ready_then who same c.reply_of.ensures
     (λ n. HasFreshFrame (tables_of n (reads b.now.words)) (w.stored.next_number + 1))

@@ -4,21 +4,22 @@ use Rattle.pm_model.specs.Moments.{State}
 use Rattle.pud_defs.specs.Spaces.{owner}
 use Rattle.puddled.specs.Owning.{refusal_found, opened_by}
 use Rattle.puddled.proofs.Pooling.{acting, absent}
-use Rattle.puddled.proofs.Readable.{unread_client, unread_pool, unread_wild, unread_denied, is_readable, holds_graph, refusal_open}
+use Rattle.puddled.proofs.Known.{judged_puddles, none_found}
+use Rattle.puddled.proofs.Readable.{unread_client, unread_pool, unread_wild, unread_denied, is_readable, holds_graph, refusal_open, apart_from}
 use Rattle.puddled.proofs.reading.find_readable.Goals as goal
 
 pub returns-in_default-clause-refusal : goal.returns-in_default-clause-refusal
-returns-in_default-clause-refusal g c = λ t size w memory frames held ready.
+returns-in_default-clause-refusal g c = λ t size w memory frames held ready right.
     sym (unread_client size w memory _ ready c.args.client c.args.name (absent size w memory _ ready c.args.client c.requires.known (sym c.in_default.is ∙ c.in_ok-who.ensures.owner t _ refl)))
 
 pub returns-in_default-2-clause-refusal : goal.returns-in_default-2-clause-refusal
-returns-in_default-2-clause-refusal g c = λ t size w memory frames held ready.
+returns-in_default-2-clause-refusal g c = λ t size w memory frames held ready right.
     let who = acting size w memory _ ready c.args.client c.in-Some.who c.requires.known (sym c.in-Some.is ∙ c.in_ok-who.ensures.owner t _ refl) in
     let read = ap (λ (s : State). reads s.now.words) (c.owner.ensures.stays t) in
     sym (unread_pool size w memory _ ready c.args.client c.args.name (owner c.in-Some.who.uid c.in-Some.who.gid) who.is (sym c.in_default-2.is ∙ c.in_ok-slot.ensures.found t _ read w.stored.frames))
 
 pub returns-in-Some-opened_by-clause-refusal : goal.returns-in-Some-opened_by-clause-refusal
-returns-in-Some-opened_by-clause-refusal g c = λ t size w memory frames held ready.
+returns-in-Some-opened_by-clause-refusal g c = λ t size w memory frames held ready right.
     let who = acting size w memory _ ready c.args.client c.in-Some.who c.requires.known (sym c.in-Some.is ∙ c.in_ok-who.ensures.owner t _ refl) in
     let there = sym c.in-Some-2.is ∙ c.in_ok-slot.ensures.found t _ (ap (λ (s : State). reads s.now.words) (c.owner.ensures.stays t)) w.stored.frames in
     let opened = ap (λ (o : Option (ℕ × List ℕ)). opened_by o c.args.name) held ∙ sym c.opened_by.ensures ∙ c.in-Some-opened_by.is in
@@ -26,39 +27,68 @@ returns-in-Some-opened_by-clause-refusal g c = λ t size w memory frames held re
     ∙ refusal_open size w memory _ ready c.args.client c.args.name c.in-Some-2.slot c.in-Some-2.rec there c.in-Some-opened_by.other opened c.in-Some.who.uid c.in-Some.who.gid who.is
     c.may_read-right.result c.may_read-right.ensures
 
-pub returns-in_default-3-clause-refusal : goal.returns-in_default-3-clause-refusal
-returns-in_default-3-clause-refusal g c = λ t size w memory frames held ready.
+pub returns-then-not-branch-clause-refusal : goal.returns-then-not-branch-clause-refusal
+returns-then-not-branch-clause-refusal g c = λ t size w memory frames held ready right.
     let who = acting size w memory _ ready c.args.client c.in-Some.who c.requires.known (sym c.in-Some.is ∙ c.in_ok-who.ensures.owner t _ refl) in
     let first = c.owner.ensures.stays t in
     let there = sym c.in-Some-2.is ∙ c.in_ok-slot.ensures.found t _ (ap (λ (s : State). reads s.now.words) first) w.stored.frames in
     let shut = ap (λ (o : Option (ℕ × List ℕ)). opened_by o c.args.name) held ∙ sym c.opened_by.ensures ∙ c.in_default-opened_by.is in
-    let found = sym c.in_default-3.is ∙ c.in_ok-puddles.ensures.found t _ (ap (λ (s : State). reads s.now.words) (c.find.ensures.stays t ∙ first)) in
+    let found = none_found _ (sym c.if-not-branch.true ∙ c.in_ok-judge.ensures.sound t _ (ap (λ (s : State). reads s.now.words) (c.find.ensures.stays t ∙ first)) right) in
     sym (unread_wild size w memory _ ready c.args.client c.args.name c.in-Some-2.slot c.in-Some-2.rec there shut c.in-Some.who.uid c.in-Some.who.gid c.args.frames (sym frames ∙ ready.frames) who.is found)
 
 pub returns-then-not-right-clause-refusal : goal.returns-then-not-right-clause-refusal
-returns-then-not-right-clause-refusal g c = λ t size w memory frames held ready.
+returns-then-not-right-clause-refusal g c = λ t size w memory frames held ready right.
     let who = acting size w memory _ ready c.args.client c.in-Some.who c.requires.known (sym c.in-Some.is ∙ c.in_ok-who.ensures.owner t _ refl) in
     let first = c.owner.ensures.stays t in
     let there = sym c.in-Some-2.is ∙ c.in_ok-slot.ensures.found t _ (ap (λ (s : State). reads s.now.words) first) w.stored.frames in
     let shut = ap (λ (o : Option (ℕ × List ℕ)). opened_by o c.args.name) held ∙ sym c.opened_by.ensures ∙ c.in_default-opened_by.is in
-    let found = sym c.in-Some-3.is ∙ c.in_ok-puddles.ensures.found t _ (ap (λ (s : State). reads s.now.words) (c.find.ensures.stays t ∙ first)) in
+    let read = ap (λ (s : State). reads s.now.words) (c.find.ensures.stays t ∙ first) in
+    let found = judged_puddles c.args.frames c.in-Some-2.slot _ c.judge.new.self (sym c.if-not-branch.false ∙ c.in_ok-judge.ensures.puddles) (c.in_ok-judge.ensures.judged t _ read right) in
     sym (unread_denied size w memory _ ready c.args.client c.args.name c.in-Some-2.slot c.in-Some-2.rec there shut c.in-Some.who.uid c.in-Some.who.gid c.args.frames (sym frames ∙ ready.frames) who.is
-    c.in-Some-3.puddles found (sym c.may_read-right.ensures ∙ c.if-not-right.true))
+    _ found (sym c.may_read-right.ensures ∙ c.if-not-right.true))
 
 pub returns-clause-refusal : goal.returns-clause-refusal
-returns-clause-refusal g c = λ t size w memory frames held ready.
+returns-clause-refusal g c = λ t size w memory frames held ready right.
     let who = acting size w memory _ ready c.args.client c.in-Some.who c.requires.known (sym c.in-Some.is ∙ c.in_ok-who.ensures.owner t _ refl) in
     let first = c.owner.ensures.stays t in
     let there = sym c.in-Some-2.is ∙ c.in_ok-slot.ensures.found t _ (ap (λ (s : State). reads s.now.words) first) w.stored.frames in
     let shut = ap (λ (o : Option (ℕ × List ℕ)). opened_by o c.args.name) held ∙ sym c.opened_by.ensures ∙ c.in_default-opened_by.is in
-    let found = sym c.in-Some-3.is ∙ c.in_ok-puddles.ensures.found t _ (ap (λ (s : State). reads s.now.words) (c.find.ensures.stays t ∙ first)) in
+    let read = ap (λ (s : State). reads s.now.words) (c.find.ensures.stays t ∙ first) in
+    let found = judged_puddles c.args.frames c.in-Some-2.slot _ c.judge.new.self (sym c.if-not-branch.false ∙ c.in_ok-judge.ensures.puddles) (c.in_ok-judge.ensures.judged t _ read right) in
     sym (is_readable size w memory _ ready c.args.client c.args.name c.in-Some-2.slot c.in-Some-2.rec there shut c.in-Some.who.uid c.in-Some.who.gid c.args.frames (sym frames ∙ ready.frames) who.is
-    c.in-Some-3.puddles found (sym c.may_read-right.ensures ∙ c.if-not-right.false))
+    _ found (sym c.may_read-right.ensures ∙ c.if-not-right.false))
 
 pub returns-clause-graph : goal.returns-clause-graph
-returns-clause-graph g c = λ t size w memory frames held ready.
+returns-clause-graph g c = λ t size w memory frames held ready right.
     let first = c.owner.ensures.stays t in
     let there = sym c.in-Some-2.is ∙ c.in_ok-slot.ensures.found t _ (ap (λ (s : State). reads s.now.words) first) w.stored.frames in
     let shut = ap (λ (o : Option (ℕ × List ℕ)). opened_by o c.args.name) held ∙ sym c.opened_by.ensures ∙ c.in_default-opened_by.is in
-    let found = sym c.in-Some-3.is ∙ c.in_ok-puddles.ensures.found t _ (ap (λ (s : State). reads s.now.words) (c.find.ensures.stays t ∙ first)) in
-    holds_graph size w memory _ ready c.args.client c.args.name c.in-Some-2.slot c.in-Some-2.rec there shut c.args.frames c.in-Some-3.puddles (sym frames ∙ ready.frames) found
+    let read = ap (λ (s : State). reads s.now.words) (c.find.ensures.stays t ∙ first) in
+    let found = judged_puddles c.args.frames c.in-Some-2.slot _ c.judge.new.self (sym c.if-not-branch.false ∙ c.in_ok-judge.ensures.puddles) (c.in_ok-judge.ensures.judged t _ read right) in
+    holds_graph size w memory _ ready c.args.client c.args.name c.in-Some-2.slot c.in-Some-2.rec there shut c.args.frames _ (sym frames ∙ ready.frames) found
+
+-- ---- of the pool on which a transaction is open nothing comes to be known
+
+pub returns-in_err-judge-clause-apart : goal.returns-in_err-judge-clause-apart
+returns-in_err-judge-clause-apart g c = λ t size w memory frames held ready mine is.
+    let there = sym c.in-Some-2.is ∙ c.in_ok-slot.ensures.found t _ (ap (λ (s : State). reads s.now.words) (c.owner.ensures.stays t)) w.stored.frames in
+    let shut = ap (λ (o : Option (ℕ × List ℕ)). opened_by o c.args.name) held ∙ sym c.opened_by.ensures ∙ c.in_default-opened_by.is in
+    c.in_err-judge.ensures.others mine.slot (apart_from size w memory _ ready c.args.client c.args.name c.in-Some-2.slot c.in-Some-2.rec there shut mine is)
+
+pub returns-then-not-branch-clause-apart : goal.returns-then-not-branch-clause-apart
+returns-then-not-branch-clause-apart g c = λ t size w memory frames held ready mine is.
+    let there = sym c.in-Some-2.is ∙ c.in_ok-slot.ensures.found t _ (ap (λ (s : State). reads s.now.words) (c.owner.ensures.stays t)) w.stored.frames in
+    let shut = ap (λ (o : Option (ℕ × List ℕ)). opened_by o c.args.name) held ∙ sym c.opened_by.ensures ∙ c.in_default-opened_by.is in
+    c.in_ok-judge.ensures.others mine.slot (apart_from size w memory _ ready c.args.client c.args.name c.in-Some-2.slot c.in-Some-2.rec there shut mine is)
+
+pub returns-then-not-right-clause-apart : goal.returns-then-not-right-clause-apart
+returns-then-not-right-clause-apart g c = λ t size w memory frames held ready mine is.
+    let there = sym c.in-Some-2.is ∙ c.in_ok-slot.ensures.found t _ (ap (λ (s : State). reads s.now.words) (c.owner.ensures.stays t)) w.stored.frames in
+    let shut = ap (λ (o : Option (ℕ × List ℕ)). opened_by o c.args.name) held ∙ sym c.opened_by.ensures ∙ c.in_default-opened_by.is in
+    c.in_ok-judge.ensures.others mine.slot (apart_from size w memory _ ready c.args.client c.args.name c.in-Some-2.slot c.in-Some-2.rec there shut mine is)
+
+pub returns-clause-apart : goal.returns-clause-apart
+returns-clause-apart g c = λ t size w memory frames held ready mine is.
+    let there = sym c.in-Some-2.is ∙ c.in_ok-slot.ensures.found t _ (ap (λ (s : State). reads s.now.words) (c.owner.ensures.stays t)) w.stored.frames in
+    let shut = ap (λ (o : Option (ℕ × List ℕ)). opened_by o c.args.name) held ∙ sym c.opened_by.ensures ∙ c.in_default-opened_by.is in
+    c.in_ok-judge.ensures.others mine.slot (apart_from size w memory _ ready c.args.client c.args.name c.in-Some-2.slot c.in-Some-2.rec there shut mine is)

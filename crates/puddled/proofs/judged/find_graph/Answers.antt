@@ -4,7 +4,7 @@ use Rattle.pm_model.specs.Moments.{State}
 use Rattle.pud_defs.specs.Tables.{tables_of}
 use Rattle.puddle_table.specs.Placed.{HoldsPlaces}
 use Rattle.puddled.proofs.Readable.{puddles_judged}
-use Rattle.puddled.proofs.reading.find_graph.Goals as goal
+use Rattle.puddled.proofs.judged.find_graph.Goals as goal
 
 pub returns-then-not-branch-clause-found : goal.returns-then-not-branch-clause-found
 returns-then-not-branch-clause-found g c = λ t image read.

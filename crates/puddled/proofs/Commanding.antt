@@ -1,0 +1,146 @@
+-- A line of a transaction: refused by what was read, or carried out behind calls that read.
+use Rattle.std.proofs.Common.{◌≡◌, inl, ℕ, List, Option, Some, None, Result, Ok, Err, refl, sym, ap, ap₂, subst, ◌∙◌}
+use Rattle.std.specs.Prelude.{IfOk}
+use Rattle.std.proofs.lemmas.Option.{same_Some}
+use Rattle.pm_model.specs.declared.host.HostFault.{HostFault}
+use Rattle.pm_model.specs.declared.host.HostFault.TheVariants.{Cut}
+use Rattle.pm_model.specs.Words.{reads}
+use Rattle.pm_model.specs.Counts.{Counts, after_fault, fault_of}
+use Rattle.pm_model.specs.Moments.{State}
+use Rattle.pm_model.proofs.Leaves.{Leaves-still}
+use Rattle.pud_defs.specs.declared.machine.Command.{Command}
+use Rattle.pud_defs.specs.declared.machine.Command.TheVariants.{Leave, Begin, Commit, Abort, New, Set}
+use Rattle.pud_defs.specs.declared.machine.Refusal.{Refusal}
+use Rattle.pud_defs.specs.declared.objects.Val.{Val}
+use Rattle.pud_defs.specs.declared.machine.Reply.{Reply}
+use Rattle.pud_defs.specs.declared.machine.Reply.TheVariants as replies
+use Rattle.pud_defs.specs.Changing.{file_of}
+use Rattle.pud_defs.specs.Image.{Image}
+use Rattle.pud_defs.specs.World.{World}
+use Rattle.pud_defs.specs.Step.{refusal_of, after, answer_by, world_by}
+use Rattle.pud_defs.specs.Step.Answer.{of_reply}
+use Rattle.pud_defs.proofs.Steps.{refused_answer, done_world}
+use Rattle.puddled.specs.Answered.{as_answered}
+use Rattle.puddled.specs.Daemon.{KeepsRest, IsReady, Applies, CarriesOut}
+use Rattle.puddled.specs.Faults.{kind_of}
+use Rattle.puddled.specs.Faults.Kind.{ordinary}
+use Rattle.puddled.specs.Held.{IsOwn}
+use Rattle.puddled.specs.Judged.{known_in, AreJudged}
+use Rattle.puddled.specs.KnownPools.{KnowsPools}
+use Rattle.puddled.specs.Memory.{Held, Memory}
+use Rattle.puddled.proofs.Applying.{Applies-failed, Applies-refused, IsReady-beside}
+use Rattle.puddled.proofs.Beside.{ready_stands}
+use Rattle.puddled.proofs.Carrying.{keeps_still, ClosesLogs-other, CarriesOut-plain}
+use Rattle.puddled.proofs.JudgedOpen.{KnowsPools-read}
+
+-- ---- what is known of pools
+
+-- a daemon that is ready knows of pools what a scan gives
+pub judged_ready : (size : ℕ) (w : World) (memory : Memory) (s : State) → IsReady size w memory s → AreJudged memory.frames memory.judged (reads s.now.words)
+judged_ready size w memory s ready = subst (λ (n : ℕ). AreJudged n memory.judged (reads s.now.words)) (sym ready.frames) ready.knows.judged
+
+-- more is known of pools by a call that reads, but not of the one on which the transaction is open
+pub ready_read : (size : ℕ) (w : World) (memory next : Memory) (old new : State) → IsReady size w memory old → new ≡ old → next.frames ≡ memory.frames → next.held ≡ memory.held
+    → ((image : Image) → reads old.now.words ≡ image → AreJudged memory.frames memory.judged image → AreJudged memory.frames next.judged image)
+    → ((mine : Held) → memory.held ≡ Some mine → known_in next.judged mine.slot ≡ known_in memory.judged mine.slot) → IsReady size w next new
+ready_read size w memory next old new ready same frames held judged apart =
+    let image : Image = reads old.now.words in
+    let right = subst (λ (n : ℕ). AreJudged n next.judged image) ready.frames (judged image refl (judged_ready size w memory old ready)) in
+    let knows = subst (λ (o : Option Held). KnowsPools w.stored.frames memory.judged o image) (sym held) ready.knows in
+    subst (λ (s : State). IsReady size w next s) (sym same)
+    (IsReady-beside size w memory next old frames held (KnowsPools-read w.stored.frames memory.judged next.judged next.held image right (λ mine is. apart mine (sym held ∙ is)) knows) ready)
+
+-- ---- what a line owes
+
+-- The command is to lose no power, writes no file, and lets no client go.
+pub record IsPlain (c : Command) : Type 0 where
+  pub kind : kind_of (Some c) ≡ ordinary
+  pub file : file_of c ≡ None
+  pub stays : (client : ℕ) → Some c ≡ Some (Leave client) → ⊥
+
+-- calls that read, and no others, came
+module _ (size : ℕ) (w : World) (memory : Memory) (first last : Counts) (old new : State) (c : Command) (plain : IsPlain c) (same : new ≡ old) (ready : IsReady size w memory new) where
+  ready_before : IsReady size w memory old
+  ready_before = subst (λ (s : State). IsReady size w memory s) same ready
+
+  -- it was refused by what was read
+  pub CarriesOut-refused : (r : Refusal) → refusal_of w c ≡ Some r → last ≡ first → CarriesOut size w memory (Some c) (as_answered (Ok (replies.No r))) first last old new
+  CarriesOut-refused r refused cause =
+      CarriesOut-plain size w memory first last old new c (Ok (replies.No r)) plain.kind plain.file (sym (refused_answer w c r refused))
+      (Applies-refused size w memory c r old new ready_before refused same) (ClosesLogs-other w (Some c) old new plain.stays) (keeps_still old new same) cause
+
+  -- one of them failed
+  pub CarriesOut-unread : (fault : HostFault) → (Some fault ≡ Some Cut → ⊥) → last ≡ after_fault (Some fault) first → CarriesOut size w memory (Some c) (as_answered (Err fault)) first last old new
+  CarriesOut-unread fault never_cut cause =
+      CarriesOut-plain size w memory first last old new c (Err fault) plain.kind plain.file tt
+      (Applies-failed size w (world_by w (Some c)) memory fault old new ready_before same never_cut) (ClosesLogs-other w (Some c) old new plain.stays) (keeps_still old new same) cause
+
+-- behind calls that read it is carried out
+module _ (size : ℕ) (w : World) (memory : Memory) (first mid last : Counts) (a b d : State) (c : Command) (plain : IsPlain c) (free : refusal_of w c ≡ None) (same : b ≡ a) (counted : mid ≡ first)
+    (rest : KeepsRest b d) where
+  -- a call that does so failed
+  pub CarriesOut-stopped : (fault : HostFault) → Applies size w (after w c) memory (Some fault) b d → last ≡ after_fault (Some fault) mid → CarriesOut size w memory (Some c) (as_answered (Err fault)) first last a d
+  CarriesOut-stopped fault applies cause =
+      subst (λ (s : State). CarriesOut size w memory (Some c) (as_answered (Err fault)) first last s d) same
+      (CarriesOut-plain size w memory first last b d c (Err fault) plain.kind plain.file tt
+      (subst (λ (v : World). Applies size w v memory (Some fault) b d) (sym (done_world w c free)) applies) (ClosesLogs-other w (Some c) b d plain.stays) rest (cause ∙ ap (after_fault (Some fault)) counted))
+
+  -- it was, and replied to so
+  pub CarriesOut-done : (reply : Reply) → of_reply reply ≡ answer_by w (Some c) → Applies size w (after w c) memory None b d → last ≡ mid → CarriesOut size w memory (Some c) (as_answered (Ok reply)) first last a d
+  CarriesOut-done reply replied applies cause =
+      subst (λ (s : State). CarriesOut size w memory (Some c) (as_answered (Ok reply)) first last s d) same
+      (CarriesOut-plain size w memory first last b d c (Ok reply) plain.kind plain.file replied
+      (subst (λ (v : World). Applies size w v memory None b d) (sym (done_world w c free)) applies) (ClosesLogs-other w (Some c) b d plain.stays) rest (cause ∙ counted))
+
+-- it is not refused, and carried out behind calls that read
+pub Applies-behind_reads : (size : ℕ) (w : World) (memory : Memory) (c : Command) (fault : Option HostFault) (a b d : State) → refusal_of w c ≡ None → b ≡ a → Applies size w (after w c) memory fault b d
+    → Applies size w (world_by w (Some c)) memory fault a d
+Applies-behind_reads size w memory c fault a b d free same applies =
+    subst (λ (v : World). Applies size w v memory fault a d) (sym (done_world w c free)) (subst (λ (s : State). Applies size w (after w c) memory fault s d) same applies)
+
+-- Behind calls that read it is carried out, or refused, by a call on the client's own transaction, which is held.
+module _ (size : ℕ) (w : World) (memory : Memory) (first mid last : Counts) (a b d : State) (line : ℕ → List ℕ → Command) (client : ℕ) (name : List ℕ) (plain : IsPlain (line client name)) (same : b ≡ a)
+    (counted : mid ≡ first) where
+  pub CarriesOut-own : (o : Option Held) (held : Held) (done : Result Reply HostFault) → IsOwn client name o → o ≡ Some held
+      → IfOk done (λ reply. of_reply reply ≡ answer_by w (Some (line held.client held.name))) → Applies size w (world_by w (Some (line held.client held.name))) memory (fault_of done) b d → KeepsRest b d
+      → last ≡ after_fault (fault_of done) mid → CarriesOut size w memory (Some (line client name)) (as_answered done) first last a d
+  CarriesOut-own o held done own is replied applies rest cause =
+      let mine : held ≡ own.mine = same_Some held own.mine (sym is ∙ own.is) in
+      let asked : line held.client held.name ≡ line client name = ap₂ line (ap (λ (h : Held). h.client) mine ∙ own.whose) (ap (λ (h : Held). h.name) mine ∙ own.pool) in
+      subst (λ (s : State). CarriesOut size w memory (Some (line client name)) (as_answered done) first last s d) same
+      (CarriesOut-plain size w memory first last b d (line client name) done plain.kind plain.file
+      (subst (λ (c : Command). IfOk done (λ reply. of_reply reply ≡ answer_by w (Some c))) asked replied)
+      (subst (λ (c : Command). Applies size w (world_by w (Some c)) memory (fault_of done) b d) asked applies)
+      (ClosesLogs-other w (Some (line client name)) b d plain.stays) rest (cause ∙ ap (after_fault (fault_of done)) counted))
+
+-- no device was touched
+pub Applies-untouched : (size : ℕ) (w next : World) (memory behind : Memory) (s : State) → IsReady size w memory s → IsReady size next behind s → Applies size w next behind None s s
+Applies-untouched size w next memory behind s ready then = record {
+  moments = Leaves-still _ s s (λ image picked. let stands = ready_stands size w memory s ready image picked in (refl, (inl stands.0, stands.1))) refl;
+  quiet = refl;
+  ready = λ _. then;
+  rests = λ cut. absurd (let no : None ≡ Some Cut = cut in cc);
+  script = refl;
+}
+
+-- the daemon is ready with what it holds
+pub ready_with : (size : ℕ) (w : World) (memory : Memory) (held : Held) (s : State) → memory.held ≡ Some held → IsReady size w memory s → IsReady size w (record memory { held = Some held }) s
+ready_with size w memory held s is ready = subst (λ (o : Option Held). IsReady size w (record memory { held = o }) s) is ready
+
+-- ---- the lines of transactions
+
+module _ (client : ℕ) (name : List ℕ) where
+  pub begin_is_plain : IsPlain (Begin client name)
+  begin_is_plain = record { kind = refl; file = refl; stays = λ other is. cc }
+
+  pub commit_is_plain : IsPlain (Commit client name)
+  commit_is_plain = record { kind = refl; file = refl; stays = λ other is. cc }
+
+  pub abort_is_plain : IsPlain (Abort client name)
+  abort_is_plain = record { kind = refl; file = refl; stays = λ other is. cc }
+
+  pub new_is_plain : (t : ℕ) → IsPlain (New client name t)
+  new_is_plain t = record { kind = refl; file = refl; stays = λ other is. cc }
+
+  pub set_is_plain : (s f : ℕ) (x : Val) → IsPlain (Set client name s f x)
+  set_is_plain s f x = record { kind = refl; file = refl; stays = λ other is. cc }

@@ -1,0 +1,48 @@
+use Rattle.std.proofs.Common.{Option, Some, refl, sym, ap, subst, ◌∙◌, arith}
+use Rattle.std.proofs.lemmas.Result.{err_from_is_err_and}
+use Rattle.pm_model.specs.Counts.{Counts, fault_of}
+use Rattle.pud_defs.specs.declared.machine.Command.TheVariants.{Leave}
+use Rattle.pud_defs.specs.Step.{after}
+use Rattle.pud_defs.specs.Transactions.{without_client}
+use Rattle.pud_defs.specs.World.{World}
+use Rattle.puddled.specs.Daemon.{Applies}
+use Rattle.puddled.specs.Held.{IsOthers}
+use Rattle.puddled.specs.Leaving.{BehindTables, world_without}
+use Rattle.puddled.specs.Memory.{Held, Memory}
+use Rattle.puddled.proofs.Coming.{ClosesBefore-changes}
+use Rattle.puddled.proofs.Leaving.{others_left, gone_world, Applies-then, Applies-cut_short, ClosesBefore-then}
+use Rattle.puddled.proofs.daemon.Daemon.let_go.Goals as goal
+
+pub returns-in_err-undo_of-clause-applies : goal.returns-in_err-undo_of-clause-applies
+returns-in_err-undo_of-clause-applies g c =
+    let p = err_from_is_err_and c.from_residual.result c.from_residual.ensures.1 in
+    rw (p.1, p.2) (λ t size e w ready.
+    Applies-cut_short size w (after w (Leave c.args.client)) (without_client c.args.client w.transactions) c.undo_of.new.self c.in_err-undo_of.field-0.0 (g.H.Host.state c.args.h.now) (g.H.Host.state c.undo_of.new.h)
+    (c.in_err-undo_of.ensures.applies t size e w ready))
+
+pub returns-in_err-undo_of-clause-closes_first : goal.returns-in_err-undo_of-clause-closes_first
+returns-in_err-undo_of-clause-closes_first g c = λ t size e w ready present.
+    ClosesBefore-changes size w c.args.self.now c.args.client c.requires.known present (BehindTables w.stored.frames) (Some c.in_err-undo_of.field-0.0) (g.H.Host.state c.args.h.now) (g.H.Host.state c.undo_of.new.h) ready
+    (λ k v below may. absurd (omega arith)) (c.in_err-undo_of.ensures.behind t size e w ready)
+
+pub returns-clause-applies : goal.returns-clause-applies
+returns-clause-applies g c = λ t size e w ready.
+    let first = c.undo_of.new.self in
+    let mid = g.H.Host.state c.undo_of.new.h in
+    let new = g.H.Host.state c.dismiss.new.h in
+    let fault = fault_of c.dismiss.result in
+    let then = e ∙ sym (ap (λ (n : Counts). n.size) c.in_ok-undo_of.ensures.cause) in
+    let frames = sym (ap (λ (m : Memory). m.frames) c.self.view_is) in
+    let others = subst (λ (o : Option Held). IsOthers c.args.client o) (sym c.in_ok-undo_of.ensures.held) (others_left c.args.client c.args.self.now.held) in
+    Applies-then size w (after w (Leave c.args.client)) (without_client c.args.client w.transactions) first first fault (g.H.Host.state c.args.h.now) mid new (c.in_ok-undo_of.ensures.applies t size e w ready)
+    (λ ready_mid. subst (λ (v : World). Applies size (world_without c.args.client w) v first fault mid new) (gone_world w c.args.client)
+    (c.dismiss.ensures.applies t size then (world_without c.args.client w) first frames ready_mid others))
+
+pub returns-clause-closes_first : goal.returns-clause-closes_first
+returns-clause-closes_first g c = λ t size e w ready present.
+    let first = c.in_ok-undo_of.ensures.applies t size e w ready in
+    let then = e ∙ sym (ap (λ (n : Counts). n.size) c.in_ok-undo_of.ensures.cause) in
+    let frames = sym (ap (λ (m : Memory). m.frames) c.self.view_is) in
+    ClosesBefore-then size w c.args.self.now c.args.client (g.H.Host.state c.args.h.now) (g.H.Host.state c.undo_of.new.h) (g.H.Host.state c.dismiss.new.h) c.requires.known present ready
+    (c.in_ok-undo_of.ensures.behind t size e w ready) first.quiet
+    (c.dismiss.ensures.closes_first t size then (world_without c.args.client w) c.undo_of.new.self frames (first.ready refl) present)

@@ -1,0 +1,45 @@
+use Rattle.std.proofs.Common.{◌≡◌, Some, None, sym, ◌∙◌, subst, arith}
+use Rattle.pm_model.specs.Counts.{fault_of}
+use Rattle.pud_defs.specs.declared.machine.Command.TheVariants.{Set}
+use Rattle.pud_defs.specs.Step.{refusal_of, after}
+use Rattle.hybrid_tx.specs.Grounds.{IsRewritten}
+use Rattle.puddled.specs.Memory.{Held}
+use Rattle.puddled.specs.Held.{IsHeldWithin}
+use Rattle.puddled.specs.Daemon.{Applies}
+use Rattle.puddled.proofs.HeldSets.{Applies-set}
+use Rattle.puddled.proofs.opened.Opened.set.Goals as goal
+
+pub returns-clause-applies : goal.returns-clause-applies
+returns-clause-applies g c = λ t size e w memory frames mine ready rewritten free.
+    let i = c.self.inside in
+    let held : Held = record { client = i.client; depth = i.depth; name = i.name; slot = i.slot; at = i.puddles; number = i.number; log = i.tx } in
+    let old = g.H.Host.state c.args.h.now in
+    let new = g.H.Host.state c.set-done.new.h in
+    let s = c.args.s in
+    let f = c.args.f in
+    let x = c.args.x in
+    subst (λ (o : Held).
+    memory.held ≡ Some o → IsRewritten o.at → refusal_of w (Set o.client o.name s f x) ≡ None
+    → Applies size w (after w (Set o.client o.name s f x)) (record memory { held = Some (record held { log = c.set-done.new.self }) }) (fault_of c.set-done.result) old new)
+    c.self.view_is
+    (λ mine rewritten free.
+    Applies-set size w memory held old mine ready c.args.frames c.as_slice.result.now (sym frames ∙ ready.frames) c.as_slice.ensures.puddles c.set-done.new.self new c.set-done.ensures.at s f x c.set-done.result rewritten free
+    (λ rewritten there placed running. c.set-done.ensures.runs t _ _ _ _ placed rewritten running there)
+    (λ there placed running. c.set-done.ensures.counts t _ _ _ _ placed running there))
+    mine rewritten free
+
+pub returns-clause-within : goal.returns-clause-within
+returns-clause-within g c =
+    let was = subst (IsHeldWithin c.args.frames) (sym c.self.view_is) c.requires.within in
+    let counted = c.units-units.ensures.used in
+    let few = c.units-units.ensures.within in
+    record {
+      slot = was.slot;
+      puddles = was.puddles;
+      client = was.client;
+      number = was.number;
+      gate = c.set-done.ensures.at ∙ was.gate;
+      used = omega (arith, counted, few);
+      begun = was.begun;
+      few = was.few;
+    }

@@ -1,0 +1,227 @@
+//! The calls that answer the five commands of a transaction: it is begun, committed and undone, an object is made in it, and a field set.
+ghost use Rattle.std.specs.Prelude.{◌≡◌, ◌<◌, ◌≤◌, ℕ, IsTrue, Option, IfOk, IfSome};
+ghost use Rattle.pm_model.specs.Words.{IsRested};
+ghost use Rattle.pm_model.specs.Counts.{after_fault, fault_of};
+ghost use Rattle.pud_defs.specs.declared.layout.TheConstants.{CLIENTS, MAX_FRAMES, MAX_FIELDS};
+ghost use Rattle.pud_defs.specs.declared.machine.Command.TheVariants as commands;
+ghost use Rattle.pud_defs.specs.Layout.{device_words};
+ghost use Rattle.pud_defs.specs.Step.{answer_by, world_by};
+ghost use Rattle.pud_defs.specs.Step.Answer.{of_reply};
+ghost use Rattle.pud_defs.specs.World.{World};
+ghost use Rattle.puddled.specs.Answered.{as_answered};
+ghost use Rattle.puddled.specs.Held.{IsHeldWithin};
+ghost use Rattle.puddled.specs.Memory.{Memory};
+ghost use Rattle.puddled.specs.Daemon.{KeepsRest, IsReady, Applies, CarriesOut};
+
+use crate::daemon::Daemon;
+use crate::opened::Opened;
+use crate::refusals::Beginning;
+use pm_model::{Host, HostFault};
+use pud_defs::machine::Reply;
+use pud_defs::objects::Val;
+use pud_defs::records::Name;
+
+impl Opened {
+    /// Gives field `f`, 0 to 29, of the object of serial `s` another value, or refuses to, as the line `set` of the transaction's client does.
+    ///
+    /// The device has so many frames. Two fences; a refused one changes nothing.
+    fn set_field<H: Host>(
+        &mut self,
+        h: &mut H,
+        frames: u32,
+        s: u64,
+        f: u32,
+        x: Val,
+    ) -> Result<Reply, HostFault>
+        requires few { frames ≤ MAX_FRAMES }
+        requires room { device_words frames ≤ (H.counts h.old).size }
+        requires within { IsHeldWithin frames self.old }
+        requires field { f < MAX_FIELDS }
+        ensures reply { H.tells → (size : ℕ) → (w : World) → (memory : Memory) → memory.frames ≡ frames → memory.held ≡ Option.Some self.old → IsReady size w memory (H.state h.old)
+            → IfOk result (λ reply. of_reply reply ≡ answer_by w (Option.Some (commands.Set (self.old).client (self.old).name s f x))) }
+        ensures applies { H.tells → (size : ℕ) → size ≡ (H.counts h.old).size → (w : World) → (memory : Memory) → memory.frames ≡ frames → memory.held ≡ Option.Some self.old
+            → IsReady size w memory (H.state h.old)
+            → Applies size w (world_by w (Option.Some (commands.Set (self.old).client (self.old).name s f x))) (record memory { held = Option.Some self.new }) (fault_of result)
+            (H.state h.old) (H.state h.new) }
+        ensures within { IsHeldWithin frames self.new }
+        ensures rest { H.tells → KeepsRest (H.state h.old) (H.state h.new) }
+        ensures rests { H.tells → fault_of result ≡ Option.Some HostFault.Cut → IsRested (H.state h.new).now.words }
+        ensures cause { H.counts h.new ≡ after_fault (fault_of result) (H.counts h.old) }
+    {
+        if let Some(refusal) = self.refusal_to_set(h, frames, s, f, x)? {
+            return Ok(Reply::No(refusal));
+        }
+        self.set(h, frames, s, f, x)?;
+        Ok(Reply::Ok)
+    }
+}
+
+impl Daemon {
+    /// Whether no transaction is open on a pool of another name: then `begin` may be called with this one.
+    pub fn is_free_beside(&self, name: Name) -> bool
+        ensures { IsTrue result → IfSome (self.now).held (λ held. held.name ≡ name) }
+    {
+        match &self.opened {
+            Some(opened) => opened.name == name,
+            None => true,
+        }
+    }
+
+    /// Begins a transaction of the client, 0 to 7, on the pool of this name, in the lowest closed log of the client; or, where the client's own is
+    /// open on the pool, begins it once more, which touches no device. The reply is `Ok`, or says why nothing was begun, by the first of these that
+    /// holds: `Client`, the client is not present; `Pool`, there is no pool of the name; `Wild`, the pool has no graph; `Denied`, its mode
+    /// does not allow the client to write; `Busy`, another client's transaction is open on it; `Deep`, the client's own was begun 16 times; `Logs`,
+    /// each log of the client has an open transaction.
+    ///
+    /// The daemon holds one transaction at most: this call is for a pool of the name on which it is open, or for any pool while none is open, and
+    /// `is_free_beside` says so of a name. The only errors are the host's own: `Failed` where a call of it failed, `Cut` where power was lost. At
+    /// either the device stands for what it stood for before the call or for what the line gives, and the daemon is to be stopped, and to start anew.
+    pub fn begin<H: Host>(&mut self, h: &mut H, client: u32, name: Name) -> Result<Reply, HostFault>
+        requires known { client < CLIENTS }
+        requires room { device_words (self.old).frames ≤ (H.counts h.old).size }
+        requires alone { IfSome (self.old).held (λ held. held.name ≡ name) }
+        ensures carries { H.tells → (size : ℕ) → size ≡ (H.counts h.old).size → (w : World) → IsReady size w self.old (H.state h.old)
+            → CarriesOut size w self.new (Option.Some (commands.Begin client name)) (as_answered result) (H.counts h.old) (H.counts h.new) (H.state h.old) (H.state h.new) }
+        ensures room { device_words (self.new).frames ≤ (H.counts h.old).size }
+        ensures rest { H.tells → KeepsRest (H.state h.old) (H.state h.new) }
+        ensures rests { H.tells → fault_of result ≡ Option.Some HostFault.Cut → IsRested (H.state h.new).now.words }
+        ensures cause { H.counts h.new ≡ after_fault (fault_of result) (H.counts h.old) }
+    {
+        match self.find_beginning(h, client, name)? {
+            Beginning::Refused(refusal) => Ok(Reply::No(refusal)),
+            Beginning::Deeper => {
+                self.deepen();
+                Ok(Reply::Ok)
+            }
+            Beginning::Anew { slot, number } => {
+                self.begin_on(h, client, name, slot, number)?;
+                Ok(Reply::Ok)
+            }
+        }
+    }
+
+    /// Commits the client's own transaction on the pool of this name: what it changed is then durable, or, where it was begun more often than once,
+    /// it stays open, begun once less often, and no device is touched. The client is one of 0 to 7. The reply is `Ok`, or says why nothing was
+    /// committed, by the first of these that holds: `Client`, the client is not present; `Pool`, there is no pool of the name; `Wild`, the pool has no
+    /// graph; `Busy`, another client's transaction is open on it; `Tx`, none is.
+    ///
+    /// The only errors are the host's own: `Failed` where a call of it failed, `Cut` where power was lost. At either the device stands for what it
+    /// stood for before the call or for what the line gives, and the daemon is to be stopped, and to start anew.
+    pub fn commit<H: Host>(
+        &mut self,
+        h: &mut H,
+        client: u32,
+        name: Name,
+    ) -> Result<Reply, HostFault>
+        requires known { client < CLIENTS }
+        requires room { device_words (self.old).frames ≤ (H.counts h.old).size }
+        ensures carries { H.tells → (size : ℕ) → size ≡ (H.counts h.old).size → (w : World) → IsReady size w self.old (H.state h.old)
+            → CarriesOut size w self.new (Option.Some (commands.Commit client name)) (as_answered result) (H.counts h.old) (H.counts h.new) (H.state h.old) (H.state h.new) }
+        ensures room { device_words (self.new).frames ≤ (H.counts h.old).size }
+        ensures rest { H.tells → KeepsRest (H.state h.old) (H.state h.new) }
+        ensures rests { H.tells → fault_of result ≡ Option.Some HostFault.Cut → IsRested (H.state h.new).now.words }
+        ensures cause { H.counts h.new ≡ after_fault (fault_of result) (H.counts h.old) }
+    {
+        if let Some(refusal) = self.refusal_of_own(h, client, name)? {
+            return Ok(Reply::No(refusal));
+        }
+        self.commit_own(h)?;
+        Ok(Reply::Ok)
+    }
+
+    /// Undoes the client's own transaction on the pool of this name, however often it was begun: its objects are as they were at the first `begin`. The client
+    /// is one of 0 to 7. The reply is `Ok`, or says why nothing was undone, by the first of these that holds: `Client`, the client is not present;
+    /// `Pool`, there is no pool of the name; `Wild`, the pool has no graph; `Busy`, another client's transaction is open on it; `Tx`, none is.
+    ///
+    /// The only errors are the host's own: `Failed` where a call of it failed, `Cut` where power was lost. At either the device stands for what it
+    /// stood for before the call or for what the line gives, and the daemon is to be stopped, and to start anew.
+    pub fn abort<H: Host>(&mut self, h: &mut H, client: u32, name: Name) -> Result<Reply, HostFault>
+        requires known { client < CLIENTS }
+        requires room { device_words (self.old).frames ≤ (H.counts h.old).size }
+        ensures carries { H.tells → (size : ℕ) → size ≡ (H.counts h.old).size → (w : World) → IsReady size w self.old (H.state h.old)
+            → CarriesOut size w self.new (Option.Some (commands.Abort client name)) (as_answered result) (H.counts h.old) (H.counts h.new) (H.state h.old) (H.state h.new) }
+        ensures room { device_words (self.new).frames ≤ (H.counts h.old).size }
+        ensures rest { H.tells → KeepsRest (H.state h.old) (H.state h.new) }
+        ensures rests { H.tells → fault_of result ≡ Option.Some HostFault.Cut → IsRested (H.state h.new).now.words }
+        ensures cause { H.counts h.new ≡ after_fault (fault_of result) (H.counts h.old) }
+    {
+        if let Some(refusal) = self.refusal_of_own(h, client, name)? {
+            return Ok(Reply::No(refusal));
+        }
+        self.abort_own(h)?;
+        Ok(Reply::Ok)
+    }
+
+    /// Makes an object of type `t` in the client's own transaction on the pool of this name, with each field zero or null: the client sees it at once,
+    /// and others once it is committed. Where the pool has no free slot it grows by a puddle first, which it keeps also where the transaction is
+    /// undone. The client is one of 0 to 7. The reply is the object's serial, or says why none was made, by the first of these that holds: `Client`,
+    /// the client is not present; `Pool`, there is no pool of the name; `Wild`, the pool has no graph; `Busy`, another client's transaction is open
+    /// on it; `Tx`, none is; `Type`, the type is not defined; `TooBig`, the transaction's log has no room for 37 units more; `Full`, the pool has no
+    /// serial left, or as many objects as it may have, or is to grow where no UUID is left; `Space`, it is to grow and no frame is free.
+    ///
+    /// The only errors are the host's own: `Failed` where a call of it failed, `Cut` where power was lost. At either the device stands for what it
+    /// stood for before the call or for what the line gives, and the daemon is to be stopped, and to start anew.
+    pub fn new_object<H: Host>(
+        &mut self,
+        h: &mut H,
+        client: u32,
+        name: Name,
+        t: u32,
+    ) -> Result<Reply, HostFault>
+        requires known { client < CLIENTS }
+        requires room { device_words (self.old).frames ≤ (H.counts h.old).size }
+        ensures carries { H.tells → (size : ℕ) → size ≡ (H.counts h.old).size → (w : World) → IsReady size w self.old (H.state h.old)
+            → CarriesOut size w self.new (Option.Some (commands.New client name t)) (as_answered result) (H.counts h.old) (H.counts h.new) (H.state h.old) (H.state h.new) }
+        ensures room { device_words (self.new).frames ≤ (H.counts h.old).size }
+        ensures rest { H.tells → KeepsRest (H.state h.old) (H.state h.new) }
+        ensures rests { H.tells → fault_of result ≡ Option.Some HostFault.Cut → IsRested (H.state h.new).now.words }
+        ensures cause { H.counts h.new ≡ after_fault (fault_of result) (H.counts h.old) }
+    {
+        if let Some(refusal) = self.refusal_of_own(h, client, name)? {
+            return Ok(Reply::No(refusal));
+        }
+        let frames = self.frames;
+        match &mut self.opened {
+            Some(opened) => opened.new_object(h, frames, t),
+            None => unreachable!(),
+        }
+    }
+
+    /// Gives field `f`, 0 to 29, of the object of serial `s` another value, in the client's own transaction on the pool of this name: the client sees it
+    /// at once, and others once it is committed. The client is one of 0 to 7. The reply is `Ok`, or says why nothing was set, by the first of these
+    /// that holds: `Client`, the client is not present; `Pool`, there is no pool of the name; `Wild`, the pool has no graph; `Busy`, another client's
+    /// transaction is open on it; `Tx`, none is; `Object`, the value names an object that the pool does not have, or there is none of serial `s`;
+    /// `Field`, the object has no such field; `Kind`, the field holds a number and the value is a reference, or the other way round; `TooBig`, the
+    /// transaction's log has no room for three units more.
+    ///
+    /// The only errors are the host's own: `Failed` where a call of it failed, `Cut` where power was lost. At either the device stands for what it
+    /// stood for before the call or for what the line gives, and the daemon is to be stopped, and to start anew.
+    pub fn set<H: Host>(
+        &mut self,
+        h: &mut H,
+        client: u32,
+        name: Name,
+        s: u64,
+        f: u32,
+        x: Val,
+    ) -> Result<Reply, HostFault>
+        requires known { client < CLIENTS }
+        requires field { f < MAX_FIELDS }
+        requires room { device_words (self.old).frames ≤ (H.counts h.old).size }
+        ensures carries { H.tells → (size : ℕ) → size ≡ (H.counts h.old).size → (w : World) → IsReady size w self.old (H.state h.old)
+            → CarriesOut size w self.new (Option.Some (commands.Set client name s f x)) (as_answered result) (H.counts h.old) (H.counts h.new) (H.state h.old) (H.state h.new) }
+        ensures room { device_words (self.new).frames ≤ (H.counts h.old).size }
+        ensures rest { H.tells → KeepsRest (H.state h.old) (H.state h.new) }
+        ensures rests { H.tells → fault_of result ≡ Option.Some HostFault.Cut → IsRested (H.state h.new).now.words }
+        ensures cause { H.counts h.new ≡ after_fault (fault_of result) (H.counts h.old) }
+    {
+        if let Some(refusal) = self.refusal_of_own(h, client, name)? {
+            return Ok(Reply::No(refusal));
+        }
+        let frames = self.frames;
+        match &mut self.opened {
+            Some(opened) => opened.set_field(h, frames, s, f, x),
+            None => unreachable!(),
+        }
+    }
+}

@@ -1,0 +1,140 @@
+//! Which pools were judged, and where their puddles stand.
+ghost use Rattle.std.specs.Prelude.{◌≡◌, ◌≢◌, ◌<◌, ◌≤◌, ℕ, true, false, replicate, set, is_some, unwrap_or, [], Option, IfOk, IfSome};
+ghost use Rattle.pm_model.specs.Words.{reads};
+ghost use Rattle.pm_model.specs.Counts.{after_fault, fault_of};
+ghost use Rattle.pud_defs.specs.declared.layout.TheConstants.{MAX_FRAMES};
+ghost use Rattle.pud_defs.specs.declared.records.TheConstants.{POOL_RECORDS};
+ghost use Rattle.pud_defs.specs.Image.{Image};
+ghost use Rattle.pud_defs.specs.Layout.{device_words};
+ghost use Rattle.pud_defs.specs.Stored.{IsOnDevice};
+ghost use Rattle.puddled.specs.Reading.{puddles_with_graph};
+ghost use Rattle.puddled.specs.Judged.{known_in, AreOnDevice, AreJudged};
+
+use graph_read::pool_is_sound;
+use pm_model::{Host, HostFault};
+use pud_defs::records::{POOL_RECORDS, Puddle};
+use puddle_table::{Puddles, find_places};
+use std::array;
+use std::marker::Model;
+
+/// The puddles of the pools that were found to have a graph, by the slots of the pools' records.
+#[derive(Drop)]
+pub(crate) struct Judged {
+    pools: [Option<Puddles>; POOL_RECORDS as usize],
+}
+
+impl Model for Judged {
+    ghost use Rattle.std.specs.Prelude.{ℕ, List, Option};
+    ghost use Rattle.pud_defs.specs.declared.records.Puddle.{Puddle};
+
+    ghost Value = { List (Option (List (ℕ × Puddle))) };
+
+    ghost view = { λ j. j.pools };
+}
+
+/// The puddles of the pool in this slot, where they have a graph. The device has so many frames.
+fn find_graph<H: Host>(h: &mut H, frames: u32, slot: u32) -> Result<Option<Puddles>, HostFault>
+    requires known { slot < POOL_RECORDS }
+    requires few { frames ≤ MAX_FRAMES }
+    requires room { device_words frames ≤ (H.counts h.old).size }
+    ensures found { H.tells → (image : Image) → reads (H.state h.old).now.words ≡ image
+        → IfOk result (λ found. found ≡ puddles_with_graph frames image slot) }
+    ensures known { IfOk result (λ found. IfSome found (IsOnDevice frames)) }
+    ensures stays { H.tells → H.state h.new ≡ H.state h.old }
+    ensures cause { H.counts h.new ≡ after_fault (fault_of result) (H.counts h.old) }
+    ensures never_cut { fault_of result ≢ Option.Some HostFault.Cut }
+{
+    let puddles = find_places(h, frames)?.of_pool(h, slot)?;
+    if !pool_is_sound(h, frames, puddles.as_slice())? {
+        return Ok(None);
+    }
+    Ok(Some(puddles))
+}
+
+impl Judged {
+    /// No pool was judged yet.
+    pub(crate) fn none() -> Judged
+        ensures { result ≡ replicate POOL_RECORDS Option.None }
+    {
+        Judged {
+            pools: array::from_fn(|_| None),
+        }
+    }
+
+    /// Whether the pool in this slot is known to have a graph.
+    pub(crate) fn knows(&self, slot: u32) -> bool
+        requires { slot < POOL_RECORDS }
+        ensures { result ≡ is_some (known_in self.now slot) }
+    {
+        self.pools[slot as usize].is_some()
+    }
+
+    /// The puddles of the pool in this slot by their ordinals, each with its frame, where it is known to have a graph, and else none.
+    pub(crate) fn puddles(&self, slot: u32) -> &[(u32, Puddle)]
+        requires { slot < POOL_RECORDS }
+        ensures { result.now ≡ unwrap_or (known_in self.now slot) [] }
+    {
+        match &self.pools[slot as usize] {
+            Some(puddles) => puddles.as_slice(),
+            None => &[],
+        }
+    }
+
+    /// Keeps the puddles of the pool in this slot.
+    pub(crate) fn put(&mut self, slot: u32, puddles: Puddles)
+        requires { slot < POOL_RECORDS }
+        ensures put { self.new ≡ set self.old slot (Option.Some puddles) }
+        ensures known { known_in self.new slot ≡ Option.Some puddles }
+    {
+        self.pools[slot as usize] = Some(puddles);
+    }
+
+    /// Gives the puddles of the pool in this slot away, where it is known to have a graph: then it is to be judged anew.
+    pub(crate) fn take(&mut self, slot: u32) -> Option<Puddles>
+        requires { slot < POOL_RECORDS }
+        ensures puddles { result ≡ known_in self.old slot }
+        ensures forgotten { self.new ≡ set self.old slot Option.None }
+    {
+        self.pools[slot as usize].take()
+    }
+
+    /// Forgets what is known of the pool in this slot.
+    pub(crate) fn forget(&mut self, slot: u32)
+        requires { slot < POOL_RECORDS }
+        ensures { self.new ≡ set self.old slot Option.None }
+    {
+        self.pools[slot as usize] = None;
+    }
+
+    /// Whether the pool in this slot has a graph: it is judged, unless it is known to have one, and then known. The device has so many frames.
+    pub(crate) fn judge<H: Host>(
+        &mut self,
+        h: &mut H,
+        frames: u32,
+        slot: u32,
+    ) -> Result<bool, HostFault>
+        requires known { slot < POOL_RECORDS }
+        requires few { frames ≤ MAX_FRAMES }
+        requires room { device_words frames ≤ (H.counts h.old).size }
+        ensures sound { H.tells → (image : Image) → reads (H.state h.old).now.words ≡ image → AreJudged frames self.old image
+            → IfOk result (λ sound. sound ≡ is_some (puddles_with_graph frames image slot)) }
+        ensures puddles { IfOk result (λ sound. sound ≡ is_some (known_in self.new slot)) }
+        ensures judged { H.tells → (image : Image) → reads (H.state h.old).now.words ≡ image → AreJudged frames self.old image → AreJudged frames self.new image }
+        ensures others { (i : ℕ) → i ≢ slot → known_in self.new i ≡ known_in self.old i }
+        ensures known { AreOnDevice frames self.old → AreOnDevice frames self.new }
+        ensures stays { H.tells → H.state h.new ≡ H.state h.old }
+        ensures cause { H.counts h.new ≡ after_fault (fault_of result) (H.counts h.old) }
+        ensures never_cut { fault_of result ≢ Option.Some HostFault.Cut }
+    {
+        if self.knows(slot) {
+            return Ok(true);
+        }
+        match find_graph(h, frames, slot)? {
+            Some(puddles) => {
+                self.put(slot, puddles);
+                Ok(true)
+            }
+            None => Ok(false),
+        }
+    }
+}
