@@ -9,7 +9,6 @@ use Rattle.pm_model.specs.Moments.{State}
 use Rattle.pm_model.specs.Changes.{Leaves}
 use Rattle.pm_model.proofs.Leaves.{Leaves-then, Leaves-weaker, Leaves-each}
 use Rattle.pud_defs.specs.Grammar.{command_of}
-use Rattle.pud_defs.specs.Spaces.{Owner}
 use Rattle.pud_defs.specs.World.{World, StoredWorld, no_clients, nothing_open, world_of, closed, restart}
 use Rattle.pud_defs.specs.Run.{last_world, Turn, cuts_of, newlines}
 use Rattle.pud_defs.specs.Texts.{replies_text}

@@ -79,6 +79,25 @@ fn serve_byte<H: Host>(
 }
 
 /// Answers the script's lines. The answer is whether the script was read to its end; else 2^20 bytes were taken.
+fn serve_script<H: Host>(alloc: Global, daemon: &mut Daemon, h: &mut H) -> Result<bool, RunFault>
+    requires { device_words daemon.old.frames ≤ (H.counts h.old).size }
+    ensures answered { H.tells → (size : ℕ) → size ≡ (H.counts h.old).size → (w : World) → IsReady size w daemon.old (H.state h.old)
+        → AnsweredBy size w result (H.counts h.old) (H.counts h.new) (H.state h.old) (H.state h.new) }
+    ensures takes { H.tells → TakesBy result (H.state h.old) (H.state h.new) }
+    ensures not_sound { H.tells → result ≡ Result.Err RunFault.NotSound → IsUnsoundBehindLoss (H.counts h.old) (H.counts h.new) (H.state h.new) }
+    ensures cause { Ends (run_fault result) (H.counts h.old) (H.counts h.new) }
+{
+    let mut piece = Piece::new();
+    for _taken in 0..SCRIPT_LIMIT {
+        if !serve_byte(alloc, daemon, h, &mut piece)? {
+            answer(alloc, daemon, h, &mut piece)?;
+            return Ok(true);
+        }
+    }
+    Ok(false)
+}
+
+/// Answers the script's lines, as `serve_script`, and then stops the daemon, also where it cannot go on.
 fn serve<H: Host>(alloc: Global, daemon: Daemon, h: &mut H) -> Result<bool, RunFault>
     requires { device_words daemon.frames ≤ (H.counts h.old).size }
     ensures answered { H.tells → (size : ℕ) → size ≡ (H.counts h.old).size → (w : World) → IsReady size w daemon (H.state h.old)
@@ -88,16 +107,9 @@ fn serve<H: Host>(alloc: Global, daemon: Daemon, h: &mut H) -> Result<bool, RunF
     ensures cause { Ends (run_fault result) (H.counts h.old) (H.counts h.new) }
 {
     let mut daemon = daemon;
-    let mut piece = Piece::new();
-    for _taken in 0..SCRIPT_LIMIT {
-        if !serve_byte(alloc, &mut daemon, h, &mut piece)? {
-            answer(alloc, &mut daemon, h, &mut piece)?;
-            daemon.stop();
-            return Ok(true);
-        }
-    }
+    let served = serve_script(alloc, &mut daemon, h);
     daemon.stop();
-    Ok(false)
+    served
 }
 
 /// The mode `run`, with its status.

@@ -62,8 +62,9 @@ fn start_and_say<H: Host>(h: &mut H, view: View) -> Result<(), StartFault>
     ensures cause { H.counts h.new ≡ after_fault (start_fault result) (H.counts h.old) }
 {
     let daemon = Daemon::start(h)?;
-    say_view(h, daemon.frames(), view)?;
+    let frames = daemon.frames();
     daemon.stop();
+    say_view(h, frames, view)?;
     Ok(())
 }
 

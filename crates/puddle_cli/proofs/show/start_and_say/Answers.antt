@@ -19,8 +19,8 @@ pub returns-in_err-say_view-clause-says : goal.returns-in_err-say_view-clause-sa
 returns-in_err-say_view-clause-says g c =
     let p = err_from_is_err_and c.from_residual-in_err-say_view.result c.from_residual-in_err-say_view.ensures.1 in
     rw (p.1, p.2) (λ t rested sound.
-    let said = shown (g.H.Host.counts c.args.h.now).size c.frames.result c.args.view (g.H.Host.state c.args.h.now) (g.H.Host.state c.start.new.h) (g.H.Host.state c.say_view.new.h) (Some c.in_err-say_view.field-0.0)
-    (not_refused _ _ (c.in_ok-daemon.ensures.not_sound t refl)) (c.in_ok-daemon.ensures.replays t rested) (c.frames.ensures.frames ∙ c.in_ok-daemon.ensures.frames t rested)
+    let said = shown (g.H.Host.counts c.args.h.now).size c.frames-frames.result c.args.view (g.H.Host.state c.args.h.now) (g.H.Host.state c.start.new.h) (g.H.Host.state c.say_view.new.h) (Some c.in_err-say_view.field-0.0)
+    (not_refused _ _ (c.in_ok-daemon.ensures.not_sound t refl)) (c.in_ok-daemon.ensures.replays t rested) (c.frames-frames.ensures.frames ∙ c.in_ok-daemon.ensures.frames t rested)
     (λ next tables frames. c.in_err-say_view.ensures.sound t _ refl next tables frames) in
     SaysPart-started _ _ _ _ _ _ (c.in_ok-daemon.ensures.says t (λ no. absurd (cc))) said)
 
@@ -36,8 +36,8 @@ returns-in_err-say_view-clause-rest g c = λ t. KeepsRest-says _ _ _ _ _ (c.in_o
 
 pub returns-clause-says : goal.returns-clause-says
 returns-clause-says g c = λ t rested sound.
-    let said = shown (g.H.Host.counts c.args.h.now).size c.frames.result c.args.view (g.H.Host.state c.args.h.now) (g.H.Host.state c.start.new.h) (g.H.Host.state c.say_view.new.h) None
-    (not_refused _ _ (c.in_ok-daemon.ensures.not_sound t refl)) (c.in_ok-daemon.ensures.replays t rested) (c.frames.ensures.frames ∙ c.in_ok-daemon.ensures.frames t rested)
+    let said = shown (g.H.Host.counts c.args.h.now).size c.frames-frames.result c.args.view (g.H.Host.state c.args.h.now) (g.H.Host.state c.start.new.h) (g.H.Host.state c.say_view.new.h) None
+    (not_refused _ _ (c.in_ok-daemon.ensures.not_sound t refl)) (c.in_ok-daemon.ensures.replays t rested) (c.frames-frames.ensures.frames ∙ c.in_ok-daemon.ensures.frames t rested)
     (λ next tables frames. c.in_ok-say_view.ensures.sound t _ refl next tables frames) in
     SaysPart-started _ _ _ _ _ _ (c.in_ok-daemon.ensures.says t (λ no. absurd (cc))) said
 

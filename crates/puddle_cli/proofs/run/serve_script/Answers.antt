@@ -5,7 +5,7 @@ use Rattle.puddled.specs.declared.daemon.RunFault.{RunFault}
 use Rattle.puddled.proofs.Counted.{none_is_sound, size_of_ends, Grows-still, Grows-then, Ends-none, Ends-then}
 use Rattle.puddle_cli.specs.Serving.{AnsweredBy}
 use Rattle.puddle_cli.proofs.Answering.{Takes-start, Serves-start, Answered-last, Answered-end, Answered-so_far}
-use Rattle.puddle_cli.proofs.run.serve.Goals as goal
+use Rattle.puddle_cli.proofs.run.serve_script.Goals as goal
 
 pub loop-taken-init : goal.loop-taken-init
 loop-taken-init g c = record {

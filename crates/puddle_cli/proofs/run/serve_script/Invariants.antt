@@ -4,7 +4,7 @@ use Rattle.pud_defs.specs.World.{World}
 use Rattle.puddled.specs.Faults.{Grows}
 use Rattle.puddled.specs.Daemon.{IsReady}
 use Rattle.puddle_cli.specs.Serving.{Takes, Serves}
-use Rattle.puddle_cli.proofs.run.serve.Given as goal
+use Rattle.puddle_cli.proofs.run.serve_script.Given as goal
 
 abbrev pub invariant-loop-taken : goal.invariant-loop-taken
 invariant-loop-taken g l = record {
