@@ -11,3 +11,5 @@ mod pools;
 mod reading;
 #[cfg(test)]
 mod starts;
+#[cfg(test)]
+mod transactions;
