@@ -1,4 +1,5 @@
 //! Lines that are commands, and lines that are none.
+use pud_defs::objects::Val;
 use pud_defs::records::Name;
 use script::{Command, parse_line};
 use std::process::Abort;
@@ -26,6 +27,32 @@ fn chmod(client: u8, name: Name, mode: u32) -> Command {
 
 fn drop_pool(client: u8, name: Name) -> Command {
     Command::Drop { client, name }
+}
+
+fn begin(client: u8, name: Name) -> Command {
+    Command::Begin { client, name }
+}
+
+fn commit(client: u8, name: Name) -> Command {
+    Command::Commit { client, name }
+}
+
+fn abort(client: u8, name: Name) -> Command {
+    Command::Abort { client, name }
+}
+
+fn new_object(client: u8, name: Name, t: u32) -> Command {
+    Command::New { client, name, t }
+}
+
+fn set(client: u8, name: Name, s: u64, f: u32, x: Val) -> Command {
+    Command::Set {
+        client,
+        name,
+        s,
+        f,
+        x,
+    }
 }
 
 fn get(client: u8, name: Name, s: u64, f: u32) -> Command {
@@ -115,6 +142,107 @@ fn lines_of_pools(rt: HostRuntime) {
                 "get 7 abcdefghijklmnop 18446744073709551615.29",
                 get(7, sixteen, u64::MAX, 29),
             ),
+        ],
+    );
+}
+
+#[test]
+fn lines_of_transactions(rt: HostRuntime) {
+    let p = *b"p\0\0\0\0\0\0\0\0\0\0\0\0\0\0\0";
+    let sixteen = *b"abcdefghijklmnop";
+    are_commands(
+        &rt,
+        &[
+            ("begin 0 p", begin(0, p)),
+            ("begin 7 abcdefghijklmnop", begin(7, sixteen)),
+            ("commit 1 p", commit(1, p)),
+            ("abort 2 p", abort(2, p)),
+            ("new 0 p 1", new_object(0, p, 1)),
+            (
+                "new 7 abcdefghijklmnop 65535",
+                new_object(7, sixteen, 65_535),
+            ),
+            ("set 0 p 1.0 0", set(0, p, 1, 0, Val::Num(0))),
+            ("set 0 p 1.0 10", set(0, p, 1, 0, Val::Num(10))),
+            ("set 0 p 1.1 @0", set(0, p, 1, 1, Val::Ref(0))),
+            ("set 0 p 12.1 @10", set(0, p, 12, 1, Val::Ref(10))),
+            (
+                "set 7 p 18446744073709551615.29 18446744073709551615",
+                set(7, p, u64::MAX, 29, Val::Num(u64::MAX)),
+            ),
+            (
+                "set 7 p 1.29 @18446744073709551615",
+                set(7, p, 1, 29, Val::Ref(u64::MAX)),
+            ),
+        ],
+    );
+}
+
+#[test]
+fn lines_of_transactions_that_are_none(rt: HostRuntime) {
+    are_none(
+        &rt,
+        &[
+            "begin",
+            "begin 0",
+            "begin 0 ",
+            "begin 0 p ",
+            "begin 0 p p",
+            "begin 8 p",
+            "begin 0 P",
+            "Begin 0 p",
+            "begins 0 p",
+            "commit 0",
+            "commit 0 p 0",
+            "commit 8 p",
+            "abort 0",
+            "abort 0 p 0",
+            "abort 8 p",
+            "new 0 p",
+            "new 0 p 0",
+            "new 0 p 01",
+            "new 0 p 65536",
+            "new 0 p @1",
+            "new 0 p 1 1",
+            "new 8 p 1",
+            "set 0 p 1.0",
+            "set 0 p 1.0 1 1",
+            "set 0 p  1.0 1",
+            "set 0 p 1.0  1",
+            "set 0 p 1 1",
+            "set 0 p 0.0 1",
+            "set 0 p 1.30 1",
+            "set 8 p 1.0 1",
+            "set 0 abcdefghijklmnopq 1.0 1",
+        ],
+    );
+}
+
+#[test]
+fn values_of_fields_that_are_none(rt: HostRuntime) {
+    are_none(
+        &rt,
+        &[
+            "set 0 p 1.0 ",
+            "set 0 p 1.0 01",
+            "set 0 p 1.0 00",
+            "set 0 p 1.0 +1",
+            "set 0 p 1.0 -1",
+            "set 0 p 1.0 1a",
+            "set 0 p 1.0 null",
+            "set 0 p 1.0 18446744073709551616",
+            "set 0 p 1.0 @",
+            "set 0 p 1.0 @01",
+            "set 0 p 1.0 @00",
+            "set 0 p 1.0 @@1",
+            "set 0 p 1.0 @+1",
+            "set 0 p 1.0 @-1",
+            "set 0 p 1.0 @1@",
+            "set 0 p 1.0 @1a",
+            "set 0 p 1.0 @ 1",
+            "set 0 p 1.0 1@",
+            "set 0 p 1.0 @18446744073709551616",
+            "set 0 p 1.0 A1",
         ],
     );
 }

@@ -1,5 +1,5 @@
 -- Which bytes of a line decide the command, and what each command keeps.
-use Rattle.std.proofs.Common.{◌≡◌, ℕ, ◌+◌, ◌*◌, ◌/◌, ◌%◌, ◌^◌, ◌<◌, ◌≤◌, Bool, true, false, cond, ◌&&◌, leb, ltb, List, [], ◌∷◌, length, take, sum_by, codes, bytes_eq, Option, Some, None, option_map, option_and_then, ◌⊎◌, inl, inr, refl, sym, ap, ap₂, ◌∙◌, subst, ⊎_elim, arith, length-take-le, le-leb, leb-true, ltb-true, lt-ltb, eq-eqb, pow_mono, pow_pos, pow-suc, add-one, mod-eq_of_lt}
+use Rattle.std.proofs.Common.{◌≡◌, ℕ, ◌+◌, ◌*◌, ◌/◌, ◌%◌, ◌^◌, ◌<◌, ◌≤◌, Bool, true, false, cond, ◌&&◌, leb, ltb, eqb, List, [], ◌∷◌, length, take, sum_by, codes, bytes_eq, Option, Some, None, option_map, option_and_then, ◌⊎◌, inl, inr, refl, sym, ap, ap₂, ◌∙◌, subst, ⊎_elim, arith, length-take-le, le-leb, leb-true, ltb-true, lt-ltb, eq-eqb, pow_mono, pow_pos, pow-suc, add-one, mod-eq_of_lt}
 use Rattle.std.proofs.lemmas.Bool.{cases_lt, cond-false, lt-leb, and_parts, and_from}
 use Rattle.std.proofs.lemmas.Option.{none-some, same_Some, cond_some}
 use Rattle.std.proofs.lemmas.List.{take_all}
@@ -7,14 +7,16 @@ use Rattle.std.proofs.lemmas.List.Sums.{sum_by-cons}
 use Rattle.std.proofs.lemmas.Nat.{div-mul-add, mod-mul-add}
 use Rattle.pud_defs.specs.declared.layout.TheConstants.{LINE_LIMIT, CLIENTS, MAX_OWNER_ID, MAX_TYPE_ID, MAX_FIELDS, MAX_ARMED_STEP}
 use Rattle.pud_defs.specs.declared.machine.Command.{Command}
-use Rattle.pud_defs.specs.declared.machine.Command.TheVariants.{Client, Leave, Define, Cut, Arm, Chmod, Pools, Get}
+use Rattle.pud_defs.specs.declared.machine.Command.TheVariants.{Client, Leave, Define, Cut, Arm, Chmod, Begin, Commit, Abort, New, Set, Pools, Get}
 use Rattle.pud_defs.specs.declared.machine.Command.TheVariants as commands
+use Rattle.pud_defs.specs.declared.objects.Val.{Val}
+use Rattle.pud_defs.specs.declared.objects.Val.TheVariants.{Num, Ref}
 use Rattle.std.specs.Prelude.{IsTrue}
 use Rattle.pud_defs.specs.Modes.{is_legal_mode}
 use Rattle.pud_defs.specs.Names.{IsName, is_legal_name}
 use Rattle.pud_defs.proofs.NamesRead.{pool_name-legal, pool_mode-legal}
 use Rattle.pud_defs.specs.TypeMap.{map_fields, map_word, is_legal_map, is_legal_type_id}
-use Rattle.pud_defs.specs.Grammar.{split_at, number_of, in_range, number_within, fields_from, pointers_of, listed_map, Parser, taking, at_end, pool_name, pool_mode, object_serial, field_number, field_by, field_place, get_by, client_by, leave_by, define_by, pool_line_by, chmod_by, drop_by, pools_by, cut_by, arm_by, lines, command_among, command_with, command_by, command_of, IsLegalCommand}
+use Rattle.pud_defs.specs.Grammar.{split_at, number_of, in_range, number_within, fields_from, pointers_of, listed_map, Parser, taking, at_end, pool_name, pool_mode, object_serial, field_number, field_by, field_place, word_number, field_value, begin_by, commit_by, abort_by, new_by, set_by, get_by, client_by, leave_by, define_by, pool_line_by, chmod_by, drop_by, pools_by, cut_by, arm_by, lines, command_among, command_with, command_by, command_of, IsLegalValue, IsLegalCommand}
 
 -- a longer line is no command
 pub command_of-long : (line : List ℕ) → LINE_LIMIT < length line → command_of line ≡ None
@@ -39,6 +41,11 @@ record IsMapped {A B : Type 0} (g : A → B) (o : Option A) (y : B) : Type 0 whe
 option_map_parts : {A B : Type 0} (g : A → B) (o : Option A) (y : B) → option_map g o ≡ Some y → IsMapped g o y
 option_map_parts g None y e = absurd (none-some y e)
 option_map_parts g (Some x) y e = record { value = x; is = refl; gives = same_Some (g x) y e }
+
+-- of two choices one is taken
+chosen : {A : Type 0} (Has : A → Type 0) (b : Bool) (o p : Option A) (x : A) → (o ≡ Some x → Has x) → (p ≡ Some x → Has x) → cond b o p ≡ Some x → Has x
+chosen Has true o p x first other e = first e
+chosen Has false o p x first other e = other e
 
 record IsHandedOn {A B : Type 0} (f : A → Option B) (o : Option A) (y : B) : Type 0 where
   value : A
@@ -170,6 +177,19 @@ field_place-place bytes field e = field_by-place (split_at 46 bytes) field e
 field_taken : (next : ℕ × ℕ → Parser) → ((field : ℕ × ℕ) → IsFieldPlace field → IsLegalParser (next field)) → IsLegalParser (taking field_place next)
 field_taken next after = taken field_place IsFieldPlace next field_place-place after
 
+-- the value of a field
+word_legal : (kind : ℕ → Val) (bytes : List ℕ) (x : Val) → ((n : ℕ) → n < 2 ^ 64 → IsLegalValue (kind n)) → option_map kind (word_number bytes) ≡ Some x → IsLegalValue x
+word_legal kind bytes x fits e = let m = option_map_parts kind (word_number bytes) x e in subst IsLegalValue m.gives (fits m.value (number_within-bounds 0 (2 ^ 64) bytes m.value m.is).1)
+
+field_value-legal : (bytes : List ℕ) (x : Val) → field_value bytes ≡ Some x → IsLegalValue x
+unfolding field_value
+field_value-legal [] x e = absurd (none-some x e)
+field_value-legal (b ∷ bytes) x e =
+    chosen IsLegalValue (eqb b 64) (option_map Ref (word_number bytes)) (option_map Num (word_number (b ∷ bytes))) x (word_legal Ref bytes x (λ n below. below)) (word_legal Num (b ∷ bytes) x (λ n below. below)) e
+
+value_taken : (next : Val → Parser) → ((x : Val) → IsLegalValue x → IsLegalParser (next x)) → IsLegalParser (taking field_value next)
+value_taken next after = taken field_value IsLegalValue next field_value-legal after
+
 ended : (command : Command) → IsLegalCommand command → IsLegalParser (at_end command)
 unfolding at_end
 ended command legal = record { legal = λ arguments c e. legal_ended arguments c e }
@@ -202,6 +222,27 @@ drop_by-legal : IsLegalParser drop_by
 unfolding drop_by
 drop_by-legal = number_taken 0 CLIENTS _ (λ client _ known. name_taken _ (λ name is. ended (commands.Drop client name) (known, is.0, is.1)))
 
+begin_by-legal : IsLegalParser begin_by
+unfolding begin_by
+begin_by-legal = number_taken 0 CLIENTS _ (λ client _ known. name_taken _ (λ name is. ended (Begin client name) (known, is.0, is.1)))
+
+commit_by-legal : IsLegalParser commit_by
+unfolding commit_by
+commit_by-legal = number_taken 0 CLIENTS _ (λ client _ known. name_taken _ (λ name is. ended (Commit client name) (known, is.0, is.1)))
+
+abort_by-legal : IsLegalParser abort_by
+unfolding abort_by
+abort_by-legal = number_taken 0 CLIENTS _ (λ client _ known. name_taken _ (λ name is. ended (Abort client name) (known, is.0, is.1)))
+
+new_by-legal : IsLegalParser new_by
+unfolding new_by
+new_by-legal = number_taken 0 CLIENTS _ (λ client _ known. name_taken _ (λ name is. number_taken 1 (MAX_TYPE_ID + 1) _ (λ t low high. ended (New client name t) (known, is.0, is.1, low, omega arith))))
+
+set_by-legal : IsLegalParser set_by
+unfolding set_by
+set_by-legal =
+    number_taken 0 CLIENTS _ (λ client _ known. name_taken _ (λ name is. field_taken _ (λ field at. value_taken _ (λ x fits. ended (Set client name field.0 field.1 x) (known, is.0, is.1, at.serial, at.word, at.number, fits)))))
+
 get_by-legal : IsLegalParser get_by
 unfolding get_by
 get_by-legal =
@@ -228,18 +269,12 @@ AreLegalLines (line ∷ others) = IsLegalParser line.1 × AreLegalLines others
 
 are_legal_lines : AreLegalLines lines
 are_legal_lines =
-    (client_by-legal, (leave_by-legal, (define_by-legal, (pool_line_by-legal, (chmod_by-legal, (drop_by-legal, (get_by-legal, (pools_by-legal, (cut_by-legal, (arm_by-legal, tt))))))))))
-
--- of two choices one is taken
-legal_choice : (b : Bool) (o p : Option Command) (c : Command) → (o ≡ Some c → IsLegalCommand c) → (p ≡ Some c → IsLegalCommand c)
-    → cond b o p ≡ Some c → IsLegalCommand c
-legal_choice true o p c first other e = first e
-legal_choice false o p c first other e = other e
+    (client_by-legal, (leave_by-legal, (define_by-legal, (pool_line_by-legal, (chmod_by-legal, (drop_by-legal, (begin_by-legal, (commit_by-legal, (abort_by-legal, (new_by-legal, (set_by-legal, (get_by-legal, (pools_by-legal, (cut_by-legal, (arm_by-legal, tt)))))))))))))))
 
 legal_among : (table : List (List ℕ × Parser)) (word : List ℕ) (arguments : List (List ℕ)) (c : Command) → AreLegalLines table → command_among table word arguments ≡ Some c → IsLegalCommand c
 legal_among [] word arguments c legal e = absurd (none-some c e)
 legal_among (line ∷ others) word arguments c legal e =
-    legal_choice (bytes_eq word line.0) (line.1 arguments) (command_among others word arguments) c (legal.0.legal arguments c) (legal_among others word arguments c legal.1) e
+    chosen IsLegalCommand (bytes_eq word line.0) (line.1 arguments) (command_among others word arguments) c (legal.0.legal arguments c) (legal_among others word arguments c legal.1) e
 
 legal_by : (pieces : List (List ℕ)) (c : Command) → command_by pieces ≡ Some c → IsLegalCommand c
 unfolding command_with
@@ -249,4 +284,4 @@ legal_by (word ∷ arguments) c e = legal_among lines word arguments c are_legal
 -- the command of a line is legal
 pub command_of-legal : (line : List ℕ) (c : Command) → command_of line ≡ Some c → IsLegalCommand c
 unfolding command_of
-command_of-legal line c e = legal_choice (leb (length line) LINE_LIMIT) (command_by (split_at 32 line)) None c (legal_by (split_at 32 line) c) (λ none. absurd (none-some c none)) e
+command_of-legal line c e = chosen IsLegalCommand (leb (length line) LINE_LIMIT) (command_by (split_at 32 line)) None c (legal_by (split_at 32 line) c) (λ none. absurd (none-some c none)) e

@@ -1,6 +1,7 @@
 -- Lines that are commands, and lines that are not.
 use Rattle.std.proofs.Common.{◌≡◌, true, [], ◌∷◌, ◌++◌, replicate, codes, Some, None, refl}
-use Rattle.pud_defs.specs.declared.machine.Command.TheVariants.{Client, Leave, Define, Get, Cut, Arm}
+use Rattle.pud_defs.specs.declared.machine.Command.TheVariants.{Client, Leave, Define, Begin, Commit, Abort, New, Set, Get, Cut, Arm}
+use Rattle.pud_defs.specs.declared.objects.Val.TheVariants.{Num, Ref}
 use Rattle.pud_defs.specs.TypeMap.{map_word, is_legal_map}
 use Rattle.pud_defs.specs.Grammar.{number_of, command_of}
 use Rattle.pud_defs.proofs.Opened.{opened}
@@ -47,6 +48,42 @@ reads_a_field = refl
 reads_the_last_field : command_of (codes "get 7 abcdefghijklmnop 18446744073709551615.29") ≡ Some (Get 7 (codes "abcdefghijklmnop") 18446744073709551615 29)
 unfolding opened
 reads_the_last_field = refl
+
+begins : command_of (codes "begin 0 a") ≡ Some (Begin 0 (97 ∷ replicate 15 0))
+unfolding opened
+begins = refl
+
+commits : command_of (codes "commit 7 abcdefghijklmnop") ≡ Some (Commit 7 (codes "abcdefghijklmnop"))
+unfolding opened
+commits = refl
+
+aborts : command_of (codes "abort 1 a") ≡ Some (Abort 1 (97 ∷ replicate 15 0))
+unfolding opened
+aborts = refl
+
+makes_an_object : command_of (codes "new 0 a 65535") ≡ Some (New 0 (97 ∷ replicate 15 0) 65535)
+unfolding opened
+makes_an_object = refl
+
+sets_a_number : command_of (codes "set 0 a 1.0 10") ≡ Some (Set 0 (97 ∷ replicate 15 0) 1 0 (Num 10))
+unfolding opened
+sets_a_number = refl
+
+sets_a_pointer : command_of (codes "set 0 a 1.1 @1") ≡ Some (Set 0 (97 ∷ replicate 15 0) 1 1 (Ref 1))
+unfolding opened
+sets_a_pointer = refl
+
+sets_null : command_of (codes "set 0 a 1.1 @0") ≡ Some (Set 0 (97 ∷ replicate 15 0) 1 1 (Ref 0))
+unfolding opened
+sets_null = refl
+
+sets_the_largest_number : command_of (codes "set 7 a 18446744073709551615.29 18446744073709551615") ≡ Some (Set 7 (97 ∷ replicate 15 0) 18446744073709551615 29 (Num 18446744073709551615))
+unfolding opened
+sets_the_largest_number = refl
+
+sets_the_largest_pointer : command_of (codes "set 0 a 1.0 @18446744073709551615") ≡ Some (Set 0 (97 ∷ replicate 15 0) 1 0 (Ref 18446744073709551615))
+unfolding opened
+sets_the_largest_pointer = refl
 
 loses_power : command_of (codes "cut 18446744073709551615") ≡ Some (Cut 18446744073709551615)
 unfolding opened
@@ -233,3 +270,79 @@ leading_zero_in_a_field = refl
 place_missing : command_of (codes "get 0 a") ≡ None
 unfolding opened
 place_missing = refl
+
+pool_missing : command_of (codes "begin 0") ≡ None
+unfolding opened
+pool_missing = refl
+
+pool_too_many : command_of (codes "commit 0 a a") ≡ None
+unfolding opened
+pool_too_many = refl
+
+ninth_client_aborts : command_of (codes "abort 8 a") ≡ None
+unfolding opened
+ninth_client_aborts = refl
+
+type_missing : command_of (codes "new 0 a") ≡ None
+unfolding opened
+type_missing = refl
+
+type_zero : command_of (codes "new 0 a 0") ≡ None
+unfolding opened
+type_zero = refl
+
+type_too_large : command_of (codes "new 0 a 65536") ≡ None
+unfolding opened
+type_too_large = refl
+
+value_missing : command_of (codes "set 0 a 1.0") ≡ None
+unfolding opened
+value_missing = refl
+
+value_empty : command_of (codes "set 0 a 1.0 ") ≡ None
+unfolding opened
+value_empty = refl
+
+value_too_many : command_of (codes "set 0 a 1.0 1 1") ≡ None
+unfolding opened
+value_too_many = refl
+
+field_to_set_too_large : command_of (codes "set 0 a 1.30 1") ≡ None
+unfolding opened
+field_to_set_too_large = refl
+
+object_to_set_zero : command_of (codes "set 0 a 0.0 1") ≡ None
+unfolding opened
+object_to_set_zero = refl
+
+leading_zero_in_a_value : command_of (codes "set 0 a 1.0 01") ≡ None
+unfolding opened
+leading_zero_in_a_value = refl
+
+value_too_large : command_of (codes "set 0 a 1.0 18446744073709551616") ≡ None
+unfolding opened
+value_too_large = refl
+
+no_serial_behind_the_at : command_of (codes "set 0 a 1.0 @") ≡ None
+unfolding opened
+no_serial_behind_the_at = refl
+
+leading_zero_in_a_serial : command_of (codes "set 0 a 1.0 @00") ≡ None
+unfolding opened
+leading_zero_in_a_serial = refl
+
+second_at : command_of (codes "set 0 a 1.0 @@1") ≡ None
+unfolding opened
+second_at = refl
+
+at_behind_a_number : command_of (codes "set 0 a 1.0 1@") ≡ None
+unfolding opened
+at_behind_a_number = refl
+
+point_in_a_serial : command_of (codes "set 0 a 1.0 @1.") ≡ None
+unfolding opened
+point_in_a_serial = refl
+
+serial_too_large : command_of (codes "set 0 a 1.0 @18446744073709551616") ≡ None
+unfolding opened
+serial_too_large = refl

@@ -52,6 +52,7 @@ pub mod ExamplesGrammar
 pub mod ExamplesImage
 pub mod ExamplesRun
 pub mod ExamplesPools
+pub mod ExamplesTransactions
 pub mod ExamplesChecks
 pub mod ExamplesLogs
 pub mod ExamplesSettled

@@ -61,29 +61,28 @@ sum_places-one f from (suc count) c low high = elim (cases_eq from c) [
 between : (a b c : ℕ) → a + (b + c) ≡ b + (a + c)
 between a b c = omega arith
 
-module _ {K X : Type 0} (R : K → K → Ordering) (w : X → ℕ) where
+module _ {K X : Type 0} (R : K → K → Ordering) (w : K × X → ℕ) where
   -- the worth of a place
   abbrev pub worth : Option (K × X) → ℕ
   worth None = 0
-  worth (Some e) = w e.1
+  worth (Some e) = w e
 
-  sum-put : (k : K) (v : X) (es : List (K × X)) → find R k es ≡ None → sum_by (λ (d : K × X). w d.1) (put R k v es) ≡ w v + sum_by (λ (d : K × X). w d.1) es
+  sum-put : (k : K) (v : X) (es : List (K × X)) → find R k es ≡ None → sum_by w (put R k v es) ≡ w (k, v) + sum_by w es
   sum-put k v [] none = omega arith
   sum-put k v (e ∷ es) none =
-      elim (R k e.0) as (λ o. R k e.0 ≡ o → sum_by (λ (d : K × X). w d.1) (by_order o ((k, v) ∷ e ∷ es) ((e.0, v) ∷ es) (e ∷ put R k v es)) ≡ w v + sum_by (λ (d : K × X). w d.1) (e ∷ es)) [
-        | Less ↦ λ p. sum_by-cons (λ (d : K × X). w d.1) (k, v) (e ∷ es)
+      elim (R k e.0) as (λ o. R k e.0 ≡ o → sum_by w (by_order o ((k, v) ∷ e ∷ es) ((e.0, v) ∷ es) (e ∷ put R k v es)) ≡ w (k, v) + sum_by w (e ∷ es)) [
+        | Less ↦ λ p. sum_by-cons w (k, v) (e ∷ es)
         | Equal ↦ λ p. absurd (none-some e.1 (sym none ∙ ap (λ r. cond (is_eq r) (Some e.1) (find R k es)) p))
         | Greater ↦ λ p.
             let rest = sum-put k v es (sym (ap (λ r. cond (is_eq r) (Some e.1) (find R k es)) p) ∙ none) in
-            sum_by-cons (λ (d : K × X). w d.1) e (put R k v es) ∙ ap (λ (n : ℕ). w e.1 + n) rest
-            ∙ between (w e.1) (w v) (sum_by (λ (d : K × X). w d.1) es) ∙ sym (ap (λ (n : ℕ). w v + n) (sum_by-cons (λ (d : K × X). w d.1) e es))
+            sum_by-cons w e (put R k v es) ∙ ap (λ (n : ℕ). w e + n) rest ∙ between (w e) (w (k, v)) (sum_by w es) ∙ sym (ap (λ (n : ℕ). w (k, v) + n) (sum_by-cons w e es))
       ] refl
 
-  sum_in_front : (e : Option (K × X)) (es : List (K × X)) (total : ℕ) → ((d : K × X) → e ≡ Some d → find R d.0 es ≡ None) → sum_by (λ (d : K × X). w d.1) es ≡ total → sum_by (λ (d : K × X). w d.1) (put_entry R e es) ≡ worth e + total
+  sum_in_front : (e : Option (K × X)) (es : List (K × X)) (total : ℕ) → ((d : K × X) → e ≡ Some d → find R d.0 es ≡ None) → sum_by w es ≡ total → sum_by w (put_entry R e es) ≡ worth e + total
   sum_in_front None es total none is = is ∙ sym (zero-add total)
-  sum_in_front (Some e) es total none is = sum-put e.0 e.1 es (none e refl) ∙ ap (λ n. w e.1 + n) is
+  sum_in_front (Some e) es total none is = sum-put e.0 e.1 es (none e refl) ∙ ap (λ n. w e + n) is
 
-  pub sum-keyed : (o : IsTotalOrder R) (at : ℕ → Option (K × X)) (from count : ℕ) → HasDistinctKeys R at from count → sum_by (λ (d : K × X). w d.1) (keyed R at from count) ≡ sum_places (λ j. worth (at j)) from count
+  pub sum-keyed : (o : IsTotalOrder R) (at : ℕ → Option (K × X)) (from count : ℕ) → HasDistinctKeys R at from count → sum_by w (keyed R at from count) ≡ sum_places (λ j. worth (at j)) from count
   unfolding keyed sum_places
   sum-keyed o at from zero h = refl
   sum-keyed o at from (suc count) h =
@@ -215,7 +214,7 @@ module _ (next : ℕ) (t : Tables) (h : HasSoundTables next t) where
   unfolding puddles_of
   length_puddles slot below = length-keyed nat_cmp nat_cmp_total (members t slot) 0 t.frames (distinct_ordinals next t h slot below)
 
-  worth_of : (hold : Reader) (slot : ℕ) → slot < POOL_RECORDS → (o : Option PoolRec) → t.pools slot ≡ o → worth name_cmp (λ (p : Pool). p.puddles) (entry_of hold (puddles_of t slot) o) ≡ count_used (members t slot) 0 t.frames
+  worth_of : (hold : Reader) (slot : ℕ) → slot < POOL_RECORDS → (o : Option PoolRec) → t.pools slot ≡ o → worth name_cmp (λ (e : List ℕ × Pool). e.1.puddles) (entry_of hold (puddles_of t slot) o) ≡ count_used (members t slot) 0 t.frames
   unfolding pool_of
   worth_of hold slot below None is = sym (count_used-none (members t slot) 0 t.frames (λ f low high. no_member slot f (omega arith) is))
   worth_of hold slot below (Some r) is = length_puddles slot below
@@ -224,6 +223,6 @@ module _ (next : ℕ) (t : Tables) (h : HasSoundTables next t) where
   pub sum_puddles : (hold : Reader) → IsMasked t → sum_by (λ (e : List ℕ × Pool). e.1.puddles) (pools_of hold t) ≡ count_used t.puddles 0 t.frames
   unfolding pools_of
   sum_puddles hold masked =
-      sum-keyed name_cmp (λ (p : Pool). p.puddles) nat_list_cmp_total (entries hold t) 0 POOL_RECORDS (distinct_entries hold t (distinct_names next t h))
-      ∙ sum_places-same (λ j. worth name_cmp (λ (p : Pool). p.puddles) (entries hold t j)) (λ s. count_used (members t s) 0 t.frames) 0 POOL_RECORDS (λ s low high. worth_of hold s (omega arith) (t.pools s) refl)
+      sum-keyed name_cmp (λ (e : List ℕ × Pool). e.1.puddles) nat_list_cmp_total (entries hold t) 0 POOL_RECORDS (distinct_entries hold t (distinct_names next t h))
+      ∙ sum_places-same (λ j. worth name_cmp (λ (e : List ℕ × Pool). e.1.puddles) (entries hold t j)) (λ s. count_used (members t s) 0 t.frames) 0 POOL_RECORDS (λ s low high. worth_of hold s (omega arith) (t.pools s) refl)
       ∙ count-classes t 0 t.frames (known_slots masked)

@@ -5,6 +5,8 @@ use Rattle.pud_defs.specs.declared.layout.TheConstants.{LINE_LIMIT, CLIENTS, MAX
 use Rattle.pud_defs.specs.declared.machine.Command.{Command}
 use Rattle.pud_defs.specs.declared.machine.Command.TheVariants.{Client, Leave, Define, Cut, Arm, Chmod, Begin, Commit, Abort, New, Set, Pools, Get}
 use Rattle.pud_defs.specs.declared.machine.Command.TheVariants as commands
+use Rattle.pud_defs.specs.declared.objects.Val.{Val}
+use Rattle.pud_defs.specs.declared.objects.Val.TheVariants.{Num, Ref}
 use Rattle.pud_defs.specs.declared.records.TheConstants.{NAME_BYTES}
 use Rattle.pud_defs.specs.Modes.{is_legal_mode}
 use Rattle.pud_defs.specs.Names.{IsName, is_name_byte, is_legal_name}
@@ -89,8 +91,12 @@ pool_mode bytes = None
 abbrev pub armed_step : List ℕ → Option ℕ
 armed_step bytes = number_within 1 (MAX_ARMED_STEP + 1) bytes
 
+-- a number in 64 bits
+abbrev pub word_number : List ℕ → Option ℕ
+word_number bytes = number_within 0 (2 ^ 64) bytes
+
 abbrev pub loss_pick : List ℕ → Option ℕ
-loss_pick bytes = number_within 0 (2 ^ 64) bytes
+loss_pick bytes = word_number bytes
 
 -- the serial of an object, in 64 bits
 abbrev pub object_serial : List ℕ → Option ℕ
@@ -107,6 +113,11 @@ field_by pieces = None
 -- a field of an object: both joined by a point
 unfoldable pub field_place : List ℕ → Option (ℕ × ℕ)
 field_place bytes = field_by (split_at 46 bytes)
+
+-- the value of a field: a number, or `@` and the serial of an object, 0 for null, each in 64 bits
+unfoldable pub field_value : List ℕ → Option Val
+field_value [] = None
+field_value (b ∷ bytes) = cond (b == 64) (option_map Ref (word_number bytes)) (option_map Num (word_number (b ∷ bytes)))
 
 -- the command that the arguments of a line are
 abbrev pub Parser : Type 0
@@ -146,6 +157,26 @@ chmod_by arguments = taking client_number (λ client. taking pool_name (λ name.
 unfoldable pub drop_by : Parser
 drop_by arguments = taking client_number (λ client. taking pool_name (λ name. at_end (commands.Drop client name))) arguments
 
+-- `begin C P`
+unfoldable pub begin_by : Parser
+begin_by arguments = taking client_number (λ client. taking pool_name (λ name. at_end (Begin client name))) arguments
+
+-- `commit C P`
+unfoldable pub commit_by : Parser
+commit_by arguments = taking client_number (λ client. taking pool_name (λ name. at_end (Commit client name))) arguments
+
+-- `abort C P`
+unfoldable pub abort_by : Parser
+abort_by arguments = taking client_number (λ client. taking pool_name (λ name. at_end (Abort client name))) arguments
+
+-- `new C P T`
+unfoldable pub new_by : Parser
+new_by arguments = taking client_number (λ client. taking pool_name (λ name. taking type_id (λ t. at_end (New client name t)))) arguments
+
+-- `set C P o.f x`
+unfoldable pub set_by : Parser
+set_by arguments = taking client_number (λ client. taking pool_name (λ name. taking field_place (λ field. taking field_value (λ x. at_end (Set client name field.0 field.1 x))))) arguments
+
 -- `get C P o.f`
 unfoldable pub get_by : Parser
 get_by arguments = taking client_number (λ client. taking pool_name (λ name. taking field_place (λ field. at_end (Get client name field.0 field.1)))) arguments
@@ -171,6 +202,11 @@ lines =
     ∷ (codes "pool", pool_line_by)
     ∷ (codes "chmod", chmod_by)
     ∷ (codes "drop", drop_by)
+    ∷ (codes "begin", begin_by)
+    ∷ (codes "commit", commit_by)
+    ∷ (codes "abort", abort_by)
+    ∷ (codes "new", new_by)
+    ∷ (codes "set", set_by)
     ∷ (codes "get", get_by)
     ∷ (codes "pools", pools_by)
     ∷ (codes "cut", cut_by)
@@ -194,6 +230,11 @@ command_by (word ∷ arguments) = command_with word arguments
 unfoldable pub command_of : List ℕ → Option Command
 command_of line = cond (nat_le (length line) LINE_LIMIT) (command_by (split_at 32 line)) None
 
+-- the value fits in 64 bits
+abbrev pub IsLegalValue : Val → Type 0
+IsLegalValue (Num v) = v < 2 ^ 64
+IsLegalValue (Ref s) = s < 2 ^ 64
+
 -- what each command of the grammar keeps: what its line's arguments may be
 abbrev pub IsLegalCommand : Command → Type 0
 IsLegalCommand (Client client uid gid) = (client < CLIENTS) × (uid ≤ MAX_OWNER_ID) × (gid ≤ MAX_OWNER_ID)
@@ -203,11 +244,11 @@ IsLegalCommand (commands.Pool client name mode) = (client < CLIENTS) × IsName n
 IsLegalCommand (Chmod client name mode) = (client < CLIENTS) × IsName name × IsTrue (is_legal_name name) × IsTrue (is_legal_mode mode)
 IsLegalCommand (commands.Drop client name) = (client < CLIENTS) × IsName name × IsTrue (is_legal_name name)
 IsLegalCommand (Get client name s f) = (client < CLIENTS) × IsName name × IsTrue (is_legal_name name) × (1 ≤ s) × (s < 2 ^ 64) × (f < MAX_FIELDS)
-IsLegalCommand (Begin client name) = ⊥
-IsLegalCommand (Commit client name) = ⊥
-IsLegalCommand (Abort client name) = ⊥
-IsLegalCommand (New client name t) = ⊥
-IsLegalCommand (Set client name s f x) = ⊥
+IsLegalCommand (Begin client name) = (client < CLIENTS) × IsName name × IsTrue (is_legal_name name)
+IsLegalCommand (Commit client name) = (client < CLIENTS) × IsName name × IsTrue (is_legal_name name)
+IsLegalCommand (Abort client name) = (client < CLIENTS) × IsName name × IsTrue (is_legal_name name)
+IsLegalCommand (New client name t) = (client < CLIENTS) × IsName name × IsTrue (is_legal_name name) × (1 ≤ t) × (t ≤ MAX_TYPE_ID)
+IsLegalCommand (Set client name s f x) = (client < CLIENTS) × IsName name × IsTrue (is_legal_name name) × (1 ≤ s) × (s < 2 ^ 64) × (f < MAX_FIELDS) × IsLegalValue x
 IsLegalCommand Pools = Unit {0}
 IsLegalCommand (Cut pick) = pick < 2 ^ 64
 IsLegalCommand (Arm step pick) = (1 ≤ step) × (step ≤ MAX_ARMED_STEP) × (pick < 2 ^ 64)

@@ -50,29 +50,31 @@ pub enum Command {
         s: u64,
         f: u32,
     },
-    /// Begins a transaction of the client, from 0 to 7, on the pool of this name, or makes its own one deeper.
+    /// `begin C P`: the client, from 0 to 7, begins a transaction on the pool of this name, or makes its own one deeper.
     Begin {
         client: u8,
         name: Name,
     },
-    /// Ends the client's transaction on the pool of this name, where it was begun once: what it changed stays. Else it is one less deep.
+    /// `commit C P`: the client, from 0 to 7, ends its transaction on the pool of this name, where it was begun once: what it changed
+    /// stays. Else it is one less deep.
     Commit {
         client: u8,
         name: Name,
     },
-    /// Undoes the client's transaction on the pool of this name, however deep, and ends it.
+    /// `abort C P`: the client, from 0 to 7, undoes its transaction on the pool of this name, however deep, and ends it.
     Abort {
         client: u8,
         name: Name,
     },
-    /// Makes an object of type `t`, from 1 to 65,535, in the client's transaction on the pool of this name, with all fields 0 or null.
+    /// `new C P T`: the client, from 0 to 7, makes an object of type `t`, from 1 to 65,535, in its transaction on the pool of this name,
+    /// with all fields 0 or null.
     New {
         client: u8,
         name: Name,
         t: u32,
     },
-    /// Gives field `f`, from 0 to 29, of the object with serial `s`, at least 1, a value in the client's transaction on the pool of this
-    /// name.
+    /// `set C P o.f x`: the client, from 0 to 7, gives field `f`, from 0 to 29, of the object with serial `s`, at least 1, the value `x`
+    /// in its transaction on the pool of this name.
     Set {
         client: u8,
         name: Name,

@@ -1,7 +1,7 @@
 //! The arguments of a line, taken from the front one by one, each by its kind.
 
 ghost use Rattle.std.specs.Prelude.{◌≡◌, ◌≤◌, ℕ, List, IfSome};
-ghost use Rattle.pud_defs.specs.Grammar.{client_number, owner_id, type_id, field_count, listed_map, pool_name, pool_mode, field_place, armed_step, loss_pick, at_end};
+ghost use Rattle.pud_defs.specs.Grammar.{client_number, owner_id, type_id, field_count, listed_map, pool_name, pool_mode, field_place, field_value, armed_step, loss_pick, at_end};
 ghost use Rattle.script.specs.Pieces.{pieces_of, with_front};
 ghost use Rattle.script.specs.Taken.{IsTaken};
 
@@ -10,8 +10,10 @@ use crate::names::{read_mode, read_name};
 use crate::numbers::{read_number, read_within};
 use crate::pieces::cut;
 use crate::places::read_place;
+use crate::values::read_value;
 use pud_defs::layout::{CLIENTS, MAX_ARMED_STEP, MAX_FIELDS, MAX_OWNER_ID, MAX_TYPE_ID};
 use pud_defs::machine::Command;
+use pud_defs::objects::Val;
 use pud_defs::records::Name;
 use std::marker::Model;
 
@@ -109,6 +111,14 @@ impl<'a> Arguments<'a> {
         ensures { IsTaken field_place self.old result self.new }
     {
         read_place(self.front()?)
+    }
+
+    /// The front argument as the value of a field.
+    #[tactic(auto, using(crate::proofs::Taken::taken))]
+    pub(crate) fn value(&mut self) -> Option<Val>
+        ensures { IsTaken field_value self.old result self.new }
+    {
+        read_value(self.front()?)
     }
 
     /// The front argument as the device step at which power is armed to be lost.

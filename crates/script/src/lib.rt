@@ -9,6 +9,7 @@ mod numbers;
 mod pieces;
 mod places;
 mod replies;
+mod values;
 
 pub use lines::{Bad, parse_line};
 pub use numbers::{read_number, read_within};

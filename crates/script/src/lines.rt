@@ -10,14 +10,20 @@
 //!   three digits out of 0, 2, 4 and 6;
 //! - `chmod C P mode`;
 //! - `drop C P`;
-//! - `get C P o.f`: the serial o of an object from 1 to 2^64 - 1, and the number f of a field from 0 to 29;
+//! - `begin C P`;
+//! - `commit C P`;
+//! - `abort C P`;
+//! - `new C P T`;
+//! - `set C P o.f x`: the serial o of an object from 1 to 2^64 - 1, the number f of a field from 0 to 29, and the value x: a number
+//!   below 2^64, or `@` and a serial below 2^64, of which `@0` is null;
+//! - `get C P o.f`;
 //! - `pools`;
 //! - `cut N`: the pick N, any number below 2^64;
 //! - `arm K N`: the step K from 1 to 1,000,000, and the pick N.
 
 ghost use Rattle.std.specs.Prelude.{◌≡◌, IfOk};
 ghost use Rattle.std.specs.Result.{result_ok};
-ghost use Rattle.pud_defs.specs.Grammar.{split_at, client_by, leave_by, define_by, pool_line_by, chmod_by, drop_by, get_by, pools_by, cut_by, arm_by, command_with, command_by, command_of, IsLegalCommand};
+ghost use Rattle.pud_defs.specs.Grammar.{split_at, client_by, leave_by, define_by, pool_line_by, chmod_by, drop_by, begin_by, commit_by, abort_by, new_by, set_by, get_by, pools_by, cut_by, arm_by, command_with, command_by, command_of, IsLegalCommand};
 
 use crate::arguments::Arguments;
 use crate::pieces::cut;
@@ -92,6 +98,65 @@ fn read_drop(mut arguments: Arguments) -> Option<Command>
     arguments.end(Command::Drop { client, name })
 }
 
+/// The beginning of a transaction.
+#[tactic(auto, unfolding(pud_defs::specs::Grammar::begin_by))]
+fn read_begin(mut arguments: Arguments) -> Option<Command>
+    ensures { result ≡ begin_by arguments.entry }
+{
+    let client = arguments.client()?;
+    let name = arguments.name()?;
+    arguments.end(Command::Begin { client, name })
+}
+
+/// The ending of a transaction whose changes stay.
+#[tactic(auto, unfolding(pud_defs::specs::Grammar::commit_by))]
+fn read_commit(mut arguments: Arguments) -> Option<Command>
+    ensures { result ≡ commit_by arguments.entry }
+{
+    let client = arguments.client()?;
+    let name = arguments.name()?;
+    arguments.end(Command::Commit { client, name })
+}
+
+/// The undoing of a transaction.
+#[tactic(auto, unfolding(pud_defs::specs::Grammar::abort_by))]
+fn read_abort(mut arguments: Arguments) -> Option<Command>
+    ensures { result ≡ abort_by arguments.entry }
+{
+    let client = arguments.client()?;
+    let name = arguments.name()?;
+    arguments.end(Command::Abort { client, name })
+}
+
+/// The making of an object.
+#[tactic(auto, unfolding(pud_defs::specs::Grammar::new_by))]
+fn read_new(mut arguments: Arguments) -> Option<Command>
+    ensures { result ≡ new_by arguments.entry }
+{
+    let client = arguments.client()?;
+    let name = arguments.name()?;
+    let t = arguments.type_id()?;
+    arguments.end(Command::New { client, name, t })
+}
+
+/// The setting of a field.
+#[tactic(auto, unfolding(pud_defs::specs::Grammar::set_by))]
+fn read_set(mut arguments: Arguments) -> Option<Command>
+    ensures { result ≡ set_by arguments.entry }
+{
+    let client = arguments.client()?;
+    let name = arguments.name()?;
+    let (s, f) = arguments.place()?;
+    let x = arguments.value()?;
+    arguments.end(Command::Set {
+        client,
+        name,
+        s,
+        f,
+        x,
+    })
+}
+
 /// The reading of a field.
 #[tactic(auto, unfolding(pud_defs::specs::Grammar::get_by))]
 fn read_get(mut arguments: Arguments) -> Option<Command>
@@ -147,6 +212,16 @@ fn read_with(word: &[u8], arguments: Arguments) -> Option<Command>
         read_chmod(arguments)
     } else if word == b"drop".as_slice() {
         read_drop(arguments)
+    } else if word == b"begin".as_slice() {
+        read_begin(arguments)
+    } else if word == b"commit".as_slice() {
+        read_commit(arguments)
+    } else if word == b"abort".as_slice() {
+        read_abort(arguments)
+    } else if word == b"new".as_slice() {
+        read_new(arguments)
+    } else if word == b"set".as_slice() {
+        read_set(arguments)
     } else if word == b"get".as_slice() {
         read_get(arguments)
     } else if word == b"pools".as_slice() {
