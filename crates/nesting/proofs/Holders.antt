@@ -1,0 +1,51 @@
+-- Which session is on a pool: at the start, and by the holder or the depth that is told.
+use Rattle.std.proofs.Common.{◌≡◌, ℕ, zero, suc, List, Option, Some, None, option_map, replicate, refl, sym, ap, ◌∙◌, arith}
+use Rattle.std.proofs.lemmas.List.{length-replicate}
+use Rattle.std.proofs.lemmas.Option.{none-some, same_Some}
+use Rattle.pud_defs.specs.declared.records.TheConstants.{POOL_RECORDS}
+use Rattle.nesting.specs.declared.Session.{Session}
+use Rattle.nesting.specs.Sessions.{session_in, client_in, session_depth, holder_in, depth_in, count_of, IsSession, AreSessions}
+
+-- ---- at the start
+
+pub session_in-replicate : (n pool : ℕ) → session_in (replicate n None) pool ≡ None
+session_in-replicate zero pool = refl
+session_in-replicate (suc n) zero = refl
+session_in-replicate (suc n) (suc pool) = session_in-replicate n pool
+
+pub count_of-replicate : (client n : ℕ) → count_of client (replicate n None) ≡ 0
+count_of-replicate client zero = refl
+count_of-replicate client (suc n) = count_of-replicate client n
+
+pub AreSessions-replicate : AreSessions (replicate POOL_RECORDS None)
+AreSessions-replicate = record {
+  slots = let nothing : Option Session = None in length-replicate POOL_RECORDS nothing;
+  each = λ pool session there. absurd (none-some session (sym (session_in-replicate POOL_RECORDS pool) ∙ there));
+}
+
+-- ---- told by the holder, or by the depth
+
+none_held : (o : Option Session) → option_map client_in o ≡ None → o ≡ None
+none_held None e = refl
+none_held (Some session) e = absurd (none-some session.client (sym e))
+
+-- a pool that nobody holds has no session
+pub session_in-no_holder : (sessions : List (Option Session)) (pool : ℕ) → holder_in sessions pool ≡ None → session_in sessions pool ≡ None
+session_in-no_holder sessions pool none = none_held (session_in sessions pool) none
+
+one_held : (o : Option Session) (client : ℕ) → option_map client_in o ≡ Some client → o ≡ Some (record { client = client; depth = session_depth o })
+one_held None client e = absurd (none-some client e)
+one_held (Some session) client e = ap (λ (n : ℕ). Some (record { client = n; depth = session.depth })) (same_Some session.client client e)
+
+-- a pool that a client holds has a session of the client, at its depth
+pub session_in-holder : (sessions : List (Option Session)) (pool client : ℕ) → holder_in sessions pool ≡ Some client
+    → session_in sessions pool ≡ Some (record { client = client; depth = depth_in sessions pool })
+session_in-holder sessions pool client held = one_held (session_in sessions pool) client held
+
+none_begun : (o : Option Session) → ((session : Session) → o ≡ Some session → IsSession session) → session_depth o ≡ 0 → o ≡ None
+none_begun None each e = refl
+none_begun (Some session) each e = let begun = (each session refl).begun in absurd (omega arith)
+
+-- a pool at depth 0 has no session
+pub session_in-no_depth : (sessions : List (Option Session)) (pool : ℕ) → AreSessions sessions → depth_in sessions pool ≡ 0 → session_in sessions pool ≡ None
+session_in-no_depth sessions pool are none = none_begun (session_in sessions pool) (are.each pool) none

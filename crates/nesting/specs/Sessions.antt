@@ -1,0 +1,63 @@
+-- Whose transaction is open on each pool, by the slot of its record, and how often it was begun.
+use Rattle.std.specs.Prelude.{◌≡◌, ℕ, ◌+◌, ◌-◌, ◌<◌, ◌≤◌, Bool, false, ◌==◌, nat_le, cond, List, length, Option, Some, None, option_map, count_by, slice_index_or, set}
+use Rattle.pud_defs.specs.declared.layout.TheConstants.{CLIENTS, MAX_DEPTH}
+use Rattle.pud_defs.specs.declared.records.TheConstants.{POOL_RECORDS}
+use Rattle.nesting.specs.declared.Session.{Session}
+
+-- the session on the pool in this slot
+abbrev pub session_in : List (Option Session) → (pool : ℕ) → Option Session
+session_in sessions pool = slice_index_or sessions pool None
+
+-- ---- one session
+
+-- whose it is
+abbrev pub client_in : Session → ℕ
+client_in session = session.client
+
+-- how often it was begun
+abbrev pub session_depth : Option Session → ℕ
+session_depth None = 0
+session_depth (Some session) = session.depth
+
+-- it is this client's
+abbrev pub is_of : (client : ℕ) → Option Session → Bool
+is_of client None = false
+is_of client (Some session) = session.client == client
+
+-- one less deep: none where it was begun once
+abbrev pub lowered_session : Option Session → Option Session
+lowered_session None = None
+lowered_session (Some session) = cond (nat_le session.depth 1) None (Some (record session { depth = session.depth - 1 }))
+
+-- ---- all of them
+
+-- whose transaction is open on the pool
+abbrev pub holder_in : List (Option Session) → (pool : ℕ) → Option ℕ
+holder_in sessions pool = option_map client_in (session_in sessions pool)
+
+-- how often the transaction on the pool was begun, 0 where none is open
+abbrev pub depth_in : List (Option Session) → (pool : ℕ) → ℕ
+depth_in sessions pool = session_depth (session_in sessions pool)
+
+-- on how many pools the client's transactions are open
+abbrev pub count_of : (client : ℕ) → List (Option Session) → ℕ
+count_of client sessions = count_by (is_of client) sessions
+
+-- the client's on the pool, one deeper
+abbrev pub entered : (client pool : ℕ) → List (Option Session) → List (Option Session)
+entered client pool sessions = set sessions pool (Some (record { client = client; depth = depth_in sessions pool + 1 }))
+
+-- the one on the pool, one less deep
+abbrev pub left : (pool : ℕ) → List (Option Session) → List (Option Session)
+left pool sessions = set sessions pool (lowered_session (session_in sessions pool))
+
+-- a session of one of the clients, begun at least once and no more often than it may be
+pub record IsSession (session : Session) : Type 0 where
+  pub client : session.client < CLIENTS
+  pub begun : 1 ≤ session.depth
+  pub few : session.depth ≤ MAX_DEPTH
+
+-- a slot for each pool record, and in each such a session, or none
+pub record AreSessions (sessions : List (Option Session)) : Type 0 where
+  pub slots : length sessions ≡ POOL_RECORDS
+  pub each : (pool : ℕ) (session : Session) → session_in sessions pool ≡ Some session → IsSession session

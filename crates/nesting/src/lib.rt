@@ -1,0 +1,170 @@
+//! Sessions of clients on pools: whose transaction is open on each pool, and how often it was begun.
+//!
+//! A pool is given by the slot of its record in the pool table, 0 to 31, and a client by its number, 0 to 7. On each pool the transaction of at most
+//! one client is open. No call takes memory or touches a device.
+#![tactic(auto)]
+
+ghost use Rattle.std.specs.Prelude.{◌≡◌, ◌+◌, ◌<◌, ◌≤◌, ◌↔◌, replicate, set, Option, Result, IfOk, IfSome, OnErr};
+ghost use Rattle.pud_defs.specs.declared.layout.TheConstants.{CLIENTS, CLIENT_LOGS, MAX_DEPTH};
+ghost use Rattle.pud_defs.specs.declared.records.TheConstants.{POOL_RECORDS};
+ghost use Rattle.nesting.specs.Sessions.{session_in, holder_in, depth_in, is_of, count_of, entered, left, AreSessions};
+
+use pud_defs::layout::{CLIENT_LOGS, MAX_DEPTH};
+use pud_defs::records::POOL_RECORDS;
+use std::marker::Model;
+
+/// A transaction that is open on a pool.
+#[derive(Clone, Copy)]
+struct Session {
+    /// Whose it is, 0 to 7.
+    client: u8,
+    /// How often it was begun, 1 to 16.
+    depth: u32,
+}
+
+/// Why no session begins or is one deeper. Nothing changed.
+#[derive(Clone, Copy, Debug, PartialEq, Eq, thiserror::Error)]
+pub enum EnterFault {
+    /// The transaction was begun as often as it may be, 16 times.
+    #[error("the transaction was begun as often as it may be")]
+    Deep,
+    /// The client has no log left: its transactions are open on four other pools.
+    #[error("the client has no log left")]
+    Logs,
+}
+
+/// The sessions of all clients, by the slots of the pools' records.
+#[derive(Drop)]
+pub struct Sessions {
+    pools: [Option<Session>; POOL_RECORDS as usize],
+}
+
+impl Model for Sessions {
+    ghost use Rattle.std.specs.Prelude.{List, Option};
+    ghost use Rattle.nesting.specs.declared.Session.{Session};
+    ghost use Rattle.nesting.specs.Sessions.{AreSessions};
+
+    ghost Value = { List (Option Session) };
+
+    ghost view = { λ s. s.pools };
+
+    ghost invariant = { λ s. AreSessions s.pools };
+}
+
+/// Whether the session is this client's.
+fn is_of(client: u8, session: Option<Session>) -> bool
+    ensures { result ≡ is_of client session }
+{
+    session.is_some_and(|session| session.client == client)
+}
+
+impl Sessions {
+    /// No transaction is open.
+    pub fn new() -> Sessions
+        ensures { result ≡ replicate POOL_RECORDS Option.None }
+    {
+        Sessions {
+            pools: [None; POOL_RECORDS as usize],
+        }
+    }
+
+    /// On how many pools the client's transactions are open.
+    fn count_of(&self, client: u8) -> usize
+        ensures { result ≡ count_of client self.now }
+    {
+        self.pools
+            .iter()
+            .filter(|session| is_of(client, **session))
+            .count()
+    }
+
+    /// Why the client's session on the pool is not to begin or to be one deeper, or None where it may.
+    fn fault_to_enter(&self, client: u8, pool: u32) -> Option<EnterFault>
+        requires { pool < POOL_RECORDS }
+        ensures deep { (result ≡ Option.Some EnterFault.Deep) ↔ (depth_in self.now pool ≡ MAX_DEPTH) }
+        ensures logs { (result ≡ Option.Some EnterFault.Logs) ↔ ((session_in self.now pool ≡ Option.None) × (CLIENT_LOGS ≤ count_of client self.now)) }
+    {
+        match self.pools[pool as usize] {
+            Some(session) => {
+                if session.depth == MAX_DEPTH {
+                    return Some(EnterFault::Deep);
+                }
+                None
+            }
+            None => {
+                if CLIENT_LOGS as usize <= self.count_of(client) {
+                    return Some(EnterFault::Logs);
+                }
+                None
+            }
+        }
+    }
+
+    /// The client's transaction is open on the pool and begun once, or once more where it was open.
+    ///
+    /// `Deep` comes exactly where it was begun 16 times. `Logs` comes exactly where none is open on the pool and the client's are open on four
+    /// pools. After an error nothing changed.
+    pub fn enter(&mut self, client: u8, pool: u32) -> Result<(), EnterFault>
+        requires known { client < CLIENTS }
+        requires slot { pool < POOL_RECORDS }
+        // No other client's transaction is open on the pool.
+        requires own { IfSome (session_in self.old pool) (λ session. session.client ≡ client) }
+        ensures deep { (result ≡ Result.Err EnterFault.Deep) ↔ (depth_in self.old pool ≡ MAX_DEPTH) }
+        ensures logs { (result ≡ Result.Err EnterFault.Logs) ↔ ((session_in self.old pool ≡ Option.None) × (CLIENT_LOGS ≤ count_of client self.old)) }
+        ensures entered { IfOk result (λ _. self.new ≡ entered client pool self.old) }
+        ensures stays { OnErr result (self.new ≡ self.old) }
+    {
+        if let Some(fault) = self.fault_to_enter(client, pool) {
+            return Err(fault);
+        }
+        let depth = self.depth(pool) + 1;
+        self.pools[pool as usize] = Some(Session { client, depth });
+        Ok(())
+    }
+
+    /// The client's transaction on the pool is begun once less, and no longer open where it was begun once. The answer is how often it still is,
+    /// 0 where it ended.
+    pub fn leave(&mut self, client: u8, pool: u32) -> u32
+        requires slot { pool < POOL_RECORDS }
+        requires holds { holder_in self.old pool ≡ Option.Some client }
+        ensures depth { result + 1 ≡ depth_in self.old pool }
+        ensures left { self.new ≡ left pool self.old }
+    {
+        let depth = self.depth(pool) - 1;
+        self.pools[pool as usize] = if depth == 0 {
+            None
+        } else {
+            Some(Session { client, depth })
+        };
+        depth
+    }
+
+    /// No transaction is open on the pool any more, however often one was begun.
+    pub fn end(&mut self, pool: u32)
+        requires slot { pool < POOL_RECORDS }
+        ensures { self.new ≡ set self.old pool Option.None }
+    {
+        self.pools[pool as usize] = None;
+    }
+
+    /// Whose transaction is open on the pool, 0 to 7, or None where none is.
+    pub fn holder(&self, pool: u32) -> Option<u8>
+        requires { pool < POOL_RECORDS }
+        ensures holder { result ≡ holder_in self.now pool }
+        ensures within { AreSessions self.now }
+    {
+        self.pools[pool as usize].map(|session| session.client)
+    }
+
+    /// How often the transaction on the pool was begun, 1 to 16, or 0 where none is open.
+    pub fn depth(&self, pool: u32) -> u32
+        requires { pool < POOL_RECORDS }
+        ensures depth { result ≡ depth_in self.now pool }
+        ensures within { AreSessions self.now }
+    {
+        self.pools[pool as usize].map_or(0, |session| session.depth)
+    }
+}
+
+#[cfg(test)]
+mod tests;
