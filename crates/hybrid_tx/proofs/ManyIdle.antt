@@ -21,11 +21,11 @@ use Rattle.pud_defs.proofs.Spaces.{is_closed_log-same}
 use Rattle.word_transaction.specs.Running.{HasPlaces}
 use Rattle.hybrid_tx.specs.Grounds.{pool_mine, pool_ground}
 use Rattle.hybrid_tx.specs.Masks.{is_open_record, open_mask, IsOpenPool, IsLeftOpen}
-use Rattle.hybrid_tx.specs.ManyOpen.{OpenTransaction, Opens, none_open, with_transaction, open_masks, AreOpenPools, HasRecords, AreLeftOpen, IsOneMore}
+use Rattle.hybrid_tx.specs.ManyOpen.{OpenTransaction, Opens, none_open, with_transaction, open_masks, AreOpenPools, HasRecords, AreLeftOpen, IsOneMore, MasksAll}
 use Rattle.hybrid_tx.proofs.OpenMasks.{mask_of_mine, mask_of_record, open_record_place}
 use Rattle.hybrid_tx.proofs.OpenPools.{open_on_device}
 use Rattle.hybrid_tx.proofs.OpenIdle.{idle_world_masked, idle_world_unmasked, sound_masked, places_masked}
-use Rattle.hybrid_tx.proofs.ManyMasks.{MasksAll, masks_below, masks_beside_log, masks_same, open_masks_all}
+use Rattle.hybrid_tx.proofs.ManyMasks.{masks_below, masks_beside_log, masks_same, open_masks_all}
 
 -- ---- one of them beside the others
 

@@ -14,7 +14,7 @@ use Rattle.pud_defs.specs.Tables.{tables_of}
 use Rattle.pud_defs.proofs.Replay.{within_log}
 use Rattle.hybrid_tx.specs.Grounds.{pool_mine}
 use Rattle.hybrid_tx.specs.Masks.{is_open_record, open_mask}
-use Rattle.hybrid_tx.specs.ManyOpen.{OpenTransaction, Opens, mask_of, open_masks, AreOpenPools, HasRecords, AreLeftOpen}
+use Rattle.hybrid_tx.specs.ManyOpen.{OpenTransaction, Opens, mask_of, open_masks, IsMaskedBy, MasksAll, AreOpenPools, HasRecords, AreLeftOpen}
 use Rattle.hybrid_tx.proofs.OpenMasks.{open_record_place, mask_of_mine, mask_of_record, mask_of_gate, mask_of_log, mask_cases, mask_below}
 use Rattle.hybrid_tx.proofs.OpenPools.{open_on_device, open_members}
 use Rattle.hybrid_tx.proofs.OpenSettled.{IsOfNone, AreApart, other_log_apart, of_no_log, nothing_given}
@@ -49,25 +49,13 @@ first_some-agreed at from (suc count) k x low high is agree = elim (cases_eq k f
 
 -- ---- the masks of all
 
--- this one gives the word the value
-pub record IsMaskedBy (F : ℕ) (opens : Opens) (k v : ℕ) : Type 0 where
-  pub number : ℕ
-  pub transaction : OpenTransaction
-  pub there : opens number ≡ Some transaction
-  pub is : open_mask F transaction.pool transaction.before k ≡ Some v
-
--- and does so as a word of one of its records
+-- this one gives the word the value, as a word of one of its records
 pub record IsOfRecord (F : ℕ) (opens : Opens) (k v : ℕ) : Type 0 where
   pub number : ℕ
   pub transaction : OpenTransaction
   pub there : opens number ≡ Some transaction
   pub of : is_open_record transaction.pool k ≡ true
   pub is : transaction.before k ≡ v
-
--- These are the words of all of them: what one masks has the value that it gives, and each has the value that one gives.
-pub record MasksAll (F : ℕ) (opens : Opens) (mask : Write) : Type 0 where
-  pub has : (n : ℕ) (o : OpenTransaction) → opens n ≡ Some o → (k v : ℕ) → open_mask F o.pool o.before k ≡ Some v → mask k ≡ Some v
-  pub each : (k v : ℕ) → mask k ≡ Some v → IsMaskedBy F opens k v
 
 module _ (F : ℕ) (opens : Opens) (mask : Write) (are : AreOpenPools F opens) (all : MasksAll F opens mask) where
   -- the words of one
@@ -154,7 +142,7 @@ module _ (F : ℕ) (opens : Opens) (image : Image) (are : AreOpenPools F opens) 
 
   module _ (n m : ℕ) (o q : OpenTransaction) (here : opens n ≡ Some o) (there : opens m ≡ Some q) (apart : n ≢ m) (k : ℕ) where
     -- a word of the log of one is not masked by another
-    log_or_own : is_in_log (log_number_at F o.pool.number) k ≡ true → (pool_mine F q.pool.at k || is_open_record q.pool k) ≡ true → ⊥
+    pub log_or_own : is_in_log (log_number_at F o.pool.number) k ≡ true → (pool_mine F q.pool.at k || is_open_record q.pool k) ≡ true → ⊥
     log_or_own inside own =
         let known = (are.pool n o here).known in
         let opened = are.pool m q there in
@@ -166,12 +154,12 @@ module _ (F : ℕ) (opens : Opens) (image : Image) (are : AreOpenPools F opens) 
           | inr of ↦ let h = (open_record_place F q.pool k opened.slot opened.known (open_on_device F q.pool q.before opened) of).high in absurd (omega arith)
         ]
 
-    two_logs : is_in_log (log_number_at F o.pool.number) k ≡ true → is_in_log (log_number_at F q.pool.number) k ≡ true → ⊥
+    pub two_logs : is_in_log (log_number_at F o.pool.number) k ≡ true → is_in_log (log_number_at F q.pool.number) k ≡ true → ⊥
     two_logs inside its =
         let differ : o.pool.number ≡ q.pool.number → ⊥ = λ same. apart (sym (are.number n o here) ∙ same ∙ are.number m q there) in
         let it : true ≡ false = sym its ∙ other_log_apart F q.pool.number o.pool.number k differ (within_log (log_number_at F o.pool.number) k inside) in cc
 
-    mine_or_record : pool_mine F o.pool.at k ≡ true → is_open_record q.pool k ≡ true → ⊥
+    pub mine_or_record : pool_mine F o.pool.at k ≡ true → is_open_record q.pool k ≡ true → ⊥
     mine_or_record mine of =
         let opened = are.pool m q there in
         let l = (pool_mine-each F o.pool.at k mine).low in

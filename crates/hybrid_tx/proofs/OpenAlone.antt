@@ -4,8 +4,7 @@ use Rattle.std.proofs.lemmas.Bool.{cond-true}
 use Rattle.std.proofs.lemmas.Option.{cond_some}
 use Rattle.pud_defs.specs.Image.{Image}
 use Rattle.hybrid_tx.specs.Masks.{OpenPool, is_open_record, open_mask, IsOpenPool, IsLeftOpen}
-use Rattle.hybrid_tx.specs.ManyOpen.{OpenTransaction, Opens, none_open, with_transaction, AreOpenPools, HasRecords, AreLeftOpen}
-use Rattle.hybrid_tx.proofs.ManyMasks.{MasksAll}
+use Rattle.hybrid_tx.specs.ManyOpen.{OpenTransaction, Opens, none_open, with_transaction, AreOpenPools, HasRecords, AreLeftOpen, MasksAll}
 
 abbrev pub the_one : OpenPool → Image → OpenTransaction
 the_one p before = record { pool = p; before = before }

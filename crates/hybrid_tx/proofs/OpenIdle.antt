@@ -26,14 +26,13 @@ use Rattle.word_transaction.specs.Running.{HasPlaces}
 use Rattle.pud_defs.proofs.ClosedLogs.{closed_by_gate}
 use Rattle.hybrid_tx.specs.Grounds.{pool_mine, pool_ground}
 use Rattle.hybrid_tx.specs.Masks.{OpenPool, is_open_record, open_mask, IsOpenPool}
-use Rattle.hybrid_tx.specs.ManyOpen.{OpenTransaction, Opens, AreOpenPools, HasRecords}
+use Rattle.hybrid_tx.specs.ManyOpen.{OpenTransaction, Opens, AreOpenPools, HasRecords, MasksAll}
 use Rattle.hybrid_tx.proofs.OpenMasks.{mask_of_log, mask_of_gate, mask_cases, mask_below}
 use Rattle.hybrid_tx.proofs.OpenSettled.{other_log_apart}
 use Rattle.hybrid_tx.proofs.OpenImages.{masked_word_stays, masked_word, masked_same, same_legal}
 use Rattle.hybrid_tx.proofs.OpenPools.{open_on_device, open_places}
 use Rattle.hybrid_tx.proofs.OpenWorlds.{sound_with_masked}
 use Rattle.hybrid_tx.proofs.OpenAlone.{alone, are_alone, masks_alone, records_alone}
-use Rattle.hybrid_tx.proofs.ManyMasks.{MasksAll}
 
 -- ---- images that differ in one log, which is closed
 

@@ -22,9 +22,9 @@ use Rattle.pud_defs.proofs.LogsBeside.{IsReadBeside, world_again}
 use Rattle.pud_defs.proofs.Parts.{StandsFor}
 use Rattle.pud_defs.proofs.Parts.Part.{Spaces}
 use Rattle.pud_defs.proofs.Worlds.{settled-below}
-use Rattle.hybrid_tx.specs.ManyOpen.{OpenTransaction, Opens, AreOpenPools, HasRecords}
+use Rattle.hybrid_tx.specs.ManyOpen.{OpenTransaction, Opens, AreOpenPools, HasRecords, MasksAll}
 use Rattle.hybrid_tx.proofs.OpenSettled.{AreLikeMasked, GivesOwn, same_below, settled_alike, refused_alike}
-use Rattle.hybrid_tx.proofs.ManyMasks.{MasksAll, masks_of_mine, masks_of_record, masks_of_none, masks_below, opens_apart}
+use Rattle.hybrid_tx.proofs.ManyMasks.{masks_of_mine, masks_of_record, masks_of_none, masks_below, opens_apart}
 
 -- ---- words masked, none of them in front of the pool table, that the daemon log does not name
 

@@ -18,11 +18,11 @@ use Rattle.word_transaction.specs.Running.{SettlesTo}
 use Rattle.word_transaction.proofs.Images.{SettlesTo-local}
 use Rattle.hybrid_tx.specs.Grounds.{pool_ground}
 use Rattle.hybrid_tx.specs.Masks.{OpenPool, open_mask, IsOpenPool, IsLeftOpen}
-use Rattle.hybrid_tx.specs.ManyOpen.{OpenTransaction, Opens, open_masks, AreOpenPools, HasRecords, AreLeftOpen}
+use Rattle.hybrid_tx.specs.ManyOpen.{OpenTransaction, Opens, open_masks, AreOpenPools, HasRecords, AreLeftOpen, MasksAll}
 use Rattle.hybrid_tx.proofs.OpenMasks.{mask_of_mine, mask_of_log}
 use Rattle.hybrid_tx.proofs.OpenSettled.{GivesOwn, same_tables}
 use Rattle.hybrid_tx.proofs.OpenPools.{gives_own}
-use Rattle.hybrid_tx.proofs.ManyMasks.{MasksAll, masks_below, left_records, open_masks_all}
+use Rattle.hybrid_tx.proofs.ManyMasks.{masks_below, left_records, open_masks_all}
 use Rattle.hybrid_tx.proofs.OpenImages.{masked_word_stays, record_stays, like_masked, stands, world_of_own, none_refused_of_own}
 use Rattle.hybrid_tx.proofs.OpenAlone.{alone, are_alone, masks_alone, left_alone}
 

@@ -34,6 +34,18 @@ mask_of F (Some o) k = open_mask F o.pool o.before k
 unfoldable pub open_masks : ℕ → Opens → Write
 open_masks F opens k = first_some (λ number. mask_of F (opens number) k) 0 ALL_LOGS
 
+-- this one gives the word the value
+pub record IsMaskedBy (F : ℕ) (opens : Opens) (k v : ℕ) : Type 0 where
+  pub number : ℕ
+  pub transaction : OpenTransaction
+  pub there : opens number ≡ Some transaction
+  pub is : open_mask F transaction.pool transaction.before k ≡ Some v
+
+-- These are the words of all of them: what one masks has the value that it gives, and each has the value that one gives.
+pub record MasksAll (F : ℕ) (opens : Opens) (mask : Write) : Type 0 where
+  pub has : (n : ℕ) (o : OpenTransaction) → opens n ≡ Some o → (k v : ℕ) → open_mask F o.pool o.before k ≡ Some v → mask k ≡ Some v
+  pub each : (k v : ℕ) → mask k ≡ Some v → IsMaskedBy F opens k v
+
 -- ---- what is known of them
 
 -- By the image of its beginning each is open on a pool of the device, with the log of its number; no two are on one pool.

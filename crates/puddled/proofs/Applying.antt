@@ -13,8 +13,9 @@ use Rattle.pud_defs.specs.declared.records.Puddle.{Puddle}
 use Rattle.pud_defs.specs.Image.{Image}
 use Rattle.pud_defs.specs.World.{StoredWorld, World, world_of, closed}
 use Rattle.pud_defs.specs.Step.{refusal_of, after, unless_refused, world_by}
+use Rattle.nesting.specs.declared.Session.{Session}
 use Rattle.puddled.specs.Memory.{Held, Memory}
-use Rattle.puddled.specs.Held.{Holds}
+use Rattle.puddled.specs.Held.{Holds, HasSessions}
 use Rattle.puddled.specs.KnownPools.{KnowsPools}
 use Rattle.puddled.specs.Daemon.{IsReady, StandsBetween, Applies}
 use Rattle.puddled.proofs.Beside.{ready_stands}
@@ -99,16 +100,17 @@ Applies-then size w mid next first behind fault a b c same p q = record {
 }
 
 -- What is known of pools alone changes.
-pub IsReady-beside : (size : ℕ) (w : World) (memory next : Memory) (s : State) → next.frames ≡ memory.frames → next.held ≡ memory.held → KnowsPools w.stored.frames next.judged next.held (reads s.now.words)
+pub IsReady-beside : (size : ℕ) (w : World) (memory next : Memory) (s : State) → next.frames ≡ memory.frames → next.held ≡ memory.held → next.sessions ≡ memory.sessions → KnowsPools w.stored.frames next.judged next.held (reads s.now.words)
     → IsReady size w memory s → IsReady size w next s
-IsReady-beside size w memory next s frames held knows ready = record {
+IsReady-beside size w memory next s frames held same knows ready = record {
   mask = ready.mask;
   settled = ready.settled;
   tables = ready.tables;
   clients = ready.clients;
   frames = frames ∙ ready.frames;
   shelf = ready.shelf;
-  held = subst (λ (o : Option Held). Holds w o ready.mask s.now.words) (sym held) ready.held;
+  held = subst (λ (o : List (Option Held)). Holds w o ready.mask s.now.words) (sym held) ready.held;
+  sessions = subst (λ (o : List (Option Held)). HasSessions w o next.sessions) (sym held) (subst (λ (o : List (Option Session)). HasSessions w memory.held o) (sym same) ready.sessions);
   rest = ready.rest;
   logs = ready.logs;
   knows = knows;

@@ -1,6 +1,6 @@
--- Calls that know nothing of a transaction, told of a device on which one may be open.
+-- Calls that know nothing of transactions, told of a device on which some may be open.
 use Rattle.std.proofs.Common.{◌≡◌, inl, inr, ℕ, ◌<◌, ◌≤◌, true, false, List, [], Option, Some, None, refl, sym, ap, subst, ◌∙◌, arith}
-use Rattle.std.proofs.lemmas.Bool.{cases_Bool}
+use Rattle.std.proofs.lemmas.Bool.{or_cases}
 use Rattle.std.proofs.lemmas.List.{append-nil}
 use Rattle.pm_model.specs.declared.host.HostFault.{HostFault}
 use Rattle.pm_model.specs.Words.{Has, Cell, values, Words, reads, HasOnly}
@@ -26,12 +26,13 @@ use Rattle.batch.proofs.Masked.{not_written}
 use Rattle.batch.proofs.Tables.{StaysDurable, reads_kept}
 use Rattle.batch.proofs.Writes.{new_value-committed}
 use Rattle.registry.specs.Pools.{KeepsTables}
+use Rattle.hybrid_tx.specs.Grounds.{pool_mine}
 use Rattle.hybrid_tx.specs.Masks.{is_open_record}
-use Rattle.hybrid_tx.proofs.OpenMasks.{mine_behind, mask_of_record, mask_of_others}
+use Rattle.hybrid_tx.proofs.OpenMasks.{mine_behind, mask_cases}
 use Rattle.puddled.specs.Memory.{Held, Memory}
-use Rattle.puddled.specs.Held.{pool_held, IsHeld, Holds, HasIdleLogs, ByOthers, NamesNone, StaysSingle, IsBeside}
+use Rattle.puddled.specs.Held.{Holds, HasIdleLogs, ByOthers, NamesNone, StaysSingle, IsBeside}
 use Rattle.puddled.specs.Daemon.{IsReady}
-use Rattle.puddled.proofs.Beside.{daemon_log_unmasked, names_none_idle}
+use Rattle.puddled.proofs.Beside.{records_all, daemon_log_unmasked, names_none_idle}
 
 -- ---- the daemon log counts nothing
 
@@ -155,29 +156,33 @@ IsBeside-then mask fault a b c p q =
 
 -- ---- what is read of the tables
 
--- masked or not, the words before the clients' logs read the same
-module _ (w : World) (held : Held) (mask : Write) (words : Words) (is : IsHeld w held mask words) (k : ℕ) (below : k < tables_end w.stored.frames) where
-  read_there : is_open_record (pool_held held is.rec is.who) k ≡ true → masked_image mask (reads words) k ≡ reads words k
-  read_there of =
-      masked_image-there mask (reads words) k (is.before k)
-      (ap (λ (m : Write). m k) is.masked ∙ mask_of_record w.stored.frames (pool_held held is.rec is.who) is.before k below of)
-      ∙ sym (is.records k of)
+-- a word before the clients' logs that is masked is one of a record, which is read as it was
+module _ (w : World) (held : List (Option Held)) (mask : Write) (words : Words) (holds : Holds w held mask words) (k : ℕ) (below : k < tables_end w.stored.frames) where
+  abbrev F : ℕ
+  F = w.stored.frames
 
-  read_elsewhere : is_open_record (pool_held held is.rec is.who) k ≡ false → masked_image mask (reads words) k ≡ reads words k
-  read_elsewhere other =
-      masked_image-elsewhere mask (reads words) k
-      (ap (λ (m : Write). m k) is.masked
-      ∙ mask_of_others w.stored.frames (pool_held held is.rec is.who) is.before k (outside_log (log_number_at w.stored.frames held.number) k (inl (omega arith))) (mine_behind w.stored.frames held.at k (omega arith)) other)
+  masked_reads : (v : ℕ) → mask k ≡ Some v → reads words k ≡ v
+  masked_reads v given =
+      let m = holds.masks.each k v given in
+      let o = m.transaction in
+      elim (mask_cases F o.pool o.before k v m.is) [
+        | inl inside ↦ absurd (let it : true ≡ false = sym inside ∙ outside_log (log_number_at F o.pool.number) k (inl (omega arith)) in cc)
+        | inr own ↦ elim (or_cases (pool_mine F o.pool.at k) (is_open_record o.pool k) own.0) [
+          | inl mine ↦ absurd (let it : true ≡ false = sym mine ∙ mine_behind F o.pool.at k (omega arith) in cc)
+          | inr of ↦ (records_all w held mask words holds).each m.number o m.there k of ∙ own.1
+        ]
+      ]
 
-  held_reads : masked_image mask (reads words) k ≡ reads words k
-  held_reads = elim (cases_Bool (is_open_record (pool_held held is.rec is.who) k)) [ inl of ↦ read_there of | inr other ↦ read_elsewhere other ]
+  reads_by : (o : Option ℕ) → mask k ≡ o → masked_image mask (reads words) k ≡ reads words k
+  reads_by None none = masked_image-elsewhere mask (reads words) k none
+  reads_by (Some v) is = masked_image-there mask (reads words) k v is ∙ sym (masked_reads v is)
 
-pub table_reads : (w : World) (o : Option Held) (mask : Write) (words : Words) → Holds w o mask words → (k : ℕ) → k < tables_end w.stored.frames → masked_image mask (reads words) k ≡ reads words k
-table_reads w None mask words holds k below = ap (λ (m : Write). masked_image m (reads words) k) holds.1
-table_reads w (Some held) mask words is k below = held_reads w held mask words is k below
+-- so masked or not these words read the same
+pub table_reads : (w : World) (held : List (Option Held)) (mask : Write) (words : Words) → Holds w held mask words → (k : ℕ) → k < tables_end w.stored.frames → masked_image mask (reads words) k ≡ reads words k
+table_reads w held mask words holds k below = reads_by w held mask words holds k below (mask k) refl
 
-pub read_masked : (w : World) (o : Option Held) (mask : Write) (words : Words) → Holds w o mask words → (k : ℕ) → k < tables_end w.stored.frames → reads (masked mask words) k ≡ reads words k
-read_masked w o mask words holds k below = ap (λ (image : Image). image k) (reads-masked mask words) ∙ table_reads w o mask words holds k below
+pub read_masked : (w : World) (held : List (Option Held)) (mask : Write) (words : Words) → Holds w held mask words → (k : ℕ) → k < tables_end w.stored.frames → reads (masked mask words) k ≡ reads words k
+read_masked w held mask words holds k below = ap (λ (image : Image). image k) (reads-masked mask words) ∙ table_reads w held mask words holds k below
 
 -- so also behind calls that write none of the masked ones
 kept_reads : (mask : Write) (old new : State) (k : ℕ) (o : Option ℕ) → mask k ≡ o → Changes (ByOthers mask) None old new → masked_image mask (reads old.now.words) k ≡ reads old.now.words k
@@ -189,19 +194,19 @@ kept_reads mask old new k (Some v) is c was =
     ∙ was
     ∙ sym (reads_kept (ByOthers mask) old new k c (λ x none. absurd (let no : Some v ≡ None = sym is ∙ none in cc)))
 
-pub table_reads-kept : (w : World) (o : Option Held) (mask : Write) (old new : State) → Holds w o mask old.now.words → Changes (ByOthers mask) None old new → (k : ℕ) → k < tables_end w.stored.frames
+pub table_reads-kept : (w : World) (held : List (Option Held)) (mask : Write) (old new : State) → Holds w held mask old.now.words → Changes (ByOthers mask) None old new → (k : ℕ) → k < tables_end w.stored.frames
     → masked_image mask (reads new.now.words) k ≡ reads new.now.words k
-table_reads-kept w o mask old new holds c k below = kept_reads mask old new k (mask k) refl c (table_reads w o mask old.now.words holds k below)
+table_reads-kept w held mask old new holds c k below = kept_reads mask old new k (mask k) refl c (table_reads w held mask old.now.words holds k below)
 
-pub read_masked-kept : (w : World) (o : Option Held) (mask : Write) (old new : State) → Holds w o mask old.now.words → Changes (ByOthers mask) None old new → (k : ℕ) → k < tables_end w.stored.frames
+pub read_masked-kept : (w : World) (held : List (Option Held)) (mask : Write) (old new : State) → Holds w held mask old.now.words → Changes (ByOthers mask) None old new → (k : ℕ) → k < tables_end w.stored.frames
     → reads (masked mask new.now.words) k ≡ reads new.now.words k
-read_masked-kept w o mask old new holds c k below = ap (λ (image : Image). image k) (reads-masked mask new.now.words) ∙ table_reads-kept w o mask old new holds c k below
+read_masked-kept w held mask old new holds c k below = ap (λ (image : Image). image k) (reads-masked mask new.now.words) ∙ table_reads-kept w held mask old new holds c k below
 
 -- the tables are as they are read
-pub keeps_tables : (w : World) (o : Option Held) (mask : Write) (words : Words) → Holds w o mask words → KeepsTables w.stored.frames mask (reads words)
-keeps_tables w o mask words holds = record {
+pub keeps_tables : (w : World) (held : List (Option Held)) (mask : Write) (words : Words) → Holds w held mask words → KeepsTables w.stored.frames mask (reads words)
+keeps_tables w held mask words holds = record {
   tables = tables_of-same w.stored.frames (masked_image mask (reads words)) (reads words)
-      (λ k low high. table_reads w o mask words holds k (omega arith))
-      (λ k low high. table_reads w o mask words holds k high);
-  number = table_reads w o mask words holds NEXT_NUMBER_WORD (omega arith);
+      (λ k low high. table_reads w held mask words holds k (omega arith))
+      (λ k low high. table_reads w held mask words holds k high);
+  number = table_reads w held mask words holds NEXT_NUMBER_WORD (omega arith);
 }

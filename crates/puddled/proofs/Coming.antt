@@ -104,7 +104,7 @@ module _ (size : ℕ) (w : World) (memory : Memory) (slot : ℕ) (known : slot <
 
   -- nor is the record
   pub record_apart : (vals : List ℕ) → length vals ≤ SPACE_RECORD_WORDS → IsOff ready.mask (ByBatch DAEMON_LOG (record_batch slot vals))
-  record_apart vals few = off_record w memory.held ready.mask a.now.words slot vals ready.held known few others
+  record_apart vals few = off_record w memory.held ready.mask a.now.words slot ready.held known vals few others
 
   beside_closing : (F : ℕ) (fault : Option HostFault) (b : State) → F ≡ w.stored.frames → ClosesGates F slot fault a b → IsBeside ready.mask fault a b
   beside_closing F fault b is p =
@@ -124,7 +124,7 @@ module _ (size : ℕ) (w : World) (memory : Memory) (slot : ℕ) (known : slot <
         clients = λ no. absurd (none no);
         logs = λ no. absurd (none no);
         shelf = refl;
-      }) memory refl refl (λ no. absurd (none no))
+      }) memory refl refl refl (λ no. absurd (none no))
 
   module _ (F : ℕ) (now : Option Owner) (vals : List ℕ) (few : length vals ≤ SPACE_RECORD_WORDS) (b c : State) (is : F ≡ w.stored.frames) (gates : ClosesGates F slot None a b)
       (p : Closes size (closed w) slot None (masked_state ready.mask a) (masked_state ready.mask b)) where
@@ -213,7 +213,7 @@ module _ (size : ℕ) (w : World) (memory : Memory) (slot : ℕ) (known : slot <
         clients = clients_changed;
         logs = logs_changed;
         shelf = refl;
-      }) memory refl refl knows_changed
+      }) memory refl refl refl knows_changed
 
   -- a client came
   pub Applies-unadmitted : (F uid gid : ℕ) (fault : HostFault) (b : State) → F ≡ w.stored.frames → ClosesGates F slot (Some fault) a b

@@ -27,7 +27,7 @@ use Rattle.puddled.specs.Faults.Kind.{ordinary}
 use Rattle.puddled.specs.Held.{IsOwn}
 use Rattle.puddled.specs.Judged.{known_in, AreJudged}
 use Rattle.puddled.specs.KnownPools.{KnowsPools}
-use Rattle.puddled.specs.Memory.{Held, Memory}
+use Rattle.puddled.specs.Memory.{Held, Memory, held_under}
 use Rattle.puddled.proofs.Applying.{Applies-failed, Applies-refused, IsReady-beside}
 use Rattle.puddled.proofs.Beside.{ready_stands}
 use Rattle.puddled.proofs.Carrying.{keeps_still, ClosesLogs-other, CarriesOut-plain}
@@ -39,16 +39,16 @@ use Rattle.puddled.proofs.JudgedOpen.{KnowsPools-read}
 pub judged_ready : (size : ℕ) (w : World) (memory : Memory) (s : State) → IsReady size w memory s → AreJudged memory.frames memory.judged (reads s.now.words)
 judged_ready size w memory s ready = subst (λ (n : ℕ). AreJudged n memory.judged (reads s.now.words)) (sym ready.frames) ready.knows.judged
 
--- more is known of pools by a call that reads, but not of the one on which the transaction is open
-pub ready_read : (size : ℕ) (w : World) (memory next : Memory) (old new : State) → IsReady size w memory old → new ≡ old → next.frames ≡ memory.frames → next.held ≡ memory.held
+-- more is known of pools by a call that reads, but not of those on which a transaction is open
+pub ready_read : (size : ℕ) (w : World) (memory next : Memory) (old new : State) → IsReady size w memory old → new ≡ old → next.frames ≡ memory.frames → next.held ≡ memory.held → next.sessions ≡ memory.sessions
     → ((image : Image) → reads old.now.words ≡ image → AreJudged memory.frames memory.judged image → AreJudged memory.frames next.judged image)
-    → ((mine : Held) → memory.held ≡ Some mine → known_in next.judged mine.slot ≡ known_in memory.judged mine.slot) → IsReady size w next new
-ready_read size w memory next old new ready same frames held judged apart =
+    → ((number : ℕ) (mine : Held) → held_under memory.held number ≡ Some mine → known_in next.judged mine.slot ≡ known_in memory.judged mine.slot) → IsReady size w next new
+ready_read size w memory next old new ready same frames held sessions judged apart =
     let image : Image = reads old.now.words in
     let right = subst (λ (n : ℕ). AreJudged n next.judged image) ready.frames (judged image refl (judged_ready size w memory old ready)) in
-    let knows = subst (λ (o : Option Held). KnowsPools w.stored.frames memory.judged o image) (sym held) ready.knows in
+    let knows = KnowsPools-read w.stored.frames memory.judged next.judged memory.held image right apart ready.knows in
     subst (λ (s : State). IsReady size w next s) (sym same)
-    (IsReady-beside size w memory next old frames held (KnowsPools-read w.stored.frames memory.judged next.judged next.held image right (λ mine is. apart mine (sym held ∙ is)) knows) ready)
+    (IsReady-beside size w memory next old frames held sessions (subst (λ (o : List (Option Held)). KnowsPools w.stored.frames next.judged o image) (sym held) knows) ready)
 
 -- ---- what a line owes
 
@@ -92,19 +92,25 @@ module _ (size : ℕ) (w : World) (memory : Memory) (first mid last : Counts) (a
       (CarriesOut-plain size w memory first last b d c (Ok reply) plain.kind plain.file replied
       (subst (λ (v : World). Applies size w v memory None b d) (sym (done_world w c free)) applies) (ClosesLogs-other w (Some c) b d plain.stays) rest (cause ∙ counted))
 
+  -- it was, and replied to with `ok`, or it failed
+  pub CarriesOut-ok : (done : Result Reply HostFault) → IfOk done (λ reply. reply ≡ replies.Ok) → of_reply replies.Ok ≡ answer_by w (Some c) → Applies size w (after w c) memory (fault_of done) b d
+      → last ≡ after_fault (fault_of done) mid → CarriesOut size w memory (Some c) (as_answered done) first last a d
+  CarriesOut-ok (Ok reply) is replied applies cause = CarriesOut-done reply (ap of_reply is ∙ replied) applies cause
+  CarriesOut-ok (Err fault) is replied applies cause = CarriesOut-stopped fault applies cause
+
 -- it is not refused, and carried out behind calls that read
 pub Applies-behind_reads : (size : ℕ) (w : World) (memory : Memory) (c : Command) (fault : Option HostFault) (a b d : State) → refusal_of w c ≡ None → b ≡ a → Applies size w (after w c) memory fault b d
     → Applies size w (world_by w (Some c)) memory fault a d
 Applies-behind_reads size w memory c fault a b d free same applies =
     subst (λ (v : World). Applies size w v memory fault a d) (sym (done_world w c free)) (subst (λ (s : State). Applies size w (after w c) memory fault s d) same applies)
 
--- Behind calls that read it is carried out, or refused, by a call on the client's own transaction, which is held.
+-- Behind calls that read it is carried out, or refused, by a call on the client's own transaction, which is held under this number.
 module _ (size : ℕ) (w : World) (memory : Memory) (first mid last : Counts) (a b d : State) (line : ℕ → List ℕ → Command) (client : ℕ) (name : List ℕ) (plain : IsPlain (line client name)) (same : b ≡ a)
     (counted : mid ≡ first) where
-  pub CarriesOut-own : (o : Option Held) (held : Held) (done : Result Reply HostFault) → IsOwn client name o → o ≡ Some held
+  pub CarriesOut-own : (all : List (Option Held)) (number : ℕ) (held : Held) (done : Result Reply HostFault) → IsOwn client name number all → held_under all number ≡ Some held
       → IfOk done (λ reply. of_reply reply ≡ answer_by w (Some (line held.client held.name))) → Applies size w (world_by w (Some (line held.client held.name))) memory (fault_of done) b d → KeepsRest b d
       → last ≡ after_fault (fault_of done) mid → CarriesOut size w memory (Some (line client name)) (as_answered done) first last a d
-  CarriesOut-own o held done own is replied applies rest cause =
+  CarriesOut-own all number held done own is replied applies rest cause =
       let mine : held ≡ own.mine = same_Some held own.mine (sym is ∙ own.is) in
       let asked : line held.client held.name ≡ line client name = ap₂ line (ap (λ (h : Held). h.client) mine ∙ own.whose) (ap (λ (h : Held). h.name) mine ∙ own.pool) in
       subst (λ (s : State). CarriesOut size w memory (Some (line client name)) (as_answered done) first last s d) same
@@ -122,10 +128,6 @@ Applies-untouched size w next memory behind s ready then = record {
   rests = λ cut. absurd (let no : None ≡ Some Cut = cut in cc);
   script = refl;
 }
-
--- the daemon is ready with what it holds
-pub ready_with : (size : ℕ) (w : World) (memory : Memory) (held : Held) (s : State) → memory.held ≡ Some held → IsReady size w memory s → IsReady size w (record memory { held = Some held }) s
-ready_with size w memory held s is ready = subst (λ (o : Option Held). IsReady size w (record memory { held = o }) s) is ready
 
 -- ---- the lines of transactions
 

@@ -50,12 +50,12 @@ use Rattle.batch.specs.Tables.{HasDurableTables}
 use Rattle.batch.specs.Worlds.{IsSettled}
 use Rattle.batch.proofs.Tables.{reads_kept, HasDurableTables-persisted}
 use Rattle.puddled.specs.Memory.{Held, Memory}
-use Rattle.puddled.specs.Held.{puddles_in, HasIdleLogs, IsHeld, Holds, ByOthers, NamesNone, KeepsHeld}
+use Rattle.puddled.specs.Held.{puddles_in, HasIdleLogs, Holds, ByOthers, NamesNone, KeepsHeld}
 use Rattle.puddled.proofs.Beneath.{single_changes, persisted_single, logs_kept}
 use Rattle.puddled.specs.Defined.{reply_of}
 use Rattle.puddled.specs.Daemon.{KeepsRest, IsReady, AppliesMasked, Applies}
 use Rattle.puddled.specs.KnownPools.{KnowsPools}
-use Rattle.puddled.proofs.Beside.{ready_idle, names_none_idle, Applies-beside}
+use Rattle.puddled.proofs.Beside.{held_is, ready_idle, names_none_idle, Applies-beside}
 use Rattle.puddled.proofs.JudgedLines.{KeepsPools-defined}
 use Rattle.puddled.proofs.JudgedOpen.{KnowsPools-all}
 use Rattle.puddled.proofs.TablesBeside.{ready_beside, read_beside, under_durable, standing}
@@ -265,16 +265,16 @@ frames_kept : (id map : ℕ) (s : StoredWorld) → (with_type_defined id map s).
 unfolding with_type_defined
 frames_kept id map s = refl
 
-KeepsHeld-define : (w : World) (o : Option Held) (mask : Write) (words : Words) (id map : ℕ) → Holds w o mask words → map_of id w.stored.types ≡ None → KeepsHeld w (after w (Define id map)) o
+KeepsHeld-define : (w : World) (held : List (Option Held)) (mask : Write) (words : Words) (id map : ℕ) → Holds w held mask words → map_of id w.stored.types ≡ None → KeepsHeld w (after w (Define id map)) held
 unfolding after
-KeepsHeld-define w o mask words id map holds none = record {
+KeepsHeld-define w held mask words id map holds none = record {
   frames = frames_kept id map w.stored;
   transactions = refl;
-  present = λ h there. refl;
-  stored = λ h there.
-      let is : IsHeld w h mask words = subst (λ (x : Option Held). Holds w x mask words) there holds in
+  present = λ number h there. refl;
+  stored = λ number h there.
+      let is = held_is w held mask words holds number h there in
       pool_kept id map w.stored h.name is.undone is.stored ∙ sym is.stored;
-  puddles = λ h there. puddles_kept id map w.stored h.name;
+  puddles = λ number h there. puddles_kept id map w.stored h.name;
   graphs = graphs_kept id map w.stored none;
 }
 
@@ -361,7 +361,7 @@ module _ (size : ℕ) (w : World) (memory : Memory) (id map r : ℕ) (old : Stat
 
     new_applies : place_for (reads old.now.words) id ≡ Some r → Applies size w (world_by w (Some (Define id map))) memory fault old new
     new_applies place = subst (λ (v : World). Applies size w v memory fault old new) (sym is_new.world)
-        (Applies-beside size w next memory fault old new ready (KeepsHeld-define w memory.held m old.now.words id map ready.held is_new.missing) applies_masked memory refl refl (knows_now place))
+        (Applies-beside size w next memory fault old new ready (KeepsHeld-define w memory.held m old.now.words id map ready.held is_new.missing) applies_masked memory refl refl refl (knows_now place))
 
 -- ---- the table as it is read
 

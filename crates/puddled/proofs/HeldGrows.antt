@@ -1,6 +1,6 @@
--- The pool on which a transaction is held grows by a puddle, and the transaction then has it too.
-use Rattle.std.proofs.Common.{◌≡◌, inl, inr, ℕ, ◌+◌, Bool, true, false, not, cond, List, [], ◌∷◌, ◌++◌, length, Option, Some, None, is_some, refl, sym, ap, subst, ◌∙◌, arith}
-use Rattle.std.specs.Prelude.{slice_get}
+-- The pool on which a transaction is held grows by a puddle, and the transaction then has it too; the others stay.
+use Rattle.std.proofs.Common.{◌≡◌, ◌≢◌, inl, inr, ℕ, ◌+◌, Bool, true, false, not, cond, List, [], ◌∷◌, ◌++◌, length, Option, Some, None, is_some, refl, sym, ap, subst, ◌∙◌, arith}
+use Rattle.std.specs.Prelude.{set, slice_get}
 use Rattle.std.specs.FinMap.Entries.{find, find-put}
 use Rattle.std.specs.Cmp.{tied_itself}
 use Rattle.std.specs.Cmp.Lexicographic.{nat_list_cmp_total}
@@ -22,7 +22,7 @@ use Rattle.pud_defs.specs.declared.machine.Refusal.TheVariants as refusals
 use Rattle.pud_defs.specs.declared.records.PoolRec.{PoolRec}
 use Rattle.pud_defs.specs.declared.records.Puddle.{Puddle}
 use Rattle.pud_defs.specs.Frames.{IsFreshFrame}
-use Rattle.pud_defs.specs.Graph.{Graph}
+use Rattle.pud_defs.specs.Graph.{Graph, graph_of}
 use Rattle.pud_defs.specs.Image.{Image}
 use Rattle.pud_defs.specs.Keyed.{first_free}
 use Rattle.pud_defs.specs.Names.{name_cmp}
@@ -44,23 +44,23 @@ use Rattle.registry.specs.Growth.{puddle_count, has_room, can_grow, GrowsSomewhe
 use Rattle.registry.proofs.Changed.{changed_there}
 use Rattle.registry.proofs.GrowthAllowed.{puddle_count_by_world}
 use Rattle.registry.proofs.Moved.{ReadsWorld, reads_world}
-use Rattle.puddled.specs.Memory.{Held, Memory}
+use Rattle.puddled.specs.Memory.{Held, Memory, held_under, with_held}
 use Rattle.puddled.specs.Held.{puddles_in, IsHeld, Holds, HasDurableFrames, ByOthers, IsBeside}
 use Rattle.puddled.specs.KnownPools.{KnowsPools}
-use Rattle.puddled.specs.Changing.{refusal_to_grow, refusal_by_tables, with_more}
+use Rattle.puddled.specs.Changing.{StaysOpen, refusal_to_grow, refusal_by_tables, with_more}
 use Rattle.puddled.specs.Daemon.{IsReady, StandsBetween, AppliesMasked, Applies}
-use Rattle.puddled.proofs.Beside.{holds_still, durable_frames_still, moments_beside}
+use Rattle.puddled.proofs.Beside.{KeepsOne, holds_still, durable_frames_still, moments_beside}
 use Rattle.puddled.proofs.Beneath.{ready_gate, keeps_tables}
-use Rattle.puddled.proofs.PoolsBeside.{held_is, used_still, members_still}
-use Rattle.puddled.proofs.PoolsApart.{AppliesMasked-pools}
+use Rattle.puddled.proofs.PoolsBeside.{used_still, members_still}
+use Rattle.puddled.proofs.PoolsApart.{found_beside_put, AppliesMasked-pools}
 use Rattle.puddled.proofs.TablesBeside.{HasDurableTables-masked, header_read, tables_read, under_durable}
 use Rattle.puddled.proofs.HeldRuns.{is_held}
 use Rattle.puddled.proofs.HeldPools.{its_pool, its_graph, count_held, puddles_counted, some_held}
 use Rattle.puddled.proofs.InTurn.{all_members}
 use Rattle.puddled.proofs.JudgedPools.{KeepsPools-grow}
-use Rattle.puddled.proofs.JudgedOpen.{KnowsPools-but}
+use Rattle.puddled.proofs.HeldChanged.{KnowsPools-later}
 use Rattle.puddled.proofs.PoolsGrown.{IsGrownBy, off_growing, IsBeside-grows, grown_somewhere}
-use Rattle.puddled.proofs.Widened.{GrowsHeld, wide, held_more, settled_more, rest_more, logs_more}
+use Rattle.puddled.proofs.Widened.{GrowsHeld, wide, holds_more, sessions_more, settled_more, rest_more, logs_more}
 
 -- ---- the world
 
@@ -84,6 +84,11 @@ found_more name s p there =
     ∙ find-put name_cmp nat_list_cmp_total name name (with_puddle_more p) s.pools
     ∙ cond-true _ _ _ (ap is_eq (tied_itself nat_list_cmp_total name))
 
+-- and a pool of another name stays
+pub found_beside_more : (name other : List ℕ) (s : StoredWorld) (p : Pool) → pool_named name s ≡ Some p → other ≢ name → pool_named other (with_grown_pool name s) ≡ pool_named other s
+unfolding with_grown_pool
+found_beside_more name other s p there apart = ap (find name_cmp other) (changed_there name with_puddle_more s.pools p there) ∙ found_beside_put name other (with_puddle_more p) s.pools apart
+
 -- ---- what is not refused
 
 not_so : (b : Bool) (r : Refusal) (rest : Option Refusal) → cond (not b) (Some r) rest ≡ None → (b ≡ true) × (rest ≡ None)
@@ -97,12 +102,12 @@ may_grow puddles number free none =
 
 -- ---- a daemon that is ready, and holds it
 
-module _ (size : ℕ) (w : World) (memory : Memory) (held : Held) (old : State) (mine : memory.held ≡ Some held) (ready : IsReady size w memory old) where
+module _ (size : ℕ) (w : World) (memory : Memory) (held : Held) (old : State) (number : ℕ) (there : held_under memory.held number ≡ Some held) (ready : IsReady size w memory old) where
   abbrev F : ℕ
   F = w.stored.frames
 
   abbrev is : IsHeld w held ready.mask old.now.words
-  is = is_held size w memory held old mine ready
+  is = is_held size w memory held old number there ready
 
   abbrev image : Image
   image = reads old.now.words
@@ -127,7 +132,7 @@ module _ (size : ℕ) (w : World) (memory : Memory) (held : Held) (old : State) 
     can =
         let may = may_grow (length held.at) (image NEXT_NUMBER_WORD) (is_some (first_free (tables_of F image).puddles 0 (tables_of F image).frames)) none in
         and_from (has_room (puddle_count (tables_of F image) held.slot) (image NEXT_NUMBER_WORD)) (is_some (first_free (tables_of F image).puddles 0 (tables_of F image).frames))
-        (ap (λ (n : ℕ). has_room n (image NEXT_NUMBER_WORD)) (count_held size w memory held old mine ready) ∙ may.0) may.1
+        (ap (λ (n : ℕ). has_room n (image NEXT_NUMBER_WORD)) (count_held size w memory held old number there ready) ∙ may.0) may.1
 
     off : IsOffGrowing ready.mask (tables_of F image) (image NEXT_NUMBER_WORD) held.slot
     off = off_growing w memory.held ready.mask old.now.words ready.held (image NEXT_NUMBER_WORD) held.slot
@@ -143,7 +148,7 @@ module _ (size : ℕ) (w : World) (memory : Memory) (held : Held) (old : State) 
         subst (λ (name : List ℕ). ChangesPools size w.stored (with_grown_pool name w.stored) (HasFreshPuddle (tables_of F image) w.stored.next_number (puddle_count (tables_of F image) held.slot)) fault (masked_state ready.mask old) (masked_state ready.mask new)) is.name
         (worlds ready.mask (keeps_tables w memory.held ready.mask old.now.words ready.held) off ready.settled is.rec
         (record { tables = under_durable size w memory old ready; used = ap (λ (t : Tables). t.pools held.slot) (tables_read size w memory old ready) ∙ used_still w held ready.mask old.now.words is })
-        is.undone (its_graph size w memory held old mine ready) can)
+        is.undone (its_graph size w memory held old number there ready) can)
 
     masks : AppliesMasked size w next ready.mask fault old new
     masks = AppliesMasked-pools size w memory (with_grown_pool held.name w.stored) (HasFreshPuddle (tables_of F image) w.stored.next_number (puddle_count (tables_of F image) held.slot)) fault old new ready beside changes (grown_frames held.name w.stored)
@@ -184,10 +189,10 @@ module _ (size : ℕ) (w : World) (memory : Memory) (held : Held) (old : State) 
     holds_then : Holds w memory.held ready.mask words
     holds_then =
         holds_still w w memory.held ready.mask old new ready.held
-        (record { frames = refl; transactions = refl; present = λ h e. refl; stored = λ h e. refl; puddles = λ h e. refl; graphs = λ st g is. is }) done.beside.changes
+        (record { frames = refl; transactions = refl; present = λ n h has. refl; stored = λ n h has. refl; puddles = λ n h has. refl; graphs = λ st g is. is }) done.beside.changes
 
-    is_then : IsHeld w held ready.mask words
-    is_then = held_is w memory.held ready.mask words holds_then held mine
+    abbrev is_then : IsHeld w held ready.mask words
+    is_then = (holds_then.each number held there).is
 
     -- the tables that are read have the world with the puddle
     world_then : ReadsWorld (with_grown_pool held.name w.stored) under
@@ -222,7 +227,7 @@ module _ (size : ℕ) (w : World) (memory : Memory) (held : Held) (old : State) 
     at = held.at ++ e ∷ []
 
     last : grown.member.ordinal ≡ length held.at
-    last = grown.ordinal ∙ count_held size w memory held old mine ready
+    last = grown.ordinal ∙ count_held size w memory held old number there ready
 
     comes : (i : ℕ) → i ≡ length held.at → IsMemberOf t held.slot i e
     comes i same =
@@ -253,16 +258,16 @@ module _ (size : ℕ) (w : World) (memory : Memory) (held : Held) (old : State) 
 
     counted_then : puddle_count t held.slot ≡ length held.at + 1
     counted_then =
-        let p = its_pool size w memory held old mine ready in
+        let p = its_pool size w memory held old number there ready in
         let s = with_grown_pool held.name w.stored in
         let here : (tables_of F under).pools held.slot ≡ Some is_then.rec = ap (λ (u : Tables). u.pools held.slot) tables_then ∙ used_then in
-        let there : pool_named is_then.rec.name s ≡ Some (with_puddle_more p.pool) = ap (λ (name : List ℕ). pool_named name s) is_then.name ∙ found_more held.name w.stored p.pool p.there in
+        let found : pool_named is_then.rec.name s ≡ Some (with_puddle_more p.pool) = ap (λ (name : List ℕ). pool_named name s) is_then.name ∙ found_more held.name w.stored p.pool p.there in
         let now : puddle_count (tables_of s.frames under) held.slot ≡ p.pool.puddles + 1 =
         puddle_count_by_world s under held.slot is_then.rec (with_puddle_more p.pool) world_then is.pool.slot
-        (subst (λ (n : ℕ). (tables_of n under).pools held.slot ≡ Some is_then.rec) (sym (grown_frames held.name w.stored)) here) there in
+        (subst (λ (n : ℕ). (tables_of n under).pools held.slot ≡ Some is_then.rec) (sym (grown_frames held.name w.stored)) here) found in
         sym (ap (λ (u : Tables). puddle_count u held.slot) tables_then)
         ∙ subst (λ (n : ℕ). puddle_count (tables_of n under) held.slot ≡ p.pool.puddles + 1) (grown_frames held.name w.stored) now
-        ∙ ap (λ (n : ℕ). n + 1) (puddles_counted size w memory held old mine ready)
+        ∙ ap (λ (n : ℕ). n + 1) (puddles_counted size w memory held old number there ready)
 
     listed_then : puddles_in_turn t held.slot ≡ at
     listed_then =
@@ -280,7 +285,7 @@ module _ (size : ℕ) (w : World) (memory : Memory) (held : Held) (old : State) 
 
     grows_held : GrowsHeld w next held
     grows_held =
-        let p = its_pool size w memory held old mine ready in
+        let p = its_pool size w memory held old number there ready in
         let more = found_more held.name w.stored p.pool p.there in
         record {
           frames = grown_frames held.name w.stored;
@@ -291,41 +296,61 @@ module _ (size : ℕ) (w : World) (memory : Memory) (held : Held) (old : State) 
           puddles = ap puddles_in more ∙ sym (ap (λ (found : Option Pool). puddles_in found + 1) p.there);
         }
 
+    -- the others are on pools of other names
+    keeps_others : (n : ℕ) (g : Held) → n ≢ number → held_under memory.held n ≡ Some g → KeepsOne w next g
+    keeps_others n g apart has =
+        let p = its_pool size w memory held old number there ready in
+        let same = found_beside_more held.name g.name w.stored p.pool p.there (λ one. apart (ready.held.names n number g held has there one)) in
+        record {
+          frames = grown_frames held.name w.stored;
+          transaction = refl;
+          present = refl;
+          stored = ap graph_in same;
+          puddles = ap puddles_in same;
+          graphs = λ st graph stored. ap (λ (ts : List (ℕ × ℕ)). graph_of ts st) (grown_types held.name w.stored) ∙ stored;
+        }
+
+    abbrev number_then : ℕ
+    number_then = (with_grown_pool held.name w.stored).next_number
+
     abbrev mask_then : Write
-    mask_then = wide w held ready.mask words is_then e
+    mask_then = wide w memory.held ready.mask new holds_then held number there e number_then sound_then owners listed_then rest_then
+
+    stays : StaysOpen held (record held { at = at })
+    stays = record { client = refl; name = refl; slot = refl; number = refl; gate = refl }
 
     -- all other pools stay
-    knows_then : KnowsPools F memory.judged (Some (record held { at = at })) (reads words)
+    knows_then : KnowsPools F memory.judged (set memory.held number (Some (record held { at = at }))) (reads words)
     knows_then =
-        KnowsPools-but F memory.judged held (record held { at = at }) image (reads words) refl
-        (KeepsPools-grow F (image NEXT_NUMBER_WORD) held.slot old new is.pool.slot (does none None new grows worlds no_cut))
-        (subst (λ (o : Option Held). KnowsPools F memory.judged o image) mine ready.knows)
+        KnowsPools-later memory.held number held (record held { at = at }) there stays F memory.judged image (reads words)
+        (KeepsPools-grow F (image NEXT_NUMBER_WORD) held.slot old new is.pool.slot (does none None new grows worlds no_cut)) ready.knows
 
-    ready_then : IsReady size next (record memory { held = Some (record held { at = at }) }) new
+    ready_then : IsReady size next (with_held number (Some (record held { at = at })) memory) new
     ready_then =
-        let number = (with_grown_pool held.name w.stored).next_number in
         let same = grown_frames held.name w.stored in
+        let some = some_held size w memory held old number there ready in
         record {
           mask = mask_then;
-          settled = settled_more w held ready.mask words is_then e number sound_then owners rest_then listed_then size (with_grown_pool held.name w.stored) (done.settled refl);
+          settled = settled_more w memory.held ready.mask new holds_then held number there e number_then sound_then owners listed_then rest_then size (with_grown_pool held.name w.stored) (done.settled refl);
           tables = done.tables refl;
           clients = done.clients refl;
           frames = ready.frames ∙ sym same;
           shelf = done.beside.changes.shelf ∙ ready.shelf;
-          held = held_more w held ready.mask words is_then e number sound_then owners rest_then listed_then (some_held size w memory held old mine ready) fresh next grows_held;
-          rest = subst (λ (n : ℕ). HasDurableFrames n (masked mask_then words)) (sym same) (rest_more w held ready.mask words is_then e number sound_then owners rest_then listed_then);
-          logs = logs_more w held ready.mask words is_then e number sound_then owners rest_then listed_then next.stored.frames next.clients (done.logs refl);
-          knows = subst (λ (n : ℕ). KnowsPools n memory.judged (Some (record held { at = at })) (reads words)) (sym same) knows_then;
+          held = holds_more w memory.held ready.mask new holds_then held number there e number_then sound_then owners listed_then rest_then some fresh next grows_held keeps_others;
+          sessions = sessions_more w memory.held ready.mask new holds_then held number there e number_then sound_then owners listed_then rest_then some fresh next grows_held keeps_others memory.sessions ready.sessions;
+          rest = subst (λ (n : ℕ). HasDurableFrames n (masked mask_then words)) (sym same) (rest_more w memory.held ready.mask new holds_then held number there e number_then sound_then owners listed_then rest_then);
+          logs = logs_more w memory.held ready.mask new holds_then held number there e number_then sound_then owners listed_then rest_then next.stored.frames next.clients (done.logs refl);
+          knows = subst (λ (n : ℕ). KnowsPools n memory.judged (set memory.held number (Some (record held { at = at }))) (reads words)) (sym same) knows_then;
         }
 
     -- whatever a scan gives
-    pub Applies-wide : (puddles : List (ℕ × Puddle)) → puddles ≡ puddles_in_turn t held.slot → Applies size w next (record memory { held = Some (record held { at = puddles }) }) None old new
+    pub Applies-wide : (puddles : List (ℕ × Puddle)) → puddles ≡ puddles_in_turn t held.slot → Applies size w next (with_held number (Some (record held { at = puddles })) memory) None old new
     Applies-wide puddles scanned =
         let all : puddles ≡ at = scanned ∙ listed_then in
         record {
           moments = moments_grown none None new grows worlds no_cut;
           quiet = Changes-said (ByOthers ready.mask) None old new done.beside.changes;
-          ready = λ _. subst (λ (ps : List (ℕ × Puddle)). IsReady size next (record memory { held = Some (record held { at = ps }) }) new) (sym all) ready_then;
+          ready = λ _. subst (λ (ps : List (ℕ × Puddle)). IsReady size next (with_held number (Some (record held { at = ps })) memory) new) (sym all) ready_then;
           rests = done.beside.changes.rests;
           script = done.beside.changes.script;
         }
@@ -357,8 +382,8 @@ module _ (size : ℕ) (w : World) (memory : Memory) (held : Held) (old : State) 
 
     -- it was read
     pub grows_done : (puddles : List (ℕ × Puddle)) (mid new : State) → OwesGrowth n None mid → OwesWorld n None mid → new ≡ mid → puddles ≡ puddles_in_turn (tables_of n (reads mid.now.words)) held.slot
-        → Applies size w next (record memory { held = Some (record held { at = puddles }) }) None old new
+        → Applies size w next (with_held number (Some (record held { at = puddles })) memory) None old new
     grows_done puddles mid new grows worlds still scanned =
-        subst (λ (s : State). Applies size w next (record memory { held = Some (record held { at = puddles }) }) None old s) (sym still)
+        subst (λ (s : State). Applies size w next (with_held number (Some (record held { at = puddles })) memory) None old s) (sym still)
         (Applies-wide not_refused mid (growth_there None mid grows) (worlds_there None mid worlds) puddles
         (subst (λ (m : ℕ). puddles ≡ puddles_in_turn (tables_of m (reads mid.now.words)) held.slot) same scanned))

@@ -1,4 +1,4 @@
--- An object is made within the transaction that is held, where a slot is free.
+-- An object is made within a transaction that is held, where a slot is free.
 use Rattle.std.proofs.Common.{◌≡◌, ℕ, ◌+◌, ◌<◌, ◌≤◌, Bool, true, false, leb, ltb, cond, List, Option, Some, None, Result, is_none, refl, sym, ap, subst}
 use Rattle.std.specs.Prelude.{IfOk, unwrap_or}
 use Rattle.std.proofs.lemmas.Bool.{leb-false, ltb-false}
@@ -21,12 +21,12 @@ use Rattle.pud_defs.specs.World.{Transaction, World}
 use Rattle.graph_laws.specs.Slots.{AreAllLive}
 use Rattle.log_store.specs.Store.{OpenLog, longer}
 use Rattle.hybrid_tx.specs.Transactions.{RunsOn}
-use Rattle.puddled.specs.Memory.{Held, Memory}
+use Rattle.puddled.specs.Memory.{Held, Memory, held_under, with_held}
 use Rattle.puddled.specs.Held.{IsHeld}
 use Rattle.puddled.specs.Changing.{refusal_to_make, refusal_by_world, with_made}
 use Rattle.puddled.specs.Daemon.{IsReady, Applies}
 use Rattle.puddled.proofs.HeldRuns.{is_held, Applies-runs}
-use Rattle.puddled.proofs.HeldSets.{used_more, its_transaction, OwesRuns, told, owed}
+use Rattle.puddled.proofs.HeldSets.{used_more, OwesRuns, told, owed}
 use Rattle.puddled.proofs.HeldPools.{grows_live, grows_not}
 
 -- ---- what is not refused
@@ -58,13 +58,13 @@ may_make map units next none =
 pub units_fit : (w : World) (held : Held) (id : ℕ) → refusal_by_world w held id ≡ None → held.log.used + NEW_UNITS ≤ LOG_ENTRY_WORDS
 units_fit w held id none = (may_make (map_of id w.stored.types) held.log.used (next_in (graph_seen (w.transactions held.name) (pool_named held.name w.stored))) none).fits
 
-module _ (size : ℕ) (w : World) (memory : Memory) (held : Held) (old : State) (mine : memory.held ≡ Some held) (ready : IsReady size w memory old) where
+module _ (size : ℕ) (w : World) (memory : Memory) (held : Held) (old : State) (number : ℕ) (there : held_under memory.held number ≡ Some held) (ready : IsReady size w memory old) where
   abbrev is : IsHeld w held ready.mask old.now.words
-  is = is_held size w memory held old mine ready
+  is = is_held size w memory held old number there ready
 
   -- the next serial is that of its graph
   pub next_serial : next_in (graph_seen (w.transactions held.name) (pool_named held.name w.stored)) ≡ is.transaction.now.next_serial
-  next_serial = ap (λ (o : Option Transaction). next_in (graph_seen o (pool_named held.name w.stored))) (its_transaction size w memory held old mine ready)
+  next_serial = ap (λ (o : Option Transaction). next_in (graph_seen o (pool_named held.name w.stored))) is.is
 
   module _ (F : ℕ) (at : List (ℕ × Puddle)) (same : F ≡ w.stored.frames) (listed : at ≡ held.at) where
     live_there : AreAllLive (stored_in F at (reads old.now.words)) → AreAllLive (stored_in w.stored.frames held.at (reads old.now.words))
@@ -75,10 +75,10 @@ module _ (size : ℕ) (w : World) (memory : Memory) (held : Held) (old : State) 
     pub all_live : grows w held.name ≡ true → AreAllLive (stored_in F at (reads old.now.words))
     all_live more =
         subst (λ (puddles : List (ℕ × Puddle)). AreAllLive (stored_in F puddles (reads old.now.words))) (sym listed)
-        (subst (λ (n : ℕ). AreAllLive (stored_in n held.at (reads old.now.words))) (sym same) (grows_live size w memory held old mine ready more))
+        (subst (λ (n : ℕ). AreAllLive (stored_in n held.at (reads old.now.words))) (sym same) (grows_live size w memory held old number there ready more))
 
     pub not_live : grows w held.name ≡ false → AreAllLive (stored_in F at (reads old.now.words)) → ⊥
-    not_live less live = grows_not size w memory held old mine ready less (live_there live)
+    not_live less live = grows_not size w memory held old number there ready less (live_there live)
 
     -- the serial that is given is the next one
     pub serial_made : (done : Result ℕ HostFault) → grows w held.name ≡ false
@@ -98,11 +98,11 @@ module _ (size : ℕ) (w : World) (memory : Memory) (held : Held) (old : State) 
 
       pub Applies-made : (done : Result ℕ HostFault) → grows w held.name ≡ false
           → ((m : ℕ) → map_of id w.stored.types ≡ Some m → is.transaction.now.next_serial < NUMBER_LIMIT → (AreAllLive (stored_in F at (reads old.now.words)) → ⊥)
-          → OwesRuns size w memory held old mine ready F at same listed log new gate F at (with_new (blank_object id m)) (fault_of done))
+          → OwesRuns size w memory held old number there ready F at same listed log new gate F at (with_new (blank_object id m)) (fault_of done))
           → ((AreAllLive (stored_in F at (reads old.now.words)) → ⊥) → IfOk done (λ _. log ≡ longer NEW_UNITS held.log))
-          → Applies size w (with_made held.name id w) (record memory { held = Some (record held { log = log }) }) (fault_of done) old new
+          → Applies size w (with_made held.name id w) (with_held number (Some (record held { log = log })) memory) (fault_of done) old new
       Applies-made done less runs used =
           let left = subst (λ (n : ℕ). n < NUMBER_LIMIT) next_serial may.left in
-          let at_first = owed size w memory held old mine ready F at same listed log new gate (with_new (blank_object id may.is)) (fault_of done) (runs may.is may.defined left (not_live less)) in
-          Applies-runs size w memory held old mine ready log NEW_UNITS (with_new (object_made w id)) (fault_of done) new gate (used_more done NEW_UNITS log held.log (used (not_live less)))
+          let at_first = owed size w memory held old number there ready F at same listed log new gate (with_new (blank_object id may.is)) (fault_of done) (runs may.is may.defined left (not_live less)) in
+          Applies-runs size w memory held old number there ready log NEW_UNITS (with_new (object_made w id)) (fault_of done) new gate (used_more done NEW_UNITS log held.log (used (not_live less)))
           (subst (λ (change : Graph → Graph). RunsOn w.stored.frames held.at w.stored.types log is.before is.undone (change is.transaction.now) (fault_of done) old new) the_object at_first)

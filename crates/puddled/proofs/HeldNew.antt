@@ -1,4 +1,4 @@
--- The line that makes an object in the transaction that is held: why it is refused, by what is read, and the world that it gives.
+-- The line that makes an object in a transaction that is held: why it is refused, by what is read, and the world that it gives.
 use Rattle.std.proofs.Common.{◌≡◌, inl, inr, ℕ, ◌+◌, ◌*◌, ◌≤◌, Bool, true, false, not, ◌&&◌, ◌||◌, leb, ltb, ◌==◌, cond, List, length, Option, Some, None, is_none, is_some, sum_by, refl, sym, ap, ap₂, ◌∙◌, arith, eqb-true, eq-eqb, ne_eqb}
 use Rattle.std.specs.Option.{option_or}
 use Rattle.std.proofs.lemmas.Bool.{cases_lt, and_parts, leb-true, le-leb, lt-leb, lt-ltb, le-ltb}
@@ -33,14 +33,13 @@ use Rattle.pud_defs.proofs.TablesOf.{pools_beyond, frames_of_tables}
 use Rattle.registry.specs.Growth.{has_room}
 use Rattle.log_store.specs.Store.{OpenLog}
 use Rattle.hybrid_tx.proofs.OpenPools.{open_on_device}
-use Rattle.puddled.specs.Memory.{Held, Memory}
+use Rattle.puddled.specs.Memory.{Held, Memory, held_under}
 use Rattle.puddled.specs.Held.{pool_held, IsHeld}
 use Rattle.puddled.specs.Changing.{refusal_to_make, refusal_by_tables, refusal_by_world, with_more, with_made}
 use Rattle.puddled.specs.Daemon.{IsReady}
 use Rattle.puddled.proofs.TablesBeside.{header_read, types_read, pools_read, sound_read}
 use Rattle.puddled.proofs.TransactionRefusals.{making_refusal, refusal_of-new, own_is_open}
 use Rattle.puddled.proofs.HeldRuns.{is_held}
-use Rattle.puddled.proofs.HeldSets.{its_transaction}
 use Rattle.puddled.proofs.HeldPools.{its_pool, grows_by, objects_fit, puddles_counted}
 use Rattle.puddled.proofs.HeldGrows.{found_more}
 use Rattle.puddled.proofs.HeldMakes.{next_serial}
@@ -87,12 +86,12 @@ joined false false false many out lacks true room free less more frames =
 
 -- ---- a daemon that is ready, and holds it
 
-module _ (size : ℕ) (w : World) (memory : Memory) (held : Held) (s : State) (mine : memory.held ≡ Some held) (ready : IsReady size w memory s) (id : ℕ) where
+module _ (size : ℕ) (w : World) (memory : Memory) (held : Held) (s : State) (number : ℕ) (there : held_under memory.held number ≡ Some held) (ready : IsReady size w memory s) (id : ℕ) where
   abbrev F : ℕ
   F = w.stored.frames
 
   abbrev is : IsHeld w held ready.mask s.now.words
-  is = is_held size w memory held s mine ready
+  is = is_held size w memory held s number there ready
 
   abbrev image : Image
   image = reads s.now.words
@@ -117,20 +116,20 @@ module _ (size : ℕ) (w : World) (memory : Memory) (held : Held) (s : State) (m
 
   -- the client's own transaction is open
   own : refusal_of w (Commit held.client held.name) ≡ None
-  own = own_is_open w memory.held ready.mask s.now.words held.client held.name ready.held (record { mine = held; is = mine; whose = refl; pool = refl })
+  own = own_is_open w memory.held ready.mask s.now.words held.client held.name number ready.held (record { mine = held; is = there; whose = refl; pool = refl })
 
   opened : w.transactions held.name ≡ Some is.transaction
-  opened = its_transaction size w memory held s mine ready
+  opened = is.is
 
   abbrev many : Bool
   many = leb (MAX_PUDDLES * FRAME_SLOTS) (length is.transaction.now.objects)
 
   less_by : grows w held.name ≡ false → many ≡ false
   less_by less =
-      most_objects (length is.transaction.now.objects) (length held.at) (objects_fit size w memory held s mine ready) few_held (sym (grows_by size w memory held s mine ready) ∙ less)
+      most_objects (length is.transaction.now.objects) (length held.at) (objects_fit size w memory held s number there ready) few_held (sym (grows_by size w memory held s number there ready) ∙ less)
 
   all_by : grows w held.name ≡ true → length is.transaction.now.objects ≡ FRAME_SLOTS * length held.at
-  all_by more = eqb-true (length is.transaction.now.objects) (FRAME_SLOTS * length held.at) (sym (grows_by size w memory held s mine ready) ∙ more)
+  all_by more = eqb-true (length is.transaction.now.objects) (FRAME_SLOTS * length held.at) (sym (grows_by size w memory held s number there ready) ∙ more)
 
   more_by : grows w held.name ≡ true → (many || lacks_a_number w.stored.next_number) ≡ not (has_room (length held.at) (image NEXT_NUMBER_WORD))
   more_by more =
@@ -143,7 +142,7 @@ module _ (size : ℕ) (w : World) (memory : Memory) (held : Held) (s : State) (m
       let units : units_of (w.transactions held.name) ≡ held.log.used = ap units_of opened ∙ is.units in
       let full : is_full_graph (graph_seen (w.transactions held.name) (pool_named held.name w.stored)) ≡ (leb NUMBER_LIMIT is.transaction.now.next_serial || many) =
       ap (λ (o : Option Transaction). is_full_graph (graph_seen o (pool_named held.name w.stored))) opened in
-      let next = next_serial size w memory held s mine ready in
+      let next = next_serial size w memory held s number there ready in
       refusal_of-new w held.client held.name id
       ∙ ap (λ (first : Option Refusal). option_or first (making_refusal (map_of id w.stored.types) (units_of (w.transactions held.name)) (lacks_room w held.name) (grows w held.name && lacks_frames w.stored 1))) own
       ∙ (λ p. cond (is_none (map_of id w.stored.types)) (Some refusals.Type) (cond (ltb LOG_ENTRY_WORDS (units p + NEW_UNITS)) (Some refusals.TooBig)
@@ -158,7 +157,7 @@ module _ (size : ℕ) (w : World) (memory : Memory) (held : Held) (s : State) (m
       let has = graph_of-each w.stored.types (stored_in F held.at image) is.transaction.now is.running.is in
       let types : types_of image ≡ w.stored.types = (types_read size w memory s ready).types in
       let serial : next_serial_of (stored_in n held.at image) ≡ next_in (graph_seen (w.transactions held.name) (pool_named held.name w.stored)) =
-      ap (λ (m : ℕ). next_serial_of (stored_in m held.at image)) same ∙ ap (λ (g : Graph). g.next_serial) has.is ∙ sym (next_serial size w memory held s mine ready) in
+      ap (λ (m : ℕ). next_serial_of (stored_in m held.at image)) same ∙ ap (λ (g : Graph). g.next_serial) has.is ∙ sym (next_serial size w memory held s number there ready) in
       ap₂ (λ (ts : List (ℕ × ℕ)) (v : ℕ). refusal_to_make (map_of id ts) held.log.used v) types serial
 
   pub refusal_found : (n : ℕ) → n ≡ F → (found refused : Option Refusal) → found ≡ refusal_to_make (map_of id (types_of image)) held.log.used (next_serial_of (stored_in n held.at image)) → found ≡ refused
@@ -210,15 +209,15 @@ module _ (size : ℕ) (w : World) (memory : Memory) (held : Held) (s : State) (m
       let n = next_serial_of (stored_in F held.at image) in
       let legal = leb-true 1 n (and_parts (leb 1 n) (leb n NUMBER_LIMIT) has.graph.legal).0 in
       let same = ap (λ (g : Graph). g.next_serial) has.is in
-      omega (arith, legal, same, next_serial size w memory held s mine ready)
+      omega (arith, legal, same, next_serial size w memory held s number there ready)
 
   -- ---- the pool grew
 
   -- it has a free slot then
   pub grown_less : grows w held.name ≡ true → grows (with_more held.name w) held.name ≡ false
   grown_less more =
-      let p = its_pool size w memory held s mine ready in
-      let counted = puddles_counted size w memory held s mine ready in
+      let p = its_pool size w memory held s number there ready in
+      let counted = puddles_counted size w memory held s number there ready in
       let all = all_by more in
       ap₂ (λ (o : Option Transaction) (found : Option Pool). is_all_live (graph_seen o found) found) opened (found_more held.name w.stored p.pool p.there)
       ∙ ne_eqb (length is.transaction.now.objects) (FRAME_SLOTS * (p.pool.puddles + 1)) (λ same. absurd (omega (arith, same, counted, all)))

@@ -1,4 +1,4 @@
--- The pool of the transaction that is held: what the world has of it, and whether it has a free slot.
+-- The pool of a transaction that is held: what the world has of it, and whether it has a free slot.
 use Rattle.std.proofs.Common.{◌≡◌, ℕ, ◌*◌, ◌≤◌, true, false, ◌==◌, List, length, Option, Some, None, refl, sym, ap, ap₂, ◌∙◌, arith, eqb-true, eq-eqb}
 use Rattle.std.proofs.lemmas.List.{length-map}
 use Rattle.std.proofs.lemmas.Option.{none-some, same_Some}
@@ -19,13 +19,12 @@ use Rattle.graph_laws.specs.Slots.{AreAllLive}
 use Rattle.graph_laws.proofs.LiveSlots.{objects-most, objects-live}
 use Rattle.registry.specs.Growth.{puddle_count, HoldsGraph}
 use Rattle.registry.proofs.GrowthAllowed.{puddle_count_by_world}
-use Rattle.puddled.specs.Memory.{Held, Memory}
+use Rattle.puddled.specs.Memory.{Held, Memory, held_under}
 use Rattle.puddled.specs.Held.{puddles_in, IsHeld}
 use Rattle.puddled.specs.Daemon.{IsReady}
 use Rattle.puddled.proofs.PoolsBeside.{used_still}
 use Rattle.puddled.proofs.TablesBeside.{tables_read, world_under, sound_read}
 use Rattle.puddled.proofs.HeldRuns.{is_held}
-use Rattle.puddled.proofs.HeldSets.{its_transaction}
 
 -- a pool that has this graph
 pub record HasPool (found : Option Pool) (g : Graph) : Type 0 where
@@ -41,12 +40,12 @@ has_pool : (found : Option Pool) (g : Graph) → graph_in found ≡ Some g → H
 has_pool None g is = absurd (none-some g is)
 has_pool (Some pool) g is = record { pool = pool; there = refl; holds = sound_as pool.holding g is }
 
-module _ (size : ℕ) (w : World) (memory : Memory) (held : Held) (s : State) (mine : memory.held ≡ Some held) (ready : IsReady size w memory s) where
+module _ (size : ℕ) (w : World) (memory : Memory) (held : Held) (s : State) (number : ℕ) (there : held_under memory.held number ≡ Some held) (ready : IsReady size w memory s) where
   abbrev F : ℕ
   F = w.stored.frames
 
   abbrev is : IsHeld w held ready.mask s.now.words
-  is = is_held size w memory held s mine ready
+  is = is_held size w memory held s number there ready
 
   abbrev t : Tables
   t = tables_of F (reads s.now.words)
@@ -92,7 +91,7 @@ module _ (size : ℕ) (w : World) (memory : Memory) (held : Held) (s : State) (m
   -- a pool that grows has as many objects as slots
   pub grows_by : grows w held.name ≡ (length is.transaction.now.objects == FRAME_SLOTS * length held.at)
   grows_by =
-      ap₂ (λ (o : Option Transaction) (found : Option Pool). is_all_live (graph_seen o found) found) (its_transaction size w memory held s mine ready) its_pool.there
+      ap₂ (λ (o : Option Transaction) (found : Option Pool). is_all_live (graph_seen o found) found) is.is its_pool.there
       ∙ ap (λ n. length is.transaction.now.objects == FRAME_SLOTS * n) puddles_counted
 
   -- and no free slot

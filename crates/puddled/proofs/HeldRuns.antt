@@ -1,10 +1,11 @@
--- Calls of the transaction that is held: every word that they write is masked, so that each image left stands for the world before.
-use Rattle.std.proofs.Common.{◌≡◌, inl, inr, ℕ, ◌+◌, ◌<◌, true, false, Bool, cond, bytes_eq, List, Option, Some, None, option_map, refl, sym, ap, subst, ◌∙◌, arith}
-use Rattle.std.proofs.lemmas.Slice.Eq.{bytes_eq-Decides}
+-- Calls of a transaction that is held: every word that they write is masked, and no other transaction's, so that each image left stands for the world before.
+use Rattle.std.proofs.Common.{◌≡◌, ◌≢◌, inl, inr, ℕ, ◌+◌, ◌<◌, true, false, Option, Some, None, refl, sym, ap, subst, ◌∙◌, arith}
+use Rattle.std.proofs.lemmas.Bool.{cases_eq}
+use Rattle.std.proofs.lemmas.Option.{same_Some}
 use Rattle.pm_model.specs.declared.host.HostFault.{HostFault}
 use Rattle.pm_model.specs.Words.{Has, Cell, values, reads}
 use Rattle.pm_model.specs.Moments.{State}
-use Rattle.pm_model.specs.Changes.{Footprint, Write, Changes, Leaves, Silently}
+use Rattle.pm_model.specs.Changes.{Footprint, Changes, Leaves, Silently}
 use Rattle.pm_model.specs.Masks.{masked, masked_image}
 use Rattle.pm_model.proofs.Changes.{Changes-said, Changes-now}
 use Rattle.pm_model.proofs.Leaves.{HasOrigin, Leaves-weaker}
@@ -16,8 +17,8 @@ use Rattle.pud_defs.specs.Graph.{Graph}
 use Rattle.pud_defs.specs.Layout.{tables_end, log_at}
 use Rattle.pud_defs.specs.Stored.{IsOnDevice}
 use Rattle.pud_defs.specs.Tables.{tables_of}
-use Rattle.pud_defs.specs.Transactions.{Opened, with_open, with_changed, charged}
-use Rattle.pud_defs.specs.World.{Transaction, World, world_of, idle_world_of, closed, nothing_open}
+use Rattle.pud_defs.specs.Transactions.{with_changed, charged}
+use Rattle.pud_defs.specs.World.{World, world_of, idle_world_of, closed}
 use Rattle.pud_defs.proofs.Spaces.{owner_of-same}
 use Rattle.pud_defs.proofs.TablesOf.{frames_of_tables}
 use Rattle.batch.specs.Worlds.{IsSettled}
@@ -25,42 +26,35 @@ use Rattle.batch.proofs.Tables.{reads_kept, HasDurableTables-kept}
 use Rattle.log_store.specs.Store.{OpenLog}
 use Rattle.word_transaction.specs.Running.{SettlesTo, ByTransaction}
 use Rattle.hybrid_tx.specs.Grounds.{pool_ground, IsPlaced}
+use Rattle.hybrid_tx.specs.ManyOpen.{OpenTransaction, AreLeftOpen}
 use Rattle.hybrid_tx.specs.Masks.{OpenPool, IsLeftOpen}
 use Rattle.hybrid_tx.specs.Transactions.{RunsOn}
 use Rattle.hybrid_tx.proofs.OpenMasks.{open_record_place, mine_behind}
 use Rattle.hybrid_tx.proofs.OpenPools.{open_on_device}
-use Rattle.hybrid_tx.proofs.OpenWorlds.{world_with_open, none_refused_with_open}
 use Rattle.hybrid_tx.proofs.PoolPlaces.{placed_of_members}
-use Rattle.puddled.specs.Memory.{Held, Memory}
-use Rattle.puddled.specs.Held.{pool_held, IsHeld, HasDurableFrames, HasIdleLogs}
+use Rattle.puddled.specs.Changing.{StaysOpen}
+use Rattle.puddled.specs.Memory.{Held, Memory, held_under, with_held}
+use Rattle.puddled.specs.Held.{pool_held, open_held, IsHeld, IsHeldUnder, Holds, HasDurableFrames, HasIdleLogs}
 use Rattle.puddled.specs.KnownPools.{KnowsPools}
 use Rattle.puddled.specs.Daemon.{IsReady, RefusesNone, StandsBetween, Applies}
-use Rattle.puddled.proofs.Beside.{Leaves-from, log_apart, own_apart, record_picked, names_none_idle, ready_idle}
-use Rattle.puddled.proofs.PoolsBeside.{held_is, members_still}
-use Rattle.puddled.proofs.JudgedOpen.{KnowsPools-but, KeepsPools-held}
+use Rattle.puddled.proofs.Beside.{IsApart, KeepsOne, Leaves-from, log_masked, own_masked, record_picked, left_apart, left_all, under_left, own_apart, held_still, names_none_idle, ready_idle}
+use Rattle.puddled.proofs.OpenNames.{changed_there, changed_elsewhere, WereOpen, WereOpen-changed}
+use Rattle.puddled.proofs.HeldChanged.{Holds-later, HasSessions-later, KnowsPools-later}
+use Rattle.puddled.proofs.PoolsBeside.{members_still}
+use Rattle.puddled.proofs.JudgedOpen.{KeepsPools-held}
 use Rattle.puddled.proofs.TablesBeside.{sound_read}
-
--- ---- the world
-
-changed_at : (there here : Bool) (change : Transaction → Transaction) (t : Transaction) → here ≡ true
-    → cond there (option_map change (cond here (Some t) None)) (cond there (Some t) None) ≡ cond there (Some (change t)) None
-changed_at true here change t e = ap (λ (b : Bool). option_map change (cond b (Some t) None)) e
-changed_at false here change t e = refl
-
--- the transaction on the pool of the name changed, where it is the only one that is open
-pub one_changed : (name : List ℕ) (change : Transaction → Transaction) (t : Transaction) (opened : Opened) → opened ≡ with_open name (Some t) nothing_open
-    → with_changed name change opened ≡ with_open name (Some (change t)) nothing_open
-one_changed name change t opened is =
-    ap (with_changed name change) is ∙ (let each = λ (other : List ℕ). changed_at (bytes_eq other name) (bytes_eq name name) change t ((bytes_eq-Decides name name).1 refl) in λ p other. each other p)
 
 -- ---- a daemon that is ready, and holds it
 
-module _ (size : ℕ) (w : World) (memory : Memory) (held : Held) (old : State) (mine : memory.held ≡ Some held) (ready : IsReady size w memory old) where
+module _ (size : ℕ) (w : World) (memory : Memory) (held : Held) (old : State) (number : ℕ) (there : held_under memory.held number ≡ Some held) (ready : IsReady size w memory old) where
   abbrev F : ℕ
   F = w.stored.frames
 
-  pub is_held : IsHeld w held ready.mask old.now.words
-  is_held = held_is w memory.held ready.mask old.now.words ready.held held mine
+  abbrev under : IsHeldUnder w ready.held.opens ready.mask old.now.words number held
+  under = ready.held.each number held there
+
+  abbrev pub is_held : IsHeld w held ready.mask old.now.words
+  is_held = under.is
 
   abbrev is : IsHeld w held ready.mask old.now.words
   is = is_held
@@ -86,9 +80,9 @@ module _ (size : ℕ) (w : World) (memory : Memory) (held : Held) (old : State) 
   own = ByTransaction (pool_ground F held.at) held.log.at
 
   -- every such word is masked
-  own_masked : (k v : ℕ) → own k v → ready.mask k ≡ None → ⊥
-  own_masked k v (inl inside) none = log_apart size w held ready.mask old.now.words is k inside none
-  own_masked k v (inr mine) none = own_apart size w held ready.mask old.now.words is k mine none
+  written_masked : (k v : ℕ) → own k v → ready.mask k ≡ None → ⊥
+  written_masked k v (inl inside) none = log_masked w held ready.mask old.now.words is k inside none
+  written_masked k v (inr mine) none = own_masked w held ready.mask old.now.words is k mine none
 
   -- and none lies in front of the logs
   own_behind : (k v : ℕ) → k < tables_end F → own k v → ⊥
@@ -98,12 +92,17 @@ module _ (size : ℕ) (w : World) (memory : Memory) (held : Held) (old : State) 
       absurd (omega arith)
   own_behind k v below (inr mine) = let no : true ≡ false = sym mine ∙ mine_behind F held.at k (omega arith) in cc
 
+  -- and none is one of another that is held
+  its_own : (n : ℕ) (g : Held) (has : held_under memory.held n ≡ Some g) → n ≢ number
+      → IsApart F g (pool_held g (ready.held.each n g has).is.rec (ready.held.each n g has).is.who) own
+  its_own n g has apart = own_apart w memory.held ready.mask old.now.words ready.held number n held g there has (λ same. apart (sym same))
+
   -- masked, an image left meanwhile is the one that it is from
   module _ (image : Image) (o : HasOrigin own old.now.words image) where
     same_word : (k : ℕ) (x : Option ℕ) → ready.mask k ≡ x → masked_image ready.mask image k ≡ masked_image ready.mask o.before k
     same_word k None none =
         masked_image-elsewhere ready.mask image k none
-        ∙ elim (o.from.each k) [ inl same ↦ same | inr may ↦ absurd (own_masked k (image k) may none) ]
+        ∙ elim (o.from.each k) [ inl same ↦ same | inr may ↦ absurd (written_masked k (image k) may none) ]
         ∙ sym (masked_image-elsewhere ready.mask o.before k none)
     same_word k (Some v) there = masked_image-there ready.mask image k v there ∙ sym (masked_image-there ready.mask o.before k v there)
 
@@ -122,19 +121,35 @@ module _ (size : ℕ) (w : World) (memory : Memory) (held : Held) (old : State) 
 
     left_open : SettlesTo (pool_ground F held.at) held.log.at is.before image → IsLeftOpen F p is.before image
     left_open settles = record {
-      unnamed = λ k v e. (names_none_idle ready.mask image log_idle).each k v (ap (λ (m : Write). m k) is.masked ∙ e);
+      unnamed = λ k v e. (names_none_idle ready.mask image log_idle).each k v (is.masked k v e);
       records = λ k of.
           let place = open_record_place F p k is.pool.slot is.pool.known (open_on_device F p is.before is.pool) of in
-          same_before k place.high ∙ record_picked size w held ready.mask old.now.words is ready.tables o.before o.picked k of;
+          same_before k place.high ∙ record_picked w held ready.mask old.now.words is ready.tables o.before o.picked k of;
       settles = subst (λ (n : ℕ). SettlesTo (pool_ground F held.at) n is.before image) is.gate settles;
     }
+
+    -- each is left open: it by its log, and any other since none of its words was written
+    each_open : SettlesTo (pool_ground F held.at) held.log.at is.before image → (n : ℕ) (g : Held) (there : held_under memory.held n ≡ Some g) (is : IsHeldUnder w ready.held.opens ready.mask old.now.words n g)
+        → IsLeftOpen F (pool_held g is.is.rec is.is.who) is.is.before image
+    each_open settles n g has other = elim (cases_eq n number) [
+      | inl same ↦
+          let one : open_held held is.rec is.who is.before ≡ open_held g other.is.rec other.is.who other.is.before =
+          same_Some (open_held held is.rec is.who is.before) (open_held g other.is.rec other.is.who other.is.before) (sym under.opened ∙ ap ready.held.opens (sym same) ∙ other.opened) in
+          subst (λ (t : OpenTransaction). IsLeftOpen F t.pool t.before image) one (left_open settles)
+      | inr apart ↦
+          let its = ready.held.each n g has in
+          let one : open_held g its.is.rec its.is.who its.is.before ≡ open_held g other.is.rec other.is.who other.is.before =
+          same_Some (open_held g its.is.rec its.is.who its.is.before) (open_held g other.is.rec other.is.who other.is.before) (sym its.opened ∙ other.opened) in
+          subst (λ (t : OpenTransaction). IsLeftOpen F t.pool t.before image) one
+          (left_apart w g ready.mask old.now.words its.is own (its_own n g has apart) ready.tables image o (names_none_idle ready.mask image log_idle))
+    ]
 
     -- so it stands for the world, where its log gives back what was there at the beginning
     pub stands_within : SettlesTo (pool_ground F held.at) held.log.at is.before image → (world_of size image ≡ Some (closed w)) × RefusesNone image
     stands_within settles =
-        let left = left_open settles in
-        let under = ap (λ (m : Write). idle_world_of size (masked_image m image)) (sym is.masked) ∙ idle_masked in
-        (world_with_open size F (closed w) p is.before image refl is.pool left under, record { each = none_refused_with_open size F (closed w) p is.before image refl is.pool left under })
+        let left : AreLeftOpen F ready.held.opens image = left_all w memory.held ready.mask old.now.words ready.held image (each_open settles) in
+        let it = under_left w memory.held ready.mask old.now.words ready.held size image left in
+        (it.stands (closed w) refl idle_masked, it.none (closed w) refl idle_masked)
 
   -- ---- a call within it
 
@@ -150,7 +165,7 @@ module _ (size : ℕ) (w : World) (memory : Memory) (held : Held) (old : State) 
     masked_value : (k v : ℕ) (x : Option ℕ) → ready.mask k ≡ x → Has (values (masked ready.mask new.now.words k)) v → Has (values (masked ready.mask old.now.words k)) v
     masked_value k v None none had =
         subst (λ (c : Cell). Has (values c) v) (sym (masked-elsewhere ready.mask old.now.words k none))
-        (elim (Changes-now own fault old new changes k v (subst (λ (c : Cell). Has (values c) v) (masked-elsewhere ready.mask new.now.words k none) had)) [ inl was ↦ was | inr may ↦ absurd (own_masked k v may none) ])
+        (elim (Changes-now own fault old new changes k v (subst (λ (c : Cell). Has (values c) v) (masked-elsewhere ready.mask new.now.words k none) had)) [ inl was ↦ was | inr may ↦ absurd (written_masked k v may none) ])
     masked_value k v (Some x) there had =
         subst (λ (c : Cell). Has (values c) v) (masked-there ready.mask new.now.words k x there ∙ sym (masked-there ready.mask old.now.words k x there)) had
 
@@ -173,9 +188,9 @@ module _ (size : ℕ) (w : World) (memory : Memory) (held : Held) (old : State) 
 
     logs_within : HasIdleLogs F w.clients (masked ready.mask new.now.words)
     logs_within = record {
-      each = λ client number known below present.
-          let at = log_at F client number in
-          record { each = λ v had. (ready.logs.each client number known below present).each v (masked_value at v (ready.mask at) refl had) };
+      each = λ client n known below present.
+          let at = log_at F client n in
+          record { each = λ v had. (ready.logs.each client n known below present).each v (masked_value at v (ready.mask at) refl had) };
     }
 
   -- the transaction was changed, and used so many units more
@@ -200,16 +215,15 @@ module _ (size : ℕ) (w : World) (memory : Memory) (held : Held) (old : State) 
     kept_within none k below =
         reads_kept own old new k (subst (λ (f : Option HostFault). Changes own f old new) none changes_own) (λ v may. own_behind k v below may)
 
-    held_within : fault ≡ None → IsHeld next later ready.mask new.now.words
+    abbrev held_within : fault ≡ None → IsHeld next later ready.mask new.now.words
     held_within none = record {
       rec = is.rec;
       who = is.who;
       before = is.before;
       undone = is.undone;
       transaction = charged units change is.transaction;
-      is = one_changed held.name (charged units change) is.transaction w.transactions is.is;
+      is = changed_there held.name w.transactions (charged units change) is.transaction is.is;
       client = is.client;
-      depth = is.depth;
       units = ap (λ (n : ℕ). n + units) is.units ∙ sym (used none);
       present = is.present;
       owner = is.owner;
@@ -229,14 +243,44 @@ module _ (size : ℕ) (w : World) (memory : Memory) (held : Held) (old : State) 
       masked = is.masked;
     }
 
-    -- all other pools stay
-    knows_within : fault ≡ None → KnowsPools F memory.judged (Some later) (reads new.now.words)
-    knows_within none =
-        KnowsPools-but F memory.judged held later now (reads new.now.words) refl
-        (KeepsPools-held w held ready.mask old new is (subst (λ (f : Option HostFault). Changes own f old new) none changes_own))
-        (subst (λ (o : Option Held). KnowsPools F memory.judged o now) mine ready.knows)
+    same_pool : StaysOpen held later
+    same_pool = record { client = refl; name = refl; slot = refl; number = refl; gate = at }
 
-    ready_within : fault ≡ None → IsReady size next (record memory { held = Some later }) new
+    -- another is on a pool of another name, and keeps its transaction
+    keeps_other : (n : ℕ) (g : Held) → n ≢ number → held_under memory.held n ≡ Some g → KeepsOne w next g
+    keeps_other n g apart has = record {
+      frames = refl;
+      transaction = changed_elsewhere held.name w.transactions (charged units change) g.name (λ same. apart (ready.held.names n number g held has there same));
+      present = refl;
+      stored = refl;
+      puddles = refl;
+      graphs = λ st graph stored. stored;
+    }
+
+    other_within : fault ≡ None → (n : ℕ) (g : Held) → n ≢ number → held_under memory.held n ≡ Some g → IsHeldUnder next ready.held.opens ready.mask new.now.words n g
+    other_within none n g apart has =
+        let other = ready.held.each n g has in
+        record {
+          is = held_still w next g ready.mask ready.mask old new other.is (keeps_other n g apart has) own (its_own n g has apart) (subst (λ (f : Option HostFault). Changes own f old new) none changes_own) other.is.masked;
+          number_is = other.number_is;
+          opened = other.opened;
+        }
+
+    were : WereOpen w.transactions next.transactions
+    were = WereOpen-changed held.name (charged units change) w.transactions (λ t. refl) (λ t. refl)
+
+    holds_within : fault ≡ None → Holds next (with_held number (Some later) memory).held ready.mask new.now.words
+    holds_within none =
+        Holds-later memory.held number held later there same_pool w next were ready.mask ready.mask old.now.words new.now.words ready.held ready.held.opens ready.held.are ready.held.masks
+        (record { is = held_within none; number_is = under.number_is; opened = under.opened }) (other_within none) (λ n apart free. free)
+
+    -- all other pools stay
+    knows_within : fault ≡ None → KnowsPools F memory.judged (with_held number (Some later) memory).held (reads new.now.words)
+    knows_within none =
+        KnowsPools-later memory.held number held later there same_pool F memory.judged now (reads new.now.words)
+        (KeepsPools-held w held ready.mask old new is (subst (λ (f : Option HostFault). Changes own f old new) none changes_own)) ready.knows
+
+    ready_within : fault ≡ None → IsReady size next (with_held number (Some later) memory) new
     ready_within none = record {
       mask = ready.mask;
       settled = settled_within fault new changes_own;
@@ -244,13 +288,14 @@ module _ (size : ℕ) (w : World) (memory : Memory) (held : Held) (old : State) 
       clients = λ client low. owner_of-same (reads new.now.words) now client low (λ k from to. kept_within none k (omega arith)) ∙ ready.clients client low;
       frames = ready.frames;
       shelf = changes_own.shelf ∙ ready.shelf;
-      held = held_within none;
+      held = holds_within none;
+      sessions = HasSessions-later memory.held number held later there same_pool w next were memory.sessions ready.sessions;
       rest = rest_within fault new changes_own;
       logs = logs_within fault new changes_own;
       knows = knows_within none;
     }
 
-    pub Applies-runs : Applies size w next (record memory { held = Some later }) fault old new
+    pub Applies-runs : Applies size w next (with_held number (Some later) memory) fault old new
     Applies-runs = record {
       moments = moments_own;
       quiet = Changes-said own fault old new changes_own;

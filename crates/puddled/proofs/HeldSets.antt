@@ -1,7 +1,6 @@
--- A field is set within the transaction that is held, and an object made without a puddle more.
-use Rattle.std.proofs.Common.{◌≡◌, ℕ, ◌+◌, cond, List, Option, Some, None, Result, Ok, Err, refl, sym, ap, subst, ◌∙◌}
+-- A field is set within a transaction that is held, and an object made without a puddle more.
+use Rattle.std.proofs.Common.{◌≡◌, ℕ, ◌+◌, List, Option, Some, None, Result, Ok, Err, sym, ap, subst}
 use Rattle.std.specs.Prelude.{IfOk}
-use Rattle.std.proofs.lemmas.Slice.Eq.{bytes_eq-Decides}
 use Rattle.pm_model.specs.declared.host.HostFault.{HostFault}
 use Rattle.pm_model.specs.Counts.{fault_of}
 use Rattle.pm_model.specs.Words.{reads}
@@ -14,11 +13,11 @@ use Rattle.pud_defs.specs.Graph.{Graph}
 use Rattle.pud_defs.specs.GraphChanges.{with_field}
 use Rattle.pud_defs.specs.Step.{refusal_of, after}
 use Rattle.pud_defs.specs.Stored.{stored_in}
-use Rattle.pud_defs.specs.World.{Transaction, World}
+use Rattle.pud_defs.specs.World.{World}
 use Rattle.log_store.specs.Store.{OpenLog, longer}
 use Rattle.hybrid_tx.specs.Grounds.{IsPlaced, IsRewritten}
 use Rattle.hybrid_tx.specs.Transactions.{MaySet, IsOpenOn, RunsOn}
-use Rattle.puddled.specs.Memory.{Held, Memory}
+use Rattle.puddled.specs.Memory.{Held, Memory, held_under, with_held}
 use Rattle.puddled.specs.Held.{IsHeld}
 use Rattle.puddled.specs.Daemon.{IsReady, Applies}
 use Rattle.puddled.proofs.FieldsTyped.{may_set_unrefused}
@@ -29,14 +28,9 @@ pub used_more : {X : Type 0} (done : Result X HostFault) (units : ℕ) (log old 
 used_more (Ok x) units log old told none = ap (λ (l : OpenLog). l.used) told
 used_more (Err fault) units log old told none = absurd (let no : Some fault ≡ None = none in cc)
 
-module _ (size : ℕ) (w : World) (memory : Memory) (held : Held) (old : State) (mine : memory.held ≡ Some held) (ready : IsReady size w memory old) where
+module _ (size : ℕ) (w : World) (memory : Memory) (held : Held) (old : State) (number : ℕ) (there : held_under memory.held number ≡ Some held) (ready : IsReady size w memory old) where
   abbrev is : IsHeld w held ready.mask old.now.words
-  is = is_held size w memory held old mine ready
-
-  -- the transaction is that of the world
-  pub its_transaction : w.transactions held.name ≡ Some is.transaction
-  its_transaction =
-      ap (λ (o : List ℕ → Option Transaction). o held.name) is.is ∙ ap (λ b. cond b (Some is.transaction) None) ((bytes_eq-Decides held.name held.name).1 refl)
+  is = is_held size w memory held old number there ready
 
   module _ (F : ℕ) (at : List (ℕ × Puddle)) (same : F ≡ w.stored.frames) (listed : at ≡ held.at) (log : OpenLog) (new : State) (gate : log.at ≡ held.log.at) where
     -- what a call owes that changes the graph so, on these puddles
@@ -52,18 +46,18 @@ module _ (size : ℕ) (w : World) (memory : Memory) (held : Held) (old : State) 
 
     pub told : {X : Type 0} (units : ℕ) (done : Result X HostFault) → OwesUsed F at units done → IfOk done (λ _. log ≡ longer units held.log)
     told units done used =
-        subst (λ (n : ℕ). OwesUsed n held.at units done) same (subst (λ (puddles : List (ℕ × Puddle)). OwesUsed F puddles units done) listed used) (held_placed size w memory held old mine ready) is.running
+        subst (λ (n : ℕ). OwesUsed n held.at units done) same (subst (λ (puddles : List (ℕ × Puddle)). OwesUsed F puddles units done) listed used) (held_placed size w memory held old number there ready) is.running
 
     pub owed : (change : Graph → Graph) (fault : Option HostFault) → OwesRuns F at change fault → RunsOn w.stored.frames held.at w.stored.types log is.before is.undone (change is.transaction.now) fault old new
     owed change fault runs =
-        subst (λ (n : ℕ). OwesRuns n held.at change fault) same (subst (λ (puddles : List (ℕ × Puddle)). OwesRuns F puddles change fault) listed runs) (held_placed size w memory held old mine ready) is.running
+        subst (λ (n : ℕ). OwesRuns n held.at change fault) same (subst (λ (puddles : List (ℕ × Puddle)). OwesRuns F puddles change fault) listed runs) (held_placed size w memory held old number there ready) is.running
 
     pub Applies-set : (s f : ℕ) (x : Val) (done : Result Unit HostFault) → IsRewritten held.at → refusal_of w (Set held.client held.name s f x) ≡ None
         → (IsRewritten at → MaySet w.stored.types is.transaction.now s f x → OwesRuns F at (with_field s f x) (fault_of done))
         → (MaySet w.stored.types is.transaction.now s f x → OwesUsed F at SET_UNITS done)
-        → Applies size w (after w (Set held.client held.name s f x)) (record memory { held = Some (record held { log = log }) }) (fault_of done) old new
+        → Applies size w (after w (Set held.client held.name s f x)) (with_held number (Some (record held { log = log })) memory) (fault_of done) old new
     unfolding after
     Applies-set s f x done rewritten free runs used =
-        let there = may_set_unrefused w held.client s f held.name x (stored_in w.stored.frames held.at (reads old.now.words)) is.transaction its_transaction is.running.is free in
-        Applies-runs size w memory held old mine ready log SET_UNITS (with_field s f x) (fault_of done) new gate (used_more done SET_UNITS log held.log (told SET_UNITS done (used there)))
-        (owed (with_field s f x) (fault_of done) (runs (subst IsRewritten (sym listed) rewritten) there))
+        let may = may_set_unrefused w held.client s f held.name x (stored_in w.stored.frames held.at (reads old.now.words)) is.transaction is.is is.running.is free in
+        Applies-runs size w memory held old number there ready log SET_UNITS (with_field s f x) (fault_of done) new gate (used_more done SET_UNITS log held.log (told SET_UNITS done (used may)))
+        (owed (with_field s f x) (fault_of done) (runs (subst IsRewritten (sym listed) rewritten) may))

@@ -1,4 +1,4 @@
--- The puddles of the pool on which a transaction is held are all that the pool has, in turn.
+-- The puddles of a pool on which a transaction is held are all that the pool has, in turn.
 use Rattle.std.proofs.Common.{◌≡◌, inl, inr, ℕ, suc, ◌+◌, ◌<◌, true, false, eqb, nat_cmp, List, [], ◌∷◌, length, Option, Some, None, refl, sym, ap, ap₂, ◌∙◌, arith, eq-eqb}
 use Rattle.std.specs.Prelude.{slice_get}
 use Rattle.std.specs.Ordering.{eq_by_cmp}
@@ -27,10 +27,11 @@ use Rattle.pud_defs.proofs.PuddlesListed.{puddles_in_turn-listed}
 use Rattle.pud_defs.proofs.SoundChanged.{distinct_ordinals}
 use Rattle.pud_defs.proofs.TypeLists.{same_test}
 use Rattle.registry.proofs.Changed.{found_pool}
-use Rattle.puddled.specs.Memory.{Held, Memory}
+use Rattle.puddled.specs.Memory.{Held, Memory, held_under}
 use Rattle.puddled.specs.Held.{puddles_in, IsHeld}
 use Rattle.puddled.specs.Daemon.{IsReady}
-use Rattle.puddled.proofs.PoolsBeside.{held_is, used_still, members_still}
+use Rattle.puddled.proofs.Beside.{held_is}
+use Rattle.puddled.proofs.PoolsBeside.{used_still, members_still}
 use Rattle.puddled.proofs.TablesBeside.{sound_read, pools_read}
 
 -- lists of one length with the same at each place
@@ -84,7 +85,7 @@ pool_count : (hold : Reader) (r : PoolRec) (t : Tables) (slot : ℕ) → puddles
 unfolding pool_of
 pool_count hold r t slot = refl
 
--- the world's pool of a record that is used, with the words masked that are held
+-- the world's pool of a record that is used, with the words masked of what is held
 pub record IsPoolOf (w : World) (hold : Reader) (t : Tables) (slot : ℕ) (r : PoolRec) : Type 0 where
   pub named : pool_named r.name w.stored ≡ Some (pool_of hold r (puddles_of t slot))
   pub count : puddles_in (pool_named r.name w.stored) ≡ length (puddles_of t slot)
@@ -103,10 +104,10 @@ module _ (size : ℕ) (w : World) (memory : Memory) (s : State) (ready : IsReady
       let named = ap (find name_cmp r.name) (sym (pools_read size w memory s ready)) ∙ found_pool hold w.stored.next_number t slot r sound within used in
       record { named = named; count = ap puddles_in named ∙ pool_count hold r t slot; in_turn = puddles_in_turn-listed w.stored.next_number t slot r sound within used }
 
-  -- the puddles of what is held are those of its pool in turn
-  pub held_in_turn : (held : Held) → memory.held ≡ Some held → puddles_in_turn t held.slot ≡ held.at
-  held_in_turn held have =
-      let is : IsHeld w held ready.mask s.now.words = held_is w memory.held ready.mask s.now.words ready.held held have in
+  -- the puddles of each that is held are those of its pool in turn
+  pub held_in_turn : (number : ℕ) (held : Held) → held_under memory.held number ≡ Some held → puddles_in_turn t held.slot ≡ held.at
+  held_in_turn number held there =
+      let is : IsHeld w held ready.mask s.now.words = held_is w memory.held ready.mask s.now.words ready.held number held there in
       let used = used_still w held ready.mask s.now.words is in
       let pool = pool_in_slot held.slot is.rec is.pool.slot used in
       all_members w.stored.next_number t (sound_read size w memory s ready) held.slot is.pool.slot is.rec held.at used (members_still w held ready.mask s.now.words is)

@@ -1,7 +1,7 @@
--- What is known of pools beside an open transaction: while it begins, changes words and ends, and while lines do that do not touch it.
-use Rattle.std.proofs.Common.{◌≡◌, ◌≢◌, inl, inr, ℕ, ◌+◌, ◌<◌, ◌≤◌, List, length, length-set, replicate, set, Option, Some, None, refl, sym, ap, subst, ◌∙◌, arith}
-use Rattle.std.proofs.lemmas.Bool.{cases_eq, cases_lt}
-use Rattle.std.proofs.lemmas.List.{get_or-set_same, get_or-set_other, get_or_past}
+-- What is known of pools beside open transactions: as one begins and ends, and while lines do that touch none.
+use Rattle.std.proofs.Common.{◌≡◌, ◌≢◌, inl, inr, ℕ, ◌+◌, ◌<◌, ◌≤◌, List, replicate, set, Option, Some, None, sym, ap, subst, ◌∙◌, arith}
+use Rattle.std.proofs.lemmas.Bool.{cases_eq}
+use Rattle.std.proofs.lemmas.List.{get_or-set_other}
 use Rattle.std.proofs.lemmas.Option.{none-some, same_Some}
 use Rattle.pm_model.specs.Words.{reads}
 use Rattle.pm_model.specs.Moments.{State}
@@ -21,12 +21,13 @@ use Rattle.pud_defs.proofs.PoolMembers.{HasMembers}
 use Rattle.batch.proofs.Tables.{reads_kept}
 use Rattle.word_transaction.specs.Running.{ByTransaction}
 use Rattle.hybrid_tx.specs.Grounds.{pool_ground}
-use Rattle.puddled.specs.Memory.{Held}
+use Rattle.puddled.specs.Memory.{Held, held_under}
 use Rattle.puddled.specs.Held.{IsHeld}
 use Rattle.puddled.specs.Judged.{known_in, AreJudged}
 use Rattle.puddled.specs.KnownPools.{KnowsPools}
 use Rattle.puddled.proofs.JudgedKept.{HasGraphIn, graph_from, KeepsPools, KeepsPools-changes, KeepsPools-apart, SparesTables, AreJudged-all, AreJudged-but, in_turn_kept, types_same, puddles_same, own_by, words_apart, IsOwnWord}
-use Rattle.puddled.proofs.Known.{AreJudged-none, AreJudged-set, AreJudged-forgotten}
+use Rattle.puddled.proofs.Known.{none_known_in, AreJudged-none, AreJudged-set, AreJudged-forgotten}
+use Rattle.puddled.proofs.HeldUnder.{nothing_there, held_then}
 use Rattle.puddled.proofs.PoolsBeside.{members_still}
 
 -- ---- words of one transaction
@@ -83,76 +84,66 @@ module _ (F slot log : ℕ) (at : List (ℕ × Puddle)) (old new : State) (besid
 
 -- ---- what is known beside it
 
-forgotten_there : (judged : List (Option (List (ℕ × Puddle)))) (slot : ℕ) → known_in (set judged slot None) slot ≡ None
-forgotten_there judged slot = elim (cases_lt slot (length judged)) [
-  | inl within ↦ get_or-set_same judged slot None None within
-  | inr past ↦ get_or_past (set judged slot None) slot None (omega (arith, past, length-set judged slot None))
-]
-
 forgotten_still : (judged : List (Option (List (ℕ × Puddle)))) (slot other : ℕ) → known_in judged other ≡ None → known_in (set judged slot None) other ≡ None
 forgotten_still judged slot other none = elim (cases_eq other slot) [
-  | inl same ↦ ap (known_in (set judged slot None)) same ∙ forgotten_there judged slot
+  | inl same ↦ ap (known_in (set judged slot None)) same ∙ nothing_there judged slot
   | inr apart ↦ get_or-set_other judged slot other None None apart ∙ none
 ]
 
 -- a start knows nothing
-pub KnowsPools-none : (F n : ℕ) (image : Image) → KnowsPools F (replicate n None) None image
-KnowsPools-none F n image = record { judged = AreJudged-none F n image; apart = λ h no. absurd (none-some h no) }
+pub KnowsPools-none : (F n : ℕ) (held : List (Option Held)) (image : Image) → KnowsPools F (replicate n None) held image
+KnowsPools-none F n held image = record { judged = AreJudged-none F n image; apart = λ number h there. none_known_in n h.slot }
 
 -- some are judged, of which none is open
-pub KnowsPools-read : (F : ℕ) (judged next : List (Option (List (ℕ × Puddle)))) (held : Option Held) (image : Image) → AreJudged F next image
-    → ((h : Held) → held ≡ Some h → known_in next h.slot ≡ known_in judged h.slot) → KnowsPools F judged held image → KnowsPools F next held image
-KnowsPools-read F judged next held image right same knows = record { judged = right; apart = λ h e. same h e ∙ knows.apart h e }
+pub KnowsPools-read : (F : ℕ) (judged next : List (Option (List (ℕ × Puddle)))) (held : List (Option Held)) (image : Image) → AreJudged F next image
+    → ((number : ℕ) (h : Held) → held_under held number ≡ Some h → known_in next h.slot ≡ known_in judged h.slot) → KnowsPools F judged held image → KnowsPools F next held image
+KnowsPools-read F judged next held image right same knows = record { judged = right; apart = λ number h there. same number h there ∙ knows.apart number h there }
 
 -- one is forgotten
-pub KnowsPools-forgotten : (F slot : ℕ) (judged : List (Option (List (ℕ × Puddle)))) (held : Option Held) (image : Image) → KnowsPools F judged held image → KnowsPools F (set judged slot None) held image
+pub KnowsPools-forgotten : (F slot : ℕ) (judged : List (Option (List (ℕ × Puddle)))) (held : List (Option Held)) (image : Image) → KnowsPools F judged held image
+    → KnowsPools F (set judged slot None) held image
 KnowsPools-forgotten F slot judged held image knows = record {
   judged = AreJudged-forgotten F judged slot image knows.judged;
-  apart = λ h e. forgotten_still judged slot h.slot (knows.apart h e);
+  apart = λ number h there. forgotten_still judged slot h.slot (knows.apart number h there);
 }
 
 -- ---- lines that leave what is held
 
 -- each pool stays
-pub KnowsPools-all : (F : ℕ) (judged : List (Option (List (ℕ × Puddle)))) (held : Option Held) (before after : Image) → KeepsPools F None before after → KnowsPools F judged held before → KnowsPools F judged held after
+pub KnowsPools-all : (F : ℕ) (judged : List (Option (List (ℕ × Puddle)))) (held : List (Option Held)) (before after : Image) → KeepsPools F None before after → KnowsPools F judged held before
+    → KnowsPools F judged held after
 KnowsPools-all F judged held before after keeps knows = record { judged = AreJudged-all F judged before after keeps knows.judged; apart = knows.apart }
 
 -- one is dropped, and forgotten
-pub KnowsPools-dropped : (F slot : ℕ) (judged : List (Option (List (ℕ × Puddle)))) (held : Option Held) (before after : Image) → KeepsPools F (Some slot) before after → KnowsPools F judged held before
+pub KnowsPools-dropped : (F slot : ℕ) (judged : List (Option (List (ℕ × Puddle)))) (held : List (Option Held)) (before after : Image) → KeepsPools F (Some slot) before after → KnowsPools F judged held before
     → KnowsPools F (set judged slot None) held after
 KnowsPools-dropped F slot judged held before after keeps knows =
     let less = KnowsPools-forgotten F slot judged held before knows in
-    record { judged = AreJudged-but F slot (set judged slot None) before after keeps (forgotten_there judged slot) less.judged; apart = less.apart }
+    record { judged = AreJudged-but F slot (set judged slot None) before after keeps (nothing_there judged slot) less.judged; apart = less.apart }
 
--- ---- a transaction begins, changes words, and ends
+-- ---- a transaction begins, and ends
 
--- it takes the puddles of its pool, which is forgotten
-pub KnowsPools-begun : (F : ℕ) (judged : List (Option (List (ℕ × Puddle)))) (h : Held) (before after : Image) → KeepsPools F None before after → KnowsPools F judged None before
-    → KnowsPools F (set judged h.slot None) (Some h) after
-KnowsPools-begun F judged h before after keeps knows = record {
-  judged = AreJudged-forgotten F judged h.slot after (AreJudged-all F judged before after keeps knows.judged);
-  apart = λ other e. subst (λ (x : Held). known_in (set judged h.slot None) x.slot ≡ None) (same_Some h other e) (forgotten_there judged h.slot);
-}
+module _ (F : ℕ) (judged : List (Option (List (ℕ × Puddle)))) (held : List (Option Held)) (number : ℕ) (h : Held) where
+  -- it takes the puddles of its pool, which is forgotten
+  pub KnowsPools-begun : (before after : Image) → KeepsPools F None before after → KnowsPools F judged held before → KnowsPools F (set judged h.slot None) (set held number (Some h)) after
+  KnowsPools-begun before after keeps knows = record {
+    judged = AreJudged-forgotten F judged h.slot after (AreJudged-all F judged before after keeps knows.judged);
+    apart = λ other x there. elim (held_then held number (Some h) other x there) [
+      | inl here ↦ subst (λ (y : Held). known_in (set judged h.slot None) y.slot ≡ None) (same_Some h x here.1) (nothing_there judged h.slot)
+      | inr still ↦ forgotten_still judged h.slot x.slot (knows.apart other x still.1)
+    ];
+  }
 
--- only its own pool changes: words of it are set, or it grows
-pub KnowsPools-but : (F : ℕ) (judged : List (Option (List (ℕ × Puddle)))) (h now : Held) (before after : Image) → now.slot ≡ h.slot → KeepsPools F (Some h.slot) before after → KnowsPools F judged (Some h) before
-    → KnowsPools F judged (Some now) after
-KnowsPools-but F judged h now before after slot keeps knows = record {
-  judged = AreJudged-but F h.slot judged before after keeps (knows.apart h refl) knows.judged;
-  apart = λ x e. subst (λ (y : Held). known_in judged y.slot ≡ None) (same_Some now x e) (ap (known_in judged) slot ∙ knows.apart h refl);
-}
-
--- it was begun once more, or once less
-pub KnowsPools-deeper : (F : ℕ) (judged : List (Option (List (ℕ × Puddle)))) (h now : Held) (image : Image) → now.slot ≡ h.slot → KnowsPools F judged (Some h) image → KnowsPools F judged (Some now) image
-KnowsPools-deeper F judged h now image slot knows = KnowsPools-but F judged h now image image slot (record { each = λ s at apart has. has }) knows
-
--- it ends, and its pool has a graph: its puddles are known again
-pub KnowsPools-ended : (F : ℕ) (judged : List (Option (List (ℕ × Puddle)))) (h : Held) (before after : Image) → KeepsPools F (Some h.slot) before after → HasGraphIn F h.slot after h.at
-    → KnowsPools F judged (Some h) before → KnowsPools F (set judged h.slot (Some h.at)) None after
-KnowsPools-ended F judged h before after keeps has knows = record {
-  judged = AreJudged-set F judged h.slot h.at after (graph_from F h.slot after h.at has) (AreJudged-but F h.slot judged before after keeps (knows.apart h refl) knows.judged);
-  apart = λ x no. absurd (none-some x no);
-}
+  -- it ends, and its pool has a graph: its puddles are known again. No other is held on that pool.
+  pub KnowsPools-ended : (before after : Image) → held_under held number ≡ Some h → ((other : ℕ) (g : Held) → held_under held other ≡ Some g → g.slot ≡ h.slot → other ≡ number)
+      → KeepsPools F (Some h.slot) before after → HasGraphIn F h.slot after h.at → KnowsPools F judged held before → KnowsPools F (set judged h.slot (Some h.at)) (set held number None) after
+  KnowsPools-ended before after mine alone keeps has knows = record {
+    judged = AreJudged-set F judged h.slot h.at after (graph_from F h.slot after h.at has) (AreJudged-but F h.slot judged before after keeps (knows.apart number h mine) knows.judged);
+    apart = λ other x there. elim (held_then held number None other x there) [
+      | inl here ↦ absurd (none-some x here.1)
+      | inr still ↦ get_or-set_other judged h.slot x.slot (Some h.at) None (λ same. still.0 (alone other x still.1 same)) ∙ knows.apart other x still.1
+    ];
+  }
 
 -- what its calls do
 module _ (w : World) (h : Held) (mask : Write) (old new : State) (is : IsHeld w h mask old.now.words) where

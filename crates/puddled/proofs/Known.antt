@@ -1,5 +1,5 @@
 -- What is known of pools, once one's puddles are kept, or it is forgotten.
-use Rattle.std.proofs.Common.{◌≡◌, ℕ, true, false, true≢false, rules, List, [], length, length-set, replicate, set, Option, Some, None, is_some, unwrap_or, refl, sym, ap, subst, ◌∙◌, arith, inl, inr}
+use Rattle.std.proofs.Common.{◌≡◌, ℕ, true, false, true≢false, List, [], length, length-set, replicate, set, Option, Some, None, is_some, unwrap_or, refl, sym, ap, subst, ◌∙◌, arith, inl, inr}
 use Rattle.std.proofs.lemmas.Bool.{cases_eq, cases_lt}
 use Rattle.std.proofs.lemmas.List.{get_or-set_same, get_or-set_other, get_or_past, get_or-replicate, length-replicate}
 use Rattle.std.proofs.lemmas.Option.{none-some, same_Some}
@@ -10,11 +10,14 @@ use Rattle.puddled.specs.Reading.{puddles_with_graph}
 use Rattle.puddled.specs.Judged.{known_in, AreOnDevice, AreJudged}
 
 -- of no pool anything is known
-pub none_known : (n slot : ℕ) (here : List (ℕ × Puddle)) → known_in (replicate n None) slot ≡ Some here → ⊥
-none_known n slot here is = elim (cases_lt slot n) [
-  | inl within ↦ none-some here (sym (get_or-replicate n slot None None within) ∙ is)
-  | inr past ↦ none-some here (sym (get_or_past (replicate n None) slot None (omega (arith, past, length-replicate {A = Option (List (ℕ × Puddle))} n None))) ∙ is)
+pub none_known_in : (n slot : ℕ) → known_in (replicate n None) slot ≡ None
+none_known_in n slot = elim (cases_lt slot n) [
+  | inl within ↦ get_or-replicate n slot None None within
+  | inr past ↦ get_or_past (replicate n None) slot None (omega (arith, past, length-replicate {A = Option (List (ℕ × Puddle))} n None))
 ]
+
+pub none_known : (n slot : ℕ) (here : List (ℕ × Puddle)) → known_in (replicate n None) slot ≡ Some here → ⊥
+none_known n slot here is = none-some here (sym (none_known_in n slot) ∙ is)
 
 pub AreOnDevice-none : (F n : ℕ) → AreOnDevice F (replicate n None)
 AreOnDevice-none F n = record { each = λ slot here is. absurd (none_known n slot here is) }
@@ -81,11 +84,3 @@ judged_puddles F slot image judged is right = known_puddles F slot image (known_
 pub none_found : (found : Option (List (ℕ × Puddle))) → false ≡ is_some found → None ≡ found
 none_found None is = refl
 none_found (Some at) is = absurd (true≢false (sym is))
-
--- what is known of a pool, if anything, lies in frames of the device
-known_on_device : (F : ℕ) (known : Option (List (ℕ × Puddle))) → ((at : List (ℕ × Puddle)) → known ≡ Some at → IsOnDevice F at) → IsOnDevice F (unwrap_or known [])
-known_on_device F None each = record { few = search rules; frames = λ k d within. absurd (omega (arith, within)) }
-known_on_device F (Some at) each = each at refl
-
-pub puddles_on_device : (F slot : ℕ) (judged : List (Option (List (ℕ × Puddle)))) (at : List (ℕ × Puddle)) → at ≡ unwrap_or (known_in judged slot) [] → AreOnDevice F judged → IsOnDevice F at
-puddles_on_device F slot judged at same on = subst (IsOnDevice F) (sym same) (known_on_device F (known_in judged slot) (on.each slot))

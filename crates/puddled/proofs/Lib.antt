@@ -1,3 +1,5 @@
+pub mod HeldUnder
+pub mod OpenNames
 pub mod Beside
 pub mod Beneath
 pub mod PoolsBeside
@@ -5,12 +7,15 @@ pub mod PoolsApart
 pub mod Others
 pub mod TablesBeside
 pub mod OpenBeside
+pub mod Sessions
+pub mod NoneHeld
 pub mod Rewritten
 pub mod JudgedKept
 pub mod JudgedLines
 pub mod JudgedPools
 pub mod TransactionRefusals
 pub mod FieldsTyped
+pub mod HeldChanged
 pub mod HeldRuns
 pub mod HeldSets
 pub mod InTurn
@@ -22,9 +27,12 @@ pub mod HeldGrows
 pub mod HeldNew
 pub mod HeldLines
 pub mod Committing
+pub mod HeldMore
 pub mod Beginning
+pub mod OthersHeld
 pub mod Ending
 pub mod HeldEnds
+pub mod AtDepth
 pub mod Depth
 pub mod Leaving
 pub mod Applying
@@ -36,8 +44,10 @@ pub mod JudgedOpen
 pub mod Readable
 pub mod HeldRefusals
 pub mod RefusedLines
+pub mod Entering
 pub mod Turns
 pub mod Counted
+pub mod Counting
 pub mod Restarts
 pub mod Losing
 pub mod Carrying

@@ -77,6 +77,7 @@ IsReady-said size w memory old new words shelf ready =
       frames = ready.frames;
       shelf = shelf ∙ ready.shelf;
       held = subst (λ (x : Words). Holds w memory.held ready.mask x) (sym words) ready.held;
+      sessions = ready.sessions;
       logs = subst (λ (x : Words). HasIdleLogs w.stored.frames w.clients (masked ready.mask x)) (sym words) ready.logs;
       rest = subst (λ (x : Words). HasDurableFrames w.stored.frames (masked ready.mask x)) (sym words) ready.rest;
       knows = subst (λ (x : Words). KnowsPools w.stored.frames memory.judged memory.held (reads x)) (sym words) ready.knows;

@@ -1,7 +1,6 @@
--- The pool on which a transaction is open, and those on which none is.
-use Rattle.std.proofs.Common.{◌≡◌, ◌≢◌, inr, ℕ, Bool, true, false, cond, List, Option, Some, None, bytes_eq, refl, sym, ap, subst, ◌∙◌, arith}
+-- A pool on which a transaction is open, and those on which none is.
+use Rattle.std.proofs.Common.{◌≡◌, ◌≢◌, inr, ℕ, Bool, true, false, List, Option, Some, None, refl, sym, ap, ◌∙◌, arith}
 use Rattle.std.proofs.lemmas.Option.{none-some, same_Some}
-use Rattle.std.proofs.lemmas.Slice.Eq.{bytes_eq-Decides}
 use Rattle.pm_model.specs.Words.{Words, reads}
 use Rattle.pm_model.specs.Changes.{Write}
 use Rattle.pm_model.specs.Masks.{masked_image}
@@ -19,17 +18,16 @@ use Rattle.pud_defs.specs.World.{Transaction, World}
 use Rattle.pud_defs.proofs.PoolMembers.{members_in_turn}
 use Rattle.pud_defs.proofs.Replay.{outside_log}
 use Rattle.hybrid_tx.specs.Grounds.{pool_mine}
-use Rattle.hybrid_tx.specs.Masks.{OpenPool, is_open_record}
+use Rattle.hybrid_tx.specs.Masks.{OpenPool, is_open_record, open_mask}
 use Rattle.hybrid_tx.proofs.OpenMasks.{open_record_place, mask_of_others}
 use Rattle.hybrid_tx.proofs.Opening.{stored_in-mine}
 use Rattle.hybrid_tx.proofs.OpenPools.{open_on_device}
 use Rattle.hybrid_tx.proofs.PoolGrounds.{pool_mine-each}
 use Rattle.hybrid_tx.proofs.PoolPlaces.{members_apart}
-use Rattle.puddled.specs.Memory.{Held}
-use Rattle.puddled.specs.Held.{pool_held, IsHeld, Holds}
+use Rattle.puddled.specs.Memory.{Held, held_under}
+use Rattle.puddled.specs.Held.{pool_held, IsHeld, Holds, IsOwn}
+use Rattle.puddled.proofs.Beside.{held_is, unmasked_by_all}
 use Rattle.puddled.proofs.PoolsBeside.{used_still, members_still}
-use Rattle.puddled.specs.Owning.{holder_of, opened_by}
-use Rattle.puddled.specs.Reading.{puddles_held}
 
 -- ---- which pool it is
 
@@ -42,42 +40,26 @@ pub record IsOpenHere (w : World) (at : List (ℕ × Puddle)) (image : Image) (n
   pub stored : graph_in (pool_named name w.stored) ≡ Some undone
   pub now : graph_of w.stored.types (stored_in w.stored.frames at image) ≡ Some transaction.now
 
-module _ (w : World) (held : Held) (mask : Write) (words : Words) (is : IsHeld w held mask words) (name : List ℕ) where
-  opened_at : (here : Bool) → bytes_eq name held.name ≡ here → w.transactions name ≡ cond here (Some is.transaction) None
-  opened_at here e = ap (λ (o : List ℕ → Option Transaction). o name) is.is ∙ ap (λ (b : Bool). cond b (Some is.transaction) None) e
+-- where its own is held
+pub open_here : (w : World) (held : List (Option Held)) (mask : Write) (words : Words) (name : List ℕ) (client number : ℕ) → Holds w held mask words → (own : IsOwn client name number held)
+    → IsOpenHere w own.mine.at (reads words) name client
+open_here w held mask words name client number holds own =
+    let is = held_is w held mask words holds number own.mine own.is in
+    record {
+      transaction = is.transaction;
+      is = ap w.transactions (sym own.pool) ∙ is.is;
+      whose = is.client ∙ own.whose;
+      undone = is.undone;
+      stored = ap (λ (n : List ℕ). graph_in (pool_named n w.stored)) (sym own.pool) ∙ is.stored;
+      now = is.running.is;
+    }
 
-  open_at : (here : Bool) (client : ℕ) → bytes_eq name held.name ≡ here → cond here (Some held.client) None ≡ Some client → IsOpenHere w held.at (reads words) name client
-  open_at true client e at =
-      let same : name ≡ held.name = (bytes_eq-Decides name held.name).0 e in
-      record {
-        transaction = is.transaction;
-        is = opened_at true e;
-        whose = is.client ∙ same_Some held.client client at;
-        undone = is.undone;
-        stored = ap (λ n. graph_in (pool_named n w.stored)) same ∙ is.stored;
-        now = is.running.is;
-      }
-  open_at false client e at = absurd (none-some client at)
-
-  shut_at : (here : Bool) → bytes_eq name held.name ≡ here → cond here (Some held.client) None ≡ None → (w.transactions name ≡ None) × (name ≢ held.name)
-  shut_at true e at = absurd (none-some held.client (sym at))
-  shut_at false e at = (opened_at false e, λ same. absurd (let both : false ≡ true = sym e ∙ (bytes_eq-Decides name held.name).1 same in cc))
-
--- of whatever is held
-pub open_here : (w : World) (o : Option Held) (mask : Write) (words : Words) (name : List ℕ) (client : ℕ) → Holds w o mask words → opened_by (holder_of o) name ≡ Some client
-    → IsOpenHere w (puddles_held o) (reads words) name client
-open_here w None mask words name client holds at = absurd (none-some client at)
-open_here w (Some held) mask words name client is at = open_at w held mask words is name (bytes_eq name held.name) client refl at
-
-pub not_open : (w : World) (o : Option Held) (mask : Write) (words : Words) (name : List ℕ) → Holds w o mask words → opened_by (holder_of o) name ≡ None → w.transactions name ≡ None
-not_open w None mask words name holds at = ap (λ (t : List ℕ → Option Transaction). t name) holds.0
-not_open w (Some held) mask words name is at = (shut_at w held mask words is name (bytes_eq name held.name) refl at).0
-
-pub not_named : (w : World) (o : Option Held) (mask : Write) (words : Words) (name : List ℕ) → Holds w o mask words → opened_by (holder_of o) name ≡ None → (h : Held) → o ≡ Some h → h.name ≢ name
-not_named w o mask words name holds at h e same =
-    let is = subst (λ (x : Option Held). Holds w x mask words) e holds in
-    let shut = ap (λ (x : Option Held). opened_by (holder_of x) name) (sym e) ∙ at in
-    (shut_at w h mask words is name (bytes_eq name h.name) refl shut).1 (sym same)
+-- none is held on a name under which none is open
+pub not_named : (w : World) (held : List (Option Held)) (mask : Write) (words : Words) (name : List ℕ) → Holds w held mask words → w.transactions name ≡ None
+    → (number : ℕ) (h : Held) → held_under held number ≡ Some h → h.name ≢ name
+not_named w held mask words name holds none number h there same =
+    let is = held_is w held mask words holds number h there in
+    none-some is.transaction (sym none ∙ ap w.transactions (sym same) ∙ is.is)
 
 -- ---- frames of other pools
 
@@ -110,24 +92,20 @@ module _ (w : World) (held : Held) (mask : Write) (words : Words) (is : IsHeld w
         let high = (open_record_place F p k is.pool.slot is.pool.known (open_on_device F p is.before is.pool) e).high in
         absurd (omega arith)
 
-    -- no word of its frames is masked
-    unmasked_frames : (k : ℕ) → pool_mine F (puddles_in_turn t slot) k ≡ true → mask k ≡ None
+    -- it masks no word of the frames
+    pub unmasked_frames : (k : ℕ) → pool_mine F (puddles_in_turn t slot) k ≡ true → open_mask F p is.before k ≡ None
     unmasked_frames k mine =
         let here = pool_mine-each F (puddles_in_turn t slot) k mine in
         let low = here.low in
         let few = is.pool.known in
-        ap (λ (m : Write). m k) is.masked
-        ∙ mask_of_others F p is.before k (outside_log (log_number_at F held.number) k (inr (omega arith))) (not_mine k mine) (not_record k (is_open_record p k) refl mine)
+        mask_of_others F p is.before k (outside_log (log_number_at F held.number) k (inr (omega arith))) (not_mine k mine) (not_record k (is_open_record p k) refl mine)
 
-    other_read : stored_in F (puddles_in_turn t slot) (masked_image mask now) ≡ stored_in F (puddles_in_turn t slot) now
-    other_read = stored_in-mine F (puddles_in_turn t slot) now (masked_image mask now) (λ k mine. masked_image-elsewhere mask now k (unmasked_frames k mine))
-
--- what a pool stores on which none is open is read as it is
-pub pool_unmasked : (w : World) (o : Option Held) (mask : Write) (words : Words) (name : List ℕ) (slot : ℕ) (r : PoolRec) → Holds w o mask words → opened_by (holder_of o) name ≡ None
-    → (tables_of w.stored.frames (reads words)).pools slot ≡ Some r → r.name ≡ name
+-- what a pool stores on which none is held is read as it is
+pub pool_unmasked : (w : World) (held : List (Option Held)) (mask : Write) (words : Words) (name : List ℕ) (slot : ℕ) (r : PoolRec) → Holds w held mask words
+    → ((number : ℕ) (h : Held) → held_under held number ≡ Some h → h.name ≢ name) → (tables_of w.stored.frames (reads words)).pools slot ≡ Some r → r.name ≡ name
     → stored_in w.stored.frames (puddles_in_turn (tables_of w.stored.frames (reads words)) slot) (masked_image mask (reads words))
     ≡ stored_in w.stored.frames (puddles_in_turn (tables_of w.stored.frames (reads words)) slot) (reads words)
-pool_unmasked w None mask words name slot r holds shut used named =
-    ap (λ (m : Write). stored_in w.stored.frames (puddles_in_turn (tables_of w.stored.frames (reads words)) slot) (masked_image m (reads words))) holds.1
-pool_unmasked w (Some held) mask words name slot r is shut used named =
-    other_read w held mask words is slot r used (λ same. (shut_at w held mask words is name (bytes_eq name held.name) refl shut).1 (sym named ∙ same))
+pool_unmasked w held mask words name slot r holds shut used named =
+    stored_in-mine w.stored.frames (puddles_in_turn (tables_of w.stored.frames (reads words)) slot) (reads words) (masked_image mask (reads words))
+    (λ k mine. masked_image-elsewhere mask (reads words) k
+    (unmasked_by_all w held mask words holds k (λ number h there is. unmasked_frames w h mask words is slot r used (λ same. shut number h there (sym same ∙ named)) k mine)))

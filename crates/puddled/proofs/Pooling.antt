@@ -1,8 +1,8 @@
 -- Pools made, changed and dropped by lines.
-use Rattle.std.proofs.Common.{◌≡◌, inl, inr, ℕ, ◌+◌, ◌%◌, ◌^◌, ◌<◌, ◌≤◌, Bool, true, false, not, cond, ◌&&◌, ◌||◌, leb, ltb, eqb, List, length, Option, Some, None, Result, Ok, Err, option_map, is_some, is_none, refl, sym, ap, ap₂, sum_by, subst, ◌∙◌, arith, leb-true, eq-eqb, ne_eqb}
-use Rattle.std.specs.Prelude.{⊤, IfOk, bytes_eq, unwrap_or, set}
+use Rattle.std.proofs.Common.{◌≡◌, ◌≢◌, inl, inr, ℕ, ◌+◌, ◌%◌, ◌^◌, ◌<◌, ◌≤◌, Bool, true, false, not, cond, ◌&&◌, ◌||◌, leb, ltb, eqb, List, length, Option, Some, None, Result, Ok, Err, option_map, is_some, is_none, refl, sym, ap, ap₂, sum_by, subst, ◌∙◌, arith, leb-true, eq-eqb, ne_eqb}
+use Rattle.std.specs.Prelude.{⊤, IfOk, unwrap_or, set}
 use Rattle.std.specs.FinMap.Entries.{find, put}
-use Rattle.std.proofs.lemmas.Bool.{cases_eq, cases_lt, cond-true, cond-false, and_parts}
+use Rattle.std.proofs.lemmas.Bool.{cases_eq, cond-true, cond-false, and_parts}
 use Rattle.std.proofs.lemmas.Option.{none-some, same_Some}
 use Rattle.pm_model.specs.declared.host.HostFault.{HostFault}
 use Rattle.pm_model.specs.declared.host.HostFault.TheVariants.{Cut}
@@ -36,7 +36,7 @@ use Rattle.pud_defs.specs.World.{StoredWorld, Transaction, World}
 use Rattle.pud_defs.specs.Step.{graph_in, owns, refusal_of, after, answer_by, world_by}
 use Rattle.pud_defs.specs.Step.Answer.{of_reply}
 use Rattle.pud_defs.proofs.PoolsCounted.{IsMasked}
-use Rattle.pud_defs.specs.Transactions.{Opened, is_own, is_others}
+use Rattle.pud_defs.specs.Transactions.{is_own, is_others}
 use Rattle.pud_defs.proofs.PoolRefusals.{making_refusal, refusal_of-pool, refusal_of-drop, refusal_of-owned, pool_by_record, pool_by_name, found_by_table, full_by_table, space_by_table, found_record}
 use Rattle.pud_defs.proofs.Spaces.{all_below-each}
 use Rattle.pud_defs.proofs.Steps.{answer_is_ok, refused_answer, refused_world, done_world}
@@ -51,17 +51,20 @@ use Rattle.registry.specs.Puts.{puts_batch}
 use Rattle.registry.specs.Places.{make_fault, refusal_in, make_refusal}
 use Rattle.registry.specs.Pools.{changing, dropping, OrStill, CommitsPuts, MakesSomewhere, KeepsTables, IsOffMaking, IsPoolAt, ChangesPools}
 use Rattle.registry.proofs.Joined.{few_puddles}
-use Rattle.puddled.specs.Memory.{Held, Memory}
+use Rattle.nesting.specs.declared.Session.{Session}
+use Rattle.nesting.specs.Sessions.{client_in, session_in, holder_in}
+use Rattle.puddled.specs.Memory.{Held, Memory, held_under}
 use Rattle.puddled.specs.Held.{Holds, IsBeside}
 use Rattle.puddled.specs.KnownPools.{KnowsPools}
-use Rattle.puddled.specs.Owning.{reply_of_making, holder_of, opened_by, refusal_beside, IsSlotOf}
+use Rattle.puddled.specs.Owning.{reply_of_making, refusal_beside, IsSlotOf}
 use Rattle.puddled.specs.Daemon.{IsReady, Applies}
 use Rattle.puddled.proofs.Applying.{Applies-still}
-use Rattle.puddled.proofs.Beside.{Applies-beside}
+use Rattle.puddled.proofs.Beside.{held_is, Applies-beside}
 use Rattle.puddled.proofs.Beneath.{ready_gate, keeps_tables}
-use Rattle.puddled.proofs.PoolsBeside.{held_is, held_pool}
+use Rattle.puddled.proofs.PoolsBeside.{held_pool}
 use Rattle.puddled.proofs.PoolsApart.{off_making, off_changing, off_dropping, IsBeside-makes, IsBeside-puts, AppliesMasked-pools, KeepsHeld-stored, found_beside_put, found_beside_without}
 use Rattle.puddled.proofs.OpenBeside.{not_named}
+use Rattle.puddled.proofs.Sessions.{session_of, slot_within, session_is}
 use Rattle.puddled.proofs.JudgedKept.{KeepsPools}
 use Rattle.puddled.proofs.JudgedPools.{KeepsPools-or_still, KeepsPools-making, KeepsPools-mode, KeepsPools-drop}
 use Rattle.puddled.proofs.JudgedOpen.{KnowsPools-all, KnowsPools-dropped}
@@ -195,11 +198,15 @@ pub record ChangesBeside (size : ℕ) (s next : StoredWorld) (also : Image → T
   pub beside : IsBeside mask fault old new
   pub pools : ChangesPools size s next also fault (masked_state mask old) (masked_state mask new)
 
--- the next world has the same frames and types, and the pool that is held as it was
-pub record KeepsPool (s next : StoredWorld) (o : Option Held) : Type 0 where
+-- the next world has the same frames and types, and each pool on which a transaction is held as it was
+pub record KeepsPool (s next : StoredWorld) (held : List (Option Held)) : Type 0 where
   pub frames : next.frames ≡ s.frames
   pub types : next.types ≡ s.types
-  pub pool : (h : Held) → o ≡ Some h → pool_named h.name next ≡ pool_named h.name s
+  pub pool : (number : ℕ) (h : Held) → held_under held number ≡ Some h → pool_named h.name next ≡ pool_named h.name s
+
+-- no transaction is held on a pool of this name
+abbrev pub IsNotNamed : List ℕ → List (Option Held) → Type 0
+IsNotNamed name held = (number : ℕ) (h : Held) → held_under held number ≡ Some h → h.name ≢ name
 
 -- pools were changed: the command gives the world with the next stored one
 pub Applies-pools : (size : ℕ) (w : World) (memory : Memory) (c : Command) (next : StoredWorld) (also : Image → Type 0) (fault : Option HostFault) (old new : State) (ready : IsReady size w memory old)
@@ -212,7 +219,7 @@ Applies-pools size w memory c next also fault old new ready free gives keeps b j
     (Applies-beside size w (record w { stored = next }) memory fault old new ready
     (KeepsHeld-stored w next memory.held keeps.frames keeps.types keeps.pool)
     (AppliesMasked-pools size w memory next also fault old new ready b.beside b.pools keeps.frames)
-    behind refl refl (λ none. subst (λ (n : ℕ). KnowsPools n judged memory.held (reads new.now.words)) (sym keeps.frames) (knows none)))
+    behind refl refl refl (λ none. subst (λ (n : ℕ). KnowsPools n judged memory.held (reads new.now.words)) (sym keeps.frames) (knows none)))
 
 -- each pool that was judged stays
 knows_still : (size : ℕ) (w : World) (memory : Memory) (old new : State) → IsReady size w memory old → KeepsPools w.stored.frames None (reads old.now.words) (reads new.now.words)
@@ -225,13 +232,13 @@ pub Applies-behind : (size : ℕ) (w next : World) (memory behind : Memory) (fau
 Applies-behind size w next memory behind fault a b d same applies ready =
     subst (λ (s : State). Applies size w next behind fault s d) same (applies (subst (λ (s : State). IsReady size w memory s) (sym same) ready))
 
--- a pool more, of another name than that which is held
-keeps_made : (s : StoredWorld) (name : List ℕ) (who : spaces.Owner) (mode : ℕ) (o : Option Held) → ((h : Held) → o ≡ Some h → h.name ≡ name → ⊥) → KeepsPool s (with_new_pool name who mode s) o
+-- a pool more, of another name than those that are held
+keeps_made : (s : StoredWorld) (name : List ℕ) (who : spaces.Owner) (mode : ℕ) (held : List (Option Held)) → IsNotNamed name held → KeepsPool s (with_new_pool name who mode s) held
 unfolding with_new_pool
-keeps_made s name who mode o apart = record {
+keeps_made s name who mode held apart = record {
   frames = refl;
   types = refl;
-  pool = λ h e. found_beside_put name h.name (new_pool who mode s.next_number) s.pools (apart h e);
+  pool = λ number h there. found_beside_put name h.name (new_pool who mode s.next_number) s.pools (apart number h there);
 }
 
 mode_beside : (name other : List ℕ) (change : Pool → Pool) (ps : List (List ℕ × Pool)) (p : Option Pool) → find name_cmp name ps ≡ p → (other ≡ name → ⊥)
@@ -239,26 +246,26 @@ mode_beside : (name other : List ℕ) (change : Pool → Pool) (ps : List (List 
 mode_beside name other change ps None is apart = refl
 mode_beside name other change ps (Some p) is apart = found_beside_put name other (change p) ps apart
 
-keeps_mode : (s : StoredWorld) (name : List ℕ) (mode : ℕ) (o : Option Held) → ((h : Held) → o ≡ Some h → h.name ≡ name → ⊥) → KeepsPool s (with_pool_mode name mode s) o
+keeps_mode : (s : StoredWorld) (name : List ℕ) (mode : ℕ) (held : List (Option Held)) → IsNotNamed name held → KeepsPool s (with_pool_mode name mode s) held
 unfolding with_pool_mode
-keeps_mode s name mode o apart = record {
+keeps_mode s name mode held apart = record {
   frames = refl;
   types = refl;
-  pool = λ h e. mode_beside name h.name (λ p. record p { mode = mode }) s.pools (find name_cmp name s.pools) refl (apart h e);
+  pool = λ number h there. mode_beside name h.name (λ p. record p { mode = mode }) s.pools (find name_cmp name s.pools) refl (apart number h there);
 }
 
-keeps_drop : (s : StoredWorld) (name : List ℕ) (o : Option Held) → ((h : Held) → o ≡ Some h → h.name ≡ name → ⊥) → KeepsPool s (without_pool name s) o
+keeps_drop : (s : StoredWorld) (name : List ℕ) (held : List (Option Held)) → IsNotNamed name held → KeepsPool s (without_pool name s) held
 unfolding without_pool
-keeps_drop s name o apart = record {
+keeps_drop s name held apart = record {
   frames = refl;
   types = refl;
-  pool = λ h e. found_beside_without name h.name s.pools (apart h e);
+  pool = λ number h there. found_beside_without name h.name s.pools (apart number h there);
 }
 
--- the name of a pool that is not there is not that of the one that is held
-absent_apart : (w : World) (o : Option Held) (mask : Write) (words : Words) (name : List ℕ) → Holds w o mask words → pool_named name w.stored ≡ None → (h : Held) → o ≡ Some h → h.name ≡ name → ⊥
-absent_apart w o mask words name holds none h e same =
-    let is = held_is w o mask words holds h e in
+-- no transaction is held on a pool that is not there
+absent_apart : (w : World) (held : List (Option Held)) (mask : Write) (words : Words) (name : List ℕ) → Holds w held mask words → pool_named name w.stored ≡ None → IsNotNamed name held
+absent_apart w held mask words name holds none number h there same =
+    let is = held_is w held mask words holds number h there in
     let no : Some is.undone ≡ None = sym is.stored ∙ ap (λ (n : List ℕ). graph_in (pool_named n w.stored)) same ∙ ap graph_in none in
     cc
 
@@ -382,25 +389,19 @@ by_holder : (own : Bool) → cond (not own) (Some refusals.Busy) (cond own (Some
 by_holder true = refl
 by_holder false = refl
 
-on_pool : (there : Bool) (client holder : ℕ) (t : Transaction) → t.client ≡ holder → open_refusal client (cond there (Some t) None) ≡ refusal_beside (cond there (Some holder) None) client
-on_pool true client holder t is = by_holder (eqb t.client client) ∙ ap (λ (n : ℕ). cond (eqb n client) (Some refusals.Open) (Some refusals.Busy)) is
-on_pool false client holder t is = refl
+-- they are those by the session of the pool
+open_beside : (client : ℕ) (on : Option Transaction) (session : Option Session) → session ≡ option_map session_of on → open_refusal client on ≡ refusal_beside (option_map client_in session) client
+open_beside client None session is = ap (λ (o : Option Session). refusal_beside (option_map client_in o) client) (sym is)
+open_beside client (Some t) session is = by_holder (eqb t.client client) ∙ ap (λ (o : Option Session). refusal_beside (option_map client_in o) client) (sym is)
 
--- they are those beside what is held
-open_beside : (w : World) (o : Option Held) (mask : Write) (words : Words) (client : ℕ) (name : List ℕ) → Holds w o mask words
-    → open_refusal client (w.transactions name) ≡ refusal_beside (opened_by (holder_of o) name) client
-open_beside w None mask words client name holds = ap (λ (opened : Opened). open_refusal client (opened name)) holds.0
-open_beside w (Some h) mask words client name is =
-    ap (λ (opened : Opened). open_refusal client (opened name)) is.is ∙ on_pool (bytes_eq name h.name) client h.client is.transaction is.client
+some_open : (own : Bool) → cond (not own) (Some refusals.Busy) (cond own (Some refusals.Open) None) ≡ None → ⊥
+some_open true none = let no : Some refusals.Open ≡ None = none in cc
+some_open false none = let no : Some refusals.Busy ≡ None = none in cc
 
-some_beside : (own : Bool) → cond own (Some refusals.Open) (Some refusals.Busy) ≡ None → ⊥
-some_beside true none = let no : Some refusals.Open ≡ None = none in cc
-some_beside false none = let no : Some refusals.Busy ≡ None = none in cc
-
--- nothing is open where it refuses nothing
-none_open : (holder : Option ℕ) (client : ℕ) → refusal_beside holder client ≡ None → holder ≡ None
-none_open None client none = refl
-none_open (Some holder) client none = absurd (some_beside (eqb holder client) none)
+-- nothing is open where they refuse nothing
+none_open : (client : ℕ) (on : Option Transaction) → open_refusal client on ≡ None → on ≡ None
+none_open client None none = refl
+none_open client (Some t) none = absurd (some_open (eqb t.client client) none)
 
 -- a line that is not refused finds nothing open
 all_free : (a b c : Bool) (beside : Option Refusal) → cond a (Some refusals.Client) (cond b (Some refusals.Pool) (cond c (Some refusals.Denied) beside)) ≡ None → beside ≡ None
@@ -449,26 +450,21 @@ module _ (size : ℕ) (w : World) (memory : Memory) (s : State) (ready : IsReady
   abbrev asked : Command
   asked = commands.Drop client name
 
-  abbrev beside_held : Option Refusal
-  beside_held = refusal_beside (opened_by (holder_of memory.held) name) client
+  abbrev beside_open : Option Refusal
+  beside_open = open_refusal client (w.transactions name)
 
   abbrev owned : Option spaces.Owner → Option Pool → Option Refusal
-  owned who found = cond (not (is_some who)) (Some refusals.Client) (cond (is_none found) (Some refusals.Pool) (cond (not (owns who found)) (Some refusals.Denied) beside_held))
+  owned who found = cond (not (is_some who)) (Some refusals.Client) (cond (is_none found) (Some refusals.Pool) (cond (not (owns who found)) (Some refusals.Denied) beside_open))
 
   owned_refusal : refusal_of w asked ≡ owned (w.clients client) (pool_named name w.stored)
-  owned_refusal =
-      let who = w.clients client in
-      let found = pool_named name w.stored in
-      refusal_of-drop w client name
-      ∙ ap (λ (beside : Option Refusal). cond (not (is_some who)) (Some refusals.Client) (cond (is_none found) (Some refusals.Pool) (cond (not (owns who found)) (Some refusals.Denied) beside)))
-      (open_beside w memory.held ready.mask s.now.words client name ready.held)
+  owned_refusal = refusal_of-drop w client name
 
-  -- so the pool is not the one that is held
-  pub held_apart : refusal_of w asked ≡ None → (h : Held) → memory.held ≡ Some h → h.name ≡ name → ⊥
+  -- so none is held on the pool
+  pub held_apart : refusal_of w asked ≡ None → IsNotNamed name memory.held
   held_apart free =
       not_named w memory.held ready.mask s.now.words name ready.held
-      (none_open (opened_by (holder_of memory.held) name) client
-      (all_free (not (is_some (w.clients client))) (is_none (pool_named name w.stored)) (not (owns (w.clients client) (pool_named name w.stored))) beside_held (sym owned_refusal ∙ free)))
+      (none_open client (w.transactions name)
+      (all_free (not (is_some (w.clients client))) (is_none (pool_named name w.stored)) (not (owns (w.clients client) (pool_named name w.stored))) beside_open (sym owned_refusal ∙ free)))
 
   pub refused_client : w.clients client ≡ None → refusal_of w asked ≡ Some refusals.Client
   refused_client none = owned_refusal ∙ ap (λ who. owned who (pool_named name w.stored)) none
@@ -484,30 +480,25 @@ module _ (size : ℕ) (w : World) (memory : Memory) (s : State) (ready : IsReady
     rec_of : IsNamed found_tables name slot rec
     rec_of = named_by found_tables name slot rec (find name_cmp name (records_of found_tables)) refl is
 
-    by_uid : refusal_of w asked ≡ cond (not (eqb uid rec.uid)) (Some refusals.Denied) beside_held
+    by_uid : refusal_of w asked ≡ cond (not (eqb uid rec.uid)) (Some refusals.Denied) beside_open
     unfolding pool_of
     by_uid =
         by_owner uid gid (Some (pool_by_record held found_tables (slot, rec_of.r))) there (pool_there size w memory s ready name ∙ ap (option_map (pool_by_record held found_tables)) rec_of.found)
-        ∙ ap (λ n. cond (not (eqb uid n)) (Some refusals.Denied) beside_held) (sym (ap (λ (x : PoolRec). x.uid) rec_of.same))
+        ∙ ap (λ n. cond (not (eqb uid n)) (Some refusals.Denied) beside_open) (sym (ap (λ (x : PoolRec). x.uid) rec_of.same))
 
     pub refused_denied : eqb uid rec.uid ≡ false → refusal_of w asked ≡ Some refusals.Denied
-    refused_denied other = by_uid ∙ ap (λ b. cond (not b) (Some refusals.Denied) beside_held) other
-
-    -- the owner's own pool
-    pub not_denied : (holder : Option (ℕ × List ℕ)) → holder_of memory.held ≡ holder → eqb uid rec.uid ≡ true → refusal_of w asked ≡ refusal_beside (opened_by holder name) client
-    not_denied holder holds same = by_uid ∙ ap (λ b. cond (not b) (Some refusals.Denied) beside_held) same ∙ ap (λ (x : Option (ℕ × List ℕ)). refusal_beside (opened_by x name) client) holds
+    refused_denied other = by_uid ∙ ap (λ b. cond (not b) (Some refusals.Denied) beside_open) other
 
     pub slot_is : IsSlotOf w.stored.frames name (reads s.now.words) slot
     slot_is = let at = found_record found_tables name slot rec_of.r rec_of.found in record { rec = rec_of.r; used = at.used; name_is = at.name_is }
 
--- ---- a pool that was found is changed, or dropped
+    -- the owner's own pool
+    pub not_denied : eqb uid rec.uid ≡ true → refusal_of w asked ≡ refusal_beside (holder_in memory.sessions slot) client
+    not_denied same =
+        by_uid ∙ ap (λ b. cond (not b) (Some refusals.Denied) beside_open) same
+        ∙ open_beside client (w.transactions name) (session_in memory.sessions slot) (session_is size w memory s ready name slot slot_is)
 
--- its slot is one of the table
-slot_within : (F slot : ℕ) (image : Image) (r : PoolRec) → (tables_of F image).pools slot ≡ Some r → slot < POOL_RECORDS
-slot_within F slot image r used = elim (cases_lt slot POOL_RECORDS) [
-  | inl within ↦ within
-  | inr beyond ↦ absurd (let no : None ≡ Some r = sym (pools_beyond F image slot beyond) ∙ used in cc)
-]
+-- ---- a pool that was found is changed, or dropped
 
 module _ (size : ℕ) (w : World) (memory : Memory) (client slot : ℕ) (name : List ℕ) (fault : Option HostFault) (old new : State) (ready : IsReady size w memory old)
     (free : refusal_of w (commands.Drop client name) ≡ None) (at : IsSlotOf w.stored.frames name (reads old.now.words) slot) where
@@ -520,14 +511,14 @@ module _ (size : ℕ) (w : World) (memory : Memory) (client slot : ℕ) (name : 
   within : slot < POOL_RECORDS
   within = slot_within N slot (reads old.now.words) at.rec at.used
 
-  name_apart : (h : Held) → memory.held ≡ Some h → h.name ≡ name → ⊥
+  name_apart : IsNotNamed name memory.held
   name_apart = held_apart size w memory old ready client name free
 
-  slot_apart : (h : Held) → memory.held ≡ Some h → slot ≡ h.slot → ⊥
-  slot_apart h e same =
-      let pool = held_pool w memory.held m old.now.words ready.held h e in
+  slot_apart : (number : ℕ) (h : Held) → held_under memory.held number ≡ Some h → slot ≡ h.slot → ⊥
+  slot_apart number h there same =
+      let pool = held_pool w memory.held m old.now.words ready.held number h there in
       let both : Some pool.rec ≡ Some at.rec = sym pool.used ∙ ap (tables_of N (reads old.now.words)).pools (sym same) ∙ at.used in
-      name_apart h e (sym pool.name ∙ ap (λ (r : PoolRec). r.name) (same_Some pool.rec at.rec both) ∙ at.name_is)
+      name_apart number h there (sym pool.name ∙ ap (λ (r : PoolRec). r.name) (same_Some pool.rec at.rec both) ∙ at.name_is)
 
   same_tables : tables_of N (reads (masked m old.now.words)) ≡ tables_of N (reads old.now.words)
   same_tables = ap (tables_of N) (reads-masked m old.now.words) ∙ (keeps_tables w memory.held m old.now.words ready.held).tables

@@ -1,4 +1,4 @@
--- Changes of pools that write no word of an open transaction: what they do with its words masked, they do beside it.
+-- Changes of pools that write no word of an open transaction: what they do with the words of all masked, they do beside them.
 use Rattle.std.proofs.Common.{◌≡◌, ◌⊎◌, inl, inr, ℕ, zero, suc, ◌+◌, ◌-◌, ◌<◌, ◌≤◌, true, false, not, List, [], ◌∷◌, length, take, Option, Some, None, refl, sym, ap, subst, ◌∙◌, arith, length-take-le, eqb-true, ne_eqb}
 use Rattle.std.specs.Prelude.{⊤}
 use Rattle.std.specs.Option.{option_or}
@@ -48,12 +48,12 @@ use Rattle.registry.specs.Pools.{frame_write, making, changing, freeing, droppin
 use Rattle.registry.proofs.PutBatches.{puts_batched}
 use Rattle.registry.proofs.Made.{making_of}
 use Rattle.registry.proofs.Changed.{changing_of, dropping_of}
-use Rattle.puddled.specs.Memory.{Held, Memory}
+use Rattle.puddled.specs.Memory.{Held, Memory, held_under}
 use Rattle.puddled.specs.Held.{puddles_in, Holds, HasIdleLogs, ByOthers, NamesNone, IsBeside, KeepsHeld}
 use Rattle.puddled.specs.Daemon.{IsReady, AppliesMasked}
-use Rattle.puddled.proofs.Beside.{names_none_idle}
+use Rattle.puddled.proofs.Beside.{unmasked_front, names_none_idle}
 use Rattle.puddled.proofs.Beneath.{IsBeside-changes, IsBeside-commits, IsBeside-then, table_reads, table_reads-kept, persisted_single, logs_kept}
-use Rattle.puddled.proofs.PoolsBeside.{IsOfOthers, unmasked_front, unmasked_pool, unmasked_puddle, unmasked_frame, held_pool}
+use Rattle.puddled.proofs.PoolsBeside.{IsOfOthers, unmasked_pool, unmasked_puddle, unmasked_frame, held_pool}
 
 -- ---- changes of records that write no masked word
 
@@ -86,7 +86,7 @@ puts_off F mask (p ∷ puts) k v of off is = elim (either_some (value_at p.w (ta
 masked_not : (mask : Write) (k x : ℕ) → mask k ≡ Some x → mask k ≡ None → ⊥
 masked_not mask k x is none = let it : Some x ≡ None = sym is ∙ none in cc
 
-module _ (w : World) (o : Option Held) (mask : Write) (words : Words) (holds : Holds w o mask words) where
+module _ (w : World) (held : List (Option Held)) (mask : Write) (words : Words) (holds : Holds w held mask words) where
   abbrev F : ℕ
   F = w.stored.frames
 
@@ -96,22 +96,22 @@ module _ (w : World) (o : Option Held) (mask : Write) (words : Words) (holds : H
   pub IsOff-puts : (puts : List Put) → AreOfPools F puts → AreOff mask puts → IsOff mask (ByBatch DAEMON_LOG (puts_batch puts))
   IsOff-puts puts of off = record {
     apart = λ k x v is may. masked_not mask k x is (elim may [
-      | inl log ↦ let high = log.high in unmasked_front w o mask words holds k (omega arith)
+      | inl log ↦ let high = log.high in unmasked_front w held mask words holds k (omega arith)
       | inr named ↦ puts_off F mask puts k named.value of off named.is
     ]);
   }
 
   -- ---- a pool is made
 
-  -- a slot that is free is not that of the pool that is held
-  free_apart : (slot : ℕ) → t.pools slot ≡ None → (h : Held) → o ≡ Some h → slot ≡ h.slot → ⊥
-  free_apart slot free h e same =
-      let pool = held_pool w o mask words holds h e in
+  -- a slot that is free is not that of a pool that is held
+  free_apart : (slot : ℕ) → t.pools slot ≡ None → (number : ℕ) (h : Held) → held_under held number ≡ Some h → slot ≡ h.slot → ⊥
+  free_apart slot free number h there same =
+      let pool = held_pool w held mask words holds number h there in
       let no : None ≡ Some pool.rec = sym free ∙ ap t.pools same ∙ pool.used in
       cc
 
-  free_others : (frame : ℕ) → t.puddles frame ≡ None → IsOfOthers o (t.puddles frame)
-  free_others frame free h e = ap (is_of_pool h.slot) free
+  free_others : (frame : ℕ) → t.puddles frame ≡ None → IsOfOthers held (t.puddles frame)
+  free_others frame free number h there = ap (is_of_pool h.slot) free
 
   length-fresh : (number ordinal : ℕ) → length (fresh_frame number ordinal) ≡ FRAME_WORDS
   unfolding fresh_frame
@@ -123,7 +123,7 @@ module _ (w : World) (o : Option Held) (mask : Write) (words : Words) (holds : H
     slot_below = let free = first_free_some t.pools 0 POOL_RECORDS slot first in let high = free.high in omega arith
 
     new_slot : (k : ℕ) → pool_record_at slot ≤ k → k < pool_record_at (slot + 1) → mask k ≡ None
-    new_slot k low high = unmasked_pool w o mask words holds slot k slot_below (free_apart slot (first_free_some t.pools 0 POOL_RECORDS slot first).free) low high
+    new_slot k low high = unmasked_pool w held mask words holds slot k slot_below (free_apart slot (first_free_some t.pools 0 POOL_RECORDS slot first).free) low high
 
   -- and the lowest free frame
   module _ (frame : ℕ) (first : first_free t.puddles 0 t.frames ≡ Some frame) where
@@ -134,7 +134,7 @@ module _ (w : World) (o : Option Held) (mask : Write) (words : Words) (holds : H
     frame_free = (first_free_some t.puddles 0 t.frames frame first).free
 
     pub new_frame : (k : ℕ) → puddle_record_at frame ≤ k → k < puddle_record_at (frame + 1) → mask k ≡ None
-    new_frame k low high = unmasked_puddle w o mask words holds frame k frame_below (free_others frame frame_free) low high
+    new_frame k low high = unmasked_puddle w held mask words holds frame k frame_below (free_others frame frame_free) low high
 
     pub filling_off : (number ordinal : ℕ) → IsOff mask (written (frame_write t.frames frame number ordinal))
     filling_off number ordinal = record {
@@ -142,7 +142,7 @@ module _ (w : World) (o : Option Held) (mask : Write) (words : Words) (holds : H
           let within = placed_within (frame_at t.frames frame) k v (fresh_frame number ordinal) may in
           let low = within.0 in
           let high = within.1 in
-          masked_not mask k x is (unmasked_frame w o mask words holds frame k frame_below (free_others frame frame_free)
+          masked_not mask k x is (unmasked_frame w held mask words holds frame k frame_below (free_others frame frame_free)
           (omega (arith, frames_of_tables F (reads words))) (omega (arith, frames_of_tables F (reads words), length-fresh number ordinal)));
     }
 
@@ -152,16 +152,16 @@ module _ (w : World) (o : Option Held) (mask : Write) (words : Words) (holds : H
     records = λ place for.
         let r : PoolRec = record { name = name; uid = uid; gid = gid; mode = mode; number = place.number } in
         IsOff-puts (making place r) (making_of F place r (slot_below place.slot for.slot) (frame_below place.frame for.frame))
-        (λ k low high. unmasked_front w o mask words holds k (omega arith), (λ k low high. new_slot place.slot for.slot k low (omega arith), (λ k low high. new_frame place.frame for.frame k low (omega arith), tt)));
+        (λ k low high. unmasked_front w held mask words holds k (omega arith), (λ k low high. new_slot place.slot for.slot k low (omega arith), (λ k low high. new_frame place.frame for.frame k low (omega arith), tt)));
   }
 
   -- ---- a pool that is not held is changed, or dropped
 
-  module _ (slot : ℕ) (within : slot < POOL_RECORDS) (apart : (h : Held) → o ≡ Some h → slot ≡ h.slot → ⊥) where
+  module _ (slot : ℕ) (within : slot < POOL_RECORDS) (apart : (number : ℕ) (h : Held) → held_under held number ≡ Some h → slot ≡ h.slot → ⊥) where
     pub off_changing : (mode : ℕ) → IsOff mask (ByBatch DAEMON_LOG (puts_batch (changing slot mode)))
     off_changing mode =
         IsOff-puts (changing slot mode) (changing_of F slot mode within)
-        (λ k low high. unmasked_pool w o mask words holds slot k within apart (omega arith) (omega arith), tt)
+        (λ k low high. unmasked_pool w held mask words holds slot k within apart (omega arith) (omega arith), tt)
 
     of_one : (s : ℕ) (m : Option Member) → (slot ≡ s → ⊥) → is_of_pool slot m ≡ true → is_of_pool s m ≡ false
     of_one s None other of = refl
@@ -174,7 +174,7 @@ module _ (w : World) (o : Option Held) (mask : Write) (words : Words) (holds : H
     freeing_off frame zero below = tt
     freeing_off frame (suc count) below = elim (cases_Bool (is_of_pool slot (t.puddles frame))) [
       | inl of ↦ subst (AreOff mask) (sym (cond-true _ _ _ of)) (
-        λ k low high. unmasked_puddle w o mask words holds frame k (omega arith) (λ h e. of_one h.slot (t.puddles frame) (apart h e) of) low (omega arith),
+        λ k low high. unmasked_puddle w held mask words holds frame k (omega arith) (λ number h there. of_one h.slot (t.puddles frame) (apart number h there) of) low (omega arith),
         freeing_off (frame + 1) count (omega arith),
       )
       | inr other ↦ subst (AreOff mask) (sym (cond-false _ _ _ other)) (freeing_off (frame + 1) count (omega arith))
@@ -183,7 +183,7 @@ module _ (w : World) (o : Option Held) (mask : Write) (words : Words) (holds : H
     pub off_dropping : IsOff mask (ByBatch DAEMON_LOG (puts_batch (dropping t slot)))
     off_dropping =
         IsOff-puts (dropping t slot) (dropping_of F t slot within (omega (arith, frames_of_tables F (reads words))))
-        (λ k low high. unmasked_pool w o mask words holds slot k within apart low (omega arith), freeing_off 0 t.frames (omega (arith, frames_of_tables F (reads words))))
+        (λ k low high. unmasked_pool w held mask words holds slot k within apart low (omega arith), freeing_off 0 t.frames (omega (arith, frames_of_tables F (reads words))))
 
 -- ---- what they do beside it
 
@@ -236,16 +236,16 @@ module _ (size : ℕ) (w : World) (memory : Memory) (next : StoredWorld) (also :
     shelf = refl;
   }
 
--- ---- what stays of the pool that is held
+-- ---- what stays of the pools that are held
 
-pub KeepsHeld-stored : (w : World) (next : StoredWorld) (o : Option Held) → next.frames ≡ w.stored.frames → next.types ≡ w.stored.types
-    → ((h : Held) → o ≡ Some h → pool_named h.name next ≡ pool_named h.name w.stored) → KeepsHeld w (record w { stored = next }) o
-KeepsHeld-stored w next o frames types pool = record {
+pub KeepsHeld-stored : (w : World) (next : StoredWorld) (held : List (Option Held)) → next.frames ≡ w.stored.frames → next.types ≡ w.stored.types
+    → ((number : ℕ) (h : Held) → held_under held number ≡ Some h → pool_named h.name next ≡ pool_named h.name w.stored) → KeepsHeld w (record w { stored = next }) held
+KeepsHeld-stored w next held frames types pool = record {
   frames = frames;
   transactions = refl;
-  present = λ h e. refl;
-  stored = λ h e. ap graph_in (pool h e);
-  puddles = λ h e. ap puddles_in (pool h e);
+  present = λ number h there. refl;
+  stored = λ number h there. ap graph_in (pool number h there);
+  puddles = λ number h there. ap puddles_in (pool number h there);
   graphs = λ st g is. ap (λ (ts : List (ℕ × ℕ)). graph_of ts st) types ∙ is;
 }
 

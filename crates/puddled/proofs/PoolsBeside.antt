@@ -1,11 +1,10 @@
--- Pools made, changed and dropped beside an open transaction: which words of the tables it masks, and what stays of its pool.
+-- Pools made, changed and dropped beside open transactions: which words of the tables these mask, and what stays of the pool of each.
 use Rattle.std.proofs.Common.{◌≡◌, ◌⊎◌, inl, inr, ℕ, ◌+◌, ◌<◌, ◌≤◌, Bool, true, false, ◌||◌, leb, ltb, List, Option, Some, None, refl, sym, ap, subst, ◌∙◌, arith, eq-eqb}
 use Rattle.std.specs.Prelude.{slice_get}
 use Rattle.std.specs.List.{list_any}
 use Rattle.std.proofs.lemmas.Bool.{and_parts, and_from, or_cases, or_left, or_right, leb-true, ltb-true, le-leb, lt-ltb}
 use Rattle.pm_model.specs.Words.{Words, reads}
 use Rattle.pm_model.specs.Changes.{Write}
-use Rattle.pud_defs.specs.declared.layout.TheConstants.{POOL_TABLE}
 use Rattle.pud_defs.specs.declared.records.TheConstants.{POOL_RECORDS}
 use Rattle.pud_defs.specs.declared.records.PoolRec.{PoolRec}
 use Rattle.pud_defs.specs.declared.records.Puddle.{Puddle}
@@ -23,11 +22,12 @@ use Rattle.pud_defs.proofs.Replay.{outside_log}
 use Rattle.pud_defs.proofs.TablesOf.{pools_below, puddles_below, frames_of_tables, pool_at-same, puddle_at-same}
 use Rattle.hybrid_tx.specs.Grounds.{pool_mine}
 use Rattle.hybrid_tx.specs.Masks.{OpenPool, is_in_pool_record, is_in_space_record, is_in_puddle_record, is_open_record, open_mask}
-use Rattle.hybrid_tx.proofs.OpenMasks.{mine_behind, mask_below, mask_of_others}
+use Rattle.hybrid_tx.proofs.OpenMasks.{mine_behind, mask_of_others}
 use Rattle.hybrid_tx.proofs.OpenPools.{open_on_device}
 use Rattle.hybrid_tx.proofs.PoolGrounds.{all_there, any_element, element_passes, pool_mine-each}
-use Rattle.puddled.specs.Memory.{Held}
-use Rattle.puddled.specs.Held.{pool_held, IsHeld, Holds}
+use Rattle.puddled.specs.Memory.{Held, held_under}
+use Rattle.puddled.specs.Held.{pool_held, open_held, IsHeld, Holds}
+use Rattle.puddled.proofs.Beside.{held_is, unmasked_by_all}
 
 -- ---- which words are masked
 
@@ -42,7 +42,7 @@ record IsOfPuddle (at : List (ℕ × Puddle)) (k : ℕ) : Type 0 where
   there : slice_get at index ≡ Some element
   within : IsWithin (puddle_record_at element.0) (puddle_record_at (element.0 + 1)) k
 
--- a word of a record of the transaction is one of the pool's, of the client's, or of a puddle's
+-- a word of a record of a transaction is one of its pool's, of its client's, or of a puddle's
 open_record_of : (p : OpenPool) (k : ℕ) → is_open_record p k ≡ true
     → IsWithin (pool_record_at p.slot) (pool_record_at (p.slot + 1)) k ⊎ (IsWithin (space_record_at (client_of_log p.number)) (space_record_at (client_of_log p.number + 1)) k ⊎ IsOfPuddle p.at k)
 unfolding is_open_record
@@ -84,16 +84,10 @@ module _ (w : World) (held : Held) (mask : Write) (words : Words) (is : IsHeld w
   abbrev now : Tables
   now = tables_of F (reads words)
 
-  mask_is : (k : ℕ) → open_mask F p is.before k ≡ None → mask k ≡ None
-  mask_is k none = ap (λ (m : Write). m k) is.masked ∙ none
-
-  front : (k : ℕ) → k < POOL_TABLE → mask k ≡ None
-  front k below = mask_is k (mask_below F p is.before is.pool.slot is.pool.known (open_on_device F p is.before is.pool) k below)
-
   -- a word of the tables that is none of its records
-  not_record : (k : ℕ) → k < tables_end F → (is_open_record p k ≡ true → ⊥) → mask k ≡ None
+  not_record : (k : ℕ) → k < tables_end F → (is_open_record p k ≡ true → ⊥) → open_mask F p is.before k ≡ None
   not_record k below never =
-      mask_is k (mask_of_others F p is.before k (outside_log (log_number_at F held.number) k (inl (omega arith))) (mine_behind F held.at k (omega arith)) (not_true (is_open_record p k) never))
+      mask_of_others F p is.before k (outside_log (log_number_at F held.number) k (inl (omega arith))) (mine_behind F held.at k (omega arith)) (not_true (is_open_record p k) never)
 
   -- its record is read as it was
   pub used_still : now.pools held.slot ≡ Some is.rec
@@ -118,7 +112,7 @@ module _ (w : World) (held : Held) (mask : Write) (words : Words) (is : IsHeld w
       let no : true ≡ false = sym of ∙ other in
       cc
 
-  other_pool : (slot k : ℕ) → slot < POOL_RECORDS → (slot ≡ held.slot → ⊥) → pool_record_at slot ≤ k → k < pool_record_at (slot + 1) → mask k ≡ None
+  other_pool : (slot k : ℕ) → slot < POOL_RECORDS → (slot ≡ held.slot → ⊥) → pool_record_at slot ≤ k → k < pool_record_at (slot + 1) → open_mask F p is.before k ≡ None
   other_pool slot k within apart low high =
       not_record k (omega arith) (λ of. elim (open_record_of p k of) [
         | inl pool ↦ let from = pool.low in let to = pool.high in absurd (apart (omega arith))
@@ -126,7 +120,7 @@ module _ (w : World) (held : Held) (mask : Write) (words : Words) (is : IsHeld w
         | inr (inr puddle) ↦ let from = puddle.within.low in absurd (omega arith)
       ])
 
-  other_puddle : (frame k : ℕ) → frame < F → is_of_pool held.slot (now.puddles frame) ≡ false → puddle_record_at frame ≤ k → k < puddle_record_at (frame + 1) → mask k ≡ None
+  other_puddle : (frame k : ℕ) → frame < F → is_of_pool held.slot (now.puddles frame) ≡ false → puddle_record_at frame ≤ k → k < puddle_record_at (frame + 1) → open_mask F p is.before k ≡ None
   other_puddle frame k below other low high =
       let few = is.pool.known in
       let slot = is.pool.slot in
@@ -138,11 +132,11 @@ module _ (w : World) (held : Held) (mask : Write) (words : Words) (is : IsHeld w
             absurd (not_its_own frame puddle.index puddle.element other puddle.there (omega arith))
       ])
 
-  other_frame : (frame k : ℕ) → frame < F → is_of_pool held.slot (now.puddles frame) ≡ false → frame_at F frame ≤ k → k < frame_at F (frame + 1) → mask k ≡ None
+  other_frame : (frame k : ℕ) → frame < F → is_of_pool held.slot (now.puddles frame) ≡ false → frame_at F frame ≤ k → k < frame_at F (frame + 1) → open_mask F p is.before k ≡ None
   other_frame frame k below other low high =
       let few = is.pool.known in
       let slot = is.pool.slot in
-      mask_is k (mask_of_others F p is.before k (outside_log (log_number_at F held.number) k (inr (omega arith)))
+      mask_of_others F p is.before k (outside_log (log_number_at F held.number) k (inr (omega arith)))
       (not_true (pool_mine F held.at k) (λ mine.
       let m = pool_mine-each F held.at k mine in
       let from = m.low in let to = m.high in
@@ -153,37 +147,41 @@ module _ (w : World) (held : Held) (mask : Write) (words : Words) (is : IsHeld w
         | inr (inr puddle) ↦
             let frames = all_there (λ (d : ℕ × Puddle). d.0 < F) held.at puddle.index puddle.element (open_on_device F p is.before is.pool).frames puddle.there in
             let to = puddle.within.high in absurd (omega arith)
-      ])))
+      ]))
 
 -- ---- whatever is held
 
-pub held_is : (w : World) (o : Option Held) (mask : Write) (words : Words) → Holds w o mask words → (h : Held) → o ≡ Some h → IsHeld w h mask words
-held_is w o mask words holds h e = subst (λ (x : Option Held). Holds w x mask words) e holds
+-- a member that is none of the pools on which one is held
+abbrev pub IsOfOthers : List (Option Held) → Option Member → Type 0
+IsOfOthers held m = (number : ℕ) (h : Held) → held_under held number ≡ Some h → is_of_pool h.slot m ≡ false
 
--- no word in front of the pool table
-pub unmasked_front : (w : World) (o : Option Held) (mask : Write) (words : Words) → Holds w o mask words → (k : ℕ) → k < POOL_TABLE → mask k ≡ None
-unmasked_front w None mask words holds k below = ap (λ (m : Write). m k) holds.1
-unmasked_front w (Some held) mask words is k below = front w held mask words is k below
+-- no word of these is masked:
+module _ (w : World) (held : List (Option Held)) (mask : Write) (words : Words) (holds : Holds w held mask words) where
+  -- of the record of a pool on which none is held
+  pub unmasked_pool : (slot k : ℕ) → slot < POOL_RECORDS → ((number : ℕ) (h : Held) → held_under held number ≡ Some h → slot ≡ h.slot → ⊥)
+      → pool_record_at slot ≤ k → k < pool_record_at (slot + 1) → mask k ≡ None
+  unmasked_pool slot k within apart low high =
+      unmasked_by_all w held mask words holds k (λ number h there is. other_pool w h mask words is slot k within (apart number h there) low high)
 
--- the record of a pool that is not the one that is held
-pub unmasked_pool : (w : World) (o : Option Held) (mask : Write) (words : Words) → Holds w o mask words → (slot k : ℕ) → slot < POOL_RECORDS → ((h : Held) → o ≡ Some h → slot ≡ h.slot → ⊥)
-    → pool_record_at slot ≤ k → k < pool_record_at (slot + 1) → mask k ≡ None
-unmasked_pool w None mask words holds slot k within apart low high = ap (λ (m : Write). m k) holds.1
-unmasked_pool w (Some held) mask words is slot k within apart low high = other_pool w held mask words is slot k within (apart held refl) low high
+  -- of the record of a puddle of others
+  pub unmasked_puddle : (frame k : ℕ) → frame < w.stored.frames → IsOfOthers held ((tables_of w.stored.frames (reads words)).puddles frame)
+      → puddle_record_at frame ≤ k → k < puddle_record_at (frame + 1) → mask k ≡ None
+  unmasked_puddle frame k below other low high =
+      unmasked_by_all w held mask words holds k (λ number h there is. other_puddle w h mask words is frame k below (other number h there) low high)
 
--- a frame that is none of the pool's that is held
-abbrev pub IsOfOthers : Option Held → Option Member → Type 0
-IsOfOthers o m = (h : Held) → o ≡ Some h → is_of_pool h.slot m ≡ false
+  -- of a frame of others
+  pub unmasked_frame : (frame k : ℕ) → frame < w.stored.frames → IsOfOthers held ((tables_of w.stored.frames (reads words)).puddles frame)
+      → frame_at w.stored.frames frame ≤ k → k < frame_at w.stored.frames (frame + 1) → mask k ≡ None
+  unmasked_frame frame k below other low high =
+      unmasked_by_all w held mask words holds k (λ number h there is. other_frame w h mask words is frame k below (other number h there) low high)
 
-pub unmasked_puddle : (w : World) (o : Option Held) (mask : Write) (words : Words) → Holds w o mask words → (frame k : ℕ) → frame < w.stored.frames
-    → IsOfOthers o ((tables_of w.stored.frames (reads words)).puddles frame) → puddle_record_at frame ≤ k → k < puddle_record_at (frame + 1) → mask k ≡ None
-unmasked_puddle w None mask words holds frame k below other low high = ap (λ (m : Write). m k) holds.1
-unmasked_puddle w (Some held) mask words is frame k below other low high = other_puddle w held mask words is frame k below (other held refl) low high
-
-pub unmasked_frame : (w : World) (o : Option Held) (mask : Write) (words : Words) → Holds w o mask words → (frame k : ℕ) → frame < w.stored.frames
-    → IsOfOthers o ((tables_of w.stored.frames (reads words)).puddles frame) → frame_at w.stored.frames frame ≤ k → k < frame_at w.stored.frames (frame + 1) → mask k ≡ None
-unmasked_frame w None mask words holds frame k below other low high = ap (λ (m : Write). m k) holds.1
-unmasked_frame w (Some held) mask words is frame k below other low high = other_frame w held mask words is frame k below (other held refl) low high
+-- no two are held on the pool of one slot
+pub one_slot : (w : World) (held : List (Option Held)) (mask : Write) (words : Words) → Holds w held mask words → (n m : ℕ) (h g : Held) → held_under held n ≡ Some h → held_under held m ≡ Some g
+    → h.slot ≡ g.slot → n ≡ m
+one_slot w held mask words holds n m h g here there same =
+    let its = holds.each n h here in
+    let others = holds.each m g there in
+    holds.are.slots n m (open_held h its.is.rec its.is.who its.is.before) (open_held g others.is.rec others.is.who others.is.before) its.opened others.opened same
 
 -- the record of the slot is used, and has the name
 pub record IsHeldPool (t : Tables) (h : Held) : Type 0 where
@@ -191,7 +189,8 @@ pub record IsHeldPool (t : Tables) (h : Held) : Type 0 where
   pub used : t.pools h.slot ≡ Some rec
   pub name : rec.name ≡ h.name
 
-pub held_pool : (w : World) (o : Option Held) (mask : Write) (words : Words) → Holds w o mask words → (h : Held) → o ≡ Some h → IsHeldPool (tables_of w.stored.frames (reads words)) h
-held_pool w o mask words holds h e =
-    let is = held_is w o mask words holds h e in
+pub held_pool : (w : World) (held : List (Option Held)) (mask : Write) (words : Words) → Holds w held mask words → (number : ℕ) (h : Held) → held_under held number ≡ Some h
+    → IsHeldPool (tables_of w.stored.frames (reads words)) h
+held_pool w held mask words holds number h there =
+    let is = held_is w held mask words holds number h there in
     record { rec = is.rec; used = used_still w h mask words is; name = is.name }

@@ -1,4 +1,4 @@
--- The pool on which a transaction is held grows by a puddle: it writes no masked word, and the puddle is fresh.
+-- A pool grows by a puddle beside what is held: it writes no masked word, and the puddle is fresh.
 use Rattle.std.proofs.Common.{◌≡◌, ◌⊎◌, inl, inr, ℕ, ◌+◌, ◌<◌, ◌≤◌, List, Option, Some, None, refl, sym, ap, subst, ◌∙◌, arith}
 use Rattle.std.proofs.lemmas.Option.{none-some}
 use Rattle.pm_model.specs.declared.host.HostFault.{HostFault}
@@ -31,18 +31,18 @@ use Rattle.registry.proofs.Grown.{growing_of}
 use Rattle.registry.proofs.PutBatches.{overwritten-puts, puts_write-none, puts_batched}
 use Rattle.puddled.specs.Memory.{Held}
 use Rattle.puddled.specs.Held.{Holds, IsBeside}
-use Rattle.puddled.proofs.PoolsBeside.{unmasked_front}
+use Rattle.puddled.proofs.Beside.{unmasked_front}
 use Rattle.puddled.proofs.PoolsApart.{IsOff-puts, frame_below, new_frame, filling_off, IsBeside-still, IsBeside-filled}
 
 -- ---- beside what is held
 
 -- no word that a puddle more takes is masked
-pub off_growing : (w : World) (o : Option Held) (mask : Write) (words : Words) → Holds w o mask words → (next slot : ℕ) → IsOffGrowing mask (tables_of w.stored.frames (reads words)) next slot
-off_growing w o mask words holds next slot = record {
-  frame = λ g for. filling_off w o mask words holds g.frame for.frame g.number g.ordinal;
+pub off_growing : (w : World) (held : List (Option Held)) (mask : Write) (words : Words) → Holds w held mask words → (next slot : ℕ) → IsOffGrowing mask (tables_of w.stored.frames (reads words)) next slot
+off_growing w held mask words holds next slot = record {
+  frame = λ g for. filling_off w held mask words holds g.frame for.frame g.number g.ordinal;
   records = λ g for.
-      IsOff-puts w o mask words holds (growing slot g) (growing_of w.stored.frames slot g (frame_below w o mask words holds g.frame for.frame))
-      (λ k low high. unmasked_front w o mask words holds k (omega arith), (λ k low high. new_frame w o mask words holds g.frame for.frame k low (omega arith), tt));
+      IsOff-puts w held mask words holds (growing slot g) (growing_of w.stored.frames slot g (frame_below w held mask words holds g.frame for.frame))
+      (λ k low high. unmasked_front w held mask words holds k (omega arith), (λ k low high. new_frame w held mask words holds g.frame for.frame k low (omega arith), tt));
 }
 
 -- a pool grew somewhere, or nothing happened

@@ -1,6 +1,6 @@
 -- Lines that read a field: which pool is readable, and what is replied.
-use Rattle.std.proofs.Common.{◌≡◌, ℕ, Bool, true, false, not, cond, List, Option, Some, None, is_some, is_none, option_map, eqb, eqb-true, refl, sym, ap, ap₂, subst, ◌∙◌}
-use Rattle.std.specs.Prelude.{IfOk}
+use Rattle.std.proofs.Common.{◌≡◌, ◌≢◌, inl, inr, ℕ, Bool, true, false, not, cond, List, [], Option, Some, None, is_some, is_none, option_map, eqb, eqb-true, refl, sym, ap, ap₂, subst, ◌∙◌}
+use Rattle.std.specs.Prelude.{IfOk, unwrap_or}
 use Rattle.std.specs.FinMap.Entries.{find}
 use Rattle.std.proofs.lemmas.Option.{none-some, same_Some}
 use Rattle.pm_model.specs.declared.host.HostFault.{HostFault}
@@ -38,14 +38,22 @@ use Rattle.pud_defs.proofs.RecordsPlaced.{legal_mode, mode_read}
 use Rattle.pud_defs.proofs.SoundChanged.{legal_pool}
 use Rattle.graph_read.specs.declared.fields.FieldRead.{FieldRead}
 use Rattle.graph_read.specs.Reading.{read_value, read_by}
-use Rattle.puddled.specs.Memory.{Held, Memory}
-use Rattle.puddled.specs.Held.{Holds}
-use Rattle.puddled.specs.KnownPools.{KnowsPools}
-use Rattle.puddled.specs.Owning.{refusal_found, holder_of, opened_by}
-use Rattle.puddled.specs.Reading.{reading_refusal, refusal_to_read, puddles_held, reading_open, puddles_with_graph, HoldsGraph, HoldsFound, reply_of_read}
+use Rattle.nesting.specs.Sessions.{client_in, session_in, holder_in, depth_in}
+use Rattle.nesting.proofs.Holders.{session_in-no_holder, session_in-holder}
+use Rattle.puddled.specs.declared.reading.Readable.{Readable}
+use Rattle.puddled.specs.Memory.{Held, Memory, held_under}
+use Rattle.puddled.specs.Held.{IsHeld}
+use Rattle.puddled.specs.Holding.{FindsPuddles, IsOwnOn}
+use Rattle.puddled.specs.Judged.{known_in, AreJudged}
+use Rattle.puddled.specs.Owning.{refusal_found, IsSlotOf}
+use Rattle.puddled.specs.Reading.{reading_refusal, refusal_to_read, reading_open, puddles_with_graph, HoldsGraph, HoldsFound, reply_of_read}
 use Rattle.puddled.specs.Daemon.{IsReady, Applies}
 use Rattle.puddled.proofs.Applying.{Applies-still, IsReady-beside}
-use Rattle.puddled.proofs.OpenBeside.{open_here, not_open, not_named, other_slot, pool_unmasked}
+use Rattle.puddled.proofs.Beside.{held_is}
+use Rattle.puddled.proofs.PoolsBeside.{one_slot}
+use Rattle.puddled.proofs.JudgedOpen.{KnowsPools-read}
+use Rattle.puddled.proofs.OpenBeside.{open_here, not_named, pool_unmasked}
+use Rattle.puddled.proofs.Sessions.{IsSessionOf, own_on, none_held, session_open, session_shut}
 use Rattle.puddled.proofs.TablesBeside.{types_read, sound_read}
 use Rattle.puddled.proofs.Pooling.{IsNamed, no_record, named_by, pool_there}
 
@@ -63,6 +71,17 @@ puddles_judged frames count slot image puddles slice sound counted turned same j
     ap (λ at. option_map (λ graph. at) (graph_of (types_of image) (stored_in frames at image))) (sym had)
     ∙ kept_with_graph puddles (graph_of (types_of image) (stored_in frames puddles image))
     ∙ ap (λ b. cond b (Some puddles) None) (sym (judged ∙ ap (λ at. is_some (graph_of (types_of image) (stored_in frames at image))) same))
+
+-- what a ready daemon knows of pools is so
+pub judged_when_ready : (size : ℕ) (w : World) (memory : Memory) (s : State) (ready : IsReady size w memory s) (frames : ℕ) (judged : List (Option (List (ℕ × Puddle)))) → memory.frames ≡ frames → memory.judged ≡ judged
+    → AreJudged frames judged (reads s.now.words)
+judged_when_ready size w memory s ready frames judged on is =
+    subst (λ (n : ℕ). AreJudged n judged (reads s.now.words)) (sym ready.frames ∙ on) (subst (λ (js : List (Option (List (ℕ × Puddle)))). AreJudged w.stored.frames js (reads s.now.words)) is ready.knows.judged)
+
+-- no transaction is held on the pool in a slot that no client holds
+pub apart_from : (size : ℕ) (w : World) (memory : Memory) (s : State) (ready : IsReady size w memory s) (slot : ℕ) → holder_in memory.sessions slot ≡ None → (number : ℕ) (mine : Held) → held_under memory.held number ≡ Some mine
+    → mine.slot ≢ slot
+apart_from size w memory s ready slot shut = none_held w memory.held ready.mask s.now.words ready.held memory.sessions ready.sessions slot (session_in-no_holder memory.sessions slot shut)
 
 -- ---- what a pool that was found holds
 
@@ -114,6 +133,9 @@ module _ (size : ℕ) (w : World) (memory : Memory) (s : State) (ready : IsReady
     pub named : pool_named name w.stored ≡ Some (pool_by_record hold t (slot, found.r))
     named = there_by ∙ ap (option_map (pool_by_record hold t)) found.found
 
+    pub slot_is : IsSlotOf F name image slot
+    slot_is = let at = found_record t name slot found.r found.found in record { rec = found.r; used = at.used; name_is = at.name_is }
+
     -- its puddles as they are read one by one are those that it has
     puddles_are : puddles_in_turn t slot ≡ listed (puddles_of t slot)
     puddles_are =
@@ -143,21 +165,18 @@ module _ (size : ℕ) (w : World) (memory : Memory) (s : State) (ready : IsReady
 
     -- ---- none is open on it
 
-    module _ (shut : opened_by (holder_of memory.held) name ≡ None) where
-      pub shut_there : w.transactions name ≡ None
-      shut_there = not_open w memory.held ready.mask s.now.words name ready.held shut
+    module _ (shut : holder_in memory.sessions slot ≡ None) where
+      unheld : session_in memory.sessions slot ≡ None
+      unheld = session_in-no_holder memory.sessions slot shut
 
-      -- it does not stand in the slot of the pool on which a transaction is open
-      pub apart_from : (mine : Held) → memory.held ≡ Some mine → mine.slot ≡ slot → ⊥
-      apart_from mine e same =
-          let at = found_record t name slot found.r found.found in
-          let holds = subst (λ (o : Option Held). Holds w o ready.mask s.now.words) e ready.held in
-          other_slot w mine ready.mask s.now.words holds slot found.r at.used (λ named. not_named w memory.held ready.mask s.now.words name ready.held shut mine e (sym named ∙ at.name_is)) (sym same)
+      pub shut_there : w.transactions name ≡ None
+      shut_there = session_shut size w memory s ready name slot slot_is unheld
 
       stored_read : stored_in F (puddles_in_turn t slot) under ≡ stored_in F (puddles_in_turn t slot) image
       stored_read =
           let at = found_record t name slot found.r found.found in
-          ap (stored_in F (puddles_in_turn t slot)) (reads-masked ready.mask s.now.words) ∙ pool_unmasked w memory.held ready.mask s.now.words name slot found.r ready.held shut at.used at.name_is
+          ap (stored_in F (puddles_in_turn t slot)) (reads-masked ready.mask s.now.words)
+          ∙ pool_unmasked w memory.held ready.mask s.now.words name slot found.r ready.held (not_named w memory.held ready.mask s.now.words name ready.held shut_there) at.used at.name_is
 
       -- so it has the graph that these puddles have
       pub graph_read : (frames : ℕ) → frames ≡ F → graph_in (pool_named name w.stored) ≡ graph_of (types_of image) (stored_in frames (puddles_in_turn (tables_of frames image) slot) image)
@@ -212,40 +231,66 @@ module _ (size : ℕ) (w : World) (memory : Memory) (s : State) (ready : IsReady
 
     -- ---- one is open on it
 
-    module _ (other : ℕ) (at : opened_by (holder_of memory.held) name ≡ Some other) (uid gid : ℕ) (there : w.clients client ≡ Some (owner uid gid)) where
-      by_open : (right : Bool) → refusal_found (reading_open right (eqb other client)) ≡ cond (not right) (Some refusals.Denied) (cond (not (eqb other client)) (Some refusals.Busy) None)
-      by_open true = elim (eqb other client) as (λ b. refusal_found (reading_open true b) ≡ cond (not b) (Some refusals.Busy) None) [ true ↦ refl | false ↦ refl ]
-      by_open false = refl
+    module _ (other : ℕ) (at : holder_in memory.sessions slot ≡ Some other) where
+      pub open_on : IsSessionOf w memory.held name slot (record { client = other; depth = depth_in memory.sessions slot })
+      open_on = session_open size w memory s ready name slot slot_is (record { client = other; depth = depth_in memory.sessions slot }) (session_in-holder memory.sessions slot other at)
 
-      -- the client's own is read, unless the mode denies it
-      pub refusal_open : (right : Bool) → right ≡ may_read rec.mode (owner rec.uid rec.gid) (owner uid gid) → refusal_found (reading_open right (eqb other client)) ≡ refusal_to_read w client name
-      refusal_open right is_right =
-          let open_on = open_here w memory.held ready.mask s.now.words name other ready.held at in
-          by_open right
-          ∙ ap₂ (λ (b : Bool) (whose : ℕ). cond (not b) (Some refusals.Denied) (cond (not (eqb whose client)) (Some refusals.Busy) None)) is_right (sym open_on.whose)
-          ∙ sym (refusal_there uid gid (Some open_on.undone) (Some open_on.transaction) there open_on.stored open_on.is)
+      pub its_client : open_on.transaction.client ≡ other
+      its_client = sym (ap client_in open_on.session_is)
 
--- what is found then
-pub found_open : (w : World) (F : ℕ) (opened : Option (ℕ × List ℕ)) (client other : ℕ) (name : List ℕ) (image : Image) (judged : List (Option (List (ℕ × Puddle)))) (right : Bool)
-    → opened_by opened name ≡ Some other → IfOk (reading_open right (eqb other client)) (HoldsFound w F opened client name image judged)
-found_open w F opened client other name image judged right at = by_own right (eqb other client) refl
-  where
-    by_own : (right own : Bool) → eqb other client ≡ own → IfOk (reading_open right own) (HoldsFound w F opened client name image judged)
-    by_own false own e = tt
-    by_own true false e = tt
-    by_own true true e = at ∙ ap (λ (n : ℕ). Some n) (eqb-true other client e)
+      pub its : IsHeld w open_on.mine ready.mask s.now.words
+      its = held_is w memory.held ready.mask s.now.words ready.held open_on.number open_on.mine open_on.is
 
--- the client's own transaction has the graph that is read of its puddles
-pub holds_own : (size : ℕ) (w : World) (memory : Memory) (s : State) (ready : IsReady size w memory s) (frames client : ℕ) (name : List ℕ) (at : List (ℕ × Puddle)) → frames ≡ w.stored.frames
-    → puddles_held memory.held ≡ at → opened_by (holder_of memory.held) name ≡ Some client → HoldsGraph w frames name (reads s.now.words) at
-holds_own size w memory s ready frames client name at on same opened =
-    let here = open_here w memory.held ready.mask s.now.words name client ready.held opened in
-    record {
-      graph = here.transaction.now;
-      stored =
-          (λ p. graph_of ((types_read size w memory s ready).types p) (stored_in (on p) (sym same p) (reads s.now.words))) ∙ here.now;
-      is = ap (λ (o : Option Transaction). graph_seen o (pool_named name w.stored)) here.is;
-    }
+      pub its_graph : graph_in (pool_named name w.stored) ≡ Some its.undone
+      its_graph = ap (λ (n : List ℕ). graph_in (pool_named n w.stored)) (sym open_on.name_is) ∙ its.stored
+
+      by_own : (frames : ℕ) (judged : List (Option (List (ℕ × Puddle)))) (right own : Bool) → eqb other client ≡ own → IfOk (reading_open slot right own) (HoldsFound w frames memory.held client name image judged)
+      by_own frames judged false own e = tt
+      by_own frames judged true false e = tt
+      by_own frames judged true true e = inl (refl, open_on.number, own_on w memory.held client name slot (record { client = other; depth = depth_in memory.sessions slot }) open_on (eqb-true other client e))
+
+      -- what is found then is the client's own
+      pub found_open : (frames : ℕ) (judged : List (Option (List (ℕ × Puddle)))) (right : Bool) → IfOk (reading_open slot right (eqb other client)) (HoldsFound w frames memory.held client name image judged)
+      found_open frames judged right = by_own frames judged right (eqb other client) refl
+
+      module _ (uid gid : ℕ) (there : w.clients client ≡ Some (owner uid gid)) where
+        by_open : (right : Bool) → refusal_found (reading_open slot right (eqb other client)) ≡ cond (not right) (Some refusals.Denied) (cond (not (eqb other client)) (Some refusals.Busy) None)
+        by_open true = elim (eqb other client) as (λ b. refusal_found (reading_open slot true b) ≡ cond (not b) (Some refusals.Busy) None) [ true ↦ refl | false ↦ refl ]
+        by_open false = refl
+
+        -- the client's own is read, unless the mode denies it
+        pub refusal_open : (right : Bool) → right ≡ may_read rec.mode (owner rec.uid rec.gid) (owner uid gid) → refusal_found (reading_open slot right (eqb other client)) ≡ refusal_to_read w client name
+        refusal_open right is_right =
+            by_open right
+            ∙ ap₂ (λ (b : Bool) (whose : ℕ). cond (not b) (Some refusals.Denied) (cond (not (eqb whose client)) (Some refusals.Busy) None)) is_right (sym its_client)
+            ∙ sym (refusal_there uid gid (Some its.undone) (Some open_on.transaction) there its_graph open_on.there)
+
+-- ---- the puddles of what was found
+
+module _ (size : ℕ) (w : World) (memory : Memory) (s : State) (ready : IsReady size w memory s) (client : ℕ) (name : List ℕ) where
+  -- the client's own transaction has the graph that is read of its puddles
+  holds_own : (slot number : ℕ) (at : List (ℕ × Puddle)) → FindsPuddles memory.held slot at → IsOwnOn client name slot number memory.held → HoldsGraph w w.stored.frames name (reads s.now.words) at
+  holds_own slot number at (inr none) own = absurd (none number own.own.mine own.own.is own.slot_is)
+  holds_own slot number at (inl found) own =
+      let mine = own.own.mine in
+      let here = open_here w memory.held ready.mask s.now.words name client number ready.held own.own in
+      let same : found.number ≡ number = one_slot w memory.held ready.mask s.now.words ready.held found.number number found.mine mine found.is own.own.is (found.slot_is ∙ sym own.slot_is) in
+      let one : found.mine ≡ mine = same_Some found.mine mine (sym found.is ∙ ap (held_under memory.held) same ∙ own.own.is) in
+      let has : at ≡ mine.at = sym found.at_is ∙ ap (λ (h : Held). h.at) one in
+      record {
+        graph = here.transaction.now;
+        stored = (λ p. graph_of ((types_read size w memory s ready).types p) (stored_in w.stored.frames (has p) (reads s.now.words))) ∙ here.now;
+        is = ap (λ (o : Option Transaction). graph_seen o (pool_named name w.stored)) here.is;
+      }
+
+  -- they hold the graph of the pool
+  pub holds_found : (frames : ℕ) (judged : List (Option (List (ℕ × Puddle)))) (readable : Readable) (at : List (ℕ × Puddle)) → frames ≡ w.stored.frames
+      → HoldsFound w frames memory.held client name (reads s.now.words) judged readable
+      → (readable.is_open ≡ true → FindsPuddles memory.held readable.slot at) → (readable.is_open ≡ false → at ≡ unwrap_or (known_in judged readable.slot) []) → HoldsGraph w frames name (reads s.now.words) at
+  holds_found frames judged readable at on (inl own) finds known =
+      subst (λ (n : ℕ). HoldsGraph w n name (reads s.now.words) at) (sym on) (holds_own readable.slot own.1 at (finds own.0) own.2)
+  holds_found frames judged readable at on (inr holds) finds known =
+      subst (HoldsGraph w frames name (reads s.now.words)) (sym (known holds.0)) holds.1
 
 -- ---- what is replied
 
@@ -330,9 +375,13 @@ module _ (w : World) (client : ℕ) (name : List ℕ) (serial f : ℕ) where
   unfolding after
   world_of_get = world_unless (refusal_of w c)
 
-  -- what is known of pools alone changes
-  pub Applies-get : (size : ℕ) (memory next : Memory) (fault : Option HostFault) (old new : State) → next.frames ≡ memory.frames → next.held ≡ memory.held → KnowsPools w.stored.frames next.judged next.held (reads old.now.words)
-      → IsReady size w memory old → new ≡ old → (fault ≡ Some Cut → ⊥) → Applies size w (world_by w (Some c)) next fault old new
-  Applies-get size memory next fault old new frames held knows ready same never =
+  -- what is known of pools alone changes, and not of those on which a transaction is open
+  pub Applies-get : (size : ℕ) (memory : Memory) (judged : List (Option (List (ℕ × Puddle)))) (fault : Option HostFault) (old new : State) → IsReady size w memory old
+      → AreJudged memory.frames judged (reads old.now.words) → ((number : ℕ) (h : Held) → held_under memory.held number ≡ Some h → known_in judged h.slot ≡ known_in memory.judged h.slot)
+      → new ≡ old → (fault ≡ Some Cut → ⊥) → Applies size w (world_by w (Some c)) (record memory { judged = judged }) fault old new
+  Applies-get size memory judged fault old new ready right apart same never =
+      let next : Memory = record memory { judged = judged } in
+      let there = subst (λ (n : ℕ). AreJudged n judged (reads old.now.words)) ready.frames right in
+      let knows = KnowsPools-read w.stored.frames memory.judged judged memory.held (reads old.now.words) there apart ready.knows in
       subst (λ (v : World). Applies size w v next fault old new) (sym world_of_get)
-      (Applies-still size w next fault old new (IsReady-beside size w memory next old frames held knows ready) same (λ cut. absurd (never cut)))
+      (Applies-still size w next fault old new (IsReady-beside size w memory next old refl refl refl knows ready) same (λ cut. absurd (never cut)))

@@ -1,5 +1,5 @@
 -- A device recovered, as the daemon has it.
-use Rattle.std.proofs.Common.{◌≡◌, ◌≢◌, ◌⊎◌, ◌↔◌, inl, inr, ⊎_elim, ℕ, ◌<◌, ◌≤◌, Bool, true, false, ◌&&◌, ltb, Option, Some, None, Result, Ok, Err, IfOk, refl, sym, ap, subst, ◌∙◌, arith}
+use Rattle.std.proofs.Common.{◌≡◌, ◌≢◌, ◌⊎◌, ◌↔◌, inl, inr, ⊎_elim, ℕ, ◌<◌, ◌≤◌, Bool, true, false, ◌&&◌, ltb, List, replicate, Option, Some, None, Result, Ok, Err, IfOk, refl, sym, ap, subst, ◌∙◌, arith}
 use Rattle.std.proofs.lemmas.Bool.{lt-leb}
 use Rattle.pm_model.specs.declared.host.HostFault.{HostFault}
 use Rattle.pm_model.specs.Words.{reads}
@@ -10,13 +10,14 @@ use Rattle.pm_model.proofs.Words.{Picks-reads}
 use Rattle.pm_model.proofs.Changes.{Changes-said}
 use Rattle.pm_model.proofs.Leaves.{Leaves-weaker}
 use Rattle.pud_defs.specs.declared.layout.TheConstants.{DAEMON_LOG, FRAMES_WORD, SPACE_TABLE, PUDDLE_TABLE, CLIENTS}
+use Rattle.pud_defs.specs.declared.records.TheConstants.{POOL_RECORDS}
 use Rattle.pud_defs.specs.Image.{Image}
 use Rattle.pud_defs.specs.Layout.{tables_end, frames_at}
 use Rattle.pud_defs.specs.Entries.{log_of}
 use Rattle.pud_defs.specs.Spaces.{owner_by, space_record_at}
 use Rattle.pud_defs.specs.Replay.{device_word, new_value, is_in_log, settled_by}
 use Rattle.pud_defs.specs.Registry.{frames_of}
-use Rattle.pud_defs.specs.Settled.{is_refused_log, is_in_logs, settled}
+use Rattle.pud_defs.specs.Settled.{ALL_LOGS, is_refused_log, is_in_logs, settled}
 use Rattle.pud_defs.specs.World.{World, StoredWorld, world_of, closed, restart}
 use Rattle.pud_defs.proofs.Replay.{overwritten-stays, settled_by-outside, outside_log}
 use Rattle.pud_defs.proofs.Logged.{settled_by-unlogged}
@@ -27,13 +28,15 @@ use Rattle.recover.specs.declared.recovery.Report.{Report}
 use Rattle.recover.specs.declared.recovery.RecoverFault.{RecoverFault}
 use Rattle.recover.specs.declared.recovery.RecoverFault.TheVariants as recoveries
 use Rattle.recover.specs.Recovery.{recover_fault, ByRecovery, DiffersByRecovery, RefusesNo, StandsStill, RecoversDevice}
+use Rattle.nesting.specs.declared.Session.{Session}
 use Rattle.puddled.specs.declared.daemon.StartFault.{StartFault}
 use Rattle.puddled.specs.declared.daemon.StartFault.TheVariants as starts
 use Rattle.puddled.specs.Faults.{start_fault, of_recover}
 use Rattle.puddled.specs.Memory.{Held, Memory}
-use Rattle.puddled.specs.Held.{Holds}
+use Rattle.puddled.specs.Held.{Holds, HasSessions}
 use Rattle.puddled.specs.KnownPools.{KnowsPools}
 use Rattle.puddled.specs.Daemon.{KeepsRest, IsReady, IsReplayed, IsUsedAlone, IsClosedIfFree, IsClosedIfNamed, RefusesNone, Recovers}
+use Rattle.puddled.proofs.NoneHeld.{Holds-none, HasSessions-none}
 
 -- a recovery's fault is the host's or none, at a start too
 pub fault_of_recover : (fault : RecoverFault) → start_fault {T = Memory} (Err (of_recover fault)) ≡ recover_fault {T = Report} (Err fault)
@@ -111,25 +114,27 @@ module _ (size : ℕ) (w : World) (a b : State) where
   }
 
   -- the daemon is ready behind it
-  ready_behind : (memory : Memory) → memory.frames ≡ w.stored.frames → memory.held ≡ None → KnowsPools w.stored.frames memory.judged memory.held (reads b.now.words) → a.shelf ≡ w.shelf
+  ready_behind : (memory : Memory) → memory.frames ≡ w.stored.frames → memory.held ≡ replicate ALL_LOGS None → memory.sessions ≡ replicate POOL_RECORDS None → KnowsPools w.stored.frames memory.judged memory.held (reads b.now.words) → a.shelf ≡ w.shelf
       → RecoversDevice size (closed w) None a b → IsReady size (restart w) memory b
-  ready_behind memory frames idle knows shelf r = record {
+  ready_behind memory frames idle none knows shelf r = record {
     mask = no_mask;
     settled = r.settled_now refl;
     tables = record { each = λ k beside below. r.single refl k (outside_log DAEMON_LOG k (⊎_elim (λ low. inl low) (λ high. inr (omega arith)) beside)) };
     clients = λ client few. nobody _ _ _ (r.cleared refl client few);
     frames = frames;
     shelf = r.changes.shelf ∙ shelf;
-    held = subst (λ (o : Option Held). Holds (restart w) o no_mask b.now.words) (sym idle) (refl, refl);
+    held = subst (λ (o : List (Option Held)). Holds (restart w) o no_mask b.now.words) (sym idle) (Holds-none (restart w) ALL_LOGS b.now.words refl);
+    sessions = subst (λ (o : List (Option Held)). HasSessions (restart w) o memory.sessions) (sym idle)
+        (subst (λ (o : List (Option Session)). HasSessions (restart w) (replicate ALL_LOGS None) o) (sym none) (HasSessions-none (restart w) ALL_LOGS POOL_RECORDS));
     logs = record { each = λ client number low few present. absurd (let it : false ≡ true = present in cc) };
     rest = record { each = λ k above. r.single refl k (outside_log DAEMON_LOG k (inr (omega arith))) };
     knows = knows;
   }
 
-  pub Recovers-done : (memory : Memory) → world_of size (reads a.now.words) ≡ Some (closed w) → memory.frames ≡ frames_of (reads a.now.words) → memory.held ≡ None
+  pub Recovers-done : (memory : Memory) → world_of size (reads a.now.words) ≡ Some (closed w) → memory.frames ≡ frames_of (reads a.now.words) → memory.held ≡ replicate ALL_LOGS None → memory.sessions ≡ replicate POOL_RECORDS None
       → KnowsPools w.stored.frames memory.judged memory.held (reads b.now.words) → a.shelf ≡ w.shelf → RecoversDevice size (closed w) None a b → Recovers size w (Ok memory) a b
-  Recovers-done memory world frames idle knows shelf r =
-      Recovers-by None (Ok memory) world r (ready_behind memory (frames ∙ frames_of_world size (reads a.now.words) (closed w) world) idle knows shelf r)
+  Recovers-done memory world frames idle none knows shelf r =
+      Recovers-by None (Ok memory) world r (ready_behind memory (frames ∙ frames_of_world size (reads a.now.words) (closed w) world) idle none knows shelf r)
 
   pub Recovers-failed : (fault : RecoverFault) → (fault ≡ recoveries.NotSound → ⊥) → world_of size (reads a.now.words) ≡ Some (closed w) → RecoversDevice size (closed w) (recover_fault {T = Report} (Err fault)) a b
       → Recovers size w (Err (of_recover fault)) a b

@@ -14,9 +14,10 @@ use Rattle.pud_defs.specs.World.{World}
 use Rattle.pud_defs.proofs.PoolMembers.{IsMemberOf, HasMembers}
 use Rattle.pud_defs.proofs.SoundChanged.{legal_puddle}
 use Rattle.hybrid_tx.specs.Grounds.{IsRewritten}
-use Rattle.puddled.specs.Memory.{Held, Memory}
+use Rattle.puddled.specs.Memory.{Held, Memory, held_under}
 use Rattle.puddled.specs.Daemon.{IsReady}
-use Rattle.puddled.proofs.PoolsBeside.{held_is, members_still}
+use Rattle.puddled.proofs.Beside.{held_is}
+use Rattle.puddled.proofs.PoolsBeside.{members_still}
 use Rattle.puddled.proofs.TablesBeside.{sound_read}
 
 last_by_member : (next : ℕ) (t : Tables) (m : Member) → is_legal_member next t m ≡ true → m.puddle.frontier ≡ LAST_FRONTIER
@@ -32,8 +33,8 @@ module _ (next : ℕ) (t : Tables) (sound : HasSoundTables next t) (slot : ℕ) 
   rewritten_members : IsRewritten at
   rewritten_members = record { each = λ n d below. last_of_member n (get_or at n d) (has.each n (get_or at n d) (slice_get-get_or at n d below)) }
 
--- so are those of the pool that is held by a daemon that is ready
-pub held_rewritten : (size : ℕ) (w : World) (memory : Memory) (s : State) → IsReady size w memory s → (held : Held) → memory.held ≡ Some held → IsRewritten held.at
-held_rewritten size w memory s ready held is =
+-- so are those of each pool that is held by a daemon that is ready
+pub held_rewritten : (size : ℕ) (w : World) (memory : Memory) (s : State) → IsReady size w memory s → (number : ℕ) (held : Held) → held_under memory.held number ≡ Some held → IsRewritten held.at
+held_rewritten size w memory s ready number held there =
     rewritten_members w.stored.next_number (tables_of w.stored.frames (reads s.now.words)) (sound_read size w memory s ready) held.slot held.at
-    (members_still w held ready.mask s.now.words (held_is w memory.held ready.mask s.now.words ready.held held is))
+    (members_still w held ready.mask s.now.words (held_is w memory.held ready.mask s.now.words ready.held number held there))

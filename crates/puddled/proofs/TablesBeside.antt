@@ -1,5 +1,5 @@
--- What is read of the tables beside a transaction that is open: the same, with its words masked.
-use Rattle.std.proofs.Common.{◌≡◌, inl, ℕ, ◌<◌, true, Option, None, refl, sym, ap, subst, ◌∙◌, arith}
+-- What is read of the tables beside transactions that are open: the same, with their words masked.
+use Rattle.std.proofs.Common.{◌≡◌, inl, ℕ, ◌<◌, true, List, Option, None, refl, sym, ap, subst, ◌∙◌, arith}
 use Rattle.pm_model.specs.Words.{Words, reads}
 use Rattle.pm_model.specs.Moments.{State}
 use Rattle.pm_model.specs.Changes.{Write}
@@ -23,8 +23,8 @@ use Rattle.registry.proofs.Moved.{ReadsWorld, reads_world}
 use Rattle.puddled.specs.Memory.{Held, Memory}
 use Rattle.puddled.specs.Held.{Holds}
 use Rattle.puddled.specs.Daemon.{IsReady}
+use Rattle.puddled.proofs.Beside.{unmasked_front}
 use Rattle.puddled.proofs.Beneath.{table_reads, keeps_tables}
-use Rattle.puddled.proofs.PoolsBeside.{unmasked_front}
 
 -- ---- words that are masked
 
@@ -33,8 +33,8 @@ pub record IsMaskBeside (F : ℕ) (mask : Write) (words : Words) : Type 0 where
   pub same : (k : ℕ) → k < tables_end F → masked_image mask (reads words) k ≡ reads words k
   pub below : (k : ℕ) → k < POOL_TABLE → mask k ≡ None
 
-pub mask_beside : (w : World) (o : Option Held) (mask : Write) (words : Words) → Holds w o mask words → IsMaskBeside w.stored.frames mask words
-mask_beside w o mask words holds = record { same = table_reads w o mask words holds; below = unmasked_front w o mask words holds }
+pub mask_beside : (w : World) (held : List (Option Held)) (mask : Write) (words : Words) → Holds w held mask words → IsMaskBeside w.stored.frames mask words
+mask_beside w held mask words holds = record { same = table_reads w held mask words holds; below = unmasked_front w held mask words holds }
 
 -- tables that are durable are so masked
 pub HasDurableTables-masked : (F : ℕ) (mask : Write) (words : Words) → HasDurableTables F words → HasDurableTables F (masked mask words)

@@ -1,17 +1,19 @@
--- A transaction that is held comes to have a puddle more: a fresh one, which is the last of its pool by what is read of the tables.
-use Rattle.std.proofs.Common.{◌≡◌, ◌⊎◌, inl, inr, ℕ, ◌+◌, ◌<◌, ◌≤◌, true, false, cond, ◌||◌, ◌==◌, leb, ltb, List, [], ◌∷◌, ◌++◌, length, Option, Some, None, refl, sym, ap, subst, ◌∙◌, arith}
-use Rattle.std.specs.Prelude.{slice_get}
+-- A transaction that is held comes to have a puddle more: a fresh one, which is the last of its pool by what is read of the tables. The others stay.
+use Rattle.std.proofs.Common.{◌≡◌, ◌≢◌, ◌⊎◌, inl, inr, ℕ, ◌+◌, ◌<◌, ◌≤◌, true, false, cond, ◌||◌, List, [], ◌∷◌, ◌++◌, length, Option, Some, None, refl, sym, ap, subst, ◌∙◌, arith}
+use Rattle.std.specs.Prelude.{set, slice_get}
 use Rattle.std.specs.List.{list_any}
-use Rattle.std.proofs.lemmas.Bool.{cases_Bool, cond-true, cond-false, and_parts, or_cases, or_parts, or_left, or_right, leb-true}
-use Rattle.std.proofs.lemmas.Option.{slice_get_within}
+use Rattle.std.proofs.lemmas.Bool.{cases_Bool, cases_eq, cond-true, cond-false, or_cases, or_parts, or_left, or_right}
+use Rattle.std.proofs.lemmas.Option.{none-some, same_Some, slice_get_within}
 use Rattle.std.proofs.lemmas.List.{length_push}
 use Rattle.std.proofs.lemmas.List.Folds.{list_any-append}
+use Rattle.pm_model.specs.declared.host.HostFault.TheVariants.{Cut}
 use Rattle.pm_model.specs.Words.{Has, Cell, single, values, Words, HasOnly, reads}
+use Rattle.pm_model.specs.Moments.{State}
 use Rattle.pm_model.specs.Changes.{Write}
 use Rattle.pm_model.specs.Masks.{masked_cell, masked}
+use Rattle.pm_model.proofs.Changes.{Changes-still}
 use Rattle.pm_model.proofs.Masks.{masked-there, masked-elsewhere}
 use Rattle.pud_defs.specs.declared.layout.TheConstants.{DAEMON_LOG, FRAME_WORDS}
-use Rattle.pud_defs.specs.declared.log_words.TheConstants.{CLOSED_GATE}
 use Rattle.pud_defs.specs.declared.records.Puddle.{Puddle}
 use Rattle.pud_defs.specs.Image.{Image}
 use Rattle.pud_defs.specs.Frames.{frame_at, IsFreshFrame}
@@ -20,13 +22,13 @@ use Rattle.pud_defs.specs.Holdings.{held_as, graph_held}
 use Rattle.pud_defs.specs.Layout.{frames_at, tables_end, device_words, log_at}
 use Rattle.pud_defs.specs.PoolChanges.{pool_named}
 use Rattle.pud_defs.specs.Replay.{is_in_log}
-use Rattle.pud_defs.specs.Settled.{client_of_log, log_number_at}
+use Rattle.pud_defs.specs.Settled.{ALL_LOGS, client_of_log, log_number_at}
 use Rattle.pud_defs.specs.Spaces.{Owner, owner_of}
 use Rattle.pud_defs.specs.SoundTables.{HasSoundTables}
 use Rattle.pud_defs.specs.Step.{graph_in}
 use Rattle.pud_defs.specs.Stored.{Stored, IsOnDevice, stored_in}
 use Rattle.pud_defs.specs.Tables.{Tables, tables_of, puddles_in_turn}
-use Rattle.pud_defs.specs.World.{StoredWorld, World}
+use Rattle.pud_defs.specs.World.{Transaction, StoredWorld, World}
 use Rattle.pud_defs.proofs.Replay.{outside_log}
 use Rattle.pud_defs.proofs.Spaces.{owner_of-same}
 use Rattle.pud_defs.proofs.TablesOf.{tables_of-same, frames_of_tables}
@@ -36,15 +38,23 @@ use Rattle.word_transaction.specs.Ground.{IsGround}
 use Rattle.word_transaction.proofs.Growing.{IsWider, IsRunning-values, IsRunning-wider}
 use Rattle.hybrid_tx.specs.Grounds.{is_in_frame, pool_mine, pool_ground, IsPlaced}
 use Rattle.hybrid_tx.specs.Masks.{OpenPool, is_in_pool_record, is_in_space_record, is_in_puddle_record, is_open_record, open_mask, IsOpenPool}
+use Rattle.hybrid_tx.specs.ManyOpen.{OpenTransaction, Opens, with_transaction, open_masks, MasksAll, AreOpenPools, HasRecords, IsOneMore}
 use Rattle.hybrid_tx.specs.Transactions.{IsOpenOn}
+use Rattle.hybrid_tx.proofs.ManyMasks.{masks_of_others, opens_apart, open_masks_all}
+use Rattle.hybrid_tx.proofs.ManyIdle.{one_ended, one_put, others_open, others_records, opens_more, records_more, masks_elsewhere, masks_changed}
 use Rattle.hybrid_tx.proofs.OpenMasks.{mine_behind, open_record_place, mask_of_own, mask_of_mine, mask_of_record, mask_of_others}
 use Rattle.hybrid_tx.proofs.Opening.{stored_in-mine}
 use Rattle.hybrid_tx.proofs.OpenPools.{open_on_device, placed_by_tables}
 use Rattle.hybrid_tx.proofs.PoolPlaces.{placed_of_members}
 use Rattle.hybrid_tx.proofs.PoolGrounds.{pool_mine-each, pool_may-named, pool_may-from, pool_place-there, is_ground}
 use Rattle.registry.proofs.Grown.{still_holds}
-use Rattle.puddled.specs.Memory.{Held}
-use Rattle.puddled.specs.Held.{pool_held, puddles_in, IsHeld, HasDurableFrames, HasIdleLogs}
+use Rattle.nesting.specs.declared.Session.{Session}
+use Rattle.puddled.specs.Changing.{StaysOpen}
+use Rattle.puddled.specs.Memory.{Held, held_under}
+use Rattle.puddled.specs.Held.{pool_held, open_held, puddles_in, IsHeld, IsHeldUnder, Holds, HasSessions, HasDurableFrames, HasIdleLogs, ByOthers}
+use Rattle.puddled.proofs.Beside.{KeepsOne, others_apart, held_still, records_all}
+use Rattle.puddled.proofs.HeldChanged.{Holds-later, HasSessions-later}
+use Rattle.puddled.proofs.OpenNames.{WereOpen, WereOpen-same}
 use Rattle.puddled.proofs.PoolsBeside.{used_still, members_still}
 
 -- ---- the graph
@@ -120,8 +130,8 @@ module _ (w : World) (held : Held) (mask : Write) (words : Words) (is : IsHeld w
   abbrev before : Image
   before k = cond (pool_mine F held.at k) (is.before k) (now k)
 
-  abbrev pub wide : Write
-  wide = open_mask F q before
+  abbrev pub opened_more : OpenTransaction
+  opened_more = open_held with_one_more is.rec is.who before
 
   own_word : (k : ℕ) → pool_mine F held.at k ≡ true → before k ≡ is.before k
   own_word k own = cond-true _ _ _ own
@@ -152,7 +162,7 @@ module _ (w : World) (held : Held) (mask : Write) (words : Words) (is : IsHeld w
     | inr new ↦ elim (or_cases (is_in_frame F k e) false new) [ inl here ↦ here | inr never ↦ absurd (let it : false ≡ true = never in cc) ]
   ]
 
-  module _ (number : ℕ) (sound : HasSoundTables number (tables_of F now)) (owners : owner_of now held.client ≡ w.clients held.client) (rest : HasDurableFrames F (masked mask words))
+  module _ (number : ℕ) (sound : HasSoundTables number (tables_of F now)) (owners : owner_of now held.client ≡ w.clients held.client)
       (listed : puddles_in_turn (tables_of F now) held.slot ≡ at) where
     placed : IsPlaced F at
     placed = placed_by_tables number F now held.slot at sound listed
@@ -188,7 +198,7 @@ module _ (w : World) (held : Held) (mask : Write) (words : Words) (is : IsHeld w
         ∙ owners
         ∙ is.present
 
-    pool_more : IsOpenPool F q before
+    pub pool_more : IsOpenPool F q before
     pool_more = record {
       known = is.pool.known;
       slot = is.pool.slot;
@@ -201,20 +211,17 @@ module _ (w : World) (held : Held) (mask : Write) (words : Words) (is : IsHeld w
     record_there : (k : ℕ) → is_open_record q k ≡ true → k < tables_end F
     record_there k of = (open_record_place F q k is.pool.slot is.pool.known (open_on_device F q before pool_more) of).high
 
-    -- ---- its mask
+    -- ---- its words
 
-    mask_is : (k : ℕ) (o : Option ℕ) → open_mask F p is.before k ≡ o → mask k ≡ o
-    mask_is k o there = ap (λ (m : Write). m k) is.masked ∙ there
-
-    mask_in_log : (k : ℕ) → is_in_log (log_number_at F held.number) k ≡ true → wide k ≡ mask k
-    unfolding open_mask
-    mask_in_log k inside = cond-true _ _ _ inside ∙ sym (mask_is k (Some (cond (k == log_number_at F held.number) CLOSED_GATE 0)) (cond-true _ _ _ inside))
-
-    mask_outside : (k : ℕ) → is_in_log (log_number_at F held.number) k ≡ false → pool_mine F held.at k ≡ false → mask k ≡ None → IsMaskedMore mask wide words k
+    mask_outside : (k : ℕ) → is_in_log (log_number_at F held.number) k ≡ false → pool_mine F held.at k ≡ false → open_mask F p is.before k ≡ None → IsMaskedMore (open_mask F p is.before) (open_mask F q before) words k
     mask_outside k outside other none = elim (cases_Bool (pool_mine F at k || is_open_record q k)) [
       | inl own ↦ inr (none, mask_of_own F q before k outside own ∙ ap (λ (v : ℕ). Some v) (other_word k other))
       | inr not ↦ let parts = or_parts (pool_mine F at k) (is_open_record q k) not in inl (mask_of_others F q before k outside parts.0 parts.1 ∙ sym none)
     ]
+
+    mask_in_log : (k : ℕ) → is_in_log (log_number_at F held.number) k ≡ true → open_mask F q before k ≡ open_mask F p is.before k
+    unfolding open_mask
+    mask_in_log k inside = cond-true _ _ _ inside ∙ sym (cond-true _ _ _ inside)
 
     -- a record that it rested on is one still
     record_before : (k : ℕ) → is_open_record p k ≡ true → is_open_record q k ≡ true
@@ -224,24 +231,29 @@ module _ (w : World) (held : Held) (mask : Write) (words : Words) (is : IsHeld w
       | inr puddle ↦ or_right (is_in_pool_record held.slot k || is_in_space_record (client_of_log held.number) k) _ (list_any-append (is_in_puddle_record k) held.at (e ∷ []) ∙ or_left _ _ puddle)
     ]
 
-    mask_more : (k : ℕ) → IsMaskedMore mask wide words k
+    -- they are those that it had, with their values, and others, with what is read of them
+    pub mask_more : (k : ℕ) → IsMaskedMore (open_mask F p is.before) (open_mask F q before) words k
     mask_more k = elim (cases_Bool (is_in_log (log_number_at F held.number) k)) [
       | inl inside ↦ inl (mask_in_log k inside)
       | inr outside ↦ elim (cases_Bool (pool_mine F held.at k)) [
         | inl own ↦
-            inl (mask_of_mine F q before k is.pool.known (mine_before k own) ∙ ap (λ (v : ℕ). Some v) (own_word k own) ∙ sym (mask_is k (Some (is.before k)) (mask_of_mine F p is.before k is.pool.known own)))
+            inl (mask_of_mine F q before k is.pool.known (mine_before k own) ∙ ap (λ (v : ℕ). Some v) (own_word k own) ∙ sym (mask_of_mine F p is.before k is.pool.known own))
         | inr other ↦ elim (cases_Bool (is_open_record p k)) [
           | inl of ↦
               let below = record_there k (record_before k of) in
-              inl (mask_of_record F q before k below (record_before k of) ∙ ap (λ (v : ℕ). Some v) (other_word k other ∙ is.records k of) ∙ sym (mask_is k (Some (is.before k)) (mask_of_record F p is.before k below of)))
-          | inr not ↦ mask_outside k outside other (mask_is k None (mask_of_others F p is.before k outside other not))
+              inl (mask_of_record F q before k below (record_before k of) ∙ ap (λ (v : ℕ). Some v) (other_word k other ∙ is.records k of) ∙ sym (mask_of_record F p is.before k below of))
+          | inr not ↦ mask_outside k outside other (mask_of_others F p is.before k outside other not)
         ]
       ]
     ]
 
+    -- its records are read as they are then
+    pub records_then : (k : ℕ) → is_open_record q k ≡ true → now k ≡ before k
+    records_then k of = sym (table_word k (let below = record_there k of in omega arith))
+
     -- ---- what is open
 
-    module _ (some : 1 ≤ length held.at) (fresh : IsFreshFrame F e.0 e.1.number (length held.at) now) where
+    module _ (some : 1 ≤ length held.at) (fresh : IsFreshFrame F e.0 e.1.number (length held.at) now) (one_value : (k : ℕ) → pool_mine F at k ≡ true → pool_mine F held.at k ≡ false → HasOnly (words k) (now k)) where
       wider : IsWider (pool_ground F held.at) (pool_ground F at)
       wider = record {
         may = λ address count may.
@@ -257,19 +269,8 @@ module _ (w : World) (held : Held) (mask : Write) (words : Words) (is : IsHeld w
         mine = mine_before;
       }
 
-      no_record : (k : ℕ) → frames_at F ≤ k → is_open_record p k ≡ false
-      no_record k above = elim (cases_Bool (is_open_record p k)) [
-        | inl of ↦ let below = record_there k (record_before k of) in absurd (omega arith)
-        | inr other ↦ other
-      ]
-
       fresh_word : (k : ℕ) → pool_mine F at k ≡ true → pool_mine F held.at k ≡ false → HasOnly (words k) (before k)
-      fresh_word k own other =
-          let parts = and_parts (leb (frame_at F e.0) k) (ltb k (frame_at F e.0 + FRAME_WORDS)) (in_frame k own other) in
-          let low = leb-true _ _ parts.0 in
-          let above : frames_at F ≤ k = omega arith in
-          let none : mask k ≡ None = mask_is k None (mask_of_others F p is.before k (outside_log (log_number_at F held.number) k (inr (let known = is.pool.known in omega arith))) other (no_record k above)) in
-          subst (λ (v : ℕ). HasOnly (words k) v) (sym (other_word k other)) (subst (λ (c : Cell). HasOnly c c.newest) (masked-elsewhere mask words k none) (rest.each k above))
+      fresh_word k own other = subst (λ (v : ℕ). HasOnly (words k) v) (sym (other_word k other)) (one_value k own other)
 
       ground : IsGround (device_words F) held.log.at (pool_ground F held.at)
       ground =
@@ -293,9 +294,9 @@ module _ (w : World) (held : Held) (mask : Write) (words : Words) (is : IsHeld w
             is = graph_longer w.stored.types F now held.at e is.transaction.now some fresh r.is;
           }
 
-      -- The next world holds it with that puddle.
-      pub held_more : (next : World) → GrowsHeld w next held → IsHeld next with_one_more wide words
-      held_more next grows =
+      -- The next world holds it with that puddle, where its words are masked.
+      pub held_more : (next : World) → GrowsHeld w next held → (anew : Write) → ((k v : ℕ) → open_mask F q before k ≡ Some v → anew k ≡ Some v) → IsHeld next with_one_more anew words
+      held_more next grows anew masks =
           let back = sym grows.frames in
           record {
             rec = is.rec;
@@ -303,9 +304,8 @@ module _ (w : World) (held : Held) (mask : Write) (words : Words) (is : IsHeld w
             before = before;
             undone = is.undone;
             transaction = is.transaction;
-            is = grows.transactions ∙ is.is;
+            is = ap (λ (o : List ℕ → Option Transaction). o held.name) grows.transactions ∙ is.is;
             client = is.client;
-            depth = is.depth;
             units = is.units;
             present = ap (λ clients. clients held.client) grows.clients ∙ is.present;
             owner = is.owner;
@@ -314,25 +314,180 @@ module _ (w : World) (held : Held) (mask : Write) (words : Words) (is : IsHeld w
             stored = grows.stored ∙ is.stored;
             count = grows.puddles ∙ (let had = is.count in omega (arith, had, length_push held.at e));
             pool = subst (λ (m : ℕ). IsOpenPool m q before) back pool_more;
-            records = λ k of. sym (table_word k (let below = record_there k of in omega arith));
+            records = records_then;
             running = subst (λ (m : ℕ). IsOpenOn m at next.stored.types held.log before is.undone is.transaction.now words) back
                 (subst (λ (types : List (ℕ × ℕ)). IsOpenOn F at types held.log before is.undone is.transaction.now words) (sym grows.types) running_more);
-            masked = ap (λ (m : ℕ). open_mask m q before) back;
+            masked = subst (λ (m : ℕ). (k v : ℕ) → open_mask m q before k ≡ Some v → anew k ≡ Some v) back masks;
           }
 
-    -- and what was so with its words masked is so with those of that puddle masked too
-    pub settled_more : (size : ℕ) (next : StoredWorld) → IsSettled size next (masked mask words) → IsSettled size next (masked wide words)
-    settled_more size next settled = record {
-      stands = λ image picked. settled.stands image (record { each = λ k. masked_more mask wide words k (image k) (mask_more k) (picked.each k) });
-      idle = λ v had. settled.idle v (masked_more mask wide words DAEMON_LOG v (mask_more DAEMON_LOG) had);
-    }
+-- ---- all that is held
 
-    pub rest_more : HasDurableFrames F (masked wide words)
-    rest_more = record { each = λ k above. one_more mask wide words k (mask_more k) (rest.each k above) }
+module _ (w : World) (all : List (Option Held)) (mask : Write) (s : State) (holds : Holds w all mask s.now.words) (held : Held) (number : ℕ) (there : held_under all number ≡ Some held) (e : ℕ × Puddle)
+    (next_number : ℕ) (sound : HasSoundTables next_number (tables_of w.stored.frames (reads s.now.words))) (owners : owner_of (reads s.now.words) held.client ≡ w.clients held.client)
+    (listed : puddles_in_turn (tables_of w.stored.frames (reads s.now.words)) held.slot ≡ held.at ++ e ∷ []) (rest : HasDurableFrames w.stored.frames (masked mask s.now.words)) where
+  abbrev n : ℕ
+  n = w.stored.frames
 
-    pub logs_more : (n : ℕ) (clients : ℕ → Option Owner) → HasIdleLogs n clients (masked mask words) → HasIdleLogs n clients (masked wide words)
-    logs_more n clients logs = record {
-      each = λ client i known below present.
-          let gate = log_at n client i in
-          record { each = λ v had. (logs.each client i known below present).each v (masked_more mask wide words gate v (mask_more gate) had) };
-    }
+  abbrev image : Image
+  image = reads s.now.words
+
+  abbrev under : IsHeldUnder w holds.opens mask s.now.words number held
+  under = holds.each number held there
+
+  abbrev o : OpenTransaction
+  o = open_held held under.is.rec under.is.who under.is.before
+
+  abbrev more : OpenTransaction
+  more = opened_more w held mask s.now.words under.is e
+
+  -- the others, and with it as it is then
+  abbrev others : Opens
+  others = with_transaction number None holds.opens
+
+  abbrev opens : Opens
+  opens = with_transaction number (Some more) holds.opens
+
+  was : IsOneMore number o others holds.opens
+  was = one_ended number o holds.opens under.opened
+
+  then_one : IsOneMore number more others opens
+  then_one = one_put number more holds.opens
+
+  -- one of the others
+  other_is : (m : ℕ) → m ≢ number → opens m ≡ holds.opens m
+  other_is m apart = then_one.same m apart ∙ sym (was.same m apart)
+
+  never_it : (m : ℕ) (q : OpenTransaction) → others m ≡ Some q → m ≢ number
+  never_it m q has same = none-some q (sym then_one.none ∙ ap others (sym same) ∙ has)
+
+  are_others : AreOpenPools n others
+  are_others = others_open number o others holds.opens was n holds.are
+
+  are_more : AreOpenPools n opens
+  are_more =
+      opens_more number more others opens then_one n are_others under.number_is (pool_more w held mask s.now.words under.is e next_number sound owners listed)
+      (λ m q has same. never_it m q has (holds.are.slots m number q o (was.same m (never_it m q has) ∙ has) under.opened same))
+
+  records_others : HasRecords others image
+  records_others = others_records number o others holds.opens was image (records_all w all mask s.now.words holds)
+
+  records_opened : HasRecords opens image
+  records_opened = records_more number more others opens then_one image records_others (records_then w held mask s.now.words under.is e next_number sound owners listed)
+
+  -- all their words
+  abbrev pub wide : Write
+  wide = open_masks n opens
+
+  masks_more : MasksAll n opens wide
+  masks_more = open_masks_all n opens image are_more records_opened
+
+  abbrev rest_mask : Write
+  rest_mask = open_masks n others
+
+  masks_others : MasksAll n others rest_mask
+  masks_others = open_masks_all n others image are_others records_others
+
+  -- a word that one of the others masks is masked so
+  masked_by_others : (k v : ℕ) → rest_mask k ≡ Some v → wide k ≡ Some v
+  masked_by_others k v is =
+      let m = masks_others.each k v is in
+      masks_more.has m.number m.transaction (then_one.same m.number (never_it m.number m.transaction m.there) ∙ m.there) k v m.is
+
+  one_wider : (k : ℕ) (x : Option ℕ) → mask k ≡ x → open_mask n o.pool o.before k ≡ None → wide k ≡ Some (image k) → IsMaskedMore mask wide s.now.words k
+  one_wider k None free none is = inr (free, is)
+  one_wider k (Some v) given none is =
+      inl (masked_by_others k v (sym (masks_elsewhere number o others holds.opens was n mask rest_mask holds.masks masks_others k none) ∙ given) ∙ sym given)
+
+  -- they are those that were masked, with their values, and others, with what is read of them
+  wider_mask : (k : ℕ) → IsMaskedMore mask wide s.now.words k
+  wider_mask k = elim (mask_more w held mask s.now.words under.is e next_number sound owners listed k) [
+    | inl same ↦ inl (masks_changed number o more others holds.opens opens was then_one n mask wide rest_mask holds.masks masks_more masks_others k same)
+    | inr fresh ↦ one_wider k (mask k) refl fresh.0 (masks_more.has number more then_one.here k (image k) fresh.1)
+  ]
+
+  -- ---- the fresh words
+
+  no_record : (k : ℕ) → frames_at n ≤ k → (m : ℕ) (q : OpenTransaction) → holds.opens m ≡ Some q → is_open_record q.pool k ≡ false
+  no_record k above m q has = elim (cases_Bool (is_open_record q.pool k)) [
+    | inl of ↦
+        let opened = holds.are.pool m q has in
+        let below = (open_record_place n q.pool k opened.slot opened.known (open_on_device n q.pool q.before opened) of).high in
+        absurd (omega arith)
+    | inr other ↦ other
+  ]
+
+  of_no_other : (k : ℕ) → pool_mine n (held.at ++ e ∷ []) k ≡ true → pool_mine n held.at k ≡ false → (m : ℕ) (q : OpenTransaction) → holds.opens m ≡ Some q → pool_mine n q.pool.at k ≡ false
+  of_no_other k own other m q has = elim (cases_eq m number) [
+    | inl same ↦
+        let one : o ≡ q = same_Some o q (sym under.opened ∙ ap holds.opens (sym same) ∙ has) in
+        subst (λ (t : OpenTransaction). pool_mine n t.pool.at k ≡ false) one other
+    | inr apart ↦ (opens_apart n opens image are_more records_opened).each number m more q then_one.here (other_is m apart ∙ has) (λ same. apart (sym same)) k own
+  ]
+
+  no_log : (k : ℕ) → frames_at n ≤ k → (m : ℕ) (q : OpenTransaction) → holds.opens m ≡ Some q → is_in_log (log_number_at n m) k ≡ false
+  no_log k above m q has =
+      let known : m < ALL_LOGS = omega (arith, holds.are.number m q has, (holds.are.pool m q has).known) in
+      outside_log (log_number_at n m) k (inr (omega arith))
+
+  one_value : (k : ℕ) → pool_mine n (held.at ++ e ∷ []) k ≡ true → pool_mine n held.at k ≡ false → HasOnly (s.now.words k) (image k)
+  one_value k own other =
+      let low = (pool_mine-each n (held.at ++ e ∷ []) k own).low in
+      let above : frames_at n ≤ k = omega arith in
+      let none : mask k ≡ None =
+      masks_of_others n holds.opens mask holds.are holds.masks k (record { log = no_log k above; frames = of_no_other k own other }) (no_record k above) in
+      subst (λ (c : Cell). HasOnly c c.newest) (masked-elsewhere mask s.now.words k none) (rest.each k above)
+
+  -- ---- the next world
+
+  module _ (some : 1 ≤ length held.at) (fresh : IsFreshFrame n e.0 e.1.number (length held.at) image) (next : World) (grows : GrowsHeld w next held)
+      (keeps : (m : ℕ) (g : Held) → m ≢ number → held_under all m ≡ Some g → KeepsOne w next g) where
+    abbrev later : Held
+    later = with_one_more w held mask s.now.words under.is e
+
+    same_pool : StaysOpen held later
+    same_pool = record { client = refl; name = refl; slot = refl; number = refl; gate = refl }
+
+    it_has_more : IsHeld next later wide s.now.words
+    it_has_more =
+        held_more w held mask s.now.words under.is e next_number sound owners listed some fresh one_value next grows wide (λ k v is. masks_more.has number more then_one.here k v is)
+
+    other_stays : (m : ℕ) (g : Held) → m ≢ number → held_under all m ≡ Some g → IsHeldUnder next opens wide s.now.words m g
+    other_stays m g apart has =
+        let other = holds.each m g has in
+        let opened = other_is m apart ∙ other.opened in
+        record {
+          is = held_still w next g mask wide s s other.is (keeps m g apart has) (ByOthers mask) (others_apart w g mask s.now.words other.is) (Changes-still (ByOthers mask) None s s (λ cut. none-some Cut cut) refl)
+              (λ k v is. masks_more.has m (open_held g other.is.rec other.is.who other.is.before) opened k v is);
+          number_is = other.number_is;
+          opened = opened;
+        }
+
+    -- The next world holds it with that puddle, and the others as they are.
+    pub holds_more : Holds next (set all number (Some later)) wide s.now.words
+    unfolding it_has_more held_more
+    holds_more =
+        let back = sym grows.frames in
+        Holds-later all number held later there same_pool w next (subst (λ (t : List ℕ → Option Transaction). WereOpen w.transactions t) (sym grows.transactions) (WereOpen-same w.transactions))
+        mask wide s.now.words s.now.words holds opens (subst (λ (m : ℕ). AreOpenPools m opens) back are_more) (subst (λ (m : ℕ). MasksAll m opens wide) back masks_more)
+        (record { is = it_has_more; number_is = under.number_is; opened = then_one.here }) other_stays (λ m apart free. other_is m apart ∙ free)
+
+    pub sessions_more : (sessions : List (Option Session)) → HasSessions w all sessions → HasSessions next (set all number (Some later)) sessions
+    sessions_more sessions =
+        HasSessions-later all number held later there same_pool w next (subst (λ (t : List ℕ → Option Transaction). WereOpen w.transactions t) (sym grows.transactions) (WereOpen-same w.transactions)) sessions
+
+  -- What was so with the words masked is so with those of that puddle masked too.
+  pub settled_more : (size : ℕ) (next : StoredWorld) → IsSettled size next (masked mask s.now.words) → IsSettled size next (masked wide s.now.words)
+  settled_more size next settled = record {
+    stands = λ image picked. settled.stands image (record { each = λ k. masked_more mask wide s.now.words k (image k) (wider_mask k) (picked.each k) });
+    idle = λ v had. settled.idle v (masked_more mask wide s.now.words DAEMON_LOG v (wider_mask DAEMON_LOG) had);
+  }
+
+  pub rest_more : HasDurableFrames n (masked wide s.now.words)
+  rest_more = record { each = λ k above. one_more mask wide s.now.words k (wider_mask k) (rest.each k above) }
+
+  pub logs_more : (m : ℕ) (clients : ℕ → Option Owner) → HasIdleLogs m clients (masked mask s.now.words) → HasIdleLogs m clients (masked wide s.now.words)
+  logs_more m clients logs = record {
+    each = λ client i known below present.
+        let gate = log_at m client i in
+        record { each = λ v had. (logs.each client i known below present).each v (masked_more mask wide s.now.words gate v (wider_mask gate) had) };
+  }

@@ -15,10 +15,9 @@ use Rattle.pud_defs.specs.World.{World}
 use Rattle.registry.specs.Growth.{has_room}
 use Rattle.puddled.specs.Memory.{Held}
 
--- It is the same client's, begun as often, on the pool of the same name in the same slot, and has the same log.
+-- It is the same client's, on the pool of the same name in the same slot, and has the same log.
 pub record StaysOpen (old new : Held) : Type 0 where
   pub client : new.client ≡ old.client
-  pub depth : new.depth ≡ old.depth
   pub name : new.name ≡ old.name
   pub slot : new.slot ≡ old.slot
   pub number : new.number ≡ old.number

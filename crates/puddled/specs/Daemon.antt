@@ -31,7 +31,7 @@ use Rattle.recover.specs.declared.judge.Mark.TheVariants.{Closed}
 use Rattle.recover.specs.Verdicts.{is_refused_mark}
 use Rattle.recover.specs.Recovery.{DiffersByRecovery}
 use Rattle.puddled.specs.Memory.{Memory}
-use Rattle.puddled.specs.Held.{Holds, HasDurableFrames, HasIdleLogs, IsBeside}
+use Rattle.puddled.specs.Held.{Holds, HasSessions, HasDurableFrames, HasIdleLogs, IsBeside}
 use Rattle.puddled.specs.KnownPools.{KnowsPools}
 use Rattle.puddled.specs.declared.answers.Answered.{Answered}
 use Rattle.puddled.specs.Answered.{answer_of}
@@ -50,11 +50,11 @@ pub record KeepsLine (file : Option (List ℕ)) (old new : State) : Type 0 where
   pub script : new.script ≡ old.script
   pub files : KeepsFiles file old.shelf new.shelf
 
--- What the daemon needs of a device between two lines. With the words masked of the transaction that it holds each image that may be left
+-- What the daemon needs of a device between two lines. With the words masked of the transactions that it holds each image that may be left
 -- stands for the closed world with nothing under way, each registered log and the daemon log closed in it, and the daemon log counts no word. The
 -- tables are durable, and what is read of them has the clients that are present. Masked, each word of the frames has one value, and each log of a
--- client that is present counts nothing. The number of frames is the one that the daemon holds, and the shelf is the world's. What it knows of pools
--- that it judged is what a scan gives, and nothing of the one on which the transaction is open.
+-- client that is present counts nothing. The number of frames is the one that the daemon holds, and the shelf is the world's. Each transaction has its
+-- session. What it knows of pools that it judged is what a scan gives, and nothing of those on which a transaction is open.
 pub record IsReady (size : ℕ) (w : World) (memory : Memory) (s : State) : Type 0 where
   pub mask : Write
   pub settled : IsSettled size (closed w) (masked mask s.now.words)
@@ -63,6 +63,7 @@ pub record IsReady (size : ℕ) (w : World) (memory : Memory) (s : State) : Type
   pub frames : memory.frames ≡ w.stored.frames
   pub shelf : s.shelf ≡ w.shelf
   pub held : Holds w memory.held mask s.now.words
+  pub sessions : HasSessions w memory.held memory.sessions
   pub rest : HasDurableFrames w.stored.frames (masked mask s.now.words)
   pub logs : HasIdleLogs w.stored.frames w.clients (masked mask s.now.words)
   pub knows : KnowsPools w.stored.frames memory.judged memory.held (reads s.now.words)

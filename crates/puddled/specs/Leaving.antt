@@ -1,25 +1,21 @@
--- What is left of what is held, and of the world, once a client's own transaction is undone.
-use Rattle.std.specs.Prelude.{ℕ, ◌≤◌, Bool, false, ◌==◌, cond, List, Option, Some, None}
+-- What is left in memory, and of the world, once transactions have ended.
+use Rattle.std.specs.Prelude.{ℕ, ◌≤◌, List, set, Option, Some, None}
 use Rattle.pm_model.specs.Changes.{Footprint}
-use Rattle.pud_defs.specs.declared.records.Puddle.{Puddle}
 use Rattle.pud_defs.specs.Layout.{tables_end}
-use Rattle.pud_defs.specs.Transactions.{without_client}
+use Rattle.pud_defs.specs.Transactions.{with_open, without_client}
 use Rattle.pud_defs.specs.World.{World}
-use Rattle.puddled.specs.Beginning.{judged_behind}
+use Rattle.nesting.specs.declared.Session.{Session}
 use Rattle.puddled.specs.Memory.{Held}
 
--- what is held is this client's
-abbrev pub is_held_by : (client : ℕ) → Option Held → Bool
-is_held_by client None = false
-is_held_by client (Some held) = held.client == client
+-- the sessions, without that of this one
+abbrev pub sessions_behind : Option Held → List (Option Session) → List (Option Session)
+sessions_behind None sessions = sessions
+sessions_behind (Some held) sessions = set sessions held.slot None
 
--- what is held still
-abbrev pub held_without : (client : ℕ) → Option Held → Option Held
-held_without client held = cond (is_held_by client held) None held
-
--- what is known of pools then
-abbrev pub judged_without : (client : ℕ) → Option Held → List (Option (List (ℕ × Puddle))) → List (Option (List (ℕ × Puddle)))
-judged_without client held judged = cond (is_held_by client held) (judged_behind held judged) judged
+-- the world in which this one is not open
+abbrev pub world_without_log : Option Held → World → World
+world_without_log None w = w
+world_without_log (Some held) w = record w { transactions = with_open held.name None w.transactions }
 
 -- the world in which none of the client's is open
 abbrev pub world_without : (client : ℕ) → World → World

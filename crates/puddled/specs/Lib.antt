@@ -1,5 +1,6 @@
 pub mod Memory
 pub mod Held
+pub mod Holding
 pub mod Defined
 pub mod Answered
 pub mod Owning

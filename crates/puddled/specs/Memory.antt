@@ -1,13 +1,13 @@
 -- What the daemon holds in memory between two lines.
-use Rattle.std.specs.Prelude.{ℕ, List, Option}
+use Rattle.std.specs.Prelude.{ℕ, List, set, slice_index_or, Option, None}
 use Rattle.pud_defs.specs.declared.records.Puddle.{Puddle}
 use Rattle.log_store.specs.Store.{OpenLog}
+use Rattle.nesting.specs.declared.Session.{Session}
 
--- A transaction that is open: whose it is, how often it was begun, the name of its pool, the slot of the pool's record, the pool's puddles by
--- their ordinals, each with its frame, the number of its log among those of all clients, and that log.
+-- A transaction that is open: whose it is, the name of its pool, the slot of the pool's record, the pool's puddles by their ordinals, each with its
+-- frame, the number of its log among those of all clients, and that log.
 pub record Held : Type 0 where
   pub client : ℕ
-  pub depth : ℕ
   pub name : List ℕ
   pub slot : ℕ
   pub at : List (ℕ × Puddle)
@@ -17,7 +17,17 @@ pub record Held : Type 0 where
 pub record Memory : Type 0 where
   -- how many frames the device has, as the start found it
   pub frames : ℕ
-  -- the transaction that is open, where one is
-  pub held : Option Held
+  -- the transactions that are open, by the numbers of their logs
+  pub held : List (Option Held)
+  -- whose transaction is open on a pool, and how often it was begun, by the slots of the pools' records
+  pub sessions : List (Option Session)
   -- the puddles of pools that have a graph, by the slots of the pools' records, as far as they were asked for
   pub judged : List (Option (List (ℕ × Puddle)))
+
+-- the transaction that is open with the log of this number
+abbrev pub held_under : List (Option Held) → (number : ℕ) → Option Held
+held_under held number = slice_index_or held number None
+
+-- the memory with this transaction under its number, or with none there
+abbrev pub with_held : (number : ℕ) → Option Held → Memory → Memory
+with_held number now memory = record memory { held = set memory.held number now }

@@ -1,5 +1,5 @@
 -- What the daemon finds of a pool, and what is replied by what became of it.
-use Rattle.std.specs.Prelude.{◌≡◌, ℕ, ◌==◌, cond, List, bytes_eq, Option, Some, None, option_map, Result, Ok, Err}
+use Rattle.std.specs.Prelude.{◌≡◌, ℕ, ◌==◌, cond, List, Option, Some, None, Result, Ok, Err}
 use Rattle.pm_model.specs.declared.host.HostFault.{HostFault}
 use Rattle.pud_defs.specs.declared.records.PoolRec.{PoolRec}
 use Rattle.pud_defs.specs.declared.machine.Reply.{Reply}
@@ -10,7 +10,6 @@ use Rattle.pud_defs.specs.Image.{Image}
 use Rattle.pud_defs.specs.Tables.{tables_of}
 use Rattle.registry.specs.declared.making.MakeFault.{MakeFault}
 use Rattle.registry.specs.declared.making.MakeFault.TheVariants as faults
-use Rattle.puddled.specs.Memory.{Held}
 
 -- what is replied to the making of a pool, by what became of it
 abbrev pub reply_of_making : Result (Unit {0}) MakeFault → Result Reply HostFault
@@ -24,15 +23,6 @@ reply_of_making (Err (faults.Host fault)) = Err fault
 abbrev pub refusal_found : {A : Type 0} → Result A Refusal → Option Refusal
 refusal_found (Ok found) = None
 refusal_found (Err refusal) = Some refusal
-
--- whose transaction is open, and on the pool of which name
-abbrev pub holder_of : Option Held → Option (ℕ × List ℕ)
-holder_of held = option_map (λ h. (h.client, h.name)) held
-
--- the client whose transaction is open on the pool of the name
-abbrev pub opened_by : Option (ℕ × List ℕ) → List ℕ → Option ℕ
-opened_by None name = None
-opened_by (Some holder) name = cond (bytes_eq name holder.1) (Some holder.0) None
 
 -- why a client may not change a pool on which the transaction of this one is open: it is its own, or another's
 abbrev pub refusal_beside : Option ℕ → (client : ℕ) → Option Refusal

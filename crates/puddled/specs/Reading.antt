@@ -1,5 +1,5 @@
 -- Why a client may not read a pool, and what is replied to a line that reads a field.
-use Rattle.std.specs.Prelude.{◌≡◌, ℕ, Bool, not, cond, List, [], Option, Some, None, is_some, is_none, option_map, unwrap_or, slice_index_or, Result, Ok, Err}
+use Rattle.std.specs.Prelude.{◌≡◌, ◌⊎◌, ℕ, Bool, true, false, not, cond, List, [], Option, Some, None, is_some, is_none, option_map, unwrap_or, slice_index_or, Result, Ok, Err}
 use Rattle.pud_defs.specs.declared.objects.Val.TheVariants.{Num, Ref}
 use Rattle.pud_defs.specs.declared.records.Puddle.{Puddle}
 use Rattle.pud_defs.specs.declared.machine.Reply.{Reply}
@@ -19,7 +19,8 @@ use Rattle.pud_defs.specs.Step.{reads, graph_in, graph_seen}
 use Rattle.graph_read.specs.declared.fields.FieldRead.{FieldRead}
 use Rattle.graph_read.specs.declared.fields.FieldRead.TheVariants.{NoObject, NoField, Value}
 use Rattle.puddled.specs.Memory.{Held}
-use Rattle.puddled.specs.Owning.{opened_by}
+use Rattle.puddled.specs.Holding.{IsOwnOn}
+use Rattle.puddled.specs.declared.reading.Readable.{Readable}
 
 -- why this pool is not read for a client that acts so, where this is open on it: no one does, there is no pool, it is wild, its mode is against it, or
 -- the transaction is another's
@@ -35,16 +36,11 @@ reading_refusal who found client opened =
 abbrev pub refusal_to_read : World → (client : ℕ) → List ℕ → Option Refusal
 refusal_to_read w client name = reading_refusal (w.clients client) (pool_named name w.stored) client (w.transactions name)
 
--- ---- what is held, as a line that reads is told of it
+-- ---- a pool on which a transaction is open
 
--- the puddles of its pool
-abbrev pub puddles_held : Option Held → List (ℕ × Puddle)
-puddles_held None = []
-puddles_held (Some held) = held.at
-
--- a pool on which a transaction is open is read as it has it, where the mode allows it and the transaction is the client's own
-abbrev pub reading_open : (right own : Bool) → Result (Option ℕ) Refusal
-reading_open right own = cond (not right) (Err refusals.Denied) (cond (not own) (Err refusals.Busy) (Ok None))
+-- it is read as the transaction has it, where the mode allows it and the transaction is the client's own
+abbrev pub reading_open : (slot : ℕ) (right own : Bool) → Result Readable Refusal
+reading_open slot right own = cond (not right) (Err refusals.Denied) (cond (not own) (Err refusals.Busy) (Ok (record { slot = slot; is_open = true })))
 
 -- ---- what is read
 
@@ -60,11 +56,11 @@ pub record HoldsGraph (w : World) (F : ℕ) (name : List ℕ) (image : Image) (p
   pub stored : graph_of (types_of image) (stored_in F puddles image) ≡ Some graph
   pub is : graph_seen (w.transactions name) (pool_named name w.stored) ≡ Some graph
 
--- the puddles that are known of the pool in the slot that was found hold the pool's graph, or none was found, since the client's own transaction is open on
--- the pool
-abbrev pub HoldsFound : World → ℕ → Option (ℕ × List ℕ) → (client : ℕ) → List ℕ → Image → List (Option (List (ℕ × Puddle))) → Option ℕ → Type 0
-HoldsFound w F held client name image judged None = opened_by held name ≡ Some client
-HoldsFound w F held client name image judged (Some slot) = HoldsGraph w F name image (unwrap_or (slice_index_or judged slot None) [])
+-- What was found of a pool that is to be read: the client's own transaction is open on it, or its puddles are known and hold its graph.
+abbrev pub HoldsFound : World → ℕ → List (Option Held) → (client : ℕ) → List ℕ → Image → List (Option (List (ℕ × Puddle))) → Readable → Type 0
+HoldsFound w F held client name image judged found =
+    ((found.is_open ≡ true) × (number : ℕ) × IsOwnOn client name found.slot number held)
+    ⊎ ((found.is_open ≡ false) × HoldsGraph w F name image (unwrap_or (slice_index_or judged found.slot None) []))
 
 -- what is replied, by what was read of a field
 abbrev pub reply_of_read : FieldRead → Reply

@@ -1,22 +1,24 @@
--- Why a line of a transaction is refused, by what was read for it, and what was found of one that is to begin.
-use Rattle.std.specs.Prelude.{◌≡◌, ◌+◌, ◌<◌, ℕ, Bool, true, not, nat_le, nat_lt, cond, List, [], is_some, unwrap_or, Option, Some, None}
-use Rattle.pud_defs.specs.declared.layout.TheConstants.{LOG_ENTRY_WORDS, MAX_DEPTH, SET_UNITS}
+-- Why a line of a transaction is refused, by what was read for it, and what was found of the client's own.
+use Rattle.std.specs.Prelude.{◌≡◌, ◌+◌, ◌<◌, ℕ, Bool, true, not, nat_lt, cond, List, is_none, is_some, option_map, Option, Some, None, Result, Ok, Err}
+use Rattle.pud_defs.specs.declared.layout.TheConstants.{LOG_ENTRY_WORDS, SET_UNITS}
 use Rattle.pud_defs.specs.declared.records.TheConstants.{POOL_RECORDS}
-use Rattle.pud_defs.specs.declared.records.Puddle.{Puddle}
 use Rattle.pud_defs.specs.declared.objects.Val.{Val}
 use Rattle.pud_defs.specs.declared.machine.Refusal.{Refusal}
 use Rattle.pud_defs.specs.declared.machine.Refusal.TheVariants as refusals
-use Rattle.pud_defs.specs.Image.{Image}
-use Rattle.pud_defs.specs.Step.{are_of_two_kinds}
+use Rattle.pud_defs.specs.PoolChanges.{pool_named}
+use Rattle.pud_defs.specs.Settled.{ALL_LOGS}
+use Rattle.pud_defs.specs.Spaces.{Owner}
+use Rattle.pud_defs.specs.Step.{are_of_two_kinds, graph_in, writes}
+use Rattle.pud_defs.specs.Tables.{Pool}
+use Rattle.pud_defs.specs.Transactions.{is_others}
+use Rattle.pud_defs.specs.World.{Transaction, World}
 use Rattle.graph_read.specs.declared.fields.FieldRead.{FieldRead}
 use Rattle.graph_read.specs.declared.fields.FieldRead.TheVariants.{NoObject, NoField, Value}
-use Rattle.log_space.specs.FreeLogs.{IsLogOf}
-use Rattle.puddled.specs.declared.refusals.Beginning.{Beginning}
-use Rattle.puddled.specs.declared.refusals.Beginning.TheVariants.{Refused, Deeper, Anew}
-use Rattle.puddled.specs.Memory.{Held}
-use Rattle.puddled.specs.Held.{IsOwn}
-use Rattle.puddled.specs.Judged.{known_in}
-use Rattle.puddled.specs.Beginning.{MayBegin}
+use Rattle.nesting.specs.declared.EnterFault.{EnterFault}
+use Rattle.nesting.specs.declared.EnterFault.TheVariants.{Deep, Logs}
+use Rattle.nesting.specs.Sessions.{client_in, session_in}
+use Rattle.puddled.specs.declared.refusals.Own.{Own}
+use Rattle.puddled.specs.Memory.{Memory, held_under}
 
 -- why a line on an open transaction is refused before what it asks is looked at: it is another client's
 abbrev pub busy_unless : (own : Bool) → Option Refusal
@@ -32,40 +34,32 @@ field_refusal (Value was) x units = cond (are_of_two_kinds (Some was) x) (Some r
 abbrev pub refusal_to_set : (missed : Bool) → FieldRead → Val → (units : ℕ) → Option Refusal
 refusal_to_set missed read x units = cond missed (Some refusals.Object) (field_refusal read x units)
 
--- ---- what was found of a beginning
+-- why no transaction of the client begins on this pool, whatever it has open, where this is open on it: no one acts as the client, there is no
+-- pool, it is wild, its mode is against it, or the transaction is another's
+abbrev pub writing_refusal : Option Owner → Option Pool → (client : ℕ) → Option Transaction → Option Refusal
+writing_refusal who found client opened =
+    cond (not (is_some who)) (Some refusals.Client)
+    (cond (is_none found) (Some refusals.Pool)
+    (cond (is_none (graph_in found)) (Some refusals.Wild)
+    (cond (not (writes who found)) (Some refusals.Denied)
+    (cond (is_others client opened) (Some refusals.Busy) None))))
 
--- why none is to begin
-abbrev pub refusal_in : Beginning → Option Refusal
-refusal_in (Refused refusal) = Some refusal
-refusal_in Deeper = None
-refusal_in (Anew slot number) = None
+-- the same of a client and a name
+abbrev pub refusal_to_write : World → (client : ℕ) → List ℕ → Option Refusal
+refusal_to_write w client name = writing_refusal (w.clients client) (pool_named name w.stored) client (w.transactions name)
 
--- what is found where a transaction is open on the pool, by whether the mode allows the client to write, whether it is the client's own and how often
--- it was begun
-abbrev pub beginning_beside : (right own : Bool) → (depth : ℕ) → Beginning
-beginning_beside right own depth =
-    cond (not right) (Refused refusals.Denied) (cond (not own) (Refused refusals.Busy) (cond (nat_le MAX_DEPTH depth) (Refused refusals.Deep) Deeper))
+-- the slot that was found, where a transaction is open on the pool: by whether the mode allows the client to write, and whether it is the client's own
+abbrev pub writing_open : (slot : ℕ) (right own : Bool) → Result ℕ Refusal
+writing_open slot right own = cond (not right) (Err refusals.Denied) (cond (not own) (Err refusals.Busy) (Ok slot))
 
--- the client's own transaction is open on the pool of the name, and was not begun as often as it may be
-pub record IsOwnBelow (client : ℕ) (name : List ℕ) (held : Option Held) : Type 0 where
-  pub own : IsOwn client name held
-  pub below : own.mine.depth < MAX_DEPTH
+-- why the session of a transaction does not begin, or is not one deeper
+abbrev pub refusal_to_enter : EnterFault → Refusal
+refusal_to_enter Deep = refusals.Deep
+refusal_to_enter Logs = refusals.Logs
 
--- none is open; the pool in the slot is one of the table, and known to have a graph; and the log is one of the client's
-pub record IsAnew (client slot number : ℕ) (held : Option Held) (judged : List (Option (List (ℕ × Puddle)))) : Type 0 where
-  pub none : held ≡ None
-  pub below : slot < POOL_RECORDS
-  pub whose : IsLogOf client number
-  pub known : true ≡ is_some (known_in judged slot)
-
--- what holds of what was found, on any device
-abbrev pub FindsBeginning : (client : ℕ) → List ℕ → Option Held → List (Option (List (ℕ × Puddle))) → Beginning → Type 0
-FindsBeginning client name held judged (Refused refusal) = Unit {0}
-FindsBeginning client name held judged Deeper = IsOwnBelow client name held
-FindsBeginning client name held judged (Anew slot number) = IsAnew client slot number held judged
-
--- and on one that is ready
-abbrev pub MayBeginAnew : (F client : ℕ) → List ℕ → Image → List (Option (List (ℕ × Puddle))) → Beginning → Type 0
-MayBeginAnew F client name image judged (Refused refusal) = Unit {0}
-MayBeginAnew F client name image judged Deeper = Unit {0}
-MayBeginAnew F client name image judged (Anew slot number) = MayBegin F client name image slot number (unwrap_or (known_in judged slot) [])
+-- What was found of the client's own transaction lies within the tables, and is the client's by its session.
+pub record FindsOwn (client : ℕ) (memory : Memory) (own : Own) : Type 0 where
+  pub slot : own.slot < POOL_RECORDS
+  pub number : own.number < ALL_LOGS
+  pub whose : option_map client_in (session_in memory.sessions own.slot) ≡ Some client
+  pub there : true ≡ is_some (held_under memory.held own.number)

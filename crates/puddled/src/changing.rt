@@ -1,4 +1,4 @@
-//! What the transaction that is held changes of its pool: a field is set, and an object is made.
+//! What a transaction that is open changes of its pool: a field is set, and an object is made.
 ghost use Rattle.std.specs.Prelude.{◌≡◌, ◌≢◌, ◌+◌, ◌<◌, ◌≤◌, ℕ, true, false, is_some, length, Option, IfOk, IfNone};
 ghost use Rattle.pm_model.specs.Words.{IsRested, reads};
 ghost use Rattle.pm_model.specs.Counts.{after_fault, fault_of};
@@ -17,7 +17,7 @@ ghost use Rattle.pud_defs.specs.Step.{refusal_of, after, graph_seen, next_in, gr
 ghost use Rattle.pud_defs.specs.Step.Answer.{of_reply};
 ghost use Rattle.pud_defs.specs.World.{World};
 ghost use Rattle.hybrid_tx.specs.Grounds.{IsRewritten};
-ghost use Rattle.puddled.specs.Memory.{Memory};
+ghost use Rattle.puddled.specs.Memory.{Memory, held_under, with_held};
 ghost use Rattle.puddled.specs.Held.{IsHeldWithin};
 ghost use Rattle.puddled.specs.Changing.{StaysOpen, refusal_to_make, refusal_to_grow, refusal_by_tables, refusal_by_world, with_more, with_made};
 ghost use Rattle.puddled.specs.Daemon.{KeepsRest, IsReady, Applies};
@@ -128,9 +128,9 @@ impl Opened {
         requires within { IsHeldWithin frames self.old }
         requires field { f < MAX_FIELDS }
         requires units { (self.old).log.used + SET_UNITS ≤ LOG_ENTRY_WORDS }
-        ensures applies { H.tells → (size : ℕ) → size ≡ (H.counts h.old).size → (w : World) → (memory : Memory) → memory.frames ≡ frames → memory.held ≡ Option.Some self.old
+        ensures applies { H.tells → (size : ℕ) → size ≡ (H.counts h.old).size → (w : World) → (memory : Memory) → memory.frames ≡ frames → held_under memory.held (self.old).number ≡ Option.Some self.old
             → IsReady size w memory (H.state h.old) → IsRewritten (self.old).at → refusal_of w (commands.Set (self.old).client (self.old).name s f x) ≡ Option.None
-            → Applies size w (after w (commands.Set (self.old).client (self.old).name s f x)) (record memory { held = Option.Some self.new }) (fault_of result) (H.state h.old) (H.state h.new) }
+            → Applies size w (after w (commands.Set (self.old).client (self.old).name s f x)) (with_held (self.old).number (Option.Some self.new) memory) (fault_of result) (H.state h.old) (H.state h.new) }
         ensures within { IsHeldWithin frames self.new }
         ensures stays { StaysOpen self.old self.new }
         ensures puddles { self.new.at ≡ self.old.at }
@@ -198,13 +198,13 @@ impl Opened {
         requires room { device_words frames ≤ (H.counts h.old).size }
         requires within { IsHeldWithin frames self.old }
         requires units { (self.old).log.used + NEW_UNITS ≤ LOG_ENTRY_WORDS }
-        ensures makes { H.tells → (size : ℕ) → (w : World) → (memory : Memory) → memory.frames ≡ frames → memory.held ≡ Option.Some self.old
+        ensures makes { H.tells → (size : ℕ) → (w : World) → (memory : Memory) → memory.frames ≡ frames → held_under memory.held (self.old).number ≡ Option.Some self.old
             → IsReady size w memory (H.state h.old) → refusal_by_world w self.old t ≡ Option.None → grows w (self.old).name ≡ false
-            → Applies size w (with_made (self.old).name t w) (record memory { held = Option.Some self.new }) (fault_of result) (H.state h.old) (H.state h.new) }
-        ensures serial { H.tells → (size : ℕ) → (w : World) → (memory : Memory) → memory.frames ≡ frames → memory.held ≡ Option.Some self.old
+            → Applies size w (with_made (self.old).name t w) (with_held (self.old).number (Option.Some self.new) memory) (fault_of result) (H.state h.old) (H.state h.new) }
+        ensures serial { H.tells → (size : ℕ) → (w : World) → (memory : Memory) → memory.frames ≡ frames → held_under memory.held (self.old).number ≡ Option.Some self.old
             → IsReady size w memory (H.state h.old) → grows w (self.old).name ≡ false
             → IfOk result (λ serial. serial ≡ next_in (graph_seen (w.transactions (self.old).name) (pool_named (self.old).name w.stored))) }
-        ensures full { H.tells → (size : ℕ) → (w : World) → (memory : Memory) → memory.frames ≡ frames → memory.held ≡ Option.Some self.old
+        ensures full { H.tells → (size : ℕ) → (w : World) → (memory : Memory) → memory.frames ≡ frames → held_under memory.held (self.old).number ≡ Option.Some self.old
             → IsReady size w memory (H.state h.old) → grows w (self.old).name ≡ true
             → IfOk result (λ serial. serial ≡ 0) × (H.state h.new ≡ H.state h.old) × (self.new ≡ self.old) }
         ensures within { IsHeldWithin frames self.new }
@@ -223,10 +223,10 @@ impl Opened {
         requires few { frames ≤ MAX_FRAMES }
         requires room { device_words frames ≤ (H.counts h.old).size }
         requires within { IsHeldWithin frames self.old }
-        ensures grows { H.tells → (size : ℕ) → size ≡ (H.counts h.old).size → (w : World) → (memory : Memory) → memory.frames ≡ frames → memory.held ≡ Option.Some self.old
+        ensures grows { H.tells → (size : ℕ) → size ≡ (H.counts h.old).size → (w : World) → (memory : Memory) → memory.frames ≡ frames → held_under memory.held (self.old).number ≡ Option.Some self.old
             → IsReady size w memory (H.state h.old)
             → refusal_by_tables frames self.old (reads (H.state h.old).now.words) ≡ Option.None
-            → Applies size w (with_more (self.old).name w) (record memory { held = Option.Some self.new }) (fault_of result) (H.state h.old) (H.state h.new) }
+            → Applies size w (with_more (self.old).name w) (with_held (self.old).number (Option.Some self.new) memory) (fault_of result) (H.state h.old) (H.state h.new) }
         ensures within { IsHeldWithin frames self.new }
         ensures stays { StaysOpen self.old self.new }
         ensures log { self.new.log ≡ self.old.log }
@@ -244,12 +244,12 @@ impl Opened {
         requires few { frames ≤ MAX_FRAMES }
         requires room { device_words frames ≤ (H.counts h.old).size }
         requires within { IsHeldWithin frames self.old }
-        ensures reply { H.tells → (size : ℕ) → size ≡ (H.counts h.old).size → (w : World) → (memory : Memory) → memory.frames ≡ frames → memory.held ≡ Option.Some self.old
+        ensures reply { H.tells → (size : ℕ) → size ≡ (H.counts h.old).size → (w : World) → (memory : Memory) → memory.frames ≡ frames → held_under memory.held (self.old).number ≡ Option.Some self.old
             → IsReady size w memory (H.state h.old) → refusal_by_world w self.old t ≡ Option.None → grows w (self.old).name ≡ true
             → IfOk result (λ reply. of_reply reply ≡ answer_by w (Option.Some (commands.New (self.old).client (self.old).name t))) }
-        ensures applies { H.tells → (size : ℕ) → size ≡ (H.counts h.old).size → (w : World) → (memory : Memory) → memory.frames ≡ frames → memory.held ≡ Option.Some self.old
+        ensures applies { H.tells → (size : ℕ) → size ≡ (H.counts h.old).size → (w : World) → (memory : Memory) → memory.frames ≡ frames → held_under memory.held (self.old).number ≡ Option.Some self.old
             → IsReady size w memory (H.state h.old) → refusal_by_world w self.old t ≡ Option.None → grows w (self.old).name ≡ true
-            → Applies size w (world_by w (Option.Some (commands.New (self.old).client (self.old).name t))) (record memory { held = Option.Some self.new }) (fault_of result)
+            → Applies size w (world_by w (Option.Some (commands.New (self.old).client (self.old).name t))) (with_held (self.old).number (Option.Some self.new) memory) (fault_of result)
             (H.state h.old) (H.state h.new) }
         ensures within { IsHeldWithin frames self.new }
         ensures stays { StaysOpen self.old self.new }
@@ -278,11 +278,11 @@ impl Opened {
         requires few { frames ≤ MAX_FRAMES }
         requires room { device_words frames ≤ (H.counts h.old).size }
         requires within { IsHeldWithin frames self.old }
-        ensures reply { H.tells → (size : ℕ) → size ≡ (H.counts h.old).size → (w : World) → (memory : Memory) → memory.frames ≡ frames → memory.held ≡ Option.Some self.old
+        ensures reply { H.tells → (size : ℕ) → size ≡ (H.counts h.old).size → (w : World) → (memory : Memory) → memory.frames ≡ frames → held_under memory.held (self.old).number ≡ Option.Some self.old
             → IsReady size w memory (H.state h.old) → IfOk result (λ reply. of_reply reply ≡ answer_by w (Option.Some (commands.New (self.old).client (self.old).name t))) }
-        ensures applies { H.tells → (size : ℕ) → size ≡ (H.counts h.old).size → (w : World) → (memory : Memory) → memory.frames ≡ frames → memory.held ≡ Option.Some self.old
+        ensures applies { H.tells → (size : ℕ) → size ≡ (H.counts h.old).size → (w : World) → (memory : Memory) → memory.frames ≡ frames → held_under memory.held (self.old).number ≡ Option.Some self.old
             → IsReady size w memory (H.state h.old)
-            → Applies size w (world_by w (Option.Some (commands.New (self.old).client (self.old).name t))) (record memory { held = Option.Some self.new }) (fault_of result)
+            → Applies size w (world_by w (Option.Some (commands.New (self.old).client (self.old).name t))) (with_held (self.old).number (Option.Some self.new) memory) (fault_of result)
             (H.state h.old) (H.state h.new) }
         ensures within { IsHeldWithin frames self.new }
         ensures stays { StaysOpen self.old self.new }

@@ -1,5 +1,5 @@
 //! Clients that come and go.
-ghost use Rattle.std.specs.Prelude.{◌≡◌, ◌⊎◌, ◌<◌, ◌≤◌, ℕ, true, IfOk, is_some, Option};
+ghost use Rattle.std.specs.Prelude.{◌≡◌, ◌<◌, ◌≤◌, ℕ, true, IfOk, is_some, Option};
 ghost use Rattle.pm_model.specs.Words.{IsRested};
 ghost use Rattle.pm_model.specs.Counts.{after_fault, fault_of};
 ghost use Rattle.pud_defs.specs.declared.layout.TheConstants.{CLIENTS, MAX_OWNER_ID, MAX_FRAMES};
@@ -10,7 +10,6 @@ ghost use Rattle.pud_defs.specs.Step.Answer.{of_reply};
 ghost use Rattle.pud_defs.specs.declared.machine.Command.TheVariants as commands;
 ghost use Rattle.puddled.specs.Memory.{Memory};
 ghost use Rattle.puddled.specs.Held.{IsOthers};
-ghost use Rattle.puddled.specs.Leaving.{held_without, judged_without};
 ghost use Rattle.puddled.specs.Daemon.{KeepsRest, IsReady, Applies, ClosesBefore};
 
 use crate::daemon::Daemon;
@@ -83,8 +82,8 @@ fn dismiss<H: Host>(h: &mut H, frames: u32, client: u32) -> Result<(), HostFault
 }
 
 impl Daemon {
-    /// Undoes the client's own transaction, where one is held, closes its logs, and then registers them no more.
-    fn let_go<H: Host>(&mut self, h: &mut H, client: u32) -> Result<(), HostFault>
+    /// Undoes the client's own transactions, closes its logs, and then registers them no more.
+    fn let_go<H: Host>(&mut self, h: &mut H, client: u8) -> Result<(), HostFault>
         requires known { client < CLIENTS }
         requires room { device_words (self.old).frames ≤ (H.counts h.old).size }
         ensures applies { H.tells → (size : ℕ) → size ≡ (H.counts h.old).size → (w : World) → IsReady size w self.old (H.state h.old)
@@ -92,20 +91,18 @@ impl Daemon {
         // Its logs are closed in each image in which its record is free, or the daemon log gives it a value.
         ensures closes_first { H.tells → (size : ℕ) → size ≡ (H.counts h.old).size → (w : World) → IsReady size w self.old (H.state h.old)
             → true ≡ is_some (w.clients client) → ClosesBefore w.stored.frames client (H.state h.old) (H.state h.new) }
-        ensures held { (self.new).held ≡ held_without client (self.old).held }
-        ensures judged { (self.new).judged ≡ judged_without client (self.old).held (self.old).judged }
         ensures frames { (self.new).frames ≡ (self.old).frames }
         ensures rest { H.tells → KeepsRest (H.state h.old) (H.state h.new) }
         ensures rests { H.tells → fault_of result ≡ Option.Some HostFault.Cut → IsRested (H.state h.new).now.words }
         ensures cause { H.counts h.new ≡ after_fault (fault_of result) (H.counts h.old) }
     {
         self.undo_of(h, client)?;
-        dismiss(h, self.frames, client)
+        dismiss(h, self.frames, u32::from(client))
     }
 
-    /// Lets the client go, or refuses to. Its own transaction is undone, where one is held, and its logs are closed durably before they are
-    /// registered no more. A refused one changes nothing.
-    pub(crate) fn leave<H: Host>(&mut self, h: &mut H, client: u32) -> Result<Reply, HostFault>
+    /// Lets the client go, or refuses to. Its own transactions are undone, and its logs are closed durably before they are registered no more. A
+    /// refused one changes nothing.
+    pub(crate) fn leave<H: Host>(&mut self, h: &mut H, client: u8) -> Result<Reply, HostFault>
         requires known { client < CLIENTS }
         requires room { device_words (self.old).frames ≤ (H.counts h.old).size }
         ensures reply { H.tells → (size : ℕ) → size ≡ (H.counts h.old).size → (w : World) → IsReady size w self.old (H.state h.old)
@@ -115,14 +112,12 @@ impl Daemon {
         // Its logs are closed in each image in which its record is free, or the daemon log gives it a value.
         ensures closes_first { H.tells → (size : ℕ) → size ≡ (H.counts h.old).size → (w : World) → IsReady size w self.old (H.state h.old)
             → true ≡ is_some (w.clients client) → ClosesBefore w.stored.frames client (H.state h.old) (H.state h.new) }
-        ensures held { ((self.new).held ≡ (self.old).held) ⊎ ((self.new).held ≡ held_without client (self.old).held) }
-        ensures judged { ((self.new).judged ≡ (self.old).judged) ⊎ ((self.new).judged ≡ judged_without client (self.old).held (self.old).judged) }
         ensures frames { (self.new).frames ≡ (self.old).frames }
         ensures rest { H.tells → KeepsRest (H.state h.old) (H.state h.new) }
         ensures rests { H.tells → fault_of result ≡ Option.Some HostFault.Cut → IsRested (H.state h.new).now.words }
         ensures cause { H.counts h.new ≡ after_fault (fault_of result) (H.counts h.old) }
     {
-        if !is_registered(h, client)? {
+        if !is_registered(h, u32::from(client))? {
             return Ok(Reply::No(Refusal::Client));
         }
         self.let_go(h, client)?;

@@ -1,5 +1,5 @@
 //! The calls that answer the five commands of a transaction: it is begun, committed and undone, an object is made in it, and a field set.
-ghost use Rattle.std.specs.Prelude.{◌≡◌, ◌<◌, ◌≤◌, ℕ, IsTrue, Option, IfOk, IfSome};
+ghost use Rattle.std.specs.Prelude.{◌≡◌, ◌<◌, ◌≤◌, ℕ, Option, IfOk};
 ghost use Rattle.pm_model.specs.Words.{IsRested};
 ghost use Rattle.pm_model.specs.Counts.{after_fault, fault_of};
 ghost use Rattle.pud_defs.specs.declared.layout.TheConstants.{CLIENTS, MAX_FRAMES, MAX_FIELDS};
@@ -10,12 +10,12 @@ ghost use Rattle.pud_defs.specs.Step.Answer.{of_reply};
 ghost use Rattle.pud_defs.specs.World.{World};
 ghost use Rattle.puddled.specs.Answered.{as_answered};
 ghost use Rattle.puddled.specs.Held.{IsHeldWithin};
-ghost use Rattle.puddled.specs.Memory.{Memory};
+ghost use Rattle.puddled.specs.Memory.{Memory, held_under, with_held};
 ghost use Rattle.puddled.specs.Daemon.{KeepsRest, IsReady, Applies, CarriesOut};
 
 use crate::daemon::Daemon;
 use crate::opened::Opened;
-use crate::refusals::Beginning;
+use crate::refusals::refusal_to_enter;
 use pm_model::{Host, HostFault};
 use pud_defs::machine::Reply;
 use pud_defs::objects::Val;
@@ -37,13 +37,14 @@ impl Opened {
         requires room { device_words frames ≤ (H.counts h.old).size }
         requires within { IsHeldWithin frames self.old }
         requires field { f < MAX_FIELDS }
-        ensures reply { H.tells → (size : ℕ) → (w : World) → (memory : Memory) → memory.frames ≡ frames → memory.held ≡ Option.Some self.old → IsReady size w memory (H.state h.old)
+        ensures reply { H.tells → (size : ℕ) → (w : World) → (memory : Memory) → memory.frames ≡ frames → held_under memory.held (self.old).number ≡ Option.Some self.old → IsReady size w memory (H.state h.old)
             → IfOk result (λ reply. of_reply reply ≡ answer_by w (Option.Some (commands.Set (self.old).client (self.old).name s f x))) }
-        ensures applies { H.tells → (size : ℕ) → size ≡ (H.counts h.old).size → (w : World) → (memory : Memory) → memory.frames ≡ frames → memory.held ≡ Option.Some self.old
+        ensures applies { H.tells → (size : ℕ) → size ≡ (H.counts h.old).size → (w : World) → (memory : Memory) → memory.frames ≡ frames → held_under memory.held (self.old).number ≡ Option.Some self.old
             → IsReady size w memory (H.state h.old)
-            → Applies size w (world_by w (Option.Some (commands.Set (self.old).client (self.old).name s f x))) (record memory { held = Option.Some self.new }) (fault_of result)
+            → Applies size w (world_by w (Option.Some (commands.Set (self.old).client (self.old).name s f x))) (with_held (self.old).number (Option.Some self.new) memory) (fault_of result)
             (H.state h.old) (H.state h.new) }
         ensures within { IsHeldWithin frames self.new }
+        ensures number { (self.new).number ≡ (self.old).number }
         ensures rest { H.tells → KeepsRest (H.state h.old) (H.state h.new) }
         ensures rests { H.tells → fault_of result ≡ Option.Some HostFault.Cut → IsRested (H.state h.new).now.words }
         ensures cause { H.counts h.new ≡ after_fault (fault_of result) (H.counts h.old) }
@@ -57,47 +58,35 @@ impl Opened {
 }
 
 impl Daemon {
-    /// Whether no transaction is open on a pool of another name: then `begin` may be called with this one.
-    pub fn is_free_beside(&self, name: Name) -> bool
-        ensures { IsTrue result → IfSome (self.now).held (λ held. held.name ≡ name) }
-    {
-        match &self.opened {
-            Some(opened) => opened.name == name,
-            None => true,
-        }
-    }
-
     /// Begins a transaction of the client, 0 to 7, on the pool of this name, in the lowest closed log of the client; or, where the client's own is
     /// open on the pool, begins it once more, which touches no device. The reply is `Ok`, or says why nothing was begun, by the first of these that
     /// holds: `Client`, the client is not present; `Pool`, there is no pool of the name; `Wild`, the pool has no graph; `Denied`, its mode
     /// does not allow the client to write; `Busy`, another client's transaction is open on it; `Deep`, the client's own was begun 16 times; `Logs`,
     /// each log of the client has an open transaction.
     ///
-    /// The daemon holds one transaction at most: this call is for a pool of the name on which it is open, or for any pool while none is open, and
-    /// `is_free_beside` says so of a name. The only errors are the host's own: `Failed` where a call of it failed, `Cut` where power was lost. At
-    /// either the device stands for what it stood for before the call or for what the line gives, and the daemon is to be stopped, and to start anew.
-    pub fn begin<H: Host>(&mut self, h: &mut H, client: u32, name: Name) -> Result<Reply, HostFault>
+    /// The only errors are the host's own: `Failed` where a call of it failed, `Cut` where power was lost. At either the device stands for what it
+    /// stood for before the call or for what the line gives, and the daemon is to be stopped, and to start anew.
+    pub fn begin<H: Host>(&mut self, h: &mut H, client: u8, name: Name) -> Result<Reply, HostFault>
         requires known { client < CLIENTS }
         requires room { device_words (self.old).frames ≤ (H.counts h.old).size }
-        requires alone { IfSome (self.old).held (λ held. held.name ≡ name) }
         ensures carries { H.tells → (size : ℕ) → size ≡ (H.counts h.old).size → (w : World) → IsReady size w self.old (H.state h.old)
             → CarriesOut size w self.new (Option.Some (commands.Begin client name)) (as_answered result) (H.counts h.old) (H.counts h.new) (H.state h.old) (H.state h.new) }
-        ensures room { device_words (self.new).frames ≤ (H.counts h.old).size }
+        ensures frames { (self.new).frames ≡ (self.old).frames }
         ensures rest { H.tells → KeepsRest (H.state h.old) (H.state h.new) }
         ensures rests { H.tells → fault_of result ≡ Option.Some HostFault.Cut → IsRested (H.state h.new).now.words }
         ensures cause { H.counts h.new ≡ after_fault (fault_of result) (H.counts h.old) }
     {
-        match self.find_beginning(h, client, name)? {
-            Beginning::Refused(refusal) => Ok(Reply::No(refusal)),
-            Beginning::Deeper => {
-                self.deepen();
-                Ok(Reply::Ok)
-            }
-            Beginning::Anew { slot, number } => {
-                self.begin_on(h, client, name, slot, number)?;
-                Ok(Reply::Ok)
-            }
+        let slot = match self.find_writable(h, client, name)? {
+            Err(refusal) => return Ok(Reply::No(refusal)),
+            Ok(slot) => slot,
+        };
+        if let Err(fault) = self.sessions.enter(client, slot) {
+            return Ok(Reply::No(refusal_to_enter(fault)));
         }
+        if self.sessions.depth(slot) > 1 {
+            return Ok(Reply::Ok);
+        }
+        self.begin_on(h, client, name, slot)
     }
 
     /// Commits the client's own transaction on the pool of this name: what it changed is then durable, or, where it was begun more often than once,
@@ -107,25 +96,21 @@ impl Daemon {
     ///
     /// The only errors are the host's own: `Failed` where a call of it failed, `Cut` where power was lost. At either the device stands for what it
     /// stood for before the call or for what the line gives, and the daemon is to be stopped, and to start anew.
-    pub fn commit<H: Host>(
-        &mut self,
-        h: &mut H,
-        client: u32,
-        name: Name,
-    ) -> Result<Reply, HostFault>
+    pub fn commit<H: Host>(&mut self, h: &mut H, client: u8, name: Name) -> Result<Reply, HostFault>
         requires known { client < CLIENTS }
         requires room { device_words (self.old).frames ≤ (H.counts h.old).size }
         ensures carries { H.tells → (size : ℕ) → size ≡ (H.counts h.old).size → (w : World) → IsReady size w self.old (H.state h.old)
             → CarriesOut size w self.new (Option.Some (commands.Commit client name)) (as_answered result) (H.counts h.old) (H.counts h.new) (H.state h.old) (H.state h.new) }
-        ensures room { device_words (self.new).frames ≤ (H.counts h.old).size }
+        ensures frames { (self.new).frames ≡ (self.old).frames }
         ensures rest { H.tells → KeepsRest (H.state h.old) (H.state h.new) }
         ensures rests { H.tells → fault_of result ≡ Option.Some HostFault.Cut → IsRested (H.state h.new).now.words }
         ensures cause { H.counts h.new ≡ after_fault (fault_of result) (H.counts h.old) }
     {
-        if let Some(refusal) = self.refusal_of_own(h, client, name)? {
-            return Ok(Reply::No(refusal));
-        }
-        self.commit_own(h)?;
+        let own = match self.find_own(h, client, name)? {
+            Err(refusal) => return Ok(Reply::No(refusal)),
+            Ok(own) => own,
+        };
+        self.commit_own(h, client, own)?;
         Ok(Reply::Ok)
     }
 
@@ -135,20 +120,21 @@ impl Daemon {
     ///
     /// The only errors are the host's own: `Failed` where a call of it failed, `Cut` where power was lost. At either the device stands for what it
     /// stood for before the call or for what the line gives, and the daemon is to be stopped, and to start anew.
-    pub fn abort<H: Host>(&mut self, h: &mut H, client: u32, name: Name) -> Result<Reply, HostFault>
+    pub fn abort<H: Host>(&mut self, h: &mut H, client: u8, name: Name) -> Result<Reply, HostFault>
         requires known { client < CLIENTS }
         requires room { device_words (self.old).frames ≤ (H.counts h.old).size }
         ensures carries { H.tells → (size : ℕ) → size ≡ (H.counts h.old).size → (w : World) → IsReady size w self.old (H.state h.old)
             → CarriesOut size w self.new (Option.Some (commands.Abort client name)) (as_answered result) (H.counts h.old) (H.counts h.new) (H.state h.old) (H.state h.new) }
-        ensures room { device_words (self.new).frames ≤ (H.counts h.old).size }
+        ensures frames { (self.new).frames ≡ (self.old).frames }
         ensures rest { H.tells → KeepsRest (H.state h.old) (H.state h.new) }
         ensures rests { H.tells → fault_of result ≡ Option.Some HostFault.Cut → IsRested (H.state h.new).now.words }
         ensures cause { H.counts h.new ≡ after_fault (fault_of result) (H.counts h.old) }
     {
-        if let Some(refusal) = self.refusal_of_own(h, client, name)? {
-            return Ok(Reply::No(refusal));
-        }
-        self.abort_own(h)?;
+        let own = match self.find_own(h, client, name)? {
+            Err(refusal) => return Ok(Reply::No(refusal)),
+            Ok(own) => own,
+        };
+        self.undo(h, own.number)?;
         Ok(Reply::Ok)
     }
 
@@ -164,7 +150,7 @@ impl Daemon {
     pub fn new_object<H: Host>(
         &mut self,
         h: &mut H,
-        client: u32,
+        client: u8,
         name: Name,
         t: u32,
     ) -> Result<Reply, HostFault>
@@ -172,16 +158,17 @@ impl Daemon {
         requires room { device_words (self.old).frames ≤ (H.counts h.old).size }
         ensures carries { H.tells → (size : ℕ) → size ≡ (H.counts h.old).size → (w : World) → IsReady size w self.old (H.state h.old)
             → CarriesOut size w self.new (Option.Some (commands.New client name t)) (as_answered result) (H.counts h.old) (H.counts h.new) (H.state h.old) (H.state h.new) }
-        ensures room { device_words (self.new).frames ≤ (H.counts h.old).size }
+        ensures frames { (self.new).frames ≡ (self.old).frames }
         ensures rest { H.tells → KeepsRest (H.state h.old) (H.state h.new) }
         ensures rests { H.tells → fault_of result ≡ Option.Some HostFault.Cut → IsRested (H.state h.new).now.words }
         ensures cause { H.counts h.new ≡ after_fault (fault_of result) (H.counts h.old) }
     {
-        if let Some(refusal) = self.refusal_of_own(h, client, name)? {
-            return Ok(Reply::No(refusal));
-        }
+        let own = match self.find_own(h, client, name)? {
+            Err(refusal) => return Ok(Reply::No(refusal)),
+            Ok(own) => own,
+        };
         let frames = self.frames;
-        match &mut self.opened {
+        match &mut self.opened[own.number as usize] {
             Some(opened) => opened.new_object(h, frames, t),
             None => unreachable!(),
         }
@@ -199,7 +186,7 @@ impl Daemon {
     pub fn set<H: Host>(
         &mut self,
         h: &mut H,
-        client: u32,
+        client: u8,
         name: Name,
         s: u64,
         f: u32,
@@ -210,16 +197,17 @@ impl Daemon {
         requires room { device_words (self.old).frames ≤ (H.counts h.old).size }
         ensures carries { H.tells → (size : ℕ) → size ≡ (H.counts h.old).size → (w : World) → IsReady size w self.old (H.state h.old)
             → CarriesOut size w self.new (Option.Some (commands.Set client name s f x)) (as_answered result) (H.counts h.old) (H.counts h.new) (H.state h.old) (H.state h.new) }
-        ensures room { device_words (self.new).frames ≤ (H.counts h.old).size }
+        ensures frames { (self.new).frames ≡ (self.old).frames }
         ensures rest { H.tells → KeepsRest (H.state h.old) (H.state h.new) }
         ensures rests { H.tells → fault_of result ≡ Option.Some HostFault.Cut → IsRested (H.state h.new).now.words }
         ensures cause { H.counts h.new ≡ after_fault (fault_of result) (H.counts h.old) }
     {
-        if let Some(refusal) = self.refusal_of_own(h, client, name)? {
-            return Ok(Reply::No(refusal));
-        }
+        let own = match self.find_own(h, client, name)? {
+            Err(refusal) => return Ok(Reply::No(refusal)),
+            Ok(own) => own,
+        };
         let frames = self.frames;
-        match &mut self.opened {
+        match &mut self.opened[own.number as usize] {
             Some(opened) => opened.set_field(h, frames, s, f, x),
             None => unreachable!(),
         }

@@ -16,10 +16,11 @@ ghost use Rattle.puddled.specs.Daemon.{KeepsRest, KeepsLine, IsReady, IsReplayed
 use crate::answers::{Answered, say_answer, with_reply};
 use crate::clients::come;
 use crate::judged::Judged;
-use crate::opened::{Opened, holder_of, lose};
+use crate::opened::{AllOpened, lose_all, none_opened};
 use crate::pools::{change, make};
 use crate::starting::{Marks, say_start};
 use crate::types::define_type;
+use nesting::Sessions;
 use pm_model::{Host, HostFault};
 use pud_defs::machine::{Command, Refusal, Reply};
 use recover::{RecoverFault, recover};
@@ -93,24 +94,26 @@ impl From<StartFault> for RunFault {
 pub struct Daemon {
     /// How many frames the device has, 4 to 1,024.
     pub(crate) frames: u32,
-    /// The transaction that is open, where one is.
-    pub(crate) opened: Option<Opened>,
-    /// Which pools were judged since the start, but for the one on which the transaction is open.
+    /// The transactions that are open, by the numbers of their logs.
+    pub(crate) opened: AllOpened,
+    /// Whose transactions they are, and how often each was begun, by the slots of their pools' records.
+    pub(crate) sessions: Sessions,
+    /// Which pools were judged since the start, but for those on which a transaction is open.
     pub(crate) judged: Judged,
 }
 
 impl Model for Daemon {
-    ghost use Rattle.std.specs.Prelude.{◌≤◌, IfSome};
+    ghost use Rattle.std.specs.Prelude.{◌≤◌};
     ghost use Rattle.pud_defs.specs.declared.layout.TheConstants.{MIN_FRAMES, MAX_FRAMES};
     ghost use Rattle.puddled.specs.Memory.{Memory};
-    ghost use Rattle.puddled.specs.Held.{IsHeldWithin};
+    ghost use Rattle.puddled.specs.Held.{AreHeldWithin};
     ghost use Rattle.puddled.specs.Judged.{AreOnDevice};
 
     ghost Value = { Memory };
 
-    ghost view = { λ d. record { frames = d.frames; held = d.opened; judged = d.judged } };
+    ghost view = { λ d. record { frames = d.frames; held = d.opened; sessions = d.sessions; judged = d.judged } };
 
-    ghost invariant = { λ d. (MIN_FRAMES ≤ d.frames) × (d.frames ≤ MAX_FRAMES) × IfSome d.opened (IsHeldWithin d.frames) × AreOnDevice d.frames d.judged };
+    ghost invariant = { λ d. (MIN_FRAMES ≤ d.frames) × (d.frames ≤ MAX_FRAMES) × AreHeldWithin d.frames d.opened × AreOnDevice d.frames d.judged };
 }
 
 impl From<RecoverFault> for StartFault {
@@ -149,7 +152,8 @@ fn recover_device<H: Host>(h: &mut H) -> Result<(Daemon, Marks), StartFault>
     let marks = report.marks;
     let daemon = Daemon {
         frames: report.frames,
-        opened: None,
+        opened: none_opened(),
+        sessions: Sessions::new(),
         judged: Judged::none(),
     };
     Ok((daemon, marks))
@@ -203,7 +207,7 @@ fn apply<H: Host>(daemon: &mut Daemon, h: &mut H, command: Command) -> Result<An
     requires room { device_words daemon.old.frames ≤ (H.counts h.old).size }
     ensures carries { H.tells → (size : ℕ) → size ≡ (H.counts h.old).size → (w : World) → IsReady size w daemon.old (H.state h.old)
         → CarriesOut size w daemon.new (Option.Some command) result (H.counts h.old) (H.counts h.new) (H.state h.old) (H.state h.new) }
-    ensures frames { daemon.new.frames ≡ daemon.old.frames }
+    ensures room { device_words daemon.new.frames ≤ (H.counts h.old).size }
     ensures rest { H.tells → KeepsLine (file_of command) (H.state h.old) (H.state h.new) }
     ensures rests { H.tells → fault_of result ≡ Option.Some HostFault.Cut → IsRested (H.state h.new).now.words }
     ensures cause { CountsCommand (kind_of (Option.Some command)) (fault_of result) (H.counts h.old) (H.counts h.new) }
@@ -212,24 +216,27 @@ fn apply<H: Host>(daemon: &mut Daemon, h: &mut H, command: Command) -> Result<An
         Command::Client { client, uid, gid } => {
             with_reply(come(h, daemon.frames, u32::from(client), uid, gid))
         }
-        Command::Leave { client } => with_reply(daemon.leave(h, u32::from(client))),
+        Command::Leave { client } => with_reply(daemon.leave(h, client)),
         Command::Define { t, map } => with_reply(define_type(h, t, map)),
         Command::Pool { client, name, mode } => {
             with_reply(make(h, daemon.frames, u32::from(client), name, mode))
         }
         Command::Chmod { client, name, mode } => {
-            let held = holder_of(&daemon.opened);
-            with_reply(change(h, held, u32::from(client), name, mode))
+            with_reply(change(h, &daemon.sessions, client, name, mode))
         }
-        Command::Drop { client, name } => with_reply(daemon.drop_for(h, u32::from(client), name)),
-        Command::Get { client, name, s, f } => {
-            with_reply(daemon.get_for(h, u32::from(client), name, s, f))
-        }
-        Command::Begin { .. }
-        | Command::Commit { .. }
-        | Command::Abort { .. }
-        | Command::New { .. }
-        | Command::Set { .. } => unreachable!(),
+        Command::Drop { client, name } => with_reply(daemon.drop_for(h, client, name)),
+        Command::Get { client, name, s, f } => { with_reply(daemon.get_for(h, client, name, s, f)) }
+        Command::Begin { client, name } => with_reply(daemon.begin(h, client, name)),
+        Command::Commit { client, name } => with_reply(daemon.commit(h, client, name)),
+        Command::Abort { client, name } => with_reply(daemon.abort(h, client, name)),
+        Command::New { client, name, t } => with_reply(daemon.new_object(h, client, name, t)),
+        Command::Set {
+            client,
+            name,
+            s,
+            f,
+            x,
+        } => with_reply(daemon.set(h, client, name, s, f, x)),
         Command::Pools => Ok(Answered::Pools),
         Command::Cut { pick } => with_reply(lose_power(h, pick)),
         Command::Arm { step, pick } => with_reply(arm(h, step, pick)),
@@ -394,8 +401,9 @@ impl Daemon {
         let Daemon {
             frames: _frames,
             opened,
+            sessions: _sessions,
             judged: _judged,
         } = self;
-        lose(opened);
+        lose_all(opened);
     }
 }

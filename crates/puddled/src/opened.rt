@@ -1,20 +1,23 @@
-//! A transaction that is open, as the daemon holds it.
+//! Transactions that are open, as the daemon holds them.
 
-ghost use Rattle.std.specs.Prelude.{◌≡◌};
-ghost use Rattle.puddled.specs.Owning.{holder_of};
-ghost use Rattle.puddled.specs.Reading.{puddles_held};
+ghost use Rattle.std.specs.Prelude.{◌≡◌, ◌<◌, ℕ, true, false, Option, IfSome, replicate};
+ghost use Rattle.pud_defs.specs.Settled.{ALL_LOGS};
+ghost use Rattle.pud_defs.specs.Stored.{IsOnDevice};
+ghost use Rattle.puddled.specs.Memory.{held_under};
+ghost use Rattle.puddled.specs.Held.{AreHeldWithin};
+ghost use Rattle.puddled.specs.Holding.{is_held_on, FindsPuddles};
 
 use hybrid_tx::Tx;
 use pud_defs::records::{Name, Puddle};
 use puddle_table::Puddles;
+use recover::LOGS;
+use std::array;
 use std::marker::Model;
 
 /// A transaction that is open.
 pub(crate) struct Opened {
     /// Whose it is, 0 to 7.
-    pub(crate) client: u32,
-    /// How often it was begun, 1 to 16.
-    pub(crate) depth: u32,
+    pub(crate) client: u8,
     /// The name of its pool.
     pub(crate) name: Name,
     /// The slot of the pool's record.
@@ -32,26 +35,54 @@ impl Model for Opened {
 
     ghost Value = { Held };
 
-    ghost view = { λ o. record { client = o.client; depth = o.depth; name = o.name; slot = o.slot; at = o.puddles; number = o.number; log = o.tx } };
+    ghost view = { λ o. record { client = o.client; name = o.name; slot = o.slot; at = o.puddles; number = o.number; log = o.tx } };
 }
 
-/// The puddles of the pool on which the transaction is open, each with its frame; none where nothing is open.
-pub(crate) fn puddles_of(opened: &Option<Opened>) -> &[(u32, Puddle)]
-    ensures { puddles_held opened.now ≡ result.now }
+/// The transactions that are open, by the numbers of their logs.
+pub(crate) type AllOpened = [Option<Opened>; LOGS];
+
+/// No transaction is open.
+pub(crate) fn none_opened() -> AllOpened
+    ensures { result ≡ replicate ALL_LOGS Option.None }
+{
+    array::from_fn(|_| None)
+}
+
+/// Whether it is a transaction on the pool in this slot.
+fn is_on(opened: &Option<Opened>, slot: u32) -> bool
+    ensures { result ≡ is_held_on slot opened.now }
 {
     match opened {
-        Some(opened) => opened.puddles.as_slice(),
-        None => &[],
+        Some(opened) => opened.slot == slot,
+        None => false,
     }
 }
 
-/// Whose transaction is open, and on the pool of which name.
-pub(crate) fn holder_of(opened: &Option<Opened>) -> Option<(u32, Name)>
-    ensures { holder_of opened.now ≡ result }
+/// The number of the log of the transaction that is open on the pool in this slot, 0 to 31, where one is.
+pub(crate) fn number_on(opened: &AllOpened, slot: u32) -> Option<u32>
+    ensures known { IfSome result (λ number. number < ALL_LOGS) }
+    ensures there { IfSome result (λ number. is_held_on slot (held_under opened.now number) ≡ true) }
+    ensures none { result ≡ Option.None → (number : ℕ) → is_held_on slot (held_under opened.now number) ≡ false }
 {
-    match opened {
-        Some(opened) => Some((opened.client, opened.name)),
-        None => None,
+    for number in 0..LOGS as u32 {
+        if is_on(&opened[number as usize], slot) {
+            return Some(number);
+        }
+    }
+    None
+}
+
+/// The puddles of the pool in this slot, each with its frame, where a transaction is open on it, and else none.
+pub(crate) fn puddles_on(opened: &AllOpened, slot: u32) -> &[(u32, Puddle)]
+    ensures found { FindsPuddles opened.now slot result.now }
+    ensures within { (F : ℕ) → AreHeldWithin F opened.now → IsOnDevice F result.now }
+{
+    let Some(number) = number_on(opened, slot) else {
+        return &[];
+    };
+    match &opened[number as usize] {
+        Some(opened) => opened.puddles.as_slice(),
+        None => &[],
     }
 }
 
@@ -61,7 +92,6 @@ pub(crate) fn lose(opened: Option<Opened>) {
         Some(opened) => {
             let Opened {
                 client: _client,
-                depth: _depth,
                 name: _name,
                 slot: _slot,
                 puddles: _puddles,
@@ -72,4 +102,74 @@ pub(crate) fn lose(opened: Option<Opened>) {
         }
         None => {}
     }
+}
+
+/// Gives up all that is open. No device is touched.
+pub(crate) fn lose_all(opened: AllOpened) {
+    let [
+        o0,
+        o1,
+        o2,
+        o3,
+        o4,
+        o5,
+        o6,
+        o7,
+        o8,
+        o9,
+        o10,
+        o11,
+        o12,
+        o13,
+        o14,
+        o15,
+        o16,
+        o17,
+        o18,
+        o19,
+        o20,
+        o21,
+        o22,
+        o23,
+        o24,
+        o25,
+        o26,
+        o27,
+        o28,
+        o29,
+        o30,
+        o31,
+    ] = opened;
+    lose(o0);
+    lose(o1);
+    lose(o2);
+    lose(o3);
+    lose(o4);
+    lose(o5);
+    lose(o6);
+    lose(o7);
+    lose(o8);
+    lose(o9);
+    lose(o10);
+    lose(o11);
+    lose(o12);
+    lose(o13);
+    lose(o14);
+    lose(o15);
+    lose(o16);
+    lose(o17);
+    lose(o18);
+    lose(o19);
+    lose(o20);
+    lose(o21);
+    lose(o22);
+    lose(o23);
+    lose(o24);
+    lose(o25);
+    lose(o26);
+    lose(o27);
+    lose(o28);
+    lose(o29);
+    lose(o30);
+    lose(o31);
 }

@@ -11,15 +11,14 @@ ghost use Rattle.pud_defs.specs.Grammar.{IsLegalCommand};
 ghost use Rattle.pud_defs.specs.Step.{refusal_of, answer_by, world_by};
 ghost use Rattle.pud_defs.specs.Step.Answer.{of_reply};
 ghost use Rattle.puddled.specs.Memory.{Memory};
-ghost use Rattle.puddled.specs.Owning.{reply_of_making, refusal_found, holder_of, refusal_beside, IsSlotOf};
+ghost use Rattle.puddled.specs.Owning.{reply_of_making, refusal_found, refusal_beside, IsSlotOf};
 ghost use Rattle.puddled.specs.Judged.{AreOnDevice, ForgetsPool};
 ghost use Rattle.puddled.specs.Daemon.{KeepsRest, IsReady, Applies};
 
 use crate::daemon::Daemon;
 use crate::judged::Judged;
-use crate::opened::holder_of;
-use crate::reading::opened_by;
 use log_space::owner;
+use nesting::Sessions;
 use pm_model::{Host, HostFault};
 use pool_table::find;
 use pud_defs::machine::{Refusal, Reply};
@@ -67,7 +66,7 @@ pub fn make<H: Host>(
 }
 
 /// Why the client may not change a pool on which the transaction of this client is open.
-fn refusal_beside(holder: Option<u32>, client: u32) -> Option<Refusal>
+fn refusal_beside(holder: Option<u8>, client: u8) -> Option<Refusal>
     ensures { result ≡ refusal_beside holder client }
 {
     if holder? == client {
@@ -77,17 +76,16 @@ fn refusal_beside(holder: Option<u32>, client: u32) -> Option<Refusal>
     }
 }
 
-/// The slot of the pool of this name, where the client is its owner and no transaction is open on it, or why the client may not change it. What
-/// is held is given by its client and the name of its pool.
+/// The slot of the pool of this name, where the client is its owner and no transaction is open on it, or why the client may not change it.
 fn find_owned<H: Host>(
     h: &mut H,
-    held: Option<(u32, Name)>,
-    client: u32,
+    sessions: &Sessions,
+    client: u8,
     name: Name,
 ) -> Result<Result<u32, Refusal>, HostFault>
     requires known { client < CLIENTS }
     requires table { PUDDLE_TABLE ≤ (H.counts h.old).size }
-    ensures refusal { H.tells → (size : ℕ) → (w : World) → (memory : Memory) → holder_of memory.held ≡ held → IsReady size w memory (H.state h.old)
+    ensures refusal { H.tells → (size : ℕ) → (w : World) → (memory : Memory) → memory.sessions ≡ sessions.now → IsReady size w memory (H.state h.old)
         → IfOk result (λ found. refusal_found found ≡ refusal_of w (commands.Drop client name)) }
     ensures slot { H.tells → (size : ℕ) → (w : World) → (memory : Memory) → IsReady size w memory (H.state h.old)
         → IfOk result (λ found. IfOk found (IsSlotOf w.stored.frames name (reads (H.state h.old).now.words))) }
@@ -96,7 +94,7 @@ fn find_owned<H: Host>(
     ensures cause { H.counts h.new ≡ after_fault (fault_of result) (H.counts h.old) }
     ensures never_cut { fault_of result ≢ Option.Some HostFault.Cut }
 {
-    let Some(who) = owner(h, client)? else {
+    let Some(who) = owner(h, client as u32)? else {
         return Ok(Err(Refusal::Client));
     };
     let Some((slot, rec)) = find(h, name)? else {
@@ -105,33 +103,32 @@ fn find_owned<H: Host>(
     if who.uid != rec.uid {
         return Ok(Err(Refusal::Denied));
     }
-    match refusal_beside(opened_by(held, name), client) {
+    match refusal_beside(sessions.holder(slot), client) {
         Some(refusal) => Ok(Err(refusal)),
         None => Ok(Ok(slot)),
     }
 }
 
-/// Gives the client's pool of this name the mode, or refuses to. A refused one changes nothing. What is held is given by its client and the
-/// name of its pool.
+/// Gives the client's pool of this name the mode, or refuses to. A refused one changes nothing.
 pub fn change<H: Host>(
     h: &mut H,
-    held: Option<(u32, Name)>,
-    client: u32,
+    sessions: &Sessions,
+    client: u8,
     name: Name,
     mode: u32,
 ) -> Result<Reply, HostFault>
     requires known { client < CLIENTS }
     requires table { PUDDLE_TABLE ≤ (H.counts h.old).size }
-    ensures reply { H.tells → (size : ℕ) → (w : World) → (memory : Memory) → holder_of memory.held ≡ held → IsReady size w memory (H.state h.old)
+    ensures reply { H.tells → (size : ℕ) → (w : World) → (memory : Memory) → memory.sessions ≡ sessions.now → IsReady size w memory (H.state h.old)
         → IfOk result (λ reply. of_reply reply ≡ answer_by w (Option.Some (commands.Chmod client name mode))) }
-    ensures applies { H.tells → (size : ℕ) → size ≡ (H.counts h.old).size → (w : World) → (memory : Memory) → holder_of memory.held ≡ held → IsReady size w memory (H.state h.old)
+    ensures applies { H.tells → (size : ℕ) → size ≡ (H.counts h.old).size → (w : World) → (memory : Memory) → memory.sessions ≡ sessions.now → IsReady size w memory (H.state h.old)
         → IsLegalCommand (commands.Chmod client name mode)
         → Applies size w (world_by w (Option.Some (commands.Chmod client name mode))) memory (fault_of result) (H.state h.old) (H.state h.new) }
     ensures rest { H.tells → KeepsRest (H.state h.old) (H.state h.new) }
     ensures rests { H.tells → fault_of result ≡ Option.Some HostFault.Cut → IsRested (H.state h.new).now.words }
     ensures cause { H.counts h.new ≡ after_fault (fault_of result) (H.counts h.old) }
 {
-    match find_owned(h, held, client, name)? {
+    match find_owned(h, sessions, client, name)? {
         Err(refusal) => Ok(Reply::No(refusal)),
         Ok(slot) => {
             change_mode(h, slot, mode)?;
@@ -141,32 +138,32 @@ pub fn change<H: Host>(
 }
 
 /// Drops the client's pool of this name with its puddles, or refuses to. A refused one changes nothing; of one that is dropped nothing is
-/// known any more. The device has so many frames. What is held is given by its client and the name of its pool.
+/// known any more. The device has so many frames.
 fn drop_owned<H: Host>(
     h: &mut H,
     frames: u32,
-    held: Option<(u32, Name)>,
+    sessions: &Sessions,
     judged: &mut Judged,
-    client: u32,
+    client: u8,
     name: Name,
 ) -> Result<Reply, HostFault>
     requires known { client < CLIENTS }
     requires few { frames ≤ MAX_FRAMES }
     requires room { device_words frames ≤ (H.counts h.old).size }
-    ensures reply { H.tells → (size : ℕ) → (w : World) → (memory : Memory) → holder_of memory.held ≡ held → IsReady size w memory (H.state h.old)
+    ensures reply { H.tells → (size : ℕ) → (w : World) → (memory : Memory) → memory.sessions ≡ sessions.now → IsReady size w memory (H.state h.old)
         → IfOk result (λ reply. of_reply reply ≡ answer_by w (Option.Some (commands.Drop client name))) }
-    ensures applies { H.tells → (size : ℕ) → size ≡ (H.counts h.old).size → (w : World) → (memory : Memory) → memory.frames ≡ frames → holder_of memory.held ≡ held → memory.judged ≡ judged.old → IsReady size w memory (H.state h.old)
+    ensures applies { H.tells → (size : ℕ) → size ≡ (H.counts h.old).size → (w : World) → (memory : Memory) → memory.frames ≡ frames → memory.sessions ≡ sessions.now → memory.judged ≡ judged.old → IsReady size w memory (H.state h.old)
         → Applies size w (world_by w (Option.Some (commands.Drop client name))) (record memory { judged = judged.new }) (fault_of result) (H.state h.old) (H.state h.new) }
-    ensures keeps { H.tells → (size : ℕ) → (w : World) → (memory : Memory) → holder_of memory.held ≡ held → IsReady size w memory (H.state h.old)
+    ensures keeps { H.tells → (size : ℕ) → (w : World) → (memory : Memory) → memory.sessions ≡ sessions.now → IsReady size w memory (H.state h.old)
         → refusal_of w (commands.Drop client name) ≢ Option.None → judged.new ≡ judged.old }
-    ensures forgets { H.tells → (size : ℕ) → (w : World) → (memory : Memory) → holder_of memory.held ≡ held → IsReady size w memory (H.state h.old)
+    ensures forgets { H.tells → (size : ℕ) → (w : World) → (memory : Memory) → memory.sessions ≡ sessions.now → IsReady size w memory (H.state h.old)
         → refusal_of w (commands.Drop client name) ≡ Option.None → IfOk result (λ reply. ForgetsPool w.stored.frames name (reads (H.state h.old).now.words) judged.old judged.new) }
     ensures within { AreOnDevice frames judged.old → AreOnDevice frames judged.new }
     ensures rest { H.tells → KeepsRest (H.state h.old) (H.state h.new) }
     ensures rests { H.tells → fault_of result ≡ Option.Some HostFault.Cut → IsRested (H.state h.new).now.words }
     ensures cause { H.counts h.new ≡ after_fault (fault_of result) (H.counts h.old) }
 {
-    match find_owned(h, held, client, name)? {
+    match find_owned(h, sessions, client, name)? {
         Err(refusal) => Ok(Reply::No(refusal)),
         Ok(slot) => {
             judged.forget(slot);
@@ -182,7 +179,7 @@ impl Daemon {
     pub(crate) fn drop_for<H: Host>(
         &mut self,
         h: &mut H,
-        client: u32,
+        client: u8,
         name: Name,
     ) -> Result<Reply, HostFault>
         requires known { client < CLIENTS }
@@ -192,12 +189,19 @@ impl Daemon {
         ensures applies { H.tells → (size : ℕ) → size ≡ (H.counts h.old).size → (w : World) → IsReady size w self.old (H.state h.old)
             → Applies size w (world_by w (Option.Some (commands.Drop client name))) self.new (fault_of result) (H.state h.old) (H.state h.new) }
         ensures held { (self.new).held ≡ (self.old).held }
+        ensures sessions { (self.new).sessions ≡ (self.old).sessions }
         ensures frames { (self.new).frames ≡ (self.old).frames }
         ensures rest { H.tells → KeepsRest (H.state h.old) (H.state h.new) }
         ensures rests { H.tells → fault_of result ≡ Option.Some HostFault.Cut → IsRested (H.state h.new).now.words }
         ensures cause { H.counts h.new ≡ after_fault (fault_of result) (H.counts h.old) }
     {
-        let held = holder_of(&self.opened);
-        drop_owned(h, self.frames, held, &mut self.judged, client, name)
+        drop_owned(
+            h,
+            self.frames,
+            &self.sessions,
+            &mut self.judged,
+            client,
+            name,
+        )
     }
 }

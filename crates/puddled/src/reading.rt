@@ -1,5 +1,5 @@
 //! Fields of objects that are read.
-ghost use Rattle.std.specs.Prelude.{◌≡◌, ◌≢◌, ◌<◌, ◌≤◌, ℕ, Option, IfOk, IfSome};
+ghost use Rattle.std.specs.Prelude.{◌≡◌, ◌≢◌, ◌<◌, ◌≤◌, ℕ, true, false, [], unwrap_or, Option, IfOk};
 ghost use Rattle.pm_model.specs.Words.{reads};
 ghost use Rattle.pm_model.specs.Counts.{after_fault, fault_of};
 ghost use Rattle.pud_defs.specs.declared.layout.TheConstants.{CLIENTS, MAX_FRAMES, MAX_FIELDS};
@@ -11,17 +11,19 @@ ghost use Rattle.pud_defs.specs.Stored.{IsOnDevice};
 ghost use Rattle.pud_defs.specs.World.{World};
 ghost use Rattle.pud_defs.specs.Step.{answer_by, world_by};
 ghost use Rattle.pud_defs.specs.Step.Answer.{of_reply};
-ghost use Rattle.puddled.specs.Memory.{Held, Memory};
-ghost use Rattle.puddled.specs.Owning.{refusal_found, holder_of, opened_by};
-ghost use Rattle.puddled.specs.Reading.{refusal_to_read, puddles_held, reading_open, HoldsFound, reply_of_read};
+ghost use Rattle.puddled.specs.Memory.{Held, Memory, held_under};
+ghost use Rattle.puddled.specs.Holding.{FindsPuddles};
+ghost use Rattle.puddled.specs.Owning.{refusal_found};
+ghost use Rattle.puddled.specs.Reading.{refusal_to_read, reading_open, HoldsFound, reply_of_read};
 ghost use Rattle.puddled.specs.Judged.{known_in, AreOnDevice, AreJudged};
 ghost use Rattle.puddled.specs.Daemon.{IsReady, Applies};
 
 use crate::daemon::Daemon;
 use crate::judged::Judged;
-use crate::opened::{holder_of, puddles_of};
+use crate::opened::puddles_on;
 use graph_read::{FieldRead, read_field};
 use log_space::owner;
+use nesting::Sessions;
 use owner_modes::may_read;
 use pm_model::{Host, HostFault};
 use pool_table::find;
@@ -29,25 +31,18 @@ use pud_defs::machine::{Refusal, Reply};
 use pud_defs::objects::Val;
 use pud_defs::records::{Name, Puddle};
 
-/// The client whose transaction is open on the pool of this name. What is held is given by its client and the name of its pool.
-pub(crate) fn opened_by(held: Option<(u32, Name)>, name: Name) -> Option<u32>
-    ensures { result ≡ opened_by held name }
-{
-    match held {
-        Some(holder) => {
-            if name == holder.1 {
-                Some(holder.0)
-            } else {
-                None
-            }
-        }
-        None => None,
-    }
+/// A pool that a client may read.
+#[derive(Clone, Copy)]
+pub(crate) struct Readable {
+    /// The slot of its record, 0 to 31.
+    slot: u32,
+    /// Whether the client's own transaction is open on it. Else its puddles are known.
+    is_open: bool,
 }
 
-/// No slot where a pool is read as the client's own transaction has it that is open on it, or why not.
-fn reading_open(right: bool, own: bool) -> Result<Option<u32>, Refusal>
-    ensures { result ≡ reading_open right own }
+/// What was found of a pool on which a transaction is open, where the mode allows to read it and the transaction is the client's own, or why not.
+fn reading_open(slot: u32, right: bool, own: bool) -> Result<Readable, Refusal>
+    ensures { result ≡ reading_open slot right own }
 {
     if !right {
         return Err(Refusal::Denied);
@@ -55,46 +50,48 @@ fn reading_open(right: bool, own: bool) -> Result<Option<u32>, Refusal>
     if !own {
         return Err(Refusal::Busy);
     }
-    Ok(None)
+    Ok(Readable {
+        slot,
+        is_open: true,
+    })
 }
 
-/// The slot of the pool of this name, where it has a graph that the client may read, or why not: then the pool's puddles are known.
-/// None where the client's own transaction is open on the pool: it is read as the transaction has it. The device has so many frames,
-/// and what is held is given by its client and the name of its pool.
+/// The pool of this name, where it has a graph that the client may read, or why not: it is read as the client's own transaction has it, where that is
+/// open on it, and else its puddles are known. The device has so many frames.
 fn find_readable<H: Host>(
     h: &mut H,
     frames: u32,
-    held: Option<(u32, Name)>,
+    sessions: &Sessions,
     judged: &mut Judged,
-    client: u32,
+    client: u8,
     name: Name,
-) -> Result<Result<Option<u32>, Refusal>, HostFault>
+) -> Result<Result<Readable, Refusal>, HostFault>
     requires known { client < CLIENTS }
     requires few { frames ≤ MAX_FRAMES }
     requires room { device_words frames ≤ (H.counts h.old).size }
-    ensures refusal { H.tells → (size : ℕ) → (w : World) → (memory : Memory) → memory.frames ≡ frames → holder_of memory.held ≡ held → IsReady size w memory (H.state h.old)
-        → AreJudged frames judged.old (reads (H.state h.old).now.words) → IfOk result (λ found. refusal_found found ≡ refusal_to_read w client name) }
-    ensures graph { H.tells → (size : ℕ) → (w : World) → (memory : Memory) → memory.frames ≡ frames → holder_of memory.held ≡ held → IsReady size w memory (H.state h.old)
-        → AreJudged frames judged.old (reads (H.state h.old).now.words) → IfOk result (λ found. IfOk found (HoldsFound w frames held client name (reads (H.state h.old).now.words) judged.new)) }
-    ensures slot { IfOk result (λ found. IfOk found (λ slot. IfSome slot (λ slot. slot < POOL_RECORDS))) }
+    ensures refusal { H.tells → (size : ℕ) → (w : World) → (memory : Memory) → memory.frames ≡ frames → memory.sessions ≡ sessions.now → memory.judged ≡ judged.old → IsReady size w memory (H.state h.old)
+        → IfOk result (λ found. refusal_found found ≡ refusal_to_read w client name) }
+    ensures graph { H.tells → (size : ℕ) → (w : World) → (memory : Memory) → memory.frames ≡ frames → memory.sessions ≡ sessions.now → memory.judged ≡ judged.old → IsReady size w memory (H.state h.old)
+        → IfOk result (λ found. IfOk found (HoldsFound w frames memory.held client name (reads (H.state h.old).now.words) judged.new)) }
+    ensures slot { IfOk result (λ found. IfOk found (λ readable. readable.slot < POOL_RECORDS)) }
     ensures judged { H.tells → (image : Image) → reads (H.state h.old).now.words ≡ image → AreJudged frames judged.old image → AreJudged frames judged.new image }
-    // Of the pool on which a transaction is open nothing comes to be known.
-    ensures apart { H.tells → (size : ℕ) → (w : World) → (memory : Memory) → memory.frames ≡ frames → holder_of memory.held ≡ held → IsReady size w memory (H.state h.old)
-        → (mine : Held) → memory.held ≡ Option.Some mine → known_in judged.new mine.slot ≡ known_in judged.old mine.slot }
+    // Of a pool on which a transaction is open nothing comes to be known.
+    ensures apart { H.tells → (size : ℕ) → (w : World) → (memory : Memory) → memory.frames ≡ frames → memory.sessions ≡ sessions.now → memory.judged ≡ judged.old → IsReady size w memory (H.state h.old)
+        → (number : ℕ) → (mine : Held) → held_under memory.held number ≡ Option.Some mine → known_in judged.new mine.slot ≡ known_in judged.old mine.slot }
     ensures known { AreOnDevice frames judged.old → AreOnDevice frames judged.new }
     ensures stays { H.tells → H.state h.new ≡ H.state h.old }
     ensures cause { H.counts h.new ≡ after_fault (fault_of result) (H.counts h.old) }
     ensures never_cut { fault_of result ≢ Option.Some HostFault.Cut }
 {
-    let Some(who) = owner(h, client)? else {
+    let Some(who) = owner(h, client as u32)? else {
         return Ok(Err(Refusal::Client));
     };
     let Some((slot, rec)) = find(h, name)? else {
         return Ok(Err(Refusal::Pool));
     };
     let right = may_read(rec.mode, rec.uid, rec.gid, who.uid, who.gid);
-    if let Some(other) = opened_by(held, name) {
-        return Ok(reading_open(right, other == client));
+    if let Some(other) = sessions.holder(slot) {
+        return Ok(reading_open(slot, right, other == client));
     }
     if !judged.judge(h, frames, slot)? {
         return Ok(Err(Refusal::Wild));
@@ -102,7 +99,10 @@ fn find_readable<H: Host>(
     if !right {
         return Ok(Err(Refusal::Denied));
     }
-    Ok(Ok(Some(slot)))
+    Ok(Ok(Readable {
+        slot,
+        is_open: false,
+    }))
 }
 
 /// What is replied, by what was read of the field.
@@ -117,59 +117,28 @@ fn reply_of(read: FieldRead) -> Reply
     }
 }
 
-/// Reads field `f` of the object of serial `s` in the pool of this name for the client, or refuses to. Nothing on the device changes,
-/// and the pool is judged where it is not known to have a graph. The device has so many frames. What is held is given by its client
-/// and the name of its pool, and `at` are the puddles of that pool by their ordinals, each with its frame: it is read as the
-/// transaction has it, and by its client alone.
-fn get<H: Host>(
-    h: &mut H,
-    frames: u32,
-    held: Option<(u32, Name)>,
-    at: &[(u32, Puddle)],
-    judged: &mut Judged,
-    client: u32,
-    name: Name,
-    s: u64,
-    f: u32,
-) -> Result<Reply, HostFault>
-    requires known { client < CLIENTS }
-    requires few { frames ≤ MAX_FRAMES }
-    requires room { device_words frames ≤ (H.counts h.old).size }
-    requires at { IsOnDevice frames at.now }
-    requires judged { AreOnDevice frames judged.old }
-    requires field { f < MAX_FIELDS }
-    ensures reply { H.tells → (size : ℕ) → (w : World) → (memory : Memory) → memory.frames ≡ frames → holder_of memory.held ≡ held → puddles_held memory.held ≡ at.now
-        → IsReady size w memory (H.state h.old) → AreJudged frames judged.old (reads (H.state h.old).now.words)
-        → IfOk result (λ reply. of_reply reply ≡ answer_by w (Option.Some (Get client name s f))) }
-    ensures judged { H.tells → (image : Image) → reads (H.state h.old).now.words ≡ image → AreJudged frames judged.old image → AreJudged frames judged.new image }
-    ensures apart { H.tells → (size : ℕ) → (w : World) → (memory : Memory) → memory.frames ≡ frames → holder_of memory.held ≡ held → IsReady size w memory (H.state h.old)
-        → (mine : Held) → memory.held ≡ Option.Some mine → known_in judged.new mine.slot ≡ known_in judged.old mine.slot }
-    ensures within { AreOnDevice frames judged.new }
-    ensures stays { H.tells → H.state h.new ≡ H.state h.old }
-    ensures cause { H.counts h.new ≡ after_fault (fault_of result) (H.counts h.old) }
-    ensures never_cut { fault_of result ≢ Option.Some HostFault.Cut }
-{
-    match find_readable(h, frames, held, judged, client, name)? {
-        Err(refusal) => Ok(Reply::No(refusal)),
-        Ok(Some(slot)) => {
-            let read = read_field(h, frames, judged.puddles(slot), s, f)?;
-            Ok(reply_of(read))
-        }
-        Ok(None) => {
-            let read = read_field(h, frames, at, s, f)?;
-            Ok(reply_of(read))
+impl Daemon {
+    /// The puddles of the pool that was found, each with its frame.
+    fn puddles_of(&self, found: Readable) -> &[(u32, Puddle)]
+        requires { found.slot < POOL_RECORDS }
+        ensures open { found.is_open ≡ true → FindsPuddles (self.now).held found.slot result.now }
+        ensures known { found.is_open ≡ false → result.now ≡ unwrap_or (known_in (self.now).judged found.slot) [] }
+        ensures within { IsOnDevice (self.now).frames result.now }
+    {
+        if found.is_open {
+            puddles_on(&self.opened, found.slot)
+        } else {
+            self.judged.puddles(found.slot)
         }
     }
-}
 
-impl Daemon {
     /// Reads field `f`, 0 to 29, of the object of serial `s` in the pool of this name for the client, or refuses to. Nothing on the device
     /// changes, and the pool is judged where it is not known to have a graph. A pool on which a transaction is open is read as the
     /// transaction has it, and by its client alone.
     pub(crate) fn get_for<H: Host>(
         &mut self,
         h: &mut H,
-        client: u32,
+        client: u8,
         name: Name,
         s: u64,
         f: u32,
@@ -182,23 +151,26 @@ impl Daemon {
         ensures applies { H.tells → (size : ℕ) → (w : World) → IsReady size w self.old (H.state h.old)
             → Applies size w (world_by w (Option.Some (Get client name s f))) self.new (fault_of result) (H.state h.old) (H.state h.new) }
         ensures held { (self.new).held ≡ (self.old).held }
+        ensures sessions { (self.new).sessions ≡ (self.old).sessions }
         ensures frames { (self.new).frames ≡ (self.old).frames }
         ensures stays { H.tells → H.state h.new ≡ H.state h.old }
         ensures cause { H.counts h.new ≡ after_fault (fault_of result) (H.counts h.old) }
         ensures never_cut { fault_of result ≢ Option.Some HostFault.Cut }
     {
-        let held = holder_of(&self.opened);
-        let at = puddles_of(&self.opened);
-        get(
+        let found = find_readable(
             h,
             self.frames,
-            held,
-            at,
+            &self.sessions,
             &mut self.judged,
             client,
             name,
-            s,
-            f,
-        )
+        )?;
+        match found {
+            Err(refusal) => Ok(Reply::No(refusal)),
+            Ok(found) => {
+                let read = read_field(h, self.frames, self.puddles_of(found), s, f)?;
+                Ok(reply_of(read))
+            }
+        }
     }
 }

@@ -1,5 +1,6 @@
 //! Why a line of a transaction is refused. Nothing is written.
-ghost use Rattle.std.specs.Prelude.{◌≡◌, ◌≢◌, ◌+◌, ◌<◌, ◌≤◌, ℕ, Option, IfOk, IfSome};
+ghost use Rattle.std.specs.Prelude.{◌≡◌, ◌≢◌, ◌+◌, ◌<◌, ◌≤◌, ℕ, true, false, [], is_some, unwrap_or, Option, Result, IfOk, IfSome};
+ghost use Rattle.std.specs.Result.{result_ok};
 ghost use Rattle.pm_model.specs.Words.{reads};
 ghost use Rattle.pm_model.specs.Counts.{after_fault, fault_of};
 ghost use Rattle.pud_defs.specs.declared.layout.TheConstants.{CLIENTS, LOG_ENTRY_WORDS, MAX_FRAMES, MAX_FIELDS, SET_UNITS};
@@ -7,67 +8,65 @@ ghost use Rattle.pud_defs.specs.declared.records.TheConstants.{POOL_RECORDS};
 ghost use Rattle.pud_defs.specs.declared.machine.Command.TheVariants as commands;
 ghost use Rattle.pud_defs.specs.Image.{Image};
 ghost use Rattle.pud_defs.specs.Layout.{device_words};
+ghost use Rattle.pud_defs.specs.Settled.{ALL_LOGS};
 ghost use Rattle.pud_defs.specs.Types.{types_of};
 ghost use Rattle.pud_defs.specs.Stored.{IsOnDevice, stored_in};
 ghost use Rattle.pud_defs.specs.Graph.{Graph, graph_of};
 ghost use Rattle.pud_defs.specs.World.{World};
 ghost use Rattle.pud_defs.specs.Step.{are_of_two_kinds, misses, refusal_of};
-ghost use Rattle.puddled.specs.Memory.{Held, Memory};
-ghost use Rattle.puddled.specs.Held.{IsHeldWithin, IsOwn};
+ghost use Rattle.nesting.specs.Sessions.{session_in, AreSessions};
+ghost use Rattle.puddled.specs.Memory.{Held, Memory, held_under};
+ghost use Rattle.puddled.specs.Held.{IsHeldWithin};
+ghost use Rattle.puddled.specs.Holding.{is_held_on, IsOwnOn};
 ghost use Rattle.puddled.specs.Judged.{known_in, AreJudged};
-ghost use Rattle.puddled.specs.Refusing.{busy_unless, refusal_to_set, refusal_in, beginning_beside, FindsBeginning, MayBeginAnew};
+ghost use Rattle.puddled.specs.Beginning.{MayBegin};
+ghost use Rattle.puddled.specs.Owning.{refusal_found};
+ghost use Rattle.puddled.specs.Refusing.{refusal_to_set, writing_open, refusal_to_write, refusal_to_enter, FindsOwn};
 ghost use Rattle.puddled.specs.Daemon.{IsReady};
 
 use crate::daemon::Daemon;
-use crate::opened::{Opened, holder_of};
-use crate::reading::opened_by;
+use crate::opened::{Opened, number_on};
 use graph_read::{FieldRead, find_serial, read_field};
-use log_space::{free_log, owner};
+use log_space::owner;
+use nesting::EnterFault;
 use owner_modes::may_write;
 use pm_model::{Host, HostFault};
 use pool_table::find;
-use pud_defs::layout::{LOG_ENTRY_WORDS, MAX_DEPTH, SET_UNITS};
+use pud_defs::layout::{LOG_ENTRY_WORDS, SET_UNITS};
 use pud_defs::machine::Refusal;
 use pud_defs::objects::Val;
 use pud_defs::records::{Name, Puddle};
 
-/// What is found of a transaction that is to begin on a pool.
-#[derive(Clone, Copy, Debug, PartialEq, Eq)]
-pub(crate) enum Beginning {
-    /// None may begin, for this reason.
-    Refused(Refusal),
-    /// The client's own is open on the pool, and may be begun once more.
-    Deeper,
-    /// One may begin on the pool.
-    Anew {
-        /// The slot of the pool's record.
-        slot: u32,
-        /// The number of the log for it among those of all clients, 0 to 31.
-        number: u32,
-    },
+/// The client's own transaction on a pool: the slot of the pool's record, and the number of its log.
+#[derive(Clone, Copy)]
+pub(crate) struct Own {
+    /// 0 to 31.
+    pub(crate) slot: u32,
+    /// 0 to 31, among those of all clients.
+    pub(crate) number: u32,
 }
 
-/// Why a line on an open transaction is refused before what it asks is looked at.
-fn busy_unless(own: bool) -> Option<Refusal>
-    ensures { result ≡ busy_unless own }
-{
-    if own { None } else { Some(Refusal::Busy) }
-}
-
-/// What is found where a transaction is open on the pool, which was begun so often.
-fn beginning_beside(right: bool, own: bool, depth: u32) -> Beginning
-    ensures { result ≡ beginning_beside right own depth }
+/// The slot that was found, where a transaction is open on the pool that is to be written, or why the client may not.
+fn writing_open(slot: u32, right: bool, own: bool) -> Result<u32, Refusal>
+    ensures { result ≡ writing_open slot right own }
 {
     if !right {
-        return Beginning::Refused(Refusal::Denied);
+        return Err(Refusal::Denied);
     }
     if !own {
-        return Beginning::Refused(Refusal::Busy);
+        return Err(Refusal::Busy);
     }
-    if MAX_DEPTH <= depth {
-        return Beginning::Refused(Refusal::Deep);
+    Ok(slot)
+}
+
+/// Why the session of a transaction does not begin, or is not one deeper.
+pub(crate) fn refusal_to_enter(fault: EnterFault) -> Refusal
+    ensures { result ≡ refusal_to_enter fault }
+{
+    match fault {
+        EnterFault::Deep => Refusal::Deep,
+        EnterFault::Logs => Refusal::Logs,
     }
-    Beginning::Deeper
 }
 
 /// Whether the value names an object that the pool does not have: a number and null name none.
@@ -148,7 +147,7 @@ impl Opened {
         requires device { device_words frames ≤ (H.counts h.old).size }
         requires within { IsHeldWithin frames self.now }
         requires field { f < MAX_FIELDS }
-        ensures refusal { H.tells → (size : ℕ) → (w : World) → (memory : Memory) → memory.frames ≡ frames → memory.held ≡ Option.Some self.now → IsReady size w memory (H.state h.old)
+        ensures refusal { H.tells → (size : ℕ) → (w : World) → (memory : Memory) → memory.frames ≡ frames → held_under memory.held (self.now).number ≡ Option.Some self.now → IsReady size w memory (H.state h.old)
             → IfOk result (λ refusal. refusal ≡ refusal_of w (commands.Set (self.now).client (self.now).name s f x)) }
         ensures room { IfOk result (λ refusal. refusal ≡ Option.None → (self.now).log.used + SET_UNITS ≤ LOG_ENTRY_WORDS) }
         ensures stays { H.tells → H.state h.new ≡ H.state h.old }
@@ -163,97 +162,118 @@ impl Opened {
 }
 
 impl Daemon {
-    /// Why a line on the client's own transaction on the pool of this name is refused, before what it asks is looked at, or None where that
-    /// transaction is open. A pool on which none is open is judged, unless it is known.
+    /// The transaction that is open on the pool in this slot, where it is the client's own, or why a line on it is refused.
+    fn own_on(&self, slot: u32, own: bool) -> Result<Own, Refusal>
+        ensures busy { own ≡ false → result ≡ Result.Err Refusal.Busy }
+        ensures found { own ≡ true → IfOk result (λ found. (found.slot ≡ slot) × (found.number < ALL_LOGS) × (is_held_on slot (held_under (self.now).held found.number) ≡ true)) }
+        ensures none { own ≡ true → result_ok result ≡ Option.None → (number : ℕ) → is_held_on slot (held_under (self.now).held number) ≡ false }
+    {
+        if !own {
+            return Err(Refusal::Busy);
+        }
+        match number_on(&self.opened, slot) {
+            Some(number) => Ok(Own { slot, number }),
+            None => Err(Refusal::Tx),
+        }
+    }
+
+    /// The client's own transaction on the pool of this name, or why a line on it is refused before what it asks is looked at. A pool on which none is
+    /// open is judged, unless it is known.
     ///
     /// The only errors are the host's own, and nothing changes on the device.
-    pub(crate) fn refusal_of_own<H: Host>(
+    pub(crate) fn find_own<H: Host>(
         &mut self,
         h: &mut H,
-        client: u32,
+        client: u8,
         name: Name,
-    ) -> Result<Option<Refusal>, HostFault>
+    ) -> Result<Result<Own, Refusal>, HostFault>
         requires known { client < CLIENTS }
         requires room { device_words (self.old).frames ≤ (H.counts h.old).size }
         ensures refusal { H.tells → (size : ℕ) → (w : World) → IsReady size w self.old (H.state h.old)
-            → AreJudged (self.old).frames (self.old).judged (reads (H.state h.old).now.words)
-            → IfOk result (λ refusal. refusal ≡ refusal_of w (commands.Commit client name)) }
-        ensures own { IfOk result (λ refusal. refusal ≡ Option.None → IsOwn client name (self.old).held) }
+            → IfOk result (λ found. refusal_found found ≡ refusal_of w (commands.Commit client name)) }
+        ensures own { H.tells → (size : ℕ) → (w : World) → IsReady size w self.old (H.state h.old)
+            → IfOk result (λ found. IfOk found (λ own. IsOwnOn client name own.slot own.number (self.old).held)) }
+        ensures finds { IfOk result (λ found. IfOk found (FindsOwn client self.old)) }
         ensures frames { (self.new).frames ≡ (self.old).frames }
         ensures held { (self.new).held ≡ (self.old).held }
+        ensures sessions { (self.new).sessions ≡ (self.old).sessions }
         ensures judged { H.tells → (image : Image) → reads (H.state h.old).now.words ≡ image → AreJudged (self.old).frames (self.old).judged image
             → AreJudged (self.old).frames (self.new).judged image }
-        // Of the pool on which a transaction is open nothing comes to be known.
-        ensures apart { H.tells → (size : ℕ) → (w : World) → IsReady size w self.old (H.state h.old) → (mine : Held) → (self.old).held ≡ Option.Some mine
+        // Of a pool on which a transaction is open nothing comes to be known.
+        ensures apart { H.tells → (size : ℕ) → (w : World) → IsReady size w self.old (H.state h.old) → (number : ℕ) → (mine : Held) → held_under (self.old).held number ≡ Option.Some mine
             → known_in (self.new).judged mine.slot ≡ known_in (self.old).judged mine.slot }
         ensures stays { H.tells → H.state h.new ≡ H.state h.old }
         ensures cause { H.counts h.new ≡ after_fault (fault_of result) (H.counts h.old) }
         ensures never_cut { fault_of result ≢ Option.Some HostFault.Cut }
     {
-        let Some(_) = owner(h, client)? else {
-            return Ok(Some(Refusal::Client));
+        let Some(_) = owner(h, client as u32)? else {
+            return Ok(Err(Refusal::Client));
         };
         let Some((slot, _)) = find(h, name)? else {
-            return Ok(Some(Refusal::Pool));
+            return Ok(Err(Refusal::Pool));
         };
-        if let Some(other) = opened_by(holder_of(&self.opened), name) {
-            return Ok(busy_unless(other == client));
+        if let Some(other) = self.sessions.holder(slot) {
+            return Ok(self.own_on(slot, other == client));
         }
         if !self.judged.judge(h, self.frames, slot)? {
-            return Ok(Some(Refusal::Wild));
+            return Ok(Err(Refusal::Wild));
         }
-        Ok(Some(Refusal::Tx))
+        Ok(Err(Refusal::Tx))
     }
 
-    /// What is found of a transaction that the client is to begin on the pool of this name, where none is open on another. A pool on which none is
-    /// open is judged, unless it is known, and the lowest closed log of the client is the one to begin in.
+    /// The slot of the record of the pool of this name, where it has a graph and the client may begin a transaction on it, and none or its own is open on
+    /// it; or why the client may not. A pool on which none is open is judged, unless it is known, and then is known.
     ///
     /// The only errors are the host's own, and nothing changes on the device.
-    pub(crate) fn find_beginning<H: Host>(
+    pub(crate) fn find_writable<H: Host>(
         &mut self,
         h: &mut H,
-        client: u32,
+        client: u8,
         name: Name,
-    ) -> Result<Beginning, HostFault>
+    ) -> Result<Result<u32, Refusal>, HostFault>
         requires known { client < CLIENTS }
         requires room { device_words (self.old).frames ≤ (H.counts h.old).size }
-        requires alone { IfSome (self.old).held (λ held. held.name ≡ name) }
         ensures refusal { H.tells → (size : ℕ) → (w : World) → IsReady size w self.old (H.state h.old)
-            → AreJudged (self.old).frames (self.old).judged (reads (H.state h.old).now.words)
-            → IfOk result (λ found. refusal_in found ≡ refusal_of w (commands.Begin client name)) }
-        ensures found { IfOk result (FindsBeginning client name (self.old).held (self.new).judged) }
-        ensures begins { H.tells → (size : ℕ) → (w : World) → IsReady size w self.old (H.state h.old)
-            → AreJudged (self.old).frames (self.old).judged (reads (H.state h.old).now.words)
-            → IfOk result (MayBeginAnew (self.old).frames client name (reads (H.state h.old).now.words) (self.new).judged) }
+            → IfOk result (λ found. refusal_found found ≡ refusal_to_write w client name) }
+        // Where it is the client's own that is open it is held on the pool in the slot; else the pool may be begun on.
+        ensures own { H.tells → (size : ℕ) → (w : World) → IsReady size w self.old (H.state h.old)
+            → IfOk result (λ found. IfOk found (λ slot. true ≡ is_some (session_in (self.old).sessions slot) → (number : ℕ) × IsOwnOn client name slot number (self.old).held)) }
+        ensures writes { H.tells → (size : ℕ) → (w : World) → IsReady size w self.old (H.state h.old)
+            → IfOk result (λ found. IfOk found (λ slot. session_in (self.old).sessions slot ≡ Option.None
+            → (w.transactions name ≡ Option.None) × MayBegin (self.old).frames client name (reads (H.state h.old).now.words) slot (unwrap_or (known_in (self.new).judged slot) []))) }
+        ensures slot { IfOk result (λ found. IfOk found (λ slot. slot < POOL_RECORDS)) }
+        ensures within { IfOk result (λ found. IfOk found (λ _. AreSessions (self.old).sessions)) }
+        // No other client holds it, and where none does it is known.
+        ensures free { IfOk result (λ found. IfOk found (λ slot. IfSome (session_in (self.old).sessions slot) (λ session. session.client ≡ client))) }
+        ensures known { IfOk result (λ found. IfOk found (λ slot. session_in (self.old).sessions slot ≡ Option.None → true ≡ is_some (known_in (self.new).judged slot))) }
         ensures frames { (self.new).frames ≡ (self.old).frames }
         ensures held { (self.new).held ≡ (self.old).held }
+        ensures sessions { (self.new).sessions ≡ (self.old).sessions }
         ensures judged { H.tells → (image : Image) → reads (H.state h.old).now.words ≡ image → AreJudged (self.old).frames (self.old).judged image
             → AreJudged (self.old).frames (self.new).judged image }
-        // While a transaction is open nothing comes to be known.
-        ensures apart { (mine : Held) → (self.old).held ≡ Option.Some mine → (self.new).judged ≡ (self.old).judged }
+        // Of a pool on which a transaction is open nothing comes to be known.
+        ensures apart { H.tells → (size : ℕ) → (w : World) → IsReady size w self.old (H.state h.old) → (number : ℕ) → (mine : Held) → held_under (self.old).held number ≡ Option.Some mine
+            → known_in (self.new).judged mine.slot ≡ known_in (self.old).judged mine.slot }
         ensures stays { H.tells → H.state h.new ≡ H.state h.old }
         ensures cause { H.counts h.new ≡ after_fault (fault_of result) (H.counts h.old) }
         ensures never_cut { fault_of result ≢ Option.Some HostFault.Cut }
     {
-        let Some(who) = owner(h, client)? else {
-            return Ok(Beginning::Refused(Refusal::Client));
+        let Some(who) = owner(h, client as u32)? else {
+            return Ok(Err(Refusal::Client));
         };
         let Some((slot, rec)) = find(h, name)? else {
-            return Ok(Beginning::Refused(Refusal::Pool));
+            return Ok(Err(Refusal::Pool));
         };
         let right = may_write(rec.mode, rec.uid, rec.gid, who.uid, who.gid);
-        if let Some(opened) = &self.opened {
-            return Ok(beginning_beside(right, opened.client == client, opened.depth));
+        if let Some(other) = self.sessions.holder(slot) {
+            return Ok(writing_open(slot, right, other == client));
         }
         if !self.judged.judge(h, self.frames, slot)? {
-            return Ok(Beginning::Refused(Refusal::Wild));
+            return Ok(Err(Refusal::Wild));
         }
         if !right {
-            return Ok(Beginning::Refused(Refusal::Denied));
+            return Ok(Err(Refusal::Denied));
         }
-        let Some(number) = free_log(h, self.frames, client)? else {
-            return Ok(Beginning::Refused(Refusal::Logs));
-        };
-        Ok(Beginning::Anew { slot, number })
+        Ok(Ok(slot))
     }
 }

@@ -1,11 +1,10 @@
 use Rattle.std.proofs.Common.{◌≡◌, ℕ, Some, Ok, refl, sym, ap, subst, ◌∙◌}
 use Rattle.pud_defs.specs.declared.machine.Command.{Command}
-use Rattle.pud_defs.specs.declared.machine.Command.TheVariants.{Client, Leave, Define, Chmod, Pools, Get, Cut, Arm}
+use Rattle.pud_defs.specs.declared.machine.Command.TheVariants.{Client, Leave, Define, Chmod, Get, Begin, Commit, Abort, New, Set, Cut, Arm}
 use Rattle.pud_defs.specs.declared.machine.Command.TheVariants as commands
 use Rattle.pud_defs.specs.Grammar.{IsLegalCommand}
 use Rattle.puddled.specs.Memory.{Memory}
 use Rattle.puddled.specs.declared.answers.Answered.TheVariants as answers
-use Rattle.puddled.specs.Owning.{holder_of}
 use Rattle.puddled.specs.Daemon.{CarriesOut}
 use Rattle.puddled.proofs.Carrying.{keeps_still, ClosesLogs-leave, ClosesLogs-other, CarriesOut-plain, CarriesOut-as, CarriesOut-listed, CarriesOut-lost, CarriesOut-armed}
 use Rattle.puddled.proofs.daemon.apply.Goals as goal
@@ -20,9 +19,8 @@ returns-in-Client-clause-carries g c = λ t size e w ready.
 
 pub returns-in-Leave-clause-carries : goal.returns-in-Leave-clause-carries
 returns-in-Leave-clause-carries g c = λ t size e w ready.
-    let is : c.args.command ≡ Leave c.from-in-Leave.result = c.in-Leave.is ∙ ap Leave (sym c.from-in-Leave.ensures) in
-    CarriesOut-as size w c.leave.new.self _ _ _ _ c.args.command (Leave c.from-in-Leave.result) c.with_reply-in-Leave.result c.leave.result is c.with_reply-in-Leave.ensures
-    (CarriesOut-plain size w c.leave.new.self _ _ _ _ (Leave c.from-in-Leave.result) c.leave.result refl refl (c.leave.ensures.reply t size e w ready) (c.leave.ensures.applies t size e w ready)
+    CarriesOut-as size w c.leave.new.self _ _ _ _ c.args.command (Leave c.in-Leave.client) c.with_reply-in-Leave.result c.leave.result c.in-Leave.is c.with_reply-in-Leave.ensures
+    (CarriesOut-plain size w c.leave.new.self _ _ _ _ (Leave c.in-Leave.client) c.leave.result refl refl (c.leave.ensures.reply t size e w ready) (c.leave.ensures.applies t size e w ready)
     (ClosesLogs-leave w _ _ _ (c.leave.ensures.closes_first t size e w ready)) (c.leave.ensures.rest t) c.leave.ensures.cause)
 
 pub returns-in-Define-clause-carries : goal.returns-in-Define-clause-carries
@@ -44,28 +42,51 @@ returns-in-Pool-clause-carries g c = λ t size e w ready.
 
 pub returns-in-Chmod-clause-carries : goal.returns-in-Chmod-clause-carries
 returns-in-Chmod-clause-carries g c = λ t size e w ready.
-    let is : c.args.command ≡ Chmod c.from-in-Chmod.result c.in-Chmod.name c.in-Chmod.mode = c.in-Chmod.is ∙ ap (λ (k : ℕ). Chmod k c.in-Chmod.name c.in-Chmod.mode) (sym c.from-in-Chmod.ensures) in
-    let frames = sym (ap (λ (m : Memory). m.frames) c.daemon-in-Chmod.view_is) in
-    let legal = subst IsLegalCommand is c.requires.legal in
-    let holder = sym (ap (λ (m : Memory). holder_of m.held) c.daemon-in-Chmod.view_is) ∙ c.holder_of-held.ensures in
-    CarriesOut-as size w c.args.daemon.now _ _ _ _ c.args.command (Chmod c.from-in-Chmod.result c.in-Chmod.name c.in-Chmod.mode) c.with_reply-in-Chmod.result c.change.result is c.with_reply-in-Chmod.ensures
-    (CarriesOut-plain size w c.args.daemon.now _ _ _ _ (Chmod c.from-in-Chmod.result c.in-Chmod.name c.in-Chmod.mode) c.change.result refl refl (c.change.ensures.reply t size w _ holder ready) (c.change.ensures.applies t size e w _ holder ready legal)
+    let chmod = Chmod c.in-Chmod.client c.in-Chmod.name c.in-Chmod.mode in
+    let sessions = sym (ap (λ (m : Memory). m.sessions) c.daemon-in-Chmod.view_is) in
+    let legal = subst IsLegalCommand c.in-Chmod.is c.requires.legal in
+    CarriesOut-as size w c.args.daemon.now _ _ _ _ c.args.command chmod c.with_reply-in-Chmod.result c.change.result c.in-Chmod.is c.with_reply-in-Chmod.ensures
+    (CarriesOut-plain size w c.args.daemon.now _ _ _ _ chmod c.change.result refl refl (c.change.ensures.reply t size w _ sessions ready) (c.change.ensures.applies t size e w _ sessions ready legal)
     (ClosesLogs-other w _ _ _ (λ client no. cc)) (c.change.ensures.rest t) c.change.ensures.cause)
 
 pub returns-in-Drop-clause-carries : goal.returns-in-Drop-clause-carries
 returns-in-Drop-clause-carries g c = λ t size e w ready.
-    let is : c.args.command ≡ commands.Drop c.from-in-Drop.result c.in-Drop.name = c.in-Drop.is ∙ ap (λ (k : ℕ). commands.Drop k c.in-Drop.name) (sym c.from-in-Drop.ensures) in
-    CarriesOut-as size w c.drop_for.new.self _ _ _ _ c.args.command (commands.Drop c.from-in-Drop.result c.in-Drop.name) c.with_reply-in-Drop.result c.drop_for.result is c.with_reply-in-Drop.ensures
-    (CarriesOut-plain size w c.drop_for.new.self _ _ _ _ (commands.Drop c.from-in-Drop.result c.in-Drop.name) c.drop_for.result refl refl (c.drop_for.ensures.reply t size w ready) (c.drop_for.ensures.applies t size e w ready)
+    let drop = commands.Drop c.in-Drop.client c.in-Drop.name in
+    CarriesOut-as size w c.drop_for.new.self _ _ _ _ c.args.command drop c.with_reply-in-Drop.result c.drop_for.result c.in-Drop.is c.with_reply-in-Drop.ensures
+    (CarriesOut-plain size w c.drop_for.new.self _ _ _ _ drop c.drop_for.result refl refl (c.drop_for.ensures.reply t size w ready) (c.drop_for.ensures.applies t size e w ready)
     (ClosesLogs-other w _ _ _ (λ client no. cc)) (c.drop_for.ensures.rest t) c.drop_for.ensures.cause)
 
 pub returns-in-Get-clause-carries : goal.returns-in-Get-clause-carries
 returns-in-Get-clause-carries g c = λ t size e w ready.
-    let get = Get c.from-in-Get.result c.in-Get.name c.in-Get.s c.in-Get.f in
-    let is : c.args.command ≡ get = c.in-Get.is ∙ ap (λ (k : ℕ). Get k c.in-Get.name c.in-Get.s c.in-Get.f) (sym c.from-in-Get.ensures) in
-    CarriesOut-as size w c.get_for.new.self _ _ _ _ c.args.command get c.with_reply-in-Get.result c.get_for.result is c.with_reply-in-Get.ensures
+    let get = Get c.in-Get.client c.in-Get.name c.in-Get.s c.in-Get.f in
+    CarriesOut-as size w c.get_for.new.self _ _ _ _ c.args.command get c.with_reply-in-Get.result c.get_for.result c.in-Get.is c.with_reply-in-Get.ensures
     (CarriesOut-plain size w c.get_for.new.self _ _ _ _ get c.get_for.result refl refl (c.get_for.ensures.reply t size w ready) (c.get_for.ensures.applies t size w ready)
     (ClosesLogs-other w _ _ _ (λ client no. cc)) (keeps_still _ _ (c.get_for.ensures.stays t)) c.get_for.ensures.cause)
+
+pub returns-in-Begin-clause-carries : goal.returns-in-Begin-clause-carries
+returns-in-Begin-clause-carries g c = λ t size e w ready.
+    CarriesOut-as size w c.begin.new.self _ _ _ _ c.args.command (Begin c.in-Begin.client c.in-Begin.name) c.with_reply-in-Begin.result c.begin.result c.in-Begin.is c.with_reply-in-Begin.ensures
+    (c.begin.ensures.carries t size e w ready)
+
+pub returns-in-Commit-clause-carries : goal.returns-in-Commit-clause-carries
+returns-in-Commit-clause-carries g c = λ t size e w ready.
+    CarriesOut-as size w c.commit.new.self _ _ _ _ c.args.command (Commit c.in-Commit.client c.in-Commit.name) c.with_reply-in-Commit.result c.commit.result c.in-Commit.is c.with_reply-in-Commit.ensures
+    (c.commit.ensures.carries t size e w ready)
+
+pub returns-in-Abort-clause-carries : goal.returns-in-Abort-clause-carries
+returns-in-Abort-clause-carries g c = λ t size e w ready.
+    CarriesOut-as size w c.abort.new.self _ _ _ _ c.args.command (Abort c.in-Abort.client c.in-Abort.name) c.with_reply-in-Abort.result c.abort.result c.in-Abort.is c.with_reply-in-Abort.ensures
+    (c.abort.ensures.carries t size e w ready)
+
+pub returns-in-New-clause-carries : goal.returns-in-New-clause-carries
+returns-in-New-clause-carries g c = λ t size e w ready.
+    CarriesOut-as size w c.new_object.new.self _ _ _ _ c.args.command (New c.in-New.client c.in-New.name c.in-New.t) c.with_reply-in-New.result c.new_object.result c.in-New.is c.with_reply-in-New.ensures
+    (c.new_object.ensures.carries t size e w ready)
+
+pub returns-in-Set-clause-carries : goal.returns-in-Set-clause-carries
+returns-in-Set-clause-carries g c = λ t size e w ready.
+    CarriesOut-as size w c.set.new.self _ _ _ _ c.args.command (Set c.in-Set.client c.in-Set.name c.in-Set.s c.in-Set.f c.in-Set.x) c.with_reply-in-Set.result c.set.result c.in-Set.is c.with_reply-in-Set.ensures
+    (c.set.ensures.carries t size e w ready)
 
 pub returns-in-Pools-clause-carries : goal.returns-in-Pools-clause-carries
 returns-in-Pools-clause-carries g c = λ t size e w ready.

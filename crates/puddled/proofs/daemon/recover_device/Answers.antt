@@ -1,13 +1,16 @@
-use Rattle.std.proofs.Common.{rules, ℕ, None, refl, sym, ap, subst, ◌∙◌}
+use Rattle.std.proofs.Common.{rules, ℕ, refl, sym, ap, subst, ◌∙◌}
 use Rattle.std.proofs.lemmas.Result.{err_from_is_err_and}
 use Rattle.pm_model.specs.Words.{reads}
 use Rattle.pm_model.proofs.Changes.{Changes-said}
 use Rattle.pud_defs.specs.World.{world_of, closed}
 use Rattle.pud_defs.specs.declared.records.TheConstants.{POOL_RECORDS}
+use Rattle.pud_defs.specs.Settled.{ALL_LOGS}
+use Rattle.puddled.specs.Held.{AreHeldWithin}
 use Rattle.puddled.specs.Judged.{AreOnDevice}
 use Rattle.puddled.specs.KnownPools.{KnowsPools}
 use Rattle.puddled.proofs.JudgedOpen.{KnowsPools-none}
 use Rattle.puddled.proofs.Known.{AreOnDevice-none}
+use Rattle.puddled.proofs.NoneHeld.{AreHeldWithin-none}
 use Rattle.puddled.proofs.Restarts.{Recovers-done, Recovers-failed, sound_recovery, recovered_any}
 use Rattle.puddled.proofs.daemon.recover_device.Goals as goal
 
@@ -24,8 +27,10 @@ returns-in_err-report-clause-recovers g c =
 pub returns-clause-recovers : goal.returns-clause-recovers
 returns-clause-recovers g c = λ t size same w rested world shelf.
     let b = g.H.Host.state c.recover.new.h in
-    let knows = subst (λ known. KnowsPools w.stored.frames known None (reads b.now.words)) (sym c.none.ensures) (KnowsPools-none w.stored.frames POOL_RECORDS (reads b.now.words)) in
-    Recovers-done size w (g.H.Host.state c.args.h.now) b _ world (c.in_ok-report.ensures.frames t) refl knows shelf (c.in_ok-report.ensures.recovers t size same (closed w) rested world)
+    let knows = subst (λ known. KnowsPools w.stored.frames known c.none_opened.result (reads b.now.words)) (sym c.none.ensures)
+    (KnowsPools-none w.stored.frames POOL_RECORDS c.none_opened.result (reads b.now.words)) in
+    Recovers-done size w (g.H.Host.state c.args.h.now) b _ world (c.in_ok-report.ensures.frames t) c.none_opened.ensures c.new.ensures knows shelf
+    (c.in_ok-report.ensures.recovers t size same (closed w) rested world)
 
 pub returns-in_err-report-clause-quiet : goal.returns-in_err-report-clause-quiet
 returns-in_err-report-clause-quiet g c = λ t. Changes-said _ _ _ _ (c.in_err-report.ensures.any t)
@@ -59,4 +64,6 @@ returns-clause-frames g c = λ t rested.
 -- ---- what the daemon holds
 
 pub invariant_of-daemon : goal.invariant_of-daemon
-invariant_of-daemon g c = (search rules, search rules, tt, subst (AreOnDevice c.in_ok-report.report.frames) (sym c.none.ensures) (AreOnDevice-none c.in_ok-report.report.frames POOL_RECORDS))
+invariant_of-daemon g c =
+    let frames = c.in_ok-report.report.frames in
+    (search rules, search rules, subst (AreHeldWithin frames) (sym c.none_opened.ensures) (AreHeldWithin-none frames ALL_LOGS), subst (AreOnDevice frames) (sym c.none.ensures) (AreOnDevice-none frames POOL_RECORDS))

@@ -1,20 +1,29 @@
-use Rattle.std.proofs.Common.{ℕ, Option, [], refl, sym, ap, subst, ◌∙◌}
-use Rattle.std.specs.Prelude.{unwrap_or}
+use Rattle.std.proofs.Common.{◌≡◌, ℕ, ◌+◌, ◌≤◌, ◌<◌, List, [], Option, Some, None, Result, Ok, Err, true, is_some, refl, sym, ap, subst, ◌∙◌, arith}
+use Rattle.std.specs.Prelude.{IfOk, unwrap_or}
 use Rattle.std.proofs.lemmas.Result.{err_from_is_err_and}
 use Rattle.pm_model.specs.Counts.{Counts}
 use Rattle.pm_model.specs.Moments.{State}
 use Rattle.pm_model.specs.Words.{reads}
+use Rattle.pud_defs.specs.declared.layout.TheConstants.{CLIENT_LOGS, MAX_DEPTH}
 use Rattle.pud_defs.specs.declared.machine.Command.TheVariants.{Begin}
+use Rattle.pud_defs.specs.declared.machine.Refusal.{Refusal}
 use Rattle.pud_defs.specs.declared.machine.Reply.TheVariants as replies
+use Rattle.pud_defs.specs.declared.records.TheConstants.{POOL_RECORDS}
 use Rattle.pud_defs.specs.Step.{after}
 use Rattle.pud_defs.proofs.Steps.{answer_is_ok}
-use Rattle.puddled.specs.Memory.{Held}
-use Rattle.puddled.specs.Held.{IsOwn}
+use Rattle.nesting.specs.declared.EnterFault.TheVariants.{Deep, Logs}
+use Rattle.nesting.specs.declared.Session.{Session}
+use Rattle.nesting.specs.Sessions.{session_in, depth_in, count_of, entered, AreSessions}
+use Rattle.puddled.specs.Memory.{Held, Memory}
+use Rattle.puddled.specs.Holding.{IsOwnOn}
 use Rattle.puddled.specs.Judged.{known_in}
 use Rattle.puddled.specs.Beginning.{MayBegin}
-use Rattle.puddled.specs.Refusing.{refusal_in, FindsBeginning, MayBeginAnew}
-use Rattle.puddled.specs.declared.refusals.Beginning.{Beginning}
-use Rattle.puddled.proofs.Commanding.{judged_ready, ready_read, CarriesOut-refused, CarriesOut-unread, CarriesOut-stopped, CarriesOut-done, Applies-untouched, begin_is_plain}
+use Rattle.puddled.specs.Owning.{refusal_found}
+use Rattle.puddled.specs.Daemon.{IsReady}
+use Rattle.puddled.proofs.AtDepth.{ready_begun_again}
+use Rattle.puddled.proofs.Commanding.{ready_read, CarriesOut-refused, CarriesOut-unread, CarriesOut-done, CarriesOut-ok, Applies-untouched, begin_is_plain}
+use Rattle.puddled.proofs.Entering.{depth_entered, refused_to_enter, begun_again, own_begun, not_begun, less, few}
+use Rattle.puddled.proofs.TransactionRefusals.{refused_begin}
 use Rattle.puddled.proofs.daemon.Daemon.begin.Goals as goal
 
 pub returns-in_err-refusal-clause-carries : goal.returns-in_err-refusal-clause-carries
@@ -22,54 +31,98 @@ returns-in_err-refusal-clause-carries g c =
     let p = err_from_is_err_and c.from_residual.result c.from_residual.ensures.1 in
     rw (p.1, p.2) (λ t size e w ready.
     let k = c.in_err-refusal.ensures in
-    let known = ready_read size w c.args.self.now c.find_beginning.new.self _ _ ready (k.stays t) k.frames k.held (k.judged t) (λ mine is. ap (λ js. known_in js mine.slot) (k.apart mine is)) in
-    CarriesOut-unread size w c.find_beginning.new.self _ _ _ _ (Begin c.args.client c.args.name) (begin_is_plain c.args.client c.args.name) (k.stays t) known c.in_err-refusal.field-0.0 k.never_cut k.cause)
+    let known = ready_read size w c.args.self.now c.find_writable.new.self _ _ ready (k.stays t) k.frames k.held k.sessions (k.judged t) (k.apart t size w ready) in
+    CarriesOut-unread size w c.find_writable.new.self _ _ _ _ (Begin c.args.client c.args.name) (begin_is_plain c.args.client c.args.name) (k.stays t) known c.in_err-refusal.field-0.0 k.never_cut k.cause)
 
-pub returns-in-Refused-clause-carries : goal.returns-in-Refused-clause-carries
-returns-in-Refused-clause-carries g c = λ t size e w ready.
+pub returns-in-Err-clause-carries : goal.returns-in-Err-clause-carries
+returns-in-Err-clause-carries g c = λ t size e w ready.
     let k = c.in_ok-refusal.ensures in
-    let known = ready_read size w c.args.self.now c.find_beginning.new.self _ _ ready (k.stays t) k.frames k.held (k.judged t) (λ mine is. ap (λ js. known_in js mine.slot) (k.apart mine is)) in
-    let refused = sym (k.refusal t size w ready (judged_ready size w c.args.self.now _ ready)) ∙ ap refusal_in c.in-Refused.is in
-    CarriesOut-refused size w c.find_beginning.new.self _ _ _ _ (Begin c.args.client c.args.name) (begin_is_plain c.args.client c.args.name) (k.stays t) known c.in-Refused.refusal refused k.cause
+    let known = ready_read size w c.args.self.now c.find_writable.new.self _ _ ready (k.stays t) k.frames k.held k.sessions (k.judged t) (k.apart t size w ready) in
+    let refused = refused_begin w c.args.client c.args.name c.in-Err.refusal (sym (k.refusal t size w ready) ∙ ap refusal_found c.in-Err.is) in
+    CarriesOut-refused size w c.find_writable.new.self _ _ _ _ (Begin c.args.client c.args.name) (begin_is_plain c.args.client c.args.name) (k.stays t) known c.in-Err.refusal refused k.cause
 
-pub returns-in-Deeper-clause-carries : goal.returns-in-Deeper-clause-carries
-returns-in-Deeper-clause-carries g c = λ t size e w ready.
+-- ---- the client may write the pool
+
+pub returns-in-Err-enter-clause-carries : goal.returns-in-Err-enter-clause-carries
+returns-in-Err-enter-clause-carries g c = λ t size e w ready.
+    let i = c.self.inside in
+    let slot = c.in-Ok.slot in
     let k = c.in_ok-refusal.ensures in
-    let known = ready_read size w c.args.self.now c.find_beginning.new.self _ _ ready (k.stays t) k.frames k.held (k.judged t) (λ mine is. ap (λ js. known_in js mine.slot) (k.apart mine is)) in
-    let free = sym (k.refusal t size w ready (judged_ready size w c.args.self.now _ ready)) ∙ ap refusal_in c.in-Deeper.is in
-    let below = subst (λ (b : Beginning). FindsBeginning c.args.client c.args.name c.args.self.now.held c.find_beginning.new.self.judged b) c.in-Deeper.is k.found in
-    let own = subst (λ (o : Option Held). IsOwn c.args.client c.args.name o) (sym k.held) below.own in
-    CarriesOut-done size w c.deepen.new.self _ _ _ _ _ _ (Begin c.args.client c.args.name) (begin_is_plain c.args.client c.args.name) free (k.stays t) k.cause (record { script = refl; shelf = refl }) replies.Ok
+    let old = c.args.self.now in
+    let allowed = sym (k.refusal t size w ready) ∙ ap refusal_found c.in-Ok.is in
+    let own = subst (λ (r : Result ℕ Refusal). IfOk r (λ x. true ≡ is_some (session_in old.sessions x) → (number : ℕ) × IsOwnOn c.args.client c.args.name x number old.held)) c.in-Ok.is (k.own t size w ready) in
+    let writes = subst (λ (r : Result ℕ Refusal). IfOk r (λ x. session_in old.sessions x ≡ None
+    → (w.transactions c.args.name ≡ None) × MayBegin old.frames c.args.client c.args.name (reads (g.H.Host.state c.args.h.now).now.words) x (unwrap_or (known_in c.find_writable.new.self.judged x) []))) c.in-Ok.is (k.writes t size w ready) in
+    let are = subst (λ (r : Result ℕ Refusal). IfOk r (λ x. AreSessions old.sessions)) c.in-Ok.is k.within in
+    let same = ap (λ (m : Memory). m.sessions) c.self.view_is ∙ k.sessions in
+    let known = ready_read size w old c.find_writable.new.self _ _ ready (k.stays t) k.frames k.held k.sessions (k.judged t) (k.apart t size w ready) in
+    let there = subst (λ (m : Memory). IsReady size w m (g.H.Host.state c.find_writable.new.h)) (sym c.self.view_is) known in
+    let behind = subst (λ (ss : List (Option Session)). IsReady size w (record { frames = i.frames; held = i.opened; sessions = ss; judged = i.judged }) (g.H.Host.state c.find_writable.new.h)) (sym c.in-Err-enter.ensures.stays) there in
+    let refused = refused_to_enter size w old _ ready c.args.client c.args.name slot allowed own (λ none. (writes none).0) are c.in-Err-enter.fault c.enter.result c.in-Err-enter.is
+    (λ is. subst (λ (ss : List (Option Session)). depth_in ss slot ≡ MAX_DEPTH) same (c.enter.ensures.deep.0 is))
+    (λ is. subst (λ (ss : List (Option Session)). (session_in ss slot ≡ None) × (CLIENT_LOGS ≤ count_of c.args.client ss)) same (c.enter.ensures.logs.0 is)) in
+    CarriesOut-refused size w (record { frames = i.frames; held = i.opened; sessions = c.enter.new.self; judged = i.judged }) _ _ _ _ (Begin c.args.client c.args.name) (begin_is_plain c.args.client c.args.name) (k.stays t) behind
+    c.refusal_to_enter.result (refused ∙ ap (λ (r : Refusal). Some r) (sym c.refusal_to_enter.ensures)) k.cause
+
+pub returns-then-depth-gt1-clause-carries : goal.returns-then-depth-gt1-clause-carries
+returns-then-depth-gt1-clause-carries g c = λ t size e w ready.
+    let i = c.self.inside in
+    let slot = c.in-Ok.slot in
+    let k = c.in_ok-refusal.ensures in
+    let old = c.args.self.now in
+    let s = g.H.Host.state c.find_writable.new.h in
+    let allowed = sym (k.refusal t size w ready) ∙ ap refusal_found c.in-Ok.is in
+    let own = subst (λ (r : Result ℕ Refusal). IfOk r (λ x. true ≡ is_some (session_in old.sessions x) → (number : ℕ) × IsOwnOn c.args.client c.args.name x number old.held)) c.in-Ok.is (k.own t size w ready) in
+    let writes = subst (λ (r : Result ℕ Refusal). IfOk r (λ x. session_in old.sessions x ≡ None
+    → (w.transactions c.args.name ≡ None) × MayBegin old.frames c.args.client c.args.name (reads (g.H.Host.state c.args.h.now).now.words) x (unwrap_or (known_in c.find_writable.new.self.judged x) []))) c.in-Ok.is (k.writes t size w ready) in
+    let are = subst (λ (r : Result ℕ Refusal). IfOk r (λ x. AreSessions old.sessions)) c.in-Ok.is k.within in
+    let below = subst (λ (r : Result ℕ Refusal). IfOk r (λ x. x < POOL_RECORDS)) c.in-Ok.is k.slot in
+    let same = ap (λ (m : Memory). m.sessions) c.self.view_is ∙ k.sessions in
+    let known = ready_read size w old c.find_writable.new.self _ _ ready (k.stays t) k.frames k.held k.sessions (k.judged t) (k.apart t size w ready) in
+    let there = subst (λ (m : Memory). IsReady size w m s) (sym c.self.view_is) known in
+    let entered_is : c.enter.new.self ≡ entered c.args.client slot i.sessions = c.in_default.ensures.entered in
+    let deep : c.depth.result ≡ depth_in old.sessions slot + 1 = c.depth.ensures.depth ∙ ap (λ (ss : List (Option Session)). depth_in ss slot) (entered_is ∙ ap (entered c.args.client slot) same)
+    ∙ depth_entered c.args.client slot old.sessions (omega (arith, are.slots, below)) in
+    let some : 0 < depth_in old.sessions slot = omega (arith, deep, c.if-depth-gt1.true) in
+    let free = begun_again size w old _ ready c.args.client c.args.name slot allowed own (λ none. (writes none).0) are some
+    (λ most. let no : Ok c.in_default.field-0 ≡ Err Deep = sym c.in_default.is ∙ c.enter.ensures.deep.1 (ap (λ (ss : List (Option Session)). depth_in ss slot) same ∙ most) in cc) in
+    let mine = own_begun size w old _ ready c.args.client c.args.name slot allowed own (λ none. (writes none).0) are some in
+    let held = ap (λ (m : Memory). m.held) c.self.view_is ∙ k.held in
+    let now = ready_begun_again size w (record { frames = i.frames; held = i.opened; sessions = i.sessions; judged = i.judged }) s c.args.client c.args.name slot mine.0 there
+    (subst (λ (xs : List (Option Held)). IsOwnOn c.args.client c.args.name slot mine.0 xs) (sym held) mine.1) in
+    let behind : Memory = record { frames = i.frames; held = i.opened; sessions = c.enter.new.self; judged = i.judged } in
+    CarriesOut-done size w behind _ _ _ _ _ _ (Begin c.args.client c.args.name) (begin_is_plain c.args.client c.args.name) free (k.stays t) k.cause (record { script = refl; shelf = refl }) replies.Ok
     (sym (answer_is_ok w (Begin c.args.client c.args.name) refl refl free))
-    (Applies-untouched size w (after w (Begin c.args.client c.args.name)) c.find_beginning.new.self c.deepen.new.self _ known (c.deepen.ensures.ready size w _ c.args.client c.args.name known own)) refl
+    (Applies-untouched size w (after w (Begin c.args.client c.args.name)) (record { frames = i.frames; held = i.opened; sessions = i.sessions; judged = i.judged }) behind s there
+    (subst (λ (ss : List (Option Session)). IsReady size (after w (Begin c.args.client c.args.name)) (record { frames = i.frames; held = i.opened; sessions = ss; judged = i.judged }) s) (sym entered_is) now)) refl
 
-pub returns-in_err-begin_on-in-Anew-clause-carries : goal.returns-in_err-begin_on-in-Anew-clause-carries
-returns-in_err-begin_on-in-Anew-clause-carries g c =
-    let p = err_from_is_err_and c.from_residual-in_err-begin_on-in-Anew.result c.from_residual-in_err-begin_on-in-Anew.ensures.1 in
-    rw (p.1, p.2) (λ t size e w ready.
+pub returns-clause-carries : goal.returns-clause-carries
+returns-clause-carries g c = λ t size e w ready.
+    let i = c.self.inside in
+    let slot = c.in-Ok.slot in
     let k = c.in_ok-refusal.ensures in
-    let judged = judged_ready size w c.args.self.now _ ready in
-    let known = ready_read size w c.args.self.now c.find_beginning.new.self _ _ ready (k.stays t) k.frames k.held (k.judged t) (λ mine is. ap (λ js. known_in js mine.slot) (k.apart mine is)) in
-    let free = sym (k.refusal t size w ready judged) ∙ ap refusal_in c.in-Anew.is in
-    let found = subst (λ (b : Beginning). MayBeginAnew c.args.self.now.frames c.args.client c.args.name (reads (g.H.Host.state c.args.h.now).now.words) c.find_beginning.new.self.judged b) c.in-Anew.is (k.begins t size w ready judged) in
-    let at = unwrap_or (known_in c.find_beginning.new.self.judged c.in-Anew.slot) [] in
-    let may = subst (λ (n : ℕ). MayBegin n c.args.client c.args.name (reads (g.H.Host.state c.find_beginning.new.h).now.words) c.in-Anew.slot c.in-Anew.number at) (sym k.frames)
-    (subst (λ (s : State). MayBegin c.args.self.now.frames c.args.client c.args.name (reads s.now.words) c.in-Anew.slot c.in-Anew.number at) (sym (k.stays t)) found) in
-    let n = c.in_err-begin_on-in-Anew.ensures in
-    CarriesOut-stopped size w c.begin_on.new.self _ _ _ _ _ _ (Begin c.args.client c.args.name) (begin_is_plain c.args.client c.args.name) free (k.stays t) k.cause (n.rest t) c.in_err-begin_on-in-Anew.field-0.0
-    (n.applies t size (e ∙ sym (ap (λ (m : Counts). m.size) k.cause)) w known may) n.cause)
-
-pub returns-in_ok-begin_on-in-Anew-clause-carries : goal.returns-in_ok-begin_on-in-Anew-clause-carries
-returns-in_ok-begin_on-in-Anew-clause-carries g c = λ t size e w ready.
-    let k = c.in_ok-refusal.ensures in
-    let judged = judged_ready size w c.args.self.now _ ready in
-    let known = ready_read size w c.args.self.now c.find_beginning.new.self _ _ ready (k.stays t) k.frames k.held (k.judged t) (λ mine is. ap (λ js. known_in js mine.slot) (k.apart mine is)) in
-    let free = sym (k.refusal t size w ready judged) ∙ ap refusal_in c.in-Anew.is in
-    let found = subst (λ (b : Beginning). MayBeginAnew c.args.self.now.frames c.args.client c.args.name (reads (g.H.Host.state c.args.h.now).now.words) c.find_beginning.new.self.judged b) c.in-Anew.is (k.begins t size w ready judged) in
-    let at = unwrap_or (known_in c.find_beginning.new.self.judged c.in-Anew.slot) [] in
-    let may = subst (λ (n : ℕ). MayBegin n c.args.client c.args.name (reads (g.H.Host.state c.find_beginning.new.h).now.words) c.in-Anew.slot c.in-Anew.number at) (sym k.frames)
-    (subst (λ (s : State). MayBegin c.args.self.now.frames c.args.client c.args.name (reads s.now.words) c.in-Anew.slot c.in-Anew.number at) (sym (k.stays t)) found) in
-    let n = c.in_ok-begin_on-in-Anew.ensures in
-    CarriesOut-done size w c.begin_on.new.self _ _ _ _ _ _ (Begin c.args.client c.args.name) (begin_is_plain c.args.client c.args.name) free (k.stays t) k.cause (n.rest t) replies.Ok
-    (sym (answer_is_ok w (Begin c.args.client c.args.name) refl refl free))
-    (n.applies t size (e ∙ sym (ap (λ (m : Counts). m.size) k.cause)) w known may) n.cause
+    let old = c.args.self.now in
+    let s = g.H.Host.state c.find_writable.new.h in
+    let allowed = sym (k.refusal t size w ready) ∙ ap refusal_found c.in-Ok.is in
+    let own = subst (λ (r : Result ℕ Refusal). IfOk r (λ x. true ≡ is_some (session_in old.sessions x) → (number : ℕ) × IsOwnOn c.args.client c.args.name x number old.held)) c.in-Ok.is (k.own t size w ready) in
+    let writes = subst (λ (r : Result ℕ Refusal). IfOk r (λ x. session_in old.sessions x ≡ None
+    → (w.transactions c.args.name ≡ None) × MayBegin old.frames c.args.client c.args.name (reads (g.H.Host.state c.args.h.now).now.words) x (unwrap_or (known_in c.find_writable.new.self.judged x) []))) c.in-Ok.is (k.writes t size w ready) in
+    let are = subst (λ (r : Result ℕ Refusal). IfOk r (λ x. AreSessions old.sessions)) c.in-Ok.is k.within in
+    let below = subst (λ (r : Result ℕ Refusal). IfOk r (λ x. x < POOL_RECORDS)) c.in-Ok.is k.slot in
+    let same = ap (λ (m : Memory). m.sessions) c.self.view_is ∙ k.sessions in
+    let known = ready_read size w old c.find_writable.new.self _ _ ready (k.stays t) k.frames k.held k.sessions (k.judged t) (k.apart t size w ready) in
+    let there = subst (λ (m : Memory). IsReady size w m s) (sym c.self.view_is) known in
+    let entered_is : c.enter.new.self ≡ entered c.args.client slot i.sessions = c.in_default.ensures.entered in
+    let deep : c.depth.result ≡ depth_in old.sessions slot + 1 = c.depth.ensures.depth ∙ ap (λ (ss : List (Option Session)). depth_in ss slot) (entered_is ∙ ap (entered c.args.client slot) same)
+    ∙ depth_entered c.args.client slot old.sessions (omega (arith, are.slots, below)) in
+    let none = not_begun size w old _ ready c.args.client c.args.name slot allowed own (λ none. (writes none).0) are (omega (arith, deep, c.if-depth-gt1.false)) in
+    let left = less size w old _ ready c.args.client c.args.name slot allowed own (λ none. (writes none).0) are none
+    (λ many. let no : Ok c.in_default.field-0 ≡ Err Logs = sym c.in_default.is ∙ c.enter.ensures.logs.1 (subst (λ (ss : List (Option Session)). (session_in ss slot ≡ None) × (CLIENT_LOGS ≤ count_of c.args.client ss)) (sym same) many) in cc) in
+    let free = few size w old _ ready c.args.client c.args.name slot allowed own (λ none. (writes none).0) are none left in
+    let may = subst (λ (m : Memory). MayBegin m.frames c.args.client c.args.name (reads s.now.words) slot (unwrap_or (known_in m.judged slot) [])) (sym c.self.view_is)
+    (subst (λ (F : ℕ). MayBegin F c.args.client c.args.name (reads s.now.words) slot (unwrap_or (known_in c.find_writable.new.self.judged slot) [])) (sym k.frames)
+    (subst (λ (x : State). MayBegin old.frames c.args.client c.args.name (reads x.now.words) slot (unwrap_or (known_in c.find_writable.new.self.judged slot) [])) (sym (k.stays t)) (writes none).1)) in
+    let begins = c.begin_on.ensures.begins t size (e ∙ sym (ap (λ (m : Counts). m.size) k.cause)) w i.sessions there (subst AreSessions (sym same) are) (ap (λ (ss : List (Option Session)). session_in ss slot) same ∙ none)
+    (subst (λ (ss : List (Option Session)). count_of c.args.client ss < CLIENT_LOGS) (sym same) left) entered_is (writes none).0 may in
+    CarriesOut-ok size w c.begin_on.new.self _ _ _ _ _ _ (Begin c.args.client c.args.name) (begin_is_plain c.args.client c.args.name) free (k.stays t) k.cause (c.begin_on.ensures.rest t) c.begin_on.result begins.0
+    (sym (answer_is_ok w (Begin c.args.client c.args.name) refl refl free)) begins.1 c.begin_on.ensures.cause

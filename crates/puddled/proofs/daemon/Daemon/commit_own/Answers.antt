@@ -1,18 +1,25 @@
-use Rattle.std.proofs.Common.{ap, ◌+◌, ◌≤◌, sym, subst, ◌∙◌, arith}
+use Rattle.std.proofs.Common.{List, Option, ap, ◌+◌, ◌≤◌, sym, subst, ◌∙◌, arith}
 use Rattle.std.specs.Prelude.{IfSome}
 use Rattle.pud_defs.specs.declared.layout.TheConstants.{LOG_WORDS}
 use Rattle.pud_defs.specs.Layout.{frames_at}
 use Rattle.log_store.specs.Store.{OpenLog}
-use Rattle.puddled.specs.Beginning.{depth_held}
+use Rattle.nesting.specs.declared.Session.{Session}
+use Rattle.nesting.specs.Sessions.{depth_in, left}
+use Rattle.puddled.specs.Memory.{Memory}
 use Rattle.puddled.proofs.Depth.{Applies-rises}
-use Rattle.puddled.proofs.HeldEnds.{Applies-kept}
+use Rattle.puddled.proofs.HeldEnds.{IsReleased, Applies-kept}
 use Rattle.puddled.proofs.daemon.Daemon.commit_own.Goals as goal
 
 pub returns-then-depth-gt1-clause-applies : goal.returns-then-depth-gt1-clause-applies
-returns-then-depth-gt1-clause-applies g c = λ t size e w client name ready own.
-    let depth = c.depth.ensures in
+returns-then-depth-gt1-clause-applies g c = λ t size e w name ready own.
+    let i = c.self.inside in
+    let slot = c.args.own.slot in
+    let view : Memory = record { frames = i.frames; held = i.opened; sessions = i.sessions; judged = i.judged } in
+    let depth = ap (λ (m : Memory). depth_in m.sessions slot) c.self.view_is in
+    let is = c.depth.ensures.depth in
     let more = c.if-depth-gt1.true in
-    Applies-rises size w c.args.self.now c.rise.new.self _ client name (omega (arith, depth, more)) c.rise.ensures.frames c.rise.ensures.held c.rise.ensures.judged ready own
+    Applies-rises size w c.args.self.now (record view { sessions = c.leave.new.self }) _ c.args.client name slot c.args.own.number (omega (arith, depth, is, more))
+    (ap (λ (m : Memory). record m { sessions = left slot m.sessions }) (sym c.self.view_is) ∙ ap (λ (l : List (Option Session)). record view { sessions = l }) (sym c.leave.ensures.left)) ready own
 
 -- its log lies in the device
 pub commit-requires : goal.commit-requires
@@ -22,9 +29,11 @@ commit-requires g c =
     omega (arith, place, room)
 
 pub returns-in-Some-clause-applies : goal.returns-in-Some-clause-applies
-returns-in-Some-clause-applies g c = λ t size e w client name ready own.
-    let depth = c.depth.ensures in
+returns-in-Some-clause-applies g c = λ t size e w name ready own.
+    let depth = ap (λ (m : Memory). depth_in m.sessions c.args.own.slot) c.self.view_is in
+    let is = c.depth.ensures.depth in
     let last = c.if-depth-gt1.false in
-    let mine = ap depth_held own.is in
-    Applies-kept size _ w c.args.self.now c.release.new.self client name c.in-Some.tx _ _ _ e c.release.ensures.frames c.release.ensures.held c.release.ensures.judged (sym c.release.ensures.tx ∙ c.in-Some.is) ready own
-    (omega (arith, depth, last, mine)) (c.commit.ensures.ends t)
+    let r = c.release.ensures in
+    let released : IsReleased c.args.own.number c.args.self.now c.release.new.self = record { frames = r.frames; held = r.held; sessions = r.sessions; judged = r.judged } in
+    Applies-kept size w c.args.self.now c.release.new.self c.args.own.number _ _ _ released ready _ c.args.client name c.args.own.slot c.in-Some.tx e own (sym r.tx ∙ c.in-Some.is) (omega (arith, depth, is, last))
+    (c.commit.ensures.ends t)

@@ -6,8 +6,8 @@ use Rattle.pud_defs.specs.declared.machine.Refusal.TheVariants as refusals
 use Rattle.pud_defs.specs.Step.{world_by}
 use Rattle.pud_defs.proofs.Steps.{refused_answer, answer_is_ok}
 use Rattle.puddled.proofs.Applying.{Applies-failed, Applies-refused}
-use Rattle.puddled.proofs.Leaving.{Applies-accepted_by}
-use Rattle.puddled.proofs.Coming.{presence_read, is_absent, is_there, ClosesBefore-idle, ClosesBefore-behind}
+use Rattle.puddled.proofs.Leaving.{presence_of, Applies-accepted_by}
+use Rattle.puddled.proofs.Coming.{is_absent, is_there, ClosesBefore-idle, ClosesBefore-behind}
 use Rattle.puddled.proofs.daemon.Daemon.leave.Goals as goal
 
 pub returns-in_err-is_registered-clause-applies : goal.returns-in_err-is_registered-clause-applies
@@ -18,17 +18,17 @@ returns-in_err-is_registered-clause-applies g c =
 
 pub returns-then-not-branch-clause-reply : goal.returns-then-not-branch-clause-reply
 returns-then-not-branch-clause-reply g c = λ t size e w ready.
-    sym (refused_answer w (Leave c.args.client) refusals.Client (is_absent w c.args.client 0 0 (sym c.if-not-branch.true ∙ presence_read size w c.args.self.now _ c.args.client _ c.requires.known ready (c.in_ok-is_registered.ensures.registered t))))
+    sym (refused_answer w (Leave c.args.client) refusals.Client (is_absent w c.args.client 0 0 (sym c.if-not-branch.true ∙ presence_of size w c.args.self.now _ c.args.client _ _ c.from.ensures c.requires.known ready (c.in_ok-is_registered.ensures.registered t))))
 
 pub returns-then-not-branch-clause-applies : goal.returns-then-not-branch-clause-applies
 returns-then-not-branch-clause-applies g c = λ t size e w ready.
     Applies-refused size w c.args.self.now (Leave c.args.client) refusals.Client _ _ ready
-    (is_absent w c.args.client 0 0 (sym c.if-not-branch.true ∙ presence_read size w c.args.self.now _ c.args.client _ c.requires.known ready (c.in_ok-is_registered.ensures.registered t)))
+    (is_absent w c.args.client 0 0 (sym c.if-not-branch.true ∙ presence_of size w c.args.self.now _ c.args.client _ _ c.from.ensures c.requires.known ready (c.in_ok-is_registered.ensures.registered t)))
     (c.in_ok-is_registered.ensures.stays t)
 
 pub returns-clause-reply : goal.returns-clause-reply
 returns-clause-reply g c = λ t size e w ready.
-    sym (answer_is_ok w (Leave c.args.client) refl refl (is_there w c.args.client 0 0 (sym c.if-not-branch.false ∙ presence_read size w c.args.self.now _ c.args.client _ c.requires.known ready (c.in_ok-is_registered.ensures.registered t))))
+    sym (answer_is_ok w (Leave c.args.client) refl refl (is_there w c.args.client 0 0 (sym c.if-not-branch.false ∙ presence_of size w c.args.self.now _ c.args.client _ _ c.from.ensures c.requires.known ready (c.in_ok-is_registered.ensures.registered t))))
 
 pub returns-in_err-let_go-clause-applies : goal.returns-in_err-let_go-clause-applies
 returns-in_err-let_go-clause-applies g c =
@@ -36,14 +36,14 @@ returns-in_err-let_go-clause-applies g c =
     rw (p.1, p.2) (λ t size e w ready.
     let after = e ∙ sym (ap (λ (n : Counts). n.size) c.in_ok-is_registered.ensures.cause) in
     Applies-accepted_by size w c.args.self.now c.let_go.new.self (Leave c.args.client) (Some c.in_err-let_go.field-0.0) _ _ _
-    (is_there w c.args.client 0 0 (sym c.if-not-branch.false ∙ presence_read size w c.args.self.now _ c.args.client _ c.requires.known ready (c.in_ok-is_registered.ensures.registered t)))
+    (is_there w c.args.client 0 0 (sym c.if-not-branch.false ∙ presence_of size w c.args.self.now _ c.args.client _ _ c.from.ensures c.requires.known ready (c.in_ok-is_registered.ensures.registered t)))
     (c.in_ok-is_registered.ensures.stays t) (λ ready_b. c.in_err-let_go.ensures.applies t size after w ready_b) ready)
 
 pub returns-clause-applies : goal.returns-clause-applies
 returns-clause-applies g c = λ t size e w ready.
     let after = e ∙ sym (ap (λ (n : Counts). n.size) c.in_ok-is_registered.ensures.cause) in
     Applies-accepted_by size w c.args.self.now c.let_go.new.self (Leave c.args.client) _ _ _ _
-    (is_there w c.args.client 0 0 (sym c.if-not-branch.false ∙ presence_read size w c.args.self.now _ c.args.client _ c.requires.known ready (c.in_ok-is_registered.ensures.registered t)))
+    (is_there w c.args.client 0 0 (sym c.if-not-branch.false ∙ presence_of size w c.args.self.now _ c.args.client _ _ c.from.ensures c.requires.known ready (c.in_ok-is_registered.ensures.registered t)))
     (c.in_ok-is_registered.ensures.stays t) (λ ready_b. c.in_ok-let_go.ensures.applies t size after w ready_b) ready
 
 pub returns-in_err-is_registered-clause-closes_first : goal.returns-in_err-is_registered-clause-closes_first
@@ -52,7 +52,7 @@ returns-in_err-is_registered-clause-closes_first g c = λ t size e w ready prese
 
 pub returns-then-not-branch-clause-closes_first : goal.returns-then-not-branch-clause-closes_first
 returns-then-not-branch-clause-closes_first g c = λ t size e w ready present.
-    absurd (let it : true ≡ false = present ∙ sym (sym c.if-not-branch.true ∙ presence_read size w c.args.self.now _ c.args.client _ c.requires.known ready (c.in_ok-is_registered.ensures.registered t)) in cc)
+    absurd (let it : true ≡ false = present ∙ sym (sym c.if-not-branch.true ∙ presence_of size w c.args.self.now _ c.args.client _ _ c.from.ensures c.requires.known ready (c.in_ok-is_registered.ensures.registered t)) in cc)
 
 pub returns-in_err-let_go-clause-closes_first : goal.returns-in_err-let_go-clause-closes_first
 returns-in_err-let_go-clause-closes_first g c = λ t size e w ready present.

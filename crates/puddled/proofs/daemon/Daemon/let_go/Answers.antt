@@ -1,14 +1,14 @@
-use Rattle.std.proofs.Common.{Option, Some, refl, sym, ap, subst, ◌∙◌, arith}
+use Rattle.std.proofs.Common.{◌≡◌, ℕ, true, Some, is_some, refl, sym, ap, subst, ◌∙◌, arith}
 use Rattle.std.proofs.lemmas.Result.{err_from_is_err_and}
 use Rattle.pm_model.specs.Counts.{Counts, fault_of}
 use Rattle.pud_defs.specs.declared.machine.Command.TheVariants.{Leave}
 use Rattle.pud_defs.specs.Step.{after}
 use Rattle.pud_defs.specs.Transactions.{without_client}
 use Rattle.pud_defs.specs.World.{World}
-use Rattle.puddled.specs.Daemon.{Applies}
+use Rattle.puddled.specs.Daemon.{Applies, ClosesBefore}
 use Rattle.puddled.specs.Held.{IsOthers}
 use Rattle.puddled.specs.Leaving.{BehindTables, world_without}
-use Rattle.puddled.specs.Memory.{Held, Memory}
+use Rattle.puddled.specs.Memory.{Memory}
 use Rattle.puddled.proofs.Coming.{ClosesBefore-changes}
 use Rattle.puddled.proofs.Leaving.{others_left, gone_world, Applies-then, Applies-cut_short, ClosesBefore-then}
 use Rattle.puddled.proofs.daemon.Daemon.let_go.Goals as goal
@@ -33,10 +33,12 @@ returns-clause-applies g c = λ t size e w ready.
     let fault = fault_of c.dismiss.result in
     let then = e ∙ sym (ap (λ (n : Counts). n.size) c.in_ok-undo_of.ensures.cause) in
     let frames = sym (ap (λ (m : Memory). m.frames) c.self.view_is) in
-    let others = subst (λ (o : Option Held). IsOthers c.args.client o) (sym c.in_ok-undo_of.ensures.held) (others_left c.args.client c.args.self.now.held) in
     Applies-then size w (after w (Leave c.args.client)) (without_client c.args.client w.transactions) first first fault (g.H.Host.state c.args.h.now) mid new (c.in_ok-undo_of.ensures.applies t size e w ready)
-    (λ ready_mid. subst (λ (v : World). Applies size (world_without c.args.client w) v first fault mid new) (gone_world w c.args.client)
-    (c.dismiss.ensures.applies t size then (world_without c.args.client w) first frames ready_mid others))
+    (λ ready_mid.
+    let others = subst (λ (n : ℕ). IsOthers n first.held) (sym c.from.ensures) (others_left size w c.args.client first mid ready_mid) in
+    subst (λ (v : World). Applies size (world_without c.args.client w) v first fault mid new) (gone_world w c.args.client)
+    (subst (λ (n : ℕ). Applies size (world_without c.args.client w) (after (world_without c.args.client w) (Leave n)) first fault mid new) c.from.ensures
+    (c.dismiss.ensures.applies t size then (world_without c.args.client w) first frames ready_mid others)))
 
 pub returns-clause-closes_first : goal.returns-clause-closes_first
 returns-clause-closes_first g c = λ t size e w ready present.
@@ -45,4 +47,5 @@ returns-clause-closes_first g c = λ t size e w ready present.
     let frames = sym (ap (λ (m : Memory). m.frames) c.self.view_is) in
     ClosesBefore-then size w c.args.self.now c.args.client (g.H.Host.state c.args.h.now) (g.H.Host.state c.undo_of.new.h) (g.H.Host.state c.dismiss.new.h) c.requires.known present ready
     (c.in_ok-undo_of.ensures.behind t size e w ready) first.quiet
-    (c.dismiss.ensures.closes_first t size then (world_without c.args.client w) c.undo_of.new.self frames (first.ready refl) present)
+    (subst (λ (n : ℕ). ClosesBefore w.stored.frames n (g.H.Host.state c.undo_of.new.h) (g.H.Host.state c.dismiss.new.h)) c.from.ensures
+    (c.dismiss.ensures.closes_first t size then (world_without c.args.client w) c.undo_of.new.self frames (first.ready refl) (subst (λ (n : ℕ). true ≡ is_some (w.clients n)) (sym c.from.ensures) present)))

@@ -1,12 +1,17 @@
-use Rattle.std.proofs.Common.{ℕ, List, Option, Some, refl, sym, ap, subst, ◌∙◌}
+use Rattle.std.proofs.Common.{◌≡◌, ◌<◌, ℕ, List, Option, Some, refl, sym, ap, subst, ◌∙◌, rules}
+use Rattle.std.proofs.lemmas.Option.{same_Some}
 use Rattle.std.proofs.lemmas.Result.{err_from_is_err_and}
-use Rattle.pm_model.specs.Counts.{Counts}
+use Rattle.pm_model.specs.Counts.{Counts, fault_of}
 use Rattle.pud_defs.specs.declared.machine.Command.{Command}
 use Rattle.pud_defs.specs.declared.machine.Command.TheVariants.{New}
-use Rattle.puddled.specs.Memory.{Held, Memory}
-use Rattle.puddled.specs.Held.{IsOwn}
-use Rattle.puddled.specs.Daemon.{IsReady}
-use Rattle.puddled.proofs.Commanding.{judged_ready, ready_read, CarriesOut-refused, CarriesOut-unread, CarriesOut-own, new_is_plain}
+use Rattle.pud_defs.specs.Settled.{ALL_LOGS}
+use Rattle.pud_defs.specs.Step.{world_by}
+use Rattle.puddled.specs.Held.{IsHeldWithin, IsOwn}
+use Rattle.puddled.specs.Memory.{Held, Memory, held_under, with_held}
+use Rattle.puddled.specs.Owning.{refusal_found}
+use Rattle.puddled.specs.Daemon.{IsReady, Applies}
+use Rattle.puddled.proofs.HeldUnder.{AreHeldWithin-set, read_there, read_within}
+use Rattle.puddled.proofs.Commanding.{ready_read, CarriesOut-refused, CarriesOut-unread, CarriesOut-own, new_is_plain}
 use Rattle.puddled.proofs.TransactionRefusals.{refused_new}
 use Rattle.puddled.proofs.daemon.Daemon.new_object.Goals as goal
 
@@ -15,28 +20,50 @@ returns-in_err-refusal-clause-carries g c =
     let p = err_from_is_err_and c.from_residual.result c.from_residual.ensures.1 in
     rw (p.1, p.2) (λ t size e w ready.
     let k = c.in_err-refusal.ensures in
-    let known = ready_read size w c.args.self.now c.refusal_of_own.new.self _ _ ready (k.stays t) k.frames k.held (k.judged t) (k.apart t size w ready) in
-    CarriesOut-unread size w c.refusal_of_own.new.self _ _ _ _ (New c.args.client c.args.name c.args.t) (new_is_plain c.args.client c.args.name c.args.t) (k.stays t) known
+    let known = ready_read size w c.args.self.now c.find_own.new.self _ _ ready (k.stays t) k.frames k.held k.sessions (k.judged t) (k.apart t size w ready) in
+    CarriesOut-unread size w c.find_own.new.self _ _ _ _ (New c.args.client c.args.name c.args.t) (new_is_plain c.args.client c.args.name c.args.t) (k.stays t) known
     c.in_err-refusal.field-0.0 k.never_cut k.cause)
 
-pub returns-in-Some-clause-carries : goal.returns-in-Some-clause-carries
-returns-in-Some-clause-carries g c = λ t size e w ready.
+pub returns-in-Err-clause-carries : goal.returns-in-Err-clause-carries
+returns-in-Err-clause-carries g c = λ t size e w ready.
     let k = c.in_ok-refusal.ensures in
-    let known = ready_read size w c.args.self.now c.refusal_of_own.new.self _ _ ready (k.stays t) k.frames k.held (k.judged t) (k.apart t size w ready) in
-    let refused = sym (k.refusal t size w ready (judged_ready size w c.args.self.now _ ready)) ∙ c.in-Some.is in
-    CarriesOut-refused size w c.refusal_of_own.new.self _ _ _ _ (New c.args.client c.args.name c.args.t) (new_is_plain c.args.client c.args.name c.args.t) (k.stays t) known
-    c.in-Some.refusal (refused_new w c.args.client c.args.name c.in-Some.refusal refused c.args.t) k.cause
+    let known = ready_read size w c.args.self.now c.find_own.new.self _ _ ready (k.stays t) k.frames k.held k.sessions (k.judged t) (k.apart t size w ready) in
+    let refused = sym (k.refusal t size w ready) ∙ ap refusal_found c.in-Err.is in
+    CarriesOut-refused size w c.find_own.new.self _ _ _ _ (New c.args.client c.args.name c.args.t) (new_is_plain c.args.client c.args.name c.args.t) (k.stays t) known
+    c.in-Err.refusal (refused_new w c.args.client c.args.name c.in-Err.refusal refused c.args.t) k.cause
+
+pub new_object-requires-clause-within : goal.new_object-requires-clause-within
+new_object-requires-clause-within g c =
+    let found = rw c.in-Ok.is at c.in_ok-refusal.ensures.finds in
+    let known : c.in-Ok.own.number < ALL_LOGS = found.number in
+    read_within _ _ _ _ _ c.in-Some.opened c.self.invariant.2 (search rules) refl c.in-Some.is
+
+pub invariant_of-self : goal.invariant_of-self
+invariant_of-self g c =
+    let i = c.self.invariant in
+    let within = c.new_object.ensures.within in
+    (i.0, i.1, AreHeldWithin-set _ _ _ (Some c.new_object.new.self) i.2 (λ h now. subst (IsHeldWithin c.self.inside.frames) (same_Some c.new_object.new.self h now) within), i.3)
 
 pub returns-clause-carries : goal.returns-clause-carries
 returns-clause-carries g c = λ t size e w ready.
     let k = c.in_ok-refusal.ensures in
-    let known = ready_read size w c.args.self.now c.refusal_of_own.new.self _ _ ready (k.stays t) k.frames k.held (k.judged t) (k.apart t size w ready) in
+    let number = c.in-Ok.own.number in
+    let opened = c.in-Some.opened in
     let i = c.self.inside in
-    let view : Memory = record { frames = i.frames; held = i.opened; judged = i.judged } in
-    let there = subst (λ (m : Memory). IsReady size w m (g.H.Host.state c.refusal_of_own.new.h)) (sym c.self.view_is) known in
-    let own = subst (λ (o : Option Held). IsOwn c.args.client c.args.name o) (sym (ap (λ (m : Memory). m.held) c.self.view_is ∙ k.held)) (k.own c.in_default.is) in
+    let view : Memory = record { frames = i.frames; held = i.opened; sessions = i.sessions; judged = i.judged } in
+    let found = rw c.in-Ok.is at k.finds in
+    let known : number < ALL_LOGS = found.number in
+    let there : held_under i.opened number ≡ Some opened = read_there i.opened number _ c.index-self-own.result opened (search rules) refl c.in-Some.is in
+    let read = ready_read size w c.args.self.now c.find_own.new.self _ _ ready (k.stays t) k.frames k.held k.sessions (k.judged t) (k.apart t size w ready) in
+    let then = subst (λ (m : Memory). IsReady size w m (g.H.Host.state c.find_own.new.h)) (sym c.self.view_is) read in
+    let its : opened.number ≡ number = (then.held.each number opened there).number_is in
+    let here : held_under i.opened opened.number ≡ Some opened = ap (held_under i.opened) its ∙ there in
+    let own = rw c.in-Ok.is at (k.own t size w ready) in
+    let owned = subst (λ (held : List (Option Held)). IsOwn c.args.client c.args.name number held) (sym (ap (λ (m : Memory). m.held) c.self.view_is ∙ k.held)) own.own in
     let line : ℕ → List ℕ → Command = λ client name. New client name c.args.t in
     let n = c.new_object.ensures in
-    CarriesOut-own size w (record view { held = Some c.new_object.new.self }) _ _ _ _ _ _ line c.args.client c.args.name (new_is_plain c.args.client c.args.name c.args.t) (k.stays t) k.cause
-    i.opened c.in-Some-opened.opened c.new_object.result own c.in-Some-opened.is (n.reply t size (e ∙ sym (ap (λ (m : Counts). m.size) k.cause)) w view refl c.in-Some-opened.is there)
-    (n.applies t size (e ∙ sym (ap (λ (m : Counts). m.size) k.cause)) w view refl c.in-Some-opened.is there) (n.rest t) n.cause
+    let same = e ∙ sym (ap (λ (m : Counts). m.size) k.cause) in
+    let applies = subst (λ (m : ℕ). Applies size w (world_by w (Some (line opened.client opened.name))) (with_held m (Some c.new_object.new.self) view) (fault_of c.new_object.result) (g.H.Host.state c.find_own.new.h) (g.H.Host.state c.new_object.new.h)) its
+    (n.applies t size same w view refl here then) in
+    CarriesOut-own size w (with_held number (Some c.new_object.new.self) view) _ _ _ _ _ _ line c.args.client c.args.name (new_is_plain c.args.client c.args.name c.args.t) (k.stays t) k.cause
+    i.opened number opened c.new_object.result owned there (n.reply t size same w view refl here then) applies (n.rest t) n.cause

@@ -1,23 +1,72 @@
-use Rattle.std.proofs.Common.{sym, subst, ◌∙◌}
-use Rattle.pm_model.specs.Counts.{fault_of}
-use Rattle.pud_defs.specs.World.{World}
-use Rattle.puddled.specs.Daemon.{Applies}
-use Rattle.puddled.proofs.Leaving.{own_by, aborted_world, Applies-not_own}
+use Rattle.std.proofs.Common.{◌≡◌, Some, refl, sym, ap, ◌∙◌, arith}
+use Rattle.std.proofs.lemmas.Result.{err_from_is_err_and}
+use Rattle.pm_model.specs.Counts.{Counts}
+use Rattle.pm_model.proofs.Changes.{Changes-then}
+use Rattle.pud_defs.specs.Settled.{client_of_log}
+use Rattle.puddled.specs.Leaving.{BehindTables}
+use Rattle.puddled.proofs.Leaving.{IsUndone-start, IsUndone-more, AreUndone-more, Applies-interrupted, Applies-all}
 use Rattle.puddled.proofs.daemon.Daemon.undo_of.Goals as goal
 
-pub returns-then-not-is_held_by-clause-applies : goal.returns-then-not-is_held_by-clause-applies
-returns-then-not-is_held_by-clause-applies g c = λ t size e w ready.
-    Applies-not_own size w c.args.self.now (g.H.Host.state c.args.h.now) ready c.args.client (sym c.is_held_by.ensures ∙ c.if-not-is_held_by.true)
+pub loop-number-init : goal.loop-number-init
+loop-number-init g c =
+    let from = c.from-first.ensures in
+    record {
+      counts = refl;
+      frames = refl;
+      rest = λ t. record { script = refl; shelf = refl };
+      none = record { each = λ number low high. absurd (omega arith) };
+      undone = λ t size e w ready. IsUndone-start size w c.args.client c.args.self.now (g.H.Host.state c.args.h.now) ready;
+    }
+
+pub loop-number-preserved : goal.loop-number-preserved
+loop-number-preserved g c =
+    let l = c.loop-number in
+    let before = l.invariant in
+    let u = c.in_ok-undo.ensures in
+    record {
+      counts = ◌∙◌ {b = g.H.Host.counts l.h} u.cause before.counts;
+      frames = u.frames ∙ before.frames;
+      rest = λ t. record { script = (u.rest t).script ∙ (before.rest t).script; shelf = (u.rest t).shelf ∙ (before.rest t).shelf };
+      none = AreUndone-more c.args.client l.number l.self.held c.undo.new.self.held u.held before.none;
+      undone = λ t size e w ready.
+          let from = c.from-first.ensures in
+          let low = l.auto.number in
+          let high = c.loop-number-test.true in
+          let own : client_of_log l.number ≡ c.args.client = omega arith in
+          let same = e ∙ sym (ap (λ (n : Counts). n.size) before.counts) in
+          let so_far = before.undone t size e w ready in
+          let then = so_far.applies.ready refl in
+          IsUndone-more size w c.args.client l.number l.self c.undo.new.self (g.H.Host.state c.args.h.now) (g.H.Host.state l.h) (g.H.Host.state c.undo.new.h) so_far own
+          (u.applies t size same _ then) (u.behind t size same _ then);
+    }
+
+pub returns-in_err-undo-clause-applies : goal.returns-in_err-undo-clause-applies
+returns-in_err-undo-clause-applies g c =
+    let p = err_from_is_err_and c.from_residual.result c.from_residual.ensures.1 in
+    rw (p.1, p.2) (λ t size e w ready.
+    let l = c.loop-number in
+    let same = e ∙ sym (ap (λ (n : Counts). n.size) l.invariant.counts) in
+    let so_far = l.invariant.undone t size e w ready in
+    Applies-interrupted size w c.args.client l.number l.self c.undo.new.self (g.H.Host.state c.args.h.now) (g.H.Host.state l.h) (g.H.Host.state c.undo.new.h) so_far c.in_err-undo.field-0.0
+    (c.in_err-undo.ensures.applies t size same _ (so_far.applies.ready refl)))
+
+pub returns-in_err-undo-clause-behind : goal.returns-in_err-undo-clause-behind
+returns-in_err-undo-clause-behind g c =
+    let p = err_from_is_err_and c.from_residual.result c.from_residual.ensures.1 in
+    rw (p.1, p.2) (λ t size e w ready.
+    let l = c.loop-number in
+    let same = e ∙ sym (ap (λ (n : Counts). n.size) l.invariant.counts) in
+    let so_far = l.invariant.undone t size e w ready in
+    Changes-then (BehindTables w.stored.frames) (Some c.in_err-undo.field-0.0) (g.H.Host.state c.args.h.now) (g.H.Host.state l.h) (g.H.Host.state c.undo.new.h) so_far.behind
+    (c.in_err-undo.ensures.behind t size same _ (so_far.applies.ready refl)))
 
 pub returns-clause-applies : goal.returns-clause-applies
 returns-clause-applies g c = λ t size e w ready.
-    let own = own_by c.args.client c.args.self.now.held (sym c.is_held_by.ensures ∙ c.if-not-is_held_by.false) in
-    let old = g.H.Host.state c.args.h.now in
-    let new = g.H.Host.state c.abort_own.new.h in
-    subst (λ (v : World). Applies size w v c.abort_own.new.self (fault_of c.abort_own.result) old new) (aborted_world size w c.args.self.now old ready c.args.client own.0 own.1)
-    (c.abort_own.ensures.applies t size e w c.args.client own.0 ready own.1)
+    let l = c.loop-number in
+    let from = c.from-first.ensures in
+    let past = c.loop-number-test.false in
+    Applies-all size w c.args.client l.self (g.H.Host.state c.args.h.now) (g.H.Host.state l.h) (l.invariant.undone t size e w ready)
+    (record { each = λ number low high. l.invariant.none.each number low (omega arith) })
 
 pub returns-clause-behind : goal.returns-clause-behind
-returns-clause-behind g c = λ t size e w ready.
-    let own = own_by c.args.client c.args.self.now.held (sym c.is_held_by.ensures ∙ c.if-not-is_held_by.false) in
-    c.abort_own.ensures.behind t size e w c.args.client own.0 ready own.1
+returns-clause-behind g c = λ t size e w ready. (c.loop-number.invariant.undone t size e w ready).behind

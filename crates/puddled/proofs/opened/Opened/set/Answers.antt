@@ -3,30 +3,30 @@ use Rattle.pm_model.specs.Counts.{fault_of}
 use Rattle.pud_defs.specs.declared.machine.Command.TheVariants.{Set}
 use Rattle.pud_defs.specs.Step.{refusal_of, after}
 use Rattle.hybrid_tx.specs.Grounds.{IsRewritten}
-use Rattle.puddled.specs.Memory.{Held}
+use Rattle.puddled.specs.Memory.{Held, held_under, with_held}
 use Rattle.puddled.specs.Held.{IsHeldWithin}
 use Rattle.puddled.specs.Daemon.{Applies}
 use Rattle.puddled.proofs.HeldSets.{Applies-set}
 use Rattle.puddled.proofs.opened.Opened.set.Goals as goal
 
 pub returns-clause-applies : goal.returns-clause-applies
-returns-clause-applies g c = λ t size e w memory frames mine ready rewritten free.
+returns-clause-applies g c = λ t size e w memory frames there ready rewritten free.
     let i = c.self.inside in
-    let held : Held = record { client = i.client; depth = i.depth; name = i.name; slot = i.slot; at = i.puddles; number = i.number; log = i.tx } in
+    let held : Held = record { client = i.client; name = i.name; slot = i.slot; at = i.puddles; number = i.number; log = i.tx } in
     let old = g.H.Host.state c.args.h.now in
     let new = g.H.Host.state c.set-done.new.h in
     let s = c.args.s in
     let f = c.args.f in
     let x = c.args.x in
     subst (λ (o : Held).
-    memory.held ≡ Some o → IsRewritten o.at → refusal_of w (Set o.client o.name s f x) ≡ None
-    → Applies size w (after w (Set o.client o.name s f x)) (record memory { held = Some (record held { log = c.set-done.new.self }) }) (fault_of c.set-done.result) old new)
+    held_under memory.held o.number ≡ Some o → IsRewritten o.at → refusal_of w (Set o.client o.name s f x) ≡ None
+    → Applies size w (after w (Set o.client o.name s f x)) (with_held o.number (Some (record held { log = c.set-done.new.self })) memory) (fault_of c.set-done.result) old new)
     c.self.view_is
-    (λ mine rewritten free.
-    Applies-set size w memory held old mine ready c.args.frames c.as_slice.result.now (sym frames ∙ ready.frames) c.as_slice.ensures.puddles c.set-done.new.self new c.set-done.ensures.at s f x c.set-done.result rewritten free
+    (λ there rewritten free.
+    Applies-set size w memory held old held.number there ready c.args.frames c.as_slice.result.now (sym frames ∙ ready.frames) c.as_slice.ensures.puddles c.set-done.new.self new c.set-done.ensures.at s f x c.set-done.result rewritten free
     (λ rewritten there placed running. c.set-done.ensures.runs t _ _ _ _ placed rewritten running there)
     (λ there placed running. c.set-done.ensures.counts t _ _ _ _ placed running there))
-    mine rewritten free
+    there rewritten free
 
 pub returns-clause-within : goal.returns-clause-within
 returns-clause-within g c =
@@ -40,6 +40,4 @@ returns-clause-within g c =
       number = was.number;
       gate = c.set-done.ensures.at ∙ was.gate;
       used = omega (arith, counted, few);
-      begun = was.begun;
-      few = was.few;
     }
