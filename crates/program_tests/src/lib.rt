@@ -11,3 +11,5 @@ mod pool_cuts;
 mod pools;
 #[cfg(test)]
 mod scripts;
+#[cfg(test)]
+mod transactions;

@@ -73,7 +73,7 @@ fn what_clients_and_types_are_refused(rt: HostRuntime) {
 }
 
 /// Adds the text so often.
-fn push_times(rt: &impl Abort, script: &mut String, text: &str, times: u32) {
+pub fn push_times(rt: &impl Abort, script: &mut String, text: &str, times: u32) {
     for _ in 0..times {
         script.push_str(text).expect(rt, "memory");
     }
