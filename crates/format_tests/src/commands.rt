@@ -55,6 +55,24 @@ fn set(client: u8, name: Name, s: u64, f: u32, x: Val) -> Command {
     }
 }
 
+fn later(client: u8, name: Name, s: u64, f: u32, x: Val) -> Command {
+    Command::Later {
+        client,
+        name,
+        s,
+        f,
+        x,
+    }
+}
+
+fn root(client: u8, name: Name, s: u64) -> Command {
+    Command::Root { client, name, s }
+}
+
+fn free(client: u8, name: Name, s: u64) -> Command {
+    Command::Free { client, name, s }
+}
+
 fn get(client: u8, name: Name, s: u64, f: u32) -> Command {
     Command::Get { client, name, s, f }
 }
@@ -214,6 +232,106 @@ fn lines_of_transactions_that_are_none(rt: HostRuntime) {
             "set 0 p 1.30 1",
             "set 8 p 1.0 1",
             "set 0 abcdefghijklmnopq 1.0 1",
+        ],
+    );
+}
+
+#[test]
+fn lines_of_values_to_come_roots_and_freed_objects(rt: HostRuntime) {
+    let p = *b"p\0\0\0\0\0\0\0\0\0\0\0\0\0\0\0";
+    let sixteen = *b"abcdefghijklmnop";
+    are_commands(
+        &rt,
+        &[
+            ("later 0 p 1.0 0", later(0, p, 1, 0, Val::Num(0))),
+            ("later 0 p 12.1 @0", later(0, p, 12, 1, Val::Ref(0))),
+            ("later 1 p 12.1 @10", later(1, p, 12, 1, Val::Ref(10))),
+            (
+                "later 7 p 18446744073709551615.29 18446744073709551615",
+                later(7, p, u64::MAX, 29, Val::Num(u64::MAX)),
+            ),
+            (
+                "later 7 abcdefghijklmnop 1.29 @18446744073709551615",
+                later(7, sixteen, 1, 29, Val::Ref(u64::MAX)),
+            ),
+            ("root 0 p 0", root(0, p, 0)),
+            ("root 1 p 1", root(1, p, 1)),
+            (
+                "root 7 abcdefghijklmnop 18446744073709551615",
+                root(7, sixteen, u64::MAX),
+            ),
+            ("free 0 p 1", free(0, p, 1)),
+            (
+                "free 7 abcdefghijklmnop 18446744073709551615",
+                free(7, sixteen, u64::MAX),
+            ),
+        ],
+    );
+}
+
+#[test]
+fn lines_of_values_to_come_that_are_none(rt: HostRuntime) {
+    are_none(
+        &rt,
+        &[
+            "later",
+            "later 0 p",
+            "later 0 p 1.0",
+            "later 0 p 1.0 ",
+            "later 0 p 1.0 1 1",
+            "later 0 p  1.0 1",
+            "later 0 p 1.0  1",
+            "later 0 p 1 1",
+            "later 0 p 0.0 1",
+            "later 0 p 1.30 1",
+            "later 0 p 1.0 01",
+            "later 0 p 1.0 18446744073709551616",
+            "later 0 p 1.0 @",
+            "later 0 p 1.0 @01",
+            "later 0 p 1.0 @18446744073709551616",
+            "later 8 p 1.0 1",
+            "later 0 P 1.0 1",
+            "later 0 abcdefghijklmnopq 1.0 1",
+            "Later 0 p 1.0 1",
+            "late 0 p 1.0 1",
+            "laters 0 p 1.0 1",
+        ],
+    );
+}
+
+#[test]
+fn lines_of_roots_and_freed_objects_that_are_none(rt: HostRuntime) {
+    are_none(
+        &rt,
+        &[
+            "root",
+            "root 0 p",
+            "root 0 p ",
+            "root 0 p 1 1",
+            "root 0 p  1",
+            "root 0 p 00",
+            "root 0 p 01",
+            "root 0 p @1",
+            "root 0 p -1",
+            "root 0 p 1.0",
+            "root 0 p null",
+            "root 0 p 18446744073709551616",
+            "root 8 p 1",
+            "root 0 P 1",
+            "Root 0 p 1",
+            "free",
+            "free 0 p",
+            "free 0 p ",
+            "free 0 p 0",
+            "free 0 p 1 1",
+            "free 0 p  1",
+            "free 0 p 01",
+            "free 0 p @1",
+            "free 0 p 1.0",
+            "free 0 p 18446744073709551616",
+            "free 8 p 1",
+            "free 0 P 1",
+            "frees 0 p 1",
         ],
     );
 }

@@ -2,7 +2,7 @@
 use Rattle.std.proofs.Common.{◌≡◌, inl, inr, ℕ, T, List, [], ◌∷◌, ◌++◌, Option, Some, None, nat_cmp, refl, sym, ap, ◌∙◌}
 use Rattle.std.specs.FinMap.Entries.{is_sorted}
 use Rattle.pud_defs.specs.declared.machine.Command.{Command}
-use Rattle.pud_defs.specs.declared.machine.Command.TheVariants.{Client, Leave, Define, Cut, Arm, Chmod, Begin, Commit, Abort, New, Set, Pools, Get}
+use Rattle.pud_defs.specs.declared.machine.Command.TheVariants.{Client, Leave, Define, Cut, Arm, Chmod, Begin, Commit, Abort, New, Set, Later, Root, Free, Pools, Get}
 use Rattle.pud_defs.specs.declared.machine.Command.TheVariants as commands
 use Rattle.pud_defs.specs.declared.machine.Refusal.{Refusal}
 use Rattle.pud_defs.specs.World.{World}
@@ -29,6 +29,9 @@ after-part w (Commit client name) = refl
 after-part w (Abort client name) = refl
 after-part w (New client name t) = refl
 after-part w (Set client name s f x) = refl
+after-part w (Later client name s f x) = refl
+after-part w (Root client name s) = refl
+after-part w (Free client name s) = refl
 after-part w Pools = refl
 after-part w (Cut pick) = refl
 after-part w (Arm step pick) = refl

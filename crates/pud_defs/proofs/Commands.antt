@@ -7,7 +7,7 @@ use Rattle.std.proofs.lemmas.List.Sums.{sum_by-cons}
 use Rattle.std.proofs.lemmas.Nat.{div-mul-add, mod-mul-add}
 use Rattle.pud_defs.specs.declared.layout.TheConstants.{LINE_LIMIT, CLIENTS, MAX_OWNER_ID, MAX_TYPE_ID, MAX_FIELDS, MAX_ARMED_STEP}
 use Rattle.pud_defs.specs.declared.machine.Command.{Command}
-use Rattle.pud_defs.specs.declared.machine.Command.TheVariants.{Client, Leave, Define, Cut, Arm, Chmod, Begin, Commit, Abort, New, Set, Pools, Get}
+use Rattle.pud_defs.specs.declared.machine.Command.TheVariants.{Client, Leave, Define, Cut, Arm, Chmod, Begin, Commit, Abort, New, Set, Later, Root, Free, Pools, Get}
 use Rattle.pud_defs.specs.declared.machine.Command.TheVariants as commands
 use Rattle.pud_defs.specs.declared.objects.Val.{Val}
 use Rattle.pud_defs.specs.declared.objects.Val.TheVariants.{Num, Ref}
@@ -16,7 +16,7 @@ use Rattle.pud_defs.specs.Modes.{is_legal_mode}
 use Rattle.pud_defs.specs.Names.{IsName, is_legal_name}
 use Rattle.pud_defs.proofs.NamesRead.{pool_name-legal, pool_mode-legal}
 use Rattle.pud_defs.specs.TypeMap.{map_fields, map_word, is_legal_map, is_legal_type_id}
-use Rattle.pud_defs.specs.Grammar.{split_at, number_of, in_range, number_within, fields_from, pointers_of, listed_map, Parser, taking, at_end, pool_name, pool_mode, object_serial, field_number, field_by, field_place, word_number, field_value, begin_by, commit_by, abort_by, new_by, set_by, get_by, client_by, leave_by, define_by, pool_line_by, chmod_by, drop_by, pools_by, cut_by, arm_by, lines, command_among, command_with, command_by, command_of, IsLegalValue, IsLegalCommand}
+use Rattle.pud_defs.specs.Grammar.{split_at, number_of, in_range, number_within, fields_from, pointers_of, listed_map, Parser, taking, at_end, pool_name, pool_mode, object_serial, field_number, field_by, field_place, word_number, field_value, begin_by, commit_by, abort_by, new_by, set_by, later_by, root_by, free_by, get_by, client_by, leave_by, define_by, pool_line_by, chmod_by, drop_by, pools_by, cut_by, arm_by, transaction_lines, lines, command_among, command_with, command_by, command_of, IsLegalValue, IsLegalCommand}
 
 -- a longer line is no command
 pub command_of-long : (line : List ℕ) → LINE_LIMIT < length line → command_of line ≡ None
@@ -243,6 +243,19 @@ unfolding set_by
 set_by-legal =
     number_taken 0 CLIENTS _ (λ client _ known. name_taken _ (λ name is. field_taken _ (λ field at. value_taken _ (λ x fits. ended (Set client name field.0 field.1 x) (known, is.0, is.1, at.serial, at.word, at.number, fits)))))
 
+later_by-legal : IsLegalParser later_by
+unfolding later_by
+later_by-legal =
+    number_taken 0 CLIENTS _ (λ client _ known. name_taken _ (λ name is. field_taken _ (λ field at. value_taken _ (λ x fits. ended (Later client name field.0 field.1 x) (known, is.0, is.1, at.serial, at.word, at.number, fits)))))
+
+root_by-legal : IsLegalParser root_by
+unfolding root_by
+root_by-legal = number_taken 0 CLIENTS _ (λ client _ known. name_taken _ (λ name is. number_taken 0 (2 ^ 64) _ (λ s _ word. ended (Root client name s) (known, is.0, is.1, word))))
+
+free_by-legal : IsLegalParser free_by
+unfolding free_by
+free_by-legal = number_taken 0 CLIENTS _ (λ client _ known. name_taken _ (λ name is. number_taken 1 (2 ^ 64) _ (λ s serial word. ended (Free client name s) (known, is.0, is.1, serial, word))))
+
 get_by-legal : IsLegalParser get_by
 unfolding get_by
 get_by-legal =
@@ -267,9 +280,12 @@ abbrev AreLegalLines : List (List ℕ × Parser) → Type 0
 AreLegalLines [] = Unit {0}
 AreLegalLines (line ∷ others) = IsLegalParser line.1 × AreLegalLines others
 
+are_legal_transaction_lines : AreLegalLines transaction_lines
+are_legal_transaction_lines = (begin_by-legal, (commit_by-legal, (abort_by-legal, (new_by-legal, (set_by-legal, (later_by-legal, (root_by-legal, (free_by-legal, tt))))))))
+
 are_legal_lines : AreLegalLines lines
 are_legal_lines =
-    (client_by-legal, (leave_by-legal, (define_by-legal, (pool_line_by-legal, (chmod_by-legal, (drop_by-legal, (begin_by-legal, (commit_by-legal, (abort_by-legal, (new_by-legal, (set_by-legal, (get_by-legal, (pools_by-legal, (cut_by-legal, (arm_by-legal, tt)))))))))))))))
+    (client_by-legal, (leave_by-legal, (define_by-legal, (pool_line_by-legal, (chmod_by-legal, (drop_by-legal, (get_by-legal, (pools_by-legal, (cut_by-legal, (arm_by-legal, are_legal_transaction_lines))))))))))
 
 legal_among : (table : List (List ℕ × Parser)) (word : List ℕ) (arguments : List (List ℕ)) (c : Command) → AreLegalLines table → command_among table word arguments ≡ Some c → IsLegalCommand c
 legal_among [] word arguments c legal e = absurd (none-some c e)

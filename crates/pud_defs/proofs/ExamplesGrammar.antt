@@ -1,6 +1,6 @@
 -- Lines that are commands, and lines that are not.
 use Rattle.std.proofs.Common.{◌≡◌, true, [], ◌∷◌, ◌++◌, replicate, codes, Some, None, refl}
-use Rattle.pud_defs.specs.declared.machine.Command.TheVariants.{Client, Leave, Define, Begin, Commit, Abort, New, Set, Get, Cut, Arm}
+use Rattle.pud_defs.specs.declared.machine.Command.TheVariants.{Client, Leave, Define, Begin, Commit, Abort, New, Set, Later, Root, Free, Get, Cut, Arm}
 use Rattle.pud_defs.specs.declared.objects.Val.TheVariants.{Num, Ref}
 use Rattle.pud_defs.specs.TypeMap.{map_word, is_legal_map}
 use Rattle.pud_defs.specs.Grammar.{number_of, command_of}
@@ -84,6 +84,38 @@ sets_the_largest_number = refl
 sets_the_largest_pointer : command_of (codes "set 0 a 1.0 @18446744073709551615") ≡ Some (Set 0 (97 ∷ replicate 15 0) 1 0 (Ref 18446744073709551615))
 unfolding opened
 sets_the_largest_pointer = refl
+
+asks_for_a_number : command_of (codes "later 0 a 1.0 10") ≡ Some (Later 0 (97 ∷ replicate 15 0) 1 0 (Num 10))
+unfolding opened
+asks_for_a_number = refl
+
+asks_for_the_largest_pointer : command_of (codes "later 7 a 18446744073709551615.29 @18446744073709551615") ≡ Some (Later 7 (97 ∷ replicate 15 0) 18446744073709551615 29 (Ref 18446744073709551615))
+unfolding opened
+asks_for_the_largest_pointer = refl
+
+asks_for_null : command_of (codes "later 0 a 1.1 @0") ≡ Some (Later 0 (97 ∷ replicate 15 0) 1 1 (Ref 0))
+unfolding opened
+asks_for_null = refl
+
+makes_a_root : command_of (codes "root 0 a 1") ≡ Some (Root 0 (97 ∷ replicate 15 0) 1)
+unfolding opened
+makes_a_root = refl
+
+makes_none_the_root : command_of (codes "root 7 abcdefghijklmnop 0") ≡ Some (Root 7 (codes "abcdefghijklmnop") 0)
+unfolding opened
+makes_none_the_root = refl
+
+makes_the_largest_the_root : command_of (codes "root 0 a 18446744073709551615") ≡ Some (Root 0 (97 ∷ replicate 15 0) 18446744073709551615)
+unfolding opened
+makes_the_largest_the_root = refl
+
+frees_an_object : command_of (codes "free 0 a 1") ≡ Some (Free 0 (97 ∷ replicate 15 0) 1)
+unfolding opened
+frees_an_object = refl
+
+frees_the_largest : command_of (codes "free 7 abcdefghijklmnop 18446744073709551615") ≡ Some (Free 7 (codes "abcdefghijklmnop") 18446744073709551615)
+unfolding opened
+frees_the_largest = refl
 
 loses_power : command_of (codes "cut 18446744073709551615") ≡ Some (Cut 18446744073709551615)
 unfolding opened
@@ -346,3 +378,67 @@ point_in_a_serial = refl
 serial_too_large : command_of (codes "set 0 a 1.0 @18446744073709551616") ≡ None
 unfolding opened
 serial_too_large = refl
+
+value_to_come_missing : command_of (codes "later 0 a 1.0") ≡ None
+unfolding opened
+value_to_come_missing = refl
+
+value_to_come_too_many : command_of (codes "later 0 a 1.0 1 1") ≡ None
+unfolding opened
+value_to_come_too_many = refl
+
+value_to_come_too_large : command_of (codes "later 0 a 1.0 18446744073709551616") ≡ None
+unfolding opened
+value_to_come_too_large = refl
+
+object_to_come_zero : command_of (codes "later 0 a 0.0 1") ≡ None
+unfolding opened
+object_to_come_zero = refl
+
+field_to_come_too_large : command_of (codes "later 0 a 1.30 1") ≡ None
+unfolding opened
+field_to_come_too_large = refl
+
+root_missing : command_of (codes "root 0 a") ≡ None
+unfolding opened
+root_missing = refl
+
+root_too_many : command_of (codes "root 0 a 1 1") ≡ None
+unfolding opened
+root_too_many = refl
+
+root_too_large : command_of (codes "root 0 a 18446744073709551616") ≡ None
+unfolding opened
+root_too_large = refl
+
+leading_zero_in_a_root : command_of (codes "root 0 a 00") ≡ None
+unfolding opened
+leading_zero_in_a_root = refl
+
+at_before_a_root : command_of (codes "root 0 a @1") ≡ None
+unfolding opened
+at_before_a_root = refl
+
+object_to_free_missing : command_of (codes "free 0 a") ≡ None
+unfolding opened
+object_to_free_missing = refl
+
+object_to_free_zero : command_of (codes "free 0 a 0") ≡ None
+unfolding opened
+object_to_free_zero = refl
+
+objects_to_free_two : command_of (codes "free 0 a 1 2") ≡ None
+unfolding opened
+objects_to_free_two = refl
+
+object_to_free_too_large : command_of (codes "free 0 a 18446744073709551616") ≡ None
+unfolding opened
+object_to_free_too_large = refl
+
+at_before_an_object_to_free : command_of (codes "free 0 a @1") ≡ None
+unfolding opened
+at_before_an_object_to_free = refl
+
+field_to_free : command_of (codes "free 0 a 1.0") ≡ None
+unfolding opened
+field_to_free = refl

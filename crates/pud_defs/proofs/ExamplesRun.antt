@@ -242,6 +242,10 @@ said_denied : reply_text (replies.No refusals.Denied) ≡ codes "no denied" ++ 1
 unfolding opened
 said_denied = refl
 
+said_held : reply_text (replies.No refusals.Held) ≡ codes "no held" ++ 10 ∷ []
+unfolding opened
+said_held = refl
+
 said_clash : reply_text (replies.No refusals.Clash) ≡ codes "no clash" ++ 10 ∷ []
 unfolding opened
 said_clash = refl

@@ -12,32 +12,36 @@ use Rattle.pud_defs.proofs.Opened.{opened}
 use Rattle.pud_defs.proofs.ExamplesPools.{said, behind, lines_said}
 
 -- a name of one byte
-abbrev name_of : ℕ → List ℕ
+abbrev pub name_of : ℕ → List ℕ
 name_of byte = byte ∷ replicate 15 0
 
 -- a graph of objects 1 to n of type 1, which has two fields, the second a pointer; each object has these values
-abbrev nodes : (n number pointer : ℕ) → Graph
+abbrev pub nodes : (n number pointer : ℕ) → Graph
 nodes n number pointer = record { next_serial = n + 1; root = 0; objects = map (λ s. (s, record { type_id = 1; fields = Num number ∷ Ref pointer ∷ [] })) (range_with_len 1 n) }
 
 -- a pool of owner 5:5 with mode 600 and one puddle, which holds this graph
-abbrev holding : Graph → Pool
+abbrev pub holding : Graph → Pool
 holding g = record { owner = owner 5 5; mode = 384; number = 1; puddles = 1; holding = Sound g }
 
 -- four frames, that type, and the pool `a` with this graph
-abbrev stored_with : Graph → StoredWorld
+abbrev pub stored_with : Graph → StoredWorld
 stored_with g = record (blank_world 4 7) { next_number = 3; types = (1, 8589934594) ∷ []; pools = (name_of 97, holding g) ∷ [] }
 
 -- the same with clients of owner 5:5, and with this transaction open on the pool
-abbrev world_with : Graph → Option Transaction → World
+abbrev pub world_with : Graph → Option Transaction → World
 world_with g open_there = record { stored = stored_with g; clients = λ _. Some (owner 5 5); shelf = λ _. None; transactions = with_open (name_of 97) open_there nothing_open }
 
 -- the pool is empty, and nothing is open
 abbrev start : World
 start = world_with empty_graph None
 
--- a transaction of client 0 that was begun so often and has used so many units, and has made nothing yet
+-- a transaction of client 0 that was begun so often, has used so many units and sees this graph; nothing was asked for that is to come
+abbrev pub under_way : (depth units : ℕ) → Graph → Option Transaction
+under_way depth units g = Some (record { client = 0; depth = depth; units = units; now = g; laters = [] })
+
+-- one that has made nothing yet
 abbrev used : (depth units : ℕ) → Option Transaction
-used depth units = Some (record { client = 0; depth = depth; units = units; now = empty_graph })
+used depth units = under_way depth units empty_graph
 
 -- ---- an object is made, its fields are set, and at the commit it is stored
 
@@ -50,7 +54,7 @@ not_stored_yet : (behind start (codes "begin 0 a" ∷ codes "new 0 a 1" ∷ code
 unfolding opened behind
 not_stored_yet = refl
 
-units_are_counted : (behind start (codes "begin 0 a" ∷ codes "new 0 a 1" ∷ codes "set 0 a 1.0 10" ∷ codes "set 0 a 1.1 @1" ∷ [])).transactions (name_of 97) ≡ Some (record { client = 0; depth = 1; units = 43; now = nodes 1 10 1 })
+units_are_counted : (behind start (codes "begin 0 a" ∷ codes "new 0 a 1" ∷ codes "set 0 a 1.0 10" ∷ codes "set 0 a 1.1 @1" ∷ [])).transactions (name_of 97) ≡ under_way 1 43 (nodes 1 10 1)
 unfolding opened behind
 units_are_counted = refl
 
@@ -65,7 +69,7 @@ committed_twice : said start (codes "begin 0 a" ∷ codes "begin 0 a" ∷ codes 
 unfolding opened said
 committed_twice = refl
 
-still_open : (behind start (codes "begin 0 a" ∷ codes "begin 0 a" ∷ codes "new 0 a 1" ∷ codes "commit 0 a" ∷ [])).transactions (name_of 97) ≡ Some (record { client = 0; depth = 1; units = 37; now = nodes 1 0 0 })
+still_open : (behind start (codes "begin 0 a" ∷ codes "begin 0 a" ∷ codes "new 0 a 1" ∷ codes "commit 0 a" ∷ [])).transactions (name_of 97) ≡ under_way 1 37 (nodes 1 0 0)
 unfolding opened behind
 still_open = refl
 
@@ -109,7 +113,7 @@ no_such_type : said (world_with empty_graph (used 1 0)) (codes "new 0 a 2" ∷ [
 unfolding opened said
 no_such_type = refl
 
-no_such_value : said (world_with (nodes 1 0 0) (Some (record { client = 0; depth = 1; units = 0; now = nodes 1 0 0 })))
+no_such_value : said (world_with (nodes 1 0 0) (under_way 1 0 (nodes 1 0 0)))
     (codes "set 0 a 2.0 1" ∷ codes "set 0 a 1.2 1" ∷ codes "set 0 a 1.1 7" ∷ codes "set 0 a 1.1 0" ∷ codes "set 0 a 1.0 @1" ∷ codes "set 0 a 1.0 @0" ∷ codes "set 0 a 1.1 @2" ∷ codes "set 0 a 1.0 @2" ∷ codes "set 0 a 1.1 @0" ∷ [])
     ≡ lines_said (codes "no object" ∷ codes "no field" ∷ codes "no kind" ∷ codes "no kind" ∷ codes "no kind" ∷ codes "no kind" ∷ codes "no object" ∷ codes "no object" ∷ codes "ok" ∷ [])
 unfolding opened said
@@ -135,7 +139,7 @@ fifth_pool : said four_open (codes "begin 0 e" ∷ codes "begin 1 e" ∷ codes "
 unfolding opened said four_open
 fifth_pool = refl
 
-units_end_for_a_field : said (world_with (nodes 1 0 0) (Some (record { client = 0; depth = 1; units = 1011; now = nodes 1 0 0 }))) (codes "set 0 a 1.0 1" ∷ codes "set 0 a 1.0 2" ∷ codes "get 0 a 1.0" ∷ []) ≡ lines_said (codes "ok" ∷ codes "no toobig" ∷ codes "ok 1" ∷ [])
+units_end_for_a_field : said (world_with (nodes 1 0 0) (under_way 1 1011 (nodes 1 0 0))) (codes "set 0 a 1.0 1" ∷ codes "set 0 a 1.0 2" ∷ codes "get 0 a 1.0" ∷ []) ≡ lines_said (codes "ok" ∷ codes "no toobig" ∷ codes "ok 1" ∷ [])
 unfolding opened said
 units_end_for_a_field = refl
 
@@ -150,7 +154,7 @@ one_unit_less = refl
 -- ---- a pool whose slots are all live grows by a puddle, which stays where the transaction is undone
 
 full_puddle : World
-full_puddle = world_with (nodes 62 0 0) (Some (record { client = 0; depth = 1; units = 0; now = nodes 62 0 0 }))
+full_puddle = world_with (nodes 62 0 0) (under_way 1 0 (nodes 62 0 0))
 
 grows : said full_puddle (codes "new 0 a 1" ∷ codes "new 0 a 1" ∷ codes "abort 0 a" ∷ codes "pools" ∷ codes "begin 0 a" ∷ codes "new 0 a 1" ∷ [])
     ≡ lines_said (codes "ok @63" ∷ codes "ok @64" ∷ codes "ok" ∷ codes "ok a:5:5:600:2:00000000-0000-0007-0000-000000000001" ∷ codes "ok" ∷ codes "ok @63" ∷ [])
@@ -167,7 +171,7 @@ unfolding opened said full_puddle
 no_frame_left = refl
 
 -- the last serial below 2^63
-serials_end : said (world_with empty_graph (Some (record { client = 0; depth = 1; units = 0; now = record empty_graph { next_serial = 9223372036854775807 } }))) (codes "new 0 a 1" ∷ codes "new 0 a 1" ∷ [])
+serials_end : said (world_with empty_graph (under_way 1 0 (record empty_graph { next_serial = 9223372036854775807 }))) (codes "new 0 a 1" ∷ codes "new 0 a 1" ∷ [])
     ≡ lines_said (codes "ok @9223372036854775807" ∷ codes "no full" ∷ [])
 unfolding opened said
 serials_end = refl

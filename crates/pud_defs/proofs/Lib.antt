@@ -53,6 +53,7 @@ pub mod ExamplesImage
 pub mod ExamplesRun
 pub mod ExamplesPools
 pub mod ExamplesTransactions
+pub mod ExamplesLaters
 pub mod ExamplesChecks
 pub mod ExamplesLogs
 pub mod ExamplesSettled

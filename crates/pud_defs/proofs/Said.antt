@@ -70,6 +70,7 @@ newlines-reply_text (replies.No refusals.Type) = refl
 newlines-reply_text (replies.No refusals.Object) = refl
 newlines-reply_text (replies.No refusals.Field) = refl
 newlines-reply_text (replies.No refusals.Kind) = refl
+newlines-reply_text (replies.No refusals.Held) = refl
 newlines-reply_text (replies.No refusals.Deep) = refl
 newlines-reply_text (replies.No refusals.Logs) = refl
 newlines-reply_text (replies.No refusals.TooBig) = refl

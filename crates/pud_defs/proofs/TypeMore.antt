@@ -14,7 +14,7 @@ use Rattle.pud_defs.proofs.TypeLists.{same_test}
 use Rattle.pud_defs.proofs.Graphs.{IsGraph, IsSameTable, IsGraph-same, graph_by-same, graph_of-each, graph_of-from}
 
 -- a type that was defined has its map still
-map_of-more : (id map other m : ℕ) (types : List (ℕ × ℕ)) → map_of id types ≡ None → map_of other types ≡ Some m → map_of other (with_type id map types) ≡ map_of other types
+pub map_of-more : (id map other m : ℕ) (types : List (ℕ × ℕ)) → map_of id types ≡ None → map_of other types ≡ Some m → map_of other (with_type id map types) ≡ map_of other types
 map_of-more id map other m types none there =
     find-put nat_cmp nat_cmp_total other id map types ∙ cond-false _ _ _ (same_test other id ∙ ne_eqb other id (λ e. none-some m (sym none ∙ ap (λ k. map_of k types) (sym e) ∙ there)))
 

@@ -1,7 +1,7 @@
 -- Which part of the world a command may change, and which file it may write.
 use Rattle.std.specs.Prelude.{◌≡◌, ℕ, List, Option, Some, None}
 use Rattle.pud_defs.specs.declared.machine.Command.{Command}
-use Rattle.pud_defs.specs.declared.machine.Command.TheVariants.{Client, Leave, Define, Cut, Arm, Chmod, Begin, Commit, Abort, New, Set, Pools, Get}
+use Rattle.pud_defs.specs.declared.machine.Command.TheVariants.{Client, Leave, Define, Cut, Arm, Chmod, Begin, Commit, Abort, New, Set, Later, Root, Free, Pools, Get}
 use Rattle.pud_defs.specs.declared.machine.Command.TheVariants as commands
 use Rattle.pud_defs.specs.World.{World}
 use Rattle.pud_defs.specs.Grammar.{command_of}
@@ -26,6 +26,9 @@ part_of (Commit client name) = transactions
 part_of (Abort client name) = transactions
 part_of (New client name t) = transactions
 part_of (Set client name s f x) = transactions
+part_of (Later client name s f x) = transactions
+part_of (Root client name s) = transactions
+part_of (Free client name s) = transactions
 part_of Pools = nothing
 part_of (Cut pick) = clients
 part_of (Arm step pick) = nothing

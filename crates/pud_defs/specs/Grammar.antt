@@ -3,7 +3,7 @@ use Rattle.std.specs.Prelude.{IsTrue, ℕ, ◌<◌, ◌≤◌, ◌+◌, ◌-◌,
 use Rattle.std.specs.List.{list_all, slice_split}
 use Rattle.pud_defs.specs.declared.layout.TheConstants.{LINE_LIMIT, CLIENTS, MAX_OWNER_ID, MAX_TYPE_ID, MAX_FIELDS, MAX_ARMED_STEP}
 use Rattle.pud_defs.specs.declared.machine.Command.{Command}
-use Rattle.pud_defs.specs.declared.machine.Command.TheVariants.{Client, Leave, Define, Cut, Arm, Chmod, Begin, Commit, Abort, New, Set, Pools, Get}
+use Rattle.pud_defs.specs.declared.machine.Command.TheVariants.{Client, Leave, Define, Cut, Arm, Chmod, Begin, Commit, Abort, New, Set, Later, Root, Free, Pools, Get}
 use Rattle.pud_defs.specs.declared.machine.Command.TheVariants as commands
 use Rattle.pud_defs.specs.declared.objects.Val.{Val}
 use Rattle.pud_defs.specs.declared.objects.Val.TheVariants.{Num, Ref}
@@ -177,6 +177,19 @@ new_by arguments = taking client_number (λ client. taking pool_name (λ name. t
 unfoldable pub set_by : Parser
 set_by arguments = taking client_number (λ client. taking pool_name (λ name. taking field_place (λ field. taking field_value (λ x. at_end (Set client name field.0 field.1 x))))) arguments
 
+-- `later C P o.f x`
+unfoldable pub later_by : Parser
+later_by arguments =
+    taking client_number (λ client. taking pool_name (λ name. taking field_place (λ field. taking field_value (λ x. at_end (Later client name field.0 field.1 x))))) arguments
+
+-- `root C P o`, where o may be 0
+unfoldable pub root_by : Parser
+root_by arguments = taking client_number (λ client. taking pool_name (λ name. taking word_number (λ s. at_end (Root client name s)))) arguments
+
+-- `free C P o`
+unfoldable pub free_by : Parser
+free_by arguments = taking client_number (λ client. taking pool_name (λ name. taking object_serial (λ s. at_end (Free client name s)))) arguments
+
 -- `get C P o.f`
 unfoldable pub get_by : Parser
 get_by arguments = taking client_number (λ client. taking pool_name (λ name. taking field_place (λ field. at_end (Get client name field.0 field.1)))) arguments
@@ -193,7 +206,20 @@ cut_by arguments = taking loss_pick (λ pick. at_end (Cut pick)) arguments
 unfoldable pub arm_by : Parser
 arm_by arguments = taking armed_step (λ step. taking loss_pick (λ pick. at_end (Arm step pick))) arguments
 
--- the lines: each command word with the parser of its arguments
+-- the lines of transactions: each command word with the parser of its arguments
+abbrev pub transaction_lines : List (List ℕ × Parser)
+transaction_lines =
+    (codes "begin", begin_by)
+    ∷ (codes "commit", commit_by)
+    ∷ (codes "abort", abort_by)
+    ∷ (codes "new", new_by)
+    ∷ (codes "set", set_by)
+    ∷ (codes "later", later_by)
+    ∷ (codes "root", root_by)
+    ∷ (codes "free", free_by)
+    ∷ []
+
+-- all lines
 abbrev pub lines : List (List ℕ × Parser)
 lines =
     (codes "client", client_by)
@@ -202,16 +228,11 @@ lines =
     ∷ (codes "pool", pool_line_by)
     ∷ (codes "chmod", chmod_by)
     ∷ (codes "drop", drop_by)
-    ∷ (codes "begin", begin_by)
-    ∷ (codes "commit", commit_by)
-    ∷ (codes "abort", abort_by)
-    ∷ (codes "new", new_by)
-    ∷ (codes "set", set_by)
     ∷ (codes "get", get_by)
     ∷ (codes "pools", pools_by)
     ∷ (codes "cut", cut_by)
     ∷ (codes "arm", arm_by)
-    ∷ []
+    ∷ transaction_lines
 
 -- the command of a command word and its arguments, by these lines
 abbrev pub command_among : List (List ℕ × Parser) → List ℕ → Parser
@@ -249,6 +270,9 @@ IsLegalCommand (Commit client name) = (client < CLIENTS) × IsName name × IsTru
 IsLegalCommand (Abort client name) = (client < CLIENTS) × IsName name × IsTrue (is_legal_name name)
 IsLegalCommand (New client name t) = (client < CLIENTS) × IsName name × IsTrue (is_legal_name name) × (1 ≤ t) × (t ≤ MAX_TYPE_ID)
 IsLegalCommand (Set client name s f x) = (client < CLIENTS) × IsName name × IsTrue (is_legal_name name) × (1 ≤ s) × (s < 2 ^ 64) × (f < MAX_FIELDS) × IsLegalValue x
+IsLegalCommand (Later client name s f x) = (client < CLIENTS) × IsName name × IsTrue (is_legal_name name) × (1 ≤ s) × (s < 2 ^ 64) × (f < MAX_FIELDS) × IsLegalValue x
+IsLegalCommand (Root client name s) = (client < CLIENTS) × IsName name × IsTrue (is_legal_name name) × (s < 2 ^ 64)
+IsLegalCommand (Free client name s) = (client < CLIENTS) × IsName name × IsTrue (is_legal_name name) × (1 ≤ s) × (s < 2 ^ 64)
 IsLegalCommand Pools = Unit {0}
 IsLegalCommand (Cut pick) = pick < 2 ^ 64
 IsLegalCommand (Arm step pick) = (1 ≤ step) × (step ≤ MAX_ARMED_STEP) × (pick < 2 ^ 64)

@@ -17,6 +17,7 @@ pub mod Rights
 pub mod Stored
 pub mod Graph
 pub mod GraphChanges
+pub mod Laters
 pub mod Holdings
 pub mod Tables
 pub mod SoundTables

@@ -4,7 +4,7 @@ use Rattle.pud_defs.specs.declared.layout.TheConstants.{TYPE_RECORDS, CLIENT_LOG
 use Rattle.pud_defs.specs.declared.records.TheConstants.{MAX_PUDDLES}
 use Rattle.pud_defs.specs.declared.space.TheConstants.{FRAME_SLOTS}
 use Rattle.pud_defs.specs.declared.machine.Command.{Command}
-use Rattle.pud_defs.specs.declared.machine.Command.TheVariants.{Client, Leave, Define, Cut, Arm, Chmod, Begin, Commit, Abort, New, Set, Pools, Get}
+use Rattle.pud_defs.specs.declared.machine.Command.TheVariants.{Client, Leave, Define, Cut, Arm, Chmod, Begin, Commit, Abort, New, Set, Later, Root, Free, Pools, Get}
 use Rattle.pud_defs.specs.declared.machine.Command.TheVariants as commands
 use Rattle.pud_defs.specs.declared.machine.Reply.{Reply}
 use Rattle.pud_defs.specs.declared.machine.Reply.TheVariants as replies
@@ -15,13 +15,14 @@ use Rattle.pud_defs.specs.Spaces.{Owner, owner, with_owner}
 use Rattle.pud_defs.specs.declared.objects.Val.{Val}
 use Rattle.pud_defs.specs.declared.objects.Val.TheVariants.{Num, Ref}
 use Rattle.pud_defs.specs.Rights.{may_read, may_write}
-use Rattle.pud_defs.specs.Graph.{Graph, Object, object_in, empty_graph}
-use Rattle.pud_defs.specs.GraphChanges.{blank_object, with_field, with_new}
+use Rattle.pud_defs.specs.Graph.{Graph, Object, object_in, is_held, empty_graph}
+use Rattle.pud_defs.specs.GraphChanges.{blank_object, with_field, with_root, without_object, with_new}
+use Rattle.pud_defs.specs.Laters.{laters_name}
 use Rattle.pud_defs.specs.Holdings.{graph_held}
 use Rattle.pud_defs.specs.Tables.{Pool}
 use Rattle.pud_defs.specs.World.{StoredWorld, Transaction, World, restart}
 use Rattle.pud_defs.specs.PoolChanges.{pool_named, is_full_of_pools, lacks_frames, lacks_a_number, changed_pool, with_puddle_more, with_new_pool, with_pool_mode, without_pool, with_type_defined}
-use Rattle.pud_defs.specs.Transactions.{is_own, is_others, units_of, depth_of, with_open, with_changed, without_client, begun, charged, lowered, committed_pools}
+use Rattle.pud_defs.specs.Transactions.{is_own, is_others, units_of, depth_of, laters_of, with_open, with_changed, without_client, begun, charged, asked, lowered, committed_pools}
 use Rattle.pud_defs.specs.Listing.{pools_text}
 use Rattle.pud_defs.specs.Grammar.{command_of}
 
@@ -44,6 +45,9 @@ causes (Commit client name) = refusals.Client ∷ refusals.Pool ∷ refusals.Wil
 causes (Abort client name) = refusals.Client ∷ refusals.Pool ∷ refusals.Wild ∷ refusals.Busy ∷ refusals.Tx ∷ []
 causes (New client name t) = refusals.Client ∷ refusals.Pool ∷ refusals.Wild ∷ refusals.Busy ∷ refusals.Tx ∷ refusals.Type ∷ refusals.TooBig ∷ refusals.Full ∷ refusals.Space ∷ []
 causes (Set client name s f x) = refusals.Client ∷ refusals.Pool ∷ refusals.Wild ∷ refusals.Busy ∷ refusals.Tx ∷ refusals.Object ∷ refusals.Field ∷ refusals.Kind ∷ refusals.TooBig ∷ []
+causes (Later client name s f x) = refusals.Client ∷ refusals.Pool ∷ refusals.Wild ∷ refusals.Busy ∷ refusals.Tx ∷ refusals.Object ∷ refusals.Field ∷ refusals.Kind ∷ refusals.TooBig ∷ []
+causes (Root client name s) = refusals.Client ∷ refusals.Pool ∷ refusals.Wild ∷ refusals.Busy ∷ refusals.Tx ∷ refusals.Object ∷ refusals.TooBig ∷ []
+causes (Free client name s) = refusals.Client ∷ refusals.Pool ∷ refusals.Wild ∷ refusals.Busy ∷ refusals.Tx ∷ refusals.Object ∷ refusals.Held ∷ refusals.TooBig ∷ []
 causes Pools = []
 causes (Cut pick) = []
 causes (Arm step pick) = []
@@ -62,6 +66,9 @@ client_of (Commit client name) = Some client
 client_of (Abort client name) = Some client
 client_of (New client name t) = Some client
 client_of (Set client name s f x) = Some client
+client_of (Later client name s f x) = Some client
+client_of (Root client name s) = Some client
+client_of (Free client name s) = Some client
 client_of Pools = None
 client_of (Cut pick) = None
 client_of (Arm step pick) = None
@@ -87,6 +94,9 @@ name_in (Commit client name) = Some name
 name_in (Abort client name) = Some name
 name_in (New client name t) = Some name
 name_in (Set client name s f x) = Some name
+name_in (Later client name s f x) = Some name
+name_in (Root client name s) = Some name
+name_in (Free client name s) = Some name
 name_in c = None
 
 -- the pool of the name, where one is named and is there
@@ -138,16 +148,19 @@ abbrev pub field_of : ℕ → Option Object → Option Val
 field_of f None = None
 field_of f (Some object) = slice_get object.fields f
 
--- the object that a command names, where the graph has it
+-- the object that a command names, where the graph has it; `root` names none, since its serial may be 0
 abbrev pub object_named : Command → Option Graph → Option Object
 object_named (Get client name s f) g = object_of s g
 object_named (Set client name s f x) g = object_of s g
+object_named (Later client name s f x) g = object_of s g
+object_named (Free client name s) g = object_of s g
 object_named c g = None
 
 -- what the field holds that a command names, where the object has it
 abbrev pub field_named : Command → Option Object → Option Val
 field_named (Get client name s f) object = field_of f object
 field_named (Set client name s f x) object = field_of f object
+field_named (Later client name s f x) object = field_of f object
 field_named c object = None
 
 -- the pool that a command names
@@ -209,7 +222,13 @@ misses g (Ref s) = not (s == 0) && is_none (object_of s g)
 
 abbrev pub misses_target : Command → Option Graph → Bool
 misses_target (Set client name s f x) g = misses g x
+misses_target (Later client name s f x) g = misses g x
 misses_target c g = false
+
+-- the graph has no object of a serial that a command names: that of its object or its value, or that of the root, which may be null
+abbrev pub lacks_object : Command → Option Graph → Bool
+lacks_object (Root client name s) g = misses g (Ref s)
+lacks_object c g = misses_target c g || is_none (object_named c g)
 
 -- one is a number and the other a pointer
 abbrev pub are_of_two_kinds : Option Val → Val → Bool
@@ -221,12 +240,26 @@ are_of_two_kinds (Some (Ref r)) (Ref s) = false
 
 abbrev pub mixes_kinds : World → Command → Bool
 mixes_kinds w (Set client name s f x) = are_of_two_kinds (field_of f (object_of s (graph_for w (Set client name s f x)))) x
+mixes_kinds w (Later client name s f x) = are_of_two_kinds (field_of f (object_of s (graph_for w (Later client name s f x)))) x
 mixes_kinds w c = false
+
+-- the root or a field names the serial, where there is a graph
+abbrev pub is_held_in : ℕ → Option Graph → Bool
+is_held_in s None = false
+is_held_in s (Some g) = is_held s g
+
+-- the object that a command frees is named by the root, by a field, also its own, or by what was asked for and is to come
+abbrev pub frees_held : World → Command → Bool
+frees_held w (Free client name s) = is_held_in s (graph_for w (Free client name s)) || laters_name s (laters_of (open_for w (Free client name s)))
+frees_held w c = false
 
 -- how many units a command uses
 abbrev pub charge : Command → ℕ
 charge (New client name t) = NEW_UNITS
 charge (Set client name s f x) = SET_UNITS
+charge (Later client name s f x) = SET_UNITS
+charge (Root client name s) = SET_UNITS
+charge (Free client name s) = SET_UNITS
 charge c = 0
 
 -- ---- room for one object more
@@ -293,9 +326,10 @@ holds w c refusals.Busy = holds_others (client_of c) (open_for w c)
 holds w c refusals.Open = holds_own (client_of c) (open_for w c)
 holds w c refusals.Tx = not (holds_own (client_of c) (open_for w c))
 holds w c refusals.Type = is_none (map_of (type_named c) w.stored.types)
-holds w c refusals.Object = misses_target c (graph_for w c) || is_none (object_for w c)
+holds w c refusals.Object = lacks_object c (graph_for w c)
 holds w c refusals.Field = is_none (field_for w c)
 holds w c refusals.Kind = mixes_kinds w c
+holds w c refusals.Held = frees_held w c
 holds w c refusals.Deep = is_deep w c
 holds w c refusals.Logs = lacks_logs w c
 holds w c refusals.TooBig = nat_lt LOG_ENTRY_WORDS (units_of (open_for w c) + charge c)
@@ -339,6 +373,9 @@ after w (New client name t) = record w {
   transactions = with_changed name (charged NEW_UNITS (with_new (object_made w t))) w.transactions;
 }
 after w (Set client name s f x) = record w { transactions = with_changed name (charged SET_UNITS (with_field s f x)) w.transactions }
+after w (Later client name s f x) = record w { transactions = with_changed name (asked SET_UNITS (record { s = s; f = f; x = x })) w.transactions }
+after w (Root client name s) = record w { transactions = with_changed name (charged SET_UNITS (with_root s)) w.transactions }
+after w (Free client name s) = record w { transactions = with_changed name (charged SET_UNITS (without_object s)) w.transactions }
 after w Pools = w
 after w (Cut pick) = restart w
 after w (Arm step pick) = w

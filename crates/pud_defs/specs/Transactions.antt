@@ -1,6 +1,7 @@
 -- Open transactions of a world: whose they are, what they use, how they begin and end.
-use Rattle.std.specs.Prelude.{ℕ, ◌+◌, ◌-◌, Bool, false, not, nat_le, ◌==◌, cond, List, bytes_eq, Option, Some, None, option_map}
+use Rattle.std.specs.Prelude.{ℕ, ◌+◌, ◌-◌, Bool, false, not, nat_le, ◌==◌, cond, List, [], ◌∷◌, ◌++◌, bytes_eq, Option, Some, None, option_map}
 use Rattle.pud_defs.specs.Graph.{Graph}
+use Rattle.pud_defs.specs.Laters.{Later, with_laters}
 use Rattle.pud_defs.specs.Holdings.Holding.{Sound}
 use Rattle.pud_defs.specs.Tables.{Pool}
 use Rattle.pud_defs.specs.PoolChanges.{changed_pool}
@@ -30,6 +31,11 @@ abbrev pub depth_of : Option Transaction → ℕ
 depth_of None = 0
 depth_of (Some t) = t.depth
 
+-- what was asked for and is to come
+abbrev pub laters_of : Option Transaction → List Later
+laters_of None = []
+laters_of (Some t) = t.laters
+
 -- this is open on the pool of the name, and all else as before
 abbrev pub with_open : List ℕ → Option Transaction → Opened → Opened
 with_open name now opened other = cond (bytes_eq other name) now (opened other)
@@ -46,12 +52,16 @@ without_client client opened name = cond (is_own client (opened name)) None (ope
 
 -- begun once by a client that sees this graph; or what is open, one deeper
 abbrev pub begun : (client : ℕ) → Graph → Option Transaction → Option Transaction
-begun client g None = Some (record { client = client; depth = 1; units = 0; now = g })
+begun client g None = Some (record { client = client; depth = 1; units = 0; now = g; laters = [] })
 begun client g (Some t) = Some (record t { depth = t.depth + 1 })
 
 -- its graph changed, and so many units more used
 abbrev pub charged : (units : ℕ) → (Graph → Graph) → Transaction → Transaction
 charged units change t = record t { units = t.units + units; now = change t.now }
+
+-- a value asked for, behind what was, and so many units more used: its graph is as it was
+abbrev pub asked : (units : ℕ) → Later → Transaction → Transaction
+asked units l t = record t { units = t.units + units; laters = t.laters ++ l ∷ [] }
 
 -- ---- it ends
 
@@ -64,7 +74,7 @@ lowered (Some t) = cond (nat_le t.depth 1) None (Some (record t { depth = t.dept
 abbrev pub holding_graph : Graph → Pool → Pool
 holding_graph g p = record p { holding = Sound g }
 
--- the pools behind a commit: where the transaction was begun once its pool has the graph that it made
+-- the pools behind a commit: where the transaction was begun once its pool has the graph that it made, with what was asked for
 abbrev pub committed_pools : List ℕ → Option Transaction → List (List ℕ × Pool) → List (List ℕ × Pool)
 committed_pools name None pools = pools
-committed_pools name (Some t) pools = cond (nat_le t.depth 1) (changed_pool name (holding_graph t.now) pools) pools
+committed_pools name (Some t) pools = cond (nat_le t.depth 1) (changed_pool name (holding_graph (with_laters t.laters t.now)) pools) pools

@@ -6,6 +6,7 @@ use Rattle.pud_defs.specs.Image.{Image}
 use Rattle.pud_defs.specs.Replay.{settled_by}
 use Rattle.pud_defs.specs.Types.{types_of}
 use Rattle.pud_defs.specs.Graph.{Graph}
+use Rattle.pud_defs.specs.Laters.{Later}
 use Rattle.pud_defs.specs.Holdings.{holding_in}
 use Rattle.pud_defs.specs.Tables.{Pool, tables_of, pools_of}
 use Rattle.pud_defs.specs.Spaces.{Owner}
@@ -51,13 +52,14 @@ idle_registry size image = cond (is_idle_registry size image) (Some (stored_by i
 unfoldable pub idle_world_of : ℕ → Image → Option StoredWorld
 idle_world_of size image = cond (has_legal_log image) (idle_registry size (settled_by DAEMON_LOG image)) None
 
--- A transaction that is open: whose it is, how often it was begun, how many units of its log it has used, and the graph of its pool as its
--- client sees it.
+-- A transaction that is open: whose it is, how often it was begun, how many units of its log it has used, the graph of its pool as its
+-- client sees it, and what was asked for that comes when it is committed, oldest first.
 pub record Transaction : Type 0 where
   pub client : ℕ
   pub depth : ℕ
   pub units : ℕ
   pub now : Graph
+  pub laters : List Later
 
 -- the stored world; the clients that are present, by their numbers, and as whom each acts; the shelf: which files
 -- there are, by the bytes of their names, and what they hold; and the transactions that are open, by the names of their pools. Of such a

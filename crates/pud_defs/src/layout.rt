@@ -75,7 +75,8 @@ pub const CLIENT_LOGS: u32 = 4;
 /// How often a transaction may be begun before it ends.
 pub const MAX_DEPTH: u32 = 16;
 
-/// How many units of its log a transaction uses to set a field: the entry words of an entry of one word.
+/// How many units of its log a transaction uses to set a field, at once or at the commit, to set the root or to free an object: the entry
+/// words of an entry of one word.
 pub const SET_UNITS: u32 = ENTRY_HEADER_WORDS + 1;
 
 /// How many units of its log a transaction uses to make an object: the entry words of an entry of a slot's words, as many as an entry has at

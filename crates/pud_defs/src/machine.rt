@@ -82,6 +82,29 @@ pub enum Command {
         f: u32,
         x: Val,
     },
+    /// `later C P o.f x`: the client, from 0 to 7, asks in its transaction on the pool of this name that field `f`, from 0 to 29, of the
+    /// object with serial `s`, at least 1, has the value `x` once the transaction is committed, behind all that is set in it and all that
+    /// was asked for before.
+    Later {
+        client: u8,
+        name: Name,
+        s: u64,
+        f: u32,
+        x: Val,
+    },
+    /// `root C P o`: the client, from 0 to 7, makes the object with serial `s`, or none where it is 0, the root of the pool of this name
+    /// in its transaction.
+    Root {
+        client: u8,
+        name: Name,
+        s: u64,
+    },
+    /// `free C P o`: the client, from 0 to 7, frees the object with serial `s`, at least 1, in its transaction on the pool of this name.
+    Free {
+        client: u8,
+        name: Name,
+        s: u64,
+    },
     /// `pools`: what pools are there.
     Pools,
     /// `cut N`: power is lost at once, and what is left of words that are not durable is chosen by `pick`.
@@ -150,12 +173,15 @@ pub enum Refusal {
     Tx,
     /// The type is not defined.
     Type,
-    /// The pool has no object of the serial, or none of the serial that is to be the value.
+    /// The pool has no object of the serial, or none of the serial that is to be the value or the root.
     Object,
     /// The object's type has no such field.
     Field,
     /// The value is a number and the field a pointer, or the other way round.
     Kind,
+    /// The root names the object, or a field of an object, itself included, or what was asked for and is to come at the commit, by the field
+    /// or by the value.
+    Held,
     /// The client's transaction on the pool was begun 16 times.
     Deep,
     /// The client has none open on the pool, and four on others.

@@ -1,7 +1,7 @@
 //! The arguments of a line, taken from the front one by one, each by its kind.
 
 ghost use Rattle.std.specs.Prelude.{◌≡◌, ◌≤◌, ℕ, List, IfSome};
-ghost use Rattle.pud_defs.specs.Grammar.{client_number, owner_id, type_id, field_count, listed_map, pool_name, pool_mode, field_place, field_value, armed_step, loss_pick, at_end};
+ghost use Rattle.pud_defs.specs.Grammar.{client_number, owner_id, type_id, field_count, listed_map, pool_name, pool_mode, word_number, object_serial, field_place, field_value, armed_step, loss_pick, at_end};
 ghost use Rattle.script.specs.Pieces.{pieces_of, with_front};
 ghost use Rattle.script.specs.Taken.{IsTaken};
 
@@ -9,7 +9,7 @@ use crate::fields::read_map;
 use crate::names::{read_mode, read_name};
 use crate::numbers::{read_number, read_within};
 use crate::pieces::cut;
-use crate::places::read_place;
+use crate::places::{read_place, read_serial};
 use crate::values::read_value;
 use pud_defs::layout::{CLIENTS, MAX_ARMED_STEP, MAX_FIELDS, MAX_OWNER_ID, MAX_TYPE_ID};
 use pud_defs::machine::Command;
@@ -111,6 +111,22 @@ impl<'a> Arguments<'a> {
         ensures { IsTaken field_place self.old result self.new }
     {
         read_place(self.front()?)
+    }
+
+    /// The front argument as the serial of an object.
+    #[tactic(auto, using(crate::proofs::Taken::taken))]
+    pub(crate) fn object(&mut self) -> Option<u64>
+        ensures { IsTaken object_serial self.old result self.new }
+    {
+        read_serial(self.front()?)
+    }
+
+    /// The front argument as the serial of an object, or 0 for null.
+    #[tactic(auto, using(crate::proofs::Taken::taken))]
+    pub(crate) fn object_or_null(&mut self) -> Option<u64>
+        ensures { IsTaken word_number self.old result self.new }
+    {
+        read_number(self.front()?)
     }
 
     /// The front argument as the value of a field.

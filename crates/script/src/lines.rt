@@ -16,6 +16,9 @@
 //! - `new C P T`;
 //! - `set C P o.f x`: the serial o of an object from 1 to 2^64 - 1, the number f of a field from 0 to 29, and the value x: a number
 //!   below 2^64, or `@` and a serial below 2^64, of which `@0` is null;
+//! - `later C P o.f x`;
+//! - `root C P o`: the serial o of an object, or 0 for null;
+//! - `free C P o`;
 //! - `get C P o.f`;
 //! - `pools`;
 //! - `cut N`: the pick N, any number below 2^64;
@@ -23,7 +26,7 @@
 
 ghost use Rattle.std.specs.Prelude.{◌≡◌, IfOk};
 ghost use Rattle.std.specs.Result.{result_ok};
-ghost use Rattle.pud_defs.specs.Grammar.{split_at, client_by, leave_by, define_by, pool_line_by, chmod_by, drop_by, begin_by, commit_by, abort_by, new_by, set_by, get_by, pools_by, cut_by, arm_by, command_with, command_by, command_of, IsLegalCommand};
+ghost use Rattle.pud_defs.specs.Grammar.{split_at, client_by, leave_by, define_by, pool_line_by, chmod_by, drop_by, begin_by, commit_by, abort_by, new_by, set_by, later_by, root_by, free_by, get_by, pools_by, cut_by, arm_by, transaction_lines, command_among, command_with, command_by, command_of, IsLegalCommand};
 
 use crate::arguments::Arguments;
 use crate::pieces::cut;
@@ -157,6 +160,46 @@ fn read_set(mut arguments: Arguments) -> Option<Command>
     })
 }
 
+/// The asking for a value of a field.
+#[tactic(auto, unfolding(pud_defs::specs::Grammar::later_by))]
+fn read_later(mut arguments: Arguments) -> Option<Command>
+    ensures { result ≡ later_by arguments.entry }
+{
+    let client = arguments.client()?;
+    let name = arguments.name()?;
+    let (s, f) = arguments.place()?;
+    let x = arguments.value()?;
+    arguments.end(Command::Later {
+        client,
+        name,
+        s,
+        f,
+        x,
+    })
+}
+
+/// The setting of the root.
+#[tactic(auto, unfolding(pud_defs::specs::Grammar::root_by))]
+fn read_root(mut arguments: Arguments) -> Option<Command>
+    ensures { result ≡ root_by arguments.entry }
+{
+    let client = arguments.client()?;
+    let name = arguments.name()?;
+    let s = arguments.object_or_null()?;
+    arguments.end(Command::Root { client, name, s })
+}
+
+/// The freeing of an object.
+#[tactic(auto, unfolding(pud_defs::specs::Grammar::free_by))]
+fn read_free(mut arguments: Arguments) -> Option<Command>
+    ensures { result ≡ free_by arguments.entry }
+{
+    let client = arguments.client()?;
+    let name = arguments.name()?;
+    let s = arguments.object()?;
+    arguments.end(Command::Free { client, name, s })
+}
+
 /// The reading of a field.
 #[tactic(auto, unfolding(pud_defs::specs::Grammar::get_by))]
 fn read_get(mut arguments: Arguments) -> Option<Command>
@@ -195,6 +238,31 @@ fn read_arm(mut arguments: Arguments) -> Option<Command>
     arguments.end(Command::Arm { step, pick })
 }
 
+/// The command of a transaction by its word and its arguments.
+fn read_in_transaction(word: &[u8], arguments: Arguments) -> Option<Command>
+    ensures { result ≡ command_among transaction_lines word.now arguments.entry }
+{
+    if word == b"begin".as_slice() {
+        read_begin(arguments)
+    } else if word == b"commit".as_slice() {
+        read_commit(arguments)
+    } else if word == b"abort".as_slice() {
+        read_abort(arguments)
+    } else if word == b"new".as_slice() {
+        read_new(arguments)
+    } else if word == b"set".as_slice() {
+        read_set(arguments)
+    } else if word == b"later".as_slice() {
+        read_later(arguments)
+    } else if word == b"root".as_slice() {
+        read_root(arguments)
+    } else if word == b"free".as_slice() {
+        read_free(arguments)
+    } else {
+        None
+    }
+}
+
 /// The command by its word and its arguments.
 #[tactic(auto, unfolding(pud_defs::specs::Grammar::command_with))]
 fn read_with(word: &[u8], arguments: Arguments) -> Option<Command>
@@ -212,16 +280,6 @@ fn read_with(word: &[u8], arguments: Arguments) -> Option<Command>
         read_chmod(arguments)
     } else if word == b"drop".as_slice() {
         read_drop(arguments)
-    } else if word == b"begin".as_slice() {
-        read_begin(arguments)
-    } else if word == b"commit".as_slice() {
-        read_commit(arguments)
-    } else if word == b"abort".as_slice() {
-        read_abort(arguments)
-    } else if word == b"new".as_slice() {
-        read_new(arguments)
-    } else if word == b"set".as_slice() {
-        read_set(arguments)
     } else if word == b"get".as_slice() {
         read_get(arguments)
     } else if word == b"pools".as_slice() {
@@ -231,7 +289,7 @@ fn read_with(word: &[u8], arguments: Arguments) -> Option<Command>
     } else if word == b"arm".as_slice() {
         read_arm(arguments)
     } else {
-        None
+        read_in_transaction(word, arguments)
     }
 }
 

@@ -8,7 +8,7 @@ use crate::pieces::cut;
 use pud_defs::layout::MAX_FIELDS;
 
 /// The serial that the bytes are: a number from 1 to 2^64 - 1. None where they are no such number.
-fn read_serial(bytes: &[u8]) -> Option<u64>
+pub(crate) fn read_serial(bytes: &[u8]) -> Option<u64>
     ensures { result ≡ object_serial bytes.now }
 {
     let serial = read_number(bytes)?;

@@ -27,6 +27,7 @@ fn word_of(refusal: Refusal) -> &'static [u8]
         Refusal::Object => b"object",
         Refusal::Field => b"field",
         Refusal::Kind => b"kind",
+        Refusal::Held => b"held",
         Refusal::Deep => b"deep",
         Refusal::Logs => b"logs",
         Refusal::TooBig => b"toobig",
