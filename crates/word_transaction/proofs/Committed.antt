@@ -1,26 +1,29 @@
--- A transaction committed: what is left at each moment, and at the end.
-use Rattle.std.proofs.Common.{◌≡◌, ◌⊎◌, inl, inr, ℕ, true, List, [], Option, Some, None, refl, sym, ap, subst, ◌∙◌, arith}
+-- A transaction committed: its words made durable, the range moved, and its log closed.
+use Rattle.std.proofs.Common.{◌≡◌, ◌⊎◌, inl, inr, ℕ, true, false, List, [], Option, Some, None, refl, sym, ap, subst, ◌∙◌, arith}
 use Rattle.std.proofs.lemmas.List.{append-nil}
 use Rattle.pm_model.specs.declared.host.HostFault.{HostFault}
+use Rattle.pm_model.specs.declared.host.HostFault.TheVariants.{Cut}
 use Rattle.pm_model.specs.Words.{Cell, reads, Picks, HasOnly, fenced, after_fence}
 use Rattle.pm_model.specs.Moments.{State}
 use Rattle.pm_model.specs.Calls.{Steps}
 use Rattle.pm_model.specs.Changes.{Footprint, Changes, Leaves, Silently, Persists, IsFrom, only, written}
 use Rattle.pm_model.proofs.Words.{HasOnly-newest, HasOnly-fenced, values-fenced, only_at}
-use Rattle.pm_model.proofs.Changes.{Changes-fence, Changes-then, Changes-wider, Changes-said, HasOnly-kept}
-use Rattle.pm_model.proofs.Leaves.{Leaves-changes, Leaves-then, Leaves-weaker}
+use Rattle.pm_model.proofs.Changes.{Changes-still, Changes-fence, Changes-then, Changes-wider, Changes-said, HasOnly-kept}
+use Rattle.pm_model.proofs.Leaves.{Leaves-still, Leaves-changes, Leaves-then, Leaves-weaker}
 use Rattle.pm_model.proofs.OneWord.{one_word}
 use Rattle.pud_defs.specs.declared.log_words.TheConstants.{COMMITTING_LO, COMMITTING_HI, CLOSED_GATE}
 use Rattle.pud_defs.specs.Image.{Image}
 use Rattle.pud_defs.specs.Entries.{Entry, gate_word, is_idle_gate}
-use Rattle.pud_defs.proofs.Replay.{not_inside}
+use Rattle.pud_defs.specs.Replay.{overwritten}
+use Rattle.pud_defs.proofs.Replay.{not_inside, overwritten-stays}
 use Rattle.log_store.specs.Store.{OpenLog, IsOpen, committing}
 use Rattle.log_store.proofs.Open.{IsOpen-log, IsOpen-kept, IsOpen-moved, log_of-moving, only_here, only_value}
-use Rattle.word_transaction.specs.Ground.{Ground, IsGround, pending}
+use Rattle.word_transaction.specs.Ground.{Ground, IsGround, asks, pending}
 use Rattle.word_transaction.specs.Running.{IsRunning, SettlesTo, ByTransaction, ByCommit, Closes, Ends}
 use Rattle.word_transaction.proofs.Images.{SettlesTo-running, SettlesTo-idle, IsRunning-settles}
 use Rattle.word_transaction.proofs.Calls.{some_fault, not_cut}
-use Rattle.word_transaction.proofs.Pending.{SettlesTo-committing}
+use Rattle.word_transaction.proofs.Pending.{pending-none, SettlesTo-committing}
+use Rattle.word_transaction.proofs.Ended.{reads_beside}
 
 -- ---- words of the log, and the transaction's own
 
@@ -81,6 +84,13 @@ pub record Moves (log : OpenLog) (fault : Option HostFault) (a b c : State) : Ty
   pub fence : Steps after_fence None a b
   pub move : Persists (only log.at (moved_gate log)) fault b c
 
+-- behind what changed nothing
+pub fence_from : (fault : Option HostFault) (o a b : State) → a ≡ o → Steps after_fence fault a b → Steps after_fence fault o b
+fence_from fault o a b same step = subst (λ (s : State). Steps after_fence fault s b) same step
+
+pub Moves-from : (log : OpenLog) (fault : Option HostFault) (o a b c : State) → a ≡ o → Steps after_fence None a b → Persists (only log.at (moved_gate log)) fault b c → Moves log fault o b c
+Moves-from log fault o a b c same fence move = record { fence = fence_from None o a b same fence; move = move }
+
 pub gate_moves : (log : OpenLog) (fault : Option HostFault) (a b c : State) → Moves log fault a b c → Changes (ByCommit log) fault a c
 gate_moves log fault a b c m =
     Changes-then (ByCommit log) fault a b c (Changes-fence (ByCommit log) None a b m.fence)
@@ -95,9 +105,13 @@ gate_closes log fault a b c d m p =
 -- ---- the moments of an open transaction
 
 module _ (size : ℕ) (log : OpenLog) (es : List Entry) (g : Ground) (before : Image) (a : State) (ground : IsGround size log.at g) (r : IsRunning g log es before a.now.words) where
-  -- what it has with the log replayed, at the start or at the end
+  -- what its own words come to hold: what they hold now, and over it what is asked for
+  abbrev after : Image
+  after = overwritten (pending g.place es) (reads a.now.words)
+
+  -- what an image has with the log replayed, at the start or at the end
   abbrev Either : Image → Type 0
-  Either image = SettlesTo g log.at before image ⊎ SettlesTo g log.at (reads a.now.words) image
+  Either image = SettlesTo g log.at before image ⊎ SettlesTo g log.at after image
 
   fence_image : (was image : Image) → Picks a.now.words was → IsFrom Nowhere was image → SettlesTo g log.at before image
   fence_image was image picked from =
@@ -126,73 +140,91 @@ module _ (size : ℕ) (log : OpenLog) (es : List Entry) (g : Ground) (before : I
     | inr new ↦ absurd (mine_apart size log.at g k ground mine (only_at log.at (moved_gate log) k (image k) new))
   ]
 
-  module _ (none : (k : ℕ) → pending g.place es k ≡ None) where
-    moved_image : (b c : State) (fault : Option HostFault) (m : Moves log fault a b c) (was image : Image) → Picks b.now.words was
-        → IsFrom (written (only log.at (moved_gate log))) was image → Either image
-    moved_image b c fault m was image picked from =
-        let own = moved_own b c fault m was image picked from in
-        elim (log_of-moving COMMITTING_LO COMMITTING_HI log es b.now.words was image (omega arith) (omega arith) (fence_open b m.fence) picked from) [
-          | inl says ↦ inl (SettlesTo-running g log es before image r.lo r.hi r.own says (λ k v mine is. r.saves k v is)
-              (λ k mine kept. own k mine ∙ HasOnly-newest (a.now.words k) (before k) (r.single k mine kept)))
-          | inr says ↦ inr (SettlesTo-committing g log es (reads a.now.words) image r.own says none own)
-        ]
+  moved_image : (b c : State) (fault : Option HostFault) (m : Moves log fault a b c) (was image : Image) → Picks b.now.words was
+      → IsFrom (written (only log.at (moved_gate log))) was image → Either image
+  moved_image b c fault m was image picked from =
+      let own = moved_own b c fault m was image picked from in
+      elim (log_of-moving COMMITTING_LO COMMITTING_HI log es b.now.words was image (omega arith) (omega arith) (fence_open b m.fence) picked from) [
+        | inl says ↦ inl (SettlesTo-running g log es before image r.lo r.hi r.own says (λ k v mine is. r.saves k v is)
+            (λ k mine kept. own k mine ∙ HasOnly-newest (a.now.words k) (before k) (r.single k mine kept)))
+        | inr says ↦ inr (SettlesTo-committing g log es (reads a.now.words) image r.own says own)
+      ]
 
-    moved_left : (b c : State) (fault : Option HostFault) (m : Moves log fault a b c) → Leaves (Silently Either) a c
-    moved_left b c fault m =
-        let P = Silently Either in
-        let said = Changes-said Nowhere None a b (Changes-fence Nowhere None a b m.fence) in
-        Leaves-then P P P [] a b c (said ∙ sym (append-nil a.now.said)) (λ front image p. p) (λ more image p. p) (fence_left None b m.fence)
-        (Leaves-changes Either (written (only log.at (moved_gate log))) fault b c (moved_image b c fault m) m.move.changes)
+  moved_left : (b c : State) (fault : Option HostFault) (m : Moves log fault a b c) → Leaves (Silently Either) a c
+  moved_left b c fault m =
+      let P = Silently Either in
+      let said = Changes-said Nowhere None a b (Changes-fence Nowhere None a b m.fence) in
+      Leaves-then P P P [] a b c (said ∙ sym (append-nil a.now.said)) (λ front image p. p) (λ more image p. p) (fence_left None b m.fence)
+      (Leaves-changes Either (written (only log.at (moved_gate log))) fault b c (moved_image b c fault m) m.move.changes)
 
-    -- behind it each image settles to what is read
-    moved_single : (b c : State) (m : Moves log None a b c) → (k : ℕ) → g.mine k ≡ true → HasOnly (c.now.words k) (reads a.now.words k)
-    moved_single b c m k mine =
-        HasOnly-kept (written (only log.at (moved_gate log))) None b c k (reads a.now.words k) m.move.changes
-        (λ x new. mine_apart size log.at g k ground mine (only_at log.at (moved_gate log) k x new)) (fence_single b m.fence k mine)
+  -- behind it each own word has one value, and the log runs in the range of redo entries
+  pub moved_single : (b c : State) (m : Moves log None a b c) → (k : ℕ) → g.mine k ≡ true → HasOnly (c.now.words k) (reads a.now.words k)
+  moved_single b c m k mine =
+      HasOnly-kept (written (only log.at (moved_gate log))) None b c k (reads a.now.words k) m.move.changes
+      (λ x new. mine_apart size log.at g k ground mine (only_at log.at (moved_gate log) k x new)) (fence_single b m.fence k mine)
 
-    moved_settles : (b c : State) (m : Moves log None a b c) (image : Image) → Picks c.now.words image → SettlesTo g log.at (reads a.now.words) image
-    moved_settles b c m image picked =
-        let opened = IsOpen-moved COMMITTING_LO COMMITTING_HI log es b c (omega arith) (omega arith) (fence_open b m.fence) m.move in
-        SettlesTo-committing g log es (reads a.now.words) image r.own (IsOpen-log (committing log) es c.now.words image opened picked) none
-        (λ k mine. (moved_single b c m k mine).each (image k) (picked.each k))
+  pub moved_open : (b c : State) (m : Moves log None a b c) → IsOpen (committing log) es c.now.words
+  moved_open b c m = IsOpen-moved COMMITTING_LO COMMITTING_HI log es b c (omega arith) (omega arith) (fence_open b m.fence) m.move
 
-    -- ---- the call
+  -- so each image settles to what they come to hold
+  moved_settles : (b c : State) (m : Moves log None a b c) (image : Image) → Picks c.now.words image → SettlesTo g log.at after image
+  moved_settles b c m image picked =
+      SettlesTo-committing g log es (reads a.now.words) image r.own (IsOpen-log (committing log) es c.now.words image (moved_open b c m) picked)
+      (λ k mine. (moved_single b c m k mine).each (image k) (picked.each k))
 
-    own_gate : (k v : ℕ) → ByCommit log k v → ByTransaction g log.at k v
-    own_gate k v by = let here = by.gate in inl (record { low = omega arith; high = omega arith })
+  -- ---- the call
 
-    pub Ends-fence : (fault : HostFault) (b : State) → Steps after_fence (Some fault) a b → Ends g log.at before (reads a.now.words) (Some fault) a b
-    Ends-fence fault b step =
-        record {
-          changes = Changes-fence (ByTransaction g log.at) (Some fault) a b step;
-          moments = fence_left (Some fault) b step;
-          durable = λ e. absurd (some_fault fault e);
-          closed = λ e. absurd (some_fault fault e);
-          now = λ e. absurd (some_fault fault e);
-        }
+  own_gate : (k v : ℕ) → ByCommit log k v → ByTransaction g log.at k v
+  own_gate k v by = let here = by.gate in inl (record { low = omega arith; high = omega arith })
 
-    pub Ends-move : (fault : HostFault) (b c : State) → Moves log (Some fault) a b c → Ends g log.at before (reads a.now.words) (Some fault) a c
-    Ends-move fault b c m =
-        record {
-          changes = Changes-wider (ByCommit log) (ByTransaction g log.at) (Some fault) a c own_gate (gate_moves log (Some fault) a b c m);
-          moments = moved_left b c (Some fault) m;
-          durable = λ e. absurd (some_fault fault e);
-          closed = λ e. absurd (some_fault fault e);
-          now = λ e. absurd (some_fault fault e);
-        }
+  -- it failed before it did anything
+  pub Ends-stopped : (fault : HostFault) (b : State) → (Some fault ≡ Some Cut → ⊥) → b ≡ a → Ends g log.at before after (Some fault) a b
+  Ends-stopped fault b kept same =
+      record {
+        changes = Changes-still (ByTransaction g log.at) (Some fault) a b kept same;
+        moments = Leaves-still (Silently Either) a b (λ image picked. (refl, inl (IsRunning-settles g log es before image a.now.words r picked))) same;
+        durable = λ e. absurd (some_fault fault e);
+        closed = λ e. absurd (some_fault fault e);
+        stays = λ e. absurd (some_fault fault e);
+      }
 
-    pub Ends-close : (fault : Option HostFault) (b c d : State) → Moves log None a b c → Persists (only log.at CLOSED_GATE) fault c d → Ends g log.at before (reads a.now.words) fault a d
-    Ends-close fault b c d m p =
-        let shut = Closes-shut size log.at g ground (reads a.now.words) fault c d (moved_settles b c m) (moved_single b c m) p in
-        let changes = gate_closes log fault a b c d m p in
-        let said = Changes-said (ByCommit log) None a c (gate_moves log None a b c m) in
-        record {
-          changes = Changes-wider (ByCommit log) (ByTransaction g log.at) fault a d own_gate changes;
-          moments = Leaves-then (Silently Either) (Silently (SettlesTo g log.at (reads a.now.words))) (Silently Either) [] a c d (said ∙ sym (append-nil a.now.said))
-              (λ front image p. p) (λ more image p. (p.0, inr p.1)) (moved_left b c None m) shut.moments;
-          durable = shut.durable;
-          closed = shut.closed;
-          now = λ e k outside.
-              (changes.keeps (not_cut fault e) k
-              (λ v by. not_inside log.at k outside (let here = by.gate in record { low = omega arith; high = omega arith }))).newest;
-        }
+  pub Ends-fence : (fault : HostFault) (b : State) → Steps after_fence (Some fault) a b → Ends g log.at before after (Some fault) a b
+  Ends-fence fault b step =
+      record {
+        changes = Changes-fence (ByTransaction g log.at) (Some fault) a b step;
+        moments = fence_left (Some fault) b step;
+        durable = λ e. absurd (some_fault fault e);
+        closed = λ e. absurd (some_fault fault e);
+        stays = λ e. absurd (some_fault fault e);
+      }
+
+  pub Ends-move : (fault : HostFault) (b c : State) → Moves log (Some fault) a b c → Ends g log.at before after (Some fault) a c
+  Ends-move fault b c m =
+      record {
+        changes = Changes-wider (ByCommit log) (ByTransaction g log.at) (Some fault) a c own_gate (gate_moves log (Some fault) a b c m);
+        moments = moved_left b c (Some fault) m;
+        durable = λ e. absurd (some_fault fault e);
+        closed = λ e. absurd (some_fault fault e);
+        stays = λ e. absurd (some_fault fault e);
+      }
+
+  -- its log is closed, with all words as they come to be
+  pub Ends-closes : (fault : Option HostFault) (b c d : State) → Moves log None a b c → Closes g log.at after fault c d → Ends g log.at before after fault a d
+  Ends-closes fault b c d m closes =
+      let moves = gate_moves log None a b c m in
+      let changes = Changes-then (ByTransaction g log.at) fault a c d (Changes-wider (ByCommit log) (ByTransaction g log.at) None a c own_gate moves) closes.changes in
+      record {
+        changes = changes;
+        moments = Leaves-then (Silently Either) (Silently (SettlesTo g log.at after)) (Silently Either) [] a c d (Changes-said (ByCommit log) None a c moves ∙ sym (append-nil a.now.said))
+            (λ front image p. p) (λ more image p. (p.0, inr p.1)) (moved_left b c None m) closes.moments;
+        durable = closes.durable;
+        closed = closes.closed;
+        stays = λ e k outside other. reads_beside g log.at fault a d changes (not_cut fault e) k outside other;
+      }
+
+  -- at once where nothing is asked for
+  pub Ends-close : (fault : Option HostFault) (b c d : State) → asks es ≡ false → Moves log None a b c → Persists (only log.at CLOSED_GATE) fault c d → Ends g log.at before after fault a d
+  Ends-close fault b c d none m p =
+      Ends-closes fault b c d m
+      (Closes-shut size log.at g ground after fault c d (moved_settles b c m)
+      (λ k mine. subst (λ (v : ℕ). HasOnly (c.now.words k) v) (sym (overwritten-stays (pending g.place es) (reads a.now.words) k (pending-none g.place es k none))) (moved_single b c m k mine)) p)

@@ -10,13 +10,13 @@ use Rattle.pm_model.specs.Moments.{State}
 use Rattle.pm_model.specs.Changes.{Footprint, Write, Changes, Leaves, Silently}
 use Rattle.pm_model.proofs.Words.{HasOnly-own}
 use Rattle.pm_model.proofs.Leaves.{Leaves-changes}
-use Rattle.pud_defs.specs.declared.log_words.TheConstants.{UNDO_ORDER}
+use Rattle.pud_defs.specs.declared.log_words.TheConstants.{UNDO_ORDER, REDO_ORDER}
 use Rattle.pud_defs.specs.Image.{Image}
 use Rattle.pud_defs.specs.Entries.{Entry, Log}
-use Rattle.pud_defs.specs.Replay.{Place, is_in_range, value_from, undone}
-use Rattle.pud_defs.proofs.Replay.{undone-first, undone-none}
+use Rattle.pud_defs.specs.Replay.{Place, is_in_range, value_from, undone, redone}
+use Rattle.pud_defs.proofs.Replay.{undone-first, undone-none, redone-first, redone-none}
 use Rattle.log_store.specs.Store.{OpenLog, InLog}
-use Rattle.word_transaction.specs.Ground.{Ground, IsGround, IsOwn, running_range, saved}
+use Rattle.word_transaction.specs.Ground.{Ground, IsGround, IsOwn, running_range, committing_range, saved, pending}
 use Rattle.word_transaction.specs.Running.{IsRunning, IsCovered, SettlesTo}
 use Rattle.word_transaction.proofs.Saved.{saved_is_mine}
 use Rattle.word_transaction.proofs.Images.{SettlesTo-local, IsRunning-settles}
@@ -69,6 +69,14 @@ undone-places place other log (e ∷ es) k same =
     (undone-places place other log es k (All-tail (λ x. other x.address ≡ place x.address) e es same))
     ∙ sym (undone-first place log e es k)
 
+pub redone-places : (place other : Place) (log : Log) (es : List Entry) (k : ℕ) → All (λ e. other e.address ≡ place e.address) es → redone other log es k ≡ redone place log es k
+redone-places place other log [] k same = redone-none other log k ∙ sym (redone-none place log k)
+redone-places place other log (e ∷ es) k same =
+    redone-first other log e es k
+    ∙ ap₂ option_or (redone-places place other log es k (All-tail (λ x. other x.address ≡ place x.address) e es same))
+    (ap (λ (o : Option ℕ). cond (is_in_range log e && eqb e.order REDO_ORDER) (value_from o e.vals k) None) (All-head (λ x. other x.address ≡ place x.address) e es same))
+    ∙ sym (redone-first place log e es k)
+
 own_wider : (g wide : Ground) (es : List Entry) → IsWider g wide → All (IsOwn g) es → All (IsOwn wide) es
 own_wider g wide [] wider own = All-nil (IsOwn wide)
 own_wider g wide (e ∷ es) wider own =
@@ -84,6 +92,10 @@ places_wider g wide (e ∷ es) wider own =
 -- the same words are saved
 pub saved-wider : (g wide : Ground) (es : List Entry) (k : ℕ) → IsWider g wide → All (IsOwn g) es → saved wide.place es k ≡ saved g.place es k
 saved-wider g wide es k wider own = undone-places g.place wide.place running_range es k (places_wider g wide es wider own)
+
+-- and the same are asked for
+pub pending-wider : (g wide : Ground) (es : List Entry) (k : ℕ) → IsWider g wide → All (IsOwn g) es → pending wide.place es k ≡ pending g.place es k
+pending-wider g wide es k wider own = redone-places g.place wide.place committing_range es k (places_wider g wide es wider own)
 
 -- an open transaction comes to own more words, each with one value, which it then has from the beginning
 pub IsRunning-wider : (g wide : Ground) (log : OpenLog) (es : List Entry) (before : Image) (words : Words) → IsWider g wide

@@ -6,6 +6,8 @@ pub mod Saving
 pub mod Writing
 pub mod Growing
 pub mod Pending
-pub mod Committed
-pub mod Undone
 pub mod Ended
+pub mod Committed
+pub mod Settled
+pub mod Undone
+pub mod Redone

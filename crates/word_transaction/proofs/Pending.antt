@@ -1,15 +1,17 @@
 -- What the entries of a transaction ask for, and what an image with a committing log settles to.
-use Rattle.std.proofs.Common.{◌≡◌, inl, inr, ℕ, true, ◌&&◌, ltb, List, [], ◌∷◌, Option, Some, None, refl, sym, ap, ap₂, ◌∙◌, arith}
+use Rattle.std.proofs.Common.{◌≡◌, ◌⊎◌, inl, inr, ℕ, Bool, true, false, ◌&&◌, ◌||◌, ltb, eqb, List, [], ◌∷◌, ◌++◌, Option, Some, None, refl, sym, ap, ap₂, ◌∙◌, arith, eq-eqb}
 use Rattle.std.specs.Prelude.{All, unwrap_or}
 use Rattle.std.specs.Option.{option_or}
-use Rattle.std.proofs.lemmas.List.Elements.{All-head, All-tail}
+use Rattle.std.proofs.lemmas.Bool.{cases_Bool, cond-true, cond-false, or_parts}
+use Rattle.std.proofs.lemmas.List.{append-nil}
+use Rattle.std.proofs.lemmas.List.Elements.{All-head, All-tail, filter-append}
 use Rattle.pud_defs.specs.declared.log_words.TheConstants.{UNDO_ORDER, REDO_ORDER, COMMITTING_LO, COMMITTING_HI}
 use Rattle.pud_defs.specs.Image.{Image}
 use Rattle.pud_defs.specs.Entries.{Entry, Log, log_of}
-use Rattle.pud_defs.specs.Replay.{Place, given_by, undone, redone, new_value, replayed}
-use Rattle.pud_defs.proofs.Replay.{undone-first, redone-first, undone-none, redone-none, given_by-out, given_by-other, or_none, new_value-of}
+use Rattle.pud_defs.specs.Replay.{Place, is_in_range, value_in, given_by, undone, redone, new_value, over, overwritten, replayed}
+use Rattle.pud_defs.proofs.Replay.{undone-first, redone-first, undone-none, redone-none, given_by-out, given_by-other, or_none, new_value-of, overwritten-nothing, overwritten-then}
 use Rattle.log_store.specs.Store.{OpenLog, saying, committing}
-use Rattle.word_transaction.specs.Ground.{Ground, IsUndo, IsRedo, IsOwn, committing_range, pending}
+use Rattle.word_transaction.specs.Ground.{Ground, undo_entry, redo_entry, IsUndo, IsRedo, IsOwn, is_redo, asked, asks, written_in_turn, committing_range, pending}
 use Rattle.word_transaction.specs.Running.{SettlesTo}
 use Rattle.word_transaction.proofs.Saved.{given_by-range, undone-range}
 
@@ -41,6 +43,8 @@ undone-committing g place (e ∷ es) k own =
     ] in first)
     (undone-committing g place es k (All-tail (IsOwn g) e es own))
 
+-- ---- what is asked for
+
 -- undo entries ask for nothing
 pub pending-undo : (place : Place) (es : List Entry) (k : ℕ) → All IsUndo es → pending place es k ≡ None
 pending-undo place [] k undo = redone-none place committing_range k
@@ -48,6 +52,59 @@ pending-undo place (e ∷ es) k undo =
     redone-first place committing_range e es k
     ∙ ap₂ option_or (pending-undo place es k (All-tail IsUndo e es undo))
     (given_by-other place committing_range REDO_ORDER e k (λ redo. let h = (All-head IsUndo e es undo).order in absurd (omega arith)))
+
+-- nor do entries none of which is a redo entry
+pub pending-none : (place : Place) (es : List Entry) (k : ℕ) → asks es ≡ false → pending place es k ≡ None
+pending-none place [] k none = redone-none place committing_range k
+pending-none place (e ∷ es) k none =
+    let parts = or_parts (is_redo e) (asks es) none in
+    redone-first place committing_range e es k
+    ∙ ap₂ option_or (pending-none place es k parts.1) (given_by-other place committing_range REDO_ORDER e k (λ redo. absurd (let it : true ≡ false = sym (eq-eqb e.order REDO_ORDER redo) ∙ parts.0 in cc)))
+
+-- there is none where no values are asked for
+pub asks-none : (es : List Entry) → asked es ≡ [] → asks es ≡ false
+asks-none [] none = refl
+asks-none (e ∷ es) none = elim (cases_Bool (is_redo e)) [
+  | inl redo ↦ absurd (let it : e ∷ asked es ≡ [] = sym (cond-true _ _ _ redo) ∙ none in cc)
+  | inr other ↦ ap (λ (b : Bool). b || asks es) other ∙ asks-none es (sym (cond-false _ _ _ other) ∙ none)
+]
+
+-- behind an undo entry nothing more is asked for
+pub asked-undo : (es : List Entry) (address : ℕ) (vals : List ℕ) → asked (es ++ undo_entry address vals ∷ []) ≡ asked es
+asked-undo es address vals = filter-append is_redo es (undo_entry address vals ∷ []) ∙ append-nil (asked es)
+
+-- behind a redo entry that one, last
+pub asked-redo : (es : List Entry) (address : ℕ) (vals : List ℕ) → asked (es ++ redo_entry address vals ∷ []) ≡ asked es ++ redo_entry address vals ∷ []
+asked-redo es address vals = filter-append is_redo es (redo_entry address vals ∷ [])
+
+-- ---- in turn
+
+-- what an entry gives to a committing log over an image, and then the others
+one_in_turn : (place : Place) (e : Entry) (es : List Entry) (image : Image) → IsUndo e ⊎ IsRedo e
+    → written_in_turn place (asked es) (overwritten (given_by place committing_range REDO_ORDER e) image) ≡ written_in_turn place (asked (e ∷ es)) image
+one_in_turn place e es image (inl undo) =
+    let nothing : (k : ℕ) → given_by place committing_range REDO_ORDER e k ≡ None = λ k. given_by-other place committing_range REDO_ORDER e k (λ redo. let h = undo.order in absurd (omega arith)) in
+    let other : is_redo e ≡ false = ap (λ (n : ℕ). eqb n REDO_ORDER) undo.order in
+    ap (written_in_turn place (asked es)) (overwritten-nothing (given_by place committing_range REDO_ORDER e) image nothing)
+    ∙ ap (λ (xs : List Entry). written_in_turn place xs image) (sym (cond-false (is_redo e) (e ∷ asked es) (asked es) other))
+one_in_turn place e es image (inr redo) =
+    let counts : (is_in_range committing_range e && eqb e.order REDO_ORDER) ≡ true = ap₂ (λ (a b : ℕ). (ltb COMMITTING_LO a && ltb a COMMITTING_HI) && eqb b REDO_ORDER) redo.seq redo.order in
+    let gives : (k : ℕ) → given_by place committing_range REDO_ORDER e k ≡ value_in place e k = λ k. cond-true _ _ _ counts in
+    let one : is_redo e ≡ true = ap (λ (n : ℕ). eqb n REDO_ORDER) redo.order in
+    let same : given_by place committing_range REDO_ORDER e ≡ value_in place e = λ i k. gives k i in
+    ap (λ (w : ℕ → Option ℕ). written_in_turn place (asked es) (overwritten w image)) same
+    ∙ ap (λ (xs : List Entry). written_in_turn place xs image) (sym (cond-true (is_redo e) (e ∷ asked es) (asked es) one))
+
+-- what is asked for, over an image, is the values of the redo entries in turn
+pub pending-in_turn : (g : Ground) (place : Place) (es : List Entry) (image : Image) → All (IsOwn g) es → overwritten (pending place es) image ≡ written_in_turn place (asked es) image
+pending-in_turn g place [] image own = overwritten-nothing (pending place []) image (λ k. redone-none place committing_range k)
+pending-in_turn g place (e ∷ es) image own =
+    let each : (k : ℕ) → pending place (e ∷ es) k ≡ over (given_by place committing_range REDO_ORDER e) (pending place es) k = λ k. redone-first place committing_range e es k in
+    let same : pending place (e ∷ es) ≡ over (given_by place committing_range REDO_ORDER e) (pending place es) = λ i k. each k i in
+    ap (λ (w : ℕ → Option ℕ). overwritten w image) same
+    ∙ sym (overwritten-then (given_by place committing_range REDO_ORDER e) (pending place es) image)
+    ∙ pending-in_turn g place es (overwritten (given_by place committing_range REDO_ORDER e) image) (All-tail (IsOwn g) e es own)
+    ∙ one_in_turn place e es image (All-head (IsOwn g) e es own).kind
 
 -- ---- a committing log
 
@@ -59,16 +116,15 @@ new_value-committing g place log es k lo hi entries own =
     ∙ ap₂ option_or (redone-range place log committing_range es k lo hi) (undone-range place log committing_range es k lo hi ∙ undone-committing g place es k own)
     ∙ sym (or_none (pending place es k))
 
--- where they ask for nothing an image has what its words hold
-pub SettlesTo-committing : (g : Ground) (log : OpenLog) (es : List Entry) (after image : Image) → All (IsOwn g) es → log_of image log.at ≡ saying (committing log) es
-    → ((k : ℕ) → pending g.place es k ≡ None) → ((k : ℕ) → g.mine k ≡ true → image k ≡ after k) → SettlesTo g log.at after image
-SettlesTo-committing g log es after image own says nothing same =
+-- over what its own words hold an image settles to what they ask for
+pub SettlesTo-committing : (g : Ground) (log : OpenLog) (es : List Entry) (was image : Image) → All (IsOwn g) es → log_of image log.at ≡ saying (committing log) es
+    → ((k : ℕ) → g.mine k ≡ true → image k ≡ was k) → SettlesTo g log.at (overwritten (pending g.place es) was) image
+SettlesTo-committing g log es was image own says same =
     record {
       es = es;
       spells = ap (λ (l : Log). l.entries) says;
       own = own;
       settled = λ k mine.
           ap (λ (l : Log). replayed g.place l image k) says
-          ∙ ap (λ (o : Option ℕ). unwrap_or o (image k)) (new_value-committing g g.place (saying (committing log) es) es k refl refl refl own ∙ nothing k)
-          ∙ same k mine;
+          ∙ ap₂ unwrap_or (new_value-committing g g.place (saying (committing log) es) es k refl refl refl own) (same k mine);
     }

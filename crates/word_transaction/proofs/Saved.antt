@@ -12,7 +12,7 @@ use Rattle.pud_defs.specs.Image.{Image}
 use Rattle.pud_defs.specs.Entries.{Entry, Log, words_from}
 use Rattle.pud_defs.specs.Replay.{Place, is_in_range, value_from, value_in, given_by, undone, redone, new_value}
 use Rattle.pud_defs.proofs.Replay.{undone-first, undone-none, undone-append, redone-first, redone-none, given_by-out, given_by-other, new_value-of, or_none}
-use Rattle.word_transaction.specs.Ground.{Ground, IsGround, IsOwn, undo_entry, running_range, saved}
+use Rattle.word_transaction.specs.Ground.{Ground, IsGround, IsOwn, undo_entry, redo_entry, running_range, committing_range, saved, pending}
 
 pub some_not_none : (o : Option ℕ) (v : ℕ) → o ≡ Some v → o ≡ None → ⊥
 some_not_none o v is none = absurd (let it : Some v ≡ None = sym is ∙ none in cc)
@@ -71,13 +71,29 @@ pub either_some : (a b : Option ℕ) (v : ℕ) → option_or a b ≡ Some v → 
 either_some None b v is = inr (refl, is)
 either_some (Some x) b v is = inl is
 
-pub saved_is_mine : (size at : ℕ) (g : Ground) (es : List Entry) (k v : ℕ) → IsGround size at g → All (IsOwn g) es → saved g.place es k ≡ Some v → g.mine k ≡ true
-saved_is_mine size at g [] k v ground own is = absurd (some_not_none _ v is (undone-none g.place running_range k))
-saved_is_mine size at g (e ∷ es) k v ground own is =
-    elim (either_some (given_by g.place running_range UNDO_ORDER e k) (saved g.place es k) v (sym (undone-first g.place running_range e es k) ∙ is)) [
-      | inl first ↦ named_is_mine size at g e k v ground (All-head (IsOwn g) e es own) (value_of_given g.place running_range UNDO_ORDER e k v first)
-      | inr later ↦ saved_is_mine size at g es k v ground (All-tail (IsOwn g) e es own) later.1
+-- a word to which a log gives a value by undo entries is one of the transaction's own
+pub undone_is_mine : (size at : ℕ) (g : Ground) (log : Log) (es : List Entry) (k v : ℕ) → IsGround size at g → All (IsOwn g) es → undone g.place log es k ≡ Some v → g.mine k ≡ true
+undone_is_mine size at g log [] k v ground own is = absurd (some_not_none _ v is (undone-none g.place log k))
+undone_is_mine size at g log (e ∷ es) k v ground own is =
+    elim (either_some (given_by g.place log UNDO_ORDER e k) (undone g.place log es k) v (sym (undone-first g.place log e es k) ∙ is)) [
+      | inl first ↦ named_is_mine size at g e k v ground (All-head (IsOwn g) e es own) (value_of_given g.place log UNDO_ORDER e k v first)
+      | inr later ↦ undone_is_mine size at g log es k v ground (All-tail (IsOwn g) e es own) later.1
     ]
+
+-- or by redo entries
+pub redone_is_mine : (size at : ℕ) (g : Ground) (log : Log) (es : List Entry) (k v : ℕ) → IsGround size at g → All (IsOwn g) es → redone g.place log es k ≡ Some v → g.mine k ≡ true
+redone_is_mine size at g log [] k v ground own is = absurd (some_not_none _ v is (redone-none g.place log k))
+redone_is_mine size at g log (e ∷ es) k v ground own is =
+    elim (either_some (redone g.place log es k) (given_by g.place log REDO_ORDER e k) v (sym (redone-first g.place log e es k) ∙ is)) [
+      | inl later ↦ redone_is_mine size at g log es k v ground (All-tail (IsOwn g) e es own) later
+      | inr here ↦ named_is_mine size at g e k v ground (All-head (IsOwn g) e es own) (value_of_given g.place log REDO_ORDER e k v here.1)
+    ]
+
+pub saved_is_mine : (size at : ℕ) (g : Ground) (es : List Entry) (k v : ℕ) → IsGround size at g → All (IsOwn g) es → saved g.place es k ≡ Some v → g.mine k ≡ true
+saved_is_mine size at g es k v ground own is = undone_is_mine size at g running_range es k v ground own is
+
+pub pending_is_mine : (size at : ℕ) (g : Ground) (es : List Entry) (k v : ℕ) → IsGround size at g → All (IsOwn g) es → pending g.place es k ≡ Some v → g.mine k ≡ true
+pending_is_mine size at g es k v ground own is = redone_is_mine size at g committing_range es k v ground own is
 
 -- ---- behind others
 
@@ -109,7 +125,11 @@ saved-one place address first k vals is =
     ∙ sym (or_none (value_from (place address) vals k))
     ∙ ap (λ (o : Option ℕ). value_from o vals k) is
 
--- so each of its words is saved
+-- a redo entry saves nothing
+pub saved-redo : (place : Place) (address k : ℕ) (vals : List ℕ) → saved place (redo_entry address vals ∷ []) k ≡ None
+saved-redo place address k vals = undone-first place running_range (redo_entry address vals) [] k ∙ undone-none place running_range k
+
+-- so each word of an undo entry is saved
 pub saved_there : (place : Place) (es : List Entry) (address first k : ℕ) (vals : List ℕ) → place address ≡ Some first → first ≤ k → k < first + length vals
     → saved place (es ++ undo_entry address vals ∷ []) k ≡ None → ⊥
 saved_there place es address first k vals is low high none =

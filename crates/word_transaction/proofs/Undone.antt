@@ -1,39 +1,29 @@
--- A transaction undone: what is left at each moment, and at the end.
-use Rattle.std.proofs.Common.{◌≡◌, ◌⊎◌, inl, inr, ℕ, ◌+◌, ◌<◌, ◌≤◌, true, false, List, [], length, get_or, Option, Some, None, refl, sym, ap, subst, ◌∙◌, arith}
-use Rattle.std.proofs.lemmas.Bool.Decides.{leb_tells}
+-- A transaction undone: its log as it is replayed while it runs, or closed where it has no entry.
+use Rattle.std.proofs.Common.{◌≡◌, ℕ, ◌+◌, List, [], Option, Some, refl, sym, ap, ◌∙◌}
 use Rattle.pm_model.specs.declared.host.HostFault.{HostFault}
-use Rattle.pm_model.specs.Words.{Cell, reads, HasOnly}
+use Rattle.pm_model.specs.Words.{Words, reads}
 use Rattle.pm_model.specs.Moments.{State}
-use Rattle.pm_model.specs.Changes.{Leaves, Silently, Persists, only}
-use Rattle.pm_model.proofs.Words.{HasOnly-newest, HasOnly-own}
-use Rattle.pm_model.proofs.Changes.{Changes-wider, HasOnly-kept}
-use Rattle.pm_model.proofs.Leaves.{Leaves-weaker}
-use Rattle.pud_defs.specs.declared.layout.TheConstants.{LOG_WORDS, LOG_HEADER_WORDS}
+use Rattle.pm_model.specs.Changes.{Persists, only}
+use Rattle.pud_defs.specs.declared.layout.TheConstants.{LOG_HEADER_WORDS}
 use Rattle.pud_defs.specs.declared.log_words.TheConstants.{CLOSED_GATE}
 use Rattle.pud_defs.specs.Image.{Image}
-use Rattle.pud_defs.specs.Entries.{Entry, Log, log_of, gate_used, is_idle_gate, entries_in, words_from}
-use Rattle.pud_defs.specs.Replay.{Place, is_in_log, IsInLog}
-use Rattle.pud_defs.specs.Tables.{tables_of}
-use Rattle.pud_defs.specs.Allowed.{puddle_word}
+use Rattle.pud_defs.specs.Entries.{Entry, entries_in, words_from}
 use Rattle.pud_defs.proofs.Entries.{words_from-none, entries_in-nothing}
-use Rattle.pud_defs.proofs.Replay.{undone-none, not_inside}
+use Rattle.pud_defs.proofs.Replay.{undone-none}
 use Rattle.log_store.specs.Store.{OpenLog, saying}
-use Rattle.log_store.proofs.Open.{IsOpen-fits, IsOpen-words, IsOpen-log_by, used_is}
-use Rattle.log_replay.specs.declared.Target.TheVariants.{Puddles}
-use Rattle.log_replay.specs.Replaying.{place_of, NamesApart, IsReplayable, HasDurableLog, new_values, ByLog, IsSettling, SettlesLog}
-use Rattle.log_replay.proofs.Whole.{new_values-apart, new_values_picked}
-use Rattle.word_transaction.specs.Ground.{Ground, IsGround, IsOwn, running_range, saved}
-use Rattle.word_transaction.specs.Running.{IsRunning, SettlesTo, ByTransaction, Closes, HasPlaces, HasOneTable}
+use Rattle.log_store.proofs.Open.{IsOpen-words}
+use Rattle.word_transaction.specs.Ground.{Ground, IsGround, running_range, saved}
+use Rattle.word_transaction.specs.Running.{IsRunning, Closes}
 use Rattle.word_transaction.proofs.Saved.{new_value-running, saved_is_mine}
-use Rattle.word_transaction.proofs.Images.{SettlesTo-running, SettlesTo-idle, IsRunning-settles}
+use Rattle.word_transaction.proofs.Images.{IsRunning-settles}
 use Rattle.word_transaction.proofs.Growing.{undone-places}
-use Rattle.word_transaction.proofs.Committed.{mine_apart, Closes-shut}
-
--- ---- a log without an entry
+use Rattle.word_transaction.proofs.Committed.{Closes-shut}
+use Rattle.word_transaction.proofs.Settled.{Gives}
 
 no_words : (es : List Entry) (image : Image) (at used : ℕ) → used ≡ 0 → entries_in 0 (words_from image at used) ≡ Some es → es ≡ []
 no_words es image at used none is = let it : Some [] ≡ Some es = sym (entries_in-nothing (words_from image at used) (words_from-none image at used none)) ∙ is in cc
 
+-- a log without an entry is closed
 pub Closes-empty : (size : ℕ) (log : OpenLog) (es : List Entry) (g : Ground) (before : Image) (fault : Option HostFault) (a b : State) → IsGround size log.at g
     → IsRunning g log es before a.now.words → log.used ≡ 0 → Persists (only log.at CLOSED_GATE) fault a b → Closes g log.at before fault a b
 Closes-empty size log es g before fault a b ground r none p =
@@ -41,119 +31,15 @@ Closes-empty size log es g before fault a b ground r none p =
     Closes-shut size log.at g ground before fault a b (λ image picked. IsRunning-settles g log es before image a.now.words r picked)
     (λ k mine. r.single k mine (ap (λ (fs : List Entry). saved g.place fs k) empty ∙ undone-none g.place running_range k)) p
 
--- ---- what the replay needs
-
--- words that are none of the log's stand before it or behind it
-stands_beside : (first count at : ℕ) → 1 ≤ count → ((k : ℕ) → first ≤ k → k < first + count → is_in_log at k ≡ false) → (first + count ≤ at) ⊎ (at + LOG_WORDS ≤ first)
-stands_beside first count at some outside = elim (leb_tells (first + count) at) [
-  | inl before ↦ inl before.1
-  | inr over_at ↦ elim (leb_tells (at + LOG_WORDS) first) [
-    | inl behind ↦ inr behind.1
-    | inr in_front ↦ elim (leb_tells at first) [
-      | inl low ↦ absurd (not_inside at first (outside first (omega arith) (let h = some in omega arith)) (let l = low.1 in let h = in_front.1 in record { low = omega arith; high = omega arith }))
-      | inr high ↦ absurd (not_inside at at (outside at (let h = high.1 in omega arith) (let h = over_at.1 in omega arith)) (record { low = omega arith; high = omega arith }))
-    ]
-  ]
-]
-
--- ---- a word by what is saved of it
-
-by_saved : (o : Option ℕ) (x b : ℕ) → ((v : ℕ) → o ≡ Some v → x ≡ b) → (o ≡ None → x ≡ b) → x ≡ b
-by_saved None x b some none = none refl
-by_saved (Some v) x b some none = some v refl
-
-durable_by : (o : Option ℕ) (c : Cell) (b : ℕ) → ((v : ℕ) → o ≡ Some v → v ≡ b) → ((v : ℕ) → o ≡ Some v → HasOnly c v) → (o ≡ None → HasOnly c b) → HasOnly c b
-durable_by None c b saves some none = none refl
-durable_by (Some v) c b saves some none = subst (λ (x : ℕ). HasOnly c x) (saves v refl) (some v refl)
-
--- ---- replayed and closed
-
-module _ (size F : ℕ) (log : OpenLog) (es : List Entry) (g : Ground) (before : Image) (a : State) (ground : IsGround size log.at g) (r : IsRunning g log es before a.now.words)
-    (places : HasPlaces g (puddle_word (tables_of F (reads a.now.words)))) (table : HasOneTable F a.now.words) where
-  abbrev place : Place
-  place = puddle_word (tables_of F (reads a.now.words))
-
-  abbrev write : ℕ → Option ℕ
-  write = new_values (Puddles F) log.at (reads a.now.words)
-
-  names_apart : (e : Entry) → IsOwn g e → NamesApart place size log.at e
-  names_apart e own =
-      let s = ground.named e.address (length e.vals) own.may in
-      record {
-        first = s.first;
-        placed = places.each e.address (length e.vals) own.may ∙ s.placed;
-        within = s.within;
-        apart = stands_beside s.first (length e.vals) log.at s.some (λ k low high. ground.apart k (s.own k low high));
-      }
-
-  pub replayable : IsReplayable (place_of (Puddles F) (reads a.now.words)) size log.at es (reads a.now.words)
-  replayable =
-      record {
-        spells = ap (λ (l : Log). l.entries) r.opened.says;
-        apart = λ n d below counts. names_apart (get_or es n d) (r.own n d below);
-      }
-
-  used : gate_used (reads a.now.words log.at) ≡ log.used
-  used = ap gate_used (HasOnly-newest (a.now.words log.at) _ r.opened.gate) ∙ used_is log (IsOpen-fits log es a.now.words r.opened)
-
-  pub durable_log : HasDurableLog (Puddles F) log.at a.now.words
-  durable_log =
-      record {
-        gate = HasOnly-own (a.now.words log.at) _ r.opened.gate;
-        counted = λ k low high. r.opened.counted k low (subst (λ (n : ℕ). k < log.at + LOG_HEADER_WORDS + n) used high);
-        table = λ k placing. table.each k placing;
-      }
-
-  -- ---- what it gives
-
-  -- what is saved
-  gives : (k : ℕ) → write k ≡ saved g.place es k
-  gives k =
-      new_value-running g place (log_of (reads a.now.words) log.at) es k (ap (λ (l : Log). l.lo) r.opened.says ∙ r.lo) (ap (λ (l : Log). l.hi) r.opened.says ∙ r.hi)
-      (ap (λ (l : Log). l.entries) r.opened.says) r.own
-      ∙ undone-places g.place place running_range es k (λ n d below. places.each (get_or es n d).address (length (get_or es n d).vals) (r.own n d below).may)
-
-  module _ (image : Image) (p : IsSettling (Puddles F) log.at a.now.words image) where
-    gives_before : (k : ℕ) → new_values (Puddles F) log.at p.before k ≡ saved g.place es k
-    gives_before k = ap (λ (w : ℕ → Option ℕ). w k) (new_values_picked (Puddles F) log.at a.now.words p.before durable_log p.picked) ∙ gives k
-
-    -- a word that is not saved is as it was
-    unsaved : (k : ℕ) → g.mine k ≡ true → saved g.place es k ≡ None → image k ≡ before k
-    unsaved k mine none = p.closing.stays k (mine_apart size log.at g k ground mine) (gives_before k ∙ none) ∙ (r.single k mine none).each (p.before k) (p.picked.each k)
-
-    -- with its gate as it was the log says what it said
-    says_still : image log.at ≡ p.before log.at → log_of image log.at ≡ saying log es
-    says_still gate =
-        IsOpen-log_by log es a.now.words image r.opened (gate ∙ r.opened.gate.each (p.before log.at) (p.picked.each log.at))
-        (λ k low high.
-        let within = (IsOpen-fits log es a.now.words r.opened).used_within in
-        let inside : IsInLog log.at k = record { low = omega arith; high = omega arith } in
-        p.closing.stays k (λ here. absurd (omega arith))
-        (gives_before k ∙ sym (gives k) ∙ new_values-apart (Puddles F) size log.at es (reads a.now.words) replayable k inside)
-        ∙ (r.opened.counted k low high).each (p.before k) (p.picked.each k))
-
-    pub settles : SettlesTo g log.at before image
-    settles = elim p.closing.gate [
-      | inl gate ↦ SettlesTo-running g log es before image r.lo r.hi r.own (says_still gate) (λ k v mine is. r.saves k v is) unsaved
-      | inr shut ↦ SettlesTo-idle g log.at before image (ap is_idle_gate shut.0)
-          (λ k mine. by_saved (saved g.place es k) (image k) (before k) (λ v is. shut.1 k v (gives_before k ∙ is) ∙ r.saves k v is) (unsaved k mine))
-    ]
-
-  pub Closes-settled : (fault : Option HostFault) (b : State) → SettlesLog (Puddles F) log.at fault a b → Leaves (Silently (IsSettling (Puddles F) log.at a.now.words)) a b
-      → Closes g log.at before fault a b
-  Closes-settled fault b s moments =
-      record {
-        changes = Changes-wider (ByLog log.at write) (ByTransaction g log.at) fault a b (λ k v by. elim by [
-          | inl here ↦ inl (record { low = omega arith; high = omega arith })
-          | inr named ↦ inr (saved_is_mine size log.at g es k named.value ground r.own (sym (gives k) ∙ named.is))
-        ]) s.changes;
-        moments = Leaves-weaker (Silently (IsSettling (Puddles F) log.at a.now.words)) (Silently (SettlesTo g log.at before)) a b (λ bytes image p. (p.0, settles image p.1)) moments;
-        durable = λ none k mine. durable_by (saved g.place es k) (b.now.words k) (before k) (r.saves k)
-            (λ v is. s.durable none k v (gives k ∙ is))
-            (λ unsaved_one. HasOnly-kept (ByLog log.at write) fault a b k (before k) s.changes
-            (λ x by. elim by [
-              | inl here ↦ mine_apart size log.at g k ground mine here
-              | inr named ↦ absurd (let it : None ≡ Some named.value = sym (gives k ∙ unsaved_one) ∙ named.is in cc)
-            ]) (r.single k mine unsaved_one));
-        closed = s.closed;
-      }
+-- a running log gives what is saved
+pub Gives-running : (size : ℕ) (g : Ground) (log : OpenLog) (es : List Entry) (before : Image) (words : Words) → IsGround size log.at g → IsRunning g log es before words
+    → Gives g log es (saved g.place es) before words
+Gives-running size g log es before words ground r =
+    record {
+      opened = r.opened;
+      own = r.own;
+      given = λ place same k. new_value-running g place (saying log es) es k r.lo r.hi refl r.own ∙ undone-places g.place place running_range es k same;
+      mine = λ k v is. saved_is_mine size log.at g es k v ground r.own is;
+      saves = r.saves;
+      single = r.single;
+    }

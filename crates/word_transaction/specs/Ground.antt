@@ -1,8 +1,10 @@
 -- What a transaction on words may name, and which words are its own.
-use Rattle.std.specs.Prelude.{◌≡◌, ◌⊎◌, ℕ, ◌+◌, ◌<◌, ◌≤◌, Bool, true, false, List, length, Option, Some, None}
+use Rattle.std.specs.Prelude.{◌≡◌, ◌⊎◌, ℕ, ◌+◌, ◌<◌, ◌≤◌, Bool, true, false, ◌==◌, List, [], ◌∷◌, length, Option, Some, None}
+use Rattle.std.specs.List.{filter, list_any}
 use Rattle.pud_defs.specs.declared.log_words.TheConstants.{UNDO_SEQ, UNDO_ORDER, REDO_SEQ, REDO_ORDER, RUNNING_LO, RUNNING_HI, COMMITTING_LO, COMMITTING_HI}
+use Rattle.pud_defs.specs.Image.{Image}
 use Rattle.pud_defs.specs.Entries.{Entry, Log}
-use Rattle.pud_defs.specs.Replay.{Place, undone, redone, is_in_log}
+use Rattle.pud_defs.specs.Replay.{Place, value_in, undone, redone, overwritten, is_in_log}
 
 -- Which word an address names; which entries the transaction may write, by their address and their number of values; and which words are its
 -- own.
@@ -30,6 +32,10 @@ pub record IsGround (size at : ℕ) (g : Ground) : Type 0 where
 abbrev pub undo_entry : (address : ℕ) → List ℕ → Entry
 undo_entry address vals = record { address = address; seq = UNDO_SEQ; order = UNDO_ORDER; vals = vals }
 
+-- what words are to hold, from that of an address on
+abbrev pub redo_entry : (address : ℕ) → List ℕ → Entry
+redo_entry address vals = record { address = address; seq = REDO_SEQ; order = REDO_ORDER; vals = vals }
+
 pub record IsUndo (e : Entry) : Type 0 where
   pub seq : e.seq ≡ UNDO_SEQ
   pub order : e.order ≡ UNDO_ORDER
@@ -42,6 +48,27 @@ pub record IsRedo (e : Entry) : Type 0 where
 pub record IsOwn (g : Ground) (e : Entry) : Type 0 where
   pub may : g.may e.address (length e.vals) ≡ true
   pub kind : IsUndo e ⊎ IsRedo e
+
+-- ---- what is asked for
+
+-- the entry asks for values to come
+abbrev pub is_redo : Entry → Bool
+is_redo e = e.order == REDO_ORDER
+
+-- the entries among some that do, the oldest first
+abbrev pub asked : List Entry → List Entry
+asked es = filter is_redo es
+
+-- whether there is one
+abbrev pub asks : List Entry → Bool
+asks es = list_any is_redo es
+
+-- an image over which the values of entries are written in turn, the oldest first
+abbrev pub written_in_turn : Place → List Entry → Image → Image
+written_in_turn place [] image = image
+written_in_turn place (e ∷ es) image = written_in_turn place es (overwritten (value_in place e) image)
+
+-- ---- what entries give
 
 -- the range of a running log, and that of a committing one
 abbrev pub running_range : Log

@@ -1,5 +1,5 @@
 -- When a transaction on words is open, what each call of it does at every moment, and how it ends.
-use Rattle.std.specs.Prelude.{◌≡◌, ◌⊎◌, ℕ, true, false, List, [], All, Option, Some, None}
+use Rattle.std.specs.Prelude.{◌≡◌, ◌⊎◌, ℕ, ◌≤◌, true, false, List, [], ◌∷◌, ◌++◌, All, Option, Some, None}
 use Rattle.pm_model.specs.declared.host.HostFault.{HostFault}
 use Rattle.pm_model.specs.Words.{Has, values, Words, reads, HasOnly}
 use Rattle.pm_model.specs.Moments.{State}
@@ -10,6 +10,8 @@ use Rattle.pud_defs.specs.Image.{Image}
 use Rattle.pud_defs.specs.Layout.{tables_end, IsWithin}
 use Rattle.pud_defs.specs.Entries.{Entry, entries_of, log_of, gate_word, is_idle_gate}
 use Rattle.pud_defs.specs.Replay.{Place, overwritten, replayed, IsInLog, is_in_log}
+use Rattle.pud_defs.specs.Tables.{tables_of}
+use Rattle.pud_defs.specs.Allowed.{puddle_word}
 use Rattle.log_store.specs.Store.{OpenLog, IsOpen}
 use Rattle.word_transaction.specs.Ground.{Ground, IsOwn, saved}
 
@@ -30,6 +32,12 @@ pub record IsRunning (g : Ground) (log : OpenLog) (es : List Entry) (before : Im
 pub record IsIdle (g : Ground) (at : ℕ) (before : Image) (words : Words) : Type 0 where
   pub closed : (v : ℕ) → Has (values (words at)) v → is_idle_gate v ≡ true
   pub single : (k : ℕ) → g.mine k ≡ true → HasOnly (words k) (before k)
+
+-- The entry may be appended: it is one that the transaction may write, and with it a word that is saved is so still with its value from the
+-- beginning.
+pub record MayAppend (g : Ground) (es : List Entry) (before : Image) (e : Entry) : Type 0 where
+  pub own : IsOwn g e
+  pub saves : (k v : ℕ) → saved g.place (es ++ e ∷ []) k ≡ Some v → v ≡ before k
 
 -- each word that is written is one of the transaction's own that is saved
 pub record IsCovered (g : Ground) (es : List Entry) (write : Write) : Type 0 where
@@ -82,13 +90,13 @@ pub record Closes (g : Ground) (at : ℕ) (values : Image) (fault : Option HostF
   pub closed : fault ≡ None → HasOnly (new.now.words at) CLOSED_GATE
 
 -- The transaction is committed: each image left meanwhile settles to the values from the beginning or to the new ones. Without a fault each own
--- word has its new value and no other, the log is closed, and what is read outside it is as it was.
+-- word has its new value and no other, the log is closed, and what is read of other words is as it was.
 pub record Ends (g : Ground) (at : ℕ) (before after : Image) (fault : Option HostFault) (old new : State) : Type 0 where
   pub changes : Changes (ByTransaction g at) fault old new
   pub moments : Leaves (Silently (λ image. SettlesTo g at before image ⊎ SettlesTo g at after image)) old new
   pub durable : fault ≡ None → (k : ℕ) → g.mine k ≡ true → HasOnly (new.now.words k) (after k)
   pub closed : fault ≡ None → HasOnly (new.now.words at) CLOSED_GATE
-  pub now : fault ≡ None → (k : ℕ) → is_in_log at k ≡ false → reads new.now.words k ≡ reads old.now.words k
+  pub stays : fault ≡ None → (k : ℕ) → is_in_log at k ≡ false → g.mine k ≡ false → reads new.now.words k ≡ reads old.now.words k
 
 -- What places read of an image agree with those of the transaction on all that it may name.
 pub record HasPlaces (g : Ground) (place : Place) : Type 0 where
@@ -97,3 +105,10 @@ pub record HasPlaces (g : Ground) (place : Place) : Type 0 where
 -- each word of the puddle table of a device of so many frames has one value
 pub record HasOneTable (frames : ℕ) (words : Words) : Type 0 where
   pub each : (k : ℕ) → IsWithin PUDDLE_TABLE (tables_end frames) k → HasOnly (words k) (reads words k)
+
+-- Values that are asked for can be given: the puddle table of so many frames stands in front of the log whose gate is this word, each word of it has
+-- one value, and by it places are those of the transaction.
+pub record CanRedo (g : Ground) (frames at : ℕ) (words : Words) : Type 0 where
+  pub before : tables_end frames ≤ at
+  pub table : HasOneTable frames words
+  pub places : HasPlaces g (puddle_word (tables_of frames (reads words)))

@@ -1,42 +1,74 @@
 //! How a transaction ends: committed, undone, or lost.
 #![tactic(auto)]
 
-ghost use Rattle.std.specs.Prelude.{◌≡◌, ◌+◌, ◌≤◌, ℕ, List, Option};
+ghost use Rattle.std.specs.Prelude.{◌≡◌, ◌≢◌, ◌+◌, ◌≤◌, ℕ, List, true, false, Option, IfOk};
 ghost use Rattle.pm_model.specs.Words.{reads};
 ghost use Rattle.pm_model.specs.Counts.{after_fault, fault_of};
 ghost use Rattle.pm_model.specs.Changes.{Changes};
 ghost use Rattle.pud_defs.specs.declared.layout.TheConstants.{LOG_WORDS};
 ghost use Rattle.pud_defs.specs.Image.{Image};
-ghost use Rattle.pud_defs.specs.Entries.{Entry};
+ghost use Rattle.pud_defs.specs.Entries.{Entry, entries_of};
+ghost use Rattle.pud_defs.specs.Replay.{overwritten};
 ghost use Rattle.pud_defs.specs.Tables.{tables_of};
 ghost use Rattle.pud_defs.specs.Allowed.{puddle_word};
+ghost use Rattle.log_store.specs.Store.{IsOpen};
 ghost use Rattle.log_replay.specs.Replaying.{HasPuddleTable, Anything};
-ghost use Rattle.word_transaction.specs.Ground.{Ground, IsGround, pending};
-ghost use Rattle.word_transaction.specs.Running.{IsRunning, ByCommit, Closes, Ends, HasPlaces, HasOneTable};
+ghost use Rattle.word_transaction.specs.Ground.{Ground, IsGround, asks, pending};
+ghost use Rattle.word_transaction.specs.Running.{IsRunning, ByCommit, Closes, Ends, HasPlaces, HasOneTable, CanRedo};
 
 use crate::WordTransaction;
+use log_entry::EntryReader;
 use log_replay::{Target, settle_log};
 use pm_model::{Host, HostFault};
+use pud_defs::log_words::REDO_ORDER;
+
+/// Whether an entry of the log whose gate is word `at` asks for values.
+fn has_redo_entry<H: Host>(h: &mut H, at: u32) -> Result<bool, HostFault>
+    requires { at + LOG_WORDS ≤ (H.counts h.old).size }
+    ensures asks { H.tells → (image : Image) → reads (H.state h.old).now.words ≡ image → (es : List Entry) → entries_of image at ≡ Option.Some es
+        → IfOk result (λ asked. asked ≡ asks es) }
+    ensures stays { H.tells → H.state h.new ≡ H.state h.old }
+    ensures cause { H.counts h.new ≡ after_fault (fault_of result) (H.counts h.old) }
+    ensures never_cut { fault_of result ≢ Option.Some HostFault.Cut }
+{
+    let mut reader = EntryReader::new(at);
+    while let Some(entry) = reader.next(h)? {
+        if entry.order == REDO_ORDER {
+            return Ok(true);
+        }
+    }
+    Ok(false)
+}
 
 impl WordTransaction {
-    /// Commits the transaction: what it wrote is durable at `Ok`, and its log is closed.
+    /// Commits the transaction: what it wrote is durable at `Ok`, and then what it asked for, the oldest first; its log is closed.
     ///
-    /// The log lies in the device, and no entry of it asks for a value to come. Each image left meanwhile is, with the log
-    /// replayed, as at the beginning, or has all that was written; it is the latter from the word on by which the range moves.
-    /// The only word written is the log's gate. The only errors are the host's own.
+    /// The log lies in the device, and so does the puddle table of so many frames, at most 1,024. Where values are asked for, that
+    /// table stands in front of the log, each word of it has one value, and the addresses that the log names are where the
+    /// transaction took them to be. Each image left meanwhile is, with the log replayed, as at the beginning, or has all that was
+    /// written and asked for; it is the latter from the word on by which the range moves. The only errors are the host's own.
     ///
-    /// It takes no load, and three fences.
-    pub fn commit<H: Host>(self, h: &mut H) -> Result<(), HostFault>
-        requires { self.at + LOG_WORDS ≤ (H.counts h.old).size }
+    /// It reads the log's entries up to the first that asks for values. Where there is none the gate is the only word written, and
+    /// it takes three fences; else the loads of a replay, and four fences.
+    pub fn commit<H: Host>(self, h: &mut H, frames: u32) -> Result<(), HostFault>
+        requires log { self.at + LOG_WORDS ≤ (H.counts h.old).size }
+        requires tables { HasPuddleTable frames (H.counts h.old).size }
         ensures ends { H.tells → (size : ℕ) → size ≡ (H.counts h.old).size → (g : Ground) (es : List Entry) (before : Image) → IsGround size self.at g
-            → IsRunning g self es before (H.state h.old).now.words → ((k : ℕ) → pending g.place es k ≡ Option.None)
-            → Ends g self.at before (reads (H.state h.old).now.words) (fault_of result) (H.state h.old) (H.state h.new) }
-        ensures gate { H.tells → Changes (ByCommit self) (fault_of result) (H.state h.old) (H.state h.new) }
+            → IsRunning g self es before (H.state h.old).now.words
+            → (asks es ≡ true → CanRedo g frames self.at (H.state h.old).now.words)
+            → Ends g self.at before (overwritten (pending g.place es) (reads (H.state h.old).now.words)) (fault_of result) (H.state h.old) (H.state h.new) }
+        ensures gate { H.tells → (es : List Entry) → IsOpen self es (H.state h.old).now.words → asks es ≡ false → Changes (ByCommit self) (fault_of result) (H.state h.old) (H.state h.new) }
+        ensures any { H.tells → Changes Anything (fault_of result) (H.state h.old) (H.state h.new) }
         ensures cause { H.counts h.new ≡ after_fault (fault_of result) (H.counts h.old) }
     {
         let WordTransaction { mut log } = self;
+        let at = log.at();
+        let asked = has_redo_entry(h, at)?;
         h.fence()?;
         log.to_committing(h)?;
+        if asked {
+            return settle_log(h, at, Target::Puddles(frames));
+        }
         log.close(h)
     }
 

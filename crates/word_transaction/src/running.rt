@@ -1,24 +1,24 @@
-//! How a transaction begins, and what is saved and written within it.
+//! How a transaction begins, and what is saved, written and asked for within it.
 #![tactic(auto)]
 
-ghost use Rattle.std.specs.Prelude.{◌≡◌, ◌≢◌, ◌+◌, ◌≤◌, ◌++◌, ◌∷◌, [], ℕ, List, true, Option, IfOk, OnErr, length, take};
+ghost use Rattle.std.specs.Prelude.{◌≡◌, ◌≢◌, ◌+◌, ◌<◌, ◌≤◌, ◌^◌, ◌++◌, ◌∷◌, [], ℕ, List, true, Option, IfOk, OnErr, length, take};
 ghost use Rattle.pm_model.specs.Words.{reads};
 ghost use Rattle.pm_model.specs.Counts.{after_fault, fault_of};
 ghost use Rattle.pm_model.specs.Changes.{only, placed, Changes, Persists, Writes};
 ghost use Rattle.pud_defs.specs.declared.layout.TheConstants.{LOG_WORDS, LOG_ENTRY_WORDS, ENTRY_HEADER_WORDS, MAX_ENTRY_VALUES};
-ghost use Rattle.pud_defs.specs.declared.log_words.TheConstants.{RUNNING_GATE};
+ghost use Rattle.pud_defs.specs.declared.log_words.TheConstants.{RUNNING_GATE, REDO_ORDER};
 ghost use Rattle.pud_defs.specs.Image.{Image};
 ghost use Rattle.pud_defs.specs.Entries.{Entry, words_from};
 ghost use Rattle.log_store.specs.Store.{InLog, longer};
-ghost use Rattle.word_transaction.specs.Ground.{Ground, IsGround, undo_entry};
-ghost use Rattle.word_transaction.specs.Running.{IsRunning, IsIdle, IsCovered, nothing, begun, Runs};
+ghost use Rattle.word_transaction.specs.Ground.{Ground, IsGround, undo_entry, redo_entry};
+ghost use Rattle.word_transaction.specs.Running.{IsRunning, IsIdle, MayAppend, IsCovered, nothing, begun, Runs};
 
 use crate::WordTransaction;
 use log_store::{AppendFault, Log};
 use pm_model::{Host, HostFault};
 use pm_persist::write_range;
 use pud_defs::layout::MAX_ENTRY_VALUES;
-use pud_defs::log_words::{UNDO_ORDER, UNDO_SEQ};
+use pud_defs::log_words::{REDO_ORDER, REDO_SEQ, UNDO_ORDER, UNDO_SEQ};
 
 /// Reads `n` words, from 1 to 32, from word `from` on: they stand at the front of the array.
 fn read_words<H: Host>(
@@ -60,6 +60,37 @@ impl WordTransaction {
         Ok(WordTransaction { log })
     }
 
+    /// Appends an entry to the log, which has room for it.
+    fn append<H: Host>(
+        &mut self,
+        h: &mut H,
+        address: u64,
+        seq: u32,
+        order: u32,
+        vals: &[u64],
+    ) -> Result<(), HostFault>
+        requires place { self.old.at + LOG_WORDS ≤ (H.counts h.old).size }
+        requires some { 1 ≤ length vals.now }
+        requires no_more { length vals.now ≤ MAX_ENTRY_VALUES }
+        requires seq_fits { seq < 2 ^ 16 }
+        requires order_known { order ≤ REDO_ORDER }
+        requires room { self.old.used + (length vals.now + ENTRY_HEADER_WORDS) ≤ LOG_ENTRY_WORDS }
+        ensures appended { IfOk result (λ _. self.new ≡ longer (length vals.now + ENTRY_HEADER_WORDS) self.old) }
+        ensures failed { OnErr result (self.new ≡ self.old) }
+        ensures changes { H.tells → Changes (InLog self.old.at) (fault_of result) (H.state h.old) (H.state h.new) }
+        ensures runs { H.tells → (size : ℕ) → size ≡ (H.counts h.old).size → (g : Ground) → (es : List Entry) → (before : Image) → IsGround size self.old.at g
+            → IsRunning g self.old es before (H.state h.old).now.words → MayAppend g es before (record { address = address; seq = seq; order = order; vals = vals.now })
+            → Runs g (longer (length vals.now + ENTRY_HEADER_WORDS) self.old) (es ++ record { address = address; seq = seq; order = order; vals = vals.now } ∷ []) before nothing
+            (fault_of result) (H.state h.old) (H.state h.new) }
+        ensures cause { H.counts h.new ≡ after_fault (fault_of result) (H.counts h.old) }
+    {
+        match self.log.append(h, address, seq, order, vals) {
+            Ok(()) => Ok(()),
+            Err(AppendFault::Host(fault)) => Err(fault),
+            Err(AppendFault::TooBig) => unreachable!(),
+        }
+    }
+
     /// Keeps in the log what `count` words from device word `first` on hold, from 1 to 32, as those of `address`.
     ///
     /// The log and the words lie in the device, and the log has room for the words and two more. At `Ok` each image left has
@@ -87,11 +118,29 @@ impl WordTransaction {
         ensures cause { H.counts h.new ≡ after_fault (fault_of result) (H.counts h.old) }
     {
         let values = read_words(h, first, count)?;
-        match self.log.append(h, address, UNDO_SEQ, UNDO_ORDER, &values[..count as usize]) {
-            Ok(()) => Ok(()),
-            Err(AppendFault::Host(fault)) => Err(fault),
-            Err(AppendFault::TooBig) => unreachable!(),
-        }
+        self.append(h, address, UNDO_SEQ, UNDO_ORDER, &values[..count as usize])
+    }
+
+    /// Asks for these values, 1 to 32, in the words from that of `address` on: they come when the transaction is committed.
+    ///
+    /// The log lies in the device, and has room for the values and two more. Nothing changes that is read. At `Ok` each image
+    /// left has the transaction's words with the log replayed as they were when it began, and so it has before. After an error
+    /// `self` is as it was; the only errors are the host's own. Two fences.
+    pub fn ask<H: Host>(&mut self, h: &mut H, address: u64, vals: &[u64]) -> Result<(), HostFault>
+        requires place { self.old.at + LOG_WORDS ≤ (H.counts h.old).size }
+        requires some { 1 ≤ length vals.now }
+        requires no_more { length vals.now ≤ MAX_ENTRY_VALUES }
+        requires room { self.old.used + (length vals.now + ENTRY_HEADER_WORDS) ≤ LOG_ENTRY_WORDS }
+        ensures asked { IfOk result (λ _. self.new ≡ longer (length vals.now + ENTRY_HEADER_WORDS) self.old) }
+        ensures failed { OnErr result (self.new ≡ self.old) }
+        ensures changes { H.tells → Changes (InLog self.old.at) (fault_of result) (H.state h.old) (H.state h.new) }
+        ensures runs { H.tells → (size : ℕ) → size ≡ (H.counts h.old).size → (g : Ground) → (es : List Entry) → (before : Image) → IsGround size self.old.at g
+            → g.may address (length vals.now) ≡ true → IsRunning g self.old es before (H.state h.old).now.words
+            → Runs g (longer (length vals.now + ENTRY_HEADER_WORDS) self.old) (es ++ redo_entry address vals.now ∷ []) before nothing
+            (fault_of result) (H.state h.old) (H.state h.new) }
+        ensures cause { H.counts h.new ≡ after_fault (fault_of result) (H.counts h.old) }
+    {
+        self.append(h, address, REDO_SEQ, REDO_ORDER, vals)
     }
 
     /// Gives the words from device word `first` on these values in turn, and marks them: they are durable after the next fence.

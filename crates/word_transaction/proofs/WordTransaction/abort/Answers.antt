@@ -5,7 +5,9 @@ use Rattle.pm_model.specs.Changes.{Leaves, Silently}
 use Rattle.log_replay.specs.declared.Target.TheVariants.{Puddles}
 use Rattle.log_replay.specs.Replaying.{place_of, IsReplayable, HasDurableLog, IsSettling, SettlesLog}
 use Rattle.log_replay.proofs.Applying.{any_wider}
-use Rattle.word_transaction.proofs.Undone.{Closes-empty, replayable, durable_log, Closes-settled}
+use Rattle.word_transaction.specs.Ground.{saved}
+use Rattle.word_transaction.proofs.Undone.{Closes-empty, Gives-running}
+use Rattle.word_transaction.proofs.Settled.{replayable, durable_log, Closes-settled}
 use Rattle.word_transaction.proofs.WordTransaction.abort.Goals as goal
 
 pub returns-then-used-eq0-clause-closes : goal.returns-then-used-eq0-clause-closes
@@ -25,8 +27,10 @@ returns-clause-closes g c =
     let fault = fault_of c.settle_log.result in
     let here = c.at.ensures in
     rw (← c.self.view_is) (λ t size same ground es before is r places table.
-    let may = subst (λ (k : ℕ). IsReplayable (place_of (Puddles F) (reads old.now.words)) size k es (reads old.now.words)) (sym here) (replayable size F log es ground before old is r places table) in
-    let durable = subst (λ (k : ℕ). HasDurableLog (Puddles F) k old.now.words) (sym here) (durable_log size F log es ground before old is r places table) in
+    let gives = Gives-running size ground log es before old.now.words is r in
+    let write = saved ground.place es in
+    let may = subst (λ (k : ℕ). IsReplayable (place_of (Puddles F) (reads old.now.words)) size k es (reads old.now.words)) (sym here) (replayable size F ground log es write before old is gives places table) in
+    let durable = subst (λ (k : ℕ). HasDurableLog (Puddles F) k old.now.words) (sym here) (durable_log size F ground log es write before old is gives places table) in
     let settles = subst (λ (k : ℕ). SettlesLog (Puddles F) k fault old new) here (c.settle_log.ensures.settles t size same es may) in
     let moments = subst (λ (k : ℕ). Leaves (Silently (IsSettling (Puddles F) k old.now.words)) old new) here (c.settle_log.ensures.moments t size same es may durable) in
-    Closes-settled size F log es ground before old is r places table fault new settles moments)
+    Closes-settled size F ground log es write before old is gives places table fault new settles moments)

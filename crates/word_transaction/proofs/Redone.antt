@@ -1,0 +1,81 @@
+-- A transaction that asked for values committed: its log is replayed once the range is moved.
+use Rattle.std.proofs.Common.{◌≡◌, ℕ, List, Option, None, refl, sym, subst, ◌∙◌, arith}
+use Rattle.pm_model.specs.declared.host.HostFault.{HostFault}
+use Rattle.pm_model.specs.Words.{reads, HasOnly}
+use Rattle.pm_model.specs.Moments.{State}
+use Rattle.pm_model.specs.Changes.{Changes, Leaves, Silently}
+use Rattle.pm_model.proofs.Words.{HasOnly-newest, HasOnly-own}
+use Rattle.pm_model.proofs.Changes.{HasOnly-kept}
+use Rattle.pud_defs.specs.declared.layout.TheConstants.{PUDDLE_TABLE}
+use Rattle.pud_defs.specs.Image.{Image}
+use Rattle.pud_defs.specs.Layout.{tables_end, IsWithin}
+use Rattle.pud_defs.specs.Entries.{Entry}
+use Rattle.pud_defs.specs.Replay.{Place, overwritten}
+use Rattle.pud_defs.proofs.Replay.{overwritten-there, overwritten-stays}
+use Rattle.log_store.specs.Store.{OpenLog, saying, committing}
+use Rattle.log_replay.specs.declared.Target.TheVariants.{Puddles}
+use Rattle.log_replay.specs.Replaying.{place_of, IsReplayable, HasDurableLog, IsSettling, SettlesLog}
+use Rattle.log_replay.proofs.Places.{places_same}
+use Rattle.word_transaction.specs.Ground.{Ground, IsGround, committing_range, pending}
+use Rattle.word_transaction.specs.Running.{IsRunning, ByCommit, Ends, HasPlaces, HasOneTable, CanRedo}
+use Rattle.word_transaction.proofs.Saved.{pending_is_mine}
+use Rattle.word_transaction.proofs.Growing.{redone-places}
+use Rattle.word_transaction.proofs.Pending.{new_value-committing}
+use Rattle.word_transaction.proofs.Committed.{Moves, gate_moves, moved_single, moved_open, Ends-closes}
+use Rattle.word_transaction.proofs.Settled.{Gives, replayable, durable_log, Closes-settled}
+
+-- ---- the puddle table, while the gate changes
+
+module _ (F : ℕ) (g : Ground) (log : OpenLog) (a c : State) (changes : Changes (ByCommit log) None a c) (can : CanRedo g F log.at a.now.words) where
+  table_still : (k : ℕ) → IsWithin PUDDLE_TABLE (tables_end F) k → HasOnly (c.now.words k) (reads a.now.words k)
+  table_still k within =
+      HasOnly-kept (ByCommit log) None a c k (reads a.now.words k) changes
+      (λ v by. let here = by.gate in let high = within.high in let front = can.before in absurd (omega arith)) (can.table.each k within)
+
+  one_table : HasOneTable F c.now.words
+  one_table = record { each = λ k within. HasOnly-own (c.now.words k) (reads a.now.words k) (table_still k within) }
+
+  places_there : HasPlaces g (place_of (Puddles F) (reads c.now.words))
+  places_there =
+      subst (λ (place : Place). HasPlaces g place)
+      (sym (places_same (Puddles F) (reads a.now.words) (reads c.now.words) (λ k within. HasOnly-newest (c.now.words k) (reads a.now.words k) (table_still k within)))) can.places
+
+-- ---- the replay
+
+module _ (size : ℕ) (log : OpenLog) (es : List Entry) (g : Ground) (before : Image) (a : State) (ground : IsGround size log.at g) (r : IsRunning g log es before a.now.words) where
+  abbrev write : ℕ → Option ℕ
+  write = pending g.place es
+
+  abbrev after : Image
+  after = overwritten write (reads a.now.words)
+
+  -- a committing log gives what is asked for
+  gives : (b c : State) → Moves log None a b c → Gives g (committing log) es write after c.now.words
+  gives b c m =
+      record {
+        opened = moved_open size log es g before a ground r b c m;
+        own = r.own;
+        given = λ place same k. new_value-committing g place (saying (committing log) es) es k refl refl refl r.own ∙ redone-places g.place place committing_range es k same;
+        mine = λ k v is. pending_is_mine size log.at g es k v ground r.own is;
+        saves = λ k v is. sym (overwritten-there write (reads a.now.words) k v is);
+        single = λ k mine none.
+            subst (λ (v : ℕ). HasOnly (c.now.words k) v) (sym (overwritten-stays write (reads a.now.words) k none)) (moved_single size log es g before a ground r b c m k mine);
+      }
+
+  pub Ends-redone : (F at : ℕ) (fault : Option HostFault) (b c d : State) → at ≡ log.at → CanRedo g F log.at a.now.words → Moves log None a b c
+      → (IsReplayable (place_of (Puddles F) (reads c.now.words)) size at es (reads c.now.words) → SettlesLog (Puddles F) at fault c d)
+      → (IsReplayable (place_of (Puddles F) (reads c.now.words)) size at es (reads c.now.words) → HasDurableLog (Puddles F) at c.now.words
+      → Leaves (Silently (IsSettling (Puddles F) at c.now.words)) c d)
+      → Ends g log.at before after fault a d
+  Ends-redone F at fault b c d here can m settles moments =
+      let changes = gate_moves log None a b c m in
+      let table = one_table F g log a c changes can in
+      let places = places_there F g log a c changes can in
+      let given = gives b c m in
+      let may = replayable size F g (committing log) es write after c ground given places table in
+      let durable = durable_log size F g (committing log) es write after c ground given places table in
+      let settled = subst (λ (k : ℕ). IsReplayable (place_of (Puddles F) (reads c.now.words)) size k es (reads c.now.words) → SettlesLog (Puddles F) k fault c d) here settles in
+      let left = subst (λ (k : ℕ). IsReplayable (place_of (Puddles F) (reads c.now.words)) size k es (reads c.now.words) → HasDurableLog (Puddles F) k c.now.words
+      → Leaves (Silently (IsSettling (Puddles F) k c.now.words)) c d) here moments in
+      Ends-closes size log es g before a ground r fault b c d m
+      (Closes-settled size F g (committing log) es write after c ground given places table fault d (settled may) (left may durable))

@@ -1,0 +1,152 @@
+-- An open log replayed and closed: what is left at each moment, and at the end.
+use Rattle.std.proofs.Common.{◌≡◌, ◌⊎◌, inl, inr, ℕ, ◌+◌, ◌<◌, ◌≤◌, true, false, List, length, get_or, Option, Some, None, refl, sym, ap, subst, ◌∙◌, arith}
+use Rattle.std.specs.Prelude.{All}
+use Rattle.std.proofs.lemmas.Bool.Decides.{leb_tells}
+use Rattle.pm_model.specs.declared.host.HostFault.{HostFault}
+use Rattle.pm_model.specs.Words.{Cell, Words, reads, HasOnly}
+use Rattle.pm_model.specs.Moments.{State}
+use Rattle.pm_model.specs.Changes.{Write, Leaves, Silently}
+use Rattle.pm_model.proofs.Words.{HasOnly-newest, HasOnly-own}
+use Rattle.pm_model.proofs.Changes.{Changes-wider, HasOnly-kept}
+use Rattle.pm_model.proofs.Leaves.{Leaves-weaker}
+use Rattle.pud_defs.specs.declared.layout.TheConstants.{LOG_WORDS, LOG_HEADER_WORDS}
+use Rattle.pud_defs.specs.Image.{Image}
+use Rattle.pud_defs.specs.Entries.{Entry, Log, log_of, gate_used, is_idle_gate}
+use Rattle.pud_defs.specs.Replay.{Place, new_value, is_in_log, IsInLog}
+use Rattle.pud_defs.specs.Tables.{tables_of}
+use Rattle.pud_defs.specs.Allowed.{puddle_word}
+use Rattle.pud_defs.proofs.Replay.{not_inside}
+use Rattle.log_store.specs.Store.{OpenLog, IsOpen, saying}
+use Rattle.log_store.proofs.Open.{IsOpen-fits, IsOpen-log_by, used_is}
+use Rattle.log_replay.specs.declared.Target.TheVariants.{Puddles}
+use Rattle.log_replay.specs.Replaying.{place_of, NamesApart, IsReplayable, HasDurableLog, new_values, ByLog, IsSettling, SettlesLog}
+use Rattle.log_replay.proofs.Whole.{new_values-apart, new_values_picked}
+use Rattle.word_transaction.specs.Ground.{Ground, IsGround, IsOwn}
+use Rattle.word_transaction.specs.Running.{SettlesTo, ByTransaction, Closes, HasPlaces, HasOneTable}
+use Rattle.word_transaction.proofs.Images.{SettlesTo-given, SettlesTo-idle}
+use Rattle.word_transaction.proofs.Committed.{mine_apart}
+
+-- The log is open. It gives these words their values, which are the transaction's own, wherever places agree on what its entries name; and each own word
+-- that it gives none has its one value.
+pub record Gives (g : Ground) (log : OpenLog) (es : List Entry) (write : Write) (values : Image) (words : Words) : Type 0 where
+  pub opened : IsOpen log es words
+  pub own : All (IsOwn g) es
+  pub given : (place : Place) → All (λ e. place e.address ≡ g.place e.address) es → (k : ℕ) → new_value place (saying log es) k ≡ write k
+  pub mine : (k v : ℕ) → write k ≡ Some v → g.mine k ≡ true
+  pub saves : (k v : ℕ) → write k ≡ Some v → v ≡ values k
+  pub single : (k : ℕ) → g.mine k ≡ true → write k ≡ None → HasOnly (words k) (values k)
+
+-- ---- what the replay needs
+
+-- words that are none of the log's stand before it or behind it
+stands_beside : (first count at : ℕ) → 1 ≤ count → ((k : ℕ) → first ≤ k → k < first + count → is_in_log at k ≡ false) → (first + count ≤ at) ⊎ (at + LOG_WORDS ≤ first)
+stands_beside first count at some outside = elim (leb_tells (first + count) at) [
+  | inl before ↦ inl before.1
+  | inr over_at ↦ elim (leb_tells (at + LOG_WORDS) first) [
+    | inl behind ↦ inr behind.1
+    | inr in_front ↦ elim (leb_tells at first) [
+      | inl low ↦ absurd (not_inside at first (outside first (omega arith) (let h = some in omega arith)) (let l = low.1 in let h = in_front.1 in record { low = omega arith; high = omega arith }))
+      | inr high ↦ absurd (not_inside at at (outside at (let h = high.1 in omega arith) (let h = over_at.1 in omega arith)) (record { low = omega arith; high = omega arith }))
+    ]
+  ]
+]
+
+-- ---- a word by what it is given
+
+by_given : (o : Option ℕ) (x b : ℕ) → ((v : ℕ) → o ≡ Some v → x ≡ b) → (o ≡ None → x ≡ b) → x ≡ b
+by_given None x b some none = none refl
+by_given (Some v) x b some none = some v refl
+
+durable_by : (o : Option ℕ) (c : Cell) (b : ℕ) → ((v : ℕ) → o ≡ Some v → v ≡ b) → ((v : ℕ) → o ≡ Some v → HasOnly c v) → (o ≡ None → HasOnly c b) → HasOnly c b
+durable_by None c b saves some none = none refl
+durable_by (Some v) c b saves some none = subst (λ (x : ℕ). HasOnly c x) (saves v refl) (some v refl)
+
+-- ---- replayed and closed
+
+module _ (size F : ℕ) (g : Ground) (log : OpenLog) (es : List Entry) (write : Write) (values : Image) (a : State) (ground : IsGround size log.at g) (r : Gives g log es write values a.now.words)
+    (places : HasPlaces g (puddle_word (tables_of F (reads a.now.words)))) (table : HasOneTable F a.now.words) where
+  abbrev place : Place
+  place = puddle_word (tables_of F (reads a.now.words))
+
+  abbrev given_now : Write
+  given_now = new_values (Puddles F) log.at (reads a.now.words)
+
+  names_apart : (e : Entry) → IsOwn g e → NamesApart place size log.at e
+  names_apart e own =
+      let s = ground.named e.address (length e.vals) own.may in
+      record {
+        first = s.first;
+        placed = places.each e.address (length e.vals) own.may ∙ s.placed;
+        within = s.within;
+        apart = stands_beside s.first (length e.vals) log.at s.some (λ k low high. ground.apart k (s.own k low high));
+      }
+
+  pub replayable : IsReplayable (place_of (Puddles F) (reads a.now.words)) size log.at es (reads a.now.words)
+  replayable =
+      record {
+        spells = ap (λ (l : Log). l.entries) r.opened.says;
+        apart = λ n d below counts. names_apart (get_or es n d) (r.own n d below);
+      }
+
+  used : gate_used (reads a.now.words log.at) ≡ log.used
+  used = ap gate_used (HasOnly-newest (a.now.words log.at) _ r.opened.gate) ∙ used_is log (IsOpen-fits log es a.now.words r.opened)
+
+  pub durable_log : HasDurableLog (Puddles F) log.at a.now.words
+  durable_log =
+      record {
+        gate = HasOnly-own (a.now.words log.at) _ r.opened.gate;
+        counted = λ k low high. r.opened.counted k low (subst (λ (n : ℕ). k < log.at + LOG_HEADER_WORDS + n) used high);
+        table = λ k placing. table.each k placing;
+      }
+
+  -- ---- what it gives
+
+  gives : (k : ℕ) → given_now k ≡ write k
+  gives k =
+      ap (λ (l : Log). new_value place l k) r.opened.says
+      ∙ r.given place (λ n d below. places.each (get_or es n d).address (length (get_or es n d).vals) (r.own n d below).may) k
+
+  module _ (image : Image) (p : IsSettling (Puddles F) log.at a.now.words image) where
+    gives_before : (k : ℕ) → new_values (Puddles F) log.at p.before k ≡ write k
+    gives_before k = ap (λ (w : ℕ → Option ℕ). w k) (new_values_picked (Puddles F) log.at a.now.words p.before durable_log p.picked) ∙ gives k
+
+    -- a word that is given none is as it was
+    not_given : (k : ℕ) → g.mine k ≡ true → write k ≡ None → image k ≡ values k
+    not_given k mine none = p.closing.stays k (mine_apart size log.at g k ground mine) (gives_before k ∙ none) ∙ (r.single k mine none).each (p.before k) (p.picked.each k)
+
+    -- with its gate as it was the log says what it said
+    says_still : image log.at ≡ p.before log.at → log_of image log.at ≡ saying log es
+    says_still gate =
+        IsOpen-log_by log es a.now.words image r.opened (gate ∙ r.opened.gate.each (p.before log.at) (p.picked.each log.at))
+        (λ k low high.
+        let within = (IsOpen-fits log es a.now.words r.opened).used_within in
+        let inside : IsInLog log.at k = record { low = omega arith; high = omega arith } in
+        p.closing.stays k (λ here. absurd (omega arith))
+        (gives_before k ∙ sym (gives k) ∙ new_values-apart (Puddles F) size log.at es (reads a.now.words) replayable k inside)
+        ∙ (r.opened.counted k low high).each (p.before k) (p.picked.each k))
+
+    settles : SettlesTo g log.at values image
+    settles = elim p.closing.gate [
+      | inl gate ↦ SettlesTo-given g log es write values image r.own (says_still gate) (r.given g.place (λ n d below. refl)) (λ k v mine is. r.saves k v is) not_given
+      | inr shut ↦ SettlesTo-idle g log.at values image (ap is_idle_gate shut.0)
+          (λ k mine. by_given (write k) (image k) (values k) (λ v is. shut.1 k v (gives_before k ∙ is) ∙ r.saves k v is) (not_given k mine))
+    ]
+
+  pub Closes-settled : (fault : Option HostFault) (b : State) → SettlesLog (Puddles F) log.at fault a b → Leaves (Silently (IsSettling (Puddles F) log.at a.now.words)) a b
+      → Closes g log.at values fault a b
+  Closes-settled fault b s moments =
+      record {
+        changes = Changes-wider (ByLog log.at given_now) (ByTransaction g log.at) fault a b (λ k v by. elim by [
+          | inl here ↦ inl (record { low = omega arith; high = omega arith })
+          | inr named ↦ inr (r.mine k named.value (sym (gives k) ∙ named.is))
+        ]) s.changes;
+        moments = Leaves-weaker (Silently (IsSettling (Puddles F) log.at a.now.words)) (Silently (SettlesTo g log.at values)) a b (λ bytes image p. (p.0, settles image p.1)) moments;
+        durable = λ none k mine. durable_by (write k) (b.now.words k) (values k) (r.saves k)
+            (λ v is. s.durable none k v (gives k ∙ is))
+            (λ free. HasOnly-kept (ByLog log.at given_now) fault a b k (values k) s.changes
+            (λ x by. elim by [
+              | inl here ↦ mine_apart size log.at g k ground mine here
+              | inr named ↦ absurd (let it : None ≡ Some named.value = sym (gives k ∙ free) ∙ named.is in cc)
+            ]) (r.single k mine free));
+        closed = s.closed;
+      }
