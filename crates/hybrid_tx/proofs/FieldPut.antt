@@ -1,5 +1,5 @@
--- A field is set within a transaction.
-use Rattle.std.proofs.Common.{◌≡◌, ℕ, ◌+◌, ◌*◌, ◌/◌, ◌%◌, ◌^◌, ◌≤◌, true, List, [], ◌∷◌, All, map, Option, Some, None, option_map, sym, ap, subst, ◌∙◌, arith}
+-- A field is set within a transaction, or its value is asked for.
+use Rattle.std.proofs.Common.{◌≡◌, ℕ, ◌+◌, ◌*◌, ◌/◌, ◌%◌, ◌^◌, ◌≤◌, true, List, [], ◌∷◌, ◌++◌, All, map, Option, Some, None, option_map, refl, sym, ap, subst, ◌∙◌, arith}
 use Rattle.std.specs.Prelude.{slice_get}
 use Rattle.std.proofs.lemmas.Option.{slice_get-map}
 use Rattle.pm_model.specs.declared.host.HostFault.{HostFault}
@@ -16,20 +16,29 @@ use Rattle.pud_defs.specs.Layout.{device_words, frames_at}
 use Rattle.pud_defs.specs.Image.{Image}
 use Rattle.pud_defs.specs.Bases.{is_legal_base}
 use Rattle.pud_defs.specs.Frames.{frame_at, slot_at}
-use Rattle.pud_defs.specs.Graph.{Graph}
+use Rattle.pud_defs.specs.Entries.{Entry}
+use Rattle.pud_defs.specs.Replay.{overwritten}
+use Rattle.pud_defs.proofs.Replay.{overwritten-nothing}
+use Rattle.pud_defs.specs.Stored.{stored_in}
+use Rattle.pud_defs.specs.Graph.{Graph, graph_of}
 use Rattle.pud_defs.specs.GraphChanges.{with_field}
+use Rattle.pud_defs.specs.Laters.{Later}
 use Rattle.graph_laws.specs.Rewriting.{base_of}
+use Rattle.graph_laws.proofs.Words.{few_fields}
 use Rattle.graph_read.specs.Reading.{place_in_pool, place_at, IsSlotOf}
 use Rattle.graph_read.proofs.Placed.{place_ordinal, place_slot}
 use Rattle.log_store.specs.Store.{OpenLog}
+use Rattle.word_transaction.specs.Ground.{redo_entry}
 use Rattle.word_transaction.specs.Running.{nothing}
 use Rattle.word_transaction.proofs.Calls.{Runs-stopped, some_fault}
 use Rattle.hybrid_tx.specs.Grounds.{pool_ground, IsPlaced, IsRewritten}
 use Rattle.hybrid_tx.specs.Stores.{address_at, word_for, field_word}
-use Rattle.hybrid_tx.specs.Transactions.{MaySet, IsSaving, IsOpenOn, Saves, RunsOn}
-use Rattle.hybrid_tx.proofs.PoolGrounds.{all_there, is_ground}
+use Rattle.hybrid_tx.specs.Transactions.{MaySet, IsLater, AreLaters, IsSaving, IsOpenOn, Saves, RunsOn}
+use Rattle.hybrid_tx.proofs.PoolGrounds.{all_there}
 use Rattle.hybrid_tx.proofs.FieldsSet.{placed_if_live, word_if_held, set_value}
-use Rattle.hybrid_tx.proofs.Opening.{RunsOn-saves}
+use Rattle.hybrid_tx.proofs.LatersKept.{AreLaters-kept, AreLaters-more}
+use Rattle.hybrid_tx.proofs.LatersBehind.{KeepsObjects-field, KeepsPlaces-field}
+use Rattle.hybrid_tx.proofs.Opening.{RunsOn-write}
 use Rattle.hybrid_tx.proofs.InFrames.{no_wrap}
 
 -- the address of a slot, by its ordinal
@@ -48,20 +57,22 @@ slot_address-read at slot of e same legal =
     ∙ ap (λ (o : ℕ). base_of (slice_get (map (λ (d : ℕ × Puddle). d.1) at) o) + WORD_BYTES * slot_at slot.slot) (sym ordinal)
     ∙ ap (λ (n : ℕ). base_of (slice_get (map (λ (d : ℕ × Puddle). d.1) at) (place_at slot / 62)) + WORD_BYTES * slot_at n) (sym number)
 
-module _ (F : ℕ) (at : List (ℕ × Puddle)) (types : List (ℕ × ℕ)) (log behind : OpenLog) (before : Image) (undone now : Graph) where
+module _ (F : ℕ) (at : List (ℕ × Puddle)) (types : List (ℕ × ℕ)) (log behind : OpenLog) (before : Image) (undone now : Graph) (laters : List Later) where
   -- a call that failed before it did anything
-  pub RunsOn-stopped : (next : Graph) (fault : HostFault) (old new : State) → behind.at ≡ log.at → (Some fault ≡ Some Cut → ⊥) → new ≡ old → IsOpenOn F at types log before undone now old.now.words
-      → RunsOn F at types behind before undone next (Some fault) old new
-  RunsOn-stopped next fault old new same kept stays is_open =
+  pub RunsOn-stopped : (next : Graph) (more : List Later) (fault : HostFault) (old new : State) → behind.at ≡ log.at → (Some fault ≡ Some Cut → ⊥) → new ≡ old
+      → IsOpenOn F at types log before undone now laters old.now.words → RunsOn F at types behind before undone next more (Some fault) old new
+  RunsOn-stopped next more fault old new same kept stays is_open =
       let s = is_open.saving in
       record {
         write = nothing;
-        saves = record { es = s.es; runs = Runs-stopped (pool_ground F at) log behind s.es s.es before nothing fault old new same kept stays s.running; undo_only = s.undo_only };
+        redo = is_open.redo;
+        saves = record { es = s.es; runs = Runs-stopped (pool_ground F at) log behind s.es s.es before nothing fault old new same kept stays s.running; asks = s.asks };
         was = is_open.was;
         is = λ none. absurd (some_fault fault none);
+        are = λ none. absurd (some_fault fault none);
       }
 
-  module _ (s f : ℕ) (x : Val) (old : State) (is_open : IsOpenOn F at types log before undone now old.now.words) (may : MaySet types now s f x) where
+  module _ (s f : ℕ) (x : Val) (old : State) (is_open : IsOpenOn F at types log before undone now laters old.now.words) (may : MaySet types now s f x) where
     pub no_place : place_in_pool F at (reads old.now.words) s ≡ None → ⊥
     no_place = placed_if_live types F at (reads old.now.words) now is_open.is s may.object may.live
 
@@ -70,12 +81,38 @@ module _ (F : ℕ) (at : List (ℕ × Puddle)) (types : List (ℕ × ℕ)) (log 
 
     pub RunsOn-set : (size word : ℕ) (slot : Slot) (v : ℕ) (fault : Option HostFault) (mid new : State) → IsPlaced F at → IsRewritten at → device_words F ≤ size → log.at + LOG_WORDS ≤ frames_at F
         → behind.at ≡ log.at → mid ≡ old → IsSlotOf at slot → place_in_pool F at (reads old.now.words) s ≡ Some (place_at slot) → word_for F at (reads old.now.words) x ≡ Some v → word ≡ field_word slot.slot f
-        → ((e : ℕ × Puddle) → slice_get at slot.ordinal ≡ Some e → (b : Image) → IsSaving F at log b mid.now.words → Saves F at behind b (placed (frame_at F e.0 + word) (v ∷ [])) fault mid new)
-        → RunsOn F at types behind before undone (with_field s f x now) fault old new
+        → ((e : ℕ × Puddle) → slice_get at slot.ordinal ≡ Some e → (b : Image) (redo : List Entry) → IsSaving F at log b redo mid.now.words
+        → Saves F at behind b redo (placed (frame_at F e.0 + word) (v ∷ [])) fault mid new)
+        → RunsOn F at types behind before undone (with_field s f x now) laters fault old new
     RunsOn-set size word slot v fault mid new is_placed rewritten device apart same stays of found value is_word put =
+        let image = reads old.now.words in
         let write = placed (frame_at F slot.frame + field_word slot.slot f) (v ∷ []) in
-        let ground = is_ground F size behind.at at is_placed device (omega arith) in
-        let put_here = subst (λ (k : ℕ). (b : Image) → IsSaving F at log b mid.now.words → Saves F at behind b (placed (frame_at F slot.frame + k) (v ∷ [])) fault mid new) is_word (put (slot.frame, of.puddle) of.there) in
-        let saves = subst (λ (m : State). IsSaving F at log before m.now.words → Saves F at behind before write fault m new) stays (put_here before) is_open.saving in
-        RunsOn-saves F size at types before log behind undone now (with_field s f x now) write fault old new ground is_open saves
-        (set_value types F at (reads old.now.words) now is_open.is is_placed rewritten s f slot of found x v may value)
+        let redo = is_open.redo in
+        let few = few_fields may.map in
+        let below = may.below in
+        let put_here = subst (λ (k : ℕ). IsSaving F at log before redo mid.now.words → Saves F at behind before redo (placed (frame_at F slot.frame + k) (v ∷ [])) fault mid new) is_word
+        (put (slot.frame, of.puddle) of.there before redo) in
+        RunsOn-write F size at types before log behind undone now (with_field s f x now) laters laters redo write fault old mid new is_placed device apart same stays is_open put_here
+        (set_value types F at image now is_open.is is_placed rewritten s f slot of found x v may value)
+        (AreLaters-kept F at types image (overwritten write image) now (with_field s f x now)
+        (KeepsPlaces-field F at image is_placed.frames slot of f v (omega arith) now) (KeepsObjects-field s f x now) laters redo is_open.are)
+
+    -- the value asked for
+    pub RunsOn-later : (size word : ℕ) (slot : Slot) (v : ℕ) (fault : Option HostFault) (mid new : State) → IsPlaced F at → device_words F ≤ size → log.at + LOG_WORDS ≤ frames_at F
+        → behind.at ≡ log.at → mid ≡ old → IsSlotOf at slot → place_in_pool F at (reads old.now.words) s ≡ Some (place_at slot) → word_for F at (reads old.now.words) x ≡ Some v → word ≡ field_word slot.slot f
+        → ((e : ℕ × Puddle) → slice_get at slot.ordinal ≡ Some e → (b : Image) (redo : List Entry) → IsSaving F at log b redo mid.now.words
+        → Saves F at behind b (redo ++ redo_entry (e.1.base + WORD_BYTES * word) (v ∷ []) ∷ []) nothing fault mid new)
+        → RunsOn F at types behind before undone now (laters ++ record { s = s; f = f; x = x } ∷ []) fault old new
+    RunsOn-later size word slot v fault mid new is_placed device apart same stays of found value is_word ask =
+        let image = reads old.now.words in
+        let redo = is_open.redo in
+        let entry = redo_entry (of.puddle.base + WORD_BYTES * field_word slot.slot f) (v ∷ []) in
+        let later : IsLater F at types image now (record { s = s; f = f; x = x }) entry = record { slot = slot; of = of; place = found; value = v; word = value; may = may; is = refl } in
+        let ask_here = subst (λ (k : ℕ). IsSaving F at log before redo mid.now.words → Saves F at behind before (redo ++ redo_entry (of.puddle.base + WORD_BYTES * k) (v ∷ []) ∷ []) nothing fault mid new)
+        is_word (ask (slot.frame, of.puddle) of.there before redo) in
+        let same_image : overwritten nothing image ≡ image = overwritten-nothing nothing image (λ k. refl) in
+        RunsOn-write F size at types before log behind undone now now laters (laters ++ record { s = s; f = f; x = x } ∷ []) (redo ++ entry ∷ []) nothing fault old mid new
+        is_placed device apart same stays is_open ask_here
+        (ap (λ (i : Image). graph_of types (stored_in F at i)) same_image ∙ is_open.is)
+        (subst (λ (i : Image). AreLaters F at types i now (laters ++ record { s = s; f = f; x = x } ∷ []) (redo ++ entry ∷ [])) (sym same_image)
+        (AreLaters-more F at types image now (record { s = s; f = f; x = x }) entry later laters redo is_open.are))

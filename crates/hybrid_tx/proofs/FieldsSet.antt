@@ -1,5 +1,5 @@
 -- A field's word is stored in an image of a pool: its graph has the value in the field.
-use Rattle.std.proofs.Common.{◌≡◌, inl, inr, ℕ, ◌+◌, ◌*◌, ◌/◌, ◌%◌, ◌<◌, true, false, cond, List, [], ◌∷◌, Option, Some, None, get_or, is_some, option_map, refl, sym, ap, ap₂, ◌∙◌, arith, eqb, eq-eqb, ne_eqb}
+use Rattle.std.proofs.Common.{◌≡◌, ◌⊎◌, inl, inr, ℕ, ◌+◌, ◌*◌, ◌/◌, ◌%◌, ◌<◌, cond, List, [], ◌∷◌, Option, Some, None, get_or, option_map, refl, sym, ap, ap₂, ◌∙◌, arith, eqb, eq-eqb, ne_eqb}
 use Rattle.std.specs.Prelude.{slice_get}
 use Rattle.std.proofs.lemmas.Bool.{cases_eq, cases_lt, cond-true, cond-false}
 use Rattle.std.proofs.lemmas.Option.{none-some, same_Some, slice_get-map, slice_get-get_or}
@@ -11,7 +11,6 @@ use Rattle.pud_defs.specs.declared.records.Puddle.{Puddle}
 use Rattle.pud_defs.specs.declared.records.Slot.{Slot}
 use Rattle.pud_defs.specs.declared.objects.Val.{Val}
 use Rattle.pud_defs.specs.declared.objects.Val.TheVariants.{Num, Ref}
-use Rattle.pud_defs.specs.TypeMap.{is_pointer}
 use Rattle.pud_defs.specs.Types.{map_of}
 use Rattle.pud_defs.specs.Image.{Image, written}
 use Rattle.pud_defs.specs.Frames.{frame_at, slot_at}
@@ -21,6 +20,7 @@ use Rattle.pud_defs.specs.Graph.{slot_address, table_of, place_of, object_at, Ob
 use Rattle.pud_defs.proofs.Replay.{overwritten-there, overwritten-stays, value_at-there, value_at-apart}
 use Rattle.pud_defs.specs.GraphChanges.{with_field}
 use Rattle.graph_laws.specs.Changes.{with_word, with_words, with_field_word, IsAddress, IsField}
+use Rattle.graph_laws.specs.Reads.{HasDistinctFrames}
 use Rattle.graph_laws.specs.Rewriting.{base_of}
 use Rattle.graph_laws.proofs.Fields.{graph_of-number, graph_of-null, graph_of-reference}
 use Rattle.graph_laws.proofs.Places.{object_in-place}
@@ -30,8 +30,9 @@ use Rattle.graph_read.specs.Reading.{place_in_pool, place_at, IsSlotOf}
 use Rattle.graph_read.proofs.Placed.{place_ordinal, place_slot}
 use Rattle.hybrid_tx.specs.Grounds.{IsPlaced, IsRewritten}
 use Rattle.hybrid_tx.specs.Stores.{address_at, word_for, field_word}
-use Rattle.hybrid_tx.specs.Transactions.{MayHold, MaySet}
+use Rattle.hybrid_tx.specs.Transactions.{MayName, MayHold, MaySet}
 use Rattle.hybrid_tx.proofs.PoolGrounds.{all_there}
+use Rattle.hybrid_tx.proofs.LatersKept.{some_object}
 
 -- one word written over an image
 pub overwritten-one : (w v : ℕ) (image : Image) → overwritten (put_from w (v ∷ [])) image ≡ written w v image
@@ -46,40 +47,82 @@ overwritten-one w v image =
     ] in
     λ i k. each k i
 
+-- so of what is stored, where it is one of a frame
+pub stored_in-one : (F : ℕ) (at : List (ℕ × Puddle)) (image : Image) (o k v : ℕ) (e : ℕ × Puddle) → HasDistinctFrames at → slice_get at o ≡ Some e → k < FRAME_WORDS
+    → stored_in F at (overwritten (put_from (frame_at F e.0 + k) (v ∷ [])) image) ≡ with_words (with_word o k v (stored_in F at image).word) (stored_in F at image)
+stored_in-one F at image o k v e distinct there below = ap (stored_in F at) (overwritten-one (frame_at F e.0 + k) v image) ∙ stored_in-written F at image o k v e distinct there below
+
+-- ---- what a word says
+
+-- the serial has a place, whose address is the value
+pub record IsAddressOf (F : ℕ) (at : List (ℕ × Puddle)) (image : Image) (r v : ℕ) : Type 0 where
+  pub place : ℕ
+  pub found : place_in_pool F at image r ≡ Some place
+  pub is : address_at at place ≡ v
+
+address_found : (F : ℕ) (at : List (ℕ × Puddle)) (image : Image) (r v : ℕ) (o : Option ℕ) → place_in_pool F at image r ≡ o → option_map (address_at at) o ≡ Some v → IsAddressOf F at image r v
+address_found F at image r v None found word = absurd (none-some v word)
+address_found F at image r v (Some q) found word = record { place = q; found = found; is = same_Some (address_at at q) v word }
+
+-- the word of a reference is 0 for null, and else the address of the serial's place
+pub word_of_reference : (F : ℕ) (at : List (ℕ × Puddle)) (image : Image) (r v : ℕ) → word_for F at image (Ref r) ≡ Some v → ((r ≡ 0) × (v ≡ 0)) ⊎ IsAddressOf F at image r v
+word_of_reference F at image r v word = elim (cases_eq r 0) [
+  | inl null ↦ inl (null, sym (same_Some 0 v (sym (cond-true _ _ _ (eq-eqb r 0 null)) ∙ word)))
+  | inr other ↦ inr (address_found F at image r v (place_in_pool F at image r) refl (sym (cond-false _ _ _ (ne_eqb r 0 other)) ∙ word))
+]
+
 -- ---- what a graph says of places
 
 module _ (types : List (ℕ × ℕ)) (F : ℕ) (at : List (ℕ × Puddle)) (image : Image) (g : Graph) (is : graph_of types (stored_in F at image) ≡ Some g) where
   abbrev st : Stored
   st = stored_in F at image
 
-  place_is : (s : ℕ) → place_of s (table_of types st) (places_of st) ≡ place_in_pool F at image s
+  -- where a serial stands in the table of what is stored
+  pub place_is : (s : ℕ) → place_of s (table_of types st) (places_of st) ≡ place_in_pool F at image s
   place_is s = ap (λ n. place_of s (table_of types st) (FRAME_SLOTS * n)) (length-map at (λ (e : ℕ × Puddle). e.1))
 
-  object_at_place : (s p : ℕ) → place_in_pool F at image s ≡ Some p → object_in s g ≡ Some (object_at (table_of types st) p)
+  pub object_at_place : (s p : ℕ) → place_in_pool F at image s ≡ Some p → object_in s g ≡ Some (object_at (table_of types st) p)
   object_at_place s p found = object_in-place types st g s is ∙ ap (option_map (object_at (table_of types st))) (place_is s ∙ found)
 
   -- a live object has a place
   pub placed_if_live : (s : ℕ) (o : Object) → object_in s g ≡ Some o → place_in_pool F at image s ≡ None → ⊥
   placed_if_live s o live none = none-some o (sym (object_in-place types st g s is ∙ ap (option_map (object_at (table_of types st))) (place_is s ∙ none)) ∙ live)
 
-  some_live : (o : Option Object) → is_some o ≡ true → (x : Object) × (o ≡ Some x)
-  some_live None live = absurd (let it : false ≡ true = live in cc)
-  some_live (Some x) live = (x, refl)
-
   no_word : (r : ℕ) (o : Option ℕ) → (r ≡ 0 → ⊥) → cond (eqb r 0) (Some 0) (option_map (address_at at) o) ≡ None → o ≡ None
   no_word r None other none = refl
   no_word r (Some q) other none = absurd (none-some (address_at at q) (sym none ∙ cond-false _ _ _ (ne_eqb r 0 other)))
 
-  -- what a field may hold has a word
-  pub word_if_held : (m f : ℕ) (x : Val) → MayHold m f g x → word_for F at image x ≡ None → ⊥
-  word_if_held m f (Num v) holds none = none-some v (sym none)
-  word_if_held m f (Ref r) holds none = elim (cases_eq r 0) [
+  -- what a pointer may name has a word
+  pub word_if_named : (r : ℕ) → MayName g r → word_for F at image (Ref r) ≡ None → ⊥
+  word_if_named r named none = elim (cases_eq r 0) [
     | inl null ↦ none-some 0 (sym none ∙ cond-true _ _ _ (eq-eqb r 0 null))
-    | inr other ↦ elim holds.1 [
+    | inr other ↦ elim named [
       | inl null ↦ other null
-      | inr live ↦ let object = some_live (object_in r g) live in placed_if_live r object.0 object.1 (no_word r (place_in_pool F at image r) other none)
+      | inr live ↦ let object = some_object (object_in r g) live in placed_if_live r object.0 object.1 (no_word r (place_in_pool F at image r) other none)
     ]
   ]
+
+  -- what a field may hold has one
+  pub word_if_held : (m f : ℕ) (x : Val) → MayHold m f g x → word_for F at image x ≡ None → ⊥
+  word_if_held m f (Num v) holds none = none-some v (sym none)
+  word_if_held m f (Ref r) holds none = word_if_named r holds.1 none
+
+  -- ---- addresses
+
+  -- the address of a place is one for a pointer at any step of any puddle
+  pub address_of_place : IsPlaced F at → IsRewritten at → (o step : ℕ) (e : ℕ × Puddle) → slice_get at o ≡ Some e → step < LAST_FRONTIER → (q v : ℕ) → q < places_of st → address_at at q ≡ v → IsAddress st.puddles o step q v
+  address_of_place placed rewritten o step e here below q v within is =
+      let last : e.1.frontier ≡ LAST_FRONTIER = all_there (λ d. d.1.frontier ≡ LAST_FRONTIER) at o e rewritten.each here in
+      let there = slice_get-get_or st.puddles (q / FRAME_SLOTS) e.1 (omega arith) in
+      record {
+        bases = placed.bases;
+        home = e.1;
+        here = slice_get-map (λ (d : ℕ × Puddle). d.1) at o ∙ ap (option_map (λ (d : ℕ × Puddle). d.1)) here;
+        rewritten = omega arith;
+        away = get_or st.puddles (q / FRAME_SLOTS) e.1;
+        there = there;
+        address = sym is ∙ ap (λ (d : Option Puddle). slot_address (base_of d) (q % FRAME_SLOTS)) there;
+      }
 
   -- ---- the field
 
@@ -93,56 +136,32 @@ module _ (types : List (ℕ × ℕ)) (F : ℕ) (at : List (ℕ × Puddle)) (imag
           let same : object_at (table_of types st) p ≡ object = same_Some _ _ (sym (object_at_place s p found) ∙ live) in
           record { place = place_is s ∙ found; defined = ap (λ (o : Object). map_of o.type_id types) same ∙ defined; below = below }
 
-      home : slice_get st.puddles (p / FRAME_SLOTS) ≡ Some of.puddle
-      home =
-          ap (slice_get st.puddles) (place_ordinal slot.ordinal slot.slot of.below)
-          ∙ slice_get-map (λ (e : ℕ × Puddle). e.1) at slot.ordinal
-          ∙ ap (option_map (λ (e : ℕ × Puddle). e.1)) of.there
-
-      address : (q v : ℕ) → q < places_of st → address_at at q ≡ v → IsAddress st.puddles (p / FRAME_SLOTS) (p % FRAME_SLOTS + 1) q v
-      address q v within is =
-          let last : of.puddle.frontier ≡ LAST_FRONTIER = all_there (λ e. e.1.frontier ≡ LAST_FRONTIER) at slot.ordinal (slot.frame, of.puddle) rewritten.each of.there in
-          let there = slice_get-get_or st.puddles (q / FRAME_SLOTS) of.puddle (omega arith) in
-          record {
-            bases = placed.bases;
-            home = of.puddle;
-            here = home;
-            rewritten = omega arith;
-            away = get_or st.puddles (q / FRAME_SLOTS) of.puddle;
-            there = there;
-            address = sym is ∙ ap (λ (d : Option Puddle). slot_address (base_of d) (q % FRAME_SLOTS)) there;
-          }
-
-      of_address : (r v : ℕ) (o : Option ℕ) → is_pointer m f ≡ true → (r ≡ 0 → ⊥) → place_in_pool F at image r ≡ o → cond (eqb r 0) (Some 0) (option_map (address_at at) o) ≡ Some v
-          → graph_of types (with_field_word p f v st) ≡ Some (with_field s f (Ref r) g)
-      of_address r v None pointer other none word = absurd (none-some v (sym (cond-false _ _ _ (ne_eqb r 0 other)) ∙ word))
-      of_address r v (Some q) pointer other there word =
-          let is_word : address_at at q ≡ v = same_Some _ _ (sym (cond-false _ _ _ (ne_eqb r 0 other)) ∙ word) in
-          let within = (place_of-some (table_of types st) (places_of st) r q (place_is r ∙ there)).within in
-          graph_of-reference types st g s p m f v r q is field pointer (place_is r ∙ there) (address q v within is_word)
+      address : (r v : ℕ) (named : IsAddressOf F at image r v) → IsAddress st.puddles (p / FRAME_SLOTS) (p % FRAME_SLOTS + 1) named.place v
+      address r v named =
+          let within = (place_of-some (table_of types st) (places_of st) r named.place (place_is r ∙ named.found)).within in
+          let slots = of.below in
+          address_of_place placed rewritten (p / FRAME_SLOTS) (p % FRAME_SLOTS + 1) (slot.frame, of.puddle)
+          (ap (slice_get at) (place_ordinal slot.ordinal slot.slot of.below) ∙ of.there) (omega arith) named.place v within named.is
 
       of_value : (x : Val) (v : ℕ) → MayHold m f g x → word_for F at image x ≡ Some v → graph_of types (with_field_word p f v st) ≡ Some (with_field s f x g)
       of_value (Num n) v number word =
           let same : n ≡ v = same_Some n v word in
           graph_of-number types st g s p m f v is field number ∙ ap (λ k. Some (with_field s f (Num k) g)) (sym same)
-      of_value (Ref r) v holds word = elim (cases_eq r 0) [
+      of_value (Ref r) v holds word = elim (word_of_reference F at image r v word) [
         | inl null ↦
-            let zero : 0 ≡ v = same_Some 0 v (sym (cond-true _ _ _ (eq-eqb r 0 null)) ∙ word) in
-            ap (λ k. graph_of types (with_field_word p f k st)) (sym zero) ∙ graph_of-null types st g s p m f is field holds.0 ∙ ap (λ k. Some (with_field s f (Ref k) g)) (sym null)
-        | inr other ↦ of_address r v (place_in_pool F at image r) holds.0 other refl word
+            ap (λ k. graph_of types (with_field_word p f k st)) null.1 ∙ graph_of-null types st g s p m f is field holds.0 ∙ ap (λ k. Some (with_field s f (Ref k) g)) (sym null.0)
+        | inr named ↦ graph_of-reference types st g s p m f v r named.place is field holds.0 (place_is r ∙ named.found) (address r v named)
       ]
 
       field_set : (x : Val) (v : ℕ) → MayHold m f g x → word_for F at image x ≡ Some v
-          → graph_of types (stored_in F at (written (frame_at F slot.frame + field_word slot.slot f) v image)) ≡ Some (with_field s f x g)
+          → graph_of types (stored_in F at (overwritten (put_from (frame_at F slot.frame + field_word slot.slot f) (v ∷ [])) image)) ≡ Some (with_field s f x g)
       field_set x v holds word =
           let few : field_word slot.slot f < FRAME_WORDS = (let most = few_fields m in let slots = of.below in omega arith) in
-          ap (graph_of types) (stored_in-written F at image slot.ordinal (field_word slot.slot f) v (slot.frame, of.puddle) placed.frames of.there few)
+          ap (graph_of types) (stored_in-one F at image slot.ordinal (field_word slot.slot f) v (slot.frame, of.puddle) placed.frames of.there few)
           ∙ ap₂ (λ (i j : ℕ). graph_of types (with_words (with_word i (slot_at j + SLOT_FIELDS_WORD + f) v st.word) st))
           (sym (place_ordinal slot.ordinal slot.slot of.below)) (sym (place_slot slot.ordinal slot.slot of.below))
           ∙ of_value x v holds word
 
     pub set_value : (x : Val) (v : ℕ) → MaySet types g s f x → word_for F at image x ≡ Some v
         → graph_of types (stored_in F at (overwritten (put_from (frame_at F slot.frame + field_word slot.slot f) (v ∷ [])) image)) ≡ Some (with_field s f x g)
-    set_value x v may word =
-        ap (λ i. graph_of types (stored_in F at i)) (overwritten-one (frame_at F slot.frame + field_word slot.slot f) v image)
-        ∙ field_set may.map may.object may.live may.defined may.below x v may.holds word
+    set_value x v may word = field_set may.map may.object may.live may.defined may.below x v may.holds word

@@ -1,8 +1,7 @@
--- Words of a frame are saved and written, by the puddle's ordinal.
-use Rattle.std.proofs.Common.{◌≡◌, inl, inr, ℕ, ◌+◌, ◌*◌, ◌%◌, ◌^◌, ◌<◌, ◌≤◌, true, List, [], ◌∷◌, ◌++◌, All, length, Option, Some, None, Result, Ok, Err, IfOk, refl, sym, ap, subst, ◌∙◌, arith}
+-- Words of a frame are saved and written, or asked for, by the puddle's ordinal.
+use Rattle.std.proofs.Common.{◌≡◌, inl, inr, ℕ, ◌+◌, ◌*◌, ◌%◌, ◌^◌, ◌<◌, ◌≤◌, true, List, [], ◌∷◌, ◌++◌, length, Option, Some, None, Result, Ok, Err, IfOk, refl, sym, ap, ap₂, subst, ◌∙◌, arith}
 use Rattle.std.specs.Prelude.{slice_get}
 use Rattle.std.proofs.lemmas.Bool.{and_parts, ltb-true}
-use Rattle.std.proofs.lemmas.List.Elements.{All-nil, All-cons, All-append}
 use Rattle.pm_model.specs.declared.host.HostFault.{HostFault}
 use Rattle.pm_model.specs.Counts.{fault_of}
 use Rattle.pm_model.specs.Moments.{State}
@@ -19,9 +18,10 @@ use Rattle.pud_defs.specs.Frames.{frame_at}
 use Rattle.pud_defs.specs.Entries.{Entry}
 use Rattle.pud_defs.specs.Replay.{over}
 use Rattle.log_store.specs.Store.{OpenLog}
-use Rattle.word_transaction.specs.Ground.{IsGround, IsUndo, undo_entry}
-use Rattle.word_transaction.specs.Running.{IsRunning, ByTransaction, Runs}
+use Rattle.word_transaction.specs.Ground.{IsGround, undo_entry, redo_entry}
+use Rattle.word_transaction.specs.Running.{IsRunning, ByTransaction, nothing, Runs}
 use Rattle.word_transaction.proofs.Calls.{Runs-failed, Runs-then}
+use Rattle.word_transaction.proofs.Pending.{asked-undo, asked-redo}
 use Rattle.hybrid_tx.specs.Grounds.{pool_place, pool_may, pool_ground, IsPlaced}
 use Rattle.hybrid_tx.specs.Stores.{ByPut}
 use Rattle.hybrid_tx.specs.Transactions.{IsSaving, Saves}
@@ -53,39 +53,38 @@ no_wrap base word legal below =
     let ends = and_parts _ _ parts.0 in
     below_end base word (ltb-true base (SPACE_START + SPACE_BYTES) ends.1) below
 
--- ---- saved alone
+-- ---- calls in turn
 
-pub undo_more : (es : List Entry) (address : ℕ) (vals : List ℕ) → All IsUndo es → All IsUndo (es ++ undo_entry address vals ∷ [])
-undo_more es address vals all = All-append IsUndo es (undo_entry address vals ∷ []) all (All-cons IsUndo (undo_entry address vals) [] (record { seq = refl; order = refl }) (All-nil IsUndo))
-
-module _ (F : ℕ) (at : List (ℕ × Puddle)) (log behind : OpenLog) (before : Image) (same : behind.at ≡ log.at) where
+module _ (F : ℕ) (at : List (ℕ × Puddle)) (log behind : OpenLog) (before : Image) (redo : List Entry) (same : behind.at ≡ log.at) where
   -- what failed did not do what was to come behind it
-  pub Saves-failed : (write later : Write) (fault : HostFault) (old new : State) → Saves F at log before write (Some fault) old new → Saves F at behind before later (Some fault) old new
+  pub Saves-failed : (write later : Write) (fault : HostFault) (old new : State) → Saves F at log before redo write (Some fault) old new → Saves F at behind before redo later (Some fault) old new
   Saves-failed write later fault old new s =
-      record { es = s.es; runs = Runs-failed (pool_ground F at) log behind s.es s.es before write later fault old new same s.runs; undo_only = s.undo_only }
+      record { es = s.es; runs = Runs-failed (pool_ground F at) log behind s.es s.es before write later fault old new same s.runs; asks = s.asks }
 
   -- one call and then another
-  pub Saves-then : (first later : Write) (fault : Option HostFault) (a b c : State) → Saves F at log before first None a b → Saves F at behind before later fault b c → Saves F at behind before (over first later) fault a c
-  Saves-then first later fault a b c p q =
-      record { es = q.es; runs = Runs-then (pool_ground F at) log behind p.es q.es before first later fault a b c same p.runs q.runs; undo_only = q.undo_only }
+  pub Saves-then : (more : List Entry) (first later : Write) (fault : Option HostFault) (a b c : State) → Saves F at log before redo first None a b → Saves F at behind before more later fault b c
+      → Saves F at behind before more (over first later) fault a c
+  Saves-then more first later fault a b c p q =
+      record { es = q.es; runs = Runs-then (pool_ground F at) log behind p.es q.es before first later fault a b c same p.runs q.runs; asks = q.asks }
 
 -- the log behind a call, which at Ok is this
-pub Saves-behind : (F : ℕ) (at : List (ℕ × Puddle)) (long now : OpenLog) (before : Image) (write : Write) (result : Result (Unit {0}) HostFault) (old new : State) → now.at ≡ long.at → IfOk result (λ _. now ≡ long)
-    → Saves F at long before write (fault_of result) old new → Saves F at now before write (fault_of result) old new
-Saves-behind F at long now before write (Ok done) old new same is s = subst (λ (l : OpenLog). Saves F at l before write None old new) (sym is) s
-Saves-behind F at long now before write (Err fault) old new same is s = Saves-failed F at long now before same write write fault old new s
+pub Saves-behind : (F : ℕ) (at : List (ℕ × Puddle)) (long now : OpenLog) (before : Image) (redo : List Entry) (write : Write) (result : Result (Unit {0}) HostFault) (old new : State) → now.at ≡ long.at
+    → IfOk result (λ _. now ≡ long) → Saves F at long before redo write (fault_of result) old new → Saves F at now before redo write (fault_of result) old new
+Saves-behind F at long now before redo write (Ok done) old new same is s = subst (λ (l : OpenLog). Saves F at l before redo write None old new) (sym is) s
+Saves-behind F at long now before redo write (Err fault) old new same is s = Saves-failed F at long now before redo same write write fault old new s
 
-pub Saves-saving : (F : ℕ) (at : List (ℕ × Puddle)) (log : OpenLog) (before : Image) (write : Write) (old new : State) → Saves F at log before write None old new → IsSaving F at log before new.now.words
-Saves-saving F at log before write old new s = record { es = s.es; running = s.runs.running refl; undo_only = s.undo_only }
+pub Saves-saving : (F : ℕ) (at : List (ℕ × Puddle)) (log : OpenLog) (before : Image) (redo : List Entry) (write : Write) (old new : State) → Saves F at log before redo write None old new
+    → IsSaving F at log before redo new.now.words
+Saves-saving F at log before redo write old new s = record { es = s.es; running = s.runs.running refl; asks = s.asks }
 
 -- ---- the words of a frame
 
-module _ (F size : ℕ) (at : List (ℕ × Puddle)) (o word : ℕ) (e : ℕ × Puddle) (log long : OpenLog) (before : Image) (address first : ℕ) (vals held : List ℕ) (fault : Option HostFault) (old new : State) where
+module _ (F size : ℕ) (at : List (ℕ × Puddle)) (o word : ℕ) (e : ℕ × Puddle) (log long : OpenLog) (before : Image) (redo : List Entry) (address first : ℕ) (vals held : List ℕ) (fault : Option HostFault) (old new : State) where
   pub Saves-put : IsPlaced F at → device_words F ≤ size → log.at + LOG_WORDS ≤ frames_at F → slice_get at o ≡ Some e → 1 ≤ length vals → word + length vals ≤ FRAME_WORDS
-      → address ≡ (e.1.base + WORD_BYTES * word) % 2 ^ 64 → first ≡ frame_at F e.0 + word → IsSaving F at log before old.now.words
+      → address ≡ (e.1.base + WORD_BYTES * word) % 2 ^ 64 → first ≡ frame_at F e.0 + word → IsSaving F at log before redo old.now.words
       → ((es : List Entry) → IsGround size log.at (pool_ground F at) → pool_may at address (length vals) ≡ true → pool_place F at address ≡ Some first
       → IsRunning (pool_ground F at) log es before old.now.words → Runs (pool_ground F at) long (es ++ undo_entry address held ∷ []) before (placed first vals) fault old new)
-      → Saves F at long before (placed (frame_at F e.0 + word) vals) fault old new
+      → Saves F at long before redo (placed (frame_at F e.0 + word) vals) fault old new
   Saves-put is_placed device apart there some few is_address is_first s runs =
       let legal = all_there (λ d. is_legal_base d.1.base ≡ true) at o e is_placed.legal there in
       let named : address ≡ e.1.base + WORD_BYTES * word = is_address ∙ no_wrap e.1.base word legal (omega arith) in
@@ -95,5 +94,23 @@ module _ (F size : ℕ) (at : List (ℕ × Puddle)) (o word : ℕ) (e : ℕ × P
         es = s.es ++ undo_entry address held ∷ [];
         runs = subst (λ k. Runs (pool_ground F at) long (s.es ++ undo_entry address held ∷ []) before (placed k vals) fault old new) is_first
             (runs s.es (is_ground F size log.at at is_placed device apart) may place s.running);
-        undo_only = undo_more s.es address held s.undo_only;
+        asks = asked-undo s.es address held ∙ s.asks;
       }
+
+-- ---- a value asked for in a frame
+
+pub Saves-asked : (F size : ℕ) (at : List (ℕ × Puddle)) (word : ℕ) (e : ℕ × Puddle) (o : ℕ) (log long : OpenLog) (before : Image) (redo : List Entry) (address value : ℕ) (fault : Option HostFault) (old new : State)
+    → IsPlaced F at → device_words F ≤ size → log.at + LOG_WORDS ≤ frames_at F → slice_get at o ≡ Some e → word < FRAME_WORDS → address ≡ (e.1.base + WORD_BYTES * word) % 2 ^ 64
+    → IsSaving F at log before redo old.now.words
+    → ((es : List Entry) → IsGround size log.at (pool_ground F at) → pool_may at address 1 ≡ true → IsRunning (pool_ground F at) log es before old.now.words
+    → Runs (pool_ground F at) long (es ++ redo_entry address (value ∷ []) ∷ []) before nothing fault old new)
+    → Saves F at long before (redo ++ redo_entry (e.1.base + WORD_BYTES * word) (value ∷ []) ∷ []) nothing fault old new
+Saves-asked F size at word e o log long before redo address value fault old new is_placed device apart there below is_address s runs =
+    let legal = all_there (λ d. is_legal_base d.1.base ≡ true) at o e is_placed.legal there in
+    let named : address ≡ e.1.base + WORD_BYTES * word = is_address ∙ no_wrap e.1.base word legal below in
+    let may = ap (λ a. pool_may at a 1) named ∙ may_name_words F at is_placed o word e there 1 (omega arith) (omega arith) in
+    record {
+      es = s.es ++ redo_entry address (value ∷ []) ∷ [];
+      runs = runs s.es (is_ground F size log.at at is_placed device apart) may s.running;
+      asks = asked-redo s.es address (value ∷ []) ∙ ap₂ (λ (es : List Entry) (a : ℕ). es ++ redo_entry a (value ∷ []) ∷ []) s.asks named;
+    }

@@ -4,7 +4,7 @@ use Rattle.std.specs.Prelude.{unwrap_or}
 use Rattle.std.proofs.lemmas.Bool.{cases_eq, cond-true, cond-false}
 use Rattle.std.proofs.lemmas.Option.{none-some, same_Some}
 use Rattle.pm_model.specs.Changes.{Write}
-use Rattle.pm_model.specs.Masks.{masked_image, no_mask}
+use Rattle.pm_model.specs.Masks.{masked_image}
 use Rattle.pm_model.proofs.Masks.{masked_image-there, masked_image-elsewhere}
 use Rattle.pud_defs.specs.declared.layout.TheConstants.{DAEMON_LOG}
 use Rattle.pud_defs.specs.Allowed.{puddle_word}
@@ -12,7 +12,6 @@ use Rattle.pud_defs.specs.Entries.{Log, log_of, is_idle_gate}
 use Rattle.pud_defs.specs.Image.{Image}
 use Rattle.pud_defs.specs.Replay.{device_word, new_value}
 use Rattle.pud_defs.specs.Settled.{ALL_LOGS, log_number_at}
-use Rattle.pud_defs.specs.SoundTables.{HasSoundTables}
 use Rattle.pud_defs.specs.Spaces.{is_closed_log}
 use Rattle.pud_defs.specs.Tables.{tables_of}
 use Rattle.pud_defs.specs.World.{StoredWorld, idle_world_of}
@@ -21,41 +20,19 @@ use Rattle.pud_defs.proofs.Spaces.{is_closed_log-same}
 use Rattle.word_transaction.specs.Running.{HasPlaces}
 use Rattle.hybrid_tx.specs.Grounds.{pool_mine, pool_ground}
 use Rattle.hybrid_tx.specs.Masks.{is_open_record, open_mask, IsOpenPool, IsLeftOpen}
-use Rattle.hybrid_tx.specs.ManyOpen.{OpenTransaction, Opens, none_open, with_transaction, open_masks, AreOpenPools, HasRecords, AreLeftOpen, IsOneMore, MasksAll}
+use Rattle.hybrid_tx.specs.ManyOpen.{OpenTransaction, Opens, with_transaction, open_masks, AreOpenPools, HasRecords, AreLeftOpen, IsOneMore, MasksAll}
 use Rattle.hybrid_tx.proofs.OpenMasks.{mask_of_mine, mask_of_record, open_record_place}
 use Rattle.hybrid_tx.proofs.OpenPools.{open_on_device}
-use Rattle.hybrid_tx.proofs.OpenIdle.{idle_world_masked, idle_world_unmasked, sound_masked, places_masked}
-use Rattle.hybrid_tx.proofs.ManyMasks.{masks_below, masks_beside_log, masks_same, open_masks_all}
+use Rattle.hybrid_tx.proofs.OpenIdle.{idle_world_masked, idle_world_unmasked, places_masked}
+use Rattle.hybrid_tx.proofs.ManyMasks.{masks_below, masks_beside_log, open_masks_all}
 
 -- ---- one of them beside the others
 
--- the tables are sound, and the places of each are those of the tables
+-- the places of each are those of the tables
 module _ (size F : ℕ) (s : StoredWorld) (opens : Opens) (j : Image) (frames : F ≡ s.frames) (are : AreOpenPools F opens) (idle : is_idle_gate (j DAEMON_LOG) ≡ true)
     (records : HasRecords opens j) (world : idle_world_of size (masked_image (open_masks F opens) j) ≡ Some s) where
-  pub sound_beside : HasSoundTables s.next_number (tables_of F j)
-  sound_beside = sound_masked size F s opens (open_masks F opens) j frames are (open_masks_all F opens j are records) idle records world
-
   pub places_beside : (n : ℕ) (o : OpenTransaction) → opens n ≡ Some o → HasPlaces (pool_ground F o.pool.at) (puddle_word (tables_of F j))
   places_beside = places_masked size F s opens (open_masks F opens) j frames are (open_masks_all F opens j are records) idle records world
-
--- ---- none
-
-module _ (F : ℕ) where
-  pub none_are_open : AreOpenPools F none_open
-  none_are_open = record {
-    number = λ n o there. absurd (none-some o there);
-    pool = λ n o there. absurd (none-some o there);
-    slots = λ n m o q here there same. absurd (none-some o here);
-  }
-
-  pub none_left_open : (image : Image) → AreLeftOpen F none_open image
-  none_left_open image = record { each = λ n o there. absurd (none-some o there) }
-
-  -- no word is masked
-  pub masks_of_no_one : open_masks F none_open ≡ no_mask
-  masks_of_no_one = masks_same F none_open (open_masks F none_open) no_mask
-      (open_masks_all F none_open (λ (k : ℕ). 0) none_are_open (record { each = λ n o there k of. absurd (none-some o there) }))
-      (record { has = λ n o there k v is. absurd (none-some o there); each = λ k v is. absurd (none-some v is) })
 
 -- ---- one more
 

@@ -140,7 +140,7 @@ module _ (types : List (ℕ × ℕ)) (F : ℕ) (at : List (ℕ × Puddle)) (imag
   ]
 
   module _ (free : place_word st.word p SLOT_SERIAL_WORD ≡ 0) (next : serial ≡ next_serial_of st) (defined : map_of type_id types ≡ Some m) where
-    made : IsMade types st later p type_id m
+    pub made : IsMade types st later p type_id m
     made =
         let low = slice_get_within at slot.ordinal (slot.frame, of.puddle) of.there in
         let slots = of.below in

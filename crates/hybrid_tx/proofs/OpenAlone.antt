@@ -3,8 +3,8 @@ use Rattle.std.proofs.Common.{◌≡◌, ℕ, true, Some, None, refl, sym, ap, s
 use Rattle.std.proofs.lemmas.Bool.{cond-true}
 use Rattle.std.proofs.lemmas.Option.{cond_some}
 use Rattle.pud_defs.specs.Image.{Image}
-use Rattle.hybrid_tx.specs.Masks.{OpenPool, is_open_record, open_mask, IsOpenPool, IsLeftOpen}
-use Rattle.hybrid_tx.specs.ManyOpen.{OpenTransaction, Opens, none_open, with_transaction, AreOpenPools, HasRecords, AreLeftOpen, MasksAll}
+use Rattle.hybrid_tx.specs.Masks.{OpenPool, is_open_record, open_mask, IsOpenPool}
+use Rattle.hybrid_tx.specs.ManyOpen.{OpenTransaction, Opens, none_open, with_transaction, AreOpenPools, HasRecords, MasksAll}
 
 abbrev pub the_one : OpenPool → Image → OpenTransaction
 the_one p before = record { pool = p; before = before }
@@ -39,6 +39,3 @@ module _ (p : OpenPool) (before : Image) where
           let e = (alone_is n o is).1 in
           records k (ap (λ (t : OpenTransaction). is_open_record t.pool k) e ∙ of) ∙ ap (λ (t : OpenTransaction). t.before k) e;
     }
-
-    pub left_alone : (F : ℕ) → IsLeftOpen F p before image → AreLeftOpen F (alone p before) image
-    left_alone F left = record { each = λ n o is. subst (λ (t : OpenTransaction). IsLeftOpen F t.pool t.before image) (alone_is n o is).1 left }

@@ -17,14 +17,13 @@ use Rattle.pud_defs.proofs.SoundChanged.{sound_from}
 use Rattle.word_transaction.specs.Running.{SettlesTo}
 use Rattle.word_transaction.proofs.Images.{SettlesTo-local}
 use Rattle.hybrid_tx.specs.Grounds.{pool_ground}
-use Rattle.hybrid_tx.specs.Masks.{OpenPool, open_mask, IsOpenPool, IsLeftOpen}
+use Rattle.hybrid_tx.specs.Masks.{open_mask}
 use Rattle.hybrid_tx.specs.ManyOpen.{OpenTransaction, Opens, open_masks, AreOpenPools, HasRecords, AreLeftOpen, MasksAll}
 use Rattle.hybrid_tx.proofs.OpenMasks.{mask_of_mine, mask_of_log}
 use Rattle.hybrid_tx.proofs.OpenSettled.{GivesOwn, same_tables}
 use Rattle.hybrid_tx.proofs.OpenPools.{gives_own}
 use Rattle.hybrid_tx.proofs.ManyMasks.{masks_below, left_records, open_masks_all}
 use Rattle.hybrid_tx.proofs.OpenImages.{masked_word_stays, record_stays, like_masked, stands, world_of_own, none_refused_of_own}
-use Rattle.hybrid_tx.proofs.OpenAlone.{alone, are_alone, masks_alone, left_alone}
 
 module _ (size F : ℕ) (s : StoredWorld) (opens : Opens) (mask : Write) (j : Image) (frames : F ≡ s.frames) (are : AreOpenPools F opens) (all : MasksAll F opens mask)
     (world : idle_world_of size (masked_image mask j) ≡ Some s) where
@@ -84,15 +83,3 @@ module _ (size F : ℕ) (s : StoredWorld) (opens : Opens) (j : Image) (frames : 
   -- And no log is refused in it.
   pub none_refused_with_many : (number : ℕ) → number < ALL_LOGS → is_refused_log (frames_of j) (settled_by DAEMON_LOG j) number ≡ false
   none_refused_with_many = none_refused_with_masked size F s opens (open_masks F opens) j frames are all_masked world left
-
--- ---- one
-
-module _ (size F : ℕ) (s : StoredWorld) (p : OpenPool) (before j : Image) (frames : F ≡ s.frames) (opened : IsOpenPool F p before) (left : IsLeftOpen F p before j)
-    (world : idle_world_of size (masked_image (open_mask F p before) j) ≡ Some s) where
-  pub world_with_open : world_of size j ≡ Some s
-  world_with_open =
-      world_with_masked size F s (alone p before) (open_mask F p before) j frames (are_alone p before F opened) (masks_alone p before F) world (left_alone p before j F left)
-
-  pub none_refused_with_open : (number : ℕ) → number < ALL_LOGS → is_refused_log (frames_of j) (settled_by DAEMON_LOG j) number ≡ false
-  none_refused_with_open =
-      none_refused_with_masked size F s (alone p before) (open_mask F p before) j frames (are_alone p before F opened) (masks_alone p before F) world (left_alone p before j F left)

@@ -1,5 +1,5 @@
 -- A transaction on a pool ends, and what images left meanwhile settle to.
-use Rattle.std.proofs.Common.{◌≡◌, ℕ, ◌+◌, ◌≤◌, List, Option, Some, None, refl, ap, ◌∙◌}
+use Rattle.std.proofs.Common.{◌≡◌, ◌≢◌, ℕ, ◌+◌, ◌≤◌, true, false, List, [], ◌∷◌, Option, Some, None, refl, sym, ap, ◌∙◌}
 use Rattle.pm_model.specs.declared.host.HostFault.{HostFault}
 use Rattle.pm_model.specs.Words.{Words, reads}
 use Rattle.pm_model.proofs.Words.{HasOnly-own}
@@ -9,30 +9,56 @@ use Rattle.pud_defs.specs.declared.records.Puddle.{Puddle}
 use Rattle.pud_defs.specs.Layout.{device_words, frames_at}
 use Rattle.pud_defs.specs.Image.{Image}
 use Rattle.pud_defs.specs.Entries.{Entry, log_of}
-use Rattle.pud_defs.specs.Replay.{replayed}
+use Rattle.pud_defs.specs.Replay.{overwritten, replayed}
 use Rattle.pud_defs.specs.Stored.{stored_in}
 use Rattle.pud_defs.specs.Graph.{Graph, graph_of}
+use Rattle.pud_defs.specs.Laters.{Later, with_laters}
 use Rattle.log_store.specs.Store.{OpenLog}
-use Rattle.word_transaction.specs.Ground.{Ground, IsGround, pending}
-use Rattle.word_transaction.specs.Running.{IsRunning, IsIdle, SettlesTo, Closes, Ends}
-use Rattle.word_transaction.proofs.Pending.{pending-undo}
+use Rattle.word_transaction.specs.Ground.{Ground, IsGround, asks, written_in_turn, pending}
+use Rattle.word_transaction.specs.Running.{IsRunning, IsIdle, SettlesTo, Closes, Ends, CanRedo}
+use Rattle.word_transaction.proofs.Pending.{asks-none, pending-in_turn}
 use Rattle.word_transaction.proofs.Ended.{Ends-idle, Closes-idle, IsIdle-reads}
-use Rattle.hybrid_tx.specs.Grounds.{pool_place, pool_ground, IsPlaced}
-use Rattle.hybrid_tx.specs.Transactions.{IsOpenOn, IsAtRest, ClosesOn, EndsOn}
+use Rattle.hybrid_tx.specs.Grounds.{pool_place, pool_ground, IsPlaced, IsRewritten}
+use Rattle.hybrid_tx.specs.Transactions.{AreLaters, IsOpenOn, IsAtRest, ClosesOn, EndsOn}
 use Rattle.hybrid_tx.proofs.PoolGrounds.{is_ground}
 use Rattle.hybrid_tx.proofs.Opening.{stored_in-mine}
+use Rattle.hybrid_tx.proofs.LatersKept.{AreLaters-none}
+use Rattle.hybrid_tx.proofs.LatersApplied.{laters_applied}
 
-module _ (F size : ℕ) (at : List (ℕ × Puddle)) (types : List (ℕ × ℕ)) (log : OpenLog) (before : Image) (undone now : Graph) (fault : Option HostFault) (old new : State)
-    (is_placed : IsPlaced F at) (device : device_words F ≤ size) (apart : log.at + LOG_WORDS ≤ frames_at F) (is_open : IsOpenOn F at types log before undone now old.now.words) where
-  pub EndsOn-ends : ((g : Ground) (es : List Entry) (b : Image) → IsGround size log.at g → IsRunning g log es b old.now.words → ((k : ℕ) → pending g.place es k ≡ None)
-      → Ends g log.at b (reads old.now.words) fault old new) → EndsOn F at types log.at before undone now fault old new
-  EndsOn-ends ends =
+module _ (F size : ℕ) (at : List (ℕ × Puddle)) (types : List (ℕ × ℕ)) (log : OpenLog) (before : Image) (undone now : Graph) (laters : List Later) (fault : Option HostFault) (old new : State)
+    (is_placed : IsPlaced F at) (device : device_words F ≤ size) (apart : log.at + LOG_WORDS ≤ frames_at F) (is_open : IsOpenOn F at types log before undone now laters old.now.words) where
+  abbrev after : Image
+  after = overwritten (pending (pool_place F at) is_open.saving.es) (reads old.now.words)
+
+  -- what is asked for is the redo entries in turn
+  in_turn : after ≡ written_in_turn (pool_place F at) is_open.redo (reads old.now.words)
+  in_turn =
+      let s = is_open.saving in
+      pending-in_turn (pool_ground F at) (pool_place F at) s.es (reads old.now.words) s.running.own
+      ∙ ap (λ (redo : List Entry). written_in_turn (pool_place F at) redo (reads old.now.words)) s.asks
+
+  -- which make the graph with what is asked for
+  graph_by : (ls : List Later) (redo : List Entry) → (ls ≢ [] → IsRewritten at) → AreLaters F at types (reads old.now.words) now ls redo
+      → graph_of types (stored_in F at (written_in_turn (pool_place F at) redo (reads old.now.words))) ≡ Some (with_laters ls now)
+  graph_by [] [] rewritten are = is_open.is
+  graph_by [] (e ∷ es) rewritten are = absurd are
+  graph_by (l ∷ ls) redo rewritten are = laters_applied F at types is_placed (rewritten (λ none. cc)) (l ∷ ls) redo (reads old.now.words) now is_open.is are
+
+  some_asked : asks is_open.saving.es ≡ true → laters ≢ []
+  some_asked asked_some none =
+      let empty = AreLaters-none F at types (reads old.now.words) now laters is_open.redo none is_open.are in
+      absurd (let it : true ≡ false = sym asked_some ∙ asks-none is_open.saving.es (is_open.saving.asks ∙ empty) in cc)
+
+  pub EndsOn-ends : (laters ≢ [] → IsRewritten at) → (laters ≢ [] → CanRedo (pool_ground F at) F log.at old.now.words)
+      → ((g : Ground) (es : List Entry) (b : Image) → IsGround size log.at g → IsRunning g log es b old.now.words → (asks es ≡ true → CanRedo g F log.at old.now.words)
+      → Ends g log.at b (overwritten (pending g.place es) (reads old.now.words)) fault old new) → EndsOn F at types log.at before undone (with_laters laters now) fault old new
+  EndsOn-ends rewritten can ends =
       let s = is_open.saving in
       record {
-        after = reads old.now.words;
-        ends = ends (pool_ground F at) s.es before (is_ground F size log.at at is_placed device apart) s.running (λ k. pending-undo (pool_place F at) s.es k s.undo_only);
+        after = after;
+        ends = ends (pool_ground F at) s.es before (is_ground F size log.at at is_placed device apart) s.running (λ asked_some. can (some_asked asked_some));
         was = is_open.was;
-        is = is_open.is;
+        is = ap (λ (i : Image). graph_of types (stored_in F at i)) in_turn ∙ graph_by laters is_open.redo rewritten is_open.are;
       }
 
   pub ClosesOn-closes : ((es : List Entry) → IsGround size log.at (pool_ground F at) → IsRunning (pool_ground F at) log es before old.now.words → Closes (pool_ground F at) log.at before fault old new)

@@ -3,7 +3,7 @@ use Rattle.std.proofs.Common.{◌≡◌, inl, inr, ℕ, zero, suc, ◌+◌, ◌-
 use Rattle.std.specs.Prelude.{slice_get}
 use Rattle.std.specs.List.{list_any}
 use Rattle.std.specs.Option.{option_or}
-use Rattle.std.proofs.lemmas.Bool.{cases_Bool, cond-true, cond-false, and_parts, and_from, and_left, and_right, or_left, or_right, leb-true, ltb-true, eqb-true, le-leb, lt-ltb, lt-leb, le-ltb}
+use Rattle.std.proofs.lemmas.Bool.{cases_Bool, cond-true, cond-false, and_parts, and_from, and_left, and_right, or_left, or_right, leb-true, ltb-true, eqb-true, le-leb, lt-ltb, le-ltb}
 use Rattle.std.proofs.lemmas.Option.{none-some, same_Some, slice_get-map, slice_get_within, get_or_from_slice_get}
 use Rattle.std.proofs.lemmas.List.Elements.{All-get_or}
 use Rattle.pud_defs.specs.declared.layout.TheConstants.{LOG_WORDS, FRAME_WORDS}
@@ -62,7 +62,8 @@ module _ (base address : ℕ) (low : base ≤ address) (high : address < base + 
         cond-false _ _ _ (and_right (leb other address) _ (le-ltb address (other + RANGE_BYTES) past))
   ]
 
-abbrev bases_of : List (ℕ × Puddle) → List ℕ
+-- the bases of puddles, by their ordinals
+abbrev pub bases_of : List (ℕ × Puddle) → List ℕ
 bases_of at = map (λ (d : Puddle). d.base) (map (λ (e : ℕ × Puddle). e.1) at)
 
 pub base_there : (at : List (ℕ × Puddle)) (i : ℕ) (e : ℕ × Puddle) → slice_get at i ≡ Some e → slice_get (bases_of at) i ≡ Some e.1.base

@@ -2,4 +2,5 @@ pub mod Grounds
 pub mod ManyOpen
 pub mod Masks
 pub mod Stores
+pub mod Laters
 pub mod Transactions

@@ -1,41 +1,44 @@
-//! What a transaction changes of objects: a field is set, and an object is made.
+//! What a transaction changes of objects: a field or the root is set, and an object is made or freed.
 #![tactic(auto)]
 
-ghost use Rattle.std.specs.Prelude.{◌≡◌, ◌≢◌, ◌⊎◌, ◌+◌, ◌*◌, ◌<◌, ◌≤◌, ℕ, List, true, All, Option, Result, IfOk, OnErr, length};
+ghost use Rattle.std.specs.Prelude.{◌≡◌, ◌≢◌, ◌⊎◌, ◌+◌, ◌*◌, ◌<◌, ◌≤◌, ℕ, List, [], ◌∷◌, true, false, All, Option, Result, IfOk, OnErr, length};
 ghost use Rattle.pm_model.specs.Words.{reads};
 ghost use Rattle.pm_model.specs.Counts.{after_fault, fault_of};
-ghost use Rattle.pm_model.specs.Changes.{Changes};
+ghost use Rattle.pm_model.specs.Changes.{placed, Changes};
 ghost use Rattle.pud_defs.specs.declared.layout.TheConstants.{LOG_WORDS, LOG_ENTRY_WORDS, MAX_FRAMES, MAX_FIELDS, NUMBER_LIMIT, SET_UNITS, NEW_UNITS};
 ghost use Rattle.pud_defs.specs.declared.space.TheConstants.{SLOT_SERIAL_WORD};
 ghost use Rattle.pud_defs.specs.Image.{Image};
 ghost use Rattle.pud_defs.specs.Layout.{device_words, frames_at};
 ghost use Rattle.pud_defs.specs.Bases.{is_legal_base};
 ghost use Rattle.pud_defs.specs.Types.{map_of};
+ghost use Rattle.pud_defs.specs.Entries.{Entry};
 ghost use Rattle.pud_defs.specs.Stored.{IsOnDevice, stored_in, place_word};
 ghost use Rattle.pud_defs.specs.Graph.{Graph, graph_of};
 ghost use Rattle.log_store.specs.Store.{longer};
-ghost use Rattle.pud_defs.specs.GraphChanges.{with_field, with_new, blank_object};
+ghost use Rattle.pud_defs.specs.GraphChanges.{with_field, with_new, blank_object, without_object, with_root};
 ghost use Rattle.graph_laws.specs.Slots.{AreAllLive, IsLowestFreeSlot};
 ghost use Rattle.graph_read.specs.Reading.{place_at, place_in_pool, IsSlotOf};
+ghost use Rattle.object_alloc.specs.Alloc.{serial_word_at};
 ghost use Rattle.word_transaction.specs.Running.{ByTransaction};
 ghost use Rattle.hybrid_tx.specs.Grounds.{pool_ground, IsPlaced, IsRewritten};
+ghost use Rattle.pud_defs.specs.Laters.{Later, laters_name};
 ghost use Rattle.hybrid_tx.specs.Stores.{address_at, word_for, new_words};
-ghost use Rattle.hybrid_tx.specs.Transactions.{MaySet, IsOpenOn, RunsOn};
+ghost use Rattle.hybrid_tx.specs.Transactions.{MayName, MaySet, MayFree, IsSaving, IsOpenOn, Saves, RunsOn};
 
 use crate::Tx;
 use graph_read::find_serial;
-use object_alloc::{AllocFault, alloc_slot};
+use object_alloc::{AllocFault, alloc_slot, free_slot};
 use pm_model::{Host, HostFault};
 use pud_defs::objects::Val;
 use pud_defs::records::{Puddle, Slot};
 use pud_defs::space::{
-    NEXT_SERIAL_WORD, SLOT_FIELDS_WORD, SLOT_SERIAL_WORD, SLOT_TYPE_WORD, SLOT_WORDS, WORD_BYTES,
-    slot_at,
+    NEXT_SERIAL_WORD, ROOT_WORD, SLOT_FIELDS_WORD, SLOT_SERIAL_WORD, SLOT_TYPE_WORD, SLOT_WORDS,
+    WORD_BYTES, frame_at, slot_at,
 };
 use puddle_header::next_serial;
 
 /// The address of a slot, over the pool's bases.
-fn slot_address(pool: &[(u32, Puddle)], at: &Slot) -> u64
+pub(crate) fn slot_address(pool: &[(u32, Puddle)], at: &Slot) -> u64
     requires within { IsSlotOf pool.now at.now }
     ensures address { All (λ e. is_legal_base e.1.base ≡ true) pool.now → result ≡ address_at pool.now (place_at at.now) }
 {
@@ -47,7 +50,7 @@ fn slot_address(pool: &[(u32, Puddle)], at: &Slot) -> u64
 
 /// The word that stands for a value: the number, 0 for null, or the address of the serial's object, None exactly where there
 /// is none.
-fn word_for<H: Host>(
+pub(crate) fn word_for<H: Host>(
     h: &mut H,
     frames: u32,
     pool: &[(u32, Puddle)],
@@ -91,9 +94,9 @@ impl Tx {
     /// Gives field `f` of the object of serial `s` another value.
     ///
     /// The field is below 30, the log lies before the frames, and it has room for three units. Where the object is live, its
-    /// type has the field and the field may hold the value, the pool's graph has it so at `Ok`; each image left until the
-    /// transaction is committed is, with the log replayed, as at the beginning. Where no object has the serial, or none has
-    /// the one that is to be named, nothing is done. The only errors are the host's own. Two fences.
+    /// type has the field and the field may hold the value, the pool's graph has it so at `Ok`, and what is asked for later
+    /// stays; each image left until the transaction is committed is, with the log replayed, as at the beginning. Where no object
+    /// has the serial, or none has the one that is to be named, nothing is done. The only errors are the host's own. Two fences.
     pub fn set<H: Host>(
         &mut self,
         h: &mut H,
@@ -111,11 +114,11 @@ impl Tx {
         requires room { self.old.used + SET_UNITS ≤ LOG_ENTRY_WORDS }
         ensures at { self.new.at ≡ self.old.at }
         ensures changes { H.tells → Changes (ByTransaction (pool_ground frames pool.now) self.old.at) (fault_of result) (H.state h.old) (H.state h.new) }
-        ensures runs { H.tells → (types : List (ℕ × ℕ)) (before : Image) (undone : Graph) (now : Graph) → IsPlaced frames pool.now → IsRewritten pool.now
-            → IsOpenOn frames pool.now types self.old before undone now (H.state h.old).now.words → MaySet types now s f x
-            → RunsOn frames pool.now types self.new before undone (with_field s f x now) (fault_of result) (H.state h.old) (H.state h.new) }
-        ensures counts { H.tells → (types : List (ℕ × ℕ)) (before : Image) (undone : Graph) (now : Graph) → IsPlaced frames pool.now
-            → IsOpenOn frames pool.now types self.old before undone now (H.state h.old).now.words → MaySet types now s f x
+        ensures runs { H.tells → (types : List (ℕ × ℕ)) (before : Image) (undone : Graph) (now : Graph) (laters : List Later) → IsPlaced frames pool.now → IsRewritten pool.now
+            → IsOpenOn frames pool.now types self.old before undone now laters (H.state h.old).now.words → MaySet types now s f x
+            → RunsOn frames pool.now types self.new before undone (with_field s f x now) laters (fault_of result) (H.state h.old) (H.state h.new) }
+        ensures counts { H.tells → (types : List (ℕ × ℕ)) (before : Image) (undone : Graph) (now : Graph) (laters : List Later) → IsPlaced frames pool.now
+            → IsOpenOn frames pool.now types self.old before undone now laters (H.state h.old).now.words → MaySet types now s f x
             → IfOk result (λ _. self.new ≡ longer SET_UNITS self.old) }
         ensures nothing { H.tells → All (λ e. is_legal_base e.1.base ≡ true) pool.now
             → (place_in_pool frames pool.now (reads (H.state h.old).now.words) s ≡ Option.None) ⊎ (word_for frames pool.now (reads (H.state h.old).now.words) x ≡ Option.None)
@@ -150,10 +153,10 @@ impl Tx {
         requires room { self.old.used + NEW_UNITS ≤ LOG_ENTRY_WORDS }
         ensures at { self.new.at ≡ self.old.at }
         ensures changes { H.tells → Changes (ByTransaction (pool_ground frames pool.now) self.old.at) (fault_of result) (H.state h.old) (H.state h.new) }
-        ensures runs { H.tells → (types : List (ℕ × ℕ)) (m : ℕ) (before : Image) (undone : Graph) (now : Graph) → IsPlaced frames pool.now
-            → IsOpenOn frames pool.now types self.old before undone now (H.state h.old).now.words → map_of t types ≡ Option.Some m → now.next_serial < NUMBER_LIMIT
+        ensures runs { H.tells → (types : List (ℕ × ℕ)) (m : ℕ) (before : Image) (undone : Graph) (now : Graph) (laters : List Later) → IsPlaced frames pool.now
+            → IsOpenOn frames pool.now types self.old before undone now laters (H.state h.old).now.words → map_of t types ≡ Option.Some m → now.next_serial < NUMBER_LIMIT
             → place_word (stored_in frames pool.now (reads (H.state h.old).now.words)).word (place_at at.now) SLOT_SERIAL_WORD ≡ 0
-            → RunsOn frames pool.now types self.new before undone (with_new (blank_object t m) now) (fault_of result) (H.state h.old) (H.state h.new) }
+            → RunsOn frames pool.now types self.new before undone (with_new (blank_object t m) now) laters (fault_of result) (H.state h.old) (H.state h.new) }
         ensures serial { H.tells → (types : List (ℕ × ℕ)) (now : Graph) → graph_of types (stored_in frames pool.now (reads (H.state h.old).now.words)) ≡ Option.Some now
             → IfOk result (λ serial. serial ≡ now.next_serial) }
         ensures counts { IfOk result (λ _. self.new ≡ longer NEW_UNITS self.old) }
@@ -178,8 +181,8 @@ impl Tx {
     /// one of the pool, or 0 where no slot is free, and then nothing is done.
     ///
     /// The log lies before the frames, and has room for 37 units. Where the type is defined and the next serial is below 2^63,
-    /// the pool's graph has the object at `Ok`; each image left until the transaction is committed is, with the log replayed,
-    /// as at the beginning. The only errors are the host's own. Four fences.
+    /// the pool's graph has the object at `Ok`, and what is asked for later stays; each image left until the transaction is
+    /// committed is, with the log replayed, as at the beginning. The only errors are the host's own. Four fences.
     pub fn new<H: Host>(
         &mut self,
         h: &mut H,
@@ -194,10 +197,10 @@ impl Tx {
         requires room { self.old.used + NEW_UNITS ≤ LOG_ENTRY_WORDS }
         ensures at { self.new.at ≡ self.old.at }
         ensures changes { H.tells → Changes (ByTransaction (pool_ground frames pool.now) self.old.at) (fault_of result) (H.state h.old) (H.state h.new) }
-        ensures runs { H.tells → (types : List (ℕ × ℕ)) (m : ℕ) (before : Image) (undone : Graph) (now : Graph) → IsPlaced frames pool.now
-            → IsOpenOn frames pool.now types self.old before undone now (H.state h.old).now.words → map_of t types ≡ Option.Some m → now.next_serial < NUMBER_LIMIT
+        ensures runs { H.tells → (types : List (ℕ × ℕ)) (m : ℕ) (before : Image) (undone : Graph) (now : Graph) (laters : List Later) → IsPlaced frames pool.now
+            → IsOpenOn frames pool.now types self.old before undone now laters (H.state h.old).now.words → map_of t types ≡ Option.Some m → now.next_serial < NUMBER_LIMIT
             → (AreAllLive (stored_in frames pool.now (reads (H.state h.old).now.words)) → ⊥)
-            → RunsOn frames pool.now types self.new before undone (with_new (blank_object t m) now) (fault_of result) (H.state h.old) (H.state h.new) }
+            → RunsOn frames pool.now types self.new before undone (with_new (blank_object t m) now) laters (fault_of result) (H.state h.old) (H.state h.new) }
         ensures serial { H.tells → (types : List (ℕ × ℕ)) (now : Graph) → graph_of types (stored_in frames pool.now (reads (H.state h.old).now.words)) ≡ Option.Some now
             → (AreAllLive (stored_in frames pool.now (reads (H.state h.old).now.words)) → ⊥) → IfOk result (λ serial. serial ≡ now.next_serial) }
         ensures counts { H.tells → (AreAllLive (stored_in frames pool.now (reads (H.state h.old).now.words)) → ⊥) → IfOk result (λ _. self.new ≡ longer NEW_UNITS self.old) }
@@ -209,6 +212,109 @@ impl Tx {
             Ok(at) => self.make(h, frames, pool, &at, t),
             Err(AllocFault::Full) => Ok(0),
             Err(AllocFault::Host(fault)) => Err(fault),
+        }
+    }
+
+    /// Keeps in the log the serial of a slot, and then frees the slot.
+    fn free_at<H: Host>(
+        &mut self,
+        h: &mut H,
+        frames: u32,
+        pool: &[(u32, Puddle)],
+        at: Slot,
+    ) -> Result<(), HostFault>
+        requires few { frames ≤ MAX_FRAMES }
+        requires device { device_words frames ≤ (H.counts h.old).size }
+        requires known { IsOnDevice frames pool.now }
+        requires place { self.old.at + LOG_WORDS ≤ frames_at frames }
+        requires within { IsSlotOf pool.now at }
+        requires room { self.old.used + SET_UNITS ≤ LOG_ENTRY_WORDS }
+        ensures at { self.new.at ≡ self.old.at }
+        ensures done { IfOk result (λ _. self.new ≡ longer SET_UNITS self.old) }
+        ensures changes { H.tells → Changes (ByTransaction (pool_ground frames pool.now) self.old.at) (fault_of result) (H.state h.old) (H.state h.new) }
+        ensures saves { H.tells → IsPlaced frames pool.now → (before : Image) (redo : List Entry) → IsSaving frames pool.now self.old before redo (H.state h.old).now.words
+            → Saves frames pool.now self.new before redo (placed (serial_word_at frames at) (0 ∷ [])) (fault_of result) (H.state h.old) (H.state h.new) }
+        ensures cause { H.counts h.new ≡ after_fault (fault_of result) (H.counts h.old) }
+    {
+        let serial = slot_at(at.slot) + SLOT_SERIAL_WORD;
+        let first = frame_at(frames, at.frame) + serial;
+        self.words.save(h, slot_address(pool, &at), first, 1)?;
+        free_slot(h, frames, at)
+    }
+
+    /// Frees the object of serial `s`: its slot may hold a new one from then on.
+    ///
+    /// The log lies before the frames, and it has room for three units. Where the object is live, nothing holds it, and nothing
+    /// that is asked for later names it, the pool's graph is without it at `Ok`, and what is asked for stays; each image left
+    /// until the transaction is committed is, with the log replayed, as at the beginning. Where no object has the serial nothing
+    /// is done. The only errors are the host's own. Two fences.
+    pub fn free<H: Host>(
+        &mut self,
+        h: &mut H,
+        frames: u32,
+        pool: &[(u32, Puddle)],
+        s: u64,
+    ) -> Result<(), HostFault>
+        requires few { frames ≤ MAX_FRAMES }
+        requires device { device_words frames ≤ (H.counts h.old).size }
+        requires known { IsOnDevice frames pool.now }
+        requires place { self.old.at + LOG_WORDS ≤ frames_at frames }
+        requires room { self.old.used + SET_UNITS ≤ LOG_ENTRY_WORDS }
+        ensures at { self.new.at ≡ self.old.at }
+        ensures changes { H.tells → Changes (ByTransaction (pool_ground frames pool.now) self.old.at) (fault_of result) (H.state h.old) (H.state h.new) }
+        ensures runs { H.tells → (types : List (ℕ × ℕ)) (before : Image) (undone : Graph) (now : Graph) (laters : List Later) → IsPlaced frames pool.now
+            → IsOpenOn frames pool.now types self.old before undone now laters (H.state h.old).now.words → MayFree now s → laters_name s laters ≡ false
+            → RunsOn frames pool.now types self.new before undone (without_object s now) laters (fault_of result) (H.state h.old) (H.state h.new) }
+        ensures counts { H.tells → (types : List (ℕ × ℕ)) (before : Image) (undone : Graph) (now : Graph) (laters : List Later)
+            → IsOpenOn frames pool.now types self.old before undone now laters (H.state h.old).now.words → MayFree now s
+            → IfOk result (λ _. self.new ≡ longer SET_UNITS self.old) }
+        ensures nothing { H.tells → place_in_pool frames pool.now (reads (H.state h.old).now.words) s ≡ Option.None
+            → (H.state h.new ≡ H.state h.old) × (self.new ≡ self.old) }
+        ensures cause { H.counts h.new ≡ after_fault (fault_of result) (H.counts h.old) }
+    {
+        match find_serial(h, frames, pool, s)? {
+            Some(at) => self.free_at(h, frames, pool, at),
+            None => Ok(()),
+        }
+    }
+
+    /// Makes the object of serial `s` the pool's root, or takes the root away with 0.
+    ///
+    /// The log lies before the frames, and it has room for three units. Where `s` is 0 or its object is live, it is the root of
+    /// the pool's graph at `Ok`, and what is asked for later stays; each image left until the transaction is committed is, with
+    /// the log replayed, as at the beginning. Where no object has the serial, or the pool has no puddle, nothing is done. The
+    /// only errors are the host's own. Two fences.
+    pub fn root<H: Host>(
+        &mut self,
+        h: &mut H,
+        frames: u32,
+        pool: &[(u32, Puddle)],
+        s: u64,
+    ) -> Result<(), HostFault>
+        requires few { frames ≤ MAX_FRAMES }
+        requires device { device_words frames ≤ (H.counts h.old).size }
+        requires known { IsOnDevice frames pool.now }
+        requires place { self.old.at + LOG_WORDS ≤ frames_at frames }
+        requires room { self.old.used + SET_UNITS ≤ LOG_ENTRY_WORDS }
+        ensures at { self.new.at ≡ self.old.at }
+        ensures changes { H.tells → Changes (ByTransaction (pool_ground frames pool.now) self.old.at) (fault_of result) (H.state h.old) (H.state h.new) }
+        ensures runs { H.tells → (types : List (ℕ × ℕ)) (before : Image) (undone : Graph) (now : Graph) (laters : List Later) → IsPlaced frames pool.now → IsRewritten pool.now
+            → IsOpenOn frames pool.now types self.old before undone now laters (H.state h.old).now.words → MayName now s
+            → RunsOn frames pool.now types self.new before undone (with_root s now) laters (fault_of result) (H.state h.old) (H.state h.new) }
+        ensures counts { H.tells → (types : List (ℕ × ℕ)) (before : Image) (undone : Graph) (now : Graph) (laters : List Later) → IsPlaced frames pool.now
+            → IsOpenOn frames pool.now types self.old before undone now laters (H.state h.old).now.words → MayName now s
+            → IfOk result (λ _. self.new ≡ longer SET_UNITS self.old) }
+        ensures nothing { H.tells → All (λ e. is_legal_base e.1.base ≡ true) pool.now
+            → (length pool.now ≡ 0) ⊎ (word_for frames pool.now (reads (H.state h.old).now.words) (Val.Ref s) ≡ Option.None)
+            → (H.state h.new ≡ H.state h.old) × (self.new ≡ self.old) }
+        ensures cause { H.counts h.new ≡ after_fault (fault_of result) (H.counts h.old) }
+    {
+        if pool.is_empty() {
+            return Ok(());
+        }
+        match word_for(h, frames, pool, Val::Ref(s))? {
+            Some(v) => self.put_in_frame(h, frames, pool, 0, ROOT_WORD, &[v]),
+            None => Ok(()),
         }
     }
 }

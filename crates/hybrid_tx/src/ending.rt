@@ -1,43 +1,54 @@
 //! How a transaction ends: committed, undone, or lost.
 #![tactic(auto)]
 
-ghost use Rattle.std.specs.Prelude.{◌≡◌, ◌+◌, ◌≤◌, ℕ, List, Option};
+ghost use Rattle.std.specs.Prelude.{◌≡◌, ◌≢◌, ◌+◌, ◌≤◌, ℕ, List, [], false, Option};
 ghost use Rattle.pm_model.specs.Words.{reads};
 ghost use Rattle.pm_model.specs.Counts.{after_fault, fault_of};
 ghost use Rattle.pm_model.specs.Changes.{Changes};
 ghost use Rattle.pud_defs.specs.declared.layout.TheConstants.{LOG_WORDS, LOG_ENTRY_WORDS};
 ghost use Rattle.pud_defs.specs.declared.records.Puddle.{Puddle};
 ghost use Rattle.pud_defs.specs.Image.{Image};
+ghost use Rattle.pud_defs.specs.Entries.{Entry};
 ghost use Rattle.pud_defs.specs.Layout.{device_words, frames_at};
 ghost use Rattle.pud_defs.specs.Tables.{tables_of};
 ghost use Rattle.pud_defs.specs.Allowed.{puddle_word};
 ghost use Rattle.pud_defs.specs.Graph.{Graph};
+ghost use Rattle.pud_defs.specs.Laters.{Later, with_laters};
+ghost use Rattle.log_store.specs.Store.{IsOpen};
 ghost use Rattle.log_replay.specs.Replaying.{HasPuddleTable, Anything};
-ghost use Rattle.word_transaction.specs.Running.{ByCommit, HasPlaces, HasOneTable};
-ghost use Rattle.hybrid_tx.specs.Grounds.{pool_ground, IsPlaced};
+ghost use Rattle.word_transaction.specs.Ground.{asks};
+ghost use Rattle.word_transaction.specs.Running.{ByCommit, HasPlaces, HasOneTable, CanRedo};
+ghost use Rattle.hybrid_tx.specs.Grounds.{pool_ground, IsPlaced, IsRewritten};
 ghost use Rattle.hybrid_tx.specs.Transactions.{IsOpenOn, ClosesOn, EndsOn};
 
 use crate::Tx;
 use pm_model::{Host, HostFault};
 
 impl Tx {
-    /// Commits the transaction: what it set and made is durable at `Ok`, and its log is closed.
+    /// Commits the transaction: what it set and made is durable at `Ok`, and then the values that it asked for later, in turn; its
+    /// log is closed.
     ///
-    /// The log lies in the device, before the frames. Each image left meanwhile is, with the log replayed, as at the
-    /// beginning, or has all that was changed; it is the latter from the word on by which the log's range moves. The only word
-    /// written is the log's gate. The only errors are the host's own.
+    /// The log lies in the device, before the frames, and so does the puddle table of so many frames, at most 1,024. Where values
+    /// are asked for later, that table stands in front of the log, each word of it has one value, the addresses of the pool's
+    /// ranges are by it where the transaction took them to be, and the pool's puddles are rewritten. Each image left meanwhile is,
+    /// with the log replayed, as at the beginning, or has all that was changed and asked for; it is the latter from the word on by
+    /// which the log's range moves. The only errors are the host's own.
     ///
-    /// It takes no load, and three fences.
-    pub fn commit<H: Host>(self, h: &mut H) -> Result<(), HostFault>
-        requires { self.at + LOG_WORDS ≤ (H.counts h.old).size }
-        ensures ends { H.tells → (frames : ℕ) (pool : List (ℕ × Puddle)) (types : List (ℕ × ℕ)) (before : Image) (undone : Graph) (now : Graph) → IsPlaced frames pool
-            → device_words frames ≤ (H.counts h.old).size → self.at + LOG_WORDS ≤ frames_at frames → IsOpenOn frames pool types self before undone now (H.state h.old).now.words
-            → EndsOn frames pool types self.at before undone now (fault_of result) (H.state h.old) (H.state h.new) }
-        ensures gate { H.tells → Changes (ByCommit self) (fault_of result) (H.state h.old) (H.state h.new) }
+    /// It reads the log's entries up to the first that asks for a value. Where there is none the only word written is the log's
+    /// gate, and it takes three fences; else the loads of a replay, and four fences.
+    pub fn commit<H: Host>(self, h: &mut H, frames: u32) -> Result<(), HostFault>
+        requires log { self.at + LOG_WORDS ≤ (H.counts h.old).size }
+        requires tables { HasPuddleTable frames (H.counts h.old).size }
+        ensures ends { H.tells → (pool : List (ℕ × Puddle)) (types : List (ℕ × ℕ)) (before : Image) (undone : Graph) (now : Graph) (laters : List Later) → IsPlaced frames pool
+            → device_words frames ≤ (H.counts h.old).size → self.at + LOG_WORDS ≤ frames_at frames → IsOpenOn frames pool types self before undone now laters (H.state h.old).now.words
+            → (laters ≢ [] → IsRewritten pool) → (laters ≢ [] → CanRedo (pool_ground frames pool) frames self.at (H.state h.old).now.words)
+            → EndsOn frames pool types self.at before undone (with_laters laters now) (fault_of result) (H.state h.old) (H.state h.new) }
+        ensures gate { H.tells → (es : List Entry) → IsOpen self es (H.state h.old).now.words → asks es ≡ false → Changes (ByCommit self) (fault_of result) (H.state h.old) (H.state h.new) }
+        ensures any { H.tells → Changes Anything (fault_of result) (H.state h.old) (H.state h.new) }
         ensures cause { H.counts h.new ≡ after_fault (fault_of result) (H.counts h.old) }
     {
         let Tx { words } = self;
-        words.commit(h)
+        words.commit(h, frames)
     }
 
     /// Undoes the transaction: at `Ok` each word of the pool is as at the beginning, durably, and the log is closed.
@@ -46,12 +57,12 @@ impl Tx {
     /// of that table has one value, and the addresses of the pool's ranges are by it where the transaction took them to be. Each
     /// image left meanwhile is, with the log replayed, as at the beginning. The only errors are the host's own.
     ///
-    /// Where nothing was set or made it takes no load, and one fence; else the loads of a replay, and two fences.
+    /// Where nothing was set, made or asked for it takes no load, and one fence; else the loads of a replay, and two fences.
     pub fn abort<H: Host>(self, h: &mut H, frames: u32) -> Result<(), HostFault>
         requires log { self.at + LOG_WORDS ≤ (H.counts h.old).size }
         requires tables { HasPuddleTable frames (H.counts h.old).size }
-        ensures closes { H.tells → (pool : List (ℕ × Puddle)) (types : List (ℕ × ℕ)) (before : Image) (undone : Graph) (now : Graph) → IsPlaced frames pool
-            → device_words frames ≤ (H.counts h.old).size → self.at + LOG_WORDS ≤ frames_at frames → IsOpenOn frames pool types self before undone now (H.state h.old).now.words
+        ensures closes { H.tells → (pool : List (ℕ × Puddle)) (types : List (ℕ × ℕ)) (before : Image) (undone : Graph) (now : Graph) (laters : List Later) → IsPlaced frames pool
+            → device_words frames ≤ (H.counts h.old).size → self.at + LOG_WORDS ≤ frames_at frames → IsOpenOn frames pool types self before undone now laters (H.state h.old).now.words
             → HasPlaces (pool_ground frames pool) (puddle_word (tables_of frames (reads (H.state h.old).now.words))) → HasOneTable frames (H.state h.old).now.words
             → ClosesOn frames pool types self.at before undone (fault_of result) (H.state h.old) (H.state h.new) }
         ensures any { H.tells → Changes Anything (fault_of result) (H.state h.old) (H.state h.new) }

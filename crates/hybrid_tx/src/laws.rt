@@ -1,29 +1,32 @@
 //! The laws. Each function here does nothing; its contract is the law.
 
-ghost use Rattle.std.specs.Prelude.{◌≡◌, ◌+◌, ◌*◌, ◌<◌, ◌≤◌, ℕ, List, [], ◌∷◌, slice_get, Option};
+ghost use Rattle.std.specs.Prelude.{◌≡◌, ◌+◌, ◌*◌, ◌<◌, ◌≤◌, ℕ, false, List, [], ◌∷◌, slice_get, Option};
 ghost use Rattle.pm_model.specs.Moments.{State};
 ghost use Rattle.pm_model.specs.Changes.{placed};
 ghost use Rattle.pud_defs.specs.declared.layout.TheConstants.{LOG_WORDS, NUMBER_LIMIT};
-ghost use Rattle.pud_defs.specs.declared.space.TheConstants.{SLOT_SERIAL_WORD};
+ghost use Rattle.pud_defs.specs.declared.space.TheConstants.{ROOT_WORD, SLOT_SERIAL_WORD};
 ghost use Rattle.pud_defs.specs.declared.records.Puddle.{Puddle};
 ghost use Rattle.pud_defs.specs.declared.records.Slot.{Slot};
 ghost use Rattle.pud_defs.specs.declared.objects.Val.{Val};
+ghost use Rattle.pud_defs.specs.declared.objects.Val.TheVariants.{Ref};
 ghost use Rattle.pud_defs.specs.Layout.{device_words, frames_at};
 ghost use Rattle.pud_defs.specs.Types.{map_of};
 ghost use Rattle.pud_defs.specs.Image.{Image};
-ghost use Rattle.pud_defs.specs.Entries.{log_of};
+ghost use Rattle.pud_defs.specs.Entries.{Entry, log_of};
 ghost use Rattle.pud_defs.specs.Frames.{frame_at};
 ghost use Rattle.pud_defs.specs.Replay.{overwritten, replayed};
 ghost use Rattle.pud_defs.specs.Stored.{stored_in, place_word};
-ghost use Rattle.pud_defs.specs.Graph.{Graph, graph_of, next_serial_of};
-ghost use Rattle.pud_defs.specs.GraphChanges.{with_field, with_new, blank_object};
+ghost use Rattle.pud_defs.specs.Graph.{Graph, graph_of, is_held, next_serial_of};
+ghost use Rattle.pud_defs.specs.GraphChanges.{with_field, with_new, blank_object, without_object, with_root};
+ghost use Rattle.pud_defs.specs.Laters.{Later, with_laters};
 ghost use Rattle.graph_read.specs.Reading.{place_in_pool, place_at, IsSlotOf};
+ghost use Rattle.object_alloc.specs.Alloc.{serial_word_at};
 ghost use Rattle.log_store.specs.Store.{OpenLog};
-ghost use Rattle.word_transaction.specs.Ground.{IsGround};
+ghost use Rattle.word_transaction.specs.Ground.{IsGround, written_in_turn};
 ghost use Rattle.word_transaction.specs.Running.{SettlesTo};
 ghost use Rattle.hybrid_tx.specs.Grounds.{pool_place, pool_ground, IsPlaced, IsRewritten};
 ghost use Rattle.hybrid_tx.specs.Stores.{word_for, field_word, making};
-ghost use Rattle.hybrid_tx.specs.Transactions.{MaySet, IsOpenOn, IsAtRest, RunsOn, ClosesOn, EndsOn};
+ghost use Rattle.hybrid_tx.specs.Transactions.{MaySet, AreLaters, IsOpenOn, IsAtRest, RunsOn, ClosesOn, EndsOn};
 
 /// What the addresses of a pool's ranges name are words of its frames, none of which is one of a log before all frames.
 pub fn pools_are_grounds()
@@ -48,10 +51,31 @@ pub fn stored_words_make_the_object()
         → graph_of types (stored_in frames at (overwritten (making frames first.0 slot serial id) image)) ≡ Option.Some (with_new (blank_object id m) g) }
 {}
 
-/// Behind a call within a transaction on a pool that did not fail one is open, on the next graph.
+/// A pool in the first of whose frames is stored what stands for a root has this root.
+pub fn stored_word_is_the_root()
+    ensures { (types : List (ℕ × ℕ)) (frames : ℕ) (at : List (ℕ × Puddle)) (image : Image) (g : Graph) → graph_of types (stored_in frames at image) ≡ Option.Some g
+        → IsPlaced frames at → IsRewritten at → (first : ℕ × Puddle) → slice_get at 0 ≡ Option.Some first → (s : ℕ) (v : ℕ) → word_for frames at image (Ref s) ≡ Option.Some v
+        → graph_of types (stored_in frames at (overwritten (placed (frame_at frames first.0 + ROOT_WORD) (v ∷ [])) image)) ≡ Option.Some (with_root s g) }
+{}
+
+/// A slot whose serial is cleared is no object any more, where nothing held it.
+pub fn cleared_serial_frees_the_object()
+    ensures { (types : List (ℕ × ℕ)) (frames : ℕ) (at : List (ℕ × Puddle)) (image : Image) (g : Graph) → graph_of types (stored_in frames at image) ≡ Option.Some g
+        → IsPlaced frames at → (s : ℕ) (slot : Slot) → IsSlotOf at slot → place_in_pool frames at image s ≡ Option.Some (place_at slot) → is_held s g ≡ false
+        → graph_of types (stored_in frames at (overwritten (placed (serial_word_at frames slot) (0 ∷ [])) image)) ≡ Option.Some (without_object s g) }
+{}
+
+/// The redo entries of what is asked for later, written in turn over an image, make its graph the one with what is asked for.
+pub fn entries_of_laters_make_the_graph()
+    ensures { (frames : ℕ) (at : List (ℕ × Puddle)) (types : List (ℕ × ℕ)) → IsPlaced frames at → IsRewritten at → (laters : List Later) (redo : List Entry) (image : Image) (now : Graph)
+        → graph_of types (stored_in frames at image) ≡ Option.Some now → AreLaters frames at types image now laters redo
+        → graph_of types (stored_in frames at (written_in_turn (pool_place frames at) redo image)) ≡ Option.Some (with_laters laters now) }
+{}
+
+/// Behind a call within a transaction on a pool that did not fail one is open, on the next graph, with what is asked for later.
 pub fn transaction_stays_open()
-    ensures { (frames : ℕ) (at : List (ℕ × Puddle)) (types : List (ℕ × ℕ)) (log : OpenLog) (before : Image) (undone : Graph) (next : Graph) (old : State) (new : State)
-        → RunsOn frames at types log before undone next Option.None old new → IsOpenOn frames at types log before undone next new.now.words }
+    ensures { (frames : ℕ) (at : List (ℕ × Puddle)) (types : List (ℕ × ℕ)) (log : OpenLog) (before : Image) (undone : Graph) (next : Graph) (laters : List Later) (old : State) (new : State)
+        → RunsOn frames at types log before undone next laters Option.None old new → IsOpenOn frames at types log before undone next laters new.now.words }
 {}
 
 /// With the log replayed an image has the graph of the words that it settles to.

@@ -11,6 +11,7 @@
 
 mod changing;
 mod ending;
+mod later;
 pub mod laws;
 mod running;
 

@@ -1,11 +1,11 @@
 //! How a transaction begins, and how words of a pool's frames are given values within it.
 #![tactic(auto)]
 
-ghost use Rattle.std.specs.Prelude.{◌≡◌, ◌≢◌, ◌+◌, ◌<◌, ◌≤◌, ◌++◌, ◌∷◌, [], ℕ, List, true, slice_get, Option, IfOk, OnErr, length};
+ghost use Rattle.std.specs.Prelude.{◌≡◌, ◌≢◌, ◌+◌, ◌*◌, ◌<◌, ◌≤◌, ◌++◌, ◌∷◌, [], ℕ, List, true, slice_get, Option, IfOk, OnErr, length};
 ghost use Rattle.pm_model.specs.Words.{reads};
 ghost use Rattle.pm_model.specs.Counts.{after_fault, fault_of};
 ghost use Rattle.pm_model.specs.Changes.{only, placed, Changes, Persists};
-ghost use Rattle.pud_defs.specs.declared.layout.TheConstants.{LOG_WORDS, LOG_ENTRY_WORDS, ENTRY_HEADER_WORDS, MAX_ENTRY_VALUES, MAX_FRAMES, FRAME_WORDS};
+ghost use Rattle.pud_defs.specs.declared.layout.TheConstants.{LOG_WORDS, LOG_ENTRY_WORDS, ENTRY_HEADER_WORDS, MAX_ENTRY_VALUES, MAX_FRAMES, FRAME_WORDS, SET_UNITS};
 ghost use Rattle.pud_defs.specs.declared.log_words.TheConstants.{RUNNING_GATE};
 ghost use Rattle.pud_defs.specs.declared.space.TheConstants.{WORD_BYTES};
 ghost use Rattle.pud_defs.specs.declared.records.Puddle.{Puddle};
@@ -16,8 +16,8 @@ ghost use Rattle.pud_defs.specs.Entries.{Entry, words_from};
 ghost use Rattle.pud_defs.specs.Settled.{ALL_LOGS, log_number_at};
 ghost use Rattle.pud_defs.specs.Stored.{IsOnDevice, stored_in};
 ghost use Rattle.pud_defs.specs.Graph.{Graph, graph_of};
-ghost use Rattle.log_store.specs.Store.{longer};
-ghost use Rattle.word_transaction.specs.Ground.{Ground, IsGround, undo_entry};
+ghost use Rattle.log_store.specs.Store.{InLog, longer};
+ghost use Rattle.word_transaction.specs.Ground.{Ground, IsGround, undo_entry, redo_entry};
 ghost use Rattle.word_transaction.specs.Running.{IsRunning, IsIdle, nothing, begun, ByTransaction, Runs};
 ghost use Rattle.hybrid_tx.specs.Grounds.{pool_ground, IsPlaced};
 ghost use Rattle.hybrid_tx.specs.Stores.{ByPut};
@@ -46,7 +46,7 @@ impl Tx {
             → Runs (pool_ground frames at) (begun (log_number_at frames log)) [] before nothing (fault_of result) (H.state h.old) (H.state h.new) }
         ensures open { H.tells → (at : List (ℕ × Puddle)) (before : Image) → IsPlaced frames at → IsIdle (pool_ground frames at) (log_number_at frames log) before (H.state h.old).now.words
             → (types : List (ℕ × ℕ)) (g : Graph) → graph_of types (stored_in frames at before) ≡ Option.Some g
-            → IfOk result (λ tx. IsOpenOn frames at types tx before g g (H.state h.new).now.words) }
+            → IfOk result (λ tx. IsOpenOn frames at types tx before g g [] (H.state h.new).now.words) }
         ensures cause { H.counts h.new ≡ after_fault (fault_of result) (H.counts h.old) }
     {
         let gate = log_at(frames, log / CLIENT_LOGS, log % CLIENT_LOGS);
@@ -104,13 +104,39 @@ impl Tx {
         ensures at { self.new.at ≡ self.old.at }
         ensures done { IfOk result (λ _. self.new ≡ longer (length vals.now + ENTRY_HEADER_WORDS) self.old) }
         ensures changes { H.tells → Changes (ByTransaction (pool_ground frames pool.now) self.old.at) (fault_of result) (H.state h.old) (H.state h.new) }
-        ensures saves { H.tells → IsPlaced frames pool.now → (e : ℕ × Puddle) → slice_get pool.now ordinal ≡ Option.Some e → (before : Image)
-            → IsSaving frames pool.now self.old before (H.state h.old).now.words
-            → Saves frames pool.now self.new before (placed (frame_at frames e.0 + word) vals.now) (fault_of result) (H.state h.old) (H.state h.new) }
+        ensures saves { H.tells → IsPlaced frames pool.now → (e : ℕ × Puddle) → slice_get pool.now ordinal ≡ Option.Some e → (before : Image) (redo : List Entry)
+            → IsSaving frames pool.now self.old before redo (H.state h.old).now.words
+            → Saves frames pool.now self.new before redo (placed (frame_at frames e.0 + word) vals.now) (fault_of result) (H.state h.old) (H.state h.new) }
         ensures cause { H.counts h.new ≡ after_fault (fault_of result) (H.counts h.old) }
     {
         let (frame, puddle) = pool[ordinal as usize];
         let address = puddle.base.wrapping_add((WORD_BYTES * word) as u64);
         self.put(h, address, frame_at(frames, frame) + word, vals)
+    }
+
+    /// Asks for a value in word `word` of a puddle's frame.
+    pub(crate) fn ask_in_frame<H: Host>(
+        &mut self,
+        h: &mut H,
+        pool: &[(u32, Puddle)],
+        ordinal: u32,
+        word: u32,
+        value: u64,
+    ) -> Result<(), HostFault>
+        requires place { self.old.at + LOG_WORDS ≤ (H.counts h.old).size }
+        requires there { ordinal < length pool.now }
+        requires within { word < FRAME_WORDS }
+        requires room { self.old.used + SET_UNITS ≤ LOG_ENTRY_WORDS }
+        ensures at { self.new.at ≡ self.old.at }
+        ensures done { IfOk result (λ _. self.new ≡ longer SET_UNITS self.old) }
+        ensures changes { H.tells → Changes (InLog self.old.at) (fault_of result) (H.state h.old) (H.state h.new) }
+        ensures asks { H.tells → (frames : ℕ) → IsPlaced frames pool.now → device_words frames ≤ (H.counts h.old).size → self.old.at + LOG_WORDS ≤ frames_at frames
+            → (e : ℕ × Puddle) → slice_get pool.now ordinal ≡ Option.Some e → (before : Image) (redo : List Entry) → IsSaving frames pool.now self.old before redo (H.state h.old).now.words
+            → Saves frames pool.now self.new before (redo ++ redo_entry (e.1.base + WORD_BYTES * word) (value ∷ []) ∷ []) nothing (fault_of result) (H.state h.old) (H.state h.new) }
+        ensures cause { H.counts h.new ≡ after_fault (fault_of result) (H.counts h.old) }
+    {
+        let (_, puddle) = pool[ordinal as usize];
+        let field = puddle.base.wrapping_add((WORD_BYTES * word) as u64);
+        self.words.ask(h, field, &[value])
     }
 }

@@ -1,2 +1,2 @@
 mod Searched
-mod Freed
+pub mod Freed

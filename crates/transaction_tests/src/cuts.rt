@@ -72,10 +72,11 @@ fn taken_by(rt: &impl Abort, alloc: Global, calls: &[Call], end: End) -> (Counts
 }
 
 // Durable words are stores, flushes of their lines, and a fence. To begin is one word; to set a field an entry of three words on
-// a line, or on two for the third in a row, the word of the gate, and a word that is stored and flushed: 3 + 1 + 1, 3, and 2. To
-// make an object is an entry of 34 words on five lines, the gate, and a slot of 32 words on four lines, 34 + 5 + 1, 3, and 36,
-// and then the next serial as a field. To commit is a fence and the gate twice. To undo is a store and a flush for each word of
-// fields and the next serial, the slot, a fence, and the gate; with nothing saved, the gate.
+// a line, or on two for the third in a row, the word of the gate, and a word that is stored and flushed: 3 + 1 + 1, 3, and 2; so
+// is to free an object, and to set the root. To make an object is an entry of 34 words on five lines, the gate, and a slot of 32
+// words on four lines, 34 + 5 + 1, 3, and 36, and then the next serial as a field. To commit is a fence and the gate twice. To
+// undo is a store and a flush for each word of fields and the next serial, the slot, a fence, and the gate; with nothing saved,
+// the gate. To ask for a value later is an entry and the gate; then to commit is a store, a flush and a fence more.
 #[test]
 fn each_call_takes_its_steps_and_fences(rt: HostRuntime) {
     let (zero, one, two) = (
@@ -83,7 +84,14 @@ fn each_call_takes_its_steps_and_fences(rt: HostRuntime) {
         Call::Set(1, 2, Val::Num(6)),
         Call::Set(2, 0, Val::Num(7)),
     );
-    let rows: [(&[Call], End, Counts, Counts); 7] = [
+    let later = Call::Later(1, 0, Val::Num(8));
+    let rows: [(&[Call], End, Counts, Counts); 10] = [
+        (
+            &[later, zero],
+            End::Commit,
+            [3, 8, 10, 10, 0, 0, 0, 0],
+            [1, 2, 2, 4, 0, 0, 0, 0],
+        ),
         (
             &CALLS,
             End::Commit,
@@ -113,6 +121,18 @@ fn each_call_takes_its_steps_and_fences(rt: HostRuntime) {
             End::Abort,
             [3, 3, 0, 0, 0, 0, 0, 0],
             [1, 1, 0, 0, 0, 0, 0, 0],
+        ),
+        (
+            &[Call::Free(1), Call::Root(0)],
+            End::Commit,
+            [3, 10, 10, 7, 0, 0, 0, 0],
+            [1, 2, 2, 3, 0, 0, 0, 0],
+        ),
+        (
+            &[Call::Free(1), Call::Root(0)],
+            End::Abort,
+            [3, 10, 10, 8, 0, 0, 0, 0],
+            [1, 2, 2, 2, 0, 0, 0, 0],
         ),
         // No object has the serial. Its commit has no words to make durable by its first fence.
         (
@@ -250,14 +270,15 @@ fn each_failed(begun: &Counts) -> bool {
     begun[0] == 3 && begun[1] == 12 && begun[2] == 125 && begun[3] == 14
 }
 
-// The seven calls of the commit are a fence, and twice a store, a flush and a fence. Where one of the first two fails, or with
-// the durable values one of the first four, the transaction is not committed.
+// The calls of the commit are 13 loads, three for each of the four entries and one behind them, and then seven: a fence, and
+// twice a store, a flush and a fence. Where a load or one of the first two of these fails, or with the durable values one of the
+// first four, the transaction is not committed.
 #[test]
 fn a_fault_of_the_host_leaves_what_was_or_what_was_committed(rt: HostRuntime) {
     let rows = [
-        (None, [2, 5]),
-        (Some(NEWEST), [2, 5]),
-        (Some(OLDEST), [4, 3]),
+        (None, [15, 5]),
+        (Some(NEWEST), [15, 5]),
+        (Some(OLDEST), [17, 3]),
     ];
     for (pick, want) in rows {
         let (begun, committed) = fail_in_each_call(&rt, rt.alloc(), pick, End::Commit);

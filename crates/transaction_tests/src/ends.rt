@@ -11,7 +11,7 @@ use std::alloc::Global;
 use std::process::Abort;
 
 /// What is left of a transaction: what is read at once, and what behind a power loss and a recovery.
-fn left_by<H: Host>(rt: &impl Abort, host: &mut H, calls: &[Call], end: End) -> (View, View) {
+pub fn left_by<H: Host>(rt: &impl Abort, host: &mut H, calls: &[Call], end: End) -> (View, View) {
     let run = transact(rt, host, calls, end);
     let seen = view(rt, host);
     host.cut(OLDEST);
@@ -22,7 +22,7 @@ fn left_by<H: Host>(rt: &impl Abort, host: &mut H, calls: &[Call], end: End) -> 
 
 /// The transaction of each row, ended in each way, leaves what was read at its beginning or what its row says. The answer is how often each of both was
 /// read, at once and at last.
-fn ends_of(rt: &impl Abort, alloc: Global, rows: &[(&[Call], View)]) -> [u32; 2] {
+pub fn ends_of(rt: &impl Abort, alloc: Global, rows: &[(&[Call], View)]) -> [u32; 2] {
     let mut counts = [0u32; 2];
     for (row, (calls, changed)) in rows.iter().enumerate() {
         let ends = [
@@ -213,9 +213,9 @@ fn each_word_of_the_frames_is_undone(rt: HostRuntime) {
 }
 
 #[test]
-fn a_field_takes_3_units_and_an_object_37(rt: HostRuntime) {
+fn a_word_takes_3_units_and_an_object_37(rt: HostRuntime) {
     let (set, new) = (Call::Set(1, 0, Val::Num(5)), Call::New(1));
-    let rows: [(&[Call], u32); 8] = [
+    let rows: [(&[Call], u32); 12] = [
         (&[], 0),
         (&[set], 3),
         (&[set, set], 6),
@@ -225,6 +225,11 @@ fn a_field_takes_3_units_and_an_object_37(rt: HostRuntime) {
         // Nothing is done.
         (&[set, Call::Set(3, 0, Val::Num(5))], 3),
         (&[set, Call::Set(1, 1, Val::Ref(3))], 3),
+        (&[Call::Free(1)], 3),
+        (&[Call::Root(1), Call::Root(0)], 6),
+        (&[Call::Root(0), new, Call::Free(3), new], 80),
+        // Nothing is done.
+        (&[Call::Free(3), Call::Free(0), Call::Root(3)], 0),
     ];
     for (row, (calls, units)) in rows.iter().enumerate() {
         let mut host = device(&rt, rt.alloc(), &[], &[]);

@@ -3,6 +3,7 @@ use crate::device::{
     FRAME_2, FRAMES, LOG, MAGIC, NEXT, POOL, Placed, THREE_FIELDS, device, is_on_device,
 };
 use crate::runs::{Call, End, finish, make};
+use graph_read::objects_held;
 use hybrid_tx::Tx;
 use pm_mem::{MemHost, Plan};
 use pm_model::Host;
@@ -10,21 +11,22 @@ use pud_defs::layout::{MAX_FRAMES, device_words};
 use pud_defs::records::Puddle;
 use std::alloc::Global;
 use std::process::Abort;
-use test_device::{poke, zero_device};
+use test_device::poke;
 
-/// A transaction that makes so many objects, from this serial on, and is committed. The answer is how many of them were given
-/// their serials.
+/// A transaction on a device of so many frames that makes so many objects, from this serial on, and is committed. The answer is
+/// how many of them were given their serials.
 fn make_many<H: Host>(
     rt: &impl Abort,
     host: &mut H,
-    pool: &[Placed],
+    (frames, pool): (u32, &[Placed]),
     (from, n): (u64, u64),
 ) -> u64 {
-    assert!(rt; device_words(FRAMES) <= host.words());
-    let mut tx = Tx::begin(host, FRAMES, LOG).expect(rt, "no fault");
+    assert!(rt; frames <= MAX_FRAMES);
+    assert!(rt; device_words(frames) <= host.words());
+    let mut tx = Tx::begin(host, frames, LOG).expect(rt, "no fault");
     let mut made = 0u64;
     for k in 0..n {
-        if make(rt, host, &mut tx, (FRAMES, pool), Call::New(1)) == Ok(from.saturating_add(k)) {
+        if make(rt, host, &mut tx, (frames, pool), Call::New(1)) == Ok(from.saturating_add(k)) {
             made = made.saturating_add(1);
         }
     }
@@ -53,7 +55,7 @@ fn a_puddle_is_filled_by_transactions_to_its_62_slots(rt: HostRuntime) {
     let pool = &POOL[..1];
     let mut made = 0u64;
     for (from, n) in [(1, 27), (28, 27), (55, 8)] {
-        made = made.saturating_add(make_many(&rt, &mut host, pool, (from, n)));
+        made = made.saturating_add(make_many(&rt, &mut host, (FRAMES, pool), (from, n)));
     }
     let words = host.read_back(rt.alloc()).expect(&rt, "memory");
     let mut serials = 0u64;
@@ -73,6 +75,11 @@ fn a_puddle_is_filled_by_transactions_to_its_62_slots(rt: HostRuntime) {
 const MANY: u32 = 16;
 
 const MANY_AT: u32 = 34_432;
+
+/// How many device steps there is room for on it, and how many said bytes.
+const STEPS: u32 = 120_000;
+
+const ROOM: u32 = 64;
 
 /// The puddles of that device: that of ordinal 0 in the last frame and range, and so on down.
 fn pool() -> [Placed; 16] {
@@ -97,16 +104,18 @@ fn place_at(place: u32) -> u32 {
 
 /// A device with an object in each place of that pool, but for this one, if there is one.
 fn full_device(rt: &impl Abort, alloc: Global, free: Option<u32>) -> MemHost {
-    let words = device_words(MANY);
-    let mut host = zero_device(alloc, words, b"", Plan::none(alloc)).expect(rt, "memory");
-    let first = MANY_AT + 2_048 * 15;
-    let head = [
-        (1_088, 1),
-        (1_089, THREE_FIELDS),
-        (first, MAGIC),
-        (first + 3, 993),
-    ];
-    assert!(rt; poke(&mut host, &head));
+    let lines = device_words(MANY) / 8;
+    let room = MemHost::new(alloc, lines * 8, b"", STEPS, ROOM, Plan::none(alloc));
+    let mut host = room.expect(rt, "memory");
+    let next = (MANY_AT + 2_048 * 15 + 3, 993);
+    assert!(rt; poke(&mut host, &[(1_088, 1), (1_089, THREE_FIELDS), next]));
+    for down in 0..16u32 {
+        let first = MANY_AT + 2_048 * down;
+        let number = u64::from(down) + 100;
+        let ordinal = u64::from(15 - down);
+        let header = [(first, MAGIC), (first + 1, number), (first + 2, ordinal)];
+        assert!(rt; poke(&mut host, &header));
+    }
     for place in 0..992u32 {
         if free != Some(place) {
             let at = place_at(place);
@@ -137,4 +146,47 @@ fn a_pool_of_16_puddles_has_992_places(rt: HostRuntime) {
         counts[usize::from(is_full)] = counts[usize::from(is_full)].saturating_add(1);
     }
     assert!(&rt; counts == [3, 1], "{counts:?}");
+}
+
+/// A transaction that frees so many objects, from this serial on, and is committed.
+fn free_many<H: Host>(rt: &impl Abort, host: &mut H, (from, n): (u64, u64)) {
+    assert!(rt; device_words(MANY) <= host.words());
+    let mut tx = Tx::begin(host, MANY, LOG).expect(rt, "no fault");
+    for k in 0..n {
+        let call = Call::Free(from.saturating_add(k));
+        let freed = make(rt, host, &mut tx, (MANY, &pool()), call);
+        assert!(rt; freed.is_ok());
+    }
+    let fault = finish(rt, host, tx, End::Commit);
+    assert!(rt; fault == None);
+}
+
+/// How many objects that pool has, if it has a graph.
+fn objects<H: Host>(rt: &impl Abort, host: &mut H) -> Option<u32> {
+    let pool = pool();
+    assert!(rt; device_words(MANY) <= host.words() && is_on_device(MANY, &pool));
+    objects_held(host, MANY, &pool).expect(rt, "no fault")
+}
+
+// The next serial of the full device is 993. A log has room for 338 words that are saved, and for 27 new objects.
+#[test]
+fn a_full_pool_is_freed_and_filled_again(rt: HostRuntime) {
+    let mut host = full_device(&rt, rt.alloc(), None);
+    let full = objects(&rt, &mut host);
+    for (from, n) in [(1, 300), (301, 300), (601, 300), (901, 92)] {
+        free_many(&rt, &mut host, (from, n));
+    }
+    let freed = objects(&rt, &mut host);
+    let mut made = 0u64;
+    for k in 0..37u64 {
+        let n = if k < 36 { 27 } else { 20 };
+        let more = make_many(&rt, &mut host, (MANY, &pool()), (993 + 27 * k, n));
+        made = made.saturating_add(more);
+    }
+    let again = objects(&rt, &mut host);
+    let is_full = is_full(&rt, &mut host, (MANY, &pool()));
+    assert!(&rt;
+        full == Some(992) && freed == Some(0) && made == 992 && again == Some(992) && is_full,
+        "{full:?}, {freed:?}, {made}, {again:?}, {is_full}"
+    );
 }

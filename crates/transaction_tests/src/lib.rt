@@ -9,6 +9,10 @@ mod device;
 #[cfg(test)]
 mod ends;
 #[cfg(test)]
+mod freed;
+#[cfg(test)]
 mod full;
+#[cfg(test)]
+mod laters;
 #[cfg(test)]
 mod runs;

@@ -13,8 +13,14 @@ use std::process::Abort;
 pub enum Call {
     /// Field, of the object of a serial, and what it is set to.
     Set(u64, u32, Val),
+    /// Field, of the object of a serial, and what is asked for later.
+    Later(u64, u32, Val),
     /// The type of a new object.
     New(u32),
+    /// The serial of an object that goes.
+    Free(u64),
+    /// The serial of the root, 0 for none.
+    Root(u64),
 }
 
 /// How a transaction ends.
@@ -55,12 +61,15 @@ pub fn make<H: Host>(
     match call {
         Call::Set(serial, f, x) => {
             assert!(rt; f < MAX_FIELDS);
-            match tx.set(host, frames, pool, serial, f, x) {
-                Ok(()) => Ok(0),
-                Err(fault) => Err(fault),
-            }
+            tx.set(host, frames, pool, serial, f, x).map(|()| 0)
+        }
+        Call::Later(serial, f, x) => {
+            assert!(rt; f < MAX_FIELDS);
+            tx.later(host, frames, pool, serial, f, x).map(|()| 0)
         }
         Call::New(t) => tx.new(host, frames, pool, t),
+        Call::Free(serial) => tx.free(host, frames, pool, serial).map(|()| 0),
+        Call::Root(serial) => tx.root(host, frames, pool, serial).map(|()| 0),
     }
 }
 
@@ -70,7 +79,7 @@ pub fn finish<H: Host>(rt: &impl Abort, host: &mut H, tx: Tx, end: End) -> Optio
     assert!(rt; at < 65_536 && device_words(FRAMES) <= host.words());
     assert!(rt; at + LOG_WORDS <= host.words());
     let outcome = match end {
-        End::Commit => tx.commit(host),
+        End::Commit => tx.commit(host, FRAMES),
         End::Abort => tx.abort(host, FRAMES),
         End::Lose => {
             tx.lose();

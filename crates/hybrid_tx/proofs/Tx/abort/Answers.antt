@@ -5,6 +5,6 @@ use Rattle.hybrid_tx.proofs.PoolEnding.{ClosesOn-closes}
 use Rattle.hybrid_tx.proofs.Tx.abort.Goals as goal
 
 pub returns-clause-closes : goal.returns-clause-closes
-returns-clause-closes g c = rw (← c.self.view_is) (λ t pool types before undone now placed device apart is_open places one.
-    ClosesOn-closes c.args.frames _ pool types _ before undone now (fault_of c.abort.result) _ _ placed device apart is_open
+returns-clause-closes g c = rw (← c.self.view_is) (λ t pool types before undone now laters placed device apart is_open places one.
+    ClosesOn-closes c.args.frames _ pool types _ before undone now laters (fault_of c.abort.result) _ _ placed device apart is_open
     (λ es ground r. c.abort.ensures.closes t _ refl (pool_ground c.args.frames pool) es before ground r places one))

@@ -1,4 +1,4 @@
-use Rattle.std.proofs.Common.{refl, sym, subst, arith}
+use Rattle.std.proofs.Common.{[], refl, sym, subst, arith}
 use Rattle.std.proofs.lemmas.Result.{err_from_is_err_and}
 use Rattle.log_store.specs.Store.{OpenLog}
 use Rattle.hybrid_tx.specs.Grounds.{pool_ground}
@@ -29,5 +29,5 @@ returns-clause-open g c =
     let new = g.H.Host.state c.begin.new.h in
     rw (← gate) (λ t at before placed idle types k is.
     let ground = is_ground c.args.frames (g.H.Host.counts c.args.h.now).size c.log_at-gate.result at placed c.requires.device (omega arith) in
-    subst (λ (l : OpenLog). IsOpenOn c.args.frames at types l before k k new.now.words) (sym c.in_ok-words.ensures.opened)
+    subst (λ (l : OpenLog). IsOpenOn c.args.frames at types l before k k [] new.now.words) (sym c.in_ok-words.ensures.opened)
     (IsOpenOn-begun c.args.frames _ at types before _ k _ new ground idle is (c.in_ok-words.ensures.runs t _ refl (pool_ground c.args.frames at) before ground idle)))

@@ -16,8 +16,8 @@ returns-in_err-serial-clause-changes g c =
 pub returns-in_err-serial-clause-runs : goal.returns-in_err-serial-clause-runs
 returns-in_err-serial-clause-runs g c =
     let p = err_from_is_err_and c.from_residual.result c.from_residual.ensures.1 in
-    rw (p.1, p.2) (λ t types m before undone now placed is_open defined room free.
-    RunsOn-stopped _ _ types c.args.self.now _ before undone now _ _ _ _ refl c.in_err-serial.ensures.never_cut (c.in_err-serial.ensures.stays t) is_open)
+    rw (p.1, p.2) (λ t types m before undone now laters placed is_open defined room free.
+    RunsOn-stopped _ _ types c.args.self.now _ before undone now laters _ _ _ _ _ refl c.in_err-serial.ensures.never_cut (c.in_err-serial.ensures.stays t) is_open)
 
 pub put_in_frame-requires-clause-there : goal.put_in_frame-requires-clause-there
 put_in_frame-requires-clause-there g c = slice_get_within c.args.pool.now c.args.at.now.ordinal (c.args.at.now.frame, c.requires.within.puddle) c.requires.within.there
@@ -25,8 +25,8 @@ put_in_frame-requires-clause-there g c = slice_get_within c.args.pool.now c.args
 pub returns-in_err-put_in_frame-clause-runs : goal.returns-in_err-put_in_frame-clause-runs
 returns-in_err-put_in_frame-clause-runs g c =
     let p = err_from_is_err_and c.from_residual-in_err-put_in_frame.result c.from_residual-in_err-put_in_frame.ensures.1 in
-    rw (p.1, p.2) (λ t types m before undone now placed is_open defined room free.
-    RunsOn-unput c.args.frames c.args.pool.now types c.args.self.now before undone now _ is_open _ _ _ _ (c.args.at.now.frame, c.requires.within.puddle) _ _ _ _
+    rw (p.1, p.2) (λ t types m before undone now laters placed is_open defined room free.
+    RunsOn-unput c.args.frames c.args.pool.now types c.args.self.now before undone now laters _ is_open _ _ _ _ (c.args.at.now.frame, c.requires.within.puddle) _ _ _ _
     (c.in_ok-serial.ensures.stays t) c.requires.within.there (c.in_err-put_in_frame.ensures.saves t placed))
 
 pub returns-in_err-put_in_frame-2-clause-changes : goal.returns-in_err-put_in_frame-2-clause-changes
@@ -38,8 +38,8 @@ pub returns-in_err-put_in_frame-2-clause-runs : goal.returns-in_err-put_in_frame
 returns-in_err-put_in_frame-2-clause-runs g c =
     let p = err_from_is_err_and c.from_residual-in_err-put_in_frame-2.result c.from_residual-in_err-put_in_frame-2.ensures.1 in
     let some = slice_get_within c.args.pool.now c.args.at.now.ordinal (c.args.at.now.frame, c.requires.within.puddle) c.requires.within.there in
-    rw (p.1, p.2) (λ t types m before undone now placed is_open defined room free.
-    RunsOn-new c.args.frames c.args.pool.now types c.args.self.now before undone now (g.H.Host.state c.args.h.now) is_open _ _ _ _ c.args.at.now c.in_ok-serial.serial _ c.args.t m _ _ _ _ _ _
+    rw (p.1, p.2) (λ t types m before undone now laters placed is_open defined room free.
+    RunsOn-new c.args.frames c.args.pool.now types c.args.self.now before undone now laters (g.H.Host.state c.args.h.now) is_open _ _ _ _ c.args.at.now c.in_ok-serial.serial _ c.args.t m _ _ _ _ _ _
     placed c.requires.device c.requires.place c.in_ok-put_in_frame.ensures.at c.in_err-put_in_frame-2.ensures.at (c.in_ok-serial.ensures.stays t)
     (slice_get-get_or c.args.pool.now 0 _ (omega (arith, some))) c.requires.within free (c.in_ok-serial.ensures.word t (reads (g.H.Host.state c.args.h.now).now.words) refl) defined room
     c.slot_at.ensures c.new_words-words.ensures (c.in_ok-put_in_frame.ensures.saves t placed) refl (c.in_err-put_in_frame-2.ensures.saves t placed))
@@ -49,9 +49,9 @@ returns-clause-changes g c = λ t.
     Changes-made (pool_ground c.args.frames c.args.pool.now) _ _ None _ _ _ _ (c.in_ok-serial.ensures.stays t) c.in_ok-put_in_frame.ensures.at (c.in_ok-put_in_frame.ensures.changes t) (c.in_ok-put_in_frame-2.ensures.changes t)
 
 pub returns-clause-runs : goal.returns-clause-runs
-returns-clause-runs g c = λ t types m before undone now placed is_open defined room free.
+returns-clause-runs g c = λ t types m before undone now laters placed is_open defined room free.
     let some = slice_get_within c.args.pool.now c.args.at.now.ordinal (c.args.at.now.frame, c.requires.within.puddle) c.requires.within.there in
-    RunsOn-new c.args.frames c.args.pool.now types c.args.self.now before undone now (g.H.Host.state c.args.h.now) is_open _ _ _ _ c.args.at.now c.in_ok-serial.serial _ c.args.t m _ _ None _ _ _
+    RunsOn-new c.args.frames c.args.pool.now types c.args.self.now before undone now laters (g.H.Host.state c.args.h.now) is_open _ _ _ _ c.args.at.now c.in_ok-serial.serial _ c.args.t m _ _ None _ _ _
     placed c.requires.device c.requires.place c.in_ok-put_in_frame.ensures.at c.in_ok-put_in_frame-2.ensures.at (c.in_ok-serial.ensures.stays t)
     (slice_get-get_or c.args.pool.now 0 _ (omega (arith, some))) c.requires.within free (c.in_ok-serial.ensures.word t (reads (g.H.Host.state c.args.h.now).now.words) refl) defined room
     c.slot_at.ensures c.new_words-words.ensures (c.in_ok-put_in_frame.ensures.saves t placed) refl (c.in_ok-put_in_frame-2.ensures.saves t placed)

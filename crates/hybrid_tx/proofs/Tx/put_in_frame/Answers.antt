@@ -21,11 +21,11 @@ returns-clause-changes g c = λ t.
     (subst (λ (k : ℕ). Changes (ByPut log (k + c.args.word) c.args.vals.now) fault old new) c.frame_at.ensures (c.put.ensures.changes t))
 
 pub returns-clause-saves : goal.returns-clause-saves
-returns-clause-saves g c = λ t placed e there before s.
+returns-clause-saves g c = λ t placed e there before redo s.
     let same = get_or_from_slice_get c.args.pool.now c.args.ordinal e _ there in
     let long = longer (length c.args.vals.now + 2) c.args.self.now in
-    Saves-behind c.args.frames c.args.pool.now long _ before _ c.put.result _ _ c.put.ensures.at c.put.ensures.done
-    (Saves-put c.args.frames _ c.args.pool.now c.args.ordinal c.args.word e c.args.self.now long before _ _ c.args.vals.now _ (fault_of c.put.result) _ _
+    Saves-behind c.args.frames c.args.pool.now long _ before redo _ c.put.result _ _ c.put.ensures.at c.put.ensures.done
+    (Saves-put c.args.frames _ c.args.pool.now c.args.ordinal c.args.word e c.args.self.now long before redo _ _ c.args.vals.now _ (fault_of c.put.result) _ _
     placed c.requires.device c.requires.place there c.requires.some c.requires.within
     (ap (λ (d : ℕ × Puddle). (d.1.base + 8 * c.args.word) % 2 ^ 64) same)
     (ap (λ (k : ℕ). k + c.args.word) (c.frame_at.ensures ∙ ap (λ (d : ℕ × Puddle). frame_at c.args.frames d.0) same)) s

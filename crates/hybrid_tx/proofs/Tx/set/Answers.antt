@@ -18,8 +18,8 @@ returns-in_err-found-clause-changes g c =
 pub returns-in_err-found-clause-runs : goal.returns-in_err-found-clause-runs
 returns-in_err-found-clause-runs g c =
     let p = err_from_is_err_and c.from_residual.result c.from_residual.ensures.1 in
-    rw (p.1, p.2) (λ t types before undone now placed rewritten is_open may.
-    RunsOn-stopped _ _ types c.args.self.now _ before undone now _ _ _ _ refl c.in_err-found.ensures.never_cut (c.in_err-found.ensures.stays t) is_open)
+    rw (p.1, p.2) (λ t types before undone now laters placed rewritten is_open may.
+    RunsOn-stopped _ _ types c.args.self.now _ before undone now laters _ _ _ _ _ refl c.in_err-found.ensures.never_cut (c.in_err-found.ensures.stays t) is_open)
 
 pub returns-in_err-word-clause-changes : goal.returns-in_err-word-clause-changes
 returns-in_err-word-clause-changes g c =
@@ -29,8 +29,8 @@ returns-in_err-word-clause-changes g c =
 pub returns-in_err-word-clause-runs : goal.returns-in_err-word-clause-runs
 returns-in_err-word-clause-runs g c =
     let p = err_from_is_err_and c.from_residual-in_err-word.result c.from_residual-in_err-word.ensures.1 in
-    rw (p.1, p.2) (λ t types before undone now placed rewritten is_open may.
-    RunsOn-stopped _ _ types c.args.self.now _ before undone now _ _ _ _ refl c.in_err-word.ensures.never_cut (c.in_err-word.ensures.stays t ∙ c.in_ok-found.ensures.stays t) is_open)
+    rw (p.1, p.2) (λ t types before undone now laters placed rewritten is_open may.
+    RunsOn-stopped _ _ types c.args.self.now _ before undone now laters _ _ _ _ _ refl c.in_err-word.ensures.never_cut (c.in_err-word.ensures.stays t ∙ c.in_ok-found.ensures.stays t) is_open)
 
 pub put_in_frame-requires-clause-there : goal.put_in_frame-requires-clause-there
 put_in_frame-requires-clause-there g c =
@@ -38,12 +38,12 @@ put_in_frame-requires-clause-there g c =
     slice_get_within c.args.pool.now c.in-Some-Some.at.ordinal (c.in-Some-Some.at.frame, of.puddle) of.there
 
 pub returns-in-Some-Some-clause-runs : goal.returns-in-Some-Some-clause-runs
-returns-in-Some-Some-clause-runs g c = λ t types before undone now placed rewritten is_open may.
+returns-in-Some-Some-clause-runs g c = λ t types before undone now laters placed rewritten is_open may.
     let old = g.H.Host.state c.args.h.now in
     let image = reads old.now.words in
     let kept = ap (λ (s : State). reads s.now.words) (c.in_ok-found.ensures.stays t) in
     let of = subst (λ (o : Option Slot). IfSome o (IsSlotOf c.args.pool.now)) c.in-Some-Some.is-0 c.in_ok-found.ensures.within in
-    RunsOn-set c.args.frames c.args.pool.now types c.args.self.now _ before undone now c.args.s c.args.f c.args.x old is_open may
+    RunsOn-set c.args.frames c.args.pool.now types c.args.self.now _ before undone now laters c.args.s c.args.f c.args.x old is_open may
     _ _ c.in-Some-Some.at c.in-Some-Some.v (fault_of c.put_in_frame.result) _ _ placed rewritten c.requires.device c.requires.place c.put_in_frame.ensures.at
     (c.in_ok-word.ensures.stays t ∙ c.in_ok-found.ensures.stays t) of
     (sym (c.in_ok-found.ensures.found t image refl) ∙ ap (option_map place_at) c.in-Some-Some.is-0)
@@ -63,30 +63,30 @@ pub returns-in_default-clause-changes : goal.returns-in_default-clause-changes
 returns-in_default-clause-changes g c = λ t. Changes-still _ None _ _ (λ cut. cc) (c.in_ok-word.ensures.stays t ∙ c.in_ok-found.ensures.stays t)
 
 pub returns-in_default-clause-runs : goal.returns-in_default-clause-runs
-returns-in_default-clause-runs g c = λ t types before undone now placed rewritten is_open may.
+returns-in_default-clause-runs g c = λ t types before undone now laters placed rewritten is_open may.
     let old = g.H.Host.state c.args.h.now in
     let kept = ap (λ (s : State). reads s.now.words) (c.in_ok-found.ensures.stays t) in
-    absurd (no_value c.args.frames c.args.pool.now types c.args.self.now c.args.self.now before undone now c.args.s c.args.f c.args.x old is_open may
+    absurd (no_value c.args.frames c.args.pool.now types c.args.self.now c.args.self.now before undone now laters c.args.s c.args.f c.args.x old is_open may
     (sym (c.in_ok-word.ensures.word t placed.legal (reads old.now.words) kept) ∙ c.in_default.is-1))
 
 pub returns-in_default-clause-counts : goal.returns-in_default-clause-counts
-returns-in_default-clause-counts g c = λ t types before undone now placed is_open may.
+returns-in_default-clause-counts g c = λ t types before undone now laters placed is_open may.
     let old = g.H.Host.state c.args.h.now in
     let kept = ap (λ (s : State). reads s.now.words) (c.in_ok-found.ensures.stays t) in
-    absurd (no_value c.args.frames c.args.pool.now types c.args.self.now c.args.self.now before undone now c.args.s c.args.f c.args.x old is_open may
+    absurd (no_value c.args.frames c.args.pool.now types c.args.self.now c.args.self.now before undone now laters c.args.s c.args.f c.args.x old is_open may
     (sym (c.in_ok-word.ensures.word t placed.legal (reads old.now.words) kept) ∙ c.in_default.is-1))
 
 pub returns-in_default-2-clause-changes : goal.returns-in_default-2-clause-changes
 returns-in_default-2-clause-changes g c = λ t. Changes-still _ None _ _ (λ cut. cc) (c.in_ok-word.ensures.stays t ∙ c.in_ok-found.ensures.stays t)
 
 pub returns-in_default-2-clause-runs : goal.returns-in_default-2-clause-runs
-returns-in_default-2-clause-runs g c = λ t types before undone now placed rewritten is_open may.
+returns-in_default-2-clause-runs g c = λ t types before undone now laters placed rewritten is_open may.
     let old = g.H.Host.state c.args.h.now in
-    absurd (no_place c.args.frames c.args.pool.now types c.args.self.now c.args.self.now before undone now c.args.s c.args.f c.args.x old is_open may
+    absurd (no_place c.args.frames c.args.pool.now types c.args.self.now c.args.self.now before undone now laters c.args.s c.args.f c.args.x old is_open may
     (sym (c.in_ok-found.ensures.found t (reads old.now.words) refl) ∙ ap (option_map place_at) c.in_default.is-0))
 
 pub returns-in_default-2-clause-counts : goal.returns-in_default-2-clause-counts
-returns-in_default-2-clause-counts g c = λ t types before undone now placed is_open may.
+returns-in_default-2-clause-counts g c = λ t types before undone now laters placed is_open may.
     let old = g.H.Host.state c.args.h.now in
-    absurd (no_place c.args.frames c.args.pool.now types c.args.self.now c.args.self.now before undone now c.args.s c.args.f c.args.x old is_open may
+    absurd (no_place c.args.frames c.args.pool.now types c.args.self.now c.args.self.now before undone now laters c.args.s c.args.f c.args.x old is_open may
     (sym (c.in_ok-found.ensures.found t (reads old.now.words) refl) ∙ ap (option_map place_at) c.in_default.is-0))

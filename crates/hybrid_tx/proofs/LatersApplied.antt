@@ -1,0 +1,63 @@
+-- A transaction on a pool that asked for values later is committed: its redo entries make the graph with them.
+use Rattle.std.proofs.Common.{◌≡◌, ℕ, ◌+◌, List, [], ◌∷◌, Option, Some, ap, ◌∙◌, arith}
+use Rattle.pm_model.specs.Changes.{placed}
+use Rattle.pud_defs.specs.declared.records.Puddle.{Puddle}
+use Rattle.pud_defs.specs.Image.{Image}
+use Rattle.pud_defs.specs.Entries.{Entry}
+use Rattle.pud_defs.specs.Frames.{frame_at}
+use Rattle.pud_defs.specs.Replay.{value_in, value_from, overwritten}
+use Rattle.pud_defs.specs.Stored.{stored_in}
+use Rattle.pud_defs.specs.Graph.{Graph, graph_of}
+use Rattle.pud_defs.specs.Laters.{Later, with_later, with_laters}
+use Rattle.graph_laws.proofs.Words.{few_fields}
+use Rattle.word_transaction.specs.Ground.{written_in_turn}
+use Rattle.hybrid_tx.specs.Grounds.{pool_place, IsPlaced, IsRewritten}
+use Rattle.hybrid_tx.specs.Stores.{field_word}
+use Rattle.hybrid_tx.specs.Transactions.{IsLater, AreLaters}
+use Rattle.hybrid_tx.proofs.PoolGrounds.{place_of_word}
+use Rattle.hybrid_tx.proofs.FieldsSet.{set_value}
+use Rattle.hybrid_tx.proofs.LatersKept.{AreLaters-kept}
+use Rattle.hybrid_tx.proofs.LatersBehind.{KeepsObjects-field, KeepsPlaces-field}
+
+module _ (F : ℕ) (at : List (ℕ × Puddle)) (types : List (ℕ × ℕ)) (is_placed : IsPlaced F at) (rewritten : IsRewritten at) where
+  module _ (image : Image) (now : Graph) (l : Later) (e : Entry) (later : IsLater F at types image now l e) where
+    abbrev word : ℕ
+    word = frame_at F later.slot.frame + field_word later.slot.slot l.f
+
+    -- the entry writes the word of the field
+    entry_writes : (k : ℕ) → value_in (pool_place F at) e k ≡ placed word (later.value ∷ []) k
+    entry_writes k =
+        let few = few_fields later.may.map in
+        let below = later.may.below in
+        let slots = later.of.below in
+        ap (λ (d : Entry). value_in (pool_place F at) d k) later.is
+        ∙ ap (λ (o : Option ℕ). value_from o (later.value ∷ []) k)
+        (place_of_word F at is_placed later.slot.ordinal (field_word later.slot.slot l.f) (later.slot.frame, later.of.puddle) later.of.there (omega arith))
+
+    abbrev behind : Image
+    behind = overwritten (placed word (later.value ∷ [])) image
+
+    entry_image : overwritten (value_in (pool_place F at) e) image ≡ behind
+    entry_image =
+        let same : value_in (pool_place F at) e ≡ placed word (later.value ∷ []) = λ i k. entry_writes k i in
+        ap (λ (w : ℕ → Option ℕ). overwritten w image) same
+
+    entry_graph : graph_of types (stored_in F at image) ≡ Some now → graph_of types (stored_in F at behind) ≡ Some (with_later l now)
+    entry_graph is = set_value types F at image now is is_placed rewritten l.s l.f later.slot later.of later.place l.x later.value later.may later.word
+
+    others_stay : (ls : List Later) (es : List Entry) → AreLaters F at types image now ls es → AreLaters F at types behind (with_later l now) ls es
+    others_stay ls es are =
+        let few = few_fields later.may.map in
+        let below = later.may.below in
+        AreLaters-kept F at types image behind now (with_later l now)
+        (KeepsPlaces-field F at image is_placed.frames later.slot later.of l.f later.value (omega arith) now) (KeepsObjects-field l.s l.f l.x now) ls es are
+
+  -- the entries written in turn make the graph with what is asked for
+  pub laters_applied : (laters : List Later) (redo : List Entry) (image : Image) (now : Graph) → graph_of types (stored_in F at image) ≡ Some now → AreLaters F at types image now laters redo
+      → graph_of types (stored_in F at (written_in_turn (pool_place F at) redo image)) ≡ Some (with_laters laters now)
+  laters_applied [] [] image now is are = is
+  laters_applied [] (e ∷ es) image now is are = absurd are
+  laters_applied (l ∷ ls) [] image now is are = absurd are
+  laters_applied (l ∷ ls) (e ∷ es) image now is are =
+      ap (λ (i : Image). graph_of types (stored_in F at (written_in_turn (pool_place F at) es i))) (entry_image image now l e are.0)
+      ∙ laters_applied ls es (behind image now l e are.0) (with_later l now) (entry_graph image now l e are.0 is) (others_stay image now l e are.0 ls es are.1)

@@ -1,0 +1,25 @@
+use Rattle.std.proofs.Common.{◌≡◌, ◌≢◌, ◌-◌, List}
+use Rattle.pm_model.specs.Words.{reads}
+use Rattle.pud_defs.specs.declared.layout.TheConstants.{LOG_ENTRY_WORDS}
+use Rattle.pud_defs.specs.Image.{Image}
+use Rattle.pud_defs.specs.Types.{types_of}
+use Rattle.pud_defs.specs.Graph.{Graph}
+use Rattle.pud_defs.specs.Laters.{Later, laters_name}
+use Rattle.log_entry.proofs.Left.{IsReading}
+use Rattle.hybrid_tx.specs.Grounds.{IsPlaced}
+use Rattle.hybrid_tx.specs.Transactions.{IsOpenOn}
+use Rattle.hybrid_tx.proofs.LatersNamed.{NamesRest}
+use Rattle.hybrid_tx.proofs.Tx.later_names.Given as goal
+
+abbrev pub invariant-loop-entry : goal.invariant-loop-entry
+invariant-loop-entry g l = record {
+  reading : IsReading l.self.at l.reader;
+  counts : g.H.Host.counts l.h ≡ g.H.Host.counts l.fn.h;
+  stays : g.H.Host.tells → g.H.Host.state l.h ≡ g.H.Host.state l.fn.h;
+  names : g.H.Host.tells → (image : Image) → reads (g.H.Host.state l.fn.h).now.words ≡ image → (before : Image) (undone now : Graph) (laters : List Later)
+      → IsPlaced l.frames l.pool → IsOpenOn l.frames l.pool (types_of image) l.self before undone now laters (g.H.Host.state l.fn.h).now.words → l.s ≢ 0
+      → NamesRest l.frames l.pool (types_of image) image now l.s l.reader (laters_name l.s laters);
+}
+
+abbrev pub decreases-loop-entry : goal.decreases-loop-entry
+decreases-loop-entry g l = LOG_ENTRY_WORDS - l.reader.passed

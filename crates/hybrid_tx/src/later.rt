@@ -1,0 +1,214 @@
+//! What is asked for within a transaction and comes when it is committed: values of fields, and whether one names an object.
+#![tactic(auto)]
+
+ghost use Rattle.std.specs.Prelude.{◌≡◌, ◌≢◌, ◌⊎◌, ◌+◌, ◌*◌, ◌<◌, ◌≤◌, ◌++◌, ◌∷◌, [], ℕ, List, true, false, All, map, Option, Result, IfOk, IfSome, OnErr, length};
+ghost use Rattle.pm_model.specs.Words.{reads};
+ghost use Rattle.pm_model.specs.Counts.{after_fault, fault_of};
+ghost use Rattle.pm_model.specs.Changes.{Changes};
+ghost use Rattle.pud_defs.specs.declared.layout.TheConstants.{LOG_WORDS, LOG_ENTRY_WORDS, MAX_FRAMES, MAX_FIELDS, SET_UNITS};
+ghost use Rattle.pud_defs.specs.declared.log_words.TheConstants.{REDO_ORDER};
+ghost use Rattle.pud_defs.specs.declared.records.Slot.{Slot};
+ghost use Rattle.pud_defs.specs.Image.{Image};
+ghost use Rattle.pud_defs.specs.Layout.{device_words, frames_at};
+ghost use Rattle.pud_defs.specs.Bases.{is_legal_base};
+ghost use Rattle.pud_defs.specs.Types.{types_of};
+ghost use Rattle.pud_defs.specs.Stored.{IsOnDevice, stored_in};
+ghost use Rattle.pud_defs.specs.Graph.{Graph, graph_of};
+ghost use Rattle.pud_defs.specs.Laters.{Later, later_names, laters_name};
+ghost use Rattle.log_entry.specs.Reading.{entry_from};
+ghost use Rattle.log_store.specs.Store.{InLog, longer};
+ghost use Rattle.graph_laws.specs.Changes.{AreBases};
+ghost use Rattle.graph_read.specs.Reading.{place_in_pool, IsSlotOf};
+ghost use Rattle.hybrid_tx.specs.Grounds.{IsPlaced};
+ghost use Rattle.hybrid_tx.specs.Laters.{IsFieldAddress, IsFieldOf};
+ghost use Rattle.hybrid_tx.specs.Stores.{address_at, word_for};
+ghost use Rattle.hybrid_tx.specs.Transactions.{MaySet, IsLater, IsOpenOn, RunsOn};
+
+use crate::Tx;
+use crate::changing::{slot_address, word_for};
+use graph_read::find_serial;
+use log_entry::{Entry, EntryReader};
+use pm_model::{Host, HostFault};
+use pud_defs::log_words::REDO_ORDER;
+use pud_defs::objects::Val;
+use pud_defs::records::{MAX_PUDDLES, Puddle, Slot};
+use pud_defs::space::{
+    FRAME_HEADER_WORDS, FRAME_SLOTS, SLOT_FIELDS_WORD, SLOT_WORDS, WORD_BYTES, slot_at,
+};
+use pud_defs::type_map::map_is_pointer;
+use puddle_header::{slot_serial, slot_type};
+use type_maps::find;
+
+/// How many addresses of a puddle's range stand before its slots.
+const HEADER_BYTES: u64 = (WORD_BYTES * FRAME_HEADER_WORDS) as u64;
+
+/// How many addresses a slot has.
+const SLOT_BYTES: u64 = (WORD_BYTES * SLOT_WORDS) as u64;
+
+/// How many addresses a word has.
+const ONE_WORD: u64 = WORD_BYTES as u64;
+
+/// How many words of a slot stand before its fields.
+const BEFORE_FIELDS: u64 = SLOT_FIELDS_WORD as u64;
+
+/// The slot of the puddle with this base, and the field of it, whose word has the address.
+fn field_in(base: u64, address: u64) -> Option<(u32, u32)>
+    ensures found { (slot : ℕ) (f : ℕ) → IsFieldAddress base address slot f → result ≡ Option.Some (slot, f) }
+    ensures is { IfSome result (λ at. IsFieldAddress base address at.0 at.1) }
+{
+    if address < base || address - base < HEADER_BYTES {
+        return None;
+    }
+    let behind = address - base - HEADER_BYTES;
+    let slot = behind / SLOT_BYTES;
+    let word = behind % SLOT_BYTES / ONE_WORD;
+    if behind % ONE_WORD != 0 || slot >= u64::from(FRAME_SLOTS) || word < BEFORE_FIELDS {
+        return None;
+    }
+    Some((slot as u32, (word - BEFORE_FIELDS) as u32))
+}
+
+/// The slot of the pool, and the field of it, whose word has the address.
+fn field_of(pool: &[(u32, Puddle)], address: u64) -> Option<(Slot, u32)>
+    requires { length pool.now ≤ MAX_PUDDLES }
+    ensures found { AreBases (map (λ d. d.base) (map (λ e. e.1) pool.now)) → (slot : Slot) (f : ℕ) → IsFieldOf pool.now address slot f → result ≡ Option.Some (slot, f) }
+    ensures is { IfSome result (λ at. IsFieldOf pool.now address at.0 at.1) }
+{
+    for ordinal in 0..pool.len() {
+        let (frame, puddle) = pool[ordinal];
+        if let Some((slot, f)) = field_in(puddle.base, address) {
+            let at = Slot {
+                frame,
+                ordinal: ordinal as u32,
+                slot,
+            };
+            return Some((at, f));
+        }
+    }
+    None
+}
+
+/// Whether an entry asks for the value of a field, and has the object of serial `s`, whose slot has this address, as the field's
+/// object or as the value.
+fn names<H: Host>(
+    h: &mut H,
+    frames: u32,
+    pool: &[(u32, Puddle)],
+    s: u64,
+    address: u64,
+    entry: &Entry,
+) -> Result<bool, HostFault>
+    requires few { frames ≤ MAX_FRAMES }
+    requires room { device_words frames ≤ (H.counts h.old).size }
+    requires known { IsOnDevice frames pool.now }
+    requires source { entry.now.at < (H.counts h.old).size }
+    ensures names { H.tells → (image : Image) → reads (H.state h.old).now.words ≡ image → (now : Graph) (l : Later) (p : ℕ) → IsPlaced frames pool.now
+        → graph_of (types_of image) (stored_in frames pool.now image) ≡ Option.Some now → IsLater frames pool.now (types_of image) image now l (entry_from image entry.now)
+        → s ≢ 0 → place_in_pool frames pool.now image s ≡ Option.Some p → address ≡ address_at pool.now p → IfOk result (λ named. named ≡ later_names s l) }
+    ensures saves { entry.now.order ≢ REDO_ORDER → IfOk result (λ named. named ≡ false) }
+    ensures stays { H.tells → H.state h.new ≡ H.state h.old }
+    ensures cause { H.counts h.new ≡ after_fault (fault_of result) (H.counts h.old) }
+    ensures never_cut { fault_of result ≢ Option.Some HostFault.Cut }
+{
+    if entry.order != REDO_ORDER {
+        return Ok(false);
+    }
+    let Some((at, f)) = field_of(pool, entry.addr) else {
+        return Ok(false);
+    };
+    let serial = slot_serial(h, frames, at.frame, at.slot)?;
+    if serial == s {
+        return Ok(true);
+    }
+    let value = h.load(entry.at)?;
+    if value != address {
+        return Ok(false);
+    }
+    let id = slot_type(h, frames, at.frame, at.slot)?;
+    match find(h, id)? {
+        Some(map) => Ok(map_is_pointer(map, f)),
+        None => Ok(false),
+    }
+}
+
+impl Tx {
+    /// Asks for another value of field `f` of the object of serial `s`: it comes when the transaction is committed, behind what is
+    /// set and what was asked for before.
+    ///
+    /// The field is below 30, the log lies before the frames, and it has room for three units. Where the object is live, its
+    /// type has the field and the field may hold the value, it is asked for at `Ok`; the pool's graph stays, and each image left
+    /// until the transaction is committed is, with the log replayed, as at the beginning. Where no object has the serial, or none
+    /// has the one that is to be named, nothing is done. The only errors are the host's own. Two fences.
+    pub fn later<H: Host>(
+        &mut self,
+        h: &mut H,
+        frames: u32,
+        pool: &[(u32, Puddle)],
+        s: u64,
+        f: u32,
+        x: Val,
+    ) -> Result<(), HostFault>
+        requires few { frames ≤ MAX_FRAMES }
+        requires device { device_words frames ≤ (H.counts h.old).size }
+        requires known { IsOnDevice frames pool.now }
+        requires place { self.old.at + LOG_WORDS ≤ frames_at frames }
+        requires field { f < MAX_FIELDS }
+        requires room { self.old.used + SET_UNITS ≤ LOG_ENTRY_WORDS }
+        ensures at { self.new.at ≡ self.old.at }
+        ensures changes { H.tells → Changes (InLog self.old.at) (fault_of result) (H.state h.old) (H.state h.new) }
+        ensures runs { H.tells → (types : List (ℕ × ℕ)) (before : Image) (undone : Graph) (now : Graph) (laters : List Later) → IsPlaced frames pool.now
+            → IsOpenOn frames pool.now types self.old before undone now laters (H.state h.old).now.words → MaySet types now s f x
+            → RunsOn frames pool.now types self.new before undone now (laters ++ record { s = s; f = f; x = x } ∷ []) (fault_of result) (H.state h.old) (H.state h.new) }
+        ensures counts { H.tells → (types : List (ℕ × ℕ)) (before : Image) (undone : Graph) (now : Graph) (laters : List Later) → IsPlaced frames pool.now
+            → IsOpenOn frames pool.now types self.old before undone now laters (H.state h.old).now.words → MaySet types now s f x
+            → IfOk result (λ _. self.new ≡ longer SET_UNITS self.old) }
+        ensures nothing { H.tells → All (λ e. is_legal_base e.1.base ≡ true) pool.now
+            → (place_in_pool frames pool.now (reads (H.state h.old).now.words) s ≡ Option.None) ⊎ (word_for frames pool.now (reads (H.state h.old).now.words) x ≡ Option.None)
+            → (H.state h.new ≡ H.state h.old) × (self.new ≡ self.old) }
+        ensures cause { H.counts h.new ≡ after_fault (fault_of result) (H.counts h.old) }
+    {
+        let found = find_serial(h, frames, pool, s)?;
+        let word = word_for(h, frames, pool, x)?;
+        match (found, word) {
+            (Some(at), Some(v)) => {
+                let field = slot_at(at.slot) + SLOT_FIELDS_WORD + f;
+                self.ask_in_frame(h, pool, at.ordinal, field, v)
+            }
+            _ => Ok(()),
+        }
+    }
+
+    /// Whether a value that is asked for later is one of a field of the object of serial `s`, or names that object.
+    ///
+    /// The log lies in the device, and the serial is not 0. Where no object has it the answer is no. Nothing changes, and the only
+    /// errors are the host's own. It looks the object up, and then reads the log's entries, up to the first that names it.
+    pub fn later_names<H: Host>(
+        &self,
+        h: &mut H,
+        frames: u32,
+        pool: &[(u32, Puddle)],
+        s: u64,
+    ) -> Result<bool, HostFault>
+        requires few { frames ≤ MAX_FRAMES }
+        requires device { device_words frames ≤ (H.counts h.old).size }
+        requires known { IsOnDevice frames pool.now }
+        requires place { self.now.at + LOG_WORDS ≤ (H.counts h.old).size }
+        ensures names { H.tells → (image : Image) → reads (H.state h.old).now.words ≡ image → (before : Image) (undone : Graph) (now : Graph) (laters : List Later) → IsPlaced frames pool.now
+            → IsOpenOn frames pool.now (types_of image) self.now before undone now laters (H.state h.old).now.words → s ≢ 0 → IfOk result (λ named. named ≡ laters_name s laters) }
+        ensures stays { H.tells → H.state h.new ≡ H.state h.old }
+        ensures cause { H.counts h.new ≡ after_fault (fault_of result) (H.counts h.old) }
+        ensures never_cut { fault_of result ≢ Option.Some HostFault.Cut }
+    {
+        let Some(at) = find_serial(h, frames, pool, s)? else {
+            return Ok(false);
+        };
+        let address = slot_address(pool, &at);
+        let mut reader = EntryReader::new(self.at());
+        while let Some(entry) = reader.next(h)? {
+            if names(h, frames, pool, s, address, &entry)? {
+                return Ok(true);
+            }
+        }
+        Ok(false)
+    }
+}
