@@ -8,6 +8,7 @@ use Rattle.std.proofs.lemmas.Slice.Eq.{bytes_eq-Decides}
 use Rattle.pm_model.specs.Moments.{State}
 use Rattle.pud_defs.specs.declared.machine.Command.TheVariants as commands
 use Rattle.pud_defs.specs.Graph.{Graph}
+use Rattle.pud_defs.specs.Laters.{Later}
 use Rattle.pud_defs.specs.Step.{graph_at_begin, after}
 use Rattle.pud_defs.specs.Transactions.{with_open, begun}
 use Rattle.pud_defs.specs.World.{Transaction, World}
@@ -57,8 +58,8 @@ module _ (size : ℕ) (w : World) (memory : Memory) (s : State) (ready : IsReady
 
     -- each is held as it was
     under_as : (m : ℕ) (h : Held) (u : IsHeldUnder w ready.held.opens ready.mask s.now.words m h) (x : Transaction) → next.transactions h.name ≡ Some x → x.client ≡ u.is.transaction.client
-        → x.units ≡ u.is.transaction.units → u.is.transaction.now ≡ x.now → IsHeldUnder next ready.held.opens ready.mask s.now.words m h
-    under_as m h u x is client units now =
+        → x.units ≡ u.is.transaction.units → u.is.transaction.now ≡ x.now → u.is.transaction.laters ≡ x.laters → IsHeldUnder next ready.held.opens ready.mask s.now.words m h
+    under_as m h u x is client units now laters =
         let i : IsHeld w h ready.mask s.now.words = u.is in
         record {
           is = record {
@@ -78,7 +79,8 @@ module _ (size : ℕ) (w : World) (memory : Memory) (s : State) (ready : IsReady
             count = i.count;
             pool = i.pool;
             records = i.records;
-            running = subst (λ (g : Graph). IsOpenOn w.stored.frames h.at w.stored.types h.log i.before i.undone g s.now.words) now i.running;
+            running = subst (λ (ls : List Later). IsOpenOn w.stored.frames h.at w.stored.types h.log i.before i.undone x.now ls s.now.words) laters
+                (subst (λ (g : Graph). IsOpenOn w.stored.frames h.at w.stored.types h.log i.before i.undone g i.transaction.laters s.now.words) now i.running);
             masked = i.masked;
           };
           number_is = u.number_is;
@@ -99,10 +101,10 @@ module _ (size : ℕ) (w : World) (memory : Memory) (s : State) (ready : IsReady
       are = ready.held.are;
       masks = ready.held.masks;
       each = each_of (IsHeldUnder next ready.held.opens ready.mask s.now.words)
-          (under_as number held its (record t { depth = depth }) (open_there held.name w.transactions (Some (record t { depth = depth }))) refl refl refl)
+          (under_as number held its (record t { depth = depth }) (open_there held.name w.transactions (Some (record t { depth = depth }))) refl refl refl refl)
           (λ m h is apart.
           let u = ready.held.each m h is in
-          under_as m h u u.is.transaction (open_elsewhere held.name w.transactions (Some (record t { depth = depth })) h.name (other_name m h is apart) ∙ u.is.is) refl refl refl);
+          under_as m h u u.is.transaction (open_elsewhere held.name w.transactions (Some (record t { depth = depth })) h.name (other_name m h is apart) ∙ u.is.is) refl refl refl refl);
       none = ready.held.none;
       known = known_still;
       names = ready.held.names;

@@ -33,7 +33,7 @@ use Rattle.pud_defs.specs.Stored.{Stored, IsOnDevice, stored_in}
 use Rattle.pud_defs.specs.Tables.{tables_of, puddles_of, listed, pool_of, puddles_in_turn}
 use Rattle.pud_defs.specs.Transactions as transactions
 use Rattle.pud_defs.specs.Transactions.{with_open}
-use Rattle.pud_defs.specs.World.{Transaction, World, world_of, idle_world_of, closed}
+use Rattle.pud_defs.specs.World.{Transaction, World, world_of, idle_world_of}
 use Rattle.pud_defs.proofs.Replay.{outside_log, within_log}
 use Rattle.pud_defs.proofs.Spaces.{owner_of-same}
 use Rattle.batch.specs.Batches.{HasIdleGate}
@@ -279,7 +279,7 @@ module _ (size : ℕ) (w : World) (memory : Memory) (old : State) (ready : IsRea
       }
 
   abbrev begun_transaction : Transaction
-  begun_transaction = record { client = client; depth = 1; units = 0; now = may.graph }
+  begun_transaction = record { client = client; depth = 1; units = 0; now = may.graph; laters = [] }
 
   module _ (fault : Option HostFault) (new : State) (persists : Persists (only gate RUNNING_GATE) fault old new) (runs : Runs g (begun gate) [] now nothing fault old new) where
     abbrev c : Changes By fault old new

@@ -21,6 +21,7 @@ use Rattle.pud_defs.specs.Graph.{Graph, graph_of}
 use Rattle.pud_defs.specs.PoolChanges.{pool_named}
 use Rattle.pud_defs.specs.Step.{graph_in}
 use Rattle.pud_defs.specs.Settled.{log_number_at}
+use Rattle.pud_defs.specs.Types.{map_of}
 use Rattle.pud_defs.specs.World.{Transaction, World, StoredWorld, world_of, idle_world_of, closed}
 use Rattle.pud_defs.proofs.Replay.{empty_range_of, new_value-closed, outside_log}
 use Rattle.hybrid_tx.specs.Grounds.{pool_mine, pool_ground}
@@ -33,6 +34,7 @@ use Rattle.hybrid_tx.proofs.OpenSettled.{nothing_given}
 use Rattle.hybrid_tx.proofs.OpenWorlds.{world_with_masked, none_refused_with_masked}
 use Rattle.hybrid_tx.specs.Transactions.{IsOpenOn}
 use Rattle.hybrid_tx.proofs.Opening.{stored_in-mine}
+use Rattle.hybrid_tx.proofs.LatersKept.{KeepsObjects-same, place_in_pool-stored, AreLaters-wider}
 use Rattle.batch.specs.Tables.{HasDurableTables}
 use Rattle.nesting.specs.declared.Session.{Session}
 use Rattle.word_transaction.specs.Running.{SettlesTo, ByTransaction}
@@ -93,6 +95,7 @@ pub record KeepsOne (w next : World) (held : Held) : Type 0 where
   pub present : next.clients held.client ≡ w.clients held.client
   pub stored : graph_in (pool_named held.name next.stored) ≡ graph_in (pool_named held.name w.stored)
   pub puddles : puddles_in (pool_named held.name next.stored) ≡ puddles_in (pool_named held.name w.stored)
+  pub types : (id m : ℕ) → map_of id w.stored.types ≡ Some m → map_of id next.stored.types ≡ Some m
   pub graphs : (st : Stored) (g : Graph) → graph_of w.stored.types st ≡ Some g → graph_of next.stored.types st ≡ Some g
 
 pub keeps_one : (w next : World) (held : List (Option Held)) → KeepsHeld w next held → (number : ℕ) (h : Held) → held_under held number ≡ Some h → KeepsOne w next h
@@ -102,6 +105,7 @@ keeps_one w next held keeps number h there = record {
   present = keeps.present number h there;
   stored = keeps.stored number h there;
   puddles = keeps.puddles number h there;
+  types = keeps.types;
   graphs = keeps.graphs;
 }
 
@@ -175,20 +179,26 @@ module _ (w next : World) (held : Held) (mask anew : Write) (old new : State) (i
   abbrev n : ℕ
   n = w.stored.frames
 
-  pub still_running : IsOpenOn n held.at next.stored.types held.log is.before is.undone is.transaction.now new.now.words
+  stored_still : stored_in n held.at (reads new.now.words) ≡ stored_in n held.at (reads old.now.words)
+  stored_still = stored_in-mine n held.at (reads old.now.words) (reads new.now.words) (λ k mine. kept_word may old new k c (λ v wrote. apart.mine k v wrote mine))
+
+  pub still_running : IsOpenOn n held.at next.stored.types held.log is.before is.undone is.transaction.now is.transaction.laters new.now.words
   still_running =
       let r = is.running in
       record {
+        redo = r.redo;
         saving = record {
           es = r.saving.es;
           running = IsRunning-kept (pool_ground n held.at) held.log r.saving.es is.before may None old new c
               (λ k v inside wrote. apart.log k v wrote inside) (λ k v mine wrote. apart.mine k v wrote mine) r.saving.running;
-          undo_only = r.saving.undo_only;
+          asks = r.saving.asks;
         };
         was = keeps.graphs (stored_in n held.at is.before) is.undone r.was;
         is = keeps.graphs (stored_in n held.at (reads new.now.words)) is.transaction.now
-            (ap (graph_of w.stored.types)
-            (stored_in-mine n held.at (reads old.now.words) (reads new.now.words) (λ k mine. kept_word may old new k c (λ v wrote. apart.mine k v wrote mine))) ∙ r.is);
+            (ap (graph_of w.stored.types) stored_still ∙ r.is);
+        are = AreLaters-wider n held.at held.at w.stored.types next.stored.types (reads old.now.words) (reads new.now.words) is.transaction.now is.transaction.now (record { each = λ o e there. there })
+            (record { each = keeps.types }) (record { each = λ s o live. place_in_pool-stored n held.at (reads old.now.words) (reads new.now.words) stored_still s }) (KeepsObjects-same is.transaction.now)
+            is.transaction.laters r.redo r.are;
       }
 
   -- with these words masked behind calls that write none of its own
@@ -212,7 +222,7 @@ module _ (w next : World) (held : Held) (mask anew : Write) (old new : State) (i
         count = keeps.puddles ∙ is.count;
         pool = subst (λ (m : ℕ). IsOpenPool m (pool_held held is.rec is.who) is.before) back is.pool;
         records = λ k of. kept_word may old new k c (λ v wrote. apart.records k v wrote of) ∙ is.records k of;
-        running = subst (λ (m : ℕ). IsOpenOn m held.at next.stored.types held.log is.before is.undone is.transaction.now new.now.words) back still_running;
+        running = subst (λ (m : ℕ). IsOpenOn m held.at next.stored.types held.log is.before is.undone is.transaction.now is.transaction.laters new.now.words) back still_running;
         masked = subst (λ (m : ℕ). (k v : ℕ) → open_mask m (pool_held held is.rec is.who) is.before k ≡ Some v → anew k ≡ Some v) back masked_so;
       }
 

@@ -9,9 +9,9 @@ use Rattle.pm_model.specs.Counts.{Counts, after_fault, fault_of}
 use Rattle.pm_model.specs.Moments.{State}
 use Rattle.pm_model.proofs.Leaves.{Leaves-still}
 use Rattle.pud_defs.specs.declared.machine.Command.{Command}
-use Rattle.pud_defs.specs.declared.machine.Command.TheVariants.{Leave, Begin, Commit, Abort, New, Set}
+use Rattle.pud_defs.specs.declared.machine.Command.TheVariants.{Leave, Begin, Commit, Abort, New}
+use Rattle.pud_defs.specs.declared.machine.Command.TheVariants as commands
 use Rattle.pud_defs.specs.declared.machine.Refusal.{Refusal}
-use Rattle.pud_defs.specs.declared.objects.Val.{Val}
 use Rattle.pud_defs.specs.declared.machine.Reply.{Reply}
 use Rattle.pud_defs.specs.declared.machine.Reply.TheVariants as replies
 use Rattle.pud_defs.specs.Changing.{file_of}
@@ -19,8 +19,11 @@ use Rattle.pud_defs.specs.Image.{Image}
 use Rattle.pud_defs.specs.World.{World}
 use Rattle.pud_defs.specs.Step.{refusal_of, after, answer_by, world_by}
 use Rattle.pud_defs.specs.Step.Answer.{of_reply}
-use Rattle.pud_defs.proofs.Steps.{refused_answer, done_world}
+use Rattle.pud_defs.proofs.Steps.{refused_answer, answer_is_ok, done_world}
 use Rattle.puddled.specs.Answered.{as_answered}
+use Rattle.puddled.specs.declared.changing.Change.{Change}
+use Rattle.puddled.specs.declared.changing.Change.TheVariants as changes
+use Rattle.puddled.specs.Changing.{line_of}
 use Rattle.puddled.specs.Daemon.{KeepsRest, IsReady, Applies, CarriesOut}
 use Rattle.puddled.specs.Faults.{kind_of}
 use Rattle.puddled.specs.Faults.Kind.{ordinary}
@@ -144,5 +147,15 @@ module _ (client : ℕ) (name : List ℕ) where
   pub new_is_plain : (t : ℕ) → IsPlain (New client name t)
   new_is_plain t = record { kind = refl; file = refl; stays = λ other is. cc }
 
-  pub set_is_plain : (s f : ℕ) (x : Val) → IsPlain (Set client name s f x)
-  set_is_plain s f x = record { kind = refl; file = refl; stays = λ other is. cc }
+  pub change_is_plain : (change : Change) → IsPlain (line_of change client name)
+  change_is_plain (changes.Set s f x) = record { kind = refl; file = refl; stays = λ other is. cc }
+  change_is_plain (changes.Later s f x) = record { kind = refl; file = refl; stays = λ other is. cc }
+  change_is_plain (changes.Root s) = record { kind = refl; file = refl; stays = λ other is. cc }
+  change_is_plain (changes.Free s) = record { kind = refl; file = refl; stays = λ other is. cc }
+
+  -- what a change is answered that is not refused
+  pub change_answer : (w : World) (change : Change) → refusal_of w (line_of change client name) ≡ None → of_reply replies.Ok ≡ answer_by w (Some (line_of change client name))
+  change_answer w (changes.Set s f x) free = sym (answer_is_ok w (commands.Set client name s f x) refl refl free)
+  change_answer w (changes.Later s f x) free = sym (answer_is_ok w (commands.Later client name s f x) refl refl free)
+  change_answer w (changes.Root s) free = sym (answer_is_ok w (commands.Root client name s) refl refl free)
+  change_answer w (changes.Free s) free = sym (answer_is_ok w (commands.Free client name s) refl refl free)

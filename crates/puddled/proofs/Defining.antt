@@ -35,7 +35,7 @@ use Rattle.pud_defs.specs.Step.{is_other, is_clash, graph_in, answer_by, refusal
 use Rattle.pud_defs.proofs.Keyed.{IsLowestFree, first_free_some, keyed-same}
 use Rattle.pud_defs.proofs.KeyedMaps.{find-mapped}
 use Rattle.pud_defs.proofs.PoolsCounted.{count_used-same}
-use Rattle.pud_defs.proofs.TypeMore.{graph_of-more}
+use Rattle.pud_defs.proofs.TypeMore.{map_of-more, graph_of-more}
 use Rattle.pud_defs.proofs.TypeTable.{free_word, type_at-same}
 use Rattle.pud_defs.proofs.Spaces.{owner_of-same}
 use Rattle.pud_defs.proofs.Parts.{StandsFor}
@@ -261,6 +261,10 @@ graphs_kept : (id map : ℕ) (s : StoredWorld) → map_of id s.types ≡ None �
 unfolding with_type_defined
 graphs_kept id map s none st g is = graph_of-more id map s.types st g none is
 
+types_kept : (id map : ℕ) (s : StoredWorld) → map_of id s.types ≡ None → (other m : ℕ) → map_of other s.types ≡ Some m → map_of other (with_type_defined id map s).types ≡ Some m
+unfolding with_type_defined
+types_kept id map s none other m is = map_of-more id map other m s.types none is ∙ is
+
 frames_kept : (id map : ℕ) (s : StoredWorld) → (with_type_defined id map s).frames ≡ s.frames
 unfolding with_type_defined
 frames_kept id map s = refl
@@ -275,6 +279,7 @@ KeepsHeld-define w held mask words id map holds none = record {
       let is = held_is w held mask words holds number h there in
       pool_kept id map w.stored h.name is.undone is.stored ∙ sym is.stored;
   puddles = λ number h there. puddles_kept id map w.stored h.name;
+  types = types_kept id map w.stored none;
   graphs = graphs_kept id map w.stored none;
 }
 

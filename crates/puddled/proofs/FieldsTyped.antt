@@ -1,10 +1,10 @@
--- Fields of a graph's objects: they are those of a type that is defined, and of its kinds; and what `set` may then set.
-use Rattle.std.proofs.Common.{◌≡◌, ◌⊎◌, inl, inr, ℕ, ◌+◌, ◌/◌, ◌%◌, ◌<◌, ◌≤◌, Bool, true, false, not, cond, ◌&&◌, eqb, List, map, nat_cmp, Option, Some, None, option_map, is_none, is_some, refl, sym, ap, subst, ◌∙◌, arith, ne_eqb}
+-- Fields of a graph's objects: they are those of a type that is defined, and of its kinds; and what may then be changed.
+use Rattle.std.proofs.Common.{◌≡◌, ◌⊎◌, inl, inr, ℕ, ◌+◌, ◌/◌, ◌%◌, ◌<◌, ◌≤◌, Bool, true, false, not, cond, ◌&&◌, ◌||◌, eqb, List, map, nat_cmp, Option, Some, None, option_map, is_none, is_some, refl, sym, ap, subst, ◌∙◌, arith, ne_eqb}
 use Rattle.std.specs.Prelude.{slice_get}
 use Rattle.std.specs.List.{range_with_len}
 use Rattle.std.specs.Ordering.{eq_by_cmp}
 use Rattle.std.specs.FinMap.Entries.{find}
-use Rattle.std.proofs.lemmas.Bool.{cases_eq, cases_lt}
+use Rattle.std.proofs.lemmas.Bool.{cases_eq, cases_lt, or_parts}
 use Rattle.std.proofs.lemmas.Cmp.{nat_cmp_total}
 use Rattle.std.proofs.lemmas.List.{length-map}
 use Rattle.std.proofs.lemmas.List.FromFn.{get_or-range_with_len, length-range_with_len}
@@ -13,18 +13,22 @@ use Rattle.pud_defs.specs.declared.space.TheConstants.{FRAME_SLOTS, SLOT_FIELDS_
 use Rattle.pud_defs.specs.declared.objects.Val.{Val}
 use Rattle.pud_defs.specs.declared.objects.Val.TheVariants.{Num, Ref}
 use Rattle.pud_defs.specs.declared.records.Puddle.{Puddle}
-use Rattle.pud_defs.specs.declared.machine.Command.TheVariants.{Set}
+use Rattle.pud_defs.specs.declared.machine.Refusal.TheVariants as refusals
 use Rattle.pud_defs.specs.TypeMap.{is_pointer}
 use Rattle.pud_defs.specs.Types.{map_of}
 use Rattle.pud_defs.specs.Keyed.{keyed, under}
 use Rattle.pud_defs.specs.Stored.{Stored, places_of, place_word}
-use Rattle.pud_defs.specs.Graph.{Content, Number, Null, at_place, place_in, target, bases_by, content, field_count, Table, table_of, contents_by, contents_or_none, value_of, object_at, live, all_stand, Graph, Object, object_in, graph_of}
+use Rattle.pud_defs.specs.Graph.{Content, Number, Null, at_place, place_in, target, bases_by, content, field_count, Table, table_of, contents_by, contents_or_none, value_of, object_at, live, all_stand, Graph, Object, object_in, is_held, graph_of}
+use Rattle.pud_defs.specs.Laters.{laters_name}
 use Rattle.pud_defs.specs.Step.{misses, are_of_two_kinds, refusal_of}
 use Rattle.pud_defs.specs.World.{Transaction, World}
 use Rattle.pud_defs.proofs.Keyed.{find-keyed, first_from_some}
 use Rattle.pud_defs.proofs.Graphs.{graph_of-each, under_serial-free, under_serial-used}
-use Rattle.hybrid_tx.specs.Transactions.{MayHold, MaySet}
-use Rattle.puddled.proofs.TransactionRefusals.{IsSettable, set_parts}
+use Rattle.hybrid_tx.specs.Transactions.{MayHold, MaySet, MayFree}
+use Rattle.puddled.specs.declared.changing.Change.{Change}
+use Rattle.puddled.specs.declared.changing.Change.TheVariants.{Set, Later, Root, Free}
+use Rattle.puddled.specs.Changing.{line_of, MayChange}
+use Rattle.puddled.proofs.TransactionRefusals.{IsSettable, freeing_refusal, change_refusal, settable_by, change_parts, unless, some_there}
 
 -- ---- of which kind a field is
 
@@ -133,7 +137,7 @@ may_hold g m f (Num v) (Ref s) kind same named = absurd (let no : true ≡ false
 may_hold g m f (Ref r) (Ref s) kind same named = (sym kind, live_or_null s (object_in s g) named)
 
 -- what is settable by the graph may be set by the types that it has
-pub may_set : (types : List (ℕ × ℕ)) (st : Stored) (g : Graph) (units s f : ℕ) (x : Val) → graph_of types st ≡ Some g → IsSettable g units s f x → MaySet types g s f x
+may_set : (types : List (ℕ × ℕ)) (st : Stored) (g : Graph) (units s f : ℕ) (x : Val) → graph_of types st ≡ Some g → IsSettable g units s f x → MaySet types g s f x
 may_set types st g units s f x is settable =
     let typed = typed_field types st g s f settable.object settable.was is settable.live settable.there in
     record {
@@ -145,7 +149,21 @@ may_set types st g units s f x is settable =
       holds = may_hold g typed.type_map f settable.was x typed.kind settable.kind settable.named;
     }
 
--- a line that is not refused sets what may be set
-pub may_set_unrefused : (w : World) (client s f : ℕ) (name : List ℕ) (x : Val) (st : Stored) (t : Transaction) → w.transactions name ≡ Some t → graph_of w.stored.types st ≡ Some t.now
-    → refusal_of w (Set client name s f x) ≡ None → MaySet w.stored.types t.now s f x
-may_set_unrefused w client s f name x st t there is none = may_set w.stored.types st t.now t.units s f x is (set_parts w client name t there s f x none)
+may_free : (t : Transaction) (s : ℕ) → freeing_refusal (Some t.now) t.laters t.units s ≡ None → MayFree t.now s × (laters_name s t.laters ≡ false)
+may_free t s none =
+    let object = unless (is_none (object_in s t.now)) refusals.Object _ none in
+    let held = unless (is_held s t.now || laters_name s t.laters) refusals.Held _ object.1 in
+    let spared = or_parts (is_held s t.now) (laters_name s t.laters) held.0 in
+    let o = some_there (object_in s t.now) object.0 in
+    (record { object = o.0; live = o.1; spared = spared.0 }, spared.1)
+
+may_change : (types : List (ℕ × ℕ)) (st : Stored) (t : Transaction) (change : Change) → graph_of types st ≡ Some t.now → change_refusal change (Some t.now) t.laters t.units ≡ None → MayChange types t change
+may_change types st t (Set s f x) is none = may_set types st t.now t.units s f x is (settable_by t.now t.units s f x none)
+may_change types st t (Later s f x) is none = may_set types st t.now t.units s f x is (settable_by t.now t.units s f x none)
+may_change types st t (Root s) is none = live_or_null s (object_in s t.now) (unless (misses (Some t.now) (Ref s)) refusals.Object _ none).0
+may_change types st t (Free s) is none = may_free t s none
+
+-- a line that is not refused changes what may be changed
+pub may_change_unrefused : (w : World) (client : ℕ) (name : List ℕ) (change : Change) (st : Stored) (t : Transaction) → w.transactions name ≡ Some t → graph_of w.stored.types st ≡ Some t.now
+    → refusal_of w (line_of change client name) ≡ None → MayChange w.stored.types t change
+may_change_unrefused w client name change st t there is none = may_change w.stored.types st t change is (change_parts w client name t there change none)

@@ -1,5 +1,5 @@
 -- What is held is committed or undone: what the calls that do so ask of the device, and the world that they give.
-use Rattle.std.proofs.Common.{◌≡◌, ◌≢◌, inl, inr, ℕ, ◌+◌, ◌<◌, ◌≤◌, true, false, ◌||◌, cond, leb, eqb, List, Option, Some, None, option_map, refl, sym, ap, ap₂, subst, ◌∙◌, arith}
+use Rattle.std.proofs.Common.{◌≡◌, ◌≢◌, inl, inr, ℕ, ◌+◌, ◌<◌, ◌≤◌, true, false, ◌||◌, cond, leb, eqb, List, [], Option, Some, None, option_map, refl, sym, ap, ap₂, subst, ◌∙◌, arith}
 use Rattle.std.specs.Prelude.{unwrap_or, set}
 use Rattle.std.specs.FinMap.Entries.{find, put}
 use Rattle.std.proofs.lemmas.Bool.{cond-true, cond-false, le-leb}
@@ -18,6 +18,7 @@ use Rattle.pud_defs.specs.declared.machine.Command.TheVariants.{Commit, Abort}
 use Rattle.pud_defs.specs.declared.records.Puddle.{Puddle}
 use Rattle.pud_defs.specs.Allowed.{puddle_word}
 use Rattle.pud_defs.specs.Graph.{Graph, graph_of}
+use Rattle.pud_defs.specs.Laters.{Later, with_laters}
 use Rattle.pud_defs.specs.Image.{Image}
 use Rattle.pud_defs.specs.Layout.{tables_end, frames_at, device_words}
 use Rattle.pud_defs.specs.Entries.{is_idle_gate}
@@ -34,8 +35,8 @@ use Rattle.pud_defs.specs.Settled.{log_number_at}
 use Rattle.pud_defs.proofs.TablesOf.{tables_of-same}
 use Rattle.log_store.specs.Store.{OpenLog}
 use Rattle.nesting.specs.Sessions.{session_depth, depth_in}
-use Rattle.word_transaction.specs.Running.{ByTransaction, HasPlaces, HasOneTable}
-use Rattle.hybrid_tx.specs.Grounds.{pool_mine, pool_ground, IsPlaced}
+use Rattle.word_transaction.specs.Running.{ByTransaction, HasPlaces, HasOneTable, CanRedo}
+use Rattle.hybrid_tx.specs.Grounds.{pool_mine, pool_ground, IsPlaced, IsRewritten}
 use Rattle.hybrid_tx.specs.Masks.{OpenPool, is_open_record, open_mask}
 use Rattle.hybrid_tx.specs.ManyOpen.{open_masks}
 use Rattle.hybrid_tx.specs.Transactions.{IsOpenOn, ClosesOn, EndsOn}
@@ -58,6 +59,7 @@ use Rattle.puddled.proofs.HeldRuns.{held_placed}
 use Rattle.puddled.proofs.InTurn.{held_in_turn}
 use Rattle.puddled.proofs.PoolsApart.{found_beside_put}
 use Rattle.puddled.proofs.PoolsBeside.{used_still}
+use Rattle.puddled.proofs.Rewritten.{held_rewritten}
 use Rattle.puddled.proofs.TablesBeside.{header_read}
 
 -- ---- pools of other names
@@ -84,14 +86,15 @@ mask_agrees F p after before k same q = cond (is_in_log (log_number_at F p.numbe
 -- on so many frames of a device of so many words, with this log
 abbrev pub Undoes : (F sz : ℕ) → OpenLog → Option HostFault → State → State → Type 0
 Undoes F sz log fault old new =
-    (pool : List (ℕ × Puddle)) (types : List (ℕ × ℕ)) (before : Image) (undone : Graph) (seen : Graph) → IsPlaced F pool → device_words F ≤ sz → log.at + LOG_WORDS ≤ frames_at F
-    → IsOpenOn F pool types log before undone seen old.now.words → HasPlaces (pool_ground F pool) (puddle_word (tables_of F (reads old.now.words))) → HasOneTable F old.now.words
+    (pool : List (ℕ × Puddle)) (types : List (ℕ × ℕ)) (before : Image) (undone : Graph) (seen : Graph) (laters : List Later) → IsPlaced F pool → device_words F ≤ sz → log.at + LOG_WORDS ≤ frames_at F
+    → IsOpenOn F pool types log before undone seen laters old.now.words → HasPlaces (pool_ground F pool) (puddle_word (tables_of F (reads old.now.words))) → HasOneTable F old.now.words
     → ClosesOn F pool types log.at before undone fault old new
 
-abbrev pub Commits : (sz : ℕ) → OpenLog → Option HostFault → State → State → Type 0
-Commits sz log fault old new =
-    (F : ℕ) (pool : List (ℕ × Puddle)) (types : List (ℕ × ℕ)) (before : Image) (undone : Graph) (seen : Graph) → IsPlaced F pool → device_words F ≤ sz → log.at + LOG_WORDS ≤ frames_at F
-    → IsOpenOn F pool types log before undone seen old.now.words → EndsOn F pool types log.at before undone seen fault old new
+abbrev pub Commits : (F sz : ℕ) → OpenLog → Option HostFault → State → State → Type 0
+Commits F sz log fault old new =
+    (pool : List (ℕ × Puddle)) (types : List (ℕ × ℕ)) (before : Image) (undone : Graph) (seen : Graph) (laters : List Later) → IsPlaced F pool → device_words F ≤ sz → log.at + LOG_WORDS ≤ frames_at F
+    → IsOpenOn F pool types log before undone seen laters old.now.words → (laters ≢ [] → IsRewritten pool) → (laters ≢ [] → CanRedo (pool_ground F pool) F log.at old.now.words)
+    → EndsOn F pool types log.at before undone (with_laters laters seen) fault old new
 
 -- a transaction writes no word in front of the clients' logs
 behind_tables : (F number : ℕ) (at : List (ℕ × Puddle)) (k v : ℕ) → ByTransaction (pool_ground F at) (log_number_at F number) k v → BehindTables F k v
@@ -125,6 +128,9 @@ module _ (size : ℕ) (w : World) (memory : Memory) (number : ℕ) (held : Held)
   held_table : HasOneTable n old.now.words
   held_table = record { each = λ k within. let low = within.low in let high = within.high in ready.tables.each k (inr (omega arith)) high }
 
+  can_redo : CanRedo (pool_ground n held.at) n held.log.at old.now.words
+  can_redo = record { before = let gate = is.gate in omega arith; table = held_table; places = held_places }
+
   log_apart : held.log.at + LOG_WORDS ≤ frames_at n
   log_apart = let gate = is.gate in let few = is.pool.known in omega arith
 
@@ -140,7 +146,7 @@ module _ (size : ℕ) (w : World) (memory : Memory) (number : ℕ) (held : Held)
   module _ (F sz : ℕ) (fault : Option HostFault) (new : State) (on : F ≡ n) (same : size ≡ sz) (undoes : Undoes F sz held.log fault old new) where
     closes : ClosesOn n held.at w.stored.types held.log.at is.before is.undone fault old new
     closes =
-        subst (λ (m : ℕ). Undoes m sz held.log fault old new) on undoes held.at w.stored.types is.before is.undone is.transaction.now placed (omega (arith, same, room)) log_apart is.running held_places held_table
+        subst (λ (m : ℕ). Undoes m sz held.log fault old new) on undoes held.at w.stored.types is.before is.undone is.transaction.now is.transaction.laters placed (omega (arith, same, room)) log_apart is.running held_places held_table
 
     pub undone_behind : Changes (BehindTables n) fault old new
     undone_behind =
@@ -162,24 +168,28 @@ module _ (size : ℕ) (w : World) (memory : Memory) (number : ℕ) (held : Held)
   masked_tables : (i : Image) → Picks old.now.words i → tables_of n (masked_image ready.mask i) ≡ tables_of n now
   masked_tables i picked = tables_of-same n (masked_image ready.mask i) now (λ k low high. masked_table i picked k (omega arith) (omega arith)) (λ k low high. masked_table i picked k (omega arith) high)
 
-  module _ (x : Image) (graph : graph_of w.stored.types (stored_in n held.at x) ≡ Some is.transaction.now) where
+  -- the graph that it makes, with what it asked for
+  abbrev made : Graph
+  made = with_laters is.transaction.laters is.transaction.now
+
+  module _ (x : Image) (graph : graph_of w.stored.types (stored_in n held.at x) ≡ Some made) where
     abbrev values : Image
     values = mixed (pool_ground n held.at) x is.before
 
     abbrev pools_after : List (List ℕ × Pool)
-    pools_after = changed_pool is.rec.name (holding_graph is.transaction.now) w.stored.pools
+    pools_after = changed_pool is.rec.name (holding_graph made) w.stored.pools
 
     values_beside : (k : ℕ) → pool_mine n held.at k ≡ false → values k ≡ is.before k
     values_beside k other = cond-false _ _ _ other
 
-    graph_after : graph_of w.stored.types (stored_in n held.at values) ≡ Some is.transaction.now
+    graph_after : graph_of w.stored.types (stored_in n held.at values) ≡ Some made
     graph_after = ap (graph_of w.stored.types) (stored_in-mine n held.at x values (λ k mine. cond-true _ _ _ mine)) ∙ graph
 
     -- all are masked, with these values of its frames
     abbrev anew : Write
     anew = open_masks n (all_later size w memory number held old ready there values values_beside)
 
-    values_graph : (i : Image) → Picks old.now.words i → graph_of w.stored.types (stored_in n held.at (masked_image anew i)) ≡ Some is.transaction.now
+    values_graph : (i : Image) → Picks old.now.words i → graph_of w.stored.types (stored_in n held.at (masked_image anew i)) ≡ Some made
     values_graph i picked =
         let masks = later_masks size w memory number held old ready there values values_beside i picked in
         let its = later_more size w memory number held old ready there values values_beside in
@@ -198,7 +208,7 @@ module _ (size : ℕ) (w : World) (memory : Memory) (number : ℕ) (held : Held)
     stands_after : (i : Image) → Picks old.now.words i → idle_world_of size (masked_image anew i) ≡ Some (record w.stored { pools = pools_after })
     stands_after i picked =
         let tables = masked_tables i picked in
-        idle_world_with_graph size w.stored (masked_image ready.mask i) (masked_image anew i) held.slot is.rec held.at is.transaction.now
+        idle_world_with_graph size w.stored (masked_image ready.mask i) (masked_image anew i) held.slot is.rec held.at made
         (ap is_idle_gate (masked_image-elsewhere ready.mask i DAEMON_LOG (daemon_log_unmasked w memory.held ready.mask old.now.words ready.held)) ∙ idle_there size w memory number held old ready there i picked)
         (ready.settled.stands (masked_image ready.mask i) (Picks-masked ready.mask old.now.words i picked)) is.pool.slot
         (ap (λ (t : Tables). t.pools held.slot) tables ∙ used_still w held ready.mask old.now.words is)
@@ -206,24 +216,26 @@ module _ (size : ℕ) (w : World) (memory : Memory) (number : ℕ) (held : Held)
         (λ k other. ap (λ (o : Option ℕ). unwrap_or o (i k)) (anew_beside i picked k other)) (values_graph i picked)
 
     pools_beside : (name : List ℕ) → name ≢ held.name → pool_named name (record w.stored { pools = pools_after }) ≡ pool_named name w.stored
-    pools_beside name apart = changed_beside is.rec.name name (holding_graph is.transaction.now) w.stored.pools (λ same. apart (same ∙ is.name))
+    pools_beside name apart = changed_beside is.rec.name name (holding_graph made) w.stored.pools (λ same. apart (same ∙ is.name))
 
   module _ (client : ℕ) (last : is.transaction.depth ≤ 1) where
     -- the world that the last commit gives
     committed_world : after w (Commit client held.name)
-        ≡ record w { stored = record w.stored { pools = changed_pool is.rec.name (holding_graph is.transaction.now) w.stored.pools }; transactions = with_open held.name None w.transactions }
+        ≡ record w { stored = record w.stored { pools = changed_pool is.rec.name (holding_graph made) w.stored.pools }; transactions = with_open held.name None w.transactions }
     unfolding after
     committed_world =
         let one : leb is.transaction.depth 1 ≡ true = le-leb is.transaction.depth 1 last in
         ap₂ (λ (ps : List (List ℕ × Pool)) (t : Option Transaction). record w { stored = record w.stored { pools = ps }; transactions = with_open held.name t w.transactions })
-        (ap (λ (o : Option Transaction). committed_pools held.name o w.stored.pools) is.is ∙ cond-true _ _ _ one ∙ ap (λ (name : List ℕ). changed_pool name (holding_graph is.transaction.now) w.stored.pools) (sym is.name))
+        (ap (λ (o : Option Transaction). committed_pools held.name o w.stored.pools) is.is ∙ cond-true _ _ _ one ∙ ap (λ (name : List ℕ). changed_pool name (holding_graph made) w.stored.pools) (sym is.name))
         (ap lowered is.is ∙ cond-true _ _ _ one)
 
-    pub Applies-committed : (sz : ℕ) (fault : Option HostFault) (new : State) → size ≡ sz → Commits sz held.log fault old new → Applies size w (after w (Commit client held.name)) (ended number held memory) fault old new
-    Applies-committed sz fault new same commits =
-        let e = commits n held.at w.stored.types is.before is.undone is.transaction.now placed (omega (arith, same, room)) log_apart is.running in
+    pub Applies-committed : (F sz : ℕ) (fault : Option HostFault) (new : State) → F ≡ n → size ≡ sz → Commits F sz held.log fault old new
+        → Applies size w (after w (Commit client held.name)) (ended number held memory) fault old new
+    Applies-committed F sz fault new on same commits =
+        let e = subst (λ (m : ℕ). Commits m sz held.log fault old new) on commits held.at w.stored.types is.before is.undone is.transaction.now is.transaction.laters placed (omega (arith, same, room)) log_apart is.running
+        (λ some. held_rewritten size w memory old ready number held there) (λ some. can_redo) in
         subst (λ (v : World). Applies size w v (ended number held memory) fault old new) (sym committed_world)
-        (Applies-ended size w memory number held old ready there (values e.after e.is) (values_beside e.after e.is) (pools_after e.after e.is) (stands_after e.after e.is) (pools_beside e.after e.is) is.transaction.now
+        (Applies-ended size w memory number held old ready there (values e.after e.is) (values_beside e.after e.is) (pools_after e.after e.is) (stands_after e.after e.is) (pools_beside e.after e.is) made
         (graph_after e.after e.is) fault new (EndsBy-ends (pool_ground n held.at) held.log.at is.before e.after fault old new e.ends))
 
 -- the client's own is undone
@@ -301,7 +313,7 @@ module _ (size : ℕ) (w : World) (memory behind : Memory) (number : ℕ) (fault
 
   -- it was committed, where it was begun once
   pub Applies-kept : (sz client : ℕ) (name : List ℕ) (slot : ℕ) (log : OpenLog) → size ≡ sz → IsOwnOn client name slot number memory.held → option_map log_held (held_under memory.held number) ≡ Some log
-      → depth_in memory.sessions slot ≤ 1 → Commits sz log fault old new → Applies size w (after w (Commit client name)) behind fault old new
+      → depth_in memory.sessions slot ≤ 1 → Commits memory.frames sz log fault old new → Applies size w (after w (Commit client name)) behind fault old new
   Applies-kept sz client name slot log same on held_log last commits =
       let mine = on.own.mine in
       let there = on.own.is in
@@ -309,4 +321,5 @@ module _ (size : ℕ) (w : World) (memory behind : Memory) (number : ℕ) (fault
       let depth = sym (ap (depth_in memory.sessions) on.slot_is) ∙ depth_is size w memory number mine old ready there in
       subst (λ (n : List ℕ). Applies size w (after w (Commit client n)) behind fault old new) on.own.pool
       (subst (λ (m : Memory). Applies size w (after w (Commit client mine.name)) m fault old new) (released_one number memory behind mine there released)
-      (Applies-committed size w memory number mine old ready there client (omega (arith, depth, last)) sz fault new same (subst (λ (l : OpenLog). Commits sz l fault old new) its commits)))
+      (Applies-committed size w memory number mine old ready there client (omega (arith, depth, last)) memory.frames sz fault new ready.frames same
+      (subst (λ (l : OpenLog). Commits memory.frames sz l fault old new) its commits)))

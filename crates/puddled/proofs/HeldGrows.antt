@@ -31,6 +31,7 @@ use Rattle.pud_defs.specs.SoundTables.{HasSoundTables}
 use Rattle.pud_defs.specs.Spaces.{owner_of}
 use Rattle.pud_defs.specs.Step.{graph_in}
 use Rattle.pud_defs.specs.Tables.{Tables, Pool, tables_of, puddles_in_turn}
+use Rattle.pud_defs.specs.Types.{map_of}
 use Rattle.pud_defs.specs.World.{StoredWorld, World}
 use Rattle.pud_defs.proofs.PoolMembers.{IsMemberOf, HasMembers}
 use Rattle.pud_defs.proofs.PoolsChanged.{changed_here}
@@ -189,7 +190,7 @@ module _ (size : ℕ) (w : World) (memory : Memory) (held : Held) (old : State) 
     holds_then : Holds w memory.held ready.mask words
     holds_then =
         holds_still w w memory.held ready.mask old new ready.held
-        (record { frames = refl; transactions = refl; present = λ n h has. refl; stored = λ n h has. refl; puddles = λ n h has. refl; graphs = λ st g is. is }) done.beside.changes
+        (record { frames = refl; transactions = refl; present = λ n h has. refl; stored = λ n h has. refl; puddles = λ n h has. refl; types = λ id m is. is; graphs = λ st g is. is }) done.beside.changes
 
     abbrev is_then : IsHeld w held ready.mask words
     is_then = (holds_then.each number held there).is
@@ -307,6 +308,7 @@ module _ (size : ℕ) (w : World) (memory : Memory) (held : Held) (old : State) 
           present = refl;
           stored = ap graph_in same;
           puddles = ap puddles_in same;
+          types = λ id m defined. ap (map_of id) (grown_types held.name w.stored) ∙ defined;
           graphs = λ st graph stored. ap (λ (ts : List (ℕ × ℕ)). graph_of ts st) (grown_types held.name w.stored) ∙ stored;
         }
 

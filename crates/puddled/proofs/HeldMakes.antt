@@ -16,6 +16,7 @@ use Rattle.pud_defs.specs.GraphChanges.{with_new, blank_object}
 use Rattle.pud_defs.specs.PoolChanges.{pool_named}
 use Rattle.pud_defs.specs.Step.{graph_seen, next_in, grows, object_made}
 use Rattle.pud_defs.specs.Stored.{stored_in}
+use Rattle.pud_defs.specs.Transactions.{charged}
 use Rattle.pud_defs.specs.Types.{map_of}
 use Rattle.pud_defs.specs.World.{Transaction, World}
 use Rattle.graph_laws.specs.Slots.{AreAllLive}
@@ -27,6 +28,7 @@ use Rattle.puddled.specs.Changing.{refusal_to_make, refusal_by_world, with_made}
 use Rattle.puddled.specs.Daemon.{IsReady, Applies}
 use Rattle.puddled.proofs.HeldRuns.{is_held, Applies-runs}
 use Rattle.puddled.proofs.HeldSets.{used_more, OwesRuns, told, owed}
+use Rattle.puddled.proofs.OpenNames.{Charges-charged}
 use Rattle.puddled.proofs.HeldPools.{grows_live, grows_not}
 
 -- ---- what is not refused
@@ -98,11 +100,12 @@ module _ (size : ℕ) (w : World) (memory : Memory) (held : Held) (old : State) 
 
       pub Applies-made : (done : Result ℕ HostFault) → grows w held.name ≡ false
           → ((m : ℕ) → map_of id w.stored.types ≡ Some m → is.transaction.now.next_serial < NUMBER_LIMIT → (AreAllLive (stored_in F at (reads old.now.words)) → ⊥)
-          → OwesRuns size w memory held old number there ready F at same listed log new gate F at (with_new (blank_object id m)) (fault_of done))
+          → OwesRuns size w memory held old number there ready F at same listed log new gate F at (charged NEW_UNITS (with_new (blank_object id m))) (fault_of done))
           → ((AreAllLive (stored_in F at (reads old.now.words)) → ⊥) → IfOk done (λ _. log ≡ longer NEW_UNITS held.log))
           → Applies size w (with_made held.name id w) (with_held number (Some (record held { log = log })) memory) (fault_of done) old new
       Applies-made done less runs used =
           let left = subst (λ (n : ℕ). n < NUMBER_LIMIT) next_serial may.left in
-          let at_first = owed size w memory held old number there ready F at same listed log new gate (with_new (blank_object id may.is)) (fault_of done) (runs may.is may.defined left (not_live less)) in
-          Applies-runs size w memory held old number there ready log NEW_UNITS (with_new (object_made w id)) (fault_of done) new gate (used_more done NEW_UNITS log held.log (used (not_live less)))
-          (subst (λ (change : Graph → Graph). RunsOn w.stored.frames held.at w.stored.types log is.before is.undone (change is.transaction.now) (fault_of done) old new) the_object at_first)
+          let at_first = owed size w memory held old number there ready F at same listed log new gate (charged NEW_UNITS (with_new (blank_object id may.is))) (fault_of done) (runs may.is may.defined left (not_live less)) in
+          Applies-runs size w memory held old number there ready log NEW_UNITS (charged NEW_UNITS (with_new (object_made w id))) (Charges-charged NEW_UNITS (with_new (object_made w id))) (fault_of done) new gate
+          (used_more done NEW_UNITS log held.log (used (not_live less)))
+          (subst (λ (change : Graph → Graph). RunsOn w.stored.frames held.at w.stored.types log is.before is.undone (change is.transaction.now) is.transaction.laters (fault_of done) old new) the_object at_first)

@@ -48,6 +48,7 @@ module _ (w : World) (held : List (Option Held)) (mask : Write) (words : Words) 
     present = refl;
     stored = refl;
     puddles = refl;
+    types = λ id m is. is;
     graphs = λ st g is. is;
   }
 

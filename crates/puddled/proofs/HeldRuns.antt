@@ -13,12 +13,11 @@ use Rattle.pm_model.proofs.Masks.{masked-there, masked-elsewhere, masked_image-t
 use Rattle.pud_defs.specs.declared.layout.TheConstants.{DAEMON_LOG}
 use Rattle.pud_defs.specs.Image.{Image}
 use Rattle.pud_defs.specs.Entries.{is_idle_gate}
-use Rattle.pud_defs.specs.Graph.{Graph}
 use Rattle.pud_defs.specs.Layout.{tables_end, log_at}
 use Rattle.pud_defs.specs.Stored.{IsOnDevice}
 use Rattle.pud_defs.specs.Tables.{tables_of}
-use Rattle.pud_defs.specs.Transactions.{with_changed, charged}
-use Rattle.pud_defs.specs.World.{World, world_of, idle_world_of, closed}
+use Rattle.pud_defs.specs.Transactions.{with_changed}
+use Rattle.pud_defs.specs.World.{Transaction, World, world_of, idle_world_of, closed}
 use Rattle.pud_defs.proofs.Spaces.{owner_of-same}
 use Rattle.pud_defs.proofs.TablesOf.{frames_of_tables}
 use Rattle.batch.specs.Worlds.{IsSettled}
@@ -38,7 +37,7 @@ use Rattle.puddled.specs.Held.{pool_held, open_held, IsHeld, IsHeldUnder, Holds,
 use Rattle.puddled.specs.KnownPools.{KnowsPools}
 use Rattle.puddled.specs.Daemon.{IsReady, RefusesNone, StandsBetween, Applies}
 use Rattle.puddled.proofs.Beside.{IsApart, KeepsOne, Leaves-from, log_masked, own_masked, record_picked, left_apart, left_all, under_left, own_apart, held_still, names_none_idle, ready_idle}
-use Rattle.puddled.proofs.OpenNames.{changed_there, changed_elsewhere, WereOpen, WereOpen-changed}
+use Rattle.puddled.proofs.OpenNames.{changed_there, changed_elsewhere, WereOpen, WereOpen-changed, Charges}
 use Rattle.puddled.proofs.HeldChanged.{Holds-later, HasSessions-later, KnowsPools-later}
 use Rattle.puddled.proofs.PoolsBeside.{members_still}
 use Rattle.puddled.proofs.JudgedOpen.{KeepsPools-held}
@@ -194,10 +193,11 @@ module _ (size : ℕ) (w : World) (memory : Memory) (held : Held) (old : State) 
     }
 
   -- the transaction was changed, and used so many units more
-  module _ (log : OpenLog) (units : ℕ) (change : Graph → Graph) (fault : Option HostFault) (new : State) (at : log.at ≡ held.log.at) (used : fault ≡ None → log.used ≡ held.log.used + units)
-      (runs : RunsOn F held.at w.stored.types log is.before is.undone (change is.transaction.now) fault old new) where
+  module _ (log : OpenLog) (units : ℕ) (change : Transaction → Transaction) (charges : Charges units change) (fault : Option HostFault) (new : State) (at : log.at ≡ held.log.at)
+      (used : fault ≡ None → log.used ≡ held.log.used + units)
+      (runs : RunsOn F held.at w.stored.types log is.before is.undone (change is.transaction).now (change is.transaction).laters fault old new) where
     abbrev next : World
-    next = record w { transactions = with_changed held.name (charged units change) w.transactions }
+    next = record w { transactions = with_changed held.name change w.transactions }
 
     abbrev later : Held
     later = record held { log = log }
@@ -221,10 +221,10 @@ module _ (size : ℕ) (w : World) (memory : Memory) (held : Held) (old : State) 
       who = is.who;
       before = is.before;
       undone = is.undone;
-      transaction = charged units change is.transaction;
-      is = changed_there held.name w.transactions (charged units change) is.transaction is.is;
-      client = is.client;
-      units = ap (λ (n : ℕ). n + units) is.units ∙ sym (used none);
+      transaction = change is.transaction;
+      is = changed_there held.name w.transactions change is.transaction is.is;
+      client = charges.client is.transaction ∙ is.client;
+      units = charges.used is.transaction ∙ ap (λ (n : ℕ). n + units) is.units ∙ sym (used none);
       present = is.present;
       owner = is.owner;
       gate = at ∙ is.gate;
@@ -236,9 +236,11 @@ module _ (size : ℕ) (w : World) (memory : Memory) (held : Held) (old : State) 
           let place = open_record_place F p k is.pool.slot is.pool.known (open_on_device F p is.before is.pool) of in
           kept_within none k place.high ∙ is.records k of;
       running = record {
-        saving = record { es = runs.saves.es; running = runs.saves.runs.running none; undo_only = runs.saves.undo_only };
+        redo = runs.redo;
+        saving = record { es = runs.saves.es; running = runs.saves.runs.running none; asks = runs.saves.asks };
         was = runs.was;
         is = runs.is none;
+        are = runs.are none;
       };
       masked = is.masked;
     }
@@ -250,10 +252,11 @@ module _ (size : ℕ) (w : World) (memory : Memory) (held : Held) (old : State) 
     keeps_other : (n : ℕ) (g : Held) → n ≢ number → held_under memory.held n ≡ Some g → KeepsOne w next g
     keeps_other n g apart has = record {
       frames = refl;
-      transaction = changed_elsewhere held.name w.transactions (charged units change) g.name (λ same. apart (ready.held.names n number g held has there same));
+      transaction = changed_elsewhere held.name w.transactions change g.name (λ same. apart (ready.held.names n number g held has there same));
       present = refl;
       stored = refl;
       puddles = refl;
+      types = λ id m defined. defined;
       graphs = λ st graph stored. stored;
     }
 
@@ -267,7 +270,7 @@ module _ (size : ℕ) (w : World) (memory : Memory) (held : Held) (old : State) 
         }
 
     were : WereOpen w.transactions next.transactions
-    were = WereOpen-changed held.name (charged units change) w.transactions (λ t. refl) (λ t. refl)
+    were = WereOpen-changed held.name change w.transactions (λ t. sym (charges.client t)) (λ t. sym (charges.depth t))
 
     holds_within : fault ≡ None → Holds next (with_held number (Some later) memory).held ready.mask new.now.words
     holds_within none =

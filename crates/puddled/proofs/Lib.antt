@@ -19,6 +19,7 @@ pub mod HeldChanged
 pub mod HeldRuns
 pub mod HeldSets
 pub mod InTurn
+pub mod GraphLonger
 pub mod Widened
 pub mod HeldPools
 pub mod HeldMakes

@@ -1,9 +1,11 @@
 -- Which transactions are open in a world once the one on a pool is another, or none.
-use Rattle.std.proofs.Common.{◌≡◌, ◌≢◌, inl, inr, ℕ, false, bytes_eq, List, Option, Some, None, option_map, refl, sym, ap, subst, ◌∙◌}
+use Rattle.std.proofs.Common.{◌≡◌, ◌≢◌, inl, inr, ℕ, ◌+◌, false, bytes_eq, List, Option, Some, None, option_map, refl, sym, ap, subst, ◌∙◌}
 use Rattle.std.proofs.lemmas.Bool.{cases_Bool, cond-true, cond-false}
 use Rattle.std.proofs.lemmas.Option.{none-some, same_Some}
 use Rattle.std.proofs.lemmas.Slice.Eq.{bytes_eq-Decides}
-use Rattle.pud_defs.specs.Transactions.{Opened, with_open, with_changed}
+use Rattle.pud_defs.specs.Graph.{Graph}
+use Rattle.pud_defs.specs.Laters.{Later}
+use Rattle.pud_defs.specs.Transactions.{Opened, with_open, with_changed, charged, asked}
 use Rattle.pud_defs.specs.World.{Transaction}
 
 other_name : (name other : List ℕ) → other ≢ name → bytes_eq other name ≡ false
@@ -60,3 +62,17 @@ module _ (name : List ℕ) (change : Transaction → Transaction) (opened : Open
       | inr differs ↦ record { was = t; is = sym (cond-false (bytes_eq other name) (option_map change (opened name)) (opened other) differs) ∙ is; client = refl; depth = refl }
     ];
   }
+
+-- ---- what a call within one makes of it
+
+-- The change keeps whose the transaction is and how often it was begun, and counts so many units more.
+pub record Charges (units : ℕ) (change : Transaction → Transaction) : Type 0 where
+  pub client : (t : Transaction) → (change t).client ≡ t.client
+  pub depth : (t : Transaction) → (change t).depth ≡ t.depth
+  pub used : (t : Transaction) → (change t).units ≡ t.units + units
+
+pub Charges-charged : (units : ℕ) (change : Graph → Graph) → Charges units (charged units change)
+Charges-charged units change = record { client = λ t. refl; depth = λ t. refl; used = λ t. refl }
+
+pub Charges-asked : (units : ℕ) (l : Later) → Charges units (asked units l)
+Charges-asked units l = record { client = λ t. refl; depth = λ t. refl; used = λ t. refl }

@@ -132,6 +132,7 @@ keeps_held w held client now others = record {
   present = λ number h there. cond-false _ _ _ (ne_eqb h.client client (others.each number h there));
   stored = λ number h there. refl;
   puddles = λ number h there. refl;
+  types = λ id m is. is;
   graphs = λ st g is. is;
 }
 

@@ -92,6 +92,7 @@ module _ (w : World) (list : List (Option Held)) (mask : Write) (old : State) (h
       present = refl;
       stored = ap graph_in (kept h.name a.name);
       puddles = ap puddles_in (kept h.name a.name);
+      types = λ id m is. is;
       graphs = λ st g is. is;
     }
 

@@ -32,6 +32,7 @@ use Rattle.pud_defs.specs.Puddles.{Member, puddle_record_at}
 use Rattle.pud_defs.specs.Puts.{is_of_pool}
 use Rattle.pud_defs.specs.Replay.{value_at}
 use Rattle.pud_defs.specs.Tables.{Tables, Pool, tables_of}
+use Rattle.pud_defs.specs.Types.{map_of}
 use Rattle.pud_defs.specs.Graph.{graph_of}
 use Rattle.pud_defs.specs.PoolChanges.{pool_named}
 use Rattle.pud_defs.specs.Step.{graph_in}
@@ -246,6 +247,7 @@ KeepsHeld-stored w next held frames types pool = record {
   present = λ number h there. refl;
   stored = λ number h there. ap graph_in (pool number h there);
   puddles = λ number h there. ap puddles_in (pool number h there);
+  types = λ id m is. ap (map_of id) types ∙ is;
   graphs = λ st g is. ap (λ (ts : List (ℕ × ℕ)). graph_of ts st) types ∙ is;
 }
 

@@ -8,17 +8,23 @@ use Rattle.pm_model.specs.Words.{Words}
 use Rattle.pm_model.specs.Changes.{Write}
 use Rattle.pud_defs.specs.declared.layout.TheConstants.{CLIENT_LOGS, LOG_ENTRY_WORDS, MAX_DEPTH, SET_UNITS, NEW_UNITS}
 use Rattle.pud_defs.specs.declared.objects.Val.{Val}
+use Rattle.pud_defs.specs.declared.objects.Val.TheVariants.{Ref}
 use Rattle.pud_defs.specs.declared.machine.Command.TheVariants.{Begin, Commit, Abort, New, Set}
+use Rattle.pud_defs.specs.declared.machine.Command.TheVariants as commands
 use Rattle.pud_defs.specs.declared.machine.Refusal.{Refusal}
 use Rattle.pud_defs.specs.declared.machine.Refusal.TheVariants as refusals
 use Rattle.pud_defs.specs.Types.{map_of}
 use Rattle.pud_defs.specs.Spaces.{Owner}
 use Rattle.pud_defs.specs.Graph.{Graph, Object, object_in}
+use Rattle.pud_defs.specs.Laters.{Later, laters_name}
 use Rattle.pud_defs.specs.Tables.{Pool}
 use Rattle.pud_defs.specs.PoolChanges.{pool_named, lacks_frames}
 use Rattle.pud_defs.specs.World.{Transaction, World}
-use Rattle.pud_defs.specs.Transactions.{is_own, is_others, units_of, depth_of}
-use Rattle.pud_defs.specs.Step.{writes, graph_in, graph_seen, object_of, field_of, open_elsewhere, misses, are_of_two_kinds, grows, lacks_room, holds, refusal_of}
+use Rattle.pud_defs.specs.Transactions.{is_own, is_others, units_of, depth_of, laters_of}
+use Rattle.pud_defs.specs.Step.{writes, graph_in, graph_seen, object_of, field_of, open_elsewhere, misses, are_of_two_kinds, is_held_in, grows, lacks_room, holds, refusal_of}
+use Rattle.puddled.specs.declared.changing.Change.{Change}
+use Rattle.puddled.specs.declared.changing.Change.TheVariants as changes
+use Rattle.puddled.specs.Changing.{line_of}
 use Rattle.puddled.specs.Memory.{Held}
 use Rattle.puddled.specs.Held.{Holds, IsHeld, IsOwn}
 use Rattle.puddled.specs.Refusing.{busy_unless, refusal_to_write}
@@ -48,6 +54,24 @@ setting_refusal g units s f x =
     (cond (is_none (field_of f (object_of s g))) (Some refusals.Field)
     (cond (are_of_two_kinds (field_of f (object_of s g)) x) (Some refusals.Kind)
     (cond (ltb LOG_ENTRY_WORDS (units + SET_UNITS)) (Some refusals.TooBig) None)))
+
+-- of `root`
+abbrev pub rooting_refusal : Option Graph → (units s : ℕ) → Option Refusal
+rooting_refusal g units s = cond (misses g (Ref s)) (Some refusals.Object) (cond (ltb LOG_ENTRY_WORDS (units + SET_UNITS)) (Some refusals.TooBig) None)
+
+-- of `free`, also by what is asked for later
+abbrev pub freeing_refusal : Option Graph → List Later → (units s : ℕ) → Option Refusal
+freeing_refusal g laters units s =
+    cond (is_none (object_of s g)) (Some refusals.Object)
+    (cond (is_held_in s g || laters_name s laters) (Some refusals.Held)
+    (cond (ltb LOG_ENTRY_WORDS (units + SET_UNITS)) (Some refusals.TooBig) None))
+
+-- of any such line
+abbrev pub change_refusal : Change → Option Graph → List Later → (units : ℕ) → Option Refusal
+change_refusal (changes.Set s f x) g laters units = setting_refusal g units s f x
+change_refusal (changes.Later s f x) g laters units = setting_refusal g units s f x
+change_refusal (changes.Root s) g laters units = rooting_refusal g units s
+change_refusal (changes.Free s) g laters units = freeing_refusal g laters units s
 
 -- of `new`, where the client's own transaction is open, by the map of the type and by what is full
 abbrev pub making_refusal : (map : Option ℕ) → (units : ℕ) → (full lacks : Bool) → Option Refusal
@@ -91,19 +115,35 @@ module _ (w : World) (client : ℕ) (name : List ℕ) where
       behind refusals.Client refusals.Pool refusals.Wild refusals.Denied refusals.Busy (not (is_some acts)) (is_none found) (is_none (graph_in found)) (not (writes acts found)) (is_others client opened)
       (entering_refusal client opened (open_elsewhere w client name))
 
-  set_by : (s f : ℕ) (x : Val) → refusal_of w (Set client name s f x) ≡ option_or (own_refusal acts found client opened) (setting_refusal (graph_seen opened found) (units_of opened) s f x)
+  -- what is asked for later is refused as what is set
+  pub refusal_of-later : (s f : ℕ) (x : Val) → refusal_of w (commands.Later client name s f x) ≡ refusal_of w (Set client name s f x)
   unfolding refusal_of holds
-  set_by s f x = behind refusals.Client refusals.Pool refusals.Wild refusals.Busy refusals.Tx (not (is_some acts)) (is_none found) (is_none (graph_in found)) (is_others client opened) (not (is_own client opened)) (setting_refusal (graph_seen opened found) (units_of opened) s f x)
+  refusal_of-later s f x = refl
 
-  pub refusal_of-set : (s f : ℕ) (x : Val) → refusal_of w (Set client name s f x) ≡ option_or (refusal_of w (Commit client name)) (setting_refusal (graph_seen opened found) (units_of opened) s f x)
-  refusal_of-set s f x = set_by s f x ∙ ap (λ (r : Option Refusal). option_or r (setting_refusal (graph_seen opened found) (units_of opened) s f x)) (sym refusal_of-commit)
+  abbrev its_own : Change → Option Refusal
+  its_own change = change_refusal change (graph_seen opened found) (laters_of opened) (units_of opened)
+
+  behind_own : (rest : Option Refusal)
+      → cond (not (is_some acts)) (Some refusals.Client)
+      (cond (is_none found) (Some refusals.Pool)
+      (cond (is_none (graph_in found)) (Some refusals.Wild) (cond (is_others client opened) (Some refusals.Busy) (cond (not (is_own client opened)) (Some refusals.Tx) rest))))
+      ≡ option_or (own_refusal acts found client opened) rest
+  behind_own rest = behind refusals.Client refusals.Pool refusals.Wild refusals.Busy refusals.Tx (not (is_some acts)) (is_none found) (is_none (graph_in found)) (is_others client opened) (not (is_own client opened)) rest
+
+  change_by : (change : Change) → refusal_of w (line_of change client name) ≡ option_or (own_refusal acts found client opened) (its_own change)
+  unfolding refusal_of holds
+  change_by (changes.Set s f x) = behind_own (its_own (changes.Set s f x))
+  change_by (changes.Later s f x) = behind_own (its_own (changes.Later s f x))
+  change_by (changes.Root s) = behind_own (its_own (changes.Root s))
+  change_by (changes.Free s) = behind_own (its_own (changes.Free s))
+
+  pub refusal_of-change : (change : Change) → refusal_of w (line_of change client name) ≡ option_or (refusal_of w (Commit client name)) (its_own change)
+  refusal_of-change change = change_by change ∙ ap (λ (r : Option Refusal). option_or r (its_own change)) (sym refusal_of-commit)
 
   new_by : (t : ℕ) → refusal_of w (New client name t)
       ≡ option_or (own_refusal acts found client opened) (making_refusal (map_of t w.stored.types) (units_of opened) (lacks_room w name) (grows w name && lacks_frames w.stored 1))
   unfolding refusal_of holds
-  new_by t =
-      behind refusals.Client refusals.Pool refusals.Wild refusals.Busy refusals.Tx (not (is_some acts)) (is_none found) (is_none (graph_in found)) (is_others client opened) (not (is_own client opened))
-      (making_refusal (map_of t w.stored.types) (units_of opened) (lacks_room w name) (grows w name && lacks_frames w.stored 1))
+  new_by t = behind_own (making_refusal (map_of t w.stored.types) (units_of opened) (lacks_room w name) (grows w name && lacks_frames w.stored 1))
 
   pub refusal_of-new : (t : ℕ) → refusal_of w (New client name t)
       ≡ option_or (refusal_of w (Commit client name)) (making_refusal (map_of t w.stored.types) (units_of opened) (lacks_room w name) (grows w name && lacks_frames w.stored 1))
@@ -117,8 +157,8 @@ module _ (w : World) (client : ℕ) (name : List ℕ) where
 
   -- a line that is refused before what it asks is looked at
   module _ (r : Refusal) (refused : refusal_of w (Commit client name) ≡ Some r) where
-    pub refused_set : (s f : ℕ) (x : Val) → refusal_of w (Set client name s f x) ≡ Some r
-    refused_set s f x = refusal_of-set s f x ∙ ap (λ (o : Option Refusal). option_or o (setting_refusal (graph_seen opened found) (units_of opened) s f x)) refused
+    pub refused_change : (change : Change) → refusal_of w (line_of change client name) ≡ Some r
+    refused_change change = refusal_of-change change ∙ ap (λ (o : Option Refusal). option_or o (its_own change)) refused
 
     pub refused_new : (t : ℕ) → refusal_of w (New client name t) ≡ Some r
     refused_new t = refusal_of-new t ∙ ap (λ (o : Option Refusal). option_or o (making_refusal (map_of t w.stored.types) (units_of opened) (lacks_room w name) (grows w name && lacks_frames w.stored 1))) refused
@@ -151,7 +191,7 @@ own_is_open w held mask words client name number holds own =
 
 -- ---- what a line that is not refused has
 
-unless : (b : Bool) (r : Refusal) (rest : Option Refusal) → cond b (Some r) rest ≡ None → (b ≡ false) × (rest ≡ None)
+pub unless : (b : Bool) (r : Refusal) (rest : Option Refusal) → cond b (Some r) rest ≡ None → (b ≡ false) × (rest ≡ None)
 unless true r rest none = absurd (none-some r (sym none))
 unless false r rest none = (refl, none)
 
@@ -159,7 +199,7 @@ neither : (first rest : Option Refusal) → option_or first rest ≡ None → (f
 neither None rest none = (refl, none)
 neither (Some r) rest none = absurd (none-some r (sym none))
 
-some_there : {A : Type 0} (o : Option A) → is_none o ≡ false → (x : A) × (o ≡ Some x)
+pub some_there : {A : Type 0} (o : Option A) → is_none o ≡ false → (x : A) × (o ≡ Some x)
 some_there None there = absurd (let no : true ≡ false = there in cc)
 some_there (Some x) there = (x, refl)
 
@@ -173,7 +213,7 @@ pub record IsSettable (g : Graph) (units s f : ℕ) (x : Val) : Type 0 where
   pub kind : are_of_two_kinds (Some was) x ≡ false
   pub fits : units + SET_UNITS ≤ LOG_ENTRY_WORDS
 
-settable_by : (g : Graph) (units s f : ℕ) (x : Val) → setting_refusal (Some g) units s f x ≡ None → IsSettable g units s f x
+pub settable_by : (g : Graph) (units s f : ℕ) (x : Val) → setting_refusal (Some g) units s f x ≡ None → IsSettable g units s f x
 settable_by g units s f x none =
     let object = unless (misses (Some g) x || is_none (object_in s g)) refusals.Object _ none in
     let names = or_parts (misses (Some g) x) (is_none (object_in s g)) object.0 in
@@ -194,8 +234,8 @@ settable_by g units s f x none =
     }
 
 module _ (w : World) (client : ℕ) (name : List ℕ) (t : Transaction) (open_there : w.transactions name ≡ Some t) where
-  pub set_parts : (s f : ℕ) (x : Val) → refusal_of w (Set client name s f x) ≡ None → IsSettable t.now t.units s f x
-  set_parts s f x none =
-      settable_by t.now t.units s f x
-      (ap (λ (o : Option Transaction). setting_refusal (graph_seen o (pool_named name w.stored)) (units_of o) s f x) (sym open_there)
-      ∙ (neither (refusal_of w (Commit client name)) _ (sym (refusal_of-set w client name s f x) ∙ none)).1)
+  -- nothing of its own refuses it
+  pub change_parts : (change : Change) → refusal_of w (line_of change client name) ≡ None → change_refusal change (Some t.now) t.laters t.units ≡ None
+  change_parts change none =
+      ap (λ (o : Option Transaction). change_refusal change (graph_seen o (pool_named name w.stored)) (laters_of o) (units_of o)) (sym open_there)
+      ∙ (neither (refusal_of w (Commit client name)) _ (sym (refusal_of-change w client name change) ∙ none)).1

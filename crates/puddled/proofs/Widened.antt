@@ -17,8 +17,7 @@ use Rattle.pud_defs.specs.declared.layout.TheConstants.{DAEMON_LOG, FRAME_WORDS}
 use Rattle.pud_defs.specs.declared.records.Puddle.{Puddle}
 use Rattle.pud_defs.specs.Image.{Image}
 use Rattle.pud_defs.specs.Frames.{frame_at, IsFreshFrame}
-use Rattle.pud_defs.specs.Graph.{Graph, graph_of}
-use Rattle.pud_defs.specs.Holdings.{held_as, graph_held}
+use Rattle.pud_defs.specs.Graph.{graph_of}
 use Rattle.pud_defs.specs.Layout.{frames_at, tables_end, device_words, log_at}
 use Rattle.pud_defs.specs.PoolChanges.{pool_named}
 use Rattle.pud_defs.specs.Replay.{is_in_log}
@@ -26,7 +25,7 @@ use Rattle.pud_defs.specs.Settled.{ALL_LOGS, client_of_log, log_number_at}
 use Rattle.pud_defs.specs.Spaces.{Owner, owner_of}
 use Rattle.pud_defs.specs.SoundTables.{HasSoundTables}
 use Rattle.pud_defs.specs.Step.{graph_in}
-use Rattle.pud_defs.specs.Stored.{Stored, IsOnDevice, stored_in}
+use Rattle.pud_defs.specs.Stored.{IsOnDevice}
 use Rattle.pud_defs.specs.Tables.{Tables, tables_of, puddles_in_turn}
 use Rattle.pud_defs.specs.World.{Transaction, StoredWorld, World}
 use Rattle.pud_defs.proofs.Replay.{outside_log}
@@ -43,32 +42,20 @@ use Rattle.hybrid_tx.specs.Transactions.{IsOpenOn}
 use Rattle.hybrid_tx.proofs.ManyMasks.{masks_of_others, opens_apart, open_masks_all}
 use Rattle.hybrid_tx.proofs.ManyIdle.{one_ended, one_put, others_open, others_records, opens_more, records_more, masks_elsewhere, masks_changed}
 use Rattle.hybrid_tx.proofs.OpenMasks.{mine_behind, open_record_place, mask_of_own, mask_of_mine, mask_of_record, mask_of_others}
+use Rattle.hybrid_tx.proofs.LatersKept.{KeepsObjects-same, AreLaters-wider}
 use Rattle.hybrid_tx.proofs.Opening.{stored_in-mine}
 use Rattle.hybrid_tx.proofs.OpenPools.{open_on_device, placed_by_tables}
 use Rattle.hybrid_tx.proofs.PoolPlaces.{placed_of_members}
 use Rattle.hybrid_tx.proofs.PoolGrounds.{pool_mine-each, pool_may-named, pool_may-from, pool_place-there, is_ground}
-use Rattle.registry.proofs.Grown.{still_holds}
 use Rattle.nesting.specs.declared.Session.{Session}
 use Rattle.puddled.specs.Changing.{StaysOpen}
 use Rattle.puddled.specs.Memory.{Held, held_under}
 use Rattle.puddled.specs.Held.{pool_held, open_held, puddles_in, IsHeld, IsHeldUnder, Holds, HasSessions, HasDurableFrames, HasIdleLogs, ByOthers}
 use Rattle.puddled.proofs.Beside.{KeepsOne, others_apart, held_still, records_all}
+use Rattle.puddled.proofs.GraphLonger.{graph_longer, places_longer}
 use Rattle.puddled.proofs.HeldChanged.{Holds-later, HasSessions-later}
 use Rattle.puddled.proofs.OpenNames.{WereOpen, WereOpen-same}
 use Rattle.puddled.proofs.PoolsBeside.{used_still, members_still}
-
--- ---- the graph
-
-graph_as : (st : Stored) (o : Option Graph) → graph_held (held_as st o) ≡ o
-graph_as st None = refl
-graph_as st (Some g) = refl
-
--- a fresh puddle behind the others keeps it
-pub graph_longer : (types : List (ℕ × ℕ)) (F : ℕ) (i : Image) (at : List (ℕ × Puddle)) (e : ℕ × Puddle) (g : Graph) → 1 ≤ length at → IsFreshFrame F e.0 e.1.number (length at) i → graph_of types (stored_in F at i) ≡ Some g
-    → graph_of types (stored_in F (at ++ e ∷ []) i) ≡ Some g
-graph_longer types F i at e g some fresh is =
-    sym (graph_as (stored_in F (at ++ e ∷ []) i) (graph_of types (stored_in F (at ++ e ∷ []) i)))
-    ∙ ap graph_held (still_holds types F i at e.0 e.1 (omega (arith, some)) fresh g (ap (held_as (stored_in F at i)) is))
 
 -- ---- masks
 
@@ -278,20 +265,23 @@ module _ (w : World) (held : Held) (mask : Write) (words : Words) (is : IsHeld w
           let known = is.pool.known in
           is_ground F (device_words F) held.log.at held.at placed_before (omega arith) (omega arith)
 
-      running_more : IsOpenOn F at w.stored.types held.log before is.undone is.transaction.now words
+      running_more : IsOpenOn F at w.stored.types held.log before is.undone is.transaction.now is.transaction.laters words
       running_more =
           let r = is.running in
           let g = pool_ground F held.at in
           let fresh_before : IsFreshFrame F e.0 e.1.number (length held.at) before = record { each = λ k below. other_word (frame_at F e.0 + k) (apart k below) ∙ fresh.each k below } in
           record {
+            redo = r.redo;
             saving = record {
               es = r.saving.es;
               running = IsRunning-wider g (pool_ground F at) held.log r.saving.es before words wider fresh_word
                   (IsRunning-values (device_words F) g held.log r.saving.es is.before before words ground (λ k own. sym (own_word k own)) r.saving.running);
-              undo_only = r.saving.undo_only;
+              asks = r.saving.asks;
             };
             was = graph_longer w.stored.types F before held.at e is.undone some fresh_before (ap (graph_of w.stored.types) (stored_in-mine F held.at is.before before own_word) ∙ r.was);
             is = graph_longer w.stored.types F now held.at e is.transaction.now some fresh r.is;
+            are = AreLaters-wider F held.at at w.stored.types w.stored.types now now is.transaction.now is.transaction.now (record { each = front }) (record { each = λ id m is. is })
+                (places_longer w.stored.types F now held.at e is.transaction.now r.is) (KeepsObjects-same is.transaction.now) is.transaction.laters r.redo r.are;
           }
 
       -- The next world holds it with that puddle, where its words are masked.
@@ -315,8 +305,8 @@ module _ (w : World) (held : Held) (mask : Write) (words : Words) (is : IsHeld w
             count = grows.puddles ∙ (let had = is.count in omega (arith, had, length_push held.at e));
             pool = subst (λ (m : ℕ). IsOpenPool m q before) back pool_more;
             records = records_then;
-            running = subst (λ (m : ℕ). IsOpenOn m at next.stored.types held.log before is.undone is.transaction.now words) back
-                (subst (λ (types : List (ℕ × ℕ)). IsOpenOn F at types held.log before is.undone is.transaction.now words) (sym grows.types) running_more);
+            running = subst (λ (m : ℕ). IsOpenOn m at next.stored.types held.log before is.undone is.transaction.now is.transaction.laters words) back
+                (subst (λ (types : List (ℕ × ℕ)). IsOpenOn F at types held.log before is.undone is.transaction.now is.transaction.laters words) (sym grows.types) running_more);
             masked = subst (λ (m : ℕ). (k v : ℕ) → open_mask m q before k ≡ Some v → anew k ≡ Some v) back masks;
           }
 

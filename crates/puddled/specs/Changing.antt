@@ -1,19 +1,57 @@
--- What stays of a transaction that is held while it goes on, why an object is not made in it, and what making one leaves.
-use Rattle.std.specs.Prelude.{◌≡◌, ℕ, ◌+◌, Bool, not, nat_le, nat_lt, cond, List, length, Option, Some, None, is_none, is_some}
-use Rattle.pud_defs.specs.declared.layout.TheConstants.{LOG_ENTRY_WORDS, NEW_UNITS, NUMBER_LIMIT, NEXT_NUMBER_WORD}
+-- What a line changes in a transaction that is held, and what stays of it while it goes on; why an object is not made in it, and what making one leaves.
+use Rattle.std.specs.Prelude.{◌≡◌, ℕ, ◌+◌, ◌<◌, ◌≤◌, Bool, false, not, nat_le, nat_lt, cond, List, length, Option, Some, None, is_none, is_some}
+use Rattle.pud_defs.specs.declared.layout.TheConstants.{LOG_ENTRY_WORDS, MAX_FIELDS, SET_UNITS, NEW_UNITS, NUMBER_LIMIT, NEXT_NUMBER_WORD}
+use Rattle.pud_defs.specs.declared.machine.Command.{Command}
+use Rattle.pud_defs.specs.declared.machine.Command.TheVariants as commands
 use Rattle.pud_defs.specs.declared.machine.Refusal.{Refusal}
 use Rattle.pud_defs.specs.declared.machine.Refusal.TheVariants as refusals
-use Rattle.pud_defs.specs.GraphChanges.{with_new}
+use Rattle.pud_defs.specs.GraphChanges.{with_field, with_root, without_object, with_new}
 use Rattle.pud_defs.specs.Image.{Image}
 use Rattle.pud_defs.specs.Keyed.{first_free}
+use Rattle.pud_defs.specs.Laters.{laters_name}
 use Rattle.pud_defs.specs.PoolChanges.{pool_named, with_grown_pool}
 use Rattle.pud_defs.specs.Step.{graph_seen, next_in, object_made}
 use Rattle.pud_defs.specs.Tables.{tables_of}
-use Rattle.pud_defs.specs.Transactions.{with_changed, charged}
+use Rattle.pud_defs.specs.Transactions.{with_changed, charged, asked}
 use Rattle.pud_defs.specs.Types.{map_of}
-use Rattle.pud_defs.specs.World.{World}
+use Rattle.pud_defs.specs.World.{Transaction, World}
 use Rattle.registry.specs.Growth.{has_room}
+use Rattle.hybrid_tx.specs.Transactions.{MayName, MaySet, MayFree}
+use Rattle.puddled.specs.declared.changing.Change.{Change}
+use Rattle.puddled.specs.declared.changing.Change.TheVariants.{Set, Later, Root, Free}
 use Rattle.puddled.specs.Memory.{Held}
+
+-- ---- a line of three units
+
+-- the line of a client, on the pool of a name, that asks for the change
+abbrev pub line_of : Change → (client : ℕ) → List ℕ → Command
+line_of (Set s f x) client name = commands.Set client name s f x
+line_of (Later s f x) client name = commands.Later client name s f x
+line_of (Root s) client name = commands.Root client name s
+line_of (Free s) client name = commands.Free client name s
+
+-- a field is one that an object may have, and the serial of what is freed is not 0
+abbrev pub IsLegalChange : Change → Type 0
+IsLegalChange (Set s f x) = f < MAX_FIELDS
+IsLegalChange (Later s f x) = f < MAX_FIELDS
+IsLegalChange (Root s) = Unit {0}
+IsLegalChange (Free s) = 1 ≤ s
+
+-- the transaction with it
+abbrev pub changed_by : Change → Transaction → Transaction
+changed_by (Set s f x) = charged SET_UNITS (with_field s f x)
+changed_by (Later s f x) = asked SET_UNITS (record { s = s; f = f; x = x })
+changed_by (Root s) = charged SET_UNITS (with_root s)
+changed_by (Free s) = charged SET_UNITS (without_object s)
+
+-- By the graph of the transaction, and by what is asked for later, the change may be made.
+abbrev pub MayChange : List (ℕ × ℕ) → Transaction → Change → Type 0
+MayChange types t (Set s f x) = MaySet types t.now s f x
+MayChange types t (Later s f x) = MaySet types t.now s f x
+MayChange types t (Root s) = MayName t.now s
+MayChange types t (Free s) = MayFree t.now s × (laters_name s t.laters ≡ false)
+
+-- ---- a transaction goes on
 
 -- It is the same client's, on the pool of the same name in the same slot, and has the same log.
 pub record StaysOpen (old new : Held) : Type 0 where

@@ -18,6 +18,7 @@ use Rattle.pud_defs.specs.Settled.{ALL_LOGS, client_of_log, log_number_at}
 use Rattle.pud_defs.specs.Tables.{Pool}
 use Rattle.pud_defs.specs.PoolChanges.{pool_named}
 use Rattle.pud_defs.specs.Step.{graph_in}
+use Rattle.pud_defs.specs.Types.{map_of}
 use Rattle.pud_defs.specs.World.{Transaction, World}
 use Rattle.batch.specs.Batches.{HasIdleGate}
 use Rattle.hybrid_tx.specs.Masks.{OpenPool, is_open_record, IsOpenPool, open_mask}
@@ -60,7 +61,7 @@ pub record IsHeld (w : World) (held : Held) (mask : Write) (words : Words) : Typ
   pub count : puddles_in (pool_named held.name w.stored) ≡ length held.at
   pub pool : IsOpenPool w.stored.frames (pool_held held rec who) before
   pub records : (k : ℕ) → is_open_record (pool_held held rec who) k ≡ true → reads words k ≡ before k
-  pub running : IsOpenOn w.stored.frames held.at w.stored.types held.log before undone transaction.now words
+  pub running : IsOpenOn w.stored.frames held.at w.stored.types held.log before undone transaction.now transaction.laters words
   pub masked : (k v : ℕ) → open_mask w.stored.frames (pool_held held rec who) before k ≡ Some v → mask k ≡ Some v
 
 -- It is held under this number, that of its log, and is one of these that are open.
@@ -152,11 +153,12 @@ pub record IsBeside (mask : Write) (fault : Option HostFault) (old new : State) 
   pub single : fault ≡ None → StaysSingle old new
 
 -- The next world has the same of what is held: the transactions, and of each its client, its pool's graph of the beginning and number of puddles, and
--- what its words stand for.
+-- what its words stand for, by types that are defined still.
 pub record KeepsHeld (w next : World) (held : List (Option Held)) : Type 0 where
   pub frames : next.stored.frames ≡ w.stored.frames
   pub transactions : next.transactions ≡ w.transactions
   pub present : (number : ℕ) (h : Held) → held_under held number ≡ Some h → next.clients h.client ≡ w.clients h.client
   pub stored : (number : ℕ) (h : Held) → held_under held number ≡ Some h → graph_in (pool_named h.name next.stored) ≡ graph_in (pool_named h.name w.stored)
   pub puddles : (number : ℕ) (h : Held) → held_under held number ≡ Some h → puddles_in (pool_named h.name next.stored) ≡ puddles_in (pool_named h.name w.stored)
+  pub types : (id m : ℕ) → map_of id w.stored.types ≡ Some m → map_of id next.stored.types ≡ Some m
   pub graphs : (st : Stored) (g : Graph) → graph_of w.stored.types st ≡ Some g → graph_of next.stored.types st ≡ Some g

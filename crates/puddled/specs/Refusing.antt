@@ -1,5 +1,5 @@
 -- Why a line of a transaction is refused, by what was read for it, and what was found of the client's own.
-use Rattle.std.specs.Prelude.{◌≡◌, ◌+◌, ◌<◌, ℕ, Bool, true, not, nat_lt, cond, List, is_none, is_some, option_map, Option, Some, None, Result, Ok, Err}
+use Rattle.std.specs.Prelude.{◌≡◌, ◌+◌, ◌<◌, ℕ, Bool, true, not, ◌||◌, nat_lt, cond, List, is_none, is_some, option_map, Option, Some, None, Result, Ok, Err}
 use Rattle.pud_defs.specs.declared.layout.TheConstants.{LOG_ENTRY_WORDS, SET_UNITS}
 use Rattle.pud_defs.specs.declared.records.TheConstants.{POOL_RECORDS}
 use Rattle.pud_defs.specs.declared.objects.Val.{Val}
@@ -33,6 +33,14 @@ field_refusal (Value was) x units = cond (are_of_two_kinds (Some was) x) (Some r
 -- the same, by whether the value names an object that is not there
 abbrev pub refusal_to_set : (missed : Bool) → FieldRead → Val → (units : ℕ) → Option Refusal
 refusal_to_set missed read x units = cond missed (Some refusals.Object) (field_refusal read x units)
+
+-- why an object is not made the root, by whether there is none of its serial
+abbrev pub refusal_to_root : (missed : Bool) → (units : ℕ) → Option Refusal
+refusal_to_root missed units = cond missed (Some refusals.Object) (cond (nat_lt LOG_ENTRY_WORDS (units + SET_UNITS)) (Some refusals.TooBig) None)
+
+-- why an object that is there is not freed, by whether the root or a field names it, and whether what is asked for later does
+abbrev pub refusal_to_free : (held asked : Bool) → (units : ℕ) → Option Refusal
+refusal_to_free held asked units = cond (held || asked) (Some refusals.Held) (cond (nat_lt LOG_ENTRY_WORDS (units + SET_UNITS)) (Some refusals.TooBig) None)
 
 -- why no transaction of the client begins on this pool, whatever it has open, where this is open on it: no one acts as the client, there is no
 -- pool, it is wild, its mode is against it, or the transaction is another's

@@ -1,28 +1,33 @@
-//! What a transaction that is open changes of its pool: a field is set, and an object is made.
-ghost use Rattle.std.specs.Prelude.{◌≡◌, ◌≢◌, ◌+◌, ◌<◌, ◌≤◌, ℕ, true, false, is_some, length, Option, IfOk, IfNone};
+//! What a transaction that is open changes of its pool: a field or the root is set, or a field's value asked for later, and an object is freed or made.
+ghost use Rattle.std.specs.Prelude.{◌≡◌, ◌≢◌, ◌+◌, ◌*◌, ◌<◌, ◌≤◌, ℕ, List, true, false, is_some, length, Option, IfOk, IfNone};
 ghost use Rattle.pm_model.specs.Words.{IsRested, reads};
 ghost use Rattle.pm_model.specs.Counts.{after_fault, fault_of};
-ghost use Rattle.pud_defs.specs.declared.layout.TheConstants.{LOG_ENTRY_WORDS, MAX_FRAMES, MAX_FIELDS, NEXT_NUMBER_WORD, SET_UNITS, NEW_UNITS};
+ghost use Rattle.pm_model.specs.Changes.{Changes};
+ghost use Rattle.pud_defs.specs.declared.layout.TheConstants.{LOG_WORDS, LOG_ENTRY_WORDS, MAX_FRAMES, NEXT_NUMBER_WORD, SET_UNITS, NEW_UNITS};
 ghost use Rattle.pud_defs.specs.declared.records.TheConstants.{POOL_RECORDS, MAX_PUDDLES};
 ghost use Rattle.pud_defs.specs.declared.machine.Command.TheVariants as commands;
 ghost use Rattle.pud_defs.specs.Image.{Image};
 ghost use Rattle.pud_defs.specs.Keyed.{first_free};
-ghost use Rattle.pud_defs.specs.Layout.{device_words, tables_end};
+ghost use Rattle.pud_defs.specs.Layout.{device_words, frames_at, tables_end};
 ghost use Rattle.pud_defs.specs.Types.{map_of, types_of};
 ghost use Rattle.pud_defs.specs.Stored.{IsOnDevice, stored_in};
-ghost use Rattle.pud_defs.specs.Graph.{next_serial_of};
+ghost use Rattle.pud_defs.specs.Graph.{Graph, next_serial_of};
 ghost use Rattle.pud_defs.specs.PoolChanges.{pool_named};
 ghost use Rattle.pud_defs.specs.Tables.{tables_of, puddles_in_turn};
 ghost use Rattle.pud_defs.specs.Step.{refusal_of, after, graph_seen, next_in, grows, answer_by, world_by};
 ghost use Rattle.pud_defs.specs.Step.Answer.{of_reply};
-ghost use Rattle.pud_defs.specs.World.{World};
-ghost use Rattle.hybrid_tx.specs.Grounds.{IsRewritten};
+ghost use Rattle.pud_defs.specs.World.{Transaction, World};
+ghost use Rattle.log_store.specs.Store.{longer};
+ghost use Rattle.word_transaction.specs.Running.{ByTransaction};
+ghost use Rattle.hybrid_tx.specs.Grounds.{pool_ground, IsPlaced, IsRewritten};
+ghost use Rattle.hybrid_tx.specs.Transactions.{IsOpenOn, RunsOn};
 ghost use Rattle.puddled.specs.Memory.{Memory, held_under, with_held};
 ghost use Rattle.puddled.specs.Held.{IsHeldWithin};
-ghost use Rattle.puddled.specs.Changing.{StaysOpen, refusal_to_make, refusal_to_grow, refusal_by_tables, refusal_by_world, with_more, with_made};
+ghost use Rattle.puddled.specs.Changing.{line_of, changed_by, IsLegalChange, MayChange, StaysOpen, refusal_to_make, refusal_to_grow, refusal_by_tables, refusal_by_world, with_more, with_made};
 ghost use Rattle.puddled.specs.Daemon.{KeepsRest, IsReady, Applies};
 
 use crate::opened::Opened;
+use hybrid_tx::Tx;
 use pm_model::{Host, HostFault};
 use pud_defs::layout::{LOG_ENTRY_WORDS, NEW_UNITS, NEXT_NUMBER_WORD, NUMBER_LIMIT};
 use pud_defs::machine::{Refusal, Reply};
@@ -32,6 +37,19 @@ use puddle_header::next_serial;
 use puddle_table::{PuddleFault, Puddles, find_places, free_frame};
 use registry::grow_pool;
 use type_maps::find;
+
+/// What a line changes within a transaction that is open, where it is answered with `ok` alone.
+#[derive(Clone, Copy)]
+pub(crate) enum Change {
+    /// Field `f` of the object of serial `s` gets the value.
+    Set { s: u64, f: u32, x: Val },
+    /// It gets it at the commit, behind all that is set and all that was asked for before.
+    Later { s: u64, f: u32, x: Val },
+    /// The object of serial `s` is made the root; with 0 there is none.
+    Root { s: u64 },
+    /// The object of serial `s` is freed.
+    Free { s: u64 },
+}
 
 /// The next serial of the pool of these puddles, 0 where there are none.
 fn serial_to_give<H: Host>(h: &mut H, frames: u32, pool: &[(u32, Puddle)]) -> Result<u64, HostFault>
@@ -111,26 +129,55 @@ fn refusal_to_grow(puddles: u32, number: u64, free: bool) -> Option<Refusal>
     }
 }
 
+/// Makes the change within the transaction on the pool of these puddles, where it may be made.
+fn carry_out<H: Host>(
+    tx: &mut Tx,
+    h: &mut H,
+    frames: u32,
+    pool: &[(u32, Puddle)],
+    change: Change,
+) -> Result<(), HostFault>
+    requires few { frames ≤ MAX_FRAMES }
+    requires device { device_words frames ≤ (H.counts h.old).size }
+    requires known { IsOnDevice frames pool.now }
+    requires place { tx.old.at + LOG_WORDS ≤ frames_at frames }
+    requires legal { IsLegalChange change }
+    requires room { tx.old.used + SET_UNITS ≤ LOG_ENTRY_WORDS }
+    ensures at { tx.new.at ≡ tx.old.at }
+    ensures changes { H.tells → Changes (ByTransaction (pool_ground frames pool.now) tx.old.at) (fault_of result) (H.state h.old) (H.state h.new) }
+    ensures runs { H.tells → (types : List (ℕ × ℕ)) (before : Image) (undone : Graph) (t : Transaction) → IsPlaced frames pool.now → IsRewritten pool.now
+        → IsOpenOn frames pool.now types tx.old before undone t.now t.laters (H.state h.old).now.words → MayChange types t change
+        → RunsOn frames pool.now types tx.new before undone (changed_by change t).now (changed_by change t).laters (fault_of result) (H.state h.old) (H.state h.new) }
+    ensures counts { H.tells → (types : List (ℕ × ℕ)) (before : Image) (undone : Graph) (t : Transaction) → IsPlaced frames pool.now
+        → IsOpenOn frames pool.now types tx.old before undone t.now t.laters (H.state h.old).now.words → MayChange types t change → IfOk result (λ _. tx.new ≡ longer SET_UNITS tx.old) }
+    ensures cause { H.counts h.new ≡ after_fault (fault_of result) (H.counts h.old) }
+{
+    match change {
+        Change::Set { s, f, x } => tx.set(h, frames, pool, s, f, x),
+        Change::Later { s, f, x } => tx.later(h, frames, pool, s, f, x),
+        Change::Root { s } => tx.root(h, frames, pool, s),
+        Change::Free { s } => tx.free(h, frames, pool, s),
+    }
+}
+
 impl Opened {
-    /// Gives field `f` of the object of serial `s` another value, where the line that asks for it is not refused.
+    /// Makes the change, where the line that asks for it is not refused.
     ///
     /// The device has so many frames, and the log room for three units. Two fences.
-    pub(crate) fn set<H: Host>(
+    pub(crate) fn change<H: Host>(
         &mut self,
         h: &mut H,
         frames: u32,
-        s: u64,
-        f: u32,
-        x: Val,
+        change: Change,
     ) -> Result<(), HostFault>
         requires few { frames ≤ MAX_FRAMES }
         requires room { device_words frames ≤ (H.counts h.old).size }
         requires within { IsHeldWithin frames self.old }
-        requires field { f < MAX_FIELDS }
+        requires legal { IsLegalChange change }
         requires units { (self.old).log.used + SET_UNITS ≤ LOG_ENTRY_WORDS }
         ensures applies { H.tells → (size : ℕ) → size ≡ (H.counts h.old).size → (w : World) → (memory : Memory) → memory.frames ≡ frames → held_under memory.held (self.old).number ≡ Option.Some self.old
-            → IsReady size w memory (H.state h.old) → IsRewritten (self.old).at → refusal_of w (commands.Set (self.old).client (self.old).name s f x) ≡ Option.None
-            → Applies size w (after w (commands.Set (self.old).client (self.old).name s f x)) (with_held (self.old).number (Option.Some self.new) memory) (fault_of result) (H.state h.old) (H.state h.new) }
+            → IsReady size w memory (H.state h.old) → IsRewritten (self.old).at → refusal_of w (line_of change (self.old).client (self.old).name) ≡ Option.None
+            → Applies size w (after w (line_of change (self.old).client (self.old).name)) (with_held (self.old).number (Option.Some self.new) memory) (fault_of result) (H.state h.old) (H.state h.new) }
         ensures within { IsHeldWithin frames self.new }
         ensures stays { StaysOpen self.old self.new }
         ensures puddles { self.new.at ≡ self.old.at }
@@ -138,7 +185,7 @@ impl Opened {
         ensures rests { H.tells → fault_of result ≡ Option.Some HostFault.Cut → IsRested (H.state h.new).now.words }
         ensures cause { H.counts h.new ≡ after_fault (fault_of result) (H.counts h.old) }
     {
-        let done = self.tx.set(h, frames, self.puddles.as_slice(), s, f, x);
+        let done = carry_out(&mut self.tx, h, frames, self.puddles.as_slice(), change);
         let _units = self.tx.units();
         done
     }

@@ -1,4 +1,5 @@
-//! The calls that answer the five commands of a transaction: it is begun, committed and undone, an object is made in it, and a field set.
+//! The calls that answer the commands of a transaction: it is begun, committed and undone, an object is made or freed in it, a field or the root is
+//! set, and a field's value asked for later.
 ghost use Rattle.std.specs.Prelude.{◌≡◌, ◌<◌, ◌≤◌, ℕ, Option, IfOk};
 ghost use Rattle.pm_model.specs.Words.{IsRested};
 ghost use Rattle.pm_model.specs.Counts.{after_fault, fault_of};
@@ -9,10 +10,12 @@ ghost use Rattle.pud_defs.specs.Step.{answer_by, world_by};
 ghost use Rattle.pud_defs.specs.Step.Answer.{of_reply};
 ghost use Rattle.pud_defs.specs.World.{World};
 ghost use Rattle.puddled.specs.Answered.{as_answered};
+ghost use Rattle.puddled.specs.Changing.{line_of, IsLegalChange};
 ghost use Rattle.puddled.specs.Held.{IsHeldWithin};
 ghost use Rattle.puddled.specs.Memory.{Memory, held_under, with_held};
 ghost use Rattle.puddled.specs.Daemon.{KeepsRest, IsReady, Applies, CarriesOut};
 
+use crate::changing::Change;
 use crate::daemon::Daemon;
 use crate::opened::Opened;
 use crate::refusals::refusal_to_enter;
@@ -22,26 +25,24 @@ use pud_defs::objects::Val;
 use pud_defs::records::Name;
 
 impl Opened {
-    /// Gives field `f`, 0 to 29, of the object of serial `s` another value, or refuses to, as the line `set` of the transaction's client does.
+    /// Makes the change, or refuses to, as its line of the transaction's client does.
     ///
     /// The device has so many frames. Two fences; a refused one changes nothing.
-    fn set_field<H: Host>(
+    fn change_or_refuse<H: Host>(
         &mut self,
         h: &mut H,
         frames: u32,
-        s: u64,
-        f: u32,
-        x: Val,
+        change: Change,
     ) -> Result<Reply, HostFault>
         requires few { frames ≤ MAX_FRAMES }
         requires room { device_words frames ≤ (H.counts h.old).size }
         requires within { IsHeldWithin frames self.old }
-        requires field { f < MAX_FIELDS }
+        requires legal { IsLegalChange change }
         ensures reply { H.tells → (size : ℕ) → (w : World) → (memory : Memory) → memory.frames ≡ frames → held_under memory.held (self.old).number ≡ Option.Some self.old → IsReady size w memory (H.state h.old)
-            → IfOk result (λ reply. of_reply reply ≡ answer_by w (Option.Some (commands.Set (self.old).client (self.old).name s f x))) }
+            → IfOk result (λ reply. of_reply reply ≡ answer_by w (Option.Some (line_of change (self.old).client (self.old).name))) }
         ensures applies { H.tells → (size : ℕ) → size ≡ (H.counts h.old).size → (w : World) → (memory : Memory) → memory.frames ≡ frames → held_under memory.held (self.old).number ≡ Option.Some self.old
             → IsReady size w memory (H.state h.old)
-            → Applies size w (world_by w (Option.Some (commands.Set (self.old).client (self.old).name s f x))) (with_held (self.old).number (Option.Some self.new) memory) (fault_of result)
+            → Applies size w (world_by w (Option.Some (line_of change (self.old).client (self.old).name))) (with_held (self.old).number (Option.Some self.new) memory) (fault_of result)
             (H.state h.old) (H.state h.new) }
         ensures within { IsHeldWithin frames self.new }
         ensures number { (self.new).number ≡ (self.old).number }
@@ -49,10 +50,10 @@ impl Opened {
         ensures rests { H.tells → fault_of result ≡ Option.Some HostFault.Cut → IsRested (H.state h.new).now.words }
         ensures cause { H.counts h.new ≡ after_fault (fault_of result) (H.counts h.old) }
     {
-        if let Some(refusal) = self.refusal_to_set(h, frames, s, f, x)? {
+        if let Some(refusal) = self.refusal_to_change(h, frames, change)? {
             return Ok(Reply::No(refusal));
         }
-        self.set(h, frames, s, f, x)?;
+        self.change(h, frames, change)?;
         Ok(Reply::Ok)
     }
 }
@@ -174,6 +175,35 @@ impl Daemon {
         }
     }
 
+    /// Makes the change in the client's own transaction on the pool of this name, or says why it is not made.
+    fn change_own<H: Host>(
+        &mut self,
+        h: &mut H,
+        client: u8,
+        name: Name,
+        change: Change,
+    ) -> Result<Reply, HostFault>
+        requires known { client < CLIENTS }
+        requires legal { IsLegalChange change }
+        requires room { device_words (self.old).frames ≤ (H.counts h.old).size }
+        ensures carries { H.tells → (size : ℕ) → size ≡ (H.counts h.old).size → (w : World) → IsReady size w self.old (H.state h.old)
+            → CarriesOut size w self.new (Option.Some (line_of change client name)) (as_answered result) (H.counts h.old) (H.counts h.new) (H.state h.old) (H.state h.new) }
+        ensures frames { (self.new).frames ≡ (self.old).frames }
+        ensures rest { H.tells → KeepsRest (H.state h.old) (H.state h.new) }
+        ensures rests { H.tells → fault_of result ≡ Option.Some HostFault.Cut → IsRested (H.state h.new).now.words }
+        ensures cause { H.counts h.new ≡ after_fault (fault_of result) (H.counts h.old) }
+    {
+        let own = match self.find_own(h, client, name)? {
+            Err(refusal) => return Ok(Reply::No(refusal)),
+            Ok(own) => own,
+        };
+        let frames = self.frames;
+        match &mut self.opened[own.number as usize] {
+            Some(opened) => opened.change_or_refuse(h, frames, change),
+            None => unreachable!(),
+        }
+    }
+
     /// Gives field `f`, 0 to 29, of the object of serial `s` another value, in the client's own transaction on the pool of this name: the client sees it
     /// at once, and others once it is committed. The client is one of 0 to 7. The reply is `Ok`, or says why nothing was set, by the first of these
     /// that holds: `Client`, the client is not present; `Pool`, there is no pool of the name; `Wild`, the pool has no graph; `Busy`, another client's
@@ -202,14 +232,93 @@ impl Daemon {
         ensures rests { H.tells → fault_of result ≡ Option.Some HostFault.Cut → IsRested (H.state h.new).now.words }
         ensures cause { H.counts h.new ≡ after_fault (fault_of result) (H.counts h.old) }
     {
-        let own = match self.find_own(h, client, name)? {
-            Err(refusal) => return Ok(Reply::No(refusal)),
-            Ok(own) => own,
-        };
-        let frames = self.frames;
-        match &mut self.opened[own.number as usize] {
-            Some(opened) => opened.set_field(h, frames, s, f, x),
-            None => unreachable!(),
-        }
+        self.change_own(h, client, name, Change::Set { s, f, x })
+    }
+
+    /// Asks in the client's own transaction on the pool of this name that field `f`, 0 to 29, of the object of serial `s` has another value once the
+    /// transaction is committed, behind all that is set in it and all that was asked for before. Until then nobody sees it, the client neither. The
+    /// client is one of 0 to 7. The reply is `Ok`, or says why nothing was asked for, by the first of these that holds: `Client`, the client is not
+    /// present; `Pool`, there is no pool of the name; `Wild`, the pool has no graph; `Busy`, another client's transaction is open on it; `Tx`, none is;
+    /// `Object`, the value names an object that the pool does not have, or there is none of serial `s`; `Field`, the object has no such field; `Kind`,
+    /// the field holds a number and the value is a reference, or the other way round; `TooBig`, the transaction's log has no room for three units more.
+    ///
+    /// The only errors are the host's own: `Failed` where a call of it failed, `Cut` where power was lost. At either the device stands for what it
+    /// stood for before the call or for what the line gives, and the daemon is to be stopped, and to start anew.
+    pub fn later<H: Host>(
+        &mut self,
+        h: &mut H,
+        client: u8,
+        name: Name,
+        s: u64,
+        f: u32,
+        x: Val,
+    ) -> Result<Reply, HostFault>
+        requires known { client < CLIENTS }
+        requires field { f < MAX_FIELDS }
+        requires room { device_words (self.old).frames ≤ (H.counts h.old).size }
+        ensures carries { H.tells → (size : ℕ) → size ≡ (H.counts h.old).size → (w : World) → IsReady size w self.old (H.state h.old)
+            → CarriesOut size w self.new (Option.Some (commands.Later client name s f x)) (as_answered result) (H.counts h.old) (H.counts h.new) (H.state h.old) (H.state h.new) }
+        ensures frames { (self.new).frames ≡ (self.old).frames }
+        ensures rest { H.tells → KeepsRest (H.state h.old) (H.state h.new) }
+        ensures rests { H.tells → fault_of result ≡ Option.Some HostFault.Cut → IsRested (H.state h.new).now.words }
+        ensures cause { H.counts h.new ≡ after_fault (fault_of result) (H.counts h.old) }
+    {
+        self.change_own(h, client, name, Change::Later { s, f, x })
+    }
+
+    /// Makes the object of serial `s` the root of the pool of this name, or with 0 takes the root away, in the client's own transaction on it: the client
+    /// sees it at once, and others once it is committed. The client is one of 0 to 7. The reply is `Ok`, or says why the root stays, by the first of these
+    /// that holds: `Client`, the client is not present; `Pool`, there is no pool of the name; `Wild`, the pool has no graph; `Busy`, another client's
+    /// transaction is open on it; `Tx`, none is; `Object`, the serial is not 0 and the pool has no object of it; `TooBig`, the transaction's log has no
+    /// room for three units more.
+    ///
+    /// The only errors are the host's own: `Failed` where a call of it failed, `Cut` where power was lost. At either the device stands for what it
+    /// stood for before the call or for what the line gives, and the daemon is to be stopped, and to start anew.
+    pub fn root<H: Host>(
+        &mut self,
+        h: &mut H,
+        client: u8,
+        name: Name,
+        s: u64,
+    ) -> Result<Reply, HostFault>
+        requires known { client < CLIENTS }
+        requires room { device_words (self.old).frames ≤ (H.counts h.old).size }
+        ensures carries { H.tells → (size : ℕ) → size ≡ (H.counts h.old).size → (w : World) → IsReady size w self.old (H.state h.old)
+            → CarriesOut size w self.new (Option.Some (commands.Root client name s)) (as_answered result) (H.counts h.old) (H.counts h.new) (H.state h.old) (H.state h.new) }
+        ensures frames { (self.new).frames ≡ (self.old).frames }
+        ensures rest { H.tells → KeepsRest (H.state h.old) (H.state h.new) }
+        ensures rests { H.tells → fault_of result ≡ Option.Some HostFault.Cut → IsRested (H.state h.new).now.words }
+        ensures cause { H.counts h.new ≡ after_fault (fault_of result) (H.counts h.old) }
+    {
+        self.change_own(h, client, name, Change::Root { s })
+    }
+
+    /// Frees the object of serial `s`, at least 1, in the client's own transaction on the pool of this name: for the client it is gone at once, and for
+    /// others once it is committed, and an object that the transaction makes may take its slot. The client is one of 0 to 7. The reply is `Ok`, or says
+    /// why it was not freed, by the first of these that holds: `Client`, the client is not present; `Pool`, there is no pool of the name; `Wild`, the pool
+    /// has no graph; `Busy`, another client's transaction is open on it; `Tx`, none is; `Object`, there is none of serial `s`; `Held`, the root is the
+    /// object, or a pointer of an object, itself included, leads to it, or a value that was asked for later is one of its fields or leads to it;
+    /// `TooBig`, the transaction's log has no room for three units more.
+    ///
+    /// The only errors are the host's own: `Failed` where a call of it failed, `Cut` where power was lost. At either the device stands for what it
+    /// stood for before the call or for what the line gives, and the daemon is to be stopped, and to start anew.
+    pub fn free<H: Host>(
+        &mut self,
+        h: &mut H,
+        client: u8,
+        name: Name,
+        s: u64,
+    ) -> Result<Reply, HostFault>
+        requires known { client < CLIENTS }
+        requires serial { 1 ≤ s }
+        requires room { device_words (self.old).frames ≤ (H.counts h.old).size }
+        ensures carries { H.tells → (size : ℕ) → size ≡ (H.counts h.old).size → (w : World) → IsReady size w self.old (H.state h.old)
+            → CarriesOut size w self.new (Option.Some (commands.Free client name s)) (as_answered result) (H.counts h.old) (H.counts h.new) (H.state h.old) (H.state h.new) }
+        ensures frames { (self.new).frames ≡ (self.old).frames }
+        ensures rest { H.tells → KeepsRest (H.state h.old) (H.state h.new) }
+        ensures rests { H.tells → fault_of result ≡ Option.Some HostFault.Cut → IsRested (H.state h.new).now.words }
+        ensures cause { H.counts h.new ≡ after_fault (fault_of result) (H.counts h.old) }
+    {
+        self.change_own(h, client, name, Change::Free { s })
     }
 }

@@ -20,13 +20,15 @@ ghost use Rattle.puddled.specs.Held.{IsHeldWithin};
 ghost use Rattle.puddled.specs.Holding.{is_held_on, IsOwnOn};
 ghost use Rattle.puddled.specs.Judged.{known_in, AreJudged};
 ghost use Rattle.puddled.specs.Beginning.{MayBegin};
+ghost use Rattle.puddled.specs.Changing.{line_of, IsLegalChange};
 ghost use Rattle.puddled.specs.Owning.{refusal_found};
-ghost use Rattle.puddled.specs.Refusing.{refusal_to_set, writing_open, refusal_to_write, refusal_to_enter, FindsOwn};
+ghost use Rattle.puddled.specs.Refusing.{refusal_to_set, refusal_to_root, refusal_to_free, writing_open, refusal_to_write, refusal_to_enter, FindsOwn};
 ghost use Rattle.puddled.specs.Daemon.{IsReady};
 
+use crate::changing::Change;
 use crate::daemon::Daemon;
 use crate::opened::{Opened, number_on};
-use graph_read::{FieldRead, find_serial, read_field};
+use graph_read::{FieldRead, find_serial, is_held, read_field};
 use log_space::owner;
 use nesting::EnterFault;
 use owner_modes::may_write;
@@ -131,11 +133,40 @@ fn refusal_to_set(missed: bool, read: FieldRead, x: Val, units: u32) -> Option<R
     }
 }
 
+/// Why an object is not made the root, by whether there is none of its serial, and by how many units of the log are used.
+fn refusal_to_root(missed: bool, units: u32) -> Option<Refusal>
+    requires { units ≤ LOG_ENTRY_WORDS }
+    ensures { result ≡ refusal_to_root missed units }
+{
+    if missed {
+        return Some(Refusal::Object);
+    }
+    if LOG_ENTRY_WORDS < units + SET_UNITS {
+        return Some(Refusal::TooBig);
+    }
+    None
+}
+
+/// Why an object that is there is not freed, by whether the root or a field names it, whether what is asked for later does, and by how many units
+/// of the log are used.
+fn refusal_to_free(held: bool, asked: bool, units: u32) -> Option<Refusal>
+    requires { units ≤ LOG_ENTRY_WORDS }
+    ensures { result ≡ refusal_to_free held asked units }
+{
+    if held || asked {
+        return Some(Refusal::Held);
+    }
+    if LOG_ENTRY_WORDS < units + SET_UNITS {
+        return Some(Refusal::TooBig);
+    }
+    None
+}
+
 impl Opened {
     /// Why field `f`, 0 to 29, of the object of serial `s` is not to be set to the value, or None where it may be. The device has so many frames.
     ///
     /// The only errors are the host's own, and nothing changes.
-    pub(crate) fn refusal_to_set<H: Host>(
+    fn refusal_to_set<H: Host>(
         &self,
         h: &mut H,
         frames: u32,
@@ -158,6 +189,89 @@ impl Opened {
         let missed = misses(h, frames, pool, x)?;
         let read = read_field(h, frames, pool, s, f)?;
         Ok(refusal_to_set(missed, read, x, self.tx.units()))
+    }
+
+    /// Why the object of serial `s` is not made the root of the pool, or with 0 the root is not taken away; None where it may be. The device has so many
+    /// frames.
+    ///
+    /// The only errors are the host's own, and nothing changes.
+    fn refusal_to_root<H: Host>(
+        &self,
+        h: &mut H,
+        frames: u32,
+        s: u64,
+    ) -> Result<Option<Refusal>, HostFault>
+        requires few { frames ≤ MAX_FRAMES }
+        requires device { device_words frames ≤ (H.counts h.old).size }
+        requires within { IsHeldWithin frames self.now }
+        ensures refusal { H.tells → (size : ℕ) → (w : World) → (memory : Memory) → memory.frames ≡ frames → held_under memory.held (self.now).number ≡ Option.Some self.now → IsReady size w memory (H.state h.old)
+            → IfOk result (λ refusal. refusal ≡ refusal_of w (commands.Root (self.now).client (self.now).name s)) }
+        ensures room { IfOk result (λ refusal. refusal ≡ Option.None → (self.now).log.used + SET_UNITS ≤ LOG_ENTRY_WORDS) }
+        ensures stays { H.tells → H.state h.new ≡ H.state h.old }
+        ensures cause { H.counts h.new ≡ after_fault (fault_of result) (H.counts h.old) }
+        ensures never_cut { fault_of result ≢ Option.Some HostFault.Cut }
+    {
+        let pool = self.puddles.as_slice();
+        let missed = misses(h, frames, pool, Val::Ref(s))?;
+        Ok(refusal_to_root(missed, self.tx.units()))
+    }
+
+    /// Why the object of serial `s`, at least 1, is not freed, or None where it may be. The device has so many frames. One pass over the pool, and one
+    /// over the log.
+    ///
+    /// The only errors are the host's own, and nothing changes.
+    fn refusal_to_free<H: Host>(
+        &self,
+        h: &mut H,
+        frames: u32,
+        s: u64,
+    ) -> Result<Option<Refusal>, HostFault>
+        requires few { frames ≤ MAX_FRAMES }
+        requires device { device_words frames ≤ (H.counts h.old).size }
+        requires within { IsHeldWithin frames self.now }
+        requires serial { 1 ≤ s }
+        ensures refusal { H.tells → (size : ℕ) → (w : World) → (memory : Memory) → memory.frames ≡ frames → held_under memory.held (self.now).number ≡ Option.Some self.now → IsReady size w memory (H.state h.old)
+            → IfOk result (λ refusal. refusal ≡ refusal_of w (commands.Free (self.now).client (self.now).name s)) }
+        ensures room { IfOk result (λ refusal. refusal ≡ Option.None → (self.now).log.used + SET_UNITS ≤ LOG_ENTRY_WORDS) }
+        ensures stays { H.tells → H.state h.new ≡ H.state h.old }
+        ensures cause { H.counts h.new ≡ after_fault (fault_of result) (H.counts h.old) }
+        ensures never_cut { fault_of result ≢ Option.Some HostFault.Cut }
+    {
+        let pool = self.puddles.as_slice();
+        if find_serial(h, frames, pool, s)?.is_none() {
+            return Ok(Some(Refusal::Object));
+        }
+        let held = is_held(h, frames, pool, s)?;
+        let asked = self.tx.later_names(h, frames, pool, s)?;
+        Ok(refusal_to_free(held, asked, self.tx.units()))
+    }
+
+    /// Why the change is not made, or None where it may be. What is asked for later is refused as what is set. The device has so many frames.
+    ///
+    /// The only errors are the host's own, and nothing changes.
+    pub(crate) fn refusal_to_change<H: Host>(
+        &self,
+        h: &mut H,
+        frames: u32,
+        change: Change,
+    ) -> Result<Option<Refusal>, HostFault>
+        requires few { frames ≤ MAX_FRAMES }
+        requires device { device_words frames ≤ (H.counts h.old).size }
+        requires within { IsHeldWithin frames self.now }
+        requires legal { IsLegalChange change }
+        ensures refusal { H.tells → (size : ℕ) → (w : World) → (memory : Memory) → memory.frames ≡ frames → held_under memory.held (self.now).number ≡ Option.Some self.now → IsReady size w memory (H.state h.old)
+            → IfOk result (λ refusal. refusal ≡ refusal_of w (line_of change (self.now).client (self.now).name)) }
+        ensures room { IfOk result (λ refusal. refusal ≡ Option.None → (self.now).log.used + SET_UNITS ≤ LOG_ENTRY_WORDS) }
+        ensures stays { H.tells → H.state h.new ≡ H.state h.old }
+        ensures cause { H.counts h.new ≡ after_fault (fault_of result) (H.counts h.old) }
+        ensures never_cut { fault_of result ≢ Option.Some HostFault.Cut }
+    {
+        match change {
+            Change::Set { s, f, x } => self.refusal_to_set(h, frames, s, f, x),
+            Change::Later { s, f, x } => self.refusal_to_set(h, frames, s, f, x),
+            Change::Root { s } => self.refusal_to_root(h, frames, s),
+            Change::Free { s } => self.refusal_to_free(h, frames, s),
+        }
     }
 }
 

@@ -112,7 +112,7 @@ impl Daemon {
     }
 
     /// Commits the client's own transaction on the pool of the name. Where it was begun more often than once it is held still, begun
-    /// once less often, and no device is touched; else it is held no more.
+    /// once less often, and no device is touched; else what it asked for later comes with the rest, and it is held no more.
     pub(crate) fn commit_own<H: Host>(
         &mut self,
         h: &mut H,
@@ -135,8 +135,9 @@ impl Daemon {
             self.sessions.leave(client, own.slot);
             return Ok(());
         }
+        let frames = self.frames;
         match self.release(own.number) {
-            Some(tx) => tx.commit(h),
+            Some(tx) => tx.commit(h, frames),
             None => Ok(()),
         }
     }

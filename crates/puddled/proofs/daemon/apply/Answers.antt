@@ -1,6 +1,6 @@
 use Rattle.std.proofs.Common.{◌≡◌, ℕ, Some, Ok, refl, sym, ap, subst, ◌∙◌}
 use Rattle.pud_defs.specs.declared.machine.Command.{Command}
-use Rattle.pud_defs.specs.declared.machine.Command.TheVariants.{Client, Leave, Define, Chmod, Get, Begin, Commit, Abort, New, Set, Cut, Arm}
+use Rattle.pud_defs.specs.declared.machine.Command.TheVariants.{Client, Leave, Define, Chmod, Get, Begin, Commit, Abort, New, Set, Later, Root, Free, Cut, Arm}
 use Rattle.pud_defs.specs.declared.machine.Command.TheVariants as commands
 use Rattle.pud_defs.specs.Grammar.{IsLegalCommand}
 use Rattle.puddled.specs.Memory.{Memory}
@@ -87,6 +87,21 @@ pub returns-in-Set-clause-carries : goal.returns-in-Set-clause-carries
 returns-in-Set-clause-carries g c = λ t size e w ready.
     CarriesOut-as size w c.set.new.self _ _ _ _ c.args.command (Set c.in-Set.client c.in-Set.name c.in-Set.s c.in-Set.f c.in-Set.x) c.with_reply-in-Set.result c.set.result c.in-Set.is c.with_reply-in-Set.ensures
     (c.set.ensures.carries t size e w ready)
+
+pub returns-in-Later-clause-carries : goal.returns-in-Later-clause-carries
+returns-in-Later-clause-carries g c = λ t size e w ready.
+    CarriesOut-as size w c.later.new.self _ _ _ _ c.args.command (Later c.in-Later.client c.in-Later.name c.in-Later.s c.in-Later.f c.in-Later.x) c.with_reply-in-Later.result c.later.result c.in-Later.is c.with_reply-in-Later.ensures
+    (c.later.ensures.carries t size e w ready)
+
+pub returns-in-Root-clause-carries : goal.returns-in-Root-clause-carries
+returns-in-Root-clause-carries g c = λ t size e w ready.
+    CarriesOut-as size w c.root.new.self _ _ _ _ c.args.command (Root c.in-Root.client c.in-Root.name c.in-Root.s) c.with_reply-in-Root.result c.root.result c.in-Root.is c.with_reply-in-Root.ensures
+    (c.root.ensures.carries t size e w ready)
+
+pub returns-in-Free-clause-carries : goal.returns-in-Free-clause-carries
+returns-in-Free-clause-carries g c = λ t size e w ready.
+    CarriesOut-as size w c.free.new.self _ _ _ _ c.args.command (Free c.in-Free.client c.in-Free.name c.in-Free.s) c.with_reply-in-Free.result c.free.result c.in-Free.is c.with_reply-in-Free.ensures
+    (c.free.ensures.carries t size e w ready)
 
 pub returns-in-Pools-clause-carries : goal.returns-in-Pools-clause-carries
 returns-in-Pools-clause-carries g c = λ t size e w ready.

@@ -1,5 +1,6 @@
 use Rattle.std.proofs.Common.{List, Option, ap, ◌+◌, ◌≤◌, sym, subst, ◌∙◌, arith}
 use Rattle.std.specs.Prelude.{IfSome}
+use Rattle.pm_model.specs.Counts.{fault_of}
 use Rattle.pud_defs.specs.declared.layout.TheConstants.{LOG_WORDS}
 use Rattle.pud_defs.specs.Layout.{frames_at}
 use Rattle.log_store.specs.Store.{OpenLog}
@@ -7,7 +8,7 @@ use Rattle.nesting.specs.declared.Session.{Session}
 use Rattle.nesting.specs.Sessions.{depth_in, left}
 use Rattle.puddled.specs.Memory.{Memory}
 use Rattle.puddled.proofs.Depth.{Applies-rises}
-use Rattle.puddled.proofs.HeldEnds.{IsReleased, Applies-kept}
+use Rattle.puddled.proofs.HeldEnds.{Commits, IsReleased, Applies-kept}
 use Rattle.puddled.proofs.daemon.Daemon.commit_own.Goals as goal
 
 pub returns-then-depth-gt1-clause-applies : goal.returns-then-depth-gt1-clause-applies
@@ -34,6 +35,10 @@ returns-in-Some-clause-applies g c = λ t size e w name ready own.
     let is = c.depth.ensures.depth in
     let last = c.if-depth-gt1.false in
     let r = c.release.ensures in
+    let sz = (g.H.Host.counts c.args.h.now).size in
+    let old = g.H.Host.state c.args.h.now in
+    let new = g.H.Host.state c.commit.new.h in
+    let fault = fault_of c.commit.result in
     let released : IsReleased c.args.own.number c.args.self.now c.release.new.self = record { frames = r.frames; held = r.held; sessions = r.sessions; judged = r.judged } in
-    Applies-kept size w c.args.self.now c.release.new.self c.args.own.number _ _ _ released ready _ c.args.client name c.args.own.slot c.in-Some.tx e own (sym r.tx ∙ c.in-Some.is) (omega (arith, depth, is, last))
-    (c.commit.ensures.ends t)
+    Applies-kept size w c.args.self.now c.release.new.self c.args.own.number fault old new released ready sz c.args.client name c.args.own.slot c.in-Some.tx e own (sym r.tx ∙ c.in-Some.is) (omega (arith, depth, is, last))
+    (subst (λ (m : Memory). Commits m.frames sz c.in-Some.tx fault old new) c.self.view_is (c.commit.ensures.ends t))

@@ -21,7 +21,7 @@ returns-clause-makes g c = λ t size w memory frames there ready none less.
     c.self.view_is
     (λ there none less.
     Applies-made size w memory held old held.number there ready c.args.frames c.as_slice.result.now (sym frames ∙ ready.frames) c.as_slice.ensures.puddles c.args.t none c.new-made.new.self new c.new-made.ensures.at c.new-made.result less
-    (λ m defined left live placed running. c.new-made.ensures.runs t _ m _ _ _ placed running defined left live)
+    (λ m defined left live placed running. c.new-made.ensures.runs t _ m _ _ _ _ placed running defined left live)
     (c.new-made.ensures.counts t))
     there none less
 

@@ -1,19 +1,19 @@
-use Rattle.std.proofs.Common.{◌≡◌, ◌<◌, ℕ, List, Option, Some, length, refl, sym, ap, subst, ◌∙◌, rules}
+use Rattle.std.proofs.Common.{◌≡◌, ◌<◌, ℕ, List, Option, Some, refl, sym, ap, subst, ◌∙◌, rules}
 use Rattle.std.proofs.lemmas.Option.{same_Some}
 use Rattle.std.proofs.lemmas.Result.{err_from_is_err_and}
 use Rattle.pm_model.specs.Counts.{Counts, fault_of}
 use Rattle.pud_defs.specs.declared.machine.Command.{Command}
-use Rattle.pud_defs.specs.declared.machine.Command.TheVariants.{Set}
 use Rattle.pud_defs.specs.Settled.{ALL_LOGS}
 use Rattle.pud_defs.specs.Step.{world_by}
+use Rattle.puddled.specs.Changing.{line_of}
 use Rattle.puddled.specs.Held.{IsHeldWithin, IsOwn}
 use Rattle.puddled.specs.Memory.{Held, Memory, held_under, with_held}
 use Rattle.puddled.specs.Owning.{refusal_found}
 use Rattle.puddled.specs.Daemon.{IsReady, Applies}
 use Rattle.puddled.proofs.HeldUnder.{AreHeldWithin-set, read_there, read_within}
-use Rattle.puddled.proofs.Commanding.{ready_read, CarriesOut-refused, CarriesOut-unread, CarriesOut-own, set_is_plain}
-use Rattle.puddled.proofs.TransactionRefusals.{refused_set}
-use Rattle.puddled.proofs.daemon.Daemon.set.Goals as goal
+use Rattle.puddled.proofs.Commanding.{ready_read, CarriesOut-refused, CarriesOut-unread, CarriesOut-own, change_is_plain}
+use Rattle.puddled.proofs.TransactionRefusals.{refused_change}
+use Rattle.puddled.proofs.daemon.Daemon.change_own.Goals as goal
 
 pub returns-in_err-refusal-clause-carries : goal.returns-in_err-refusal-clause-carries
 returns-in_err-refusal-clause-carries g c =
@@ -21,7 +21,7 @@ returns-in_err-refusal-clause-carries g c =
     rw (p.1, p.2) (λ t size e w ready.
     let k = c.in_err-refusal.ensures in
     let known = ready_read size w c.args.self.now c.find_own.new.self _ _ ready (k.stays t) k.frames k.held k.sessions (k.judged t) (k.apart t size w ready) in
-    CarriesOut-unread size w c.find_own.new.self _ _ _ _ (Set c.args.client c.args.name c.args.s c.args.f c.args.x) (set_is_plain c.args.client c.args.name c.args.s c.args.f c.args.x) (k.stays t) known
+    CarriesOut-unread size w c.find_own.new.self _ _ _ _ (line_of c.args.change c.args.client c.args.name) (change_is_plain c.args.client c.args.name c.args.change) (k.stays t) known
     c.in_err-refusal.field-0.0 k.never_cut k.cause)
 
 pub returns-in-Err-clause-carries : goal.returns-in-Err-clause-carries
@@ -29,11 +29,11 @@ returns-in-Err-clause-carries g c = λ t size e w ready.
     let k = c.in_ok-refusal.ensures in
     let known = ready_read size w c.args.self.now c.find_own.new.self _ _ ready (k.stays t) k.frames k.held k.sessions (k.judged t) (k.apart t size w ready) in
     let refused = sym (k.refusal t size w ready) ∙ ap refusal_found c.in-Err.is in
-    CarriesOut-refused size w c.find_own.new.self _ _ _ _ (Set c.args.client c.args.name c.args.s c.args.f c.args.x) (set_is_plain c.args.client c.args.name c.args.s c.args.f c.args.x) (k.stays t) known
-    c.in-Err.refusal (refused_set w c.args.client c.args.name c.in-Err.refusal refused c.args.s c.args.f c.args.x) k.cause
+    CarriesOut-refused size w c.find_own.new.self _ _ _ _ (line_of c.args.change c.args.client c.args.name) (change_is_plain c.args.client c.args.name c.args.change) (k.stays t) known
+    c.in-Err.refusal (refused_change w c.args.client c.args.name c.in-Err.refusal refused c.args.change) k.cause
 
-pub set_field-requires-clause-within : goal.set_field-requires-clause-within
-set_field-requires-clause-within g c =
+pub change_or_refuse-requires-clause-within : goal.change_or_refuse-requires-clause-within
+change_or_refuse-requires-clause-within g c =
     let found = rw c.in-Ok.is at c.in_ok-refusal.ensures.finds in
     let known : c.in-Ok.own.number < ALL_LOGS = found.number in
     read_within _ _ _ _ _ c.in-Some.opened c.self.invariant.2 (search rules) refl c.in-Some.is
@@ -41,8 +41,8 @@ set_field-requires-clause-within g c =
 pub invariant_of-self : goal.invariant_of-self
 invariant_of-self g c =
     let i = c.self.invariant in
-    let within = c.set_field.ensures.within in
-    (i.0, i.1, AreHeldWithin-set _ _ _ (Some c.set_field.new.self) i.2 (λ h now. subst (IsHeldWithin c.self.inside.frames) (same_Some c.set_field.new.self h now) within), i.3)
+    let within = c.change_or_refuse.ensures.within in
+    (i.0, i.1, AreHeldWithin-set _ _ _ (Some c.change_or_refuse.new.self) i.2 (λ h now. subst (IsHeldWithin c.self.inside.frames) (same_Some c.change_or_refuse.new.self h now) within), i.3)
 
 pub returns-clause-carries : goal.returns-clause-carries
 returns-clause-carries g c = λ t size e w ready.
@@ -60,10 +60,10 @@ returns-clause-carries g c = λ t size e w ready.
     let here : held_under i.opened opened.number ≡ Some opened = ap (held_under i.opened) its ∙ there in
     let own = rw c.in-Ok.is at (k.own t size w ready) in
     let owned = subst (λ (held : List (Option Held)). IsOwn c.args.client c.args.name number held) (sym (ap (λ (m : Memory). m.held) c.self.view_is ∙ k.held)) own.own in
-    let line : ℕ → List ℕ → Command = λ client name. Set client name c.args.s c.args.f c.args.x in
-    let n = c.set_field.ensures in
+    let line : ℕ → List ℕ → Command = λ client name. line_of c.args.change client name in
+    let n = c.change_or_refuse.ensures in
     let same = e ∙ sym (ap (λ (m : Counts). m.size) k.cause) in
-    let applies = subst (λ (m : ℕ). Applies size w (world_by w (Some (line opened.client opened.name))) (with_held m (Some c.set_field.new.self) view) (fault_of c.set_field.result) (g.H.Host.state c.find_own.new.h) (g.H.Host.state c.set_field.new.h)) its
+    let applies = subst (λ (m : ℕ). Applies size w (world_by w (Some (line opened.client opened.name))) (with_held m (Some c.change_or_refuse.new.self) view) (fault_of c.change_or_refuse.result) (g.H.Host.state c.find_own.new.h) (g.H.Host.state c.change_or_refuse.new.h)) its
     (n.applies t size same w view refl here then) in
-    CarriesOut-own size w (with_held number (Some c.set_field.new.self) view) _ _ _ _ _ _ line c.args.client c.args.name (set_is_plain c.args.client c.args.name c.args.s c.args.f c.args.x) (k.stays t) k.cause
-    i.opened number opened c.set_field.result owned there (n.reply t size w view refl here then) applies (n.rest t) n.cause
+    CarriesOut-own size w (with_held number (Some c.change_or_refuse.new.self) view) _ _ _ _ _ _ line c.args.client c.args.name (change_is_plain c.args.client c.args.name c.args.change) (k.stays t) k.cause
+    i.opened number opened c.change_or_refuse.result owned there (n.reply t size w view refl here then) applies (n.rest t) n.cause
