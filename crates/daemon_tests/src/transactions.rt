@@ -27,9 +27,12 @@ enum Ask<'a> {
     Abort(u8),
     New(u8, u32),
     Set(u8, u64, u32, Val),
+    Later(u8, u64, u32, Val),
+    Root(u8, u64),
+    Free(u8, u64),
 }
 
-use Ask::{Abort as Undo, Begin, Commit, Line, New, Set};
+use Ask::{Abort as Undo, Begin, Commit, Free, Later, Line, New, Root, Set};
 
 /// What is asked, and the reply: nothing where a call of the host fails, and `cut` where power is lost.
 type Row<'a> = (Ask<'a>, &'a str);
@@ -73,6 +76,18 @@ fn reply_to<H: Host>(
         Set(client, serial, f, x) => {
             assert!(rt; u32::from(client) < CLIENTS && f < MAX_FIELDS);
             daemon.set(host, client, POOL, serial, f, x)
+        }
+        Later(client, serial, f, x) => {
+            assert!(rt; u32::from(client) < CLIENTS && f < MAX_FIELDS);
+            daemon.later(host, client, POOL, serial, f, x)
+        }
+        Root(client, serial) => {
+            assert!(rt; u32::from(client) < CLIENTS);
+            daemon.root(host, client, POOL, serial)
+        }
+        Free(client, serial) => {
+            assert!(rt; u32::from(client) < CLIENTS && serial > 0);
+            daemon.free(host, client, POOL, serial)
         }
         Line(_) => Ok(Reply::Cut),
     }
@@ -155,6 +170,20 @@ fn the_calls_of_a_transaction_reply_as_its_lines_do(rt: HostRuntime) {
         (Line("get 0 a 1.0"), "ok 10"),
         (Commit(0), "no tx"),
         (Undo(1), "no client"),
+        (Begin(0), "ok"),
+        (Root(0, 1), "ok"),
+        (Free(0, 1), "no held"),
+        (Root(0, 2), "no object"),
+        (Later(0, 1, 0, Val::Ref(1)), "no kind"),
+        (Later(0, 1, 0, Val::Num(12)), "ok"),
+        (Root(0, 0), "ok"),
+        (Free(0, 1), "no held"),
+        (Line("get 0 a 1.0"), "ok 10"),
+        (Commit(0), "ok"),
+        (Line("get 0 a 1.0"), "ok 12"),
+        (Begin(0), "ok"),
+        (Free(0, 1), "ok"),
+        (Line("get 0 a 1.0"), "no object"),
     ];
     run_on(&rt, rt.alloc(), &mut host, &[&MADE, &rows]);
 }

@@ -6,6 +6,8 @@ mod clients;
 #[cfg(test)]
 mod faults;
 #[cfg(test)]
+mod graphs;
+#[cfg(test)]
 mod pool_cuts;
 #[cfg(test)]
 mod pools;

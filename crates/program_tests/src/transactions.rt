@@ -8,7 +8,7 @@ use test_device::poke;
 use test_program::{MADE, MADE_SAID, RUN, Seen, blank, blank_of, status_of};
 
 /// Runs each script behind the lines that make object 1 of pool `a`, on a blank device of its own. It has to be answered so.
-fn go_on_with(rt: &impl Abort, alloc: Global, rows: &[(&str, &str)]) {
+pub fn go_on_with(rt: &impl Abort, alloc: Global, rows: &[(&str, &str)]) {
     for (script, replies) in rows {
         let script = format!(in alloc; "{MADE}{script}").expect(rt, "memory");
         let said = format!(in alloc; "{MADE_SAID}{replies}").expect(rt, "memory");
@@ -128,7 +128,7 @@ fn a_transaction_has_room_for_338_fields_that_are_set(rt: HostRuntime) {
 }
 
 /// Adds a transaction in which so many objects are made from this serial on, and what is answered to its lines.
-fn make_objects(
+pub fn make_objects(
     rt: &impl Abort,
     alloc: Global,
     (script, replies): (&mut String, &mut String),

@@ -1,0 +1,164 @@
+//! Lines that come by chance, from a seed.
+use crate::lines::{Ask, Line, Owner, Value};
+use std::alloc::Global;
+use std::process::Abort;
+
+/// The modes of pools. The owner may read each.
+const MODES: [u16; 8] = [666, 666, 600, 660, 606, 646, 404, 426];
+
+/// What numbers come from: each is the one before times a number, by a prime.
+#[derive(Drop)]
+struct Dice {
+    now: u64,
+    /// Who asks, of which pool, and how often still.
+    client: u8,
+    pool: u8,
+    left: u8,
+}
+
+impl Dice {
+    /// A number below this one.
+    fn roll(&mut self, below: u8) -> u8 {
+        self.now = self.now % 2_147_483_647 * 48_271 % 2_147_483_647;
+        (self.now / 8 % u64::from(below.max(1))) as u8
+    }
+
+    fn owner(&mut self) -> Owner {
+        Owner {
+            uid: 5 + self.roll(3) % 3,
+            gid: 5 + self.roll(2) % 2,
+        }
+    }
+
+    fn mode(&mut self) -> u16 {
+        let at = usize::from(self.roll(8));
+        MODES.get(at).copied().unwrap_or(600)
+    }
+
+    fn serial(&mut self) -> u64 {
+        let most = 1 + self.roll(4) % 4;
+        1 + u64::from(self.roll(most))
+    }
+
+    /// A value for the field of this number: that of number 1 is mostly a pointer.
+    fn value(&mut self, f: u8) -> Value {
+        if (f == 1) != (self.roll(4) > 0) {
+            return Value::Number(u64::from(self.roll(100)));
+        }
+        let most = 2 + self.roll(4) % 4;
+        Value::Object(u64::from(self.roll(most)))
+    }
+
+    /// A field of an object, and a value for it.
+    fn field(&mut self) -> (u64, u8, Value) {
+        let serial = self.serial();
+        let f = self.roll(3);
+        (serial, f, self.value(f))
+    }
+
+    fn ask(&mut self) -> Ask {
+        match self.roll(48) {
+            0..=1 => Ask::Make(self.mode()),
+            2 => Ask::Change(self.mode()),
+            3 if self.roll(2) == 0 => Ask::Drop,
+            3..=8 => Ask::Get(self.serial(), self.roll(3)),
+            9 => Ask::Begin,
+            10 => Ask::Commit,
+            11 => Ask::Abort,
+            12..=20 => Ask::New(self.roll(4)),
+            21..=30 => {
+                let (serial, f, x) = self.field();
+                Ask::Set(serial, f, x)
+            }
+            31..=38 => {
+                let (serial, f, x) = self.field();
+                Ask::Later(serial, f, x)
+            }
+            39..=41 => Ask::Root(self.serial().saturating_sub(1)),
+            _ => Ask::Free(1 + u64::from(self.roll(5))),
+        }
+    }
+
+    /// What comes next of a client on a pool: it begins, asks some more, and mostly commits.
+    fn ask_on(&mut self) -> Line {
+        let left = self.left;
+        let ask = match left {
+            0 => {
+                self.client = self.roll(8);
+                self.pool = self.roll(7);
+                self.left = 2 + self.roll(14) % 14;
+                Ask::Begin
+            }
+            1 => match self.roll(8) {
+                0 => self.ask(),
+                1 => Ask::Abort,
+                _ => Ask::Commit,
+            },
+            _ => self.ask(),
+        };
+        self.left = self.left.saturating_sub(1);
+        Line::On(self.client, self.pool, ask)
+    }
+
+    fn line(&mut self) -> Line {
+        match self.roll(64) {
+            0 => Line::Bad,
+            1 => Line::Leave(self.roll(8)),
+            2 => Line::List,
+            3..=5 => Line::Come(self.roll(8), self.owner()),
+            6 => Line::Come(self.client, self.owner()),
+            7..=9 => Line::Define(self.roll(4), self.roll(4) == 0),
+            10 if self.roll(4) == 0 => Line::Cut(u64::from(self.roll(2))),
+            _ => self.ask_on(),
+        }
+    }
+
+    /// How often the line comes: one in sixteen of those that begin or make an object up to so often.
+    fn times(&mut self, line: Line, most: u8) -> u8 {
+        match line {
+            Line::On(_, _, Ask::Begin | Ask::New(_)) if self.roll(16) == 0 => self.roll(most),
+            _ => 1,
+        }
+    }
+}
+
+/// Adds a line of each client that comes.
+fn come(rt: &impl Abort, dice: &mut Dice, lines: &mut Vec<Line>) {
+    for client in 0..8 {
+        let line = Line::Come(client, dice.owner());
+        lines.push(line).expect(rt, "memory");
+    }
+}
+
+/// Adds a line by which the client begins on each pool.
+fn begin_all(rt: &impl Abort, client: u8, lines: &mut Vec<Line>) {
+    for pool in 0..7 {
+        let line = Line::On(client, pool, Ask::Begin);
+        lines.push(line).expect(rt, "memory");
+    }
+}
+
+/// So many lines, or a few more, from this seed. All clients come first, and behind each power loss; some lines
+/// come up to so often, and behind one that is none a client begins on all pools.
+pub fn lines_of(rt: &impl Abort, alloc: Global, seed: u64, count: usize, most: u8) -> Vec<Line> {
+    let mut dice = Dice {
+        now: seed,
+        client: 0,
+        pool: 0,
+        left: 0,
+    };
+    let mut lines = Vec::new(alloc);
+    come(rt, &mut dice, &mut lines);
+    for _ in 0..count {
+        let line = dice.line();
+        for _ in 0..dice.times(line, most) {
+            lines.push(line).expect(rt, "memory");
+        }
+        match line {
+            Line::Cut(_) => come(rt, &mut dice, &mut lines),
+            Line::Bad => begin_all(rt, dice.client, &mut lines),
+            _ => {}
+        }
+    }
+    lines
+}

@@ -1,0 +1,157 @@
+//! The lines of random scripts, as the model reads them.
+use std::alloc::{AllocError, Global};
+
+/// A client's ids.
+#[derive(Clone, Copy)]
+pub struct Owner {
+    pub uid: u8,
+    pub gid: u8,
+}
+
+/// A value of a field.
+#[derive(Clone, Copy)]
+pub enum Value {
+    Number(u64),
+    Object(u64),
+}
+
+/// What a client asks of a pool.
+#[derive(Clone, Copy)]
+pub enum Ask {
+    /// With this mode, as it is written.
+    Make(u16),
+    Change(u16),
+    Drop,
+    /// The field of the object.
+    Get(u64, u8),
+    Begin,
+    Commit,
+    Abort,
+    /// Of this type.
+    New(u8),
+    Set(u64, u8, Value),
+    Later(u64, u8, Value),
+    Root(u64),
+    Free(u64),
+}
+
+/// A line.
+#[derive(Clone, Copy)]
+pub enum Line {
+    /// It is none.
+    Bad,
+    Come(u8, Owner),
+    Leave(u8),
+    /// A type, by one of its two maps.
+    Define(u8, bool),
+    List,
+    Cut(u64),
+    /// What a client asks of a pool.
+    On(u8, u8, Ask),
+}
+
+/// The fields of a type.
+#[derive(Clone, Copy)]
+pub struct Kind {
+    fields: u8,
+    pointers: [bool; 3],
+}
+
+impl Kind {
+    /// Whether the field is a pointer, where there is one of this number.
+    pub fn pointer(self, f: u8) -> Option<bool> {
+        if f < self.fields {
+            return self.pointers.get(usize::from(f)).copied();
+        }
+        None
+    }
+}
+
+/// The two maps of each type, as they are written.
+const KINDS: [[(&str, u8, [bool; 3]); 2]; 4] = [
+    [
+        ("2 1", 2, [false, true, false]),
+        ("2 0", 2, [true, false, false]),
+    ],
+    [
+        ("1 -", 1, [false, false, false]),
+        ("1 0", 1, [true, false, false]),
+    ],
+    [
+        ("3 0,2", 3, [true, false, true]),
+        ("3 -", 3, [false, false, false]),
+    ],
+    [
+        ("2 0,1", 2, [true, true, false]),
+        ("3 1", 3, [false, true, false]),
+    ],
+];
+
+/// The first or the second map of a type.
+fn map_of(kind: u8, is_second: bool) -> (&'static str, u8, [bool; 3]) {
+    let [first, second] = KINDS[usize::from(kind % 4)];
+    if is_second { second } else { first }
+}
+
+/// The fields of a type by its first or its second map.
+pub fn kind_of(kind: u8, is_second: bool) -> Kind {
+    let (_, fields, pointers) = map_of(kind, is_second);
+    Kind { fields, pointers }
+}
+
+/// The name of a pool.
+pub fn name(pool: u8) -> char {
+    char::from(b'a' + pool % 26)
+}
+
+impl Value {
+    fn text(self, alloc: Global) -> Result<String, AllocError> {
+        match self {
+            Value::Number(number) => format!(in alloc; "{number}"),
+            Value::Object(serial) => format!(in alloc; "@{serial}"),
+        }
+    }
+}
+
+impl Ask {
+    fn text(self, alloc: Global, c: u8, p: char) -> Result<String, AllocError> {
+        match self {
+            Ask::Make(mode) => format!(in alloc; "pool {c} {p} {mode:03}\n"),
+            Ask::Change(mode) => format!(in alloc; "chmod {c} {p} {mode:03}\n"),
+            Ask::Drop => format!(in alloc; "drop {c} {p}\n"),
+            Ask::Get(s, f) => format!(in alloc; "get {c} {p} {s}.{f}\n"),
+            Ask::Begin => format!(in alloc; "begin {c} {p}\n"),
+            Ask::Commit => format!(in alloc; "commit {c} {p}\n"),
+            Ask::Abort => format!(in alloc; "abort {c} {p}\n"),
+            Ask::New(t) => format!(in alloc; "new {c} {p} {}\n", u32::from(t) + 1),
+            Ask::Set(s, f, x) => {
+                let x = x.text(alloc)?;
+                format!(in alloc; "set {c} {p} {s}.{f} {x}\n")
+            }
+            Ask::Later(s, f, x) => {
+                let x = x.text(alloc)?;
+                format!(in alloc; "later {c} {p} {s}.{f} {x}\n")
+            }
+            Ask::Root(s) => format!(in alloc; "root {c} {p} {s}\n"),
+            Ask::Free(s) => format!(in alloc; "free {c} {p} {s}\n"),
+        }
+    }
+}
+
+impl Line {
+    /// The line, with its newline.
+    pub fn text(self, alloc: Global) -> Result<String, AllocError> {
+        match self {
+            Line::Bad => String::from_str(alloc, "set 0 a 1.0 01\n"),
+            Line::Come(c, who) => format!(in alloc; "client {c} {} {}\n", who.uid, who.gid),
+            Line::Leave(c) => format!(in alloc; "leave {c}\n"),
+            Line::Define(t, is_second) => {
+                let (fields, _, _) = map_of(t, is_second);
+                format!(in alloc; "type {} {fields}\n", u32::from(t) + 1)
+            }
+            Line::List => String::from_str(alloc, "pools\n"),
+            Line::Cut(pick) => format!(in alloc; "cut {pick}\n"),
+            Line::On(c, pool, ask) => ask.text(alloc, c, name(pool)),
+        }
+    }
+}

@@ -1,0 +1,632 @@
+//! A small model of the machine: what the lines do, and what is replied to them.
+use crate::lines::{Ask, Kind, Line, Owner, Value, kind_of, name};
+use std::alloc::{AllocError, Global};
+use std::array;
+use std::process::Abort;
+
+/// The units that a transaction has, and what a line takes of them.
+const UNITS: u16 = 1_016;
+
+const SET: u16 = 3;
+
+const NEW: u16 = 37;
+
+/// What is replied to a line.
+#[derive(Clone, Copy)]
+pub enum Reply {
+    Done,
+    Number(u64),
+    Object(u64),
+    /// The list of the pools.
+    List,
+    No(&'static str),
+}
+
+/// An object, whose serial is its place in its pool.
+#[derive(Clone, Copy)]
+struct Object {
+    kind: Kind,
+    fields: [u64; 3],
+    is_freed: bool,
+}
+
+/// A value that comes at the commit.
+#[derive(Clone, Copy)]
+struct Later {
+    serial: u64,
+    f: u8,
+    x: Value,
+}
+
+/// A transaction that is open.
+#[derive(Drop)]
+struct Open {
+    client: u8,
+    depth: u8,
+    units: u16,
+    laters: Vec<Later>,
+    /// The objects and the root as it began.
+    objects: Vec<Object>,
+    root: u64,
+}
+
+/// A pool, and the transaction that is open on it.
+#[derive(Drop)]
+pub struct Pool {
+    owner: Owner,
+    mode: u16,
+    number: u64,
+    puddles: u8,
+    /// Its words are no graph.
+    is_wild: bool,
+    objects: Vec<Object>,
+    root: u64,
+    open: Option<Open>,
+}
+
+/// What the lines move. Of the types there is room for one less than there are.
+#[derive(Drop)]
+pub struct Machine {
+    frames: usize,
+    next: u64,
+    clients: [Option<Owner>; 8],
+    /// Which of its maps each type has.
+    kinds: [Option<bool>; 4],
+    pools: [Option<Pool>; 7],
+}
+
+impl Object {
+    /// Whether a pointer of it is to the object of this serial.
+    fn names(&self, serial: u64) -> bool {
+        let mut names = false;
+        for f in 0..3u8 {
+            let value = self.fields.get(usize::from(f));
+            if self.kind.pointer(f) == Some(true) && value == Some(&serial) {
+                names = true;
+            }
+        }
+        names && !self.is_freed
+    }
+}
+
+impl Later {
+    /// Whether it is one of a field of the object of this serial, or a pointer to it.
+    fn names(&self, serial: u64) -> bool {
+        match self.x {
+            Value::Object(named) if named == serial => true,
+            _ => self.serial == serial,
+        }
+    }
+}
+
+impl Pool {
+    fn object(&self, serial: u64) -> Option<&Object> {
+        let object = self.objects.get(serial.checked_sub(1)? as usize)?;
+        if object.is_freed { None } else { Some(object) }
+    }
+
+    /// How many objects there were ever.
+    pub fn objects(&self) -> u64 {
+        self.objects.len() as u64
+    }
+
+    /// The client who may read it, where the first clients have the first uids.
+    pub fn owner(&self) -> Owner {
+        self.owner
+    }
+
+    fn units(&self) -> u16 {
+        self.open.as_ref().map_or(0, |open| open.units)
+    }
+
+    fn is_full(&self) -> bool {
+        let live = self.objects.iter().filter(|object| !object.is_freed);
+        62 * usize::from(self.puddles) <= live.count()
+    }
+
+    /// The digit of the mode that is the client's.
+    fn right(&self, who: Owner) -> u16 {
+        if who.uid == self.owner.uid {
+            self.mode / 100
+        } else if who.gid == self.owner.gid {
+            self.mode / 10 % 10
+        } else {
+            self.mode % 10
+        }
+    }
+
+    fn denies(&self, who: Owner, ask: Ask) -> bool {
+        match ask {
+            Ask::Change(_) | Ask::Drop => who.uid != self.owner.uid,
+            Ask::Get(_, _) => self.right(who) & 4 == 0,
+            Ask::Begin => self.right(who) & 2 == 0,
+            _ => false,
+        }
+    }
+
+    /// Why the client is refused, before what it asks is looked at.
+    fn refusal(&self, who: Owner, client: u8, ask: Ask) -> Option<&'static str> {
+        let is_of_record = matches!(ask, Ask::Change(_) | Ask::Drop);
+        if self.is_wild && !is_of_record {
+            return Some("wild");
+        }
+        if self.denies(who, ask) {
+            return Some("denied");
+        }
+        match &self.open {
+            Some(open) if open.client != client => Some("busy"),
+            Some(_) if is_of_record => Some("open"),
+            None
+                if matches!(
+                    ask,
+                    Ask::Commit
+                        | Ask::Abort
+                        | Ask::New(_)
+                        | Ask::Set(_, _, _)
+                        | Ask::Later(_, _, _)
+                        | Ask::Root(_)
+                        | Ask::Free(_)
+                ) => { Some("tx") }
+            _ => None,
+        }
+    }
+
+    fn refusal_to_get(&self, serial: u64, f: u8) -> Option<&'static str> {
+        let Some(object) = self.object(serial) else {
+            return Some("object");
+        };
+        match object.kind.pointer(f) {
+            None => Some("field"),
+            Some(_) => None,
+        }
+    }
+
+    fn refusal_to_set(&self, serial: u64, f: u8, x: Value) -> Option<&'static str> {
+        let (is_pointer, is_there) = match x {
+            Value::Number(_) => (false, true),
+            Value::Object(named) => (true, named == 0 || self.object(named).is_some()),
+        };
+        let Some(object) = self.object(serial) else {
+            return Some("object");
+        };
+        match object.kind.pointer(f) {
+            _ if !is_there => Some("object"),
+            None => Some("field"),
+            Some(wanted) if wanted != is_pointer => Some("kind"),
+            Some(_) => self.refusal_by_units(),
+        }
+    }
+
+    fn refusal_by_units(&self) -> Option<&'static str> {
+        if UNITS - SET < self.units() {
+            return Some("toobig");
+        }
+        None
+    }
+
+    fn refusal_to_root(&self, serial: u64) -> Option<&'static str> {
+        if serial != 0 && self.object(serial).is_none() {
+            return Some("object");
+        }
+        self.refusal_by_units()
+    }
+
+    /// Whether the root, a pointer of an object, or what is asked for later holds the object.
+    fn is_held(&self, serial: u64) -> bool {
+        if self.objects.iter().any(|object| object.names(serial)) {
+            return true;
+        }
+        match &self.open {
+            Some(open) if open.laters.iter().any(|later| later.names(serial)) => true,
+            _ => self.root == serial,
+        }
+    }
+
+    fn refusal_to_free(&self, serial: u64) -> Option<&'static str> {
+        if self.object(serial).is_none() {
+            return Some("object");
+        }
+        if self.is_held(serial) {
+            return Some("held");
+        }
+        self.refusal_by_units()
+    }
+
+    fn read(&self, serial: u64, f: u8) -> Reply {
+        let Some(object) = self.object(serial) else {
+            return Reply::Done;
+        };
+        let value = object.fields.get(usize::from(f)).copied().unwrap_or(0);
+        match object.kind.pointer(f) {
+            Some(true) => Reply::Object(value),
+            _ => Reply::Number(value),
+        }
+    }
+
+    fn take_units(&mut self, units: u16) {
+        if let Some(open) = &mut self.open {
+            open.units = open.units.saturating_add(units);
+        }
+    }
+
+    fn set(&mut self, serial: u64, f: u8, x: Value) {
+        let value = match x {
+            Value::Number(value) | Value::Object(value) => value,
+        };
+        let at = serial.saturating_sub(1) as usize;
+        if let Some(object) = self.objects.get_mut(at)
+            && let Some(field) = object.fields.get_mut(usize::from(f))
+        {
+            *field = value;
+        }
+    }
+
+    fn ask_later(&mut self, rt: &impl Abort, later: Later) {
+        if let Some(open) = &mut self.open {
+            open.laters.push(later).expect(rt, "memory");
+        }
+    }
+
+    fn free(&mut self, serial: u64) {
+        let at = serial.saturating_sub(1) as usize;
+        if let Some(object) = self.objects.get_mut(at) {
+            object.is_freed = true;
+        }
+    }
+
+    fn begin(&mut self, rt: &impl Abort, alloc: Global, client: u8) {
+        match &mut self.open {
+            Some(open) => open.depth = open.depth.saturating_add(1),
+            None => {
+                let objects = Vec::from_slice(alloc, &self.objects).expect(rt, "memory");
+                self.open = Some(Open {
+                    client,
+                    depth: 1,
+                    units: 0,
+                    laters: Vec::new(alloc),
+                    objects,
+                    root: self.root,
+                });
+            }
+        }
+    }
+
+    fn commit(&mut self) {
+        match &mut self.open {
+            Some(open) if open.depth > 1 => open.depth -= 1,
+            _ => self.end(),
+        }
+    }
+
+    /// What is asked for later comes, in turn, and the transaction ends.
+    fn end(&mut self) {
+        if let Some(open) = self.open.take() {
+            for later in open.laters.iter() {
+                self.set(later.serial, later.f, later.x);
+            }
+        }
+    }
+
+    fn undo(&mut self) {
+        if let Some(open) = self.open.take() {
+            self.objects = open.objects;
+            self.root = open.root;
+        }
+    }
+
+    /// An object more, and a puddle where there is no room.
+    fn make_object(&mut self, rt: &impl Abort, kind: Kind) -> Reply {
+        if self.is_full() {
+            self.puddles = self.puddles.saturating_add(1);
+        }
+        let object = Object {
+            kind,
+            fields: [0; 3],
+            is_freed: false,
+        };
+        self.objects.push(object).expect(rt, "memory");
+        self.take_units(NEW);
+        Reply::Object(self.objects())
+    }
+
+    /// Whether it is open to the client.
+    fn is_open_to(&self, client: u8) -> bool {
+        self.open.as_ref().is_some_and(|open| open.client == client)
+    }
+
+    /// A line of three units.
+    fn change(&mut self, rt: &impl Abort, ask: Ask) {
+        match ask {
+            Ask::Set(serial, f, x) => self.set(serial, f, x),
+            Ask::Later(serial, f, x) => self.ask_later(rt, Later { serial, f, x }),
+            Ask::Root(serial) => self.root = serial,
+            Ask::Free(serial) => self.free(serial),
+            _ => return,
+        }
+        self.take_units(SET);
+    }
+
+    fn carry_out(&mut self, rt: &impl Abort, alloc: Global, client: u8, ask: Ask) -> Reply {
+        match ask {
+            Ask::Change(mode) => self.mode = mode,
+            Ask::Get(serial, f) => return self.read(serial, f),
+            Ask::Begin => self.begin(rt, alloc, client),
+            Ask::Commit => self.commit(),
+            Ask::Abort => self.undo(),
+            _ => self.change(rt, ask),
+        }
+        Reply::Done
+    }
+}
+
+/// A pool of one puddle without objects, of this mode and number.
+fn new_pool(alloc: Global, owner: Owner, (mode, number): (u16, u64)) -> Pool {
+    Pool {
+        owner,
+        mode,
+        number,
+        puddles: 1,
+        is_wild: false,
+        objects: Vec::new(alloc),
+        root: 0,
+        open: None,
+    }
+}
+
+impl Machine {
+    /// The machine of a device of seven frames with these pools, of each of which the owner and the number of objects is given. The last is wild,
+    /// and type 1 is defined.
+    pub fn new(rt: &impl Abort, alloc: Global, owned: &[(u8, u8); 6]) -> Machine {
+        let mut machine = Machine {
+            frames: 7,
+            next: 1,
+            clients: [None; 8],
+            kinds: [None; 4],
+            pools: array::from_fn(|_| None),
+        };
+        machine.define(0, false);
+        for (place, (id, objects)) in machine.pools.iter_mut().zip(owned) {
+            let owner = Owner { uid: *id, gid: *id };
+            let mut pool = new_pool(alloc, owner, (666, machine.next));
+            for _ in 0..*objects {
+                let object = Object {
+                    kind: kind_of(0, false),
+                    fields: [10, 0, 0],
+                    is_freed: false,
+                };
+                pool.objects.push(object).expect(rt, "memory");
+            }
+            machine.next = machine.next.saturating_add(2);
+            *place = Some(pool);
+        }
+        if let Some(last) = &mut machine.pools[5] {
+            last.is_wild = true;
+        }
+        machine
+    }
+
+    pub fn pool(&self, pool: u8) -> Option<&Pool> {
+        self.pools.get(usize::from(pool))?.as_ref()
+    }
+
+    fn client(&self, client: u8) -> Option<Owner> {
+        *self.clients.get(usize::from(client))?
+    }
+
+    /// Which map the type has, where it is defined.
+    pub fn map(&self, kind: u8) -> Option<bool> {
+        *self.kinds.get(usize::from(kind))?
+    }
+
+    /// How many puddles there are.
+    fn puddles(&self) -> usize {
+        let mut puddles = 0usize;
+        for pool in self.pools.iter().flatten() {
+            puddles = puddles.saturating_add(usize::from(pool.puddles));
+        }
+        puddles
+    }
+
+    fn has_space(&self) -> bool {
+        self.puddles() < self.frames
+    }
+
+    fn refusal_to_define(&self, kind: u8, is_second: bool) -> Option<&'static str> {
+        match self.map(kind) {
+            Some(known) if known != is_second => Some("clash"),
+            Some(_) => None,
+            None if self.kinds.iter().flatten().count() == 3 => Some("full"),
+            None => None,
+        }
+    }
+
+    fn refusal_to_begin(&self, pool: &Pool, client: u8) -> Option<&'static str> {
+        match &pool.open {
+            Some(open) if open.depth == 16 => Some("deep"),
+            Some(_) => None,
+            None => {
+                let own = self.pools.iter().flatten();
+                let own = own.filter(|pool| pool.is_open_to(client)).count();
+                if own == 4 { Some("logs") } else { None }
+            }
+        }
+    }
+
+    fn refusal_to_make_object(&self, pool: &Pool, kind: u8) -> Option<&'static str> {
+        if self.map(kind).is_none() {
+            Some("type")
+        } else if UNITS - NEW < pool.units() {
+            Some("toobig")
+        } else if pool.is_full() && !self.has_space() {
+            Some("space")
+        } else {
+            None
+        }
+    }
+
+    fn refusal_on(&self, client: u8, pool: u8, ask: Ask) -> Option<&'static str> {
+        let Some(who) = self.client(client) else {
+            return Some("client");
+        };
+        let Some(pool) = self.pool(pool) else {
+            return match ask {
+                Ask::Make(_) if self.has_space() => None,
+                Ask::Make(_) => Some("space"),
+                _ => Some("pool"),
+            };
+        };
+        if let Ask::Make(_) = ask {
+            return Some("exists");
+        }
+        if let Some(word) = pool.refusal(who, client, ask) {
+            return Some(word);
+        }
+        match ask {
+            Ask::Begin => self.refusal_to_begin(pool, client),
+            Ask::New(kind) => self.refusal_to_make_object(pool, kind),
+            Ask::Get(serial, f) => pool.refusal_to_get(serial, f),
+            Ask::Set(serial, f, x) | Ask::Later(serial, f, x) => pool.refusal_to_set(serial, f, x),
+            Ask::Root(serial) => pool.refusal_to_root(serial),
+            Ask::Free(serial) => pool.refusal_to_free(serial),
+            _ => None,
+        }
+    }
+
+    fn refusal(&self, line: Line) -> Option<&'static str> {
+        match line {
+            Line::Bad => Some("bad"),
+            Line::Come(client, _) if self.client(client).is_some() => Some("taken"),
+            Line::Leave(client) if self.client(client).is_none() => Some("client"),
+            Line::Define(kind, is_second) => self.refusal_to_define(kind, is_second),
+            Line::On(client, pool, ask) => self.refusal_on(client, pool, ask),
+            _ => None,
+        }
+    }
+
+    /// Draws so many numbers, and gives the first.
+    fn draw(&mut self, numbers: u64) -> u64 {
+        let first = self.next;
+        self.next = first.saturating_add(numbers);
+        first
+    }
+
+    fn put_pool(&mut self, at: u8, pool: Option<Pool>) {
+        if let Some(place) = self.pools.get_mut(usize::from(at)) {
+            *place = pool;
+        }
+    }
+
+    fn put_client(&mut self, at: u8, client: Option<Owner>) {
+        if let Some(place) = self.clients.get_mut(usize::from(at)) {
+            *place = client;
+        }
+    }
+
+    fn make(&mut self, alloc: Global, client: u8, at: u8, mode: u16) {
+        if let Some(owner) = self.client(client) {
+            let number = self.draw(2);
+            let pool = new_pool(alloc, owner, (mode, number));
+            self.put_pool(at, Some(pool));
+        }
+    }
+
+    fn make_object(&mut self, rt: &impl Abort, at: u8, kind: Kind) -> Reply {
+        if self.pool(at).is_some_and(Pool::is_full) {
+            self.draw(1);
+        }
+        match self.pools.get_mut(usize::from(at)) {
+            Some(Some(pool)) => pool.make_object(rt, kind),
+            _ => Reply::Done,
+        }
+    }
+
+    fn carry_out(&mut self, rt: &impl Abort, alloc: Global, client: u8, at: u8, ask: Ask) -> Reply {
+        match ask {
+            Ask::Make(mode) => self.make(alloc, client, at, mode),
+            Ask::Drop => self.put_pool(at, None),
+            Ask::New(kind) => {
+                if let Some(is_second) = self.map(kind) {
+                    return self.make_object(rt, at, kind_of(kind, is_second));
+                }
+            }
+            _ => {
+                if let Some(Some(pool)) = self.pools.get_mut(usize::from(at)) {
+                    return pool.carry_out(rt, alloc, client, ask);
+                }
+            }
+        }
+        Reply::Done
+    }
+
+    fn leave(&mut self, client: u8) {
+        for pool in self.pools.iter_mut().flatten() {
+            if pool.is_open_to(client) {
+                pool.undo();
+            }
+        }
+        self.put_client(client, None);
+    }
+
+    /// What a start makes of it.
+    pub fn restart(&mut self) {
+        for client in 0..8 {
+            self.leave(client);
+        }
+    }
+
+    fn define(&mut self, kind: u8, is_second: bool) {
+        if let Some(place) = self.kinds.get_mut(usize::from(kind)) {
+            *place = Some(is_second);
+        }
+    }
+
+    /// Takes the line, and gives what is replied to it.
+    pub fn step(&mut self, rt: &impl Abort, alloc: Global, line: Line) -> Reply {
+        if let Some(word) = self.refusal(line) {
+            return Reply::No(word);
+        }
+        match line {
+            Line::Bad => {}
+            Line::Come(client, who) => self.put_client(client, Some(who)),
+            Line::Leave(client) => self.leave(client),
+            Line::Define(kind, is_second) => self.define(kind, is_second),
+            Line::List => return Reply::List,
+            Line::Cut(_) => self.restart(),
+            Line::On(client, at, ask) => return self.carry_out(rt, alloc, client, at, ask),
+        }
+        Reply::Done
+    }
+
+    /// The list of the pools, as it is said.
+    fn list(&self, alloc: Global) -> Result<String, AllocError> {
+        let mut text = String::from_str(alloc, "ok")?;
+        for at in 0..7u8 {
+            if let Some(pool) = self.pool(at) {
+                let (name, mode, puddles, number) = (
+                    name(at),
+                    pool.mode,
+                    pool.puddles,
+                    pool.number,
+                );
+                let Owner { uid, gid } = pool.owner;
+                let one = format!(in alloc;
+                    " {name}:{uid}:{gid}:{mode:03}:{puddles}:00000000-0000-0007-0000-{number:012x}"
+                )?;
+                text.push_str(&one)?;
+            }
+        }
+        text.push('\n')?;
+        Ok(text)
+    }
+
+    /// The text of what is replied to a line that has been taken.
+    pub fn text(&self, alloc: Global, reply: Reply) -> Result<String, AllocError> {
+        match reply {
+            Reply::Done => String::from_str(alloc, "ok\n"),
+            Reply::Number(number) => format!(in alloc; "ok {number}\n"),
+            Reply::Object(serial) => format!(in alloc; "ok @{serial}\n"),
+            Reply::No(word) => format!(in alloc; "no {word}\n"),
+            Reply::List => self.list(alloc),
+        }
+    }
+}

@@ -1,0 +1,160 @@
+//! Lines of eight clients on seven pools that come by chance, held against the model.
+use crate::dice::lines_of;
+use crate::lines::{Ask, Line, Owner};
+use crate::machine::{Machine, Reply};
+use crate::pokes::{Pools, device_with};
+use crate::talk::Talk;
+use pm_mem::{MemHost, Plan};
+use puddle_cli::DONE;
+use std::alloc::Global;
+use std::process::Abort;
+use test_device::poke;
+use test_program::{EVERY_OTHER, RUN, Seen, status_of};
+
+/// The owners of the pools that are there at first, and their objects. One frame is free.
+const OWNED: [(u8, u8); 6] = [(5, 60), (6, 4), (7, 4), (5, 2), (6, 1), (5, 1)];
+
+/// The pointer of the object of the last, which leads into the middle of it.
+const WILD: (u32, u64) = (44_667, 0x1000_0001_4208);
+
+/// A device with them, with room for so many device steps and said bytes. They may be read and written by all, and there is room for two more
+/// types.
+pub fn device(rt: &impl Abort, alloc: Global, room: (u32, u32), script: &str) -> MemHost {
+    let pools = Pools {
+        frames: 7,
+        pools: &OWNED,
+        room,
+    };
+    let mut host = device_with(rt, alloc, pools, script, Plan::none(alloc));
+    assert!(rt; poke(&mut host, &[WILD]));
+    for pool in 0..6u32 {
+        assert!(rt; poke(&mut host, &[(1_219 + 8 * pool, 0o666)]));
+    }
+    for record in 3..64u32 {
+        let words = [
+            (1_088 + 2 * record, 1_000 + u64::from(record)),
+            (1_089 + 2 * record, 0x1_0000_0000),
+        ];
+        assert!(rt; poke(&mut host, &words));
+    }
+    host
+}
+
+/// The machine on that device.
+pub fn first_machine(rt: &impl Abort, alloc: Global) -> Machine {
+    Machine::new(rt, alloc, &OWNED)
+}
+
+/// The words by which lines are refused.
+const REFUSED: [&str; 21] = [
+    "bad", "client", "taken", "pool", "exists", "wild", "denied", "busy", "open", "tx", "type",
+    "object", "field", "kind", "held", "deep", "logs", "toobig", "clash", "full", "space",
+];
+
+/// The place of a reply to the line among those words, and behind them of those that are none.
+fn place_of(line: Line, reply: Reply) -> usize {
+    match (reply, line) {
+        (Reply::No(word), _) => REFUSED
+            .iter()
+            .position(|known| *known == word)
+            .unwrap_or(99),
+        (Reply::Number(_), _) => 21,
+        (Reply::Object(_), _) => 22,
+        (Reply::List, _) => 23,
+        (Reply::Done, Line::On(_, _, Ask::Later(_, _, _))) => 24,
+        (Reply::Done, Line::On(_, _, Ask::Root(_))) => 25,
+        (Reply::Done, Line::On(_, _, Ask::Free(_))) => 26,
+        (Reply::Done, _) => 27,
+    }
+}
+
+/// How often each reply came.
+pub type Counts = [u32; 28];
+
+/// The lines come next, by the machine.
+pub fn go_on(
+    rt: &impl Abort,
+    alloc: Global,
+    (machine, talk): (&mut Machine, &mut Talk),
+    lines: &[Line],
+    counts: &mut Counts,
+) {
+    for line in lines {
+        let reply = machine.step(rt, alloc, *line);
+        let text = line.text(alloc).expect(rt, "memory");
+        let answer = machine.text(alloc, reply).expect(rt, "memory");
+        talk.add(rt, &text, &answer);
+        if let Some(count) = counts.get_mut(place_of(*line, reply)) {
+            *count = count.saturating_add(1);
+        }
+    }
+}
+
+/// What is asked of a pool by the client of its owner's uid: each field of its first objects and its last ones, and beyond them; and then
+/// which of the first are held.
+fn read_pool(rt: &impl Abort, lines: &mut Vec<Line>, at: u8, uid: u8, objects: u64) {
+    let client = uid.saturating_sub(5);
+    for number in 1..10u64 {
+        let last = objects.saturating_add(number).saturating_sub(8);
+        let serial = if number < 5 { number } else { last.max(1) };
+        for f in 0..3 {
+            let line = Line::On(client, at, Ask::Get(serial, f));
+            lines.push(line).expect(rt, "memory");
+        }
+    }
+    for ask in [
+        Ask::Begin,
+        Ask::Free(1),
+        Ask::Free(2),
+        Ask::Free(3),
+        Ask::Free(4),
+        Ask::Abort,
+    ] {
+        lines.push(Line::On(client, at, ask)).expect(rt, "memory");
+    }
+}
+
+/// The lines by which either of these machines is read: a client of each uid comes, and reads the pools of the uid.
+pub fn reading(rt: &impl Abort, alloc: Global, machines: [&Machine; 2]) -> Vec<Line> {
+    let mut lines = Vec::new(alloc);
+    for client in 0..3u8 {
+        let who = Owner {
+            uid: 5 + client,
+            gid: 5,
+        };
+        lines.push(Line::Come(client, who)).expect(rt, "memory");
+    }
+    lines.push(Line::List).expect(rt, "memory");
+    let [one, other] = machines;
+    for at in 0..7 {
+        if let Some(pool) = one.pool(at).or(other.pool(at)) {
+            read_pool(rt, &mut lines, at, pool.owner().uid, pool.objects());
+        }
+    }
+    lines
+}
+
+/// The lines of a seed are replied to as the model has it, and then, behind a power loss, all is read so.
+fn run_seed(rt: &impl Abort, alloc: Global, seed: u64, counts: &mut Counts) {
+    let mut lines = lines_of(rt, alloc, seed, 400, 40);
+    lines.push(Line::Cut(EVERY_OTHER)).expect(rt, "memory");
+    let mut machine = first_machine(rt, alloc);
+    let mut talk = Talk::new(rt, alloc);
+    go_on(rt, alloc, (&mut machine, &mut talk), &lines, counts);
+    let read = reading(rt, alloc, [&machine, &machine]);
+    go_on(rt, alloc, (&mut machine, &mut talk), &read, counts);
+    let mut host = device(rt, alloc, (65_536, 32_768), &talk.script);
+    assert!(rt; status_of(alloc, &mut host, &RUN) == Some(DONE));
+    assert!(rt; host.heard() == talk.said.as_bytes(), "{seed}");
+}
+
+#[test]
+fn lines_that_come_by_chance_are_replied_to_as_the_model_has_it(rt: HostRuntime) {
+    let mut counts: Counts = [0; 28];
+    for seed in 1..9 {
+        run_seed(&rt, rt.alloc(), seed * 7_919, &mut counts);
+    }
+    for (place, count) in counts.iter().enumerate() {
+        assert!(&rt; *count > 0, "{place}: {counts:?}");
+    }
+}

@@ -1,0 +1,199 @@
+//! A line behind others that come by chance, cut off at its device steps, held against the model.
+use crate::dice::lines_of;
+use crate::lines::{Ask, Line};
+use crate::machine::{Machine, Reply};
+use crate::random::{Counts, device, first_machine, go_on, reading};
+use crate::talk::Talk;
+use puddle_cli::DONE;
+use std::alloc::Global;
+use std::process::Abort;
+use test_program::{EVERY_OTHER, NEWEST, OLDEST, RUN, Seen, status_of};
+
+/// The kinds of lines that are cut off.
+const KINDS: usize = 14;
+
+/// The place of the line among them, or more.
+fn kind_of(line: Line) -> usize {
+    match line {
+        Line::Come(_, _) => 0,
+        Line::Leave(_) => 1,
+        Line::On(_, _, Ask::Begin) => 2,
+        Line::On(_, _, Ask::Abort) => 3,
+        Line::On(_, _, Ask::New(_)) => 4,
+        Line::On(_, _, Ask::Set(_, _, _)) => 5,
+        Line::On(_, _, Ask::Later(_, _, _)) => 6,
+        Line::On(_, _, Ask::Root(_)) => 7,
+        Line::On(_, _, Ask::Free(_)) => 8,
+        Line::On(_, _, Ask::Commit) => 9,
+        Line::Define(_, _) => 10,
+        Line::On(_, _, Ask::Make(_)) => 11,
+        Line::On(_, _, Ask::Change(_)) => 12,
+        Line::On(_, _, Ask::Drop) => 13,
+        _ => KINDS,
+    }
+}
+
+/// The machine behind these lines, and what was said of them.
+fn machine_behind(rt: &impl Abort, alloc: Global, lines: &[Line]) -> (Machine, Talk) {
+    let mut machine = first_machine(rt, alloc);
+    let mut talk = Talk::new(rt, alloc);
+    let mut counts: Counts = [0; 28];
+    go_on(rt, alloc, (&mut machine, &mut talk), lines, &mut counts);
+    (machine, talk)
+}
+
+/// What is said of these lines by the machine that was left.
+fn said_by(rt: &impl Abort, alloc: Global, machine: &mut Machine, lines: &[Line]) -> Talk {
+    let mut talk = Talk {
+        script: String::new(alloc),
+        said: String::new(alloc),
+    };
+    let mut counts: Counts = [0; 28];
+    go_on(rt, alloc, (machine, &mut talk), lines, &mut counts);
+    talk
+}
+
+/// A line that is cut off: the lines before it, and it with those that read what is left, for a type that is defined also by its other
+/// map; and what is said of those before, and of it and of what is read, where a cut leaves the world before it, where it leaves the one behind, and where it is not cut off.
+#[derive(Drop)]
+struct Tried {
+    before: String,
+    behind: String,
+    said_before: String,
+    said: [String; 3],
+}
+
+/// The line of this number, cut off.
+fn make_tried(rt: &impl Abort, alloc: Global, lines: &[Line], at: usize) -> Tried {
+    let next = at.saturating_add(1);
+    let before = lines.get(..at).unwrap_or(&[]);
+    let through = lines.get(..next).unwrap_or(&[]);
+    let line = lines.get(at..next).unwrap_or(&[]);
+    let (mut old, talk) = machine_behind(rt, alloc, before);
+    let (mut new, _) = machine_behind(rt, alloc, through);
+    let (mut whole, _) = machine_behind(rt, alloc, before);
+    old.restart();
+    new.restart();
+    let mut read = reading(rt, alloc, [&old, &new]);
+    if let [Line::Define(kind, is_second)] = line {
+        let other = Line::Define(*kind, !*is_second);
+        read.push(other).expect(rt, "memory");
+    }
+    let replied = said_by(rt, alloc, &mut whole, line);
+    let old = said_by(rt, alloc, &mut old, &read);
+    let new = said_by(rt, alloc, &mut new, &read);
+    let whole = said_by(rt, alloc, &mut whole, &read);
+    let script = replied.script;
+    let reply = replied.said;
+    let read = whole.script;
+    let said = [
+        format!(in alloc; "ok\ncut\nok\n{}", old.said).expect(rt, "memory"),
+        format!(in alloc; "ok\ncut\nok\n{}", new.said).expect(rt, "memory"),
+        format!(in alloc; "ok\n{reply}ok\n{}", whole.said).expect(rt, "memory"),
+    ];
+    Tried {
+        before: talk.script,
+        behind: format!(in alloc; "{script}arm 1000000 0\n{read}").expect(rt, "memory"),
+        said_before: talk.said,
+        said,
+    }
+}
+
+/// The number of the text that is said where the line is cut off at this step of it.
+fn case_at(rt: &impl Abort, alloc: Global, tried: &Tried, step: u32, pick: u64) -> usize {
+    let (before, behind) = (&tried.before, &tried.behind);
+    let script = format!(in alloc; "{before}arm {step} {pick}\n{behind}");
+    let script = script.expect(rt, "memory");
+    let mut host = device(rt, alloc, (16_384, 8_192), &script);
+    assert!(rt; status_of(alloc, &mut host, &RUN) == Some(DONE));
+    let said = host.heard().strip_prefix(tried.said_before.as_bytes());
+    for (case, text) in tried.said.iter().enumerate() {
+        if said == Some(text.as_bytes()) {
+            return case;
+        }
+    }
+    assert!(rt; false, "none of them is said: {pick}, {step}");
+    0
+}
+
+/// Counts the steps that the line is cut off at of each case, the first of all and then some of those of a frame. Once one leaves what is
+/// behind the line, later ones do too.
+fn cut_off(rt: &impl Abort, alloc: Global, tried: &Tried, pick: u64, counts: &mut [u32; 3]) {
+    let mut last = 0usize;
+    for step in 1..2_500u32 {
+        if last < 2 && (step < 40 || step % 100 == 1 || step > 2_315) {
+            let case = case_at(rt, alloc, tried, step, pick);
+            assert!(rt; last <= case, "{pick}, {step}");
+            last = case;
+            if let Some(count) = counts.get_mut(case) {
+                *count = count.saturating_add(1);
+            }
+        }
+    }
+    assert!(rt; last == 2);
+}
+
+/// Whether the line defines a type that the machine has: it then changes nothing.
+fn is_known(machine: &Machine, line: Line) -> bool {
+    match line {
+        Line::Define(kind, _) => machine.map(kind).is_some(),
+        _ => false,
+    }
+}
+
+/// The number of the last line of each kind that is neither refused nor changes nothing, and beyond all where there is none.
+fn last_lines(rt: &impl Abort, alloc: Global, lines: &[Line]) -> [usize; KINDS] {
+    let mut last = [usize::MAX; KINDS];
+    let mut machine = first_machine(rt, alloc);
+    for (at, line) in lines.iter().enumerate() {
+        let is_known = is_known(&machine, *line);
+        let reply = machine.step(rt, alloc, *line);
+        if let Some(place) = last.get_mut(kind_of(*line))
+            && matches!(reply, Reply::Done | Reply::Object(_))
+            && !is_known
+        {
+            *place = at;
+        }
+    }
+    last
+}
+
+/// The last line of each kind behind those of a seed is cut off, by this pick. What a transaction does, and who is there, is gone then. The others
+/// are done or not, and both come; but that a type is there is durable only with the last step.
+fn cut_off_each(rt: &impl Abort, alloc: Global, seed: u64, pick: u64) {
+    let lines = lines_of(rt, alloc, seed, 80, 3);
+    for (kind, at) in last_lines(rt, alloc, &lines).iter().enumerate() {
+        let is_kept = kind > 8 && (kind != 10 || pick != OLDEST);
+        let mut counts = [0u32; 3];
+        if *at < lines.len() {
+            let tried = make_tried(rt, alloc, &lines, *at);
+            cut_off(rt, alloc, &tried, pick, &mut counts);
+        }
+        let [before, behind, whole] = counts;
+        assert!(rt;
+            before > 0 && (behind > 0) == is_kept && whole == 1,
+            "{kind}: {before}, {behind}, {whole}"
+        );
+    }
+}
+
+#[test]
+fn each_kind_of_line_behind_lines_that_come_by_chance_is_cut_off_with_the_newest_values(
+    rt: HostRuntime,
+) {
+    cut_off_each(&rt, rt.alloc(), 49_052, NEWEST);
+}
+
+#[test]
+fn each_kind_of_line_behind_lines_that_come_by_chance_is_cut_off_with_the_oldest_values(
+    rt: HostRuntime,
+) {
+    cut_off_each(&rt, rt.alloc(), 79_525, OLDEST);
+}
+
+#[test]
+fn each_kind_of_line_behind_lines_that_come_by_chance_is_cut_off_with_every_other_newest_value(
+    rt: HostRuntime,
+) {
+    cut_off_each(&rt, rt.alloc(), 109_440, EVERY_OTHER);
+}
