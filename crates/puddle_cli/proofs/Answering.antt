@@ -21,7 +21,7 @@ use Rattle.pud_defs.specs.Changing.{file_in, KeepsFiles}
 use Rattle.pud_defs.proofs.Changing.{KeepsFiles-still, KeepsUnwritable-still, KeepsUnwritable-then, KeepsUnwritable-line}
 use Rattle.pud_defs.proofs.Commands.{command_of-front}
 use Rattle.pud_defs.proofs.Lines.{open_rest-newline, open_rest-other, open_rest-nothing, lines_taken-nothing, lines_taken-newline, lines_taken-other, lines_taken-end, lines_among_empty, lines_among_line}
-use Rattle.puddled.proofs.Beside.{ready_stands}
+use Rattle.ready_daemon.proofs.Beside.{ready_stands}
 use Rattle.pud_defs.proofs.Runs.{IsRun-append, last_world-append}
 use Rattle.pud_defs.proofs.Said.{replies_text-append}
 use Rattle.pud_defs.proofs.Stands.{StandsAfter-more, StandsWith-later}
@@ -29,8 +29,9 @@ use Rattle.puddled.specs.declared.daemon.RunFault.{RunFault}
 use Rattle.puddled.specs.declared.daemon.RunFault.TheVariants.{NotSound}
 use Rattle.puddled.specs.Faults.{of_host, run_fault, CountsLine, CountsTurns, Grows}
 use Rattle.puddled.proofs.Counted.{risen_grows, none_is_sound, lost_in_line, CountsTurns-one, CountsTurns-append}
-use Rattle.puddled.specs.Memory.{Memory}
-use Rattle.puddled.specs.Daemon.{KeepsLine, IsReady, SaysPart, Answers}
+use Rattle.ready_daemon.specs.Memory.{Memory}
+use Rattle.puddled.specs.Daemon.{KeepsLine, SaysPart, Answers}
+use Rattle.ready_daemon.specs.Ready.{IsReady}
 use Rattle.puddle_cli.specs.Serving.{KeepsScript, IsUnsoundBehindLoss, Takes, TakesAtMost, TakesAll, CountsPending, AnswersLine, Serves, Answered}
 
 nothing_from_take : (line : List ℕ) → take 129 line ≡ [] → line ≡ []

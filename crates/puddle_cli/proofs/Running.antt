@@ -14,7 +14,7 @@ use Rattle.pud_defs.specs.Run.{last_world, Turn, cuts_of, newlines}
 use Rattle.pud_defs.specs.Texts.{replies_text}
 use Rattle.pud_defs.specs.StartText.{start_text}
 use Rattle.pud_defs.specs.Stands.{StandsWith, StandsBehind}
-use Rattle.puddled.proofs.Beside.{ready_stands}
+use Rattle.ready_daemon.proofs.Beside.{ready_stands}
 use Rattle.pud_defs.proofs.Changing.{KeepsFiles-still, KeepsUnwritable-still, KeepsUnwritable-then, KeepsUnwritable-none}
 use Rattle.pud_defs.proofs.Lines.{newlines-append, newlines_part, lines_taken-nothing}
 use Rattle.pud_defs.proofs.Stands.{StandsBehind-closed, StandsBehind-after}
@@ -25,8 +25,9 @@ use Rattle.puddled.specs.Faults.{RoseBy, last_fault, is_loss, CountsTurns}
 use Rattle.puddled.proofs.Counted.{risen_by-least, RoseBy-then, CountsTurns-cuts, rose_in_line, two_cuts_in_line, cut_in_restart, cuts_after_fault}
 use Rattle.puddled.specs.declared.daemon.StartFault.{StartFault}
 use Rattle.puddled.specs.declared.daemon.StartFault.TheVariants as starts
-use Rattle.puddled.specs.Memory.{Memory}
-use Rattle.puddled.specs.Daemon.{KeepsRest, IsReady, Starts}
+use Rattle.ready_daemon.specs.Memory.{Memory}
+use Rattle.ready_daemon.specs.Ready.{KeepsRest, IsReady}
+use Rattle.puddled.specs.Daemon.{Starts}
 use Rattle.puddle_cli.specs.declared.status.TheConstants.{DONE, POWER_LOST, TOO_LONG}
 use Rattle.puddle_cli.specs.Status.{status_fault, run_fault_at, status_at, IsStatusOfMode}
 use Rattle.puddle_cli.specs.Serving.{TakesBy, CountsPending, Answered, AnsweredBy}

@@ -27,10 +27,10 @@ use Rattle.pud_defs.proofs.Held.{pools_in-same, frame_among}
 use Rattle.pud_defs.proofs.SoundChanged.{sound_from}
 use Rattle.pud_defs.proofs.Parts.{HoldsWorld}
 use Rattle.pud_defs.proofs.Worlds.{holding_of_world, frames_of_world}
-use Rattle.puddled.proofs.Beside.{ready_stands}
+use Rattle.ready_daemon.proofs.Beside.{ready_stands}
 use Rattle.puddled.specs.declared.daemon.StartFault.{StartFault}
 use Rattle.puddled.specs.declared.daemon.StartFault.TheVariants as starts
-use Rattle.puddled.specs.Memory.{Memory}
+use Rattle.ready_daemon.specs.Memory.{Memory}
 use Rattle.puddled.specs.Daemon.{SaysPart, IsReplayed, Starts}
 use Rattle.puddled.proofs.Lines.{SaysPart-says}
 use Rattle.puddle_cli.specs.declared.show.View.{View}

@@ -9,7 +9,8 @@ use Rattle.pud_defs.specs.Settled.{settled}
 use Rattle.pud_defs.specs.Registry.{frames_of}
 use Rattle.pud_defs.specs.StartText.{start_text}
 use Rattle.pud_defs.specs.World.{StoredWorld, World, no_clients, nothing_open, world_of, closed}
-use Rattle.puddled.specs.Daemon.{KeepsRest, SaysPart}
+use Rattle.ready_daemon.specs.Ready.{KeepsRest}
+use Rattle.puddled.specs.Daemon.{SaysPart}
 use Rattle.command_line.specs.declared.modes.Mode.{Mode}
 use Rattle.command_line.specs.declared.modes.Mode.TheVariants.{Format, Run, Layout, Check}
 use Rattle.puddle_cli.specs.declared.status.TheConstants.{DONE, USAGE, NOT_USABLE, TOO_LONG}

@@ -14,8 +14,9 @@ use Rattle.pud_defs.specs.Stands.{StandsWith}
 use Rattle.puddled.specs.declared.daemon.RunFault.{RunFault}
 use Rattle.puddled.specs.declared.daemon.RunFault.TheVariants.{CutInStart, NotSound}
 use Rattle.puddled.specs.Faults.{last_fault, CountsLine, CountsTurns}
-use Rattle.puddled.specs.Memory.{Memory}
-use Rattle.puddled.specs.Daemon.{IsReady, SaysPart}
+use Rattle.ready_daemon.specs.Memory.{Memory}
+use Rattle.ready_daemon.specs.Ready.{IsReady}
+use Rattle.puddled.specs.Daemon.{SaysPart}
 use Rattle.puddle_cli.specs.declared.piece.TheConstants.{KEPT}
 
 -- the bytes left to read stay, and each file that no line may write

@@ -6,7 +6,7 @@ ghost use Rattle.pm_model.specs.Counts.{Counts, Rose};
 ghost use Rattle.pud_defs.specs.Layout.{device_words};
 ghost use Rattle.pud_defs.specs.World.{World, no_clients, nothing_open, world_of, closed};
 ghost use Rattle.puddled.specs.Faults.{run_fault, Ends};
-ghost use Rattle.puddled.specs.Daemon.{IsReady};
+ghost use Rattle.ready_daemon.specs.Ready.{IsReady};
 ghost use Rattle.puddle_cli.specs.declared.piece.TheConstants.{KEPT};
 ghost use Rattle.puddle_cli.specs.Status.{status_fault, IsStatusOfMode, Causes};
 ghost use Rattle.puddle_cli.specs.Serving.{KeepsScript, IsUnsoundBehindLoss, Takes, TakesOne, TakesBy, AnswersLine, Serves, Answered, AnsweredBy};

@@ -14,7 +14,8 @@ ghost use Rattle.pud_defs.specs.Tables.{tables_of};
 ghost use Rattle.pud_defs.specs.StartText.{start_text};
 ghost use Rattle.pud_defs.specs.World.{StoredWorld, world_of};
 ghost use Rattle.puddled.specs.Faults.{start_fault};
-ghost use Rattle.puddled.specs.Daemon.{KeepsRest, SaysPart};
+ghost use Rattle.ready_daemon.specs.Ready.{KeepsRest};
+ghost use Rattle.puddled.specs.Daemon.{SaysPart};
 ghost use Rattle.puddle_cli.specs.Status.{status_fault, IsStatusOfMode};
 ghost use Rattle.puddle_cli.specs.Views.{text_of, SaysSome};
 

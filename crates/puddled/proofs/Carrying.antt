@@ -19,12 +19,13 @@ use Rattle.pud_defs.proofs.Changing.{KeepsFiles-still, KeepsFiles-then}
 use Rattle.pud_defs.proofs.Steps.{answer_is_ok, done_world}
 use Rattle.puddled.specs.Faults.{Kind, kind_of, CountsCommand}
 use Rattle.puddled.specs.Faults.Kind.{ordinary, loses, arms}
-use Rattle.puddled.specs.Memory.{Memory}
+use Rattle.ready_daemon.specs.Memory.{Memory}
 use Rattle.puddled.specs.declared.answers.Answered.{Answered}
 use Rattle.puddled.specs.declared.answers.Answered.TheVariants as answers
 use Rattle.puddled.specs.Answered.{as_answered}
-use Rattle.puddled.specs.Daemon.{KeepsRest, KeepsLine, IsReady, Applies, ClosesBefore, ClosesLogs, CarriesOut}
-use Rattle.puddled.proofs.Applying.{Applies-idle}
+use Rattle.ready_daemon.specs.Ready.{KeepsRest, IsReady, Applies, ClosesBefore, ClosesLogs}
+use Rattle.puddled.specs.Daemon.{KeepsLine, CarriesOut}
+use Rattle.ready_daemon.proofs.Applying.{Applies-idle}
 
 -- where nothing happened the rest stays
 pub keeps_still : (old new : State) → new ≡ old → KeepsRest old new

@@ -10,7 +10,6 @@ use Rattle.pm_model.specs.Moments.{State}
 use Rattle.pm_model.proofs.Leaves.{Leaves-still}
 use Rattle.pud_defs.specs.declared.machine.Command.{Command}
 use Rattle.pud_defs.specs.declared.machine.Command.TheVariants.{Leave, Begin, Commit, Abort, New}
-use Rattle.pud_defs.specs.declared.machine.Command.TheVariants as commands
 use Rattle.pud_defs.specs.declared.machine.Refusal.{Refusal}
 use Rattle.pud_defs.specs.declared.machine.Reply.{Reply}
 use Rattle.pud_defs.specs.declared.machine.Reply.TheVariants as replies
@@ -19,22 +18,23 @@ use Rattle.pud_defs.specs.Image.{Image}
 use Rattle.pud_defs.specs.World.{World}
 use Rattle.pud_defs.specs.Step.{refusal_of, after, answer_by, world_by}
 use Rattle.pud_defs.specs.Step.Answer.{of_reply}
-use Rattle.pud_defs.proofs.Steps.{refused_answer, answer_is_ok, done_world}
+use Rattle.pud_defs.proofs.Steps.{refused_answer, done_world}
 use Rattle.puddled.specs.Answered.{as_answered}
-use Rattle.puddled.specs.declared.changing.Change.{Change}
-use Rattle.puddled.specs.declared.changing.Change.TheVariants as changes
-use Rattle.puddled.specs.Changing.{line_of}
-use Rattle.puddled.specs.Daemon.{KeepsRest, IsReady, Applies, CarriesOut}
+use Rattle.pool_transaction.specs.declared.changing.Change.{Change}
+use Rattle.pool_transaction.specs.declared.changing.Change.TheVariants as changes
+use Rattle.pool_transaction.specs.Changing.{line_of}
+use Rattle.ready_daemon.specs.Ready.{KeepsRest, IsReady, Applies}
+use Rattle.puddled.specs.Daemon.{CarriesOut}
 use Rattle.puddled.specs.Faults.{kind_of}
 use Rattle.puddled.specs.Faults.Kind.{ordinary}
-use Rattle.puddled.specs.Held.{IsOwn}
-use Rattle.puddled.specs.Judged.{known_in, AreJudged}
-use Rattle.puddled.specs.KnownPools.{KnowsPools}
-use Rattle.puddled.specs.Memory.{Held, Memory, held_under}
-use Rattle.puddled.proofs.Applying.{Applies-failed, Applies-refused, IsReady-beside}
-use Rattle.puddled.proofs.Beside.{ready_stands}
+use Rattle.ready_daemon.specs.Held.{IsOwn}
+use Rattle.ready_daemon.specs.Judged.{known_in, AreJudged}
+use Rattle.ready_daemon.specs.KnownPools.{KnowsPools}
+use Rattle.ready_daemon.specs.Memory.{Held, Memory, held_under}
+use Rattle.ready_daemon.proofs.Applying.{Applies-failed, Applies-refused, IsReady-beside}
+use Rattle.ready_daemon.proofs.Beside.{ready_stands}
 use Rattle.puddled.proofs.Carrying.{keeps_still, ClosesLogs-other, CarriesOut-plain}
-use Rattle.puddled.proofs.JudgedOpen.{KnowsPools-read}
+use Rattle.ready_daemon.proofs.JudgedOpen.{KnowsPools-read}
 
 -- ---- what is known of pools
 
@@ -101,12 +101,6 @@ module _ (size : ℕ) (w : World) (memory : Memory) (first mid last : Counts) (a
   CarriesOut-ok (Ok reply) is replied applies cause = CarriesOut-done reply (ap of_reply is ∙ replied) applies cause
   CarriesOut-ok (Err fault) is replied applies cause = CarriesOut-stopped fault applies cause
 
--- it is not refused, and carried out behind calls that read
-pub Applies-behind_reads : (size : ℕ) (w : World) (memory : Memory) (c : Command) (fault : Option HostFault) (a b d : State) → refusal_of w c ≡ None → b ≡ a → Applies size w (after w c) memory fault b d
-    → Applies size w (world_by w (Some c)) memory fault a d
-Applies-behind_reads size w memory c fault a b d free same applies =
-    subst (λ (v : World). Applies size w v memory fault a d) (sym (done_world w c free)) (subst (λ (s : State). Applies size w (after w c) memory fault s d) same applies)
-
 -- Behind calls that read it is carried out, or refused, by a call on the client's own transaction, which is held under this number.
 module _ (size : ℕ) (w : World) (memory : Memory) (first mid last : Counts) (a b d : State) (line : ℕ → List ℕ → Command) (client : ℕ) (name : List ℕ) (plain : IsPlain (line client name)) (same : b ≡ a)
     (counted : mid ≡ first) where
@@ -152,10 +146,3 @@ module _ (client : ℕ) (name : List ℕ) where
   change_is_plain (changes.Later s f x) = record { kind = refl; file = refl; stays = λ other is. cc }
   change_is_plain (changes.Root s) = record { kind = refl; file = refl; stays = λ other is. cc }
   change_is_plain (changes.Free s) = record { kind = refl; file = refl; stays = λ other is. cc }
-
-  -- what a change is answered that is not refused
-  pub change_answer : (w : World) (change : Change) → refusal_of w (line_of change client name) ≡ None → of_reply replies.Ok ≡ answer_by w (Some (line_of change client name))
-  change_answer w (changes.Set s f x) free = sym (answer_is_ok w (commands.Set client name s f x) refl refl free)
-  change_answer w (changes.Later s f x) free = sym (answer_is_ok w (commands.Later client name s f x) refl refl free)
-  change_answer w (changes.Root s) free = sym (answer_is_ok w (commands.Root client name s) refl refl free)
-  change_answer w (changes.Free s) free = sym (answer_is_ok w (commands.Free client name s) refl refl free)

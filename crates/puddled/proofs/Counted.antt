@@ -14,8 +14,8 @@ use Rattle.puddled.specs.declared.daemon.StartFault.{StartFault}
 use Rattle.puddled.specs.declared.daemon.StartFault.TheVariants as starts
 use Rattle.puddled.specs.declared.daemon.RunFault.{RunFault}
 use Rattle.puddled.specs.declared.daemon.RunFault.TheVariants as faults
-use Rattle.puddled.specs.Memory.{Memory}
-use Rattle.puddled.proofs.Turns.{turn_of, no_cut_reply}
+use Rattle.ready_daemon.specs.Memory.{Memory}
+use Rattle.ready_daemon.proofs.Turns.{turn_of, no_cut_reply}
 use Rattle.puddled.specs.Faults.Kind.{ordinary, loses, arms}
 use Rattle.puddled.specs.Faults.{start_fault, of_host, of_start, risen_by, RoseBy, CountsCuts, CountsTurns, cuts_at, restart_cuts, last_fault, IsEnded, IsCounted, Kind, kind_of, is_loss_kind, is_loss, CountsKind, CountsLine, CountsCommand, HasLostPower, Grows, Ends}
 

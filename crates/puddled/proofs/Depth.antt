@@ -10,12 +10,12 @@ use Rattle.pud_defs.specs.Transactions.{with_open, lowered, committed_pools}
 use Rattle.pud_defs.specs.World.{Transaction, World}
 use Rattle.nesting.specs.declared.Session.{Session}
 use Rattle.nesting.specs.Sessions.{lowered_session, depth_in, left}
-use Rattle.puddled.specs.Memory.{Held, Memory, held_under}
-use Rattle.puddled.specs.Holding.{IsOwnOn}
-use Rattle.puddled.specs.Daemon.{IsReady, Applies}
-use Rattle.puddled.proofs.AtDepth.{its, t, its_session, next, sessions_at, ready_at}
+use Rattle.ready_daemon.specs.Memory.{Held, Memory, held_under}
+use Rattle.ready_daemon.specs.Holding.{IsOwnOn}
+use Rattle.ready_daemon.specs.Ready.{IsReady, Applies}
+use Rattle.ready_daemon.proofs.AtDepth.{its, t, its_session, next, sessions_at, ready_at}
 use Rattle.puddled.proofs.Commanding.{Applies-untouched}
-use Rattle.puddled.proofs.HeldEnds.{depth_is}
+use Rattle.pool_transaction.proofs.HeldEnds.{depth_is}
 
 module _ (size : ℕ) (w : World) (memory : Memory) (s : State) (ready : IsReady size w memory s) (number : ℕ) (held : Held) (there : held_under memory.held number ≡ Some held) (client : ℕ)
     (deep : 1 < (t size w memory s ready number held there).depth) where

@@ -14,13 +14,14 @@ use Rattle.nesting.specs.declared.EnterFault.{EnterFault}
 use Rattle.nesting.specs.declared.EnterFault.TheVariants.{Deep, Logs}
 use Rattle.nesting.specs.declared.Session.{Session}
 use Rattle.nesting.specs.Sessions.{session_in, session_depth, depth_in, count_of, entered, AreSessions}
-use Rattle.puddled.specs.Memory.{Memory}
-use Rattle.puddled.specs.Daemon.{IsReady}
-use Rattle.puddled.specs.Holding.{IsOwnOn}
-use Rattle.puddled.specs.Refusing.{refusal_to_write, refusal_to_enter}
-use Rattle.puddled.proofs.AtDepth.{its_session}
-use Rattle.puddled.proofs.Counting.{counted}
-use Rattle.puddled.proofs.TransactionRefusals.{entering_refusal, refusal_of-begin}
+use Rattle.ready_daemon.specs.Memory.{Memory}
+use Rattle.ready_daemon.specs.Ready.{IsReady}
+use Rattle.ready_daemon.specs.Holding.{IsOwnOn}
+use Rattle.pool_transaction.specs.Refusing.{refusal_to_write}
+use Rattle.puddled.specs.Finding.{refusal_to_enter}
+use Rattle.ready_daemon.proofs.AtDepth.{its_session}
+use Rattle.ready_daemon.proofs.Counting.{counted}
+use Rattle.pool_transaction.proofs.TransactionRefusals.{entering_refusal, refusal_of-begin}
 
 -- the client's own is as deep as it may be
 deep_refused : (client elsewhere : ℕ) (t : Transaction) → t.client ≡ client → t.depth ≡ MAX_DEPTH → entering_refusal client (Some t) elsewhere ≡ Some refusals.Deep

@@ -25,17 +25,18 @@ use Rattle.batch.specs.Worlds.{IsSettled}
 use Rattle.recover.specs.Recovery.{DiffersByRecovery}
 use Rattle.puddled.specs.declared.daemon.RunFault.{RunFault}
 use Rattle.puddled.specs.declared.daemon.RunFault.TheVariants.{NotSound}
-use Rattle.puddled.specs.Memory.{Memory}
-use Rattle.puddled.specs.KnownPools.{KnowsPools}
+use Rattle.ready_daemon.specs.Memory.{Memory}
+use Rattle.ready_daemon.specs.KnownPools.{KnowsPools}
 use Rattle.puddled.specs.declared.answers.Answered.{Answered}
 use Rattle.puddled.specs.Answered.{answer_of, said_text}
 use Rattle.puddled.specs.declared.daemon.StartFault.{StartFault}
 use Rattle.puddled.specs.declared.daemon.StartFault.TheVariants as starts
 use Rattle.puddled.specs.Faults.{start_fault, run_fault, CountsLine}
 use Rattle.pm_model.specs.Masks.{masked}
-use Rattle.puddled.specs.Held.{Holds, HasDurableFrames, HasIdleLogs}
-use Rattle.puddled.proofs.Beside.{ready_stands}
-use Rattle.puddled.specs.Daemon.{KeepsRest, KeepsLine, IsReady, IsPart, SaysPart, IsClosedIfFree, ClosesFirst, ClosesLogs, RefusesNone, Recovers, Settles, Starts, spoken, Answers}
+use Rattle.ready_daemon.specs.Held.{Holds, HasDurableFrames, HasIdleLogs}
+use Rattle.ready_daemon.proofs.Beside.{ready_stands}
+use Rattle.ready_daemon.specs.Ready.{KeepsRest, IsReady, IsClosedIfFree, ClosesFirst, ClosesLogs, RefusesNone}
+use Rattle.puddled.specs.Daemon.{KeepsLine, IsPart, SaysPart, Recovers, Settles, Starts, spoken, Answers}
 use Rattle.puddled.proofs.Listed.{said_when_ready}
 use Rattle.puddled.proofs.Settling.{Between}
 use Rattle.puddled.proofs.Carrying.{KeepsLine-then}

@@ -13,12 +13,12 @@ use Rattle.pud_defs.specs.World.{World}
 use Rattle.pud_defs.specs.Texts.{line_of, answer_text}
 use Rattle.pool_list.specs.Listed.{listed_text}
 use Rattle.pool_list.proofs.ListedPools.{line_of-listed_text}
-use Rattle.puddled.specs.Memory.{Memory}
+use Rattle.ready_daemon.specs.Memory.{Memory}
 use Rattle.puddled.specs.declared.answers.Answered.{Answered}
 use Rattle.puddled.specs.declared.answers.Answered.TheVariants as answers
 use Rattle.puddled.specs.Answered.{answer_of, said_text}
-use Rattle.puddled.specs.Daemon.{IsReady}
-use Rattle.puddled.proofs.TablesBeside.{tables_read, world_under, header_read}
+use Rattle.ready_daemon.specs.Ready.{IsReady}
+use Rattle.ready_daemon.proofs.TablesBeside.{tables_read, world_under, header_read}
 
 pub said_when_ready : (size : ℕ) (w : World) (memory : Memory) (s : State) (answered : Answered) → IsReady size w memory s → said_text memory.frames (reads s.now.words) answered ≡ answer_text (answer_of w answered)
 said_when_ready size w memory s (answers.Reply reply) ready = refl

@@ -41,21 +41,22 @@ use Rattle.graph_read.specs.Reading.{read_value, read_by}
 use Rattle.nesting.specs.Sessions.{client_in, session_in, holder_in, depth_in}
 use Rattle.nesting.proofs.Holders.{session_in-no_holder, session_in-holder}
 use Rattle.puddled.specs.declared.reading.Readable.{Readable}
-use Rattle.puddled.specs.Memory.{Held, Memory, held_under}
-use Rattle.puddled.specs.Held.{IsHeld}
-use Rattle.puddled.specs.Holding.{FindsPuddles, IsOwnOn}
-use Rattle.puddled.specs.Judged.{known_in, AreJudged}
-use Rattle.puddled.specs.Owning.{refusal_found, IsSlotOf}
-use Rattle.puddled.specs.Reading.{reading_refusal, refusal_to_read, reading_open, puddles_with_graph, HoldsGraph, HoldsFound, reply_of_read}
-use Rattle.puddled.specs.Daemon.{IsReady, Applies}
-use Rattle.puddled.proofs.Applying.{Applies-still, IsReady-beside}
-use Rattle.puddled.proofs.Beside.{held_is}
-use Rattle.puddled.proofs.PoolsBeside.{one_slot}
-use Rattle.puddled.proofs.JudgedOpen.{KnowsPools-read}
-use Rattle.puddled.proofs.OpenBeside.{open_here, not_named, pool_unmasked}
-use Rattle.puddled.proofs.Sessions.{IsSessionOf, own_on, none_held, session_open, session_shut}
-use Rattle.puddled.proofs.TablesBeside.{types_read, sound_read}
-use Rattle.puddled.proofs.Pooling.{IsNamed, no_record, named_by, pool_there}
+use Rattle.ready_daemon.specs.Memory.{Held, Memory, held_under}
+use Rattle.ready_daemon.specs.Held.{IsHeld}
+use Rattle.ready_daemon.specs.Holding.{FindsPuddles, IsOwnOn}
+use Rattle.ready_daemon.specs.Judged.{known_in, AreJudged}
+use Rattle.ready_daemon.specs.Owning.{refusal_found, IsSlotOf}
+use Rattle.puddled.specs.Reading.{reading_refusal, refusal_to_read, reading_open, HoldsGraph, HoldsFound, reply_of_read}
+use Rattle.ready_daemon.specs.Judged.{puddles_with_graph}
+use Rattle.ready_daemon.specs.Ready.{IsReady, Applies}
+use Rattle.ready_daemon.proofs.Applying.{Applies-still, IsReady-beside}
+use Rattle.ready_daemon.proofs.Beside.{held_is}
+use Rattle.ready_daemon.proofs.PoolsBeside.{one_slot}
+use Rattle.ready_daemon.proofs.JudgedOpen.{KnowsPools-read}
+use Rattle.ready_daemon.proofs.OpenBeside.{open_here, not_named, pool_unmasked}
+use Rattle.ready_daemon.proofs.Sessions.{IsSessionOf, own_on, none_held, session_open, session_shut}
+use Rattle.ready_daemon.proofs.TablesBeside.{types_read, sound_read}
+use Rattle.ready_daemon.proofs.Pooling.{IsNamed, no_record, named_by, pool_there}
 
 -- ---- puddles that are judged as they were read
 

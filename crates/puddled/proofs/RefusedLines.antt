@@ -28,21 +28,22 @@ use Rattle.pud_defs.specs.World.{Transaction, World}
 use Rattle.pud_defs.specs.Step.{writes, graph_in, refusal_of}
 use Rattle.pud_defs.proofs.PoolRefusals.{pool_by_record, found_record}
 use Rattle.nesting.specs.Sessions.{client_in, session_in, holder_in}
-use Rattle.puddled.specs.Memory.{Held, Memory, held_under}
-use Rattle.puddled.specs.Holding.{is_held_on, IsOwnOn}
-use Rattle.puddled.specs.Judged.{known_in, AreJudged}
-use Rattle.puddled.specs.Owning.{refusal_found}
-use Rattle.puddled.specs.Reading.{puddles_with_graph}
-use Rattle.puddled.specs.declared.refusals.Own.{Own}
-use Rattle.puddled.specs.Refusing.{busy_unless, writing_refusal, refusal_to_write, writing_open}
-use Rattle.puddled.specs.Beginning.{MayBegin}
-use Rattle.puddled.specs.Daemon.{IsReady}
-use Rattle.puddled.proofs.PoolsBeside.{one_slot}
-use Rattle.puddled.proofs.Known.{judged_puddles}
-use Rattle.puddled.proofs.Pooling.{no_record, pool_there}
+use Rattle.ready_daemon.specs.Memory.{Held, Memory, held_under}
+use Rattle.ready_daemon.specs.Holding.{is_held_on, IsOwnOn}
+use Rattle.ready_daemon.specs.Judged.{known_in, AreJudged}
+use Rattle.ready_daemon.specs.Owning.{refusal_found}
+use Rattle.ready_daemon.specs.Judged.{puddles_with_graph}
+use Rattle.puddled.specs.declared.finding.Own.{Own}
+use Rattle.pool_transaction.specs.Refusing.{busy_unless, writing_refusal, refusal_to_write}
+use Rattle.puddled.specs.Finding.{writing_open}
+use Rattle.ready_daemon.specs.Beginning.{MayBegin}
+use Rattle.ready_daemon.specs.Ready.{IsReady}
+use Rattle.ready_daemon.proofs.PoolsBeside.{one_slot}
+use Rattle.ready_daemon.proofs.Known.{judged_puddles}
+use Rattle.ready_daemon.proofs.Pooling.{no_record, pool_there}
 use Rattle.puddled.proofs.Readable.{found, named, mode_same, shut_there, graph_read, open_on, its_client, its_graph}
-use Rattle.puddled.proofs.Sessions.{own_on}
-use Rattle.puddled.proofs.TransactionRefusals.{own_refusal, refusal_of-commit, own_refusal-open}
+use Rattle.ready_daemon.proofs.Sessions.{own_on}
+use Rattle.pool_transaction.proofs.TransactionRefusals.{own_refusal, refusal_of-commit, own_refusal-open}
 
 -- ---- a transaction that is open
 

@@ -32,11 +32,12 @@ use Rattle.nesting.specs.declared.Session.{Session}
 use Rattle.puddled.specs.declared.daemon.StartFault.{StartFault}
 use Rattle.puddled.specs.declared.daemon.StartFault.TheVariants as starts
 use Rattle.puddled.specs.Faults.{start_fault, of_recover}
-use Rattle.puddled.specs.Memory.{Held, Memory}
-use Rattle.puddled.specs.Held.{Holds, HasSessions}
-use Rattle.puddled.specs.KnownPools.{KnowsPools}
-use Rattle.puddled.specs.Daemon.{KeepsRest, IsReady, IsReplayed, IsUsedAlone, IsClosedIfFree, IsClosedIfNamed, RefusesNone, Recovers}
-use Rattle.puddled.proofs.NoneHeld.{Holds-none, HasSessions-none}
+use Rattle.ready_daemon.specs.Memory.{Held, Memory}
+use Rattle.ready_daemon.specs.Held.{Holds, HasSessions}
+use Rattle.ready_daemon.specs.KnownPools.{KnowsPools}
+use Rattle.ready_daemon.specs.Ready.{KeepsRest, IsReady, IsUsedAlone, IsClosedIfFree, IsClosedIfNamed, RefusesNone}
+use Rattle.puddled.specs.Daemon.{IsReplayed, Recovers}
+use Rattle.ready_daemon.proofs.NoneHeld.{Holds-none, HasSessions-none}
 
 -- a recovery's fault is the host's or none, at a start too
 pub fault_of_recover : (fault : RecoverFault) → start_fault {T = Memory} (Err (of_recover fault)) ≡ recover_fault {T = Report} (Err fault)

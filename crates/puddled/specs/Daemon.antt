@@ -1,38 +1,31 @@
 -- What the daemon's start and one line do, at every moment.
-use Rattle.std.specs.Prelude.{◌≡◌, ◌≢◌, ◌<◌, ◌≤◌, ◌⊎◌, ℕ, Bool, true, false, cond, List, [], ◌∷◌, ◌++◌, slice_index_or, Option, Some, None, is_some, Result, Ok, Err, IfOk}
+use Rattle.std.specs.Prelude.{◌≡◌, ◌≢◌, ◌<◌, ◌≤◌, ◌⊎◌, ℕ, Bool, false, cond, List, [], ◌∷◌, ◌++◌, slice_index_or, Option, Some, None, Result, Ok, Err, IfOk}
 use Rattle.pm_model.specs.declared.host.HostFault.{HostFault}
 use Rattle.pm_model.specs.declared.host.HostFault.TheVariants as hosts
-use Rattle.pm_model.specs.Words.{reads, IsRested}
+use Rattle.pm_model.specs.Words.{reads}
 use Rattle.pm_model.specs.Counts.{Counts, fault_of}
 use Rattle.pm_model.specs.Moments.{State}
-use Rattle.pm_model.specs.Changes.{Leaves, Silently, Write}
-use Rattle.pm_model.specs.Masks.{masked, masked_state}
+use Rattle.pm_model.specs.Changes.{Leaves, Silently}
 use Rattle.pud_defs.specs.Step.{Answer, answer_by, world_by}
 use Rattle.pud_defs.specs.declared.layout.TheConstants.{DAEMON_LOG, SPACE_TABLE, PUDDLE_TABLE, CLIENTS}
 use Rattle.pud_defs.specs.Image.{Image}
-use Rattle.pud_defs.specs.Entries.{log_of}
-use Rattle.pud_defs.specs.Replay.{device_word, new_value, is_in_log, settled_by}
-use Rattle.pud_defs.specs.Spaces.{space_record_at, owner_of, has_closed_logs}
+use Rattle.pud_defs.specs.Replay.{is_in_log, settled_by}
 use Rattle.pud_defs.specs.Registry.{frames_of}
 use Rattle.pud_defs.specs.Settled.{ALL_LOGS, is_refused_log, is_in_logs, settled}
-use Rattle.pud_defs.specs.World.{World, world_of, idle_world_of, closed, restart}
+use Rattle.pud_defs.specs.World.{World, world_of, closed, restart}
 use Rattle.pud_defs.specs.declared.machine.Command.{Command}
-use Rattle.pud_defs.specs.declared.machine.Command.TheVariants.{Leave}
 use Rattle.pud_defs.specs.Grammar.{command_of}
 use Rattle.pud_defs.specs.Changing.{file_in, KeepsFiles}
 use Rattle.pud_defs.specs.Run.{Turn, IsTurn, cuts_of}
 use Rattle.pud_defs.specs.Texts.{answer_text, begins_with_ok}
 use Rattle.pud_defs.specs.StartText.{start_text}
 use Rattle.pud_defs.specs.Stands.{StandsWith}
-use Rattle.batch.specs.Tables.{HasDurableTables}
-use Rattle.batch.specs.Worlds.{IsSettled}
 use Rattle.recover.specs.declared.judge.Mark.{Mark}
 use Rattle.recover.specs.declared.judge.Mark.TheVariants.{Closed}
 use Rattle.recover.specs.Verdicts.{is_refused_mark}
 use Rattle.recover.specs.Recovery.{DiffersByRecovery}
-use Rattle.puddled.specs.Memory.{Memory}
-use Rattle.puddled.specs.Held.{Holds, HasSessions, HasDurableFrames, HasIdleLogs, IsBeside}
-use Rattle.puddled.specs.KnownPools.{KnowsPools}
+use Rattle.ready_daemon.specs.Memory.{Memory}
+use Rattle.ready_daemon.specs.Ready.{IsReady, RefusesNone, Applies, IsClosedIfFree, IsClosedIfNamed, ClosesFirst, ClosesBefore, ClosesLogs}
 use Rattle.puddled.specs.declared.answers.Answered.{Answered}
 use Rattle.puddled.specs.Answered.{answer_of}
 use Rattle.puddled.specs.declared.daemon.StartFault.{StartFault}
@@ -40,33 +33,10 @@ use Rattle.puddled.specs.declared.daemon.RunFault.{RunFault}
 use Rattle.puddled.specs.declared.daemon.RunFault.TheVariants as faults
 use Rattle.puddled.specs.Faults.{start_fault, run_fault, kind_of, CountsLine, CountsCommand}
 
--- the bytes left to read and the shelf stay
-pub record KeepsRest (old new : State) : Type 0 where
-  pub script : new.script ≡ old.script
-  pub shelf : new.shelf ≡ old.shelf
-
 -- the bytes left to read stay, and each file but the one named
 pub record KeepsLine (file : Option (List ℕ)) (old new : State) : Type 0 where
   pub script : new.script ≡ old.script
   pub files : KeepsFiles file old.shelf new.shelf
-
--- What the daemon needs of a device between two lines. With the words masked of the transactions that it holds each image that may be left
--- stands for the closed world with nothing under way, each registered log and the daemon log closed in it, and the daemon log counts no word. The
--- tables are durable, and what is read of them has the clients that are present. Masked, each word of the frames has one value, and each log of a
--- client that is present counts nothing. The number of frames is the one that the daemon holds, and the shelf is the world's. Each transaction has its
--- session. What it knows of pools that it judged is what a scan gives, and nothing of those on which a transaction is open.
-pub record IsReady (size : ℕ) (w : World) (memory : Memory) (s : State) : Type 0 where
-  pub mask : Write
-  pub settled : IsSettled size (closed w) (masked mask s.now.words)
-  pub tables : HasDurableTables w.stored.frames s.now.words
-  pub clients : (client : ℕ) → client < CLIENTS → owner_of (reads s.now.words) client ≡ w.clients client
-  pub frames : memory.frames ≡ w.stored.frames
-  pub shelf : s.shelf ≡ w.shelf
-  pub held : Holds w memory.held mask s.now.words
-  pub sessions : HasSessions w memory.held memory.sessions
-  pub rest : HasDurableFrames w.stored.frames (masked mask s.now.words)
-  pub logs : HasIdleLogs w.stored.frames w.clients (masked mask s.now.words)
-  pub knows : KnowsPools w.stored.frames memory.judged memory.held (reads s.now.words)
 
 -- these bytes are the front of a text
 pub record IsPart (bytes text : List ℕ) : Type 0 where
@@ -80,64 +50,6 @@ pub record SaysPart {Fault : Type 0} (text : List ℕ) (fault : Option Fault) (o
   pub part : text ≡ bytes ++ rest
   pub said : new.now.said ≡ old.now.said ++ bytes
   pub whole : fault ≡ None → rest ≡ []
-
--- no registered log of the image is refused: a start on it says `ready` alone
-pub record RefusesNone (image : Image) : Type 0 where
-  pub each : (number : ℕ) → number < ALL_LOGS → is_refused_log (frames_of image) (settled_by DAEMON_LOG image) number ≡ false
-
--- the image stands for the world before or for the next, and no registered log is refused in it
-abbrev pub StandsBetween : (size : ℕ) → (w next : World) → Image → Type 0
-StandsBetween size w next image = ((world_of size image ≡ Some (closed w)) ⊎ (world_of size image ≡ Some (closed next))) × RefusesNone image
-
--- A command was carried out beside what is held, whose words are masked: masked, at every moment the images stand for the world before it or for
--- the one that it gives, idle, and without a fault for that one, with tables that are durable and have its clients, whose logs count nothing.
-pub record AppliesMasked (size : ℕ) (w next : World) (mask : Write) (fault : Option HostFault) (old new : State) : Type 0 where
-  pub beside : IsBeside mask fault old new
-  pub moments : Leaves (Silently (λ image. (idle_world_of size image ≡ Some (closed w)) ⊎ (idle_world_of size image ≡ Some (closed next)))) (masked_state mask old) (masked_state mask new)
-  pub settled : fault ≡ None → IsSettled size (closed next) (masked mask new.now.words)
-  pub tables : fault ≡ None → HasDurableTables next.stored.frames new.now.words
-  pub clients : fault ≡ None → (client : ℕ) → client < CLIENTS → owner_of (reads new.now.words) client ≡ next.clients client
-  pub logs : fault ≡ None → HasIdleLogs next.stored.frames next.clients (masked mask new.now.words)
-  pub shelf : next.shelf ≡ w.shelf
-
--- A command was carried out, or refused, without a word: at every moment the images stand for the world before it or the one that it gives,
--- with no registered log refused, and without a fault the daemon is ready in that one, with this memory.
-pub record Applies (size : ℕ) (w next : World) (memory : Memory) (fault : Option HostFault) (old new : State) : Type 0 where
-  pub moments : Leaves (Silently (StandsBetween size w next)) old new
-  pub quiet : new.now.said ≡ old.now.said
-  pub ready : fault ≡ None → IsReady size next memory new
-  pub rests : fault ≡ Some hosts.Cut → IsRested new.now.words
-  pub script : new.script ≡ old.script
-
--- The client's record of the log-space table is used, also once the daemon log is replayed.
-pub record IsUsedStill (client : ℕ) (image : Image) : Type 0 where
-  pub now : image (space_record_at client) ≡ 1
-  pub replayed : settled_by DAEMON_LOG image (space_record_at client) ≡ 1
-
--- the client's record is used still, or each of its logs is closed
-abbrev pub IsClosedIfFree : ℕ → ℕ → Image → Type 0
-IsClosedIfFree F client image = IsUsedStill client image ⊎ (has_closed_logs image F client ≡ true)
-
--- The client's record is used, and the daemon log gives its first word no value: no replay of that log writes it.
-pub record IsUsedAlone (client : ℕ) (image : Image) : Type 0 where
-  pub now : image (space_record_at client) ≡ 1
-  pub unnamed : new_value device_word (log_of image DAEMON_LOG) (space_record_at client) ≡ None
-
--- the client's record is used, and no batch under way names it, or each of its logs is closed
-abbrev pub IsClosedIfNamed : ℕ → ℕ → Image → Type 0
-IsClosedIfNamed F client image = IsUsedAlone client image ⊎ (has_closed_logs image F client ≡ true)
-
--- Each image left at any moment has each of the client's logs closed, unless its record is used still.
-abbrev pub ClosesFirst : ℕ → ℕ → State → State → Type 0
-ClosesFirst F client old new = Leaves (λ bytes image. IsClosedIfFree F client image) old new
-
--- Each has them closed, unless its record is used, and no batch under way names it: the logs are closed before the batch that frees it.
-abbrev pub ClosesBefore : ℕ → ℕ → State → State → Type 0
-ClosesBefore F client old new = Leaves (λ bytes image. IsClosedIfNamed F client image) old new
-
--- Where the command lets a client go that is present, its logs are closed first, in the sense given.
-pub record ClosesLogs (closes : ℕ → ℕ → State → State → Type 0) (w : World) (command : Option Command) (old new : State) : Type 0 where
-  pub first : (client : ℕ) → command ≡ Some (Leave client) → true ≡ is_some (w.clients client) → closes w.stored.frames client old new
 
 -- What each command owes, before the daemon goes on behind it: it was carried out, or refused, and the reply is the machine's; only a file that
 -- it names was written, and it names none where power was lost; a client that goes has its logs closed first; it was counted by its kind.

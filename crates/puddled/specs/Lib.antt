@@ -1,15 +1,5 @@
-pub mod Memory
-pub mod Held
-pub mod Holding
-pub mod Defined
 pub mod Answered
-pub mod Owning
-pub mod Reading
 pub mod Faults
 pub mod Daemon
-pub mod Judged
-pub mod KnownPools
-pub mod Beginning
-pub mod Changing
-pub mod Refusing
-pub mod Leaving
+pub mod Reading
+pub mod Finding

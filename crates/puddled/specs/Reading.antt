@@ -1,5 +1,5 @@
 -- Why a client may not read a pool, and what is replied to a line that reads a field.
-use Rattle.std.specs.Prelude.{◌≡◌, ◌⊎◌, ℕ, Bool, true, false, not, cond, List, [], Option, Some, None, is_some, is_none, option_map, unwrap_or, slice_index_or, Result, Ok, Err}
+use Rattle.std.specs.Prelude.{◌≡◌, ◌⊎◌, ℕ, Bool, true, false, not, cond, List, [], Option, Some, None, is_some, is_none, unwrap_or, slice_index_or, Result, Ok, Err}
 use Rattle.pud_defs.specs.declared.objects.Val.TheVariants.{Num, Ref}
 use Rattle.pud_defs.specs.declared.records.Puddle.{Puddle}
 use Rattle.pud_defs.specs.declared.machine.Reply.{Reply}
@@ -11,15 +11,15 @@ use Rattle.pud_defs.specs.Spaces.{Owner}
 use Rattle.pud_defs.specs.Types.{types_of}
 use Rattle.pud_defs.specs.Stored.{stored_in}
 use Rattle.pud_defs.specs.Graph.{Graph, graph_of}
-use Rattle.pud_defs.specs.Tables.{Pool, tables_of, puddles_in_turn}
+use Rattle.pud_defs.specs.Tables.{Pool}
 use Rattle.pud_defs.specs.PoolChanges.{pool_named}
 use Rattle.pud_defs.specs.World.{Transaction, World}
 use Rattle.pud_defs.specs.Transactions.{is_others}
 use Rattle.pud_defs.specs.Step.{reads, graph_in, graph_seen}
 use Rattle.graph_read.specs.declared.fields.FieldRead.{FieldRead}
 use Rattle.graph_read.specs.declared.fields.FieldRead.TheVariants.{NoObject, NoField, Value}
-use Rattle.puddled.specs.Memory.{Held}
-use Rattle.puddled.specs.Holding.{IsOwnOn}
+use Rattle.ready_daemon.specs.Memory.{Held}
+use Rattle.ready_daemon.specs.Holding.{IsOwnOn}
 use Rattle.puddled.specs.declared.reading.Readable.{Readable}
 
 -- why this pool is not read for a client that acts so, where this is open on it: no one does, there is no pool, it is wild, its mode is against it, or
@@ -43,12 +43,6 @@ abbrev pub reading_open : (slot : ℕ) (right own : Bool) → Result Readable Re
 reading_open slot right own = cond (not right) (Err refusals.Denied) (cond (not own) (Err refusals.Busy) (Ok (record { slot = slot; is_open = true })))
 
 -- ---- what is read
-
--- the puddles of the pool in this slot as they are read, where they have a graph
-unfoldable pub puddles_with_graph : ℕ → Image → (slot : ℕ) → Option (List (ℕ × Puddle))
-puddles_with_graph F image slot =
-    let puddles = puddles_in_turn (tables_of F image) slot in
-    option_map (λ graph. puddles) (graph_of (types_of image) (stored_in F puddles image))
 
 -- these puddles have a graph, and it is that of the world's pool of this name, as the transaction has it that is open on it
 pub record HoldsGraph (w : World) (F : ℕ) (name : List ℕ) (image : Image) (puddles : List (ℕ × Puddle)) : Type 0 where

@@ -8,9 +8,9 @@ ghost use Rattle.pud_defs.specs.World.{World};
 ghost use Rattle.pud_defs.specs.Step.{answer_by, after, world_by};
 ghost use Rattle.pud_defs.specs.Step.Answer.{of_reply};
 ghost use Rattle.pud_defs.specs.declared.machine.Command.TheVariants as commands;
-ghost use Rattle.puddled.specs.Memory.{Memory};
-ghost use Rattle.puddled.specs.Held.{IsOthers};
-ghost use Rattle.puddled.specs.Daemon.{KeepsRest, IsReady, Applies, ClosesBefore};
+ghost use Rattle.ready_daemon.specs.Memory.{Memory};
+ghost use Rattle.ready_daemon.specs.Held.{IsOthers};
+ghost use Rattle.ready_daemon.specs.Ready.{KeepsRest, IsReady, Applies, ClosesBefore};
 
 use crate::daemon::Daemon;
 use log_space::{close_logs, is_registered, register, unregister};

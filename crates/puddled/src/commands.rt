@@ -1,62 +1,24 @@
 //! The calls that answer the commands of a transaction: it is begun, committed and undone, an object is made or freed in it, a field or the root is
 //! set, and a field's value asked for later.
-ghost use Rattle.std.specs.Prelude.{◌≡◌, ◌<◌, ◌≤◌, ℕ, Option, IfOk};
+ghost use Rattle.std.specs.Prelude.{◌≡◌, ◌<◌, ◌≤◌, ℕ, Option};
 ghost use Rattle.pm_model.specs.Words.{IsRested};
 ghost use Rattle.pm_model.specs.Counts.{after_fault, fault_of};
-ghost use Rattle.pud_defs.specs.declared.layout.TheConstants.{CLIENTS, MAX_FRAMES, MAX_FIELDS};
+ghost use Rattle.pud_defs.specs.declared.layout.TheConstants.{CLIENTS, MAX_FIELDS};
 ghost use Rattle.pud_defs.specs.declared.machine.Command.TheVariants as commands;
 ghost use Rattle.pud_defs.specs.Layout.{device_words};
-ghost use Rattle.pud_defs.specs.Step.{answer_by, world_by};
-ghost use Rattle.pud_defs.specs.Step.Answer.{of_reply};
 ghost use Rattle.pud_defs.specs.World.{World};
 ghost use Rattle.puddled.specs.Answered.{as_answered};
-ghost use Rattle.puddled.specs.Changing.{line_of, IsLegalChange};
-ghost use Rattle.puddled.specs.Held.{IsHeldWithin};
-ghost use Rattle.puddled.specs.Memory.{Memory, held_under, with_held};
-ghost use Rattle.puddled.specs.Daemon.{KeepsRest, IsReady, Applies, CarriesOut};
+ghost use Rattle.pool_transaction.specs.Changing.{line_of, IsLegalChange};
+ghost use Rattle.ready_daemon.specs.Ready.{KeepsRest, IsReady};
+ghost use Rattle.puddled.specs.Daemon.{CarriesOut};
 
-use crate::changing::Change;
 use crate::daemon::Daemon;
-use crate::opened::Opened;
-use crate::refusals::refusal_to_enter;
+use crate::finding::refusal_to_enter;
 use pm_model::{Host, HostFault};
+use pool_transaction::Change;
 use pud_defs::machine::Reply;
 use pud_defs::objects::Val;
 use pud_defs::records::Name;
-
-impl Opened {
-    /// Makes the change, or refuses to, as its line of the transaction's client does.
-    ///
-    /// The device has so many frames. Two fences; a refused one changes nothing.
-    fn change_or_refuse<H: Host>(
-        &mut self,
-        h: &mut H,
-        frames: u32,
-        change: Change,
-    ) -> Result<Reply, HostFault>
-        requires few { frames ≤ MAX_FRAMES }
-        requires room { device_words frames ≤ (H.counts h.old).size }
-        requires within { IsHeldWithin frames self.old }
-        requires legal { IsLegalChange change }
-        ensures reply { H.tells → (size : ℕ) → (w : World) → (memory : Memory) → memory.frames ≡ frames → held_under memory.held (self.old).number ≡ Option.Some self.old → IsReady size w memory (H.state h.old)
-            → IfOk result (λ reply. of_reply reply ≡ answer_by w (Option.Some (line_of change (self.old).client (self.old).name))) }
-        ensures applies { H.tells → (size : ℕ) → size ≡ (H.counts h.old).size → (w : World) → (memory : Memory) → memory.frames ≡ frames → held_under memory.held (self.old).number ≡ Option.Some self.old
-            → IsReady size w memory (H.state h.old)
-            → Applies size w (world_by w (Option.Some (line_of change (self.old).client (self.old).name))) (with_held (self.old).number (Option.Some self.new) memory) (fault_of result)
-            (H.state h.old) (H.state h.new) }
-        ensures within { IsHeldWithin frames self.new }
-        ensures number { (self.new).number ≡ (self.old).number }
-        ensures rest { H.tells → KeepsRest (H.state h.old) (H.state h.new) }
-        ensures rests { H.tells → fault_of result ≡ Option.Some HostFault.Cut → IsRested (H.state h.new).now.words }
-        ensures cause { H.counts h.new ≡ after_fault (fault_of result) (H.counts h.old) }
-    {
-        if let Some(refusal) = self.refusal_to_change(h, frames, change)? {
-            return Ok(Reply::No(refusal));
-        }
-        self.change(h, frames, change)?;
-        Ok(Reply::Ok)
-    }
-}
 
 impl Daemon {
     /// Begins a transaction of the client, 0 to 7, on the pool of this name, in the lowest closed log of the client; or, where the client's own is

@@ -1,5 +1,5 @@
 //! The daemon's own calls: start, one line, stop.
-ghost use Rattle.std.specs.Prelude.{◌≡◌, ◌≢◌, ◌≤◌, ◌↔◌, ℕ, List, IsOk, IfOk, false, Option, Result};
+ghost use Rattle.std.specs.Prelude.{◌≡◌, ◌≢◌, ◌≤◌, ◌↔◌, ℕ, List, IsOk, IfOk, Option, Result};
 ghost use Rattle.pm_model.specs.Words.{IsRested, reads};
 ghost use Rattle.pm_model.specs.Counts.{Counts, after_fault, after_arm, after_loss_of, fault_of};
 ghost use Rattle.pm_model.specs.Moments.{State};
@@ -10,18 +10,19 @@ ghost use Rattle.pud_defs.specs.World.{World, world_of, closed, restart};
 ghost use Rattle.puddled.specs.Faults.{start_fault, run_fault, kind_of, CountsLine, CountsCommand, behind_loss, HasLostPower};
 ghost use Rattle.pud_defs.specs.Grammar.{command_of, IsLegalCommand};
 ghost use Rattle.pud_defs.specs.Changing.{file_of, file_in};
-ghost use Rattle.puddled.specs.Memory.{Memory};
-ghost use Rattle.puddled.specs.Daemon.{KeepsRest, KeepsLine, IsReady, IsReplayed, AreMarks, Applies, CarriesOut, Recovers, Settles, without_marks};
+ghost use Rattle.ready_daemon.specs.Memory.{Memory};
+ghost use Rattle.ready_daemon.specs.Ready.{KeepsRest, IsReady, Applies};
+ghost use Rattle.puddled.specs.Daemon.{KeepsLine, IsReplayed, AreMarks, CarriesOut, Recovers, Settles, without_marks};
 
 use crate::answers::{Answered, say_answer, with_reply};
 use crate::clients::come;
 use crate::judged::Judged;
-use crate::opened::{AllOpened, lose_all, none_opened};
 use crate::pools::{change, make};
 use crate::starting::{Marks, say_start};
 use crate::types::define_type;
 use nesting::Sessions;
 use pm_model::{Host, HostFault};
+use pool_transaction::{AllOpened, lose_all, none_opened};
 use pud_defs::machine::{Command, Refusal, Reply};
 use recover::{RecoverFault, recover};
 use script::parse_line;
@@ -105,9 +106,9 @@ pub struct Daemon {
 impl Model for Daemon {
     ghost use Rattle.std.specs.Prelude.{◌≤◌};
     ghost use Rattle.pud_defs.specs.declared.layout.TheConstants.{MIN_FRAMES, MAX_FRAMES};
-    ghost use Rattle.puddled.specs.Memory.{Memory};
-    ghost use Rattle.puddled.specs.Held.{AreHeldWithin};
-    ghost use Rattle.puddled.specs.Judged.{AreOnDevice};
+    ghost use Rattle.ready_daemon.specs.Memory.{Memory};
+    ghost use Rattle.ready_daemon.specs.Held.{AreHeldWithin};
+    ghost use Rattle.ready_daemon.specs.Judged.{AreOnDevice};
 
     ghost Value = { Memory };
 

@@ -7,8 +7,8 @@ ghost use Rattle.pud_defs.specs.declared.records.TheConstants.{POOL_RECORDS};
 ghost use Rattle.pud_defs.specs.Image.{Image};
 ghost use Rattle.pud_defs.specs.Layout.{device_words};
 ghost use Rattle.pud_defs.specs.Stored.{IsOnDevice};
-ghost use Rattle.puddled.specs.Reading.{puddles_with_graph};
-ghost use Rattle.puddled.specs.Judged.{known_in, AreOnDevice, AreJudged};
+ghost use Rattle.ready_daemon.specs.Judged.{puddles_with_graph};
+ghost use Rattle.ready_daemon.specs.Judged.{known_in, AreOnDevice, AreJudged};
 
 use graph_read::pool_is_sound;
 use pm_model::{Host, HostFault};

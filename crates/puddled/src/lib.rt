@@ -2,15 +2,13 @@
 #![tactic(auto)]
 
 mod answers;
-mod changing;
 mod clients;
 mod commands;
 mod daemon;
+mod finding;
 mod judged;
-mod opened;
 mod pools;
 mod reading;
-mod refusals;
 mod starting;
 mod transactions;
 mod types;

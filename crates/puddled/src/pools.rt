@@ -10,10 +10,10 @@ ghost use Rattle.pud_defs.specs.World.{World};
 ghost use Rattle.pud_defs.specs.Grammar.{IsLegalCommand};
 ghost use Rattle.pud_defs.specs.Step.{refusal_of, answer_by, world_by};
 ghost use Rattle.pud_defs.specs.Step.Answer.{of_reply};
-ghost use Rattle.puddled.specs.Memory.{Memory};
-ghost use Rattle.puddled.specs.Owning.{reply_of_making, refusal_found, refusal_beside, IsSlotOf};
-ghost use Rattle.puddled.specs.Judged.{AreOnDevice, ForgetsPool};
-ghost use Rattle.puddled.specs.Daemon.{KeepsRest, IsReady, Applies};
+ghost use Rattle.ready_daemon.specs.Memory.{Memory};
+ghost use Rattle.ready_daemon.specs.Owning.{reply_of_making, refusal_found, refusal_beside, IsSlotOf};
+ghost use Rattle.ready_daemon.specs.Judged.{AreOnDevice, ForgetsPool};
+ghost use Rattle.ready_daemon.specs.Ready.{KeepsRest, IsReady, Applies};
 
 use crate::daemon::Daemon;
 use crate::judged::Judged;

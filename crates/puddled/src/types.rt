@@ -8,9 +8,9 @@ ghost use Rattle.pud_defs.specs.World.{World};
 ghost use Rattle.pud_defs.specs.Step.{answer_by, world_by};
 ghost use Rattle.pud_defs.specs.Step.Answer.{of_reply};
 ghost use Rattle.pud_defs.specs.declared.machine.Command.TheVariants.{Define};
-ghost use Rattle.puddled.specs.Memory.{Memory};
-ghost use Rattle.puddled.specs.Defined.{reply_of};
-ghost use Rattle.puddled.specs.Daemon.{KeepsRest, IsReady, Applies};
+ghost use Rattle.ready_daemon.specs.Memory.{Memory};
+ghost use Rattle.ready_daemon.specs.Defined.{reply_of};
+ghost use Rattle.ready_daemon.specs.Ready.{KeepsRest, IsReady, Applies};
 
 use pm_model::{Host, HostFault};
 use pud_defs::machine::{Refusal, Reply};

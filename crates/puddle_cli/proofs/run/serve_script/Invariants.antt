@@ -2,7 +2,7 @@ use Rattle.std.proofs.Common.{◌≡◌, ◌≤◌, ℕ}
 use Rattle.pud_defs.specs.Layout.{device_words}
 use Rattle.pud_defs.specs.World.{World}
 use Rattle.puddled.specs.Faults.{Grows}
-use Rattle.puddled.specs.Daemon.{IsReady}
+use Rattle.ready_daemon.specs.Ready.{IsReady}
 use Rattle.puddle_cli.specs.Serving.{Takes, Serves}
 use Rattle.puddle_cli.proofs.run.serve_script.Given as goal
 

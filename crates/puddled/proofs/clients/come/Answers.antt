@@ -5,9 +5,9 @@ use Rattle.pud_defs.specs.declared.machine.Command.TheVariants.{Client}
 use Rattle.pud_defs.specs.declared.machine.Refusal.TheVariants as refusals
 use Rattle.pud_defs.specs.Step.{world_by}
 use Rattle.pud_defs.proofs.Steps.{refused_answer, answer_is_ok}
-use Rattle.puddled.proofs.Applying.{Applies-failed, Applies-refused, Applies-accepted}
-use Rattle.puddled.proofs.Coming.{presence_read, taken, is_new}
-use Rattle.puddled.proofs.Others.{others_absent}
+use Rattle.ready_daemon.proofs.Applying.{Applies-failed, Applies-refused, Applies-accepted}
+use Rattle.ready_daemon.proofs.Coming.{presence_read, taken, is_new}
+use Rattle.ready_daemon.proofs.Others.{others_absent}
 use Rattle.puddled.proofs.clients.come.Goals as goal
 
 pub returns-in_err-is_registered-clause-applies : goal.returns-in_err-is_registered-clause-applies

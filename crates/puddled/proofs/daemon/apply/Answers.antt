@@ -3,7 +3,7 @@ use Rattle.pud_defs.specs.declared.machine.Command.{Command}
 use Rattle.pud_defs.specs.declared.machine.Command.TheVariants.{Client, Leave, Define, Chmod, Get, Begin, Commit, Abort, New, Set, Later, Root, Free, Cut, Arm}
 use Rattle.pud_defs.specs.declared.machine.Command.TheVariants as commands
 use Rattle.pud_defs.specs.Grammar.{IsLegalCommand}
-use Rattle.puddled.specs.Memory.{Memory}
+use Rattle.ready_daemon.specs.Memory.{Memory}
 use Rattle.puddled.specs.declared.answers.Answered.TheVariants as answers
 use Rattle.puddled.specs.Daemon.{CarriesOut}
 use Rattle.puddled.proofs.Carrying.{keeps_still, ClosesLogs-leave, ClosesLogs-other, CarriesOut-plain, CarriesOut-as, CarriesOut-listed, CarriesOut-lost, CarriesOut-armed}

@@ -7,7 +7,7 @@ use Rattle.pm_model.specs.Counts.{fault_of}
 use Rattle.puddled.specs.declared.answers.Answered.{Answered}
 use Rattle.pud_defs.specs.World.{world_of}
 use Rattle.pud_defs.specs.Grammar.{command_of}
-use Rattle.puddled.specs.Memory.{Memory}
+use Rattle.ready_daemon.specs.Memory.{Memory}
 use Rattle.puddled.specs.Daemon.{CarriesOut}
 use Rattle.puddled.specs.declared.daemon.StartFault.{StartFault}
 use Rattle.puddled.specs.Faults.{start_fault, kind_of, CountsCommand}

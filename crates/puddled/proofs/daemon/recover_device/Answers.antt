@@ -5,12 +5,12 @@ use Rattle.pm_model.proofs.Changes.{Changes-said}
 use Rattle.pud_defs.specs.World.{world_of, closed}
 use Rattle.pud_defs.specs.declared.records.TheConstants.{POOL_RECORDS}
 use Rattle.pud_defs.specs.Settled.{ALL_LOGS}
-use Rattle.puddled.specs.Held.{AreHeldWithin}
-use Rattle.puddled.specs.Judged.{AreOnDevice}
-use Rattle.puddled.specs.KnownPools.{KnowsPools}
-use Rattle.puddled.proofs.JudgedOpen.{KnowsPools-none}
-use Rattle.puddled.proofs.Known.{AreOnDevice-none}
-use Rattle.puddled.proofs.NoneHeld.{AreHeldWithin-none}
+use Rattle.ready_daemon.specs.Held.{AreHeldWithin}
+use Rattle.ready_daemon.specs.Judged.{AreOnDevice}
+use Rattle.ready_daemon.specs.KnownPools.{KnowsPools}
+use Rattle.ready_daemon.proofs.JudgedOpen.{KnowsPools-none}
+use Rattle.ready_daemon.proofs.Known.{AreOnDevice-none}
+use Rattle.ready_daemon.proofs.NoneHeld.{AreHeldWithin-none}
 use Rattle.puddled.proofs.Restarts.{Recovers-done, Recovers-failed, sound_recovery, recovered_any}
 use Rattle.puddled.proofs.daemon.recover_device.Goals as goal
 

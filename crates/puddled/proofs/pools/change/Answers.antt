@@ -3,15 +3,15 @@ use Rattle.std.specs.Prelude.{IfOk}
 use Rattle.pm_model.specs.Words.{reads}
 use Rattle.pm_model.specs.Moments.{State}
 use Rattle.pud_defs.specs.declared.machine.Refusal.{Refusal}
-use Rattle.puddled.specs.Owning.{refusal_found, IsSlotOf}
+use Rattle.ready_daemon.specs.Owning.{refusal_found, IsSlotOf}
 use Rattle.std.proofs.lemmas.Result.{err_from_is_err_and}
 use Rattle.pm_model.specs.Counts.{Counts}
 use Rattle.pud_defs.specs.Step.{world_by}
 use Rattle.pud_defs.specs.declared.machine.Command.TheVariants.{Chmod}
 use Rattle.pud_defs.proofs.PoolRefusals.{refusal_of-owned}
 use Rattle.pud_defs.proofs.Steps.{refused_answer, answer_is_ok}
-use Rattle.puddled.proofs.Applying.{Applies-failed, Applies-refused}
-use Rattle.puddled.proofs.Pooling.{Applies-behind, Applies-mode}
+use Rattle.ready_daemon.proofs.Applying.{Applies-failed, Applies-refused}
+use Rattle.ready_daemon.proofs.Pooling.{Applies-behind, Applies-mode}
 use Rattle.puddled.proofs.pools.change.Goals as goal
 
 pub returns-in_err-refusal-clause-applies : goal.returns-in_err-refusal-clause-applies

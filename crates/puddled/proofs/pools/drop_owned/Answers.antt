@@ -4,17 +4,17 @@ use Rattle.pm_model.specs.Words.{reads}
 use Rattle.pm_model.specs.Moments.{State}
 use Rattle.pud_defs.specs.declared.machine.Refusal.{Refusal}
 use Rattle.pud_defs.specs.declared.records.Puddle.{Puddle}
-use Rattle.puddled.specs.Owning.{refusal_found, IsSlotOf}
+use Rattle.ready_daemon.specs.Owning.{refusal_found, IsSlotOf}
 use Rattle.std.proofs.lemmas.Option.{none-some}
 use Rattle.std.proofs.lemmas.Result.{err_from_is_err_and}
 use Rattle.pm_model.specs.Counts.{Counts}
 use Rattle.pud_defs.specs.Step.{world_by}
 use Rattle.pud_defs.specs.declared.machine.Command.TheVariants as commands
 use Rattle.pud_defs.proofs.Steps.{refused_answer, answer_is_ok}
-use Rattle.puddled.specs.Judged.{AreOnDevice}
-use Rattle.puddled.proofs.Known.{AreOnDevice-forgotten}
-use Rattle.puddled.proofs.Applying.{Applies-failed, Applies-refused, Applies-known}
-use Rattle.puddled.proofs.Pooling.{Applies-behind, Applies-drop}
+use Rattle.ready_daemon.specs.Judged.{AreOnDevice}
+use Rattle.ready_daemon.proofs.Known.{AreOnDevice-forgotten}
+use Rattle.ready_daemon.proofs.Applying.{Applies-failed, Applies-refused, Applies-known}
+use Rattle.ready_daemon.proofs.Pooling.{Applies-behind, Applies-drop}
 use Rattle.puddled.proofs.pools.drop_owned.Goals as goal
 
 pub returns-in_err-refusal-clause-applies : goal.returns-in_err-refusal-clause-applies

@@ -3,8 +3,8 @@ use Rattle.pm_model.specs.Words.{reads}
 use Rattle.pm_model.specs.Moments.{State}
 use Rattle.nesting.specs.declared.Session.{Session}
 use Rattle.nesting.specs.Sessions.{holder_in}
-use Rattle.puddled.specs.Owning.{refusal_beside}
-use Rattle.puddled.proofs.Pooling.{acting, absent, refused_client, refused_pool, refused_denied, not_denied, slot_is}
+use Rattle.ready_daemon.specs.Owning.{refusal_beside}
+use Rattle.ready_daemon.proofs.Pooling.{acting, absent, refused_client, refused_pool, refused_denied, not_denied, slot_is}
 use Rattle.puddled.proofs.pools.find_owned.Goals as goal
 
 pub returns-in_default-clause-refusal : goal.returns-in_default-clause-refusal

@@ -9,8 +9,8 @@ use Rattle.registry.specs.Pools.{HasFreshFrame}
 use Rattle.pud_defs.specs.declared.machine.Command.TheVariants as commands
 use Rattle.pud_defs.specs.declared.machine.Refusal.TheVariants as refusals
 use Rattle.pud_defs.proofs.Steps.{refused_answer}
-use Rattle.puddled.proofs.Applying.{Applies-failed, Applies-refused}
-use Rattle.puddled.proofs.Pooling.{acting, absent, refused_pool_client, Applies-behind, reply_making, Applies-making}
+use Rattle.ready_daemon.proofs.Applying.{Applies-failed, Applies-refused}
+use Rattle.ready_daemon.proofs.Pooling.{acting, absent, refused_pool_client, Applies-behind, reply_making, Applies-making}
 use Rattle.puddled.proofs.pools.make.Goals as goal
 
 pub returns-in_err-who-clause-applies : goal.returns-in_err-who-clause-applies

@@ -6,10 +6,10 @@ use Rattle.pud_defs.specs.declared.machine.Refusal.{Refusal}
 use Rattle.nesting.specs.declared.Session.{Session}
 use Rattle.nesting.specs.Sessions.{holder_in}
 use Rattle.puddled.specs.declared.reading.Readable.{Readable}
-use Rattle.puddled.specs.Owning.{refusal_found}
+use Rattle.ready_daemon.specs.Owning.{refusal_found}
 use Rattle.puddled.specs.Reading.{HoldsFound}
-use Rattle.puddled.proofs.Pooling.{acting, absent}
-use Rattle.puddled.proofs.Known.{judged_puddles, none_found}
+use Rattle.ready_daemon.proofs.Pooling.{acting, absent}
+use Rattle.ready_daemon.proofs.Known.{judged_puddles, none_found}
 use Rattle.puddled.proofs.Readable.{unread_client, unread_pool, unread_wild, unread_denied, is_readable, holds_graph, refusal_open, found_open, apart_from, judged_when_ready}
 use Rattle.puddled.proofs.reading.find_readable.Goals as goal
 

@@ -4,10 +4,10 @@ use Rattle.pm_model.specs.Counts.{Counts}
 use Rattle.pud_defs.specs.declared.machine.Command.TheVariants.{Abort}
 use Rattle.pud_defs.specs.declared.machine.Reply.TheVariants as replies
 use Rattle.pud_defs.proofs.Steps.{answer_is_ok}
-use Rattle.puddled.specs.Owning.{refusal_found}
+use Rattle.ready_daemon.specs.Owning.{refusal_found}
 use Rattle.puddled.proofs.Commanding.{ready_read, CarriesOut-refused, CarriesOut-unread, CarriesOut-stopped, CarriesOut-done, abort_is_plain}
-use Rattle.puddled.proofs.HeldEnds.{Applies-own}
-use Rattle.puddled.proofs.TransactionRefusals.{refusal_of-abort}
+use Rattle.pool_transaction.proofs.HeldEnds.{Applies-own}
+use Rattle.pool_transaction.proofs.TransactionRefusals.{refusal_of-abort}
 use Rattle.puddled.proofs.daemon.Daemon.abort.Goals as goal
 
 pub returns-in_err-refusal-clause-carries : goal.returns-in_err-refusal-clause-carries

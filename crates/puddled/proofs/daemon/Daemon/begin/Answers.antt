@@ -14,16 +14,16 @@ use Rattle.pud_defs.proofs.Steps.{answer_is_ok}
 use Rattle.nesting.specs.declared.EnterFault.TheVariants.{Deep, Logs}
 use Rattle.nesting.specs.declared.Session.{Session}
 use Rattle.nesting.specs.Sessions.{session_in, depth_in, count_of, entered, AreSessions}
-use Rattle.puddled.specs.Memory.{Held, Memory}
-use Rattle.puddled.specs.Holding.{IsOwnOn}
-use Rattle.puddled.specs.Judged.{known_in}
-use Rattle.puddled.specs.Beginning.{MayBegin}
-use Rattle.puddled.specs.Owning.{refusal_found}
-use Rattle.puddled.specs.Daemon.{IsReady}
-use Rattle.puddled.proofs.AtDepth.{ready_begun_again}
+use Rattle.ready_daemon.specs.Memory.{Held, Memory}
+use Rattle.ready_daemon.specs.Holding.{IsOwnOn}
+use Rattle.ready_daemon.specs.Judged.{known_in}
+use Rattle.ready_daemon.specs.Beginning.{MayBegin}
+use Rattle.ready_daemon.specs.Owning.{refusal_found}
+use Rattle.ready_daemon.specs.Ready.{IsReady}
+use Rattle.ready_daemon.proofs.AtDepth.{ready_begun_again}
 use Rattle.puddled.proofs.Commanding.{ready_read, CarriesOut-refused, CarriesOut-unread, CarriesOut-done, CarriesOut-ok, Applies-untouched, begin_is_plain}
 use Rattle.puddled.proofs.Entering.{depth_entered, refused_to_enter, begun_again, own_begun, not_begun, less, few}
-use Rattle.puddled.proofs.TransactionRefusals.{refused_begin}
+use Rattle.pool_transaction.proofs.TransactionRefusals.{refused_begin}
 use Rattle.puddled.proofs.daemon.Daemon.begin.Goals as goal
 
 pub returns-in_err-refusal-clause-carries : goal.returns-in_err-refusal-clause-carries

@@ -16,16 +16,16 @@ use Rattle.log_store.specs.Store.{OpenLog}
 use Rattle.word_transaction.specs.Running.{IsIdle, nothing, begun, Runs}
 use Rattle.hybrid_tx.specs.Grounds.{pool_ground}
 use Rattle.nesting.specs.Sessions.{session_in, count_of, entered, AreSessions}
-use Rattle.puddled.specs.Beginning.{MayBegin}
-use Rattle.puddled.specs.Daemon.{IsReady, Applies}
-use Rattle.puddled.specs.Judged.{known_in, AreOnDevice}
-use Rattle.puddled.specs.Held.{IsHeldWithin, AreHeldWithin}
-use Rattle.puddled.specs.Memory.{Held, Memory}
-use Rattle.puddled.proofs.Applying.{Applies-stopped}
-use Rattle.puddled.proofs.Beginning.{Applies-begins}
-use Rattle.puddled.proofs.Counting.{log_found}
-use Rattle.puddled.proofs.HeldUnder.{AreHeldWithin-set}
-use Rattle.puddled.proofs.Known.{AreOnDevice-forgotten}
+use Rattle.ready_daemon.specs.Beginning.{MayBegin}
+use Rattle.ready_daemon.specs.Ready.{IsReady, Applies}
+use Rattle.ready_daemon.specs.Judged.{known_in, AreOnDevice}
+use Rattle.ready_daemon.specs.Held.{IsHeldWithin, AreHeldWithin}
+use Rattle.ready_daemon.specs.Memory.{Held, Memory}
+use Rattle.ready_daemon.proofs.Applying.{Applies-stopped}
+use Rattle.pool_transaction.proofs.Beginning.{Applies-begins}
+use Rattle.ready_daemon.proofs.Counting.{log_found}
+use Rattle.ready_daemon.proofs.HeldUnder.{AreHeldWithin-set}
+use Rattle.ready_daemon.proofs.Known.{AreOnDevice-forgotten}
 use Rattle.puddled.proofs.daemon.Daemon.begin_on.Goals as goal
 
 pub returns-in_err-number-clause-begins : goal.returns-in_err-number-clause-begins

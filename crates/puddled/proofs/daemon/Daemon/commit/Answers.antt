@@ -4,9 +4,9 @@ use Rattle.pm_model.specs.Counts.{Counts}
 use Rattle.pud_defs.specs.declared.machine.Command.TheVariants.{Commit}
 use Rattle.pud_defs.specs.declared.machine.Reply.TheVariants as replies
 use Rattle.pud_defs.proofs.Steps.{answer_is_ok}
-use Rattle.puddled.specs.Memory.{Held}
-use Rattle.puddled.specs.Holding.{IsOwnOn}
-use Rattle.puddled.specs.Owning.{refusal_found}
+use Rattle.ready_daemon.specs.Memory.{Held}
+use Rattle.ready_daemon.specs.Holding.{IsOwnOn}
+use Rattle.ready_daemon.specs.Owning.{refusal_found}
 use Rattle.puddled.proofs.Commanding.{ready_read, CarriesOut-refused, CarriesOut-unread, CarriesOut-stopped, CarriesOut-done, commit_is_plain}
 use Rattle.puddled.proofs.daemon.Daemon.commit.Goals as goal
 

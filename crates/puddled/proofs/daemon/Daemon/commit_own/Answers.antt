@@ -6,9 +6,9 @@ use Rattle.pud_defs.specs.Layout.{frames_at}
 use Rattle.log_store.specs.Store.{OpenLog}
 use Rattle.nesting.specs.declared.Session.{Session}
 use Rattle.nesting.specs.Sessions.{depth_in, left}
-use Rattle.puddled.specs.Memory.{Memory}
+use Rattle.ready_daemon.specs.Memory.{Memory}
 use Rattle.puddled.proofs.Depth.{Applies-rises}
-use Rattle.puddled.proofs.HeldEnds.{Commits, IsReleased, Applies-kept}
+use Rattle.pool_transaction.proofs.HeldEnds.{Commits, IsReleased, Applies-kept}
 use Rattle.puddled.proofs.daemon.Daemon.commit_own.Goals as goal
 
 pub returns-then-depth-gt1-clause-applies : goal.returns-then-depth-gt1-clause-applies

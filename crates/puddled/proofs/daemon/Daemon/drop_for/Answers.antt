@@ -1,6 +1,6 @@
 use Rattle.std.proofs.Common.{refl, sym, ap, subst}
-use Rattle.puddled.specs.Memory.{Memory}
-use Rattle.puddled.specs.Daemon.{IsReady}
+use Rattle.ready_daemon.specs.Memory.{Memory}
+use Rattle.ready_daemon.specs.Ready.{IsReady}
 use Rattle.puddled.proofs.daemon.Daemon.drop_for.Goals as goal
 
 pub returns-clause-reply : goal.returns-clause-reply

@@ -4,7 +4,7 @@ use Rattle.pm_model.specs.Words.{reads}
 use Rattle.pm_model.specs.Counts.{Counts}
 use Rattle.puddled.specs.Faults.{of_host, HasLostPower}
 use Rattle.puddled.proofs.Counted.{not_none, none_is_sound, counted_say, counted_same, host_is_sound}
-use Rattle.puddled.specs.Memory.{Memory}
+use Rattle.ready_daemon.specs.Memory.{Memory}
 use Rattle.puddled.proofs.Listed.{said_by}
 use Rattle.puddled.proofs.Lines.{Answers-fault, Answers-unsaid, Answers-said, KeepsLine-says, sound_said}
 use Rattle.puddled.proofs.daemon.Daemon.exec.Goals as goal

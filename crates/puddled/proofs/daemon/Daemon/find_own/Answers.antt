@@ -4,10 +4,10 @@ use Rattle.pm_model.specs.Moments.{State}
 use Rattle.pud_defs.specs.declared.machine.Refusal.TheVariants as refusals
 use Rattle.pud_defs.specs.Spaces.{owner}
 use Rattle.nesting.specs.Sessions.{holder_in}
-use Rattle.puddled.specs.Memory.{Memory}
-use Rattle.puddled.specs.Judged.{known_in, AreJudged}
+use Rattle.ready_daemon.specs.Memory.{Memory}
+use Rattle.ready_daemon.specs.Judged.{known_in, AreJudged}
 use Rattle.puddled.proofs.Commanding.{judged_ready}
-use Rattle.puddled.proofs.Pooling.{acting, absent}
+use Rattle.ready_daemon.proofs.Pooling.{acting, absent}
 use Rattle.puddled.proofs.Readable.{apart_from}
 use Rattle.puddled.proofs.RefusedLines.{commit_client, commit_pool, commit_found, own_by_found, commit_shut}
 use Rattle.puddled.proofs.daemon.Daemon.find_own.Goals as goal

@@ -6,14 +6,14 @@ use Rattle.pud_defs.specs.declared.machine.Refusal.{Refusal}
 use Rattle.pud_defs.specs.declared.machine.Refusal.TheVariants as refusals
 use Rattle.pud_defs.specs.Spaces.{owner}
 use Rattle.nesting.specs.Sessions.{session_in, holder_in}
-use Rattle.puddled.specs.Memory.{Memory}
-use Rattle.puddled.specs.Judged.{known_in, AreJudged}
-use Rattle.puddled.specs.Beginning.{MayBegin}
-use Rattle.puddled.specs.Holding.{IsOwnOn}
-use Rattle.puddled.specs.Owning.{refusal_found}
-use Rattle.puddled.specs.Refusing.{writing_open}
+use Rattle.ready_daemon.specs.Memory.{Memory}
+use Rattle.ready_daemon.specs.Judged.{known_in, AreJudged}
+use Rattle.ready_daemon.specs.Beginning.{MayBegin}
+use Rattle.ready_daemon.specs.Holding.{IsOwnOn}
+use Rattle.ready_daemon.specs.Owning.{refusal_found}
+use Rattle.puddled.specs.Finding.{writing_open}
 use Rattle.puddled.proofs.Commanding.{judged_ready}
-use Rattle.puddled.proofs.Pooling.{acting, absent}
+use Rattle.ready_daemon.proofs.Pooling.{acting, absent}
 use Rattle.puddled.proofs.Readable.{apart_from}
 use Rattle.puddled.proofs.RefusedLines.{write_client, write_pool, write_open, own_writable, write_shut, open_none, may_begin}
 use Rattle.puddled.proofs.daemon.Daemon.find_writable.Goals as goal

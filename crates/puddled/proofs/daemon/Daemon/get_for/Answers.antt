@@ -8,10 +8,10 @@ use Rattle.pud_defs.specs.declared.machine.Refusal.{Refusal}
 use Rattle.pud_defs.specs.Step.Answer.{of_reply}
 use Rattle.pud_defs.proofs.Steps.{refused_answer}
 use Rattle.puddled.specs.declared.reading.Readable.{Readable}
-use Rattle.puddled.specs.Memory.{Memory}
-use Rattle.puddled.specs.Owning.{refusal_found}
+use Rattle.ready_daemon.specs.Memory.{Memory}
+use Rattle.ready_daemon.specs.Owning.{refusal_found}
 use Rattle.puddled.specs.Reading.{HoldsFound}
-use Rattle.puddled.specs.Daemon.{IsReady}
+use Rattle.ready_daemon.specs.Ready.{IsReady}
 use Rattle.puddled.proofs.Readable.{judged_when_ready, get_refused, holds_found, reply_when_read, Applies-get}
 use Rattle.puddled.proofs.daemon.Daemon.get_for.Goals as goal
 

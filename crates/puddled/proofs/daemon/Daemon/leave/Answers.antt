@@ -5,9 +5,9 @@ use Rattle.pud_defs.specs.declared.machine.Command.TheVariants.{Leave}
 use Rattle.pud_defs.specs.declared.machine.Refusal.TheVariants as refusals
 use Rattle.pud_defs.specs.Step.{world_by}
 use Rattle.pud_defs.proofs.Steps.{refused_answer, answer_is_ok}
-use Rattle.puddled.proofs.Applying.{Applies-failed, Applies-refused}
-use Rattle.puddled.proofs.Leaving.{presence_of, Applies-accepted_by}
-use Rattle.puddled.proofs.Coming.{is_absent, is_there, ClosesBefore-idle, ClosesBefore-behind}
+use Rattle.ready_daemon.proofs.Applying.{Applies-failed, Applies-refused}
+use Rattle.ready_daemon.proofs.Leaving.{presence_of, Applies-accepted_by}
+use Rattle.ready_daemon.proofs.Coming.{is_absent, is_there, ClosesBefore-idle, ClosesBefore-behind}
 use Rattle.puddled.proofs.daemon.Daemon.leave.Goals as goal
 
 pub returns-in_err-is_registered-clause-applies : goal.returns-in_err-is_registered-clause-applies

@@ -5,12 +5,12 @@ use Rattle.pud_defs.specs.declared.machine.Command.TheVariants.{Leave}
 use Rattle.pud_defs.specs.Step.{after}
 use Rattle.pud_defs.specs.Transactions.{without_client}
 use Rattle.pud_defs.specs.World.{World}
-use Rattle.puddled.specs.Daemon.{Applies, ClosesBefore}
-use Rattle.puddled.specs.Held.{IsOthers}
-use Rattle.puddled.specs.Leaving.{BehindTables, world_without}
-use Rattle.puddled.specs.Memory.{Memory}
-use Rattle.puddled.proofs.Coming.{ClosesBefore-changes}
-use Rattle.puddled.proofs.Leaving.{others_left, gone_world, Applies-then, Applies-cut_short, ClosesBefore-then}
+use Rattle.ready_daemon.specs.Ready.{Applies, ClosesBefore}
+use Rattle.ready_daemon.specs.Held.{IsOthers}
+use Rattle.ready_daemon.specs.Leaving.{BehindTables, world_without}
+use Rattle.ready_daemon.specs.Memory.{Memory}
+use Rattle.ready_daemon.proofs.Coming.{ClosesBefore-changes}
+use Rattle.ready_daemon.proofs.Leaving.{others_left, gone_world, Applies-then, Applies-cut_short, ClosesBefore-then}
 use Rattle.puddled.proofs.daemon.Daemon.let_go.Goals as goal
 
 pub returns-in_err-undo_of-clause-applies : goal.returns-in_err-undo_of-clause-applies

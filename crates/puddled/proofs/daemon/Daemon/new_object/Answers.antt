@@ -6,13 +6,13 @@ use Rattle.pud_defs.specs.declared.machine.Command.{Command}
 use Rattle.pud_defs.specs.declared.machine.Command.TheVariants.{New}
 use Rattle.pud_defs.specs.Settled.{ALL_LOGS}
 use Rattle.pud_defs.specs.Step.{world_by}
-use Rattle.puddled.specs.Held.{IsHeldWithin, IsOwn}
-use Rattle.puddled.specs.Memory.{Held, Memory, held_under, with_held}
-use Rattle.puddled.specs.Owning.{refusal_found}
-use Rattle.puddled.specs.Daemon.{IsReady, Applies}
-use Rattle.puddled.proofs.HeldUnder.{AreHeldWithin-set, read_there, read_within}
+use Rattle.ready_daemon.specs.Held.{IsHeldWithin, IsOwn}
+use Rattle.ready_daemon.specs.Memory.{Held, Memory, held_under, with_held}
+use Rattle.ready_daemon.specs.Owning.{refusal_found}
+use Rattle.ready_daemon.specs.Ready.{IsReady, Applies}
+use Rattle.ready_daemon.proofs.HeldUnder.{AreHeldWithin-set, read_there, read_within}
 use Rattle.puddled.proofs.Commanding.{ready_read, CarriesOut-refused, CarriesOut-unread, CarriesOut-own, new_is_plain}
-use Rattle.puddled.proofs.TransactionRefusals.{refused_new}
+use Rattle.pool_transaction.proofs.TransactionRefusals.{refused_new}
 use Rattle.puddled.proofs.daemon.Daemon.new_object.Goals as goal
 
 pub returns-in_err-refusal-clause-carries : goal.returns-in_err-refusal-clause-carries

@@ -2,9 +2,9 @@ use Rattle.std.proofs.Common.{ℕ, List, sym, ap, subst, ◌∙◌, arith, rules
 use Rattle.std.proofs.lemmas.Option.{none-some}
 use Rattle.pud_defs.specs.declared.records.Puddle.{Puddle}
 use Rattle.pud_defs.specs.Stored.{IsOnDevice}
-use Rattle.puddled.specs.Memory.{Held, Memory}
-use Rattle.puddled.proofs.HeldUnder.{AreHeldWithin-set, read_within}
-use Rattle.puddled.proofs.Known.{AreOnDevice-put}
+use Rattle.ready_daemon.specs.Memory.{Held, Memory}
+use Rattle.ready_daemon.proofs.HeldUnder.{AreHeldWithin-set, read_within}
+use Rattle.ready_daemon.proofs.Known.{AreOnDevice-put}
 use Rattle.puddled.proofs.daemon.Daemon.release.Goals as goal
 
 pub end-requires : goal.end-requires

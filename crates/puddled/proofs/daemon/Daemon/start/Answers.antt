@@ -6,7 +6,7 @@ use Rattle.pud_defs.specs.Registry.{frames_of}
 use Rattle.pud_defs.specs.World.{world_of, closed}
 use Rattle.puddled.specs.declared.daemon.StartFault.{StartFault}
 use Rattle.puddled.specs.declared.daemon.StartFault.TheVariants as starts
-use Rattle.puddled.specs.Memory.{Memory}
+use Rattle.ready_daemon.specs.Memory.{Memory}
 use Rattle.puddled.specs.Faults.{start_fault}
 use Rattle.puddled.specs.Daemon.{IsReplayed}
 use Rattle.puddled.proofs.Lines.{words_said, Starts-says, Starts-refused, KeepsRest-says}

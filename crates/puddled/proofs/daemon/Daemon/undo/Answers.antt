@@ -1,7 +1,7 @@
 use Rattle.std.proofs.Common.{None, sym, subst, ◌∙◌}
 use Rattle.pm_model.specs.Counts.{fault_of}
-use Rattle.puddled.specs.Memory.{Memory}
-use Rattle.puddled.proofs.HeldEnds.{Undoes, IsReleased, Applies-undone, Applies-unheld, behind_undone}
+use Rattle.ready_daemon.specs.Memory.{Memory}
+use Rattle.pool_transaction.proofs.HeldEnds.{Undoes, IsReleased, Applies-undone, Applies-unheld, behind_undone}
 use Rattle.puddled.proofs.daemon.Daemon.undo.Goals as goal
 
 pub returns-in-Some-clause-applies : goal.returns-in-Some-clause-applies

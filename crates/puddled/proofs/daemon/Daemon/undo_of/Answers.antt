@@ -3,8 +3,8 @@ use Rattle.std.proofs.lemmas.Result.{err_from_is_err_and}
 use Rattle.pm_model.specs.Counts.{Counts}
 use Rattle.pm_model.proofs.Changes.{Changes-then}
 use Rattle.pud_defs.specs.Settled.{client_of_log}
-use Rattle.puddled.specs.Leaving.{BehindTables}
-use Rattle.puddled.proofs.Leaving.{IsUndone-start, IsUndone-more, AreUndone-more, Applies-interrupted, Applies-all}
+use Rattle.ready_daemon.specs.Leaving.{BehindTables}
+use Rattle.ready_daemon.proofs.Leaving.{IsUndone-start, IsUndone-more, AreUndone-more, Applies-interrupted, Applies-all}
 use Rattle.puddled.proofs.daemon.Daemon.undo_of.Goals as goal
 
 pub loop-number-init : goal.loop-number-init

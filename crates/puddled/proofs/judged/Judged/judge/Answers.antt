@@ -1,7 +1,7 @@
 use Rattle.std.proofs.Common.{is_some, sym, ap, subst}
 use Rattle.std.specs.Prelude.{IfSome}
 use Rattle.pud_defs.specs.Stored.{IsOnDevice}
-use Rattle.puddled.proofs.Known.{AreOnDevice-put}
+use Rattle.ready_daemon.proofs.Known.{AreOnDevice-put}
 use Rattle.puddled.proofs.judged.Judged.judge.Goals as goal
 
 pub returns-in-Some-clause-puddles : goal.returns-in-Some-clause-puddles

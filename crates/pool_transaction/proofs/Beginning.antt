@@ -1,0 +1,519 @@
+-- A transaction begins beside others: each image left meanwhile stands for the world, and behind it the daemon that is ready holds it too.
+use Rattle.std.proofs.Common.{◌≡◌, ◌≢◌, inl, inr, ℕ, ◌+◌, ◌-◌, ◌*◌, ◌/◌, ◌<◌, ◌≤◌, true, false, leb, ltb, List, [], length, Option, Some, None, refl, sym, ap, ap₂, subst, ◌∙◌, arith}
+use Rattle.std.specs.Prelude.{unwrap_or, is_some, set}
+use Rattle.std.proofs.lemmas.Bool.{cases_eq, cases_lt, and_from, le-leb, lt-ltb, false_from_ne_true}
+use Rattle.std.proofs.lemmas.List.{length-map}
+use Rattle.std.proofs.lemmas.Option.{none-some}
+use Rattle.pm_model.specs.declared.host.HostFault.{HostFault}
+use Rattle.pm_model.specs.Words.{Has, values, Cell, reads, Picks, HasOnly}
+use Rattle.pm_model.specs.Moments.{State}
+use Rattle.pm_model.specs.Changes.{Write, only, written, Persists, Changes, Leaves, Silently}
+use Rattle.pm_model.specs.Masks.{masked, masked_image, masked_cell}
+use Rattle.pm_model.proofs.Words.{only_at, HasOnly-own}
+use Rattle.pm_model.proofs.Changes.{Changes-said, Changes-now, HasOnly-kept}
+use Rattle.pm_model.proofs.Leaves.{HasOrigin, origin, Leaves-weaker}
+use Rattle.pm_model.proofs.Masks.{masked-there, masked-elsewhere, Picks-masked, Picks-unmasked, reads-masked}
+use Rattle.pud_defs.specs.declared.layout.TheConstants.{DAEMON_LOG, CLIENTS, CLIENT_LOGS, LOG_WORDS}
+use Rattle.pud_defs.specs.declared.log_words.TheConstants.{RUNNING_GATE, CLOSED_GATE}
+use Rattle.pud_defs.specs.declared.machine.Command.TheVariants as commands
+use Rattle.pud_defs.specs.declared.records.TheConstants.{POOL_RECORDS}
+use Rattle.pud_defs.specs.declared.records.Puddle.{Puddle}
+use Rattle.pud_defs.specs.Entries.{is_idle_gate}
+use Rattle.pud_defs.specs.Graph.{Graph, graph_of, empty_graph}
+use Rattle.pud_defs.specs.Holdings.{graph_held, held_as}
+use Rattle.pud_defs.specs.Image.{Image}
+use Rattle.pud_defs.specs.Layout.{tables_end, frames_at, device_words}
+use Rattle.pud_defs.specs.Layout as layouts
+use Rattle.pud_defs.specs.PoolChanges.{pool_named}
+use Rattle.pud_defs.specs.Replay.{is_in_log}
+use Rattle.pud_defs.specs.Settled.{ALL_LOGS, log_number_at, client_of_log}
+use Rattle.pud_defs.specs.Spaces.{owner_of}
+use Rattle.pud_defs.specs.Step.{graph_in, graph_at_begin, after}
+use Rattle.pud_defs.specs.Stored.{Stored, IsOnDevice, stored_in}
+use Rattle.pud_defs.specs.Tables.{tables_of, puddles_of, listed, pool_of, puddles_in_turn}
+use Rattle.pud_defs.specs.Transactions as transactions
+use Rattle.pud_defs.specs.Transactions.{with_open}
+use Rattle.pud_defs.specs.World.{Transaction, World, world_of, idle_world_of}
+use Rattle.pud_defs.proofs.Replay.{outside_log, within_log}
+use Rattle.pud_defs.proofs.Spaces.{owner_of-same}
+use Rattle.batch.specs.Batches.{HasIdleGate}
+use Rattle.batch.specs.Worlds.{IsSettled}
+use Rattle.batch.proofs.Tables.{HasDurableTables-kept, reads_kept}
+use Rattle.word_transaction.specs.Ground.{Ground, IsGround}
+use Rattle.word_transaction.specs.Running.{IsIdle, nothing, begun, SettlesTo, Runs}
+use Rattle.hybrid_tx.specs.Grounds.{pool_mine, pool_ground, IsPlaced}
+use Rattle.hybrid_tx.specs.Masks.{OpenPool, is_open_record, open_mask, IsOpenPool}
+use Rattle.hybrid_tx.specs.ManyOpen.{OpenTransaction, AreLeftOpen, AreOpenPools, HasRecords, IsOneMore, MasksAll, Opens, open_masks, with_transaction}
+use Rattle.hybrid_tx.proofs.OpenIdle.{unnamed_idle}
+use Rattle.hybrid_tx.proofs.Opening.{IsOpenOn-begun}
+use Rattle.hybrid_tx.proofs.OpenMasks.{open_record_place, mine_behind, mask_of_others}
+use Rattle.hybrid_tx.proofs.PoolGrounds.{pool_mine-each, is_ground}
+use Rattle.hybrid_tx.proofs.OpenPools.{placed_by_tables, open_on_device}
+use Rattle.hybrid_tx.proofs.ManyIdle.{idle_world_begun, left_more, masks_elsewhere, one_begun, opens_more, records_more}
+use Rattle.hybrid_tx.proofs.ManyMasks.{masks_below, masks_beside_log, masks_of_gate, masks_same, open_masks_all}
+use Rattle.hybrid_tx.proofs.OpenSettled.{nothing_given}
+use Rattle.ready_daemon.specs.Memory.{Held, Memory, held_under}
+use Rattle.ready_daemon.specs.Held.{puddles_in, IsHeld, Holds, HasDurableFrames, HasIdleLogs, HasSessions, IsHeldUnder, open_held, pool_held}
+use Rattle.ready_daemon.specs.Beginning.{MayBegin, begins_as}
+use Rattle.ready_daemon.specs.KnownPools.{KnowsPools}
+use Rattle.ready_daemon.specs.Ready.{IsReady, RefusesNone, StandsBetween, Applies}
+use Rattle.ready_daemon.proofs.Beside.{Leaves-from, ready_idle, IsApart, still_under, left_all, left_apart, names_none_idle, opened_as, others_apart, records_all, unmasked_by_all}
+use Rattle.ready_daemon.proofs.Beneath.{ready_gate, gate_kept, idle_kept}
+use Rattle.ready_daemon.proofs.Counting.{log_free}
+use Rattle.pool_transaction.proofs.Ending.{world_now, left_stands, idle_now, records_now}
+use Rattle.ready_daemon.proofs.InTurn.{pool_in_slot}
+use Rattle.ready_daemon.proofs.JudgedOpen.{KeepsPools-begun, KnowsPools-begun}
+use Rattle.ready_daemon.proofs.TablesBeside.{header_read, types_read, sound_read}
+use Rattle.ready_daemon.proofs.HeldMore.{HasSessions-more, Holds-more, keeps_others, other_number}
+use Rattle.ready_daemon.proofs.OpenBeside.{not_named, pool_unmasked, unmasked_frames}
+use Rattle.ready_daemon.proofs.OpenNames.{open_there}
+use Rattle.ready_daemon.proofs.Sessions.{none_held}
+use Rattle.log_space.specs.FreeLogs.{first_closed, IsLogOf}
+use Rattle.nesting.specs.Sessions.{entered, session_in}
+
+-- ---- words that are masked
+
+-- what is said of the values of a cell masked is so still where it is so of those of the cell
+values_under : (P : ℕ → Type 0) (x : Option ℕ) (before after : Cell) → (((v : ℕ) → Has (values before) v → P v) → (v : ℕ) → Has (values after) v → P v)
+    → ((v : ℕ) → Has (values (masked_cell x before)) v → P v) → (v : ℕ) → Has (values (masked_cell x after)) v → P v
+values_under P None before after still each = still each
+values_under P (Some y) before after still each = each
+
+-- ---- the pool on which it begins
+
+graph_held-sound : (st : Stored) (o : Option Graph) (g : Graph) → o ≡ Some g → graph_held (held_as st o) ≡ Some g
+graph_held-sound st o g is = ap (λ (x : Option Graph). graph_held (held_as st x)) is
+
+gate_inside : (F number k : ℕ) → k ≡ log_number_at F number → is_in_log (log_number_at F number) k ≡ true
+gate_inside F number k here = and_from (leb (log_number_at F number) k) (ltb k (log_number_at F number + LOG_WORDS)) (le-leb _ _ (omega arith)) (lt-ltb _ _ (omega arith))
+
+-- A transaction of the client is to begin on the pool of the name, in its log of this number, in which none is open, as none is on the pool.
+pub record IsVacant (w : World) (memory : Memory) (client : ℕ) (name : List ℕ) (slot number : ℕ) : Type 0 where
+  pub slot_below : slot < POOL_RECORDS
+  pub known : number < ALL_LOGS
+  pub whose : client_of_log number ≡ client
+  pub fits : slot < length memory.sessions
+  pub free : held_under memory.held number ≡ None
+  pub unheld : session_in memory.sessions slot ≡ None
+  pub shut : w.transactions name ≡ None
+
+module _ (size : ℕ) (w : World) (memory : Memory) (old : State) (ready : IsReady size w memory old) (client : ℕ) (name : List ℕ) (slot number : ℕ) (at : List (ℕ × Puddle))
+    (vacant : IsVacant w memory client name slot number) (may : MayBegin w.stored.frames client name (reads old.now.words) slot at) where
+  abbrev n : ℕ
+  n = w.stored.frames
+
+  abbrev now : Image
+  now = reads old.now.words
+
+  abbrev gate : ℕ
+  gate = log_number_at n number
+
+  abbrev p : OpenPool
+  p = record { slot = slot; rec = may.rec; at = at; number = number; who = may.who }
+
+  abbrev o : OpenTransaction
+  o = record { pool = p; before = now }
+
+  abbrev g : Ground
+  g = pool_ground n at
+
+  known : number < ALL_LOGS
+  known = vacant.known
+
+  within : slot < POOL_RECORDS
+  within = vacant.slot_below
+
+  low_client : client < CLIENTS
+  low_client = let few = known in let whose = vacant.whose in omega arith
+
+  opened : IsOpenPool n p now
+  opened = record { known = known; slot = within; used = may.used; at = may.puddles; owned = ap (owner_of now) vacant.whose ∙ may.owned; right = may.right }
+
+  placed : IsPlaced n at
+  placed = placed_by_tables w.stored.next_number n now slot at (sound_read size w memory old ready) may.puddles
+
+  on_device : IsOnDevice n at
+  on_device = placed.on_device
+
+  room : device_words n ≤ size
+  room = (header_read size w memory old ready).room
+
+  ground : IsGround size gate g
+  ground = let few = known in is_ground n size gate at placed room (omega arith)
+
+  present : w.clients client ≡ Some may.who
+  present = sym (ready.clients client low_client) ∙ may.owned
+
+  -- ---- beside those that are open
+
+  abbrev opens : Opens
+  opens = ready.held.opens
+
+  abbrev opens_then : Opens
+  opens_then = with_transaction number (Some o) opens
+
+  abbrev mask_then : Write
+  mask_then = open_masks n opens_then
+
+  more : IsOneMore number o opens opens_then
+  more = one_begun number o opens (ready.held.none number vacant.free)
+
+  records_before : HasRecords opens now
+  records_before = records_all w memory.held ready.mask old.now.words ready.held
+
+  other_pool : (m : ℕ) (q : OpenTransaction) → opens m ≡ Some q → q.pool.slot ≡ slot → ⊥
+  other_pool m q there same =
+      let a = opened_as w memory.held ready.mask old.now.words ready.held m q there in
+      none_held w memory.held ready.mask old.now.words ready.held memory.sessions ready.sessions slot vacant.unheld m a.one a.there (ap (λ (x : OpenTransaction). x.pool.slot) a.same ∙ same)
+
+  are_then : AreOpenPools n opens_then
+  are_then = opens_more number o opens opens_then more n ready.held.are refl opened other_pool
+
+  records_then : HasRecords opens_then now
+  records_then = records_more number o opens opens_then more now records_before (λ k of. refl)
+
+  masks_then : MasksAll n opens_then mask_then
+  masks_then = open_masks_all n opens_then now are_then records_then
+
+  mask_was : ready.mask ≡ open_masks n opens
+  mask_was = masks_same n opens ready.mask (open_masks n opens) ready.held.masks (open_masks_all n opens now ready.held.are records_before)
+
+  -- what was masked is masked still
+  masked_still : (k : ℕ) → mask_then k ≡ None → ready.mask k ≡ None
+  masked_still k none = nothing_given (ready.mask k) (λ v is.
+      let m = ready.held.masks.each k v is in
+      let apart : m.number ≢ number = λ same. none-some m.transaction (sym (ready.held.none number vacant.free) ∙ ap opens (sym same) ∙ m.there) in
+      none-some v (sym none ∙ masks_then.has m.number m.transaction (more.same m.number apart ∙ m.there) k v m.is))
+
+  gate_unmasked : ready.mask gate ≡ None
+  gate_unmasked = masks_beside_log n opens ready.mask ready.held.are ready.held.masks number gate (ready.held.none number vacant.free) known (within_log gate gate (gate_inside n number gate refl))
+
+  mine_unmasked : (k : ℕ) → pool_mine n at k ≡ true → ready.mask k ≡ None
+  mine_unmasked k mine =
+      unmasked_by_all w memory.held ready.mask old.now.words ready.held k (λ m h there is.
+      unmasked_frames w h ready.mask old.now.words is slot may.rec may.used
+      (λ same. not_named w memory.held ready.mask old.now.words name ready.held vacant.shut m h there (sym same ∙ may.name_is)) k (ap (λ (puddles : List (ℕ × Puddle)). pool_mine n puddles k) may.puddles ∙ mine))
+
+  -- its log counts nothing in any image, and each word of its frames has one value
+  idle : IsIdle g gate now old.now.words
+  idle =
+      let whose = vacant.whose in
+      let own : layouts.log_at n client (number - CLIENT_LOGS * client) ≡ gate = omega arith in
+      let log : HasIdleGate gate (masked ready.mask old.now.words) =
+      subst (λ (k : ℕ). HasIdleGate k (masked ready.mask old.now.words)) own (ready.logs.each client (number - CLIENT_LOGS * client) low_client (omega arith) (ap is_some present)) in
+      record {
+        closed = λ v had. log.each v (subst (λ (x : Cell). Has (values x) v) (sym (masked-elsewhere ready.mask old.now.words gate gate_unmasked)) had);
+        single = λ k mine.
+            let m = pool_mine-each n at k mine in let low = m.low in
+            subst (λ (x : Cell). HasOnly x x.newest) (masked-elsewhere ready.mask old.now.words k (mine_unmasked k mine)) (ready.rest.each k (omega arith));
+      }
+
+  -- ---- the world's pool
+
+  graph_now : graph_of w.stored.types (stored_in n at now) ≡ Some may.graph
+  graph_now = ap (λ (types : List (ℕ × ℕ)). graph_of types (stored_in n at now)) (sym (types_read size w memory old ready).types) ∙ may.stored
+
+  pool_graph : graph_in (pool_named name w.stored) ≡ Some may.graph
+  unfolding pool_of
+  pool_graph =
+      let pool = pool_in_slot size w memory old ready slot may.rec within may.used in
+      let under = reads (masked ready.mask old.now.words) in
+      let read : stored_in n (puddles_in_turn (tables_of n now) slot) under ≡ stored_in n (puddles_in_turn (tables_of n now) slot) now =
+      ap (stored_in n (puddles_in_turn (tables_of n now) slot)) (reads-masked ready.mask old.now.words)
+      ∙ pool_unmasked w memory.held ready.mask old.now.words name slot may.rec ready.held (not_named w memory.held ready.mask old.now.words name ready.held vacant.shut) may.used may.name_is in
+      ap (λ (x : List ℕ). graph_in (pool_named x w.stored)) (sym may.name_is)
+      ∙ ap graph_in pool.named
+      ∙ graph_held-sound (stored_in n (listed (puddles_of (tables_of n now) slot)) under) (graph_of w.stored.types (stored_in n (listed (puddles_of (tables_of n now) slot)) under)) may.graph
+      (ap (λ (puddles : List (ℕ × Puddle)). graph_of w.stored.types (stored_in n puddles under)) (sym pool.in_turn) ∙ ap (graph_of w.stored.types) read
+      ∙ ap (λ (puddles : List (ℕ × Puddle)). graph_of w.stored.types (stored_in n puddles now)) may.puddles ∙ graph_now)
+
+  pool_count : puddles_in (pool_named name w.stored) ≡ length at
+  pool_count =
+      let pool = pool_in_slot size w memory old ready slot may.rec within may.used in
+      ap (λ (x : List ℕ). puddles_in (pool_named x w.stored)) (sym may.name_is) ∙ pool.count ∙ sym (length-map (puddles_of (tables_of n now) slot) (λ (e : ℕ × (ℕ × Puddle)). e.1)) ∙ ap length (sym pool.in_turn ∙ may.puddles)
+
+  -- ---- images
+
+  records_there : (i : Image) → Picks old.now.words i → HasRecords opens_then i
+  records_there i picked = record {
+    each = λ m q there k of.
+        let its = are_then.pool m q there in
+        let place = open_record_place n q.pool k its.slot its.known (open_on_device n q.pool q.before its) of in
+        let low = place.low in
+        (ready.tables.each k (inr (omega arith)) place.high).each (i k) (picked.each k) ∙ records_then.each m q there k of;
+  }
+
+  idle_there : (i : Image) → Picks old.now.words i → is_idle_gate (i DAEMON_LOG) ≡ true
+  idle_there = ready_idle size w memory old ready
+
+  -- with its words masked too each image stands for the world
+  world_there : (i : Image) → Picks old.now.words i → idle_world_of size (masked_image mask_then i) ≡ Some w.stored
+  world_there i picked =
+      idle_world_begun size w.stored number o opens opens_then more i are_then (records_there i picked) (λ k mine. (idle.single k mine).each (i k) (picked.each k))
+      (λ k v is. unnamed_idle i k (idle_there i picked))
+      (ap (λ (m : Write). idle_world_of size (masked_image m i)) (sym mask_was) ∙ ready.settled.stands (masked_image ready.mask i) (Picks-masked ready.mask old.now.words i picked))
+
+  -- ---- the call
+
+  abbrev By : ℕ → ℕ → Type 0
+  By = written (only gate RUNNING_GATE)
+
+  -- what changes is the gate alone
+  not_gate : (k v : ℕ) → is_in_log gate k ≡ false → By k v → ⊥
+  not_gate k v outside wrote =
+      let here : k ≡ gate = only_at gate RUNNING_GATE k v wrote in
+      let it : true ≡ false = sym (gate_inside n number k here) ∙ outside in
+      cc
+
+  -- which is none of another's words
+  off : (k v : ℕ) → By k v → ready.mask k ≡ None
+  off k v wrote = ap ready.mask (only_at gate RUNNING_GATE k v wrote) ∙ gate_unmasked
+
+  begun_apart : (h : Held) (is : IsHeld w h ready.mask old.now.words) → IsApart n h (pool_held h is.rec is.who) By
+  begun_apart h is =
+      let a = others_apart w h ready.mask old.now.words is in
+      record {
+        log = λ k v wrote inside. a.log k v (off k v wrote) inside;
+        mine = λ k v wrote mine. a.mine k v (off k v wrote) mine;
+        records = λ k v wrote of. a.records k v (off k v wrote) of;
+      }
+
+  abbrev begun_transaction : Transaction
+  begun_transaction = record { client = client; depth = 1; units = 0; now = may.graph; laters = [] }
+
+  module _ (fault : Option HostFault) (new : State) (persists : Persists (only gate RUNNING_GATE) fault old new) (runs : Runs g (begun gate) [] now nothing fault old new) where
+    abbrev c : Changes By fault old new
+    c = persists.changes
+
+    from_same : (j : Image) (from : HasOrigin By old.now.words j) (k : ℕ) → is_in_log gate k ≡ false → pool_mine n at k ≡ false → j k ≡ from.before k
+    from_same j from k outside other = elim (from.from.each k) [ inl same ↦ same | inr wrote ↦ absurd (not_gate k (j k) outside wrote) ]
+
+    idle_of : (j : Image) (from : HasOrigin By old.now.words j) → is_idle_gate (j DAEMON_LOG) ≡ true
+    idle_of j from =
+        idle_now size w.stored number o opens opens_then more are_then from.before j (idle_there from.before from.picked) (from_same j from) (records_there from.before from.picked) (world_there from.before from.picked)
+
+    world_of_left : (j : Image) → HasOrigin By old.now.words j → idle_world_of size (masked_image mask_then j) ≡ Some w.stored
+    world_of_left j from =
+        world_now size w.stored number o opens opens_then more are_then from.before j (idle_there from.before from.picked) (from_same j from) (records_there from.before from.picked) (world_there from.before from.picked)
+
+    -- each image is left with all of them open
+    left_open : (j : Image) → SettlesTo g gate now j → HasOrigin By old.now.words j → AreLeftOpen n opens_then j
+    left_open j settles from =
+        let gate_idle = idle_of j from in
+        left_more number o opens opens_then more n j
+        (left_all w memory.held ready.mask old.now.words ready.held j (λ m h there under.
+        left_apart w h ready.mask old.now.words under.is By (begun_apart h under.is) ready.tables j from (names_none_idle ready.mask j gate_idle)))
+        (record {
+          unnamed = λ k v is. unnamed_idle j k gate_idle;
+          records = (records_now size w.stored number o opens opens_then more are_then from.before j (idle_there from.before from.picked) (from_same j from) (records_there from.before from.picked)
+              (world_there from.before from.picked)).each number o more.here;
+          settles = settles;
+        })
+
+    image_stands : (j : Image) → SettlesTo g gate now j → HasOrigin By old.now.words j → (world_of size j ≡ Some w.stored) × RefusesNone j
+    image_stands j settles from =
+        left_stands size w.stored number o opens opens_then more are_then from.before j (idle_there from.before from.picked) (from_same j from) (records_there from.before from.picked)
+        (world_there from.before from.picked) (left_open j settles from)
+
+    all_moments : (next : World) → Leaves (Silently (StandsBetween size w next)) old new
+    all_moments next =
+        Leaves-weaker (Silently (λ image. SettlesTo g gate now image × HasOrigin By old.now.words image)) (Silently (StandsBetween size w next)) old new
+        (λ bytes image m. (m.0, let both = image_stands image m.1.0 m.1.1 in (inl both.0, both.1)))
+        (Leaves-from (SettlesTo g gate now) By fault old new c runs.moments)
+
+    module _ (done : fault ≡ None) (placed_there : number < length memory.held) where
+      changed : Changes By None old new
+      changed = subst (λ (f : Option HostFault). Changes By f old new) done c
+
+      before_logs : (k : ℕ) → k < tables_end n → is_in_log gate k ≡ false
+      before_logs k below = outside_log gate k (inl (omega arith))
+
+      in_frames : (k : ℕ) → frames_at n ≤ k → is_in_log gate k ≡ false
+      in_frames k above = let few = known in outside_log gate k (inr (omega arith))
+
+      kept : (k : ℕ) → is_in_log gate k ≡ false → reads new.now.words k ≡ now k
+      kept k outside = reads_kept By old new k changed (λ v. not_gate k v outside)
+
+      -- masked, each image stands for the world
+      settled_begun : IsSettled size w.stored (masked mask_then new.now.words)
+      settled_begun = record {
+        stands = λ image picked.
+            let u = Picks-unmasked mask_then new.now.words image picked in
+            ap (idle_world_of size) u.is ∙ world_of_left u.under (origin By old.now.words new.now.words u.under (Changes-now By fault old new c) u.picked);
+        idle = λ v had.
+            (gate_kept By fault old new c (λ x. not_gate DAEMON_LOG x (before_logs DAEMON_LOG (omega arith))) (ready_gate size w memory old ready)).each v
+            (subst (λ (x : Cell). Has (values x) v) (masked-elsewhere mask_then new.now.words DAEMON_LOG (masks_below n opens_then mask_then are_then masks_then DAEMON_LOG (omega arith))) had);
+      }
+
+      single_still : (k : ℕ) → frames_at n ≤ k → (x : Option ℕ) → mask_then k ≡ x → HasOnly (masked_cell x (new.now.words k)) (masked_cell x (new.now.words k)).newest
+      single_still k above None none =
+          let was = ready.rest.each k above in
+          let one = subst (λ (x : Cell). HasOnly x x.newest) (masked-elsewhere ready.mask old.now.words k (masked_still k none)) was in
+          HasOnly-own (new.now.words k) (now k) (HasOnly-kept By fault old new k (now k) c (λ v. not_gate k v (in_frames k above)) one)
+      single_still k above (Some v) is = record { each = λ y had. elim had [ inl e ↦ e | inr none ↦ absurd none ] }
+
+      rest_begun : HasDurableFrames n (masked mask_then new.now.words)
+      rest_begun = record { each = λ k above. single_still k above (mask_then k) refl }
+
+      -- its own log counts nothing masked, and each other what it did
+      other_idle : (other : ℕ) → is_in_log gate other ≡ false → open_mask n p now other ≡ None → HasIdleGate other (masked ready.mask old.now.words) → HasIdleGate other (masked mask_then new.now.words)
+      other_idle other outside none idle_was = record {
+        each = λ v had.
+            values_under (λ (x : ℕ). is_idle_gate x ≡ true) (ready.mask other) (old.now.words other) (new.now.words other)
+            (λ was. (idle_kept other By fault old new c (λ x wrote. absurd (not_gate other x outside wrote)) (record { each = was })).each) idle_was.each v
+            (subst (λ (x : Option ℕ). Has (values (masked_cell x (new.now.words other))) v) (masks_elsewhere number o opens opens_then more n mask_then ready.mask masks_then ready.held.masks other none) had);
+      }
+
+      logs_begun : HasIdleLogs n w.clients (masked mask_then new.now.words)
+      logs_begun = record {
+        each = λ whose number_of low few there. elim (cases_eq (CLIENT_LOGS * whose + number_of) number) [
+          | inl own ↦
+              let here : gate ≡ layouts.log_at n whose number_of = omega arith in
+              subst (λ (k : ℕ). HasIdleGate k (masked mask_then new.now.words)) here
+              (record {
+                each = λ v had.
+                    elim (subst (λ (x : Cell). Has (values x) v) (masked-there mask_then new.now.words gate CLOSED_GATE (masks_of_gate n opens_then mask_then are_then masks_then number o more.here)) had) [
+                      | inl is ↦ ap is_idle_gate is
+                      | inr nothing ↦ absurd nothing
+                    ];
+              })
+          | inr apart ↦
+              let other = layouts.log_at n whose number_of in
+              let outside : is_in_log gate other ≡ false = outside_log gate other (elim (cases_lt other gate) [ inl before ↦ inl before | inr behind ↦ inr (omega arith) ]) in
+              other_idle other outside
+              (mask_of_others n p now other outside (mine_behind n at other (omega arith))
+              (false_from_ne_true (is_open_record p other) (λ of. let place = open_record_place n p other within known on_device of in let high = place.high in absurd (omega arith))))
+              (ready.logs.each whose number_of low few there)
+        ];
+      }
+
+      -- ---- what is held then
+
+      abbrev begun_held : Held
+      begun_held = begins_as client name slot at n number
+
+      abbrev all : List (Option Held)
+      all = set memory.held number (Some begun_held)
+
+      abbrev next : World
+      next = record w { transactions = with_open name (Some begun_transaction) w.transactions }
+
+      held_begun : IsHeld next begun_held mask_then new.now.words
+      held_begun = record {
+        rec = may.rec;
+        who = may.who;
+        before = now;
+        undone = may.graph;
+        transaction = begun_transaction;
+        is = open_there name w.transactions (Some begun_transaction);
+        client = refl;
+        units = refl;
+        present = present;
+        owner = vacant.whose;
+        gate = refl;
+        name = may.name_is;
+        stored = pool_graph;
+        count = pool_count;
+        pool = opened;
+        records = λ k of. let place = open_record_place n p k within known on_device of in kept k (before_logs k place.high);
+        running = IsOpenOn-begun n size at w.stored.types now gate may.graph old new ground idle graph_now (subst (λ (f : Option HostFault). Runs g (begun gate) [] now nothing f old new) done runs);
+        masked = masks_then.has number o more.here;
+      }
+
+      other_held : (m : ℕ) (h : Held) → held_under memory.held m ≡ Some h → IsHeldUnder next opens_then mask_then new.now.words m h
+      other_held m h there =
+          let under = ready.held.each m h there in
+          let opened_then = more.same m (other_number w memory.held ready.mask old.now.words ready.held number begun_held begun_transaction placed_there vacant.free vacant.shut m h there) ∙ under.opened in
+          still_under w next h ready.mask mask_then old new under.is
+          (keeps_others w memory.held ready.mask old.now.words ready.held number begun_held begun_transaction placed_there vacant.free vacant.shut m h there)
+          By (begun_apart h under.is) changed (masks_then.has m (open_held h under.is.rec under.is.who under.is.before) opened_then) opens_then m under.number_is opened_then
+
+      holds_begun : Holds next all mask_then new.now.words
+      unfolding held_begun
+      holds_begun =
+          Holds-more w memory.held ready.mask old.now.words ready.held number begun_held begun_transaction placed_there vacant.free vacant.shut mask_then new.now.words opens_then are_then masks_then
+          (record { is = held_begun; number_is = refl; opened = more.here }) other_held (λ m apart none. more.same m apart ∙ none)
+
+      sessions_begun : HasSessions next all (entered client slot memory.sessions)
+      sessions_begun =
+          HasSessions-more w memory.held ready.mask old.now.words ready.held number begun_held begun_transaction placed_there vacant.free vacant.shut memory.sessions ready.sessions vacant.fits vacant.unheld
+          client refl refl
+
+      -- and its pool is known no more
+      knows_begun : KnowsPools n (set memory.judged slot None) all (reads new.now.words)
+      knows_begun =
+          KnowsPools-begun n memory.judged memory.held number begun_held now (reads new.now.words)
+          (KeepsPools-begun n number RUNNING_GATE old new known (subst (λ (f : Option HostFault). Persists (only gate RUNNING_GATE) f old new) done persists)) ready.knows
+
+      ready_begun : IsReady size next (record { frames = memory.frames; held = all; sessions = entered client slot memory.sessions; judged = set memory.judged slot None }) new
+      ready_begun = record {
+        mask = mask_then;
+        settled = settled_begun;
+        tables = HasDurableTables-kept n By fault old new c (λ k v below. not_gate k v (before_logs k below)) ready.tables;
+        clients = λ whose low. owner_of-same (reads new.now.words) now whose low (λ k from to. kept k (before_logs k (omega arith))) ∙ ready.clients whose low;
+        frames = ready.frames;
+        shelf = c.shelf ∙ ready.shelf;
+        held = holds_begun;
+        sessions = sessions_begun;
+        rest = rest_begun;
+        logs = logs_begun;
+        knows = knows_begun;
+      }
+
+    begun_world : after w (commands.Begin client name) ≡ record w { transactions = with_open name (Some begun_transaction) w.transactions }
+    unfolding after
+    begun_world =
+        let graph : graph_at_begin w name ≡ may.graph = ap (λ (o : Option Graph). unwrap_or o empty_graph) pool_graph in
+        ap₂ (λ (x : Graph) (o : Option Transaction). record w { transactions = with_open name (transactions.begun client x o) w.transactions }) graph vacant.shut
+
+    pub Applies-begun : (behind : Memory) → (fault ≡ None → number < length memory.held)
+        → (fault ≡ None → behind ≡ record { frames = memory.frames; held = set memory.held number (Some (begins_as client name slot at n number)); sessions = entered client slot memory.sessions; judged = set memory.judged slot None })
+        → Applies size w (after w (commands.Begin client name)) behind fault old new
+    Applies-begun behind placed_there is =
+        subst (λ (v : World). Applies size w v behind fault old new) (sym begun_world)
+        (record {
+          moments = all_moments (record w { transactions = with_open name (Some begun_transaction) w.transactions });
+          quiet = Changes-said By fault old new c;
+          ready = λ done. subst (λ (m : Memory). IsReady size (record w { transactions = with_open name (Some begun_transaction) w.transactions }) m new) (sym (is done)) (ready_begun done (placed_there done));
+          rests = c.rests;
+          script = c.script;
+        })
+
+-- ---- in the lowest closed log, on as many frames as the daemon holds
+
+pub Applies-begins : (size : ℕ) (w : World) (memory behind : Memory) (client : ℕ) (name : List ℕ) (slot number : ℕ) (at : List (ℕ × Puddle)) (fault : Option HostFault) (old new : State) → slot < POOL_RECORDS → client < CLIENTS
+    → (fault ≡ None → number < length memory.held) → slot < length memory.sessions → IsLogOf client number → Some number ≡ first_closed (reads old.now.words) memory.frames client
+    → session_in memory.sessions slot ≡ None → w.transactions name ≡ None
+    → (fault ≡ None → behind ≡ record {
+      frames = memory.frames;
+      held = set memory.held number (Some (begins_as client name slot at memory.frames number));
+      sessions = entered client slot memory.sessions;
+      judged = set memory.judged slot None;
+    })
+    → Persists (only (log_number_at memory.frames number) RUNNING_GATE) fault old new
+    → ((pool : List (ℕ × Puddle)) (before : Image) → IsPlaced memory.frames pool → IsIdle (pool_ground memory.frames pool) (log_number_at memory.frames number) before old.now.words
+    → Runs (pool_ground memory.frames pool) (begun (log_number_at memory.frames number)) [] before nothing fault old new)
+    → IsReady size w memory old → MayBegin memory.frames client name (reads old.now.words) slot at → Applies size w (after w (commands.Begin client name)) behind fault old new
+Applies-begins size w memory behind client name slot number at fault old new below few within fits of found unheld shut is persists runs ready may =
+    let low = of.low in
+    let high = of.high in
+    let vacant : IsVacant w memory client name slot number = record {
+      slot_below = below;
+      known = omega arith;
+      whose = (let e : number / CLIENT_LOGS ≡ client = omega arith in e);
+      fits = fits;
+      free = log_free size w memory old ready client memory.frames number ready.frames of found;
+      unheld = unheld;
+      shut = shut;
+    } in
+    subst (λ (F : ℕ).
+    (fault ≡ None → behind ≡ record { frames = memory.frames; held = set memory.held number (Some (begins_as client name slot at F number)); sessions = entered client slot memory.sessions; judged = set memory.judged slot None })
+    → Persists (only (log_number_at F number) RUNNING_GATE) fault old new
+    → ((pool : List (ℕ × Puddle)) (before : Image) → IsPlaced F pool → IsIdle (pool_ground F pool) (log_number_at F number) before old.now.words
+    → Runs (pool_ground F pool) (begun (log_number_at F number)) [] before nothing fault old new)
+    → MayBegin F client name (reads old.now.words) slot at → Applies size w (after w (commands.Begin client name)) behind fault old new)
+    (sym ready.frames)
+    (λ is persists runs may.
+    Applies-begun size w memory old ready client name slot number at vacant may fault new persists
+    (runs at (reads old.now.words) (placed size w memory old ready client name slot number at vacant may) (idle size w memory old ready client name slot number at vacant may)) behind within is)
+    is persists runs may

@@ -1,0 +1,19 @@
+-- What the line of a change is answered.
+use Rattle.std.proofs.Common.{◌≡◌, ℕ, List, Some, None, refl, sym}
+use Rattle.pud_defs.specs.declared.machine.Command.TheVariants as commands
+use Rattle.pud_defs.specs.declared.machine.Reply.TheVariants as replies
+use Rattle.pud_defs.specs.World.{World}
+use Rattle.pud_defs.specs.Step.{refusal_of, answer_by}
+use Rattle.pud_defs.specs.Step.Answer.{of_reply}
+use Rattle.pud_defs.proofs.Steps.{answer_is_ok}
+use Rattle.pool_transaction.specs.declared.changing.Change.{Change}
+use Rattle.pool_transaction.specs.declared.changing.Change.TheVariants as changes
+use Rattle.pool_transaction.specs.Changing.{line_of}
+
+module _ (client : ℕ) (name : List ℕ) where
+  -- what a change is answered that is not refused
+  pub change_answer : (w : World) (change : Change) → refusal_of w (line_of change client name) ≡ None → of_reply replies.Ok ≡ answer_by w (Some (line_of change client name))
+  change_answer w (changes.Set s f x) free = sym (answer_is_ok w (commands.Set client name s f x) refl refl free)
+  change_answer w (changes.Later s f x) free = sym (answer_is_ok w (commands.Later client name s f x) refl refl free)
+  change_answer w (changes.Root s) free = sym (answer_is_ok w (commands.Root client name s) refl refl free)
+  change_answer w (changes.Free s) free = sym (answer_is_ok w (commands.Free client name s) refl refl free)

@@ -1,0 +1,466 @@
+-- A transaction that is held ends, committed or undone: what each image stands for that may be left meanwhile, and the daemon that is ready behind it.
+use Rattle.std.proofs.Common.{◌≡◌, ◌≢◌, ◌⊎◌, inl, inr, ℕ, ◌+◌, ◌*◌, ◌<◌, ◌≤◌, true, false, cond, List, Option, Some, None, refl, sym, ap, subst, ◌∙◌, arith}
+use Rattle.std.specs.Prelude.{unwrap_or, set}
+use Rattle.std.proofs.lemmas.Bool.{cases_Bool, cases_eq, cases_lt, cond-true, false_from_ne_true}
+use Rattle.std.proofs.lemmas.Option.{none-some, same_Some}
+use Rattle.pm_model.specs.declared.host.HostFault.{HostFault}
+use Rattle.pm_model.specs.Words.{Has, values, Cell, reads, Picks, HasOnly}
+use Rattle.pm_model.specs.Moments.{State}
+use Rattle.pm_model.specs.Changes.{Footprint, Write, Changes, Leaves, Silently}
+use Rattle.pm_model.specs.Masks.{masked_cell, masked, masked_state, masked_image}
+use Rattle.pm_model.proofs.Words.{HasOnly-own, HasOnly-newest}
+use Rattle.pm_model.proofs.Changes.{Changes-said, Changes-now, HasOnly-kept}
+use Rattle.pm_model.proofs.Leaves.{HasOrigin, origin, Leaves-weaker}
+use Rattle.pm_model.proofs.Masks.{masked-elsewhere, masked_image-there, Picks-masked, Picks-unmasked, HasOnly-own_masked, Changes-masked}
+use Rattle.pud_defs.specs.declared.layout.TheConstants.{DAEMON_LOG, CLIENT_LOGS}
+use Rattle.pud_defs.specs.declared.log_words.TheConstants.{CLOSED_GATE}
+use Rattle.pud_defs.specs.Image.{Image}
+use Rattle.pud_defs.specs.Layout as layouts
+use Rattle.pud_defs.specs.Layout.{tables_end, frames_at}
+use Rattle.pud_defs.specs.Entries.{is_idle_gate}
+use Rattle.pud_defs.specs.PoolChanges.{pool_named}
+use Rattle.pud_defs.specs.Replay.{is_in_log}
+use Rattle.pud_defs.specs.Spaces.{is_closed_log}
+use Rattle.pud_defs.specs.Settled.{log_number_at}
+use Rattle.pud_defs.specs.Graph.{Graph, graph_of}
+use Rattle.pud_defs.specs.Stored.{stored_in}
+use Rattle.pud_defs.specs.Tables.{Pool}
+use Rattle.pud_defs.specs.Transactions.{with_open}
+use Rattle.pud_defs.specs.World.{StoredWorld, World, world_of, idle_world_of, closed}
+use Rattle.pud_defs.proofs.ClosedLogs.{closed_by_gate}
+use Rattle.pud_defs.proofs.Replay.{outside_log}
+use Rattle.pud_defs.proofs.Spaces.{owner_of-same}
+use Rattle.batch.specs.Batches.{HasIdleGate}
+use Rattle.batch.specs.Worlds.{IsSettled}
+use Rattle.batch.proofs.Tables.{HasDurableTables-kept, reads_kept}
+use Rattle.word_transaction.specs.Ground.{Ground}
+use Rattle.word_transaction.specs.Running.{ByTransaction, SettlesTo, Closes, Ends}
+use Rattle.word_transaction.proofs.Ended.{beside_transaction}
+use Rattle.hybrid_tx.specs.Grounds.{pool_mine, pool_ground}
+use Rattle.hybrid_tx.specs.Masks.{OpenPool, is_open_record, IsOpenPool, IsLeftOpen}
+use Rattle.hybrid_tx.specs.ManyOpen.{OpenTransaction, Opens, with_transaction, open_masks, AreOpenPools, MasksAll, HasRecords, AreLeftOpen, IsOneMore}
+use Rattle.hybrid_tx.proofs.ManyIdle.{one_put, others_records, opens_more, records_more, left_more, masks_elsewhere, idle_world_ended}
+use Rattle.hybrid_tx.proofs.ManyMasks.{masks_below, masks_beside_log, masks_of_log, masks_of_mine, masks_same, open_masks_all}
+use Rattle.hybrid_tx.proofs.Opening.{stored_in-mine}
+use Rattle.hybrid_tx.proofs.OpenIdle.{unnamed_idle, IsOpenPool-same}
+use Rattle.hybrid_tx.proofs.OpenMasks.{open_record_place, mine_behind, mask_of_others}
+use Rattle.hybrid_tx.proofs.OpenPools.{open_on_device}
+use Rattle.hybrid_tx.proofs.OpenWorlds.{world_with_many, none_refused_with_many}
+use Rattle.ready_daemon.specs.Memory.{Held, Memory, held_under}
+use Rattle.ready_daemon.specs.Held.{pool_held, open_held, IsHeld, IsHeldUnder, HasIdleLogs}
+use Rattle.ready_daemon.specs.KnownPools.{KnowsPools}
+use Rattle.ready_daemon.specs.Ready.{IsReady, RefusesNone, StandsBetween, Applies}
+use Rattle.ready_daemon.proofs.Beside.{Leaves-from, names_none_idle, records_all, opened_as, own_apart, left_apart, ready_idle}
+use Rattle.ready_daemon.proofs.Beneath.{ready_gate, gate_kept, idle_kept}
+use Rattle.pool_transaction.proofs.HeldRuns.{stands_within}
+use Rattle.ready_daemon.proofs.InTurn.{held_in_turn}
+use Rattle.ready_daemon.proofs.JudgedKept.{HasGraphIn}
+use Rattle.ready_daemon.proofs.JudgedOpen.{KnowsPools-ended, KeepsPools-held, graph_held_in}
+use Rattle.ready_daemon.proofs.PoolsBeside.{one_slot}
+use Rattle.ready_daemon.proofs.OthersHeld.{one_of_all, others_are, others_mask, holds_others, sessions_others}
+use Rattle.ready_daemon.proofs.TablesBeside.{types_read}
+
+-- ---- one image
+
+-- images that differ in the words of one open transaction alone, its log's and its frames', where the daemon log of the first counts nothing
+module _ (size : ℕ) (s : StoredWorld) (number : ℕ) (o : OpenTransaction) (others opens : Opens) (more : IsOneMore number o others opens) (are : AreOpenPools s.frames opens) (i j : Image)
+    (idle : is_idle_gate (i DAEMON_LOG) ≡ true) (same : (k : ℕ) → is_in_log (log_number_at s.frames number) k ≡ false → pool_mine s.frames o.pool.at k ≡ false → j k ≡ i k)
+    (records : HasRecords opens i) (world : idle_world_of size (masked_image (open_masks s.frames opens) i) ≡ Some s) where
+  abbrev F : ℕ
+  F = s.frames
+
+  abbrev gate : ℕ
+  gate = log_number_at F number
+
+  abbrev m : Write
+  m = open_masks F opens
+
+  masks : MasksAll F opens m
+  masks = open_masks_all F opens i are records
+
+  -- masked they are the same
+  masked_same : masked_image m j ≡ masked_image m i
+  masked_same =
+      let each : (k : ℕ) → masked_image m j k ≡ masked_image m i k = λ k. elim (cases_Bool (is_in_log gate k)) [
+        | inl inside ↦ let v = masks_of_log F opens m are masks number o more.here k inside in masked_image-there m j k v.0 v.1 ∙ sym (masked_image-there m i k v.0 v.1)
+        | inr outside ↦ elim (cases_Bool (pool_mine F o.pool.at k)) [
+          | inl mine ↦
+              let is = masks_of_mine F opens m are masks number o more.here k mine in
+              masked_image-there m j k (o.before k) is ∙ sym (masked_image-there m i k (o.before k) is)
+          | inr other ↦ ap (unwrap_or (m k)) (same k outside other)
+        ]
+      ] in
+      λ q k. each k q
+
+  before_logs : (k : ℕ) → k < tables_end F → j k ≡ i k
+  before_logs k below = same k (outside_log gate k (inl (omega arith))) (mine_behind F o.pool.at k (omega arith))
+
+  pub idle_now : is_idle_gate (j DAEMON_LOG) ≡ true
+  idle_now = ap is_idle_gate (before_logs DAEMON_LOG (omega arith)) ∙ idle
+
+  pub records_now : HasRecords opens j
+  records_now = record {
+    each = λ n q there k of.
+        let opened = are.pool n q there in
+        let place = open_record_place F q.pool k opened.slot opened.known (open_on_device F q.pool q.before opened) of in
+        before_logs k place.high ∙ records.each n q there k of;
+  }
+
+  pub world_now : idle_world_of size (masked_image m j) ≡ Some s
+  world_now = ap (idle_world_of size) masked_same ∙ world
+
+  -- where it is left with each of them open it stands for the world, and no log is refused in it
+  pub left_stands : AreLeftOpen F opens j → (world_of size j ≡ Some s) × RefusesNone j
+  left_stands left = (world_with_many size F s opens j refl are left world_now, record { each = none_refused_with_many size F s opens j refl are left world_now })
+
+  -- and where its log is closed and its frames have these values it does so, idle, with the words of the others masked
+  pub ended_stands : is_closed_log j gate ≡ true → ((k : ℕ) → pool_mine F o.pool.at k ≡ true → j k ≡ o.before k) → idle_world_of size (masked_image (open_masks F others) j) ≡ Some s
+  ended_stands shut mine = idle_world_ended size s number o others opens more j are records_now mine (λ k v is. unnamed_idle j k idle_now) shut world_now
+
+-- ---- the calls that end one
+
+-- Each image left meanwhile settles to the values from the beginning or to others. Without a fault each own word has its other value and no other, and
+-- the log is closed.
+pub record EndsBy (g : Ground) (at : ℕ) (before after : Image) (fault : Option HostFault) (old new : State) : Type 0 where
+  pub changes : Changes (ByTransaction g at) fault old new
+  pub moments : Leaves (Silently (λ image. SettlesTo g at before image ⊎ SettlesTo g at after image)) old new
+  pub durable : fault ≡ None → (k : ℕ) → g.mine k ≡ true → HasOnly (new.now.words k) (after k)
+  pub closed : fault ≡ None → HasOnly (new.now.words at) CLOSED_GATE
+
+-- undone
+pub EndsBy-closes : (g : Ground) (at : ℕ) (before : Image) (fault : Option HostFault) (old new : State) → Closes g at before fault old new → EndsBy g at before before fault old new
+EndsBy-closes g at before fault old new c = record {
+  changes = c.changes;
+  moments = Leaves-weaker (Silently (SettlesTo g at before)) (Silently (λ image. SettlesTo g at before image ⊎ SettlesTo g at before image)) old new (λ bytes image m. (m.0, inl m.1)) c.moments;
+  durable = c.durable;
+  closed = c.closed;
+}
+
+-- the own words as in one image, and all others as in another
+abbrev pub mixed : Ground → (after before : Image) → Image
+mixed g after before k = cond (g.mine k) (after k) (before k)
+
+SettlesTo-mixed : (g : Ground) (at : ℕ) (after before image : Image) → SettlesTo g at after image → SettlesTo g at (mixed g after before) image
+SettlesTo-mixed g at after before image s = record { es = s.es; spells = s.spells; own = s.own; settled = λ k mine. s.settled k mine ∙ sym (cond-true _ _ _ mine) }
+
+-- committed: the own words alone matter of the values
+pub EndsBy-ends : (g : Ground) (at : ℕ) (before after : Image) (fault : Option HostFault) (old new : State) → Ends g at before after fault old new → EndsBy g at before (mixed g after before) fault old new
+EndsBy-ends g at before after fault old new e = record {
+  changes = e.changes;
+  moments = Leaves-weaker (Silently (λ image. SettlesTo g at before image ⊎ SettlesTo g at after image)) (Silently (λ image. SettlesTo g at before image ⊎ SettlesTo g at (mixed g after before) image)) old new
+      (λ bytes image m. (m.0, elim m.1 [ inl was ↦ inl was | inr now ↦ inr (SettlesTo-mixed g at after before image now) ])) e.moments;
+  durable = λ none k mine. subst (λ (v : ℕ). HasOnly (new.now.words k) v) (sym (cond-true _ _ _ mine)) (e.durable none k mine);
+  closed = e.closed;
+}
+
+-- ---- the daemon
+
+-- what is in memory once this one is held no more: its session has ended, and its pool's puddles are known again
+abbrev pub ended : (number : ℕ) → Held → Memory → Memory
+ended number held memory = record memory { held = set memory.held number None; sessions = set memory.sessions held.slot None; judged = set memory.judged held.slot (Some held.at) }
+
+-- what is open under another number
+pub record IsOpenElsewhere (number : ℕ) (opens : Opens) (m : ℕ) (r : OpenTransaction) : Type 0 where
+  pub apart : m ≢ number
+  pub was : opens m ≡ Some r
+
+module _ (size : ℕ) (w : World) (memory : Memory) (number : ℕ) (held : Held) (old : State) (ready : IsReady size w memory old) (there : held_under memory.held number ≡ Some held) where
+  abbrev n : ℕ
+  n = w.stored.frames
+
+  abbrev opens : Opens
+  opens = ready.held.opens
+
+  abbrev under : IsHeldUnder w opens ready.mask old.now.words number held
+  under = ready.held.each number held there
+
+  abbrev pub is_held : IsHeld w held ready.mask old.now.words
+  is_held = under.is
+
+  abbrev pool : OpenPool
+  pool = pool_held held is_held.rec is_held.who
+
+  abbrev before : Image
+  before = is_held.before
+
+  abbrev pub own : OpenTransaction
+  own = open_held held is_held.rec is_held.who before
+
+  abbrev others : Opens
+  others = with_transaction number None opens
+
+  abbrev pub rest : Write
+  rest = open_masks n others
+
+  abbrev g : Ground
+  g = pool_ground n held.at
+
+  abbrev may : Footprint
+  may = ByTransaction g held.log.at
+
+  gate_is : held.log.at ≡ log_number_at n number
+  gate_is = is_held.gate ∙ ap (log_number_at n) under.number_is
+
+  pub more : IsOneMore number own others opens
+  more = one_of_all w memory.held ready.mask old ready.held number held there
+
+  rest_are : AreOpenPools n others
+  rest_are = others_are w memory.held ready.mask old ready.held number held there
+
+  pub rest_masks : MasksAll n others rest
+  rest_masks = others_mask w memory.held ready.mask old ready.held number held there
+
+  records_read : HasRecords opens (reads old.now.words)
+  records_read = records_all w memory.held ready.mask old.now.words ready.held
+
+  -- the records of all are in each image as they were at the beginning of each
+  pub records_there : (i : Image) → Picks old.now.words i → HasRecords opens i
+  records_there i picked = record {
+    each = λ m r has k of.
+        let opened = ready.held.are.pool m r has in
+        let place = open_record_place n r.pool k opened.slot opened.known (open_on_device n r.pool r.before opened) of in
+        let low = place.low in
+        (ready.tables.each k (inr (omega arith)) place.high).each (i k) (picked.each k) ∙ records_read.each m r has k of;
+  }
+
+  pub idle_there : (i : Image) → Picks old.now.words i → is_idle_gate (i DAEMON_LOG) ≡ true
+  idle_there = ready_idle size w memory old ready
+
+  -- with the words of all masked, each stands for the world
+  pub mask_is : ready.mask ≡ open_masks n opens
+  mask_is = masks_same n opens ready.mask (open_masks n opens) ready.held.masks (open_masks_all n opens (reads old.now.words) ready.held.are records_read)
+
+  pub world_there : (i : Image) → Picks old.now.words i → idle_world_of size (masked_image (open_masks n opens) i) ≡ Some (closed w)
+  world_there i picked =
+      ap (λ (m : Write). idle_world_of size (masked_image m i)) (sym mask_is) ∙ ready.settled.stands (masked_image ready.mask i) (Picks-masked ready.mask old.now.words i picked)
+
+  below_mine : (k : ℕ) → k < tables_end n → pool_mine n held.at k ≡ false
+  below_mine k below = mine_behind n held.at k (omega arith)
+
+  below_log : (k : ℕ) → k < tables_end n → is_in_log held.log.at k ≡ false
+  below_log k below = let gate = is_held.gate in outside_log held.log.at k (inl (omega arith))
+
+  above_log : (k : ℕ) → frames_at n ≤ k → is_in_log held.log.at k ≡ false
+  above_log k above = let gate = is_held.gate in let few = is_held.pool.known in outside_log held.log.at k (inr (omega arith))
+
+  not_below : (k v : ℕ) → k < tables_end n → may k v → ⊥
+  not_below k v below wrote = beside_transaction g held.log.at k v (below_log k below) (below_mine k below) wrote
+
+  record_below : (k : ℕ) → is_open_record pool k ≡ true → k < tables_end n
+  record_below k of = (open_record_place n pool k is_held.pool.slot is_held.pool.known (open_on_device n pool before is_held.pool) of).high
+
+  -- a word behind the tables that is none of its own is masked as it is with the words of the others alone
+  rest_same : (k : ℕ) → is_in_log held.log.at k ≡ false → pool_mine n held.at k ≡ false → tables_end n ≤ k → ready.mask k ≡ rest k
+  rest_same k outside other above =
+      masks_elsewhere number own others opens more n ready.mask rest ready.held.masks rest_masks k
+      (mask_of_others n pool before k (ap (λ (at : ℕ). is_in_log at k) (sym is_held.gate) ∙ outside) other
+      (false_from_ne_true (is_open_record pool k) (λ of. let high = record_below k of in absurd (omega arith))))
+
+  open_elsewhere : (m : ℕ) (r : OpenTransaction) → others m ≡ Some r → IsOpenElsewhere number opens m r
+  open_elsewhere m r has =
+      let apart : m ≢ number = λ same. none-some r (sym more.none ∙ ap others (sym same) ∙ has) in
+      record { apart = apart; was = more.same m apart ∙ has }
+
+  -- ---- an image that is left by its calls
+
+  module _ (j : Image) (f : HasOrigin may old.now.words j) where
+    from_same : (k : ℕ) → is_in_log held.log.at k ≡ false → pool_mine n held.at k ≡ false → j k ≡ f.before k
+    from_same k outside other = elim (f.from.each k) [ inl same ↦ same | inr wrote ↦ absurd (beside_transaction g held.log.at k (j k) outside other wrote) ]
+
+    from_number : (k : ℕ) → is_in_log (log_number_at n number) k ≡ false → pool_mine n held.at k ≡ false → j k ≡ f.before k
+    from_number k outside other = from_same k (ap (λ (at : ℕ). is_in_log at k) gate_is ∙ outside) other
+
+    idle_left : is_idle_gate (j DAEMON_LOG) ≡ true
+    idle_left = ap is_idle_gate (from_same DAEMON_LOG (below_log DAEMON_LOG (omega arith)) (below_mine DAEMON_LOG (omega arith))) ∙ idle_there f.before f.picked
+
+    record_left : (k : ℕ) → is_open_record pool k ≡ true → j k ≡ before k
+    record_left k of =
+        let below = record_below k of in
+        from_same k (below_log k below) (below_mine k below) ∙ (records_there f.before f.picked).each number own under.opened k of
+
+    -- the others are open in it
+    others_left : AreLeftOpen n others j
+    others_left = record {
+      each = λ m r has.
+          let x = open_elsewhere m r has in
+          let a = opened_as w memory.held ready.mask old.now.words ready.held m r x.was in
+          let u = ready.held.each m a.one a.there in
+          subst (λ (t : OpenTransaction). IsLeftOpen n t.pool t.before j) (same_Some (open_held a.one u.is.rec u.is.who u.is.before) r (sym u.opened ∙ x.was))
+          (left_apart w a.one ready.mask old.now.words u.is may (own_apart w memory.held ready.mask old.now.words ready.held number m held a.one there a.there (λ same. x.apart (sym same))) ready.tables j f
+          (names_none_idle ready.mask j idle_left));
+    }
+
+    -- and this one is, as if it had begun with the values to which it settles
+    own_left : (values : Image) → ((k : ℕ) → is_open_record pool k ≡ true → j k ≡ values k) → SettlesTo g held.log.at values j → IsLeftOpen n pool values j
+    own_left values records settles = record {
+      unnamed = λ k v is. unnamed_idle j k idle_left;
+      records = records;
+      settles = subst (λ (at : ℕ). SettlesTo g at values j) is_held.gate settles;
+    }
+
+  -- all, with this one as it is
+  all_before : with_transaction number (Some own) opens ≡ opens
+  all_before =
+      let put = one_put number own opens in
+      let each : (m : ℕ) → with_transaction number (Some own) opens m ≡ opens m = λ m. elim (cases_eq m number) [
+        | inl same ↦ ap (with_transaction number (Some own) opens) same ∙ put.here ∙ sym under.opened ∙ ap opens (sym same)
+        | inr apart ↦ put.same m apart ∙ sym (more.same m apart)
+      ] in
+      λ i m. each m i
+
+  pub world_before : (i : Image) → Picks old.now.words i → idle_world_of size (masked_image (open_masks n (with_transaction number (Some own) opens)) i) ≡ Some (closed w)
+  world_before i picked = ap (λ (all : Opens). idle_world_of size (masked_image (open_masks n all) i)) all_before ∙ world_there i picked
+
+  -- ---- other values of its frames
+
+  module _ (after : Image) (agrees : (k : ℕ) → pool_mine n held.at k ≡ false → after k ≡ before k) where
+    abbrev pub later : OpenTransaction
+    later = record { pool = pool; before = after }
+
+    -- all, with this one as if it had begun with them
+    abbrev pub all_later : Opens
+    all_later = with_transaction number (Some later) opens
+
+    pub later_more : IsOneMore number later others all_later
+    later_more = one_put number later opens
+
+    later_pool : IsOpenPool n pool after
+    later_pool = IsOpenPool-same n pool before after (λ k low high. agrees k (below_mine k high)) is_held.pool
+
+    later_are : AreOpenPools n all_later
+    later_are = opens_more number later others all_later later_more n rest_are under.number_is later_pool (λ m r has same.
+        let x = open_elsewhere m r has in
+        absurd (x.apart (ready.held.are.slots m number r own x.was under.opened same)))
+
+    later_records : (i : Image) → Picks old.now.words i → HasRecords all_later i
+    later_records i picked =
+        let records = records_there i picked in
+        records_more number later others all_later later_more i (others_records number own others opens more i records)
+        (λ k of. records.each number own under.opened k of ∙ sym (agrees k (below_mine k (record_below k of))))
+
+    pub later_masks : (i : Image) → Picks old.now.words i → MasksAll n all_later (open_masks n all_later)
+    later_masks i picked = open_masks_all n all_later i later_are (later_records i picked)
+
+    module _ (ps : List (List ℕ × Pool)) (stands : (i : Image) → Picks old.now.words i → idle_world_of size (masked_image (open_masks n all_later) i) ≡ Some (record w.stored { pools = ps }))
+        (kept : (name : List ℕ) → name ≢ held.name → pool_named name (record w.stored { pools = ps }) ≡ pool_named name w.stored)
+        (left : Graph) (graph : graph_of w.stored.types (stored_in n held.at after) ≡ Some left) (fault : Option HostFault) (new : State) (e : EndsBy g held.log.at before after fault old new) where
+      abbrev s : StoredWorld
+      s = record w.stored { pools = ps }
+
+      abbrev next : World
+      next = record w { stored = s; transactions = with_open held.name None w.transactions }
+
+      -- an image that settles to them stands for the next world
+      stands_after : (j : Image) → HasOrigin may old.now.words j → SettlesTo g held.log.at after j → (world_of size j ≡ Some s) × RefusesNone j
+      stands_after j f settles =
+          left_stands size s number later others all_later later_more later_are f.before j (idle_there f.before f.picked) (from_number j f) (later_records f.before f.picked) (stands f.before f.picked)
+          (left_more number later others all_later later_more n j (others_left j f) (own_left j f after (λ k of. record_left j f k of ∙ sym (agrees k (below_mine k (record_below k of)))) settles))
+
+      image_stands : (j : Image) → SettlesTo g held.log.at before j ⊎ SettlesTo g held.log.at after j → HasOrigin may old.now.words j → StandsBetween size w next j
+      image_stands j (inl settles) f = let both = stands_within size w memory held old number there ready j f settles in (inl both.0, both.1)
+      image_stands j (inr settles) f = let both = stands_after j f settles in (inr both.0, both.1)
+
+      all_moments : Leaves (Silently (StandsBetween size w next)) old new
+      all_moments =
+          let P = λ (image : Image). SettlesTo g held.log.at before image ⊎ SettlesTo g held.log.at after image in
+          Leaves-weaker (Silently (λ image. P image × HasOrigin may old.now.words image)) (Silently (StandsBetween size w next)) old new
+          (λ bytes image m. (m.0, image_stands image m.1.0 m.1.1)) (Leaves-from P may fault old new e.changes e.moments)
+
+      module _ (done : fault ≡ None) where
+        changed : Changes may None old new
+        changed = subst (λ (f : Option HostFault). Changes may f old new) done e.changes
+
+        changed_under : Changes may None (masked_state rest old) (masked_state rest new)
+        changed_under = Changes-masked rest may None old new changed
+
+        -- with the words of the others masked
+        ended_world : (j : Image) → Picks new.now.words j → idle_world_of size (masked_image rest j) ≡ Some s
+        ended_world j picked =
+            let f = origin may old.now.words new.now.words j (Changes-now may None old new changed) picked in
+            ended_stands size s number later others all_later later_more later_are f.before j (idle_there f.before f.picked) (from_number j f) (later_records f.before f.picked) (stands f.before f.picked)
+            (closed_by_gate j (log_number_at n number) (ap j (sym gate_is) ∙ (e.closed done).each (j held.log.at) (picked.each held.log.at)))
+            (λ k mine. (e.durable done k mine).each (j k) (picked.each k))
+
+        gate_idle : HasIdleGate DAEMON_LOG new.now.words
+        gate_idle = gate_kept may None old new changed (λ v. not_below DAEMON_LOG v (omega arith)) (ready_gate size w memory old ready)
+
+        settled_ended : IsSettled size s (masked rest new.now.words)
+        settled_ended = record {
+          stands = λ image picked. let u = Picks-unmasked rest new.now.words image picked in ap (idle_world_of size) u.is ∙ ended_world u.under u.picked;
+          idle = λ v had. gate_idle.each v (subst (λ (c : Cell). Has (values c) v) (masked-elsewhere rest new.now.words DAEMON_LOG (masks_below n others rest rest_are rest_masks DAEMON_LOG (omega arith))) had);
+        }
+
+        frames_single : (k : ℕ) → frames_at n ≤ k → HasOnly (masked rest new.now.words k) (masked rest new.now.words k).newest
+        frames_single k above = elim (cases_Bool (pool_mine n held.at k)) [
+          | inl mine ↦ HasOnly-own_masked rest new.now.words k (HasOnly-own (new.now.words k) (after k) (e.durable done k mine))
+          | inr other ↦
+              let outside = above_log k above in
+              let was = subst (λ (x : Option ℕ). HasOnly (masked_cell x (old.now.words k)) (masked_cell x (old.now.words k)).newest) (rest_same k outside other (omega arith)) (ready.rest.each k above) in
+              HasOnly-own (masked rest new.now.words k) (masked rest old.now.words k).newest
+              (HasOnly-kept may None (masked_state rest old) (masked_state rest new) k (masked rest old.now.words k).newest changed_under (λ v. beside_transaction g held.log.at k v outside other) was)
+        ]
+
+        -- its own log is closed, and each other as it was
+        own_idle : (at : ℕ) → held.log.at ≡ at → rest at ≡ None → HasIdleGate at (masked rest new.now.words)
+        own_idle at here none = record {
+          each = λ v had. ap is_idle_gate ((subst (λ (k : ℕ). HasOnly (new.now.words k) CLOSED_GATE) here (e.closed done)).each v (subst (λ (c : Cell). Has (values c) v) (masked-elsewhere rest new.now.words at none) had));
+        }
+
+        logs_ended : HasIdleLogs n w.clients (masked rest new.now.words)
+        logs_ended = record {
+          each = λ client number_of low few present.
+              let gate = layouts.log_at n client number_of in
+              let at : log_number_at n (CLIENT_LOGS * client + number_of) ≡ gate = omega arith in
+              elim (cases_eq (CLIENT_LOGS * client + number_of) number) [
+                | inl same ↦
+                    let known = is_held.pool.known in
+                    let here : log_number_at n number ≡ gate = ap (log_number_at n) (sym same) ∙ at in
+                    own_idle gate (gate_is ∙ here)
+                    (masks_beside_log n others rest rest_are rest_masks number gate more.none (omega (arith, known, under.number_is)) (record { low = omega (arith, here); high = omega (arith, here) }))
+                | inr apart ↦
+                    let its = gate_is in
+                    let outside : is_in_log held.log.at gate ≡ false = outside_log held.log.at gate (elim (cases_lt gate held.log.at) [ inl low ↦ inl low | inr high ↦ inr (omega arith) ]) in
+                    let other : pool_mine n held.at gate ≡ false = mine_behind n held.at gate (omega arith) in
+                    idle_kept gate may None (masked_state rest old) (masked_state rest new) changed_under (λ v wrote. absurd (beside_transaction g held.log.at gate v outside other wrote))
+                    (record {
+                      each = λ v had. (ready.logs.each client number_of low few present).each v (subst (λ (x : Option ℕ). Has (values (masked_cell x (old.now.words gate))) v) (sym (rest_same gate outside other (omega arith))) had);
+                    })
+              ];
+        }
+
+        -- its pool has a graph, and its puddles are known again
+        graph_ended : HasGraphIn n held.slot (reads new.now.words) held.at
+        graph_ended =
+            graph_held_in w held ready.mask old new is_held changed left (types_read size w memory old ready).types (held_in_turn size w memory old ready number held there)
+            (ap (graph_of w.stored.types) (stored_in-mine n held.at after (reads new.now.words) (λ k mine. HasOnly-newest (new.now.words k) (after k) (e.durable done k mine))) ∙ graph)
+
+        knows_ended : KnowsPools n (set memory.judged held.slot (Some held.at)) (set memory.held number None) (reads new.now.words)
+        knows_ended =
+            KnowsPools-ended n memory.judged memory.held number held (reads old.now.words) (reads new.now.words) there
+            (λ other h here same. one_slot w memory.held ready.mask old.now.words ready.held other number h held here there same)
+            (KeepsPools-held w held ready.mask old new is_held changed) graph_ended ready.knows
+
+        ready_ended : IsReady size next (ended number held memory) new
+        ready_ended = record {
+          mask = rest;
+          settled = settled_ended;
+          tables = HasDurableTables-kept n may None old new changed not_below ready.tables;
+          clients = λ client low.
+              owner_of-same (reads new.now.words) (reads old.now.words) client low (λ k from to. reads_kept may old new k changed (λ v. not_below k v (omega arith))) ∙ ready.clients client low;
+          frames = ready.frames;
+          shelf = e.changes.shelf ∙ ready.shelf;
+          held = holds_others w memory.held ready.mask old ready.held number held there ps kept new changed;
+          sessions = sessions_others w memory.held ready.mask old ready.held number held there ps kept memory.sessions ready.sessions;
+          rest = record { each = frames_single };
+          logs = logs_ended;
+          knows = knows_ended;
+        }
+
+      pub Applies-ended : Applies size w next (ended number held memory) fault old new
+      Applies-ended = record {
+        moments = all_moments;
+        quiet = Changes-said may fault old new e.changes;
+        ready = ready_ended;
+        rests = e.changes.rests;
+        script = e.changes.script;
+      }

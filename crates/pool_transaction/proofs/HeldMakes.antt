@@ -1,0 +1,111 @@
+-- An object is made within a transaction that is held, where a slot is free.
+use Rattle.std.proofs.Common.{◌≡◌, ℕ, ◌+◌, ◌<◌, ◌≤◌, Bool, true, false, leb, ltb, cond, List, Option, Some, None, Result, is_none, refl, sym, ap, subst}
+use Rattle.std.specs.Prelude.{IfOk, unwrap_or}
+use Rattle.std.proofs.lemmas.Bool.{leb-false, ltb-false}
+use Rattle.std.proofs.lemmas.Option.{none-some}
+use Rattle.pm_model.specs.declared.host.HostFault.{HostFault}
+use Rattle.pm_model.specs.Counts.{fault_of}
+use Rattle.pm_model.specs.Words.{reads}
+use Rattle.pm_model.specs.Moments.{State}
+use Rattle.pud_defs.specs.declared.layout.TheConstants.{LOG_ENTRY_WORDS, NEW_UNITS, NUMBER_LIMIT}
+use Rattle.pud_defs.specs.declared.machine.Refusal.{Refusal}
+use Rattle.pud_defs.specs.declared.machine.Refusal.TheVariants as refusals
+use Rattle.pud_defs.specs.declared.records.Puddle.{Puddle}
+use Rattle.pud_defs.specs.Graph.{Graph, graph_of}
+use Rattle.pud_defs.specs.GraphChanges.{with_new, blank_object}
+use Rattle.pud_defs.specs.PoolChanges.{pool_named}
+use Rattle.pud_defs.specs.Step.{graph_seen, next_in, grows, object_made}
+use Rattle.pud_defs.specs.Stored.{stored_in}
+use Rattle.pud_defs.specs.Transactions.{charged}
+use Rattle.pud_defs.specs.Types.{map_of}
+use Rattle.pud_defs.specs.World.{Transaction, World}
+use Rattle.graph_laws.specs.Slots.{AreAllLive}
+use Rattle.log_store.specs.Store.{OpenLog, longer}
+use Rattle.hybrid_tx.specs.Transactions.{RunsOn}
+use Rattle.ready_daemon.specs.Memory.{Held, Memory, held_under, with_held}
+use Rattle.ready_daemon.specs.Held.{IsHeld}
+use Rattle.pool_transaction.specs.Changing.{refusal_to_make, refusal_by_world, with_made}
+use Rattle.ready_daemon.specs.Ready.{IsReady, Applies}
+use Rattle.pool_transaction.proofs.HeldRuns.{is_held, Applies-runs}
+use Rattle.pool_transaction.proofs.HeldSets.{used_more, OwesRuns, told, owed}
+use Rattle.ready_daemon.proofs.OpenNames.{Charges-charged}
+use Rattle.pool_transaction.proofs.HeldPools.{grows_live, grows_not}
+
+-- ---- what is not refused
+
+not_so : (b : Bool) (r : Refusal) (rest : Option Refusal) → cond b (Some r) rest ≡ None → (b ≡ false) × (rest ≡ None)
+not_so true r rest none = absurd (none-some r (sym none))
+not_so false r rest none = (refl, none)
+
+some_there : {A : Type 0} (o : Option A) → is_none o ≡ false → (x : A) × (o ≡ Some x)
+some_there None there = absurd (let no : true ≡ false = there in cc)
+some_there (Some x) there = (x, refl)
+
+-- The type is defined, the units fit, and a serial is left.
+pub record MayMake (map : Option ℕ) (units next : ℕ) : Type 0 where
+  pub is : ℕ
+  pub defined : map ≡ Some is
+  pub fits : units + NEW_UNITS ≤ LOG_ENTRY_WORDS
+  pub left : next < NUMBER_LIMIT
+
+pub may_make : (map : Option ℕ) (units next : ℕ) → refusal_to_make map units next ≡ None → MayMake map units next
+may_make map units next none =
+    let type = not_so (is_none map) refusals.Type _ none in
+    let big = not_so (ltb LOG_ENTRY_WORDS (units + NEW_UNITS)) refusals.TooBig _ type.1 in
+    let full = not_so (leb NUMBER_LIMIT next) refusals.Full None big.1 in
+    let there = some_there map type.0 in
+    record { is = there.0; defined = there.1; fits = ltb-false LOG_ENTRY_WORDS (units + NEW_UNITS) big.0; left = leb-false NUMBER_LIMIT next full.0 }
+
+-- the units of what is not refused fit
+pub units_fit : (w : World) (held : Held) (id : ℕ) → refusal_by_world w held id ≡ None → held.log.used + NEW_UNITS ≤ LOG_ENTRY_WORDS
+units_fit w held id none = (may_make (map_of id w.stored.types) held.log.used (next_in (graph_seen (w.transactions held.name) (pool_named held.name w.stored))) none).fits
+
+module _ (size : ℕ) (w : World) (memory : Memory) (held : Held) (old : State) (number : ℕ) (there : held_under memory.held number ≡ Some held) (ready : IsReady size w memory old) where
+  abbrev is : IsHeld w held ready.mask old.now.words
+  is = is_held size w memory held old number there ready
+
+  -- the next serial is that of its graph
+  pub next_serial : next_in (graph_seen (w.transactions held.name) (pool_named held.name w.stored)) ≡ is.transaction.now.next_serial
+  next_serial = ap (λ (o : Option Transaction). next_in (graph_seen o (pool_named held.name w.stored))) is.is
+
+  module _ (F : ℕ) (at : List (ℕ × Puddle)) (same : F ≡ w.stored.frames) (listed : at ≡ held.at) where
+    live_there : AreAllLive (stored_in F at (reads old.now.words)) → AreAllLive (stored_in w.stored.frames held.at (reads old.now.words))
+    live_there live =
+        subst (λ (n : ℕ). AreAllLive (stored_in n held.at (reads old.now.words))) same (subst (λ (puddles : List (ℕ × Puddle)). AreAllLive (stored_in F puddles (reads old.now.words))) listed live)
+
+    -- each slot is live where the pool is to grow, and not all where it is not
+    pub all_live : grows w held.name ≡ true → AreAllLive (stored_in F at (reads old.now.words))
+    all_live more =
+        subst (λ (puddles : List (ℕ × Puddle)). AreAllLive (stored_in F puddles (reads old.now.words))) (sym listed)
+        (subst (λ (n : ℕ). AreAllLive (stored_in n held.at (reads old.now.words))) (sym same) (grows_live size w memory held old number there ready more))
+
+    pub not_live : grows w held.name ≡ false → AreAllLive (stored_in F at (reads old.now.words)) → ⊥
+    not_live less live = grows_not size w memory held old number there ready less (live_there live)
+
+    -- the serial that is given is the next one
+    pub serial_made : (done : Result ℕ HostFault) → grows w held.name ≡ false
+        → (graph_of w.stored.types (stored_in F at (reads old.now.words)) ≡ Some is.transaction.now → (AreAllLive (stored_in F at (reads old.now.words)) → ⊥) → IfOk done (λ serial. serial ≡ is.transaction.now.next_serial))
+        → IfOk done (λ serial. serial ≡ next_in (graph_seen (w.transactions held.name) (pool_named held.name w.stored)))
+    serial_made done less told =
+        let graph = subst (λ (puddles : List (ℕ × Puddle)). graph_of w.stored.types (stored_in F puddles (reads old.now.words)) ≡ Some is.transaction.now) (sym listed)
+        (subst (λ (n : ℕ). graph_of w.stored.types (stored_in n held.at (reads old.now.words)) ≡ Some is.transaction.now) (sym same) is.running.is) in
+        subst (λ (n : ℕ). IfOk done (λ serial. serial ≡ n)) (sym next_serial) (told graph (not_live less))
+
+    module _ (id : ℕ) (none : refusal_by_world w held id ≡ None) (log : OpenLog) (new : State) (gate : log.at ≡ held.log.at) where
+      may : MayMake (map_of id w.stored.types) held.log.used (next_in (graph_seen (w.transactions held.name) (pool_named held.name w.stored)))
+      may = may_make (map_of id w.stored.types) held.log.used (next_in (graph_seen (w.transactions held.name) (pool_named held.name w.stored))) none
+
+      the_object : with_new (blank_object id may.is) ≡ with_new (object_made w id)
+      the_object = ap (λ (o : Option ℕ). with_new (blank_object id (unwrap_or o 0))) (sym may.defined)
+
+      pub Applies-made : (done : Result ℕ HostFault) → grows w held.name ≡ false
+          → ((m : ℕ) → map_of id w.stored.types ≡ Some m → is.transaction.now.next_serial < NUMBER_LIMIT → (AreAllLive (stored_in F at (reads old.now.words)) → ⊥)
+          → OwesRuns size w memory held old number there ready F at same listed log new gate F at (charged NEW_UNITS (with_new (blank_object id m))) (fault_of done))
+          → ((AreAllLive (stored_in F at (reads old.now.words)) → ⊥) → IfOk done (λ _. log ≡ longer NEW_UNITS held.log))
+          → Applies size w (with_made held.name id w) (with_held number (Some (record held { log = log })) memory) (fault_of done) old new
+      Applies-made done less runs used =
+          let left = subst (λ (n : ℕ). n < NUMBER_LIMIT) next_serial may.left in
+          let at_first = owed size w memory held old number there ready F at same listed log new gate (charged NEW_UNITS (with_new (blank_object id may.is))) (fault_of done) (runs may.is may.defined left (not_live less)) in
+          Applies-runs size w memory held old number there ready log NEW_UNITS (charged NEW_UNITS (with_new (object_made w id))) (Charges-charged NEW_UNITS (with_new (object_made w id))) (fault_of done) new gate
+          (used_more done NEW_UNITS log held.log (used (not_live less)))
+          (subst (λ (change : Graph → Graph). RunsOn w.stored.frames held.at w.stored.types log is.before is.undone (change is.transaction.now) is.transaction.laters (fault_of done) old new) the_object at_first)

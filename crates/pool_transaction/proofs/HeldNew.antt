@@ -1,0 +1,237 @@
+-- The line that makes an object in a transaction that is held: why it is refused, by what is read, and the world that it gives.
+use Rattle.std.proofs.Common.{◌≡◌, inl, inr, ℕ, ◌+◌, ◌*◌, ◌≤◌, Bool, true, false, not, ◌&&◌, ◌||◌, leb, ltb, ◌==◌, cond, List, length, Option, Some, None, is_none, is_some, sum_by, refl, sym, ap, ap₂, ◌∙◌, arith, eqb-true, eq-eqb, ne_eqb}
+use Rattle.std.specs.Option.{option_or}
+use Rattle.std.proofs.lemmas.Bool.{cases_lt, and_parts, leb-true, le-leb, lt-leb, lt-ltb, le-ltb}
+use Rattle.pm_model.specs.Words.{reads}
+use Rattle.pm_model.specs.Moments.{State}
+use Rattle.pm_model.specs.Masks.{masked}
+use Rattle.pud_defs.specs.declared.layout.TheConstants.{LOG_ENTRY_WORDS, NEW_UNITS, NUMBER_LIMIT, NEXT_NUMBER_WORD}
+use Rattle.pud_defs.specs.declared.records.TheConstants.{MAX_PUDDLES}
+use Rattle.pud_defs.specs.declared.space.TheConstants.{FRAME_SLOTS}
+use Rattle.pud_defs.specs.declared.machine.Command.{Command}
+use Rattle.pud_defs.specs.declared.machine.Command.TheVariants.{Commit, New}
+use Rattle.pud_defs.specs.declared.machine.Reply.TheVariants as replies
+use Rattle.pud_defs.specs.declared.machine.Refusal.{Refusal}
+use Rattle.pud_defs.specs.declared.machine.Refusal.TheVariants as refusals
+use Rattle.pud_defs.specs.Graph.{Graph, next_serial_of}
+use Rattle.pud_defs.specs.Holdings.{holding_in}
+use Rattle.pud_defs.specs.Image.{Image}
+use Rattle.pud_defs.specs.Keyed.{first_free}
+use Rattle.pud_defs.specs.PoolChanges.{pool_named, lacks_frames, lacks_a_number, changed_pool, with_puddle_more, with_grown_pool}
+use Rattle.pud_defs.specs.Step.{graph_seen, next_in, is_full_graph, is_all_live, grows, lacks_room, refusal_of, answer, answer_by, after, world_by, object_made}
+use Rattle.pud_defs.specs.Step.Answer.{of_reply}
+use Rattle.pud_defs.specs.Stored.{stored_in}
+use Rattle.pud_defs.specs.Tables.{Tables, Pool, Reader, tables_of}
+use Rattle.pud_defs.specs.Transactions.{units_of, with_changed, charged}
+use Rattle.pud_defs.specs.GraphChanges.{with_new}
+use Rattle.pud_defs.specs.Types.{map_of, types_of}
+use Rattle.pud_defs.specs.World.{Transaction, World}
+use Rattle.pud_defs.proofs.Graphs.{graph_of-each}
+use Rattle.pud_defs.proofs.PoolRefusals.{space_by_table}
+use Rattle.pud_defs.proofs.Steps.{done_answer, done_world}
+use Rattle.pud_defs.proofs.TablesOf.{pools_beyond, frames_of_tables}
+use Rattle.registry.specs.Growth.{has_room}
+use Rattle.log_store.specs.Store.{OpenLog}
+use Rattle.hybrid_tx.proofs.OpenPools.{open_on_device}
+use Rattle.ready_daemon.specs.Memory.{Held, Memory, held_under}
+use Rattle.ready_daemon.specs.Held.{pool_held, IsHeld}
+use Rattle.pool_transaction.specs.Changing.{refusal_to_make, refusal_by_tables, refusal_by_world, with_more, with_made}
+use Rattle.ready_daemon.specs.Ready.{IsReady}
+use Rattle.ready_daemon.proofs.TablesBeside.{header_read, types_read, pools_read, sound_read}
+use Rattle.pool_transaction.proofs.TransactionRefusals.{making_refusal, refusal_of-new, own_is_open}
+use Rattle.pool_transaction.proofs.HeldRuns.{is_held}
+use Rattle.pool_transaction.proofs.HeldPools.{its_pool, grows_by, objects_fit, puddles_counted}
+use Rattle.pool_transaction.proofs.HeldGrows.{found_more}
+use Rattle.pool_transaction.proofs.HeldMakes.{next_serial}
+
+-- ---- numbers
+
+-- as many objects as the most puddles have slots
+most_objects : (objects puddles : ℕ) → objects ≤ FRAME_SLOTS * puddles → puddles ≤ MAX_PUDDLES → (objects == FRAME_SLOTS * puddles) ≡ false → leb (MAX_PUDDLES * FRAME_SLOTS) objects ≡ false
+most_objects objects puddles fit few less = elim (cases_lt objects (MAX_PUDDLES * FRAME_SLOTS)) [
+  | inl below ↦ lt-leb (MAX_PUDDLES * FRAME_SLOTS) objects below
+  | inr many ↦ absurd (let no : true ≡ false = sym (eq-eqb objects (FRAME_SLOTS * puddles) (omega arith)) ∙ less in cc)
+]
+
+full_or_room : (objects puddles number : ℕ) → objects ≡ FRAME_SLOTS * puddles → (leb (MAX_PUDDLES * FRAME_SLOTS) objects || lacks_a_number number) ≡ not (has_room puddles number)
+full_or_room objects puddles number all = elim (cases_lt puddles MAX_PUDDLES) [
+  | inl below ↦ elim (cases_lt number NUMBER_LIMIT) [
+    | inl left ↦
+        ap₂ (λ a b. a || b) (lt-leb (MAX_PUDDLES * FRAME_SLOTS) objects (omega arith)) (le-ltb NUMBER_LIMIT (number + 1) (omega arith))
+        ∙ sym (ap₂ (λ a b. not (a && b)) (lt-ltb puddles MAX_PUDDLES below) (lt-ltb number NUMBER_LIMIT left))
+    | inr out ↦
+        ap₂ (λ a b. a || b) (lt-leb (MAX_PUDDLES * FRAME_SLOTS) objects (omega arith)) (lt-ltb NUMBER_LIMIT (number + 1) (omega arith))
+        ∙ sym (ap₂ (λ a b. not (a && b)) (lt-ltb puddles MAX_PUDDLES below) (le-ltb number NUMBER_LIMIT out))
+  ]
+  | inr many ↦
+      ap (λ a. a || lacks_a_number number) (le-leb (MAX_PUDDLES * FRAME_SLOTS) objects (omega arith))
+      ∙ sym (ap (λ a. not (a && ltb number NUMBER_LIMIT)) (le-ltb puddles MAX_PUDDLES many))
+]
+
+none_or_some : {A : Type 0} (o : Option A) → is_none o ≡ not (is_some o)
+none_or_some None = refl
+none_or_some (Some x) = refl
+
+-- ---- the causes in order
+
+joined : (type big serial many out lacks grow room free : Bool) → (grow ≡ false → many ≡ false) → (grow ≡ true → (many || out) ≡ not room) → lacks ≡ not free
+    → cond type (Some refusals.Type) (cond big (Some refusals.TooBig) (cond ((serial || many) || (grow && out)) (Some refusals.Full) (cond (grow && lacks) (Some refusals.Space) None)))
+    ≡ option_or (cond type (Some refusals.Type) (cond big (Some refusals.TooBig) (cond serial (Some refusals.Full) None))) (cond grow (cond (not room) (Some refusals.Full) (cond (not free) (Some refusals.Space) None)) None)
+joined true big serial many out lacks grow room free less more frames = refl
+joined false true serial many out lacks grow room free less more frames = refl
+joined false false true many out lacks grow room free less more frames = refl
+joined false false false many out lacks false room free less more frames = ap (λ (m : Bool). cond (m || false) (Some refusals.Full) None) (less refl)
+joined false false false many out lacks true room free less more frames =
+    ap₂ (λ (full : Bool) (space : Bool). cond full (Some refusals.Full) (cond space (Some refusals.Space) None)) (more refl) frames
+
+-- ---- a daemon that is ready, and holds it
+
+module _ (size : ℕ) (w : World) (memory : Memory) (held : Held) (s : State) (number : ℕ) (there : held_under memory.held number ≡ Some held) (ready : IsReady size w memory s) (id : ℕ) where
+  abbrev F : ℕ
+  F = w.stored.frames
+
+  abbrev is : IsHeld w held ready.mask s.now.words
+  is = is_held size w memory held s number there ready
+
+  abbrev image : Image
+  image = reads s.now.words
+
+  abbrev t : Tables
+  t = tables_of F image
+
+  abbrev line : Command
+  line = New held.client held.name id
+
+  abbrev hold : Reader
+  hold = holding_in w.stored.types F (reads (masked ready.mask s.now.words))
+
+  frames_lack : lacks_frames w.stored 1 ≡ not (is_some (first_free t.puddles 0 t.frames))
+  frames_lack =
+      ap₂ (λ n ps. ltb n (sum_by (λ (e : List ℕ × Pool). e.1.puddles) ps + 1)) (sym (frames_of_tables F image)) (sym (pools_read size w memory s ready))
+      ∙ sym (space_by_table hold w.stored.next_number t (sound_read size w memory s ready) (record { beyond = λ slot beyond. pools_beyond F image slot beyond }))
+      ∙ none_or_some (first_free t.puddles 0 t.frames)
+
+  few_held : length held.at ≤ MAX_PUDDLES
+  few_held = (open_on_device F (pool_held held is.rec is.who) is.before is.pool).few
+
+  -- the client's own transaction is open
+  own : refusal_of w (Commit held.client held.name) ≡ None
+  own = own_is_open w memory.held ready.mask s.now.words held.client held.name number ready.held (record { mine = held; is = there; whose = refl; pool = refl })
+
+  opened : w.transactions held.name ≡ Some is.transaction
+  opened = is.is
+
+  abbrev many : Bool
+  many = leb (MAX_PUDDLES * FRAME_SLOTS) (length is.transaction.now.objects)
+
+  less_by : grows w held.name ≡ false → many ≡ false
+  less_by less =
+      most_objects (length is.transaction.now.objects) (length held.at) (objects_fit size w memory held s number there ready) few_held (sym (grows_by size w memory held s number there ready) ∙ less)
+
+  all_by : grows w held.name ≡ true → length is.transaction.now.objects ≡ FRAME_SLOTS * length held.at
+  all_by more = eqb-true (length is.transaction.now.objects) (FRAME_SLOTS * length held.at) (sym (grows_by size w memory held s number there ready) ∙ more)
+
+  more_by : grows w held.name ≡ true → (many || lacks_a_number w.stored.next_number) ≡ not (has_room (length held.at) (image NEXT_NUMBER_WORD))
+  more_by more =
+      full_or_room (length is.transaction.now.objects) (length held.at) w.stored.next_number (all_by more)
+      ∙ ap (λ (n : ℕ). not (has_room (length held.at) n)) (sym (header_read size w memory s ready).next_number)
+
+  -- Its refusals are those that count whatever slots there are, and behind them, where each slot is live, those of a puddle more.
+  pub refusal_new : refusal_of w line ≡ option_or (refusal_by_world w held id) (cond (grows w held.name) (refusal_by_tables F held image) None)
+  refusal_new =
+      let units : units_of (w.transactions held.name) ≡ held.log.used = ap units_of opened ∙ is.units in
+      let full : is_full_graph (graph_seen (w.transactions held.name) (pool_named held.name w.stored)) ≡ (leb NUMBER_LIMIT is.transaction.now.next_serial || many) =
+      ap (λ (o : Option Transaction). is_full_graph (graph_seen o (pool_named held.name w.stored))) opened in
+      let next = next_serial size w memory held s number there ready in
+      refusal_of-new w held.client held.name id
+      ∙ ap (λ (first : Option Refusal). option_or first (making_refusal (map_of id w.stored.types) (units_of (w.transactions held.name)) (lacks_room w held.name) (grows w held.name && lacks_frames w.stored 1))) own
+      ∙ (λ p. cond (is_none (map_of id w.stored.types)) (Some refusals.Type) (cond (ltb LOG_ENTRY_WORDS (units p + NEW_UNITS)) (Some refusals.TooBig)
+      (cond (full p || (grows w held.name && lacks_a_number w.stored.next_number)) (Some refusals.Full) (cond (grows w held.name && lacks_frames w.stored 1) (Some refusals.Space) None))))
+      ∙ joined (is_none (map_of id w.stored.types)) (ltb LOG_ENTRY_WORDS (held.log.used + NEW_UNITS)) (leb NUMBER_LIMIT is.transaction.now.next_serial) many (lacks_a_number w.stored.next_number) (lacks_frames w.stored 1)
+      (grows w held.name) (has_room (length held.at) (image NEXT_NUMBER_WORD)) (is_some (first_free t.puddles 0 t.frames)) less_by more_by frames_lack
+      ∙ ap (λ (n : ℕ). option_or (refusal_to_make (map_of id w.stored.types) held.log.used n) (cond (grows w held.name) (refusal_by_tables F held image) None)) (sym next)
+
+  -- what is read gives those that count whatever slots there are
+  refusal_read : (n : ℕ) → n ≡ F → refusal_to_make (map_of id (types_of image)) held.log.used (next_serial_of (stored_in n held.at image)) ≡ refusal_by_world w held id
+  refusal_read n same =
+      let has = graph_of-each w.stored.types (stored_in F held.at image) is.transaction.now is.running.is in
+      let types : types_of image ≡ w.stored.types = (types_read size w memory s ready).types in
+      let serial : next_serial_of (stored_in n held.at image) ≡ next_in (graph_seen (w.transactions held.name) (pool_named held.name w.stored)) =
+      ap (λ (m : ℕ). next_serial_of (stored_in m held.at image)) same ∙ ap (λ (g : Graph). g.next_serial) has.is ∙ sym (next_serial size w memory held s number there ready) in
+      ap₂ (λ (ts : List (ℕ × ℕ)) (v : ℕ). refusal_to_make (map_of id ts) held.log.used v) types serial
+
+  pub refusal_found : (n : ℕ) → n ≡ F → (found refused : Option Refusal) → found ≡ refusal_to_make (map_of id (types_of image)) held.log.used (next_serial_of (stored_in n held.at image)) → found ≡ refused
+      → refusal_by_world w held id ≡ refused
+  refusal_found n same found refused read is = sym (refusal_read n same) ∙ sym read ∙ is
+
+  -- ---- what it gives
+
+  pub refused_whatever : (r : Refusal) → refusal_by_world w held id ≡ Some r → refusal_of w line ≡ Some r
+  refused_whatever r is = refusal_new ∙ ap (λ (o : Option Refusal). option_or o (cond (grows w held.name) (refusal_by_tables F held image) None)) is
+
+  module _ (none : refusal_by_world w held id ≡ None) where
+    behind_it : refusal_of w line ≡ cond (grows w held.name) (refusal_by_tables F held image) None
+    behind_it = refusal_new ∙ ap (λ (o : Option Refusal). option_or o (cond (grows w held.name) (refusal_by_tables F held image) None)) none
+
+    pub refused_less : grows w held.name ≡ false → refusal_of w line ≡ None
+    refused_less less = behind_it ∙ ap (λ (b : Bool). cond b (refusal_by_tables F held image) None) less
+
+    pub refused_more : grows w held.name ≡ true → refusal_of w line ≡ refusal_by_tables F held image
+    refused_more more = behind_it ∙ ap (λ (b : Bool). cond b (refusal_by_tables F held image) None) more
+
+  -- the reply is the serial
+  pub answer_new : refusal_of w line ≡ None → answer_by w (Some line) ≡ of_reply (replies.Ref (next_in (graph_seen (w.transactions held.name) (pool_named held.name w.stored))))
+  unfolding answer
+  answer_new none = done_answer w line none
+
+  -- the world where the pool does not grow, and where it does
+  abbrev given : Bool → World
+  given more = record w {
+    stored = record w.stored {
+      next_number = cond more (w.stored.next_number + 1) w.stored.next_number;
+      pools = cond more (changed_pool held.name with_puddle_more w.stored.pools) w.stored.pools;
+    };
+    transactions = with_changed held.name (charged NEW_UNITS (with_new (object_made w id))) w.transactions;
+  }
+
+  pub world_less : refusal_of w line ≡ None → grows w held.name ≡ false → world_by w (Some line) ≡ with_made held.name id w
+  unfolding after
+  world_less none less = done_world w line none ∙ ap given less
+
+  pub world_more : refusal_of w line ≡ None → grows w held.name ≡ true → world_by w (Some line) ≡ with_made held.name id (with_more held.name w)
+  unfolding after with_grown_pool
+  world_more none more = done_world w line none ∙ ap given more
+
+  -- there is a next serial
+  pub serial_is_some : 1 ≤ next_in (graph_seen (w.transactions held.name) (pool_named held.name w.stored))
+  serial_is_some =
+      let has = graph_of-each w.stored.types (stored_in F held.at image) is.transaction.now is.running.is in
+      let n = next_serial_of (stored_in F held.at image) in
+      let legal = leb-true 1 n (and_parts (leb 1 n) (leb n NUMBER_LIMIT) has.graph.legal).0 in
+      let same = ap (λ (g : Graph). g.next_serial) has.is in
+      omega (arith, legal, same, next_serial size w memory held s number there ready)
+
+  -- ---- the pool grew
+
+  -- it has a free slot then
+  pub grown_less : grows w held.name ≡ true → grows (with_more held.name w) held.name ≡ false
+  grown_less more =
+      let p = its_pool size w memory held s number there ready in
+      let counted = puddles_counted size w memory held s number there ready in
+      let all = all_by more in
+      ap₂ (λ (o : Option Transaction) (found : Option Pool). is_all_live (graph_seen o found) found) opened (found_more held.name w.stored p.pool p.there)
+      ∙ ne_eqb (length is.transaction.now.objects) (FRAME_SLOTS * (p.pool.puddles + 1)) (λ same. absurd (omega (arith, same, counted, all)))
+
+  -- and the same is refused whatever slots there are
+  pub grown_refusal : (now : Held) → now.name ≡ held.name → now.log ≡ held.log → refusal_by_world w held id ≡ None → refusal_by_world (with_more held.name w) now id ≡ None
+  unfolding with_grown_pool
+  grown_refusal now name log none =
+      ap₂ (λ (n : List ℕ) (l : OpenLog). refusal_to_make (map_of id w.stored.types) l.used (next_in (graph_seen (w.transactions n) (pool_named n (with_grown_pool held.name w.stored))))) name log
+      ∙ ap (λ (o : Option Transaction). refusal_to_make (map_of id w.stored.types) held.log.used (next_in (graph_seen o (pool_named held.name (with_grown_pool held.name w.stored))))) opened
+      ∙ sym (ap (λ (o : Option Transaction). refusal_to_make (map_of id w.stored.types) held.log.used (next_in (graph_seen o (pool_named held.name w.stored)))) opened)
+      ∙ none
+
+  pub grown_next : next_in (graph_seen ((with_more held.name w).transactions held.name) (pool_named held.name (with_more held.name w).stored)) ≡ next_in (graph_seen (w.transactions held.name) (pool_named held.name w.stored))
+  grown_next =
+      ap (λ (o : Option Transaction). next_in (graph_seen o (pool_named held.name (with_more held.name w).stored))) opened
+      ∙ sym (ap (λ (o : Option Transaction). next_in (graph_seen o (pool_named held.name w.stored))) opened)

@@ -1,0 +1,308 @@
+-- Calls of a transaction that is held: every word that they write is masked, and no other transaction's, so that each image left stands for the world before.
+use Rattle.std.proofs.Common.{◌≡◌, ◌≢◌, inl, inr, ℕ, ◌+◌, ◌<◌, true, false, Option, Some, None, refl, sym, ap, subst, ◌∙◌, arith}
+use Rattle.std.proofs.lemmas.Bool.{cases_eq}
+use Rattle.std.proofs.lemmas.Option.{same_Some}
+use Rattle.pm_model.specs.declared.host.HostFault.{HostFault}
+use Rattle.pm_model.specs.Words.{Has, Cell, values, reads}
+use Rattle.pm_model.specs.Moments.{State}
+use Rattle.pm_model.specs.Changes.{Footprint, Changes, Leaves, Silently}
+use Rattle.pm_model.specs.Masks.{masked, masked_image}
+use Rattle.pm_model.proofs.Changes.{Changes-said, Changes-now}
+use Rattle.pm_model.proofs.Leaves.{HasOrigin, Leaves-weaker}
+use Rattle.pm_model.proofs.Masks.{masked-there, masked-elsewhere, masked_image-there, masked_image-elsewhere, Picks-masked}
+use Rattle.pud_defs.specs.declared.layout.TheConstants.{DAEMON_LOG}
+use Rattle.pud_defs.specs.Image.{Image}
+use Rattle.pud_defs.specs.Entries.{is_idle_gate}
+use Rattle.pud_defs.specs.Layout.{tables_end, log_at}
+use Rattle.pud_defs.specs.Stored.{IsOnDevice}
+use Rattle.pud_defs.specs.Tables.{tables_of}
+use Rattle.pud_defs.specs.Transactions.{with_changed}
+use Rattle.pud_defs.specs.World.{Transaction, World, world_of, idle_world_of, closed}
+use Rattle.pud_defs.proofs.Spaces.{owner_of-same}
+use Rattle.pud_defs.proofs.TablesOf.{frames_of_tables}
+use Rattle.batch.specs.Worlds.{IsSettled}
+use Rattle.batch.proofs.Tables.{reads_kept, HasDurableTables-kept}
+use Rattle.log_store.specs.Store.{OpenLog}
+use Rattle.word_transaction.specs.Running.{SettlesTo, ByTransaction}
+use Rattle.hybrid_tx.specs.Grounds.{pool_ground, IsPlaced}
+use Rattle.hybrid_tx.specs.ManyOpen.{OpenTransaction, AreLeftOpen}
+use Rattle.hybrid_tx.specs.Masks.{OpenPool, IsLeftOpen}
+use Rattle.hybrid_tx.specs.Transactions.{RunsOn}
+use Rattle.hybrid_tx.proofs.OpenMasks.{open_record_place, mine_behind}
+use Rattle.hybrid_tx.proofs.OpenPools.{open_on_device}
+use Rattle.hybrid_tx.proofs.PoolPlaces.{placed_of_members}
+use Rattle.pool_transaction.specs.Changing.{StaysOpen}
+use Rattle.ready_daemon.specs.Memory.{Held, Memory, held_under, with_held}
+use Rattle.ready_daemon.specs.Held.{pool_held, open_held, IsHeld, IsHeldUnder, Holds, HasDurableFrames, HasIdleLogs}
+use Rattle.ready_daemon.specs.KnownPools.{KnowsPools}
+use Rattle.ready_daemon.specs.Ready.{IsReady, RefusesNone, StandsBetween, Applies}
+use Rattle.ready_daemon.proofs.Beside.{IsApart, KeepsOne, Leaves-from, log_masked, own_masked, record_picked, left_apart, left_all, under_left, own_apart, held_still, names_none_idle, ready_idle}
+use Rattle.ready_daemon.proofs.OpenNames.{changed_there, changed_elsewhere, WereOpen, WereOpen-changed, Charges}
+use Rattle.pool_transaction.proofs.HeldChanged.{Holds-later, HasSessions-later, KnowsPools-later}
+use Rattle.ready_daemon.proofs.PoolsBeside.{members_still}
+use Rattle.ready_daemon.proofs.JudgedOpen.{KeepsPools-held}
+use Rattle.ready_daemon.proofs.TablesBeside.{sound_read}
+
+-- ---- a daemon that is ready, and holds it
+
+module _ (size : ℕ) (w : World) (memory : Memory) (held : Held) (old : State) (number : ℕ) (there : held_under memory.held number ≡ Some held) (ready : IsReady size w memory old) where
+  abbrev F : ℕ
+  F = w.stored.frames
+
+  abbrev under : IsHeldUnder w ready.held.opens ready.mask old.now.words number held
+  under = ready.held.each number held there
+
+  abbrev pub is_held : IsHeld w held ready.mask old.now.words
+  is_held = under.is
+
+  abbrev is : IsHeld w held ready.mask old.now.words
+  is = is_held
+
+  abbrev p : OpenPool
+  p = pool_held held is.rec is.who
+
+  abbrev now : Image
+  now = reads old.now.words
+
+  -- its puddles lie as those of a ground
+  pub held_placed : IsPlaced F held.at
+  held_placed =
+      let on_device = open_on_device F p is.before is.pool in
+      let frames = frames_of_tables F now in
+      subst (λ (n : ℕ). IsPlaced n held.at) frames
+      (placed_of_members w.stored.next_number (tables_of F now) (sound_read size w memory old ready) held.slot held.at (members_still w held ready.mask old.now.words is)
+      (subst (λ (n : ℕ). IsOnDevice n held.at) (sym frames) on_device))
+
+  -- ---- what it may write
+
+  abbrev own : Footprint
+  own = ByTransaction (pool_ground F held.at) held.log.at
+
+  -- every such word is masked
+  written_masked : (k v : ℕ) → own k v → ready.mask k ≡ None → ⊥
+  written_masked k v (inl inside) none = log_masked w held ready.mask old.now.words is k inside none
+  written_masked k v (inr mine) none = own_masked w held ready.mask old.now.words is k mine none
+
+  -- and none lies in front of the logs
+  own_behind : (k v : ℕ) → k < tables_end F → own k v → ⊥
+  own_behind k v below (inl inside) =
+      let gate = is.gate in
+      let low = inside.low in
+      absurd (omega arith)
+  own_behind k v below (inr mine) = let no : true ≡ false = sym mine ∙ mine_behind F held.at k (omega arith) in cc
+
+  -- and none is one of another that is held
+  its_own : (n : ℕ) (g : Held) (has : held_under memory.held n ≡ Some g) → n ≢ number
+      → IsApart F g (pool_held g (ready.held.each n g has).is.rec (ready.held.each n g has).is.who) own
+  its_own n g has apart = own_apart w memory.held ready.mask old.now.words ready.held number n held g there has (λ same. apart (sym same))
+
+  -- masked, an image left meanwhile is the one that it is from
+  module _ (image : Image) (o : HasOrigin own old.now.words image) where
+    same_word : (k : ℕ) (x : Option ℕ) → ready.mask k ≡ x → masked_image ready.mask image k ≡ masked_image ready.mask o.before k
+    same_word k None none =
+        masked_image-elsewhere ready.mask image k none
+        ∙ elim (o.from.each k) [ inl same ↦ same | inr may ↦ absurd (written_masked k (image k) may none) ]
+        ∙ sym (masked_image-elsewhere ready.mask o.before k none)
+    same_word k (Some v) there = masked_image-there ready.mask image k v there ∙ sym (masked_image-there ready.mask o.before k v there)
+
+    same_masked : masked_image ready.mask image ≡ masked_image ready.mask o.before
+    same_masked = let each = λ (k : ℕ). same_word k (ready.mask k) refl in λ p k. each k p
+
+    idle_masked : idle_world_of size (masked_image ready.mask image) ≡ Some (closed w)
+    idle_masked = ap (idle_world_of size) same_masked ∙ ready.settled.stands (masked_image ready.mask o.before) (Picks-masked ready.mask old.now.words o.before o.picked)
+
+    -- in front of the logs it is as it was
+    same_before : (k : ℕ) → k < tables_end F → image k ≡ o.before k
+    same_before k below = elim (o.from.each k) [ inl same ↦ same | inr may ↦ absurd (own_behind k (image k) below may) ]
+
+    log_idle : is_idle_gate (image DAEMON_LOG) ≡ true
+    log_idle = ap is_idle_gate (same_before DAEMON_LOG (omega arith)) ∙ ready_idle size w memory old ready o.before o.picked
+
+    left_open : SettlesTo (pool_ground F held.at) held.log.at is.before image → IsLeftOpen F p is.before image
+    left_open settles = record {
+      unnamed = λ k v e. (names_none_idle ready.mask image log_idle).each k v (is.masked k v e);
+      records = λ k of.
+          let place = open_record_place F p k is.pool.slot is.pool.known (open_on_device F p is.before is.pool) of in
+          same_before k place.high ∙ record_picked w held ready.mask old.now.words is ready.tables o.before o.picked k of;
+      settles = subst (λ (n : ℕ). SettlesTo (pool_ground F held.at) n is.before image) is.gate settles;
+    }
+
+    -- each is left open: it by its log, and any other since none of its words was written
+    each_open : SettlesTo (pool_ground F held.at) held.log.at is.before image → (n : ℕ) (g : Held) (there : held_under memory.held n ≡ Some g) (is : IsHeldUnder w ready.held.opens ready.mask old.now.words n g)
+        → IsLeftOpen F (pool_held g is.is.rec is.is.who) is.is.before image
+    each_open settles n g has other = elim (cases_eq n number) [
+      | inl same ↦
+          let one : open_held held is.rec is.who is.before ≡ open_held g other.is.rec other.is.who other.is.before =
+          same_Some (open_held held is.rec is.who is.before) (open_held g other.is.rec other.is.who other.is.before) (sym under.opened ∙ ap ready.held.opens (sym same) ∙ other.opened) in
+          subst (λ (t : OpenTransaction). IsLeftOpen F t.pool t.before image) one (left_open settles)
+      | inr apart ↦
+          let its = ready.held.each n g has in
+          let one : open_held g its.is.rec its.is.who its.is.before ≡ open_held g other.is.rec other.is.who other.is.before =
+          same_Some (open_held g its.is.rec its.is.who its.is.before) (open_held g other.is.rec other.is.who other.is.before) (sym its.opened ∙ other.opened) in
+          subst (λ (t : OpenTransaction). IsLeftOpen F t.pool t.before image) one
+          (left_apart w g ready.mask old.now.words its.is own (its_own n g has apart) ready.tables image o (names_none_idle ready.mask image log_idle))
+    ]
+
+    -- so it stands for the world, where its log gives back what was there at the beginning
+    pub stands_within : SettlesTo (pool_ground F held.at) held.log.at is.before image → (world_of size image ≡ Some (closed w)) × RefusesNone image
+    stands_within settles =
+        let left : AreLeftOpen F ready.held.opens image = left_all w memory.held ready.mask old.now.words ready.held image (each_open settles) in
+        let it = under_left w memory.held ready.mask old.now.words ready.held size image left in
+        (it.stands (closed w) refl idle_masked, it.none (closed w) refl idle_masked)
+
+  -- ---- a call within it
+
+  module _ (fault : Option HostFault) (new : State) (changes : Changes own fault old new) where
+    -- each image left stands for the world
+    pub moments_within : Leaves (Silently (SettlesTo (pool_ground F held.at) held.log.at is.before)) old new → Leaves (Silently (λ image. (world_of size image ≡ Some (closed w)) × RefusesNone image)) old new
+    moments_within moments =
+        Leaves-weaker (Silently (λ image. SettlesTo (pool_ground F held.at) held.log.at is.before image × HasOrigin own old.now.words image)) (Silently (λ image. (world_of size image ≡ Some (closed w)) × RefusesNone image)) old new
+        (λ bytes image m. (m.0, stands_within image m.1.1 m.1.0))
+        (Leaves-from (SettlesTo (pool_ground F held.at) held.log.at is.before) own fault old new changes moments)
+
+    -- masked, a word has no value that it had not
+    masked_value : (k v : ℕ) (x : Option ℕ) → ready.mask k ≡ x → Has (values (masked ready.mask new.now.words k)) v → Has (values (masked ready.mask old.now.words k)) v
+    masked_value k v None none had =
+        subst (λ (c : Cell). Has (values c) v) (sym (masked-elsewhere ready.mask old.now.words k none))
+        (elim (Changes-now own fault old new changes k v (subst (λ (c : Cell). Has (values c) v) (masked-elsewhere ready.mask new.now.words k none) had)) [ inl was ↦ was | inr may ↦ absurd (written_masked k v may none) ])
+    masked_value k v (Some x) there had =
+        subst (λ (c : Cell). Has (values c) v) (masked-there ready.mask new.now.words k x there ∙ sym (masked-there ready.mask old.now.words k x there)) had
+
+    settled_within : IsSettled size (closed w) (masked ready.mask new.now.words)
+    settled_within = record {
+      stands = λ image picked. ready.settled.stands image (record { each = λ k. masked_value k (image k) (ready.mask k) refl (picked.each k) });
+      idle = λ v had. ready.settled.idle v (masked_value DAEMON_LOG v (ready.mask DAEMON_LOG) refl had);
+    }
+
+    rest_within : HasDurableFrames F (masked ready.mask new.now.words)
+    rest_within = record {
+      each = λ k above.
+          let one = ready.rest.each k above in
+          record {
+            each = λ x had.
+                one.each x (masked_value k x (ready.mask k) refl had)
+                ∙ sym (one.each (masked ready.mask new.now.words k).newest (masked_value k (masked ready.mask new.now.words k).newest (ready.mask k) refl (inl refl)));
+          };
+    }
+
+    logs_within : HasIdleLogs F w.clients (masked ready.mask new.now.words)
+    logs_within = record {
+      each = λ client n known below present.
+          let at = log_at F client n in
+          record { each = λ v had. (ready.logs.each client n known below present).each v (masked_value at v (ready.mask at) refl had) };
+    }
+
+  -- the transaction was changed, and used so many units more
+  module _ (log : OpenLog) (units : ℕ) (change : Transaction → Transaction) (charges : Charges units change) (fault : Option HostFault) (new : State) (at : log.at ≡ held.log.at)
+      (used : fault ≡ None → log.used ≡ held.log.used + units)
+      (runs : RunsOn F held.at w.stored.types log is.before is.undone (change is.transaction).now (change is.transaction).laters fault old new) where
+    abbrev next : World
+    next = record w { transactions = with_changed held.name change w.transactions }
+
+    abbrev later : Held
+    later = record held { log = log }
+
+    changes_own : Changes own fault old new
+    changes_own = subst (λ (n : ℕ). Changes (ByTransaction (pool_ground F held.at) n) fault old new) at runs.saves.runs.changes
+
+    moments_own : Leaves (Silently (StandsBetween size w next)) old new
+    moments_own =
+        Leaves-weaker (Silently (λ image. (world_of size image ≡ Some (closed w)) × RefusesNone image)) (Silently (StandsBetween size w next)) old new
+        (λ bytes image m. (m.0, (inl m.1.0, m.1.1)))
+        (moments_within fault new changes_own (subst (λ (n : ℕ). Leaves (Silently (SettlesTo (pool_ground F held.at) n is.before)) old new) at runs.saves.runs.moments))
+
+    kept_within : fault ≡ None → (k : ℕ) → k < tables_end F → reads new.now.words k ≡ now k
+    kept_within none k below =
+        reads_kept own old new k (subst (λ (f : Option HostFault). Changes own f old new) none changes_own) (λ v may. own_behind k v below may)
+
+    abbrev held_within : fault ≡ None → IsHeld next later ready.mask new.now.words
+    held_within none = record {
+      rec = is.rec;
+      who = is.who;
+      before = is.before;
+      undone = is.undone;
+      transaction = change is.transaction;
+      is = changed_there held.name w.transactions change is.transaction is.is;
+      client = charges.client is.transaction ∙ is.client;
+      units = charges.used is.transaction ∙ ap (λ (n : ℕ). n + units) is.units ∙ sym (used none);
+      present = is.present;
+      owner = is.owner;
+      gate = at ∙ is.gate;
+      name = is.name;
+      stored = is.stored;
+      count = is.count;
+      pool = is.pool;
+      records = λ k of.
+          let place = open_record_place F p k is.pool.slot is.pool.known (open_on_device F p is.before is.pool) of in
+          kept_within none k place.high ∙ is.records k of;
+      running = record {
+        redo = runs.redo;
+        saving = record { es = runs.saves.es; running = runs.saves.runs.running none; asks = runs.saves.asks };
+        was = runs.was;
+        is = runs.is none;
+        are = runs.are none;
+      };
+      masked = is.masked;
+    }
+
+    same_pool : StaysOpen held later
+    same_pool = record { client = refl; name = refl; slot = refl; number = refl; gate = at }
+
+    -- another is on a pool of another name, and keeps its transaction
+    keeps_other : (n : ℕ) (g : Held) → n ≢ number → held_under memory.held n ≡ Some g → KeepsOne w next g
+    keeps_other n g apart has = record {
+      frames = refl;
+      transaction = changed_elsewhere held.name w.transactions change g.name (λ same. apart (ready.held.names n number g held has there same));
+      present = refl;
+      stored = refl;
+      puddles = refl;
+      types = λ id m defined. defined;
+      graphs = λ st graph stored. stored;
+    }
+
+    other_within : fault ≡ None → (n : ℕ) (g : Held) → n ≢ number → held_under memory.held n ≡ Some g → IsHeldUnder next ready.held.opens ready.mask new.now.words n g
+    other_within none n g apart has =
+        let other = ready.held.each n g has in
+        record {
+          is = held_still w next g ready.mask ready.mask old new other.is (keeps_other n g apart has) own (its_own n g has apart) (subst (λ (f : Option HostFault). Changes own f old new) none changes_own) other.is.masked;
+          number_is = other.number_is;
+          opened = other.opened;
+        }
+
+    were : WereOpen w.transactions next.transactions
+    were = WereOpen-changed held.name change w.transactions (λ t. sym (charges.client t)) (λ t. sym (charges.depth t))
+
+    holds_within : fault ≡ None → Holds next (with_held number (Some later) memory).held ready.mask new.now.words
+    holds_within none =
+        Holds-later memory.held number held later there same_pool w next were ready.mask ready.mask old.now.words new.now.words ready.held ready.held.opens ready.held.are ready.held.masks
+        (record { is = held_within none; number_is = under.number_is; opened = under.opened }) (other_within none) (λ n apart free. free)
+
+    -- all other pools stay
+    knows_within : fault ≡ None → KnowsPools F memory.judged (with_held number (Some later) memory).held (reads new.now.words)
+    knows_within none =
+        KnowsPools-later memory.held number held later there same_pool F memory.judged now (reads new.now.words)
+        (KeepsPools-held w held ready.mask old new is (subst (λ (f : Option HostFault). Changes own f old new) none changes_own)) ready.knows
+
+    ready_within : fault ≡ None → IsReady size next (with_held number (Some later) memory) new
+    ready_within none = record {
+      mask = ready.mask;
+      settled = settled_within fault new changes_own;
+      tables = HasDurableTables-kept F own fault old new changes_own own_behind ready.tables;
+      clients = λ client low. owner_of-same (reads new.now.words) now client low (λ k from to. kept_within none k (omega arith)) ∙ ready.clients client low;
+      frames = ready.frames;
+      shelf = changes_own.shelf ∙ ready.shelf;
+      held = holds_within none;
+      sessions = HasSessions-later memory.held number held later there same_pool w next were memory.sessions ready.sessions;
+      rest = rest_within fault new changes_own;
+      logs = logs_within fault new changes_own;
+      knows = knows_within none;
+    }
+
+    pub Applies-runs : Applies size w next (with_held number (Some later) memory) fault old new
+    Applies-runs = record {
+      moments = moments_own;
+      quiet = Changes-said own fault old new changes_own;
+      ready = ready_within;
+      rests = changes_own.rests;
+      script = changes_own.script;
+    }

@@ -1,0 +1,86 @@
+-- A change is made within a transaction that is held.
+use Rattle.std.proofs.Common.{◌≡◌, ℕ, ◌+◌, List, Option, Some, None, Result, Ok, Err, refl, sym, ap, subst}
+use Rattle.std.specs.Prelude.{IfOk}
+use Rattle.pm_model.specs.declared.host.HostFault.{HostFault}
+use Rattle.pm_model.specs.Counts.{fault_of}
+use Rattle.pm_model.specs.Words.{reads}
+use Rattle.pm_model.specs.Moments.{State}
+use Rattle.pud_defs.specs.declared.layout.TheConstants.{SET_UNITS}
+use Rattle.pud_defs.specs.declared.records.Puddle.{Puddle}
+use Rattle.pud_defs.specs.GraphChanges.{with_field, with_root, without_object}
+use Rattle.pud_defs.specs.Step.{refusal_of, after}
+use Rattle.pud_defs.specs.Stored.{stored_in}
+use Rattle.pud_defs.specs.Transactions.{with_changed}
+use Rattle.pud_defs.specs.World.{Transaction, World}
+use Rattle.log_store.specs.Store.{OpenLog, longer}
+use Rattle.hybrid_tx.specs.Grounds.{IsPlaced, IsRewritten}
+use Rattle.hybrid_tx.specs.Transactions.{IsOpenOn, RunsOn}
+use Rattle.pool_transaction.specs.declared.changing.Change.{Change}
+use Rattle.pool_transaction.specs.declared.changing.Change.TheVariants.{Set, Later, Root, Free}
+use Rattle.pool_transaction.specs.Changing.{line_of, changed_by, MayChange}
+use Rattle.ready_daemon.specs.Memory.{Held, Memory, held_under, with_held}
+use Rattle.ready_daemon.specs.Held.{IsHeld}
+use Rattle.ready_daemon.specs.Ready.{IsReady, Applies}
+use Rattle.pool_transaction.proofs.FieldsTyped.{may_change_unrefused}
+use Rattle.pool_transaction.proofs.HeldRuns.{is_held, held_placed, Applies-runs}
+use Rattle.ready_daemon.proofs.OpenNames.{Charges, Charges-charged, Charges-asked}
+
+-- what a call used that did not fail
+pub used_more : {X : Type 0} (done : Result X HostFault) (units : ℕ) (log old : OpenLog) → IfOk done (λ _. log ≡ longer units old) → fault_of done ≡ None → log.used ≡ old.used + units
+used_more (Ok x) units log old told none = ap (λ (l : OpenLog). l.used) told
+used_more (Err fault) units log old told none = absurd (let no : Some fault ≡ None = none in cc)
+
+-- what a line makes of the world
+after_line : (w : World) (client : ℕ) (name : List ℕ) (change : Change) → after w (line_of change client name) ≡ record w { transactions = with_changed name (changed_by change) w.transactions }
+unfolding after
+after_line w client name (Set s f x) = refl
+after_line w client name (Later s f x) = refl
+after_line w client name (Root s) = refl
+after_line w client name (Free s) = refl
+
+Charges-change : (change : Change) → Charges SET_UNITS (changed_by change)
+Charges-change (Set s f x) = Charges-charged SET_UNITS (with_field s f x)
+Charges-change (Later s f x) = Charges-asked SET_UNITS (record { s = s; f = f; x = x })
+Charges-change (Root s) = Charges-charged SET_UNITS (with_root s)
+Charges-change (Free s) = Charges-charged SET_UNITS (without_object s)
+
+module _ (size : ℕ) (w : World) (memory : Memory) (held : Held) (old : State) (number : ℕ) (there : held_under memory.held number ≡ Some held) (ready : IsReady size w memory old) where
+  abbrev is : IsHeld w held ready.mask old.now.words
+  is = is_held size w memory held old number there ready
+
+  module _ (F : ℕ) (at : List (ℕ × Puddle)) (same : F ≡ w.stored.frames) (listed : at ≡ held.at) (log : OpenLog) (new : State) (gate : log.at ≡ held.log.at) where
+    -- what a call owes that changes the transaction so, on these puddles
+    abbrev pub OwesRuns : ℕ → List (ℕ × Puddle) → (change : Transaction → Transaction) → Option HostFault → Type 0
+    OwesRuns n puddles change fault =
+        IsPlaced n puddles → IsOpenOn n puddles w.stored.types held.log is.before is.undone is.transaction.now is.transaction.laters old.now.words
+        → RunsOn n puddles w.stored.types log is.before is.undone (change is.transaction).now (change is.transaction).laters fault old new
+
+    -- and where it did not fail these units
+    abbrev pub OwesUsed : ℕ → List (ℕ × Puddle) → {X : Type 0} → (units : ℕ) → Result X HostFault → Type 0
+    OwesUsed n puddles units done =
+        IsPlaced n puddles → IsOpenOn n puddles w.stored.types held.log is.before is.undone is.transaction.now is.transaction.laters old.now.words → IfOk done (λ _. log ≡ longer units held.log)
+
+    pub told : {X : Type 0} (units : ℕ) (done : Result X HostFault) → OwesUsed F at units done → IfOk done (λ _. log ≡ longer units held.log)
+    told units done used =
+        subst (λ (n : ℕ). OwesUsed n held.at units done) same (subst (λ (puddles : List (ℕ × Puddle)). OwesUsed F puddles units done) listed used) (held_placed size w memory held old number there ready) is.running
+
+    pub owed : (change : Transaction → Transaction) (fault : Option HostFault) → OwesRuns F at change fault
+        → RunsOn w.stored.frames held.at w.stored.types log is.before is.undone (change is.transaction).now (change is.transaction).laters fault old new
+    owed change fault runs =
+        subst (λ (n : ℕ). OwesRuns n held.at change fault) same (subst (λ (puddles : List (ℕ × Puddle)). OwesRuns F puddles change fault) listed runs) (held_placed size w memory held old number there ready) is.running
+
+    -- a call that owes this carries the change out
+    pub Applies-changed : (units : ℕ) (change : Transaction → Transaction) → Charges units change → (done : Result Unit HostFault) → OwesRuns F at change (fault_of done) → OwesUsed F at units done
+        → Applies size w (record w { transactions = with_changed held.name change w.transactions }) (with_held number (Some (record held { log = log })) memory) (fault_of done) old new
+    Applies-changed units change charges done runs used =
+        Applies-runs size w memory held old number there ready log units change charges (fault_of done) new gate (used_more done units log held.log (told units done used)) (owed change (fault_of done) runs)
+
+    -- a line that is not refused is carried out by a call that makes its change, where it may be made
+    pub Applies-line : (change : Change) (done : Result Unit HostFault) → IsRewritten held.at → refusal_of w (line_of change held.client held.name) ≡ None
+        → (IsRewritten at → MayChange w.stored.types is.transaction change → OwesRuns F at (changed_by change) (fault_of done))
+        → (MayChange w.stored.types is.transaction change → OwesUsed F at SET_UNITS done)
+        → Applies size w (after w (line_of change held.client held.name)) (with_held number (Some (record held { log = log })) memory) (fault_of done) old new
+    Applies-line change done rewritten free runs used =
+        let may = may_change_unrefused w held.client held.name change (stored_in w.stored.frames held.at (reads old.now.words)) is.transaction is.is is.running.is free in
+        subst (λ (v : World). Applies size w v (with_held number (Some (record held { log = log })) memory) (fault_of done) old new) (sym (after_line w held.client held.name change))
+        (Applies-changed SET_UNITS (changed_by change) (Charges-change change) done (runs (subst IsRewritten (sym listed) rewritten) may) (used may))

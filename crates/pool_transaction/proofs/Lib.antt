@@ -1,0 +1,16 @@
+pub mod TransactionRefusals
+pub mod FieldsTyped
+pub mod HeldChanged
+pub mod HeldRuns
+pub mod HeldSets
+pub mod Widened
+pub mod HeldPools
+pub mod HeldMakes
+pub mod HeldGrows
+pub mod HeldNew
+pub mod HeldLines
+pub mod Beginning
+pub mod Ending
+pub mod HeldEnds
+pub mod HeldRefusals
+pub mod ChangeAnswers

@@ -1,0 +1,241 @@
+-- Which refusal a line of a transaction meets: the causes of all of them on an open transaction, and then those of its own.
+use Rattle.std.proofs.Common.{◌≡◌, ℕ, ◌+◌, ◌≤◌, Bool, true, false, not, cond, ◌&&◌, ◌||◌, leb, ltb, eqb, List, Option, Some, None, is_some, is_none, refl, sym, ap, ap₂, ◌∙◌, eq-eqb}
+use Rattle.std.specs.Prelude.{slice_get}
+use Rattle.std.specs.Option.{option_or}
+use Rattle.std.proofs.lemmas.Bool.{ltb-false, or_parts}
+use Rattle.std.proofs.lemmas.Option.{none-some}
+use Rattle.pm_model.specs.Words.{Words}
+use Rattle.pm_model.specs.Changes.{Write}
+use Rattle.pud_defs.specs.declared.layout.TheConstants.{CLIENT_LOGS, LOG_ENTRY_WORDS, MAX_DEPTH, SET_UNITS, NEW_UNITS}
+use Rattle.pud_defs.specs.declared.objects.Val.{Val}
+use Rattle.pud_defs.specs.declared.objects.Val.TheVariants.{Ref}
+use Rattle.pud_defs.specs.declared.machine.Command.TheVariants.{Begin, Commit, Abort, New, Set}
+use Rattle.pud_defs.specs.declared.machine.Command.TheVariants as commands
+use Rattle.pud_defs.specs.declared.machine.Refusal.{Refusal}
+use Rattle.pud_defs.specs.declared.machine.Refusal.TheVariants as refusals
+use Rattle.pud_defs.specs.Types.{map_of}
+use Rattle.pud_defs.specs.Spaces.{Owner}
+use Rattle.pud_defs.specs.Graph.{Graph, Object, object_in}
+use Rattle.pud_defs.specs.Laters.{Later, laters_name}
+use Rattle.pud_defs.specs.Tables.{Pool}
+use Rattle.pud_defs.specs.PoolChanges.{pool_named, lacks_frames}
+use Rattle.pud_defs.specs.World.{Transaction, World}
+use Rattle.pud_defs.specs.Transactions.{is_own, is_others, units_of, depth_of, laters_of}
+use Rattle.pud_defs.specs.Step.{writes, graph_in, graph_seen, object_of, field_of, open_elsewhere, misses, are_of_two_kinds, is_held_in, grows, lacks_room, holds, refusal_of}
+use Rattle.pool_transaction.specs.declared.changing.Change.{Change}
+use Rattle.pool_transaction.specs.declared.changing.Change.TheVariants as changes
+use Rattle.pool_transaction.specs.Changing.{line_of}
+use Rattle.ready_daemon.specs.Memory.{Held}
+use Rattle.ready_daemon.specs.Held.{Holds, IsHeld, IsOwn}
+use Rattle.pool_transaction.specs.Refusing.{busy_unless, refusal_to_write}
+use Rattle.ready_daemon.proofs.Beside.{held_is}
+
+-- ---- by their parts
+
+-- of a line on the client's own transaction, before what it asks is looked at
+abbrev pub own_refusal : Option Owner → Option Pool → (client : ℕ) → Option Transaction → Option Refusal
+own_refusal who found client opened =
+    cond (not (is_some who)) (Some refusals.Client)
+    (cond (is_none found) (Some refusals.Pool)
+    (cond (is_none (graph_in found)) (Some refusals.Wild)
+    (cond (is_others client opened) (Some refusals.Busy)
+    (cond (not (is_own client opened)) (Some refusals.Tx) None))))
+
+-- of `begin`, on a pool that the client may write, by what is open on it and how many the client has on others
+abbrev pub entering_refusal : (client : ℕ) → Option Transaction → (elsewhere : ℕ) → Option Refusal
+entering_refusal client opened elsewhere =
+    cond (is_own client opened && leb MAX_DEPTH (depth_of opened)) (Some refusals.Deep)
+    (cond (not (is_own client opened) && leb CLIENT_LOGS elsewhere) (Some refusals.Logs) None)
+
+-- of `set`, where the client's own transaction is open, by the graph as it is seen and the units that are used
+abbrev pub setting_refusal : Option Graph → (units s f : ℕ) → Val → Option Refusal
+setting_refusal g units s f x =
+    cond (misses g x || is_none (object_of s g)) (Some refusals.Object)
+    (cond (is_none (field_of f (object_of s g))) (Some refusals.Field)
+    (cond (are_of_two_kinds (field_of f (object_of s g)) x) (Some refusals.Kind)
+    (cond (ltb LOG_ENTRY_WORDS (units + SET_UNITS)) (Some refusals.TooBig) None)))
+
+-- of `root`
+abbrev pub rooting_refusal : Option Graph → (units s : ℕ) → Option Refusal
+rooting_refusal g units s = cond (misses g (Ref s)) (Some refusals.Object) (cond (ltb LOG_ENTRY_WORDS (units + SET_UNITS)) (Some refusals.TooBig) None)
+
+-- of `free`, also by what is asked for later
+abbrev pub freeing_refusal : Option Graph → List Later → (units s : ℕ) → Option Refusal
+freeing_refusal g laters units s =
+    cond (is_none (object_of s g)) (Some refusals.Object)
+    (cond (is_held_in s g || laters_name s laters) (Some refusals.Held)
+    (cond (ltb LOG_ENTRY_WORDS (units + SET_UNITS)) (Some refusals.TooBig) None))
+
+-- of any such line
+abbrev pub change_refusal : Change → Option Graph → List Later → (units : ℕ) → Option Refusal
+change_refusal (changes.Set s f x) g laters units = setting_refusal g units s f x
+change_refusal (changes.Later s f x) g laters units = setting_refusal g units s f x
+change_refusal (changes.Root s) g laters units = rooting_refusal g units s
+change_refusal (changes.Free s) g laters units = freeing_refusal g laters units s
+
+-- of `new`, where the client's own transaction is open, by the map of the type and by what is full
+abbrev pub making_refusal : (map : Option ℕ) → (units : ℕ) → (full lacks : Bool) → Option Refusal
+making_refusal map units full lacks =
+    cond (is_none map) (Some refusals.Type)
+    (cond (ltb LOG_ENTRY_WORDS (units + NEW_UNITS)) (Some refusals.TooBig)
+    (cond full (Some refusals.Full)
+    (cond lacks (Some refusals.Space) None)))
+
+-- five causes in front of others
+behind : (r q t u v : Refusal) (a b c d e : Bool) (rest : Option Refusal)
+    → cond a (Some r) (cond b (Some q) (cond c (Some t) (cond d (Some u) (cond e (Some v) rest)))) ≡ option_or (cond a (Some r) (cond b (Some q) (cond c (Some t) (cond d (Some u) (cond e (Some v) None))))) rest
+behind r q t u v true b c d e rest = refl
+behind r q t u v false true c d e rest = refl
+behind r q t u v false false true d e rest = refl
+behind r q t u v false false false true e rest = refl
+behind r q t u v false false false false true rest = refl
+behind r q t u v false false false false false rest = refl
+
+module _ (w : World) (client : ℕ) (name : List ℕ) where
+  abbrev acts : Option Owner
+  acts = w.clients client
+
+  abbrev found : Option Pool
+  found = pool_named name w.stored
+
+  abbrev opened : Option Transaction
+  opened = w.transactions name
+
+  pub refusal_of-commit : refusal_of w (Commit client name) ≡ own_refusal acts found client opened
+  unfolding refusal_of holds
+  refusal_of-commit = refl
+
+  pub refusal_of-abort : refusal_of w (Abort client name) ≡ refusal_of w (Commit client name)
+  unfolding refusal_of holds
+  refusal_of-abort = refl
+
+  pub refusal_of-begin : refusal_of w (Begin client name) ≡ option_or (refusal_to_write w client name) (entering_refusal client opened (open_elsewhere w client name))
+  unfolding refusal_of holds
+  refusal_of-begin =
+      behind refusals.Client refusals.Pool refusals.Wild refusals.Denied refusals.Busy (not (is_some acts)) (is_none found) (is_none (graph_in found)) (not (writes acts found)) (is_others client opened)
+      (entering_refusal client opened (open_elsewhere w client name))
+
+  -- what is asked for later is refused as what is set
+  pub refusal_of-later : (s f : ℕ) (x : Val) → refusal_of w (commands.Later client name s f x) ≡ refusal_of w (Set client name s f x)
+  unfolding refusal_of holds
+  refusal_of-later s f x = refl
+
+  abbrev its_own : Change → Option Refusal
+  its_own change = change_refusal change (graph_seen opened found) (laters_of opened) (units_of opened)
+
+  behind_own : (rest : Option Refusal)
+      → cond (not (is_some acts)) (Some refusals.Client)
+      (cond (is_none found) (Some refusals.Pool)
+      (cond (is_none (graph_in found)) (Some refusals.Wild) (cond (is_others client opened) (Some refusals.Busy) (cond (not (is_own client opened)) (Some refusals.Tx) rest))))
+      ≡ option_or (own_refusal acts found client opened) rest
+  behind_own rest = behind refusals.Client refusals.Pool refusals.Wild refusals.Busy refusals.Tx (not (is_some acts)) (is_none found) (is_none (graph_in found)) (is_others client opened) (not (is_own client opened)) rest
+
+  change_by : (change : Change) → refusal_of w (line_of change client name) ≡ option_or (own_refusal acts found client opened) (its_own change)
+  unfolding refusal_of holds
+  change_by (changes.Set s f x) = behind_own (its_own (changes.Set s f x))
+  change_by (changes.Later s f x) = behind_own (its_own (changes.Later s f x))
+  change_by (changes.Root s) = behind_own (its_own (changes.Root s))
+  change_by (changes.Free s) = behind_own (its_own (changes.Free s))
+
+  pub refusal_of-change : (change : Change) → refusal_of w (line_of change client name) ≡ option_or (refusal_of w (Commit client name)) (its_own change)
+  refusal_of-change change = change_by change ∙ ap (λ (r : Option Refusal). option_or r (its_own change)) (sym refusal_of-commit)
+
+  new_by : (t : ℕ) → refusal_of w (New client name t)
+      ≡ option_or (own_refusal acts found client opened) (making_refusal (map_of t w.stored.types) (units_of opened) (lacks_room w name) (grows w name && lacks_frames w.stored 1))
+  unfolding refusal_of holds
+  new_by t = behind_own (making_refusal (map_of t w.stored.types) (units_of opened) (lacks_room w name) (grows w name && lacks_frames w.stored 1))
+
+  pub refusal_of-new : (t : ℕ) → refusal_of w (New client name t)
+      ≡ option_or (refusal_of w (Commit client name)) (making_refusal (map_of t w.stored.types) (units_of opened) (lacks_room w name) (grows w name && lacks_frames w.stored 1))
+  refusal_of-new t =
+      new_by t
+      ∙ ap (λ (r : Option Refusal). option_or r (making_refusal (map_of t w.stored.types) (units_of opened) (lacks_room w name) (grows w name && lacks_frames w.stored 1))) (sym refusal_of-commit)
+
+  -- a `begin` on a pool that the client may not write
+  pub refused_begin : (r : Refusal) → refusal_to_write w client name ≡ Some r → refusal_of w (Begin client name) ≡ Some r
+  refused_begin r refused = refusal_of-begin ∙ ap (λ (o : Option Refusal). option_or o (entering_refusal client opened (open_elsewhere w client name))) refused
+
+  -- a line that is refused before what it asks is looked at
+  module _ (r : Refusal) (refused : refusal_of w (Commit client name) ≡ Some r) where
+    pub refused_change : (change : Change) → refusal_of w (line_of change client name) ≡ Some r
+    refused_change change = refusal_of-change change ∙ ap (λ (o : Option Refusal). option_or o (its_own change)) refused
+
+    pub refused_new : (t : ℕ) → refusal_of w (New client name t) ≡ Some r
+    refused_new t = refusal_of-new t ∙ ap (λ (o : Option Refusal). option_or o (making_refusal (map_of t w.stored.types) (units_of opened) (lacks_room w name) (grows w name && lacks_frames w.stored 1))) refused
+
+-- ---- the client's own transaction is open
+
+by_own : (own : Bool) → cond (not own) (Some refusals.Busy) (cond (not own) (Some refusals.Tx) None) ≡ busy_unless own
+by_own true = refl
+by_own false = refl
+
+-- on a pool with a graph a line on an open transaction is refused where that is another's
+pub own_refusal-open : (who : Owner) (found : Option Pool) (g : Graph) (client : ℕ) (t : Transaction) → graph_in found ≡ Some g → own_refusal (Some who) found client (Some t) ≡ busy_unless (eqb t.client client)
+own_refusal-open who None g client t stored = absurd (none-some g stored)
+own_refusal-open who (Some pool) g client t stored =
+    ap (λ (h : Option Graph). cond (is_none h) (Some refusals.Wild) (cond (not (eqb t.client client)) (Some refusals.Busy) (cond (not (eqb t.client client)) (Some refusals.Tx) None))) stored
+    ∙ by_own (eqb t.client client)
+
+-- no line on the pool on which it is held is refused before what it asks is looked at
+own_by : (w : World) (held : Held) (mask : Write) (words : Words) → IsHeld w held mask words → refusal_of w (Commit held.client held.name) ≡ None
+own_by w held mask words is =
+    refusal_of-commit w held.client held.name
+    ∙ ap₂ (λ (acts : Option Owner) (opened : Option Transaction). own_refusal acts (pool_named held.name w.stored) held.client opened) is.present is.is
+    ∙ own_refusal-open is.who (pool_named held.name w.stored) is.undone held.client is.transaction is.stored
+    ∙ ap busy_unless (eq-eqb is.transaction.client held.client is.client)
+
+pub own_is_open : (w : World) (held : List (Option Held)) (mask : Write) (words : Words) (client : ℕ) (name : List ℕ) (number : ℕ) → Holds w held mask words → IsOwn client name number held
+    → refusal_of w (Commit client name) ≡ None
+own_is_open w held mask words client name number holds own =
+    ap₂ (λ (c : ℕ) (n : List ℕ). refusal_of w (Commit c n)) (sym own.whose) (sym own.pool) ∙ own_by w own.mine mask words (held_is w held mask words holds number own.mine own.is)
+
+-- ---- what a line that is not refused has
+
+pub unless : (b : Bool) (r : Refusal) (rest : Option Refusal) → cond b (Some r) rest ≡ None → (b ≡ false) × (rest ≡ None)
+unless true r rest none = absurd (none-some r (sym none))
+unless false r rest none = (refl, none)
+
+neither : (first rest : Option Refusal) → option_or first rest ≡ None → (first ≡ None) × (rest ≡ None)
+neither None rest none = (refl, none)
+neither (Some r) rest none = absurd (none-some r (sym none))
+
+pub some_there : {A : Type 0} (o : Option A) → is_none o ≡ false → (x : A) × (o ≡ Some x)
+some_there None there = absurd (let no : true ≡ false = there in cc)
+some_there (Some x) there = (x, refl)
+
+-- The object is live and has the field, which is of the value's kind; what is to be named is live or null; and the units fit.
+pub record IsSettable (g : Graph) (units s f : ℕ) (x : Val) : Type 0 where
+  pub object : Object
+  pub live : object_in s g ≡ Some object
+  pub was : Val
+  pub there : slice_get object.fields f ≡ Some was
+  pub named : misses (Some g) x ≡ false
+  pub kind : are_of_two_kinds (Some was) x ≡ false
+  pub fits : units + SET_UNITS ≤ LOG_ENTRY_WORDS
+
+pub settable_by : (g : Graph) (units s f : ℕ) (x : Val) → setting_refusal (Some g) units s f x ≡ None → IsSettable g units s f x
+settable_by g units s f x none =
+    let object = unless (misses (Some g) x || is_none (object_in s g)) refusals.Object _ none in
+    let names = or_parts (misses (Some g) x) (is_none (object_in s g)) object.0 in
+    let field = unless (is_none (field_of f (object_in s g))) refusals.Field _ object.1 in
+    let kind = unless (are_of_two_kinds (field_of f (object_in s g)) x) refusals.Kind _ field.1 in
+    let big = unless (ltb LOG_ENTRY_WORDS (units + SET_UNITS)) refusals.TooBig None kind.1 in
+    let o = some_there (object_in s g) names.1 in
+    let v = some_there (field_of f (object_in s g)) field.0 in
+    let there : slice_get o.0.fields f ≡ Some v.0 = sym (ap (field_of f) o.1) ∙ v.1 in
+    record {
+      object = o.0;
+      live = o.1;
+      was = v.0;
+      there = there;
+      named = names.0;
+      kind = ap (λ (d : Option Val). are_of_two_kinds d x) (sym v.1) ∙ kind.0;
+      fits = ltb-false LOG_ENTRY_WORDS (units + SET_UNITS) big.0;
+    }
+
+module _ (w : World) (client : ℕ) (name : List ℕ) (t : Transaction) (open_there : w.transactions name ≡ Some t) where
+  -- nothing of its own refuses it
+  pub change_parts : (change : Change) → refusal_of w (line_of change client name) ≡ None → change_refusal change (Some t.now) t.laters t.units ≡ None
+  change_parts change none =
+      ap (λ (o : Option Transaction). change_refusal change (graph_seen o (pool_named name w.stored)) (laters_of o) (units_of o)) (sym open_there)
+      ∙ (neither (refusal_of w (Commit client name)) _ (sym (refusal_of-change w client name change) ∙ none)).1

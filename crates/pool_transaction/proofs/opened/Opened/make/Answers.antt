@@ -1,0 +1,54 @@
+use Rattle.std.proofs.Common.{◌≡◌, true, false, Some, None, sym, ap, ◌∙◌, subst}
+use Rattle.std.specs.Prelude.{IfOk}
+use Rattle.pm_model.specs.Counts.{fault_of}
+use Rattle.pud_defs.specs.PoolChanges.{pool_named}
+use Rattle.pud_defs.specs.Step.{graph_seen, next_in, grows}
+use Rattle.ready_daemon.specs.Memory.{Held, held_under, with_held}
+use Rattle.pool_transaction.specs.Changing.{refusal_by_world, with_made}
+use Rattle.ready_daemon.specs.Ready.{Applies}
+use Rattle.pool_transaction.proofs.HeldMakes.{all_live, Applies-made, serial_made}
+use Rattle.pool_transaction.proofs.opened.Opened.make.Goals as goal
+
+pub returns-clause-makes : goal.returns-clause-makes
+returns-clause-makes g c = λ t size w memory frames there ready none less.
+    let i = c.self.inside in
+    let held : Held = record { client = i.client; name = i.name; slot = i.slot; at = i.puddles; number = i.number; log = i.tx } in
+    let old = g.H.Host.state c.args.h.now in
+    let new = g.H.Host.state c.new-made.new.h in
+    subst (λ (o : Held).
+    held_under memory.held o.number ≡ Some o → refusal_by_world w o c.args.t ≡ None → grows w o.name ≡ false
+    → Applies size w (with_made o.name c.args.t w) (with_held o.number (Some (record held { log = c.new-made.new.self })) memory) (fault_of c.new-made.result) old new)
+    c.self.view_is
+    (λ there none less.
+    Applies-made size w memory held old held.number there ready c.args.frames c.as_slice.result.now (sym frames ∙ ready.frames) c.as_slice.ensures.puddles c.args.t none c.new-made.new.self new c.new-made.ensures.at c.new-made.result less
+    (λ m defined left live placed running. c.new-made.ensures.runs t _ m _ _ _ _ placed running defined left live)
+    (c.new-made.ensures.counts t))
+    there none less
+
+pub returns-clause-serial : goal.returns-clause-serial
+returns-clause-serial g c = λ t size w memory frames there ready less.
+    let i = c.self.inside in
+    let held : Held = record { client = i.client; name = i.name; slot = i.slot; at = i.puddles; number = i.number; log = i.tx } in
+    let old = g.H.Host.state c.args.h.now in
+    subst (λ (o : Held).
+    held_under memory.held o.number ≡ Some o → grows w o.name ≡ false
+    → IfOk c.new-made.result (λ serial. serial ≡ next_in (graph_seen (w.transactions o.name) (pool_named o.name w.stored))))
+    c.self.view_is
+    (λ there less.
+    serial_made size w memory held old held.number there ready c.args.frames c.as_slice.result.now (sym frames ∙ ready.frames) c.as_slice.ensures.puddles c.new-made.result less (λ is live. c.new-made.ensures.serial t _ _ is live))
+    there less
+
+pub returns-clause-full : goal.returns-clause-full
+returns-clause-full g c = λ t size w memory frames there ready more.
+    let i = c.self.inside in
+    let held : Held = record { client = i.client; name = i.name; slot = i.slot; at = i.puddles; number = i.number; log = i.tx } in
+    let old = g.H.Host.state c.args.h.now in
+    let new = g.H.Host.state c.new-made.new.h in
+    subst (λ (o : Held).
+    held_under memory.held o.number ≡ Some o → grows w o.name ≡ true
+    → IfOk c.new-made.result (λ serial. serial ≡ 0) × (new ≡ old) × (record held { log = c.new-made.new.self } ≡ o))
+    c.self.view_is
+    (λ there more.
+    let full = c.new-made.ensures.full t (all_live size w memory held old held.number there ready c.args.frames c.as_slice.result.now (sym frames ∙ ready.frames) c.as_slice.ensures.puddles more) in
+    (full.0, full.1, ap (λ log. record held { log = log }) full.2))
+    there more

@@ -1,0 +1,89 @@
+-- What a line changes in a transaction that is held, and what stays of it while it goes on; why an object is not made in it, and what making one leaves.
+use Rattle.std.specs.Prelude.{◌≡◌, ℕ, ◌+◌, ◌<◌, ◌≤◌, Bool, false, not, nat_le, nat_lt, cond, List, length, Option, Some, None, is_none, is_some}
+use Rattle.pud_defs.specs.declared.layout.TheConstants.{LOG_ENTRY_WORDS, MAX_FIELDS, SET_UNITS, NEW_UNITS, NUMBER_LIMIT, NEXT_NUMBER_WORD}
+use Rattle.pud_defs.specs.declared.machine.Command.{Command}
+use Rattle.pud_defs.specs.declared.machine.Command.TheVariants as commands
+use Rattle.pud_defs.specs.declared.machine.Refusal.{Refusal}
+use Rattle.pud_defs.specs.declared.machine.Refusal.TheVariants as refusals
+use Rattle.pud_defs.specs.GraphChanges.{with_field, with_root, without_object, with_new}
+use Rattle.pud_defs.specs.Image.{Image}
+use Rattle.pud_defs.specs.Keyed.{first_free}
+use Rattle.pud_defs.specs.Laters.{laters_name}
+use Rattle.pud_defs.specs.PoolChanges.{pool_named, with_grown_pool}
+use Rattle.pud_defs.specs.Step.{graph_seen, next_in, object_made}
+use Rattle.pud_defs.specs.Tables.{tables_of}
+use Rattle.pud_defs.specs.Transactions.{with_changed, charged, asked}
+use Rattle.pud_defs.specs.Types.{map_of}
+use Rattle.pud_defs.specs.World.{Transaction, World}
+use Rattle.registry.specs.Growth.{has_room}
+use Rattle.hybrid_tx.specs.Transactions.{MayName, MaySet, MayFree}
+use Rattle.pool_transaction.specs.declared.changing.Change.{Change}
+use Rattle.pool_transaction.specs.declared.changing.Change.TheVariants.{Set, Later, Root, Free}
+use Rattle.ready_daemon.specs.Memory.{Held}
+
+-- ---- a line of three units
+
+-- the line of a client, on the pool of a name, that asks for the change
+abbrev pub line_of : Change → (client : ℕ) → List ℕ → Command
+line_of (Set s f x) client name = commands.Set client name s f x
+line_of (Later s f x) client name = commands.Later client name s f x
+line_of (Root s) client name = commands.Root client name s
+line_of (Free s) client name = commands.Free client name s
+
+-- a field is one that an object may have, and the serial of what is freed is not 0
+abbrev pub IsLegalChange : Change → Type 0
+IsLegalChange (Set s f x) = f < MAX_FIELDS
+IsLegalChange (Later s f x) = f < MAX_FIELDS
+IsLegalChange (Root s) = Unit {0}
+IsLegalChange (Free s) = 1 ≤ s
+
+-- the transaction with it
+abbrev pub changed_by : Change → Transaction → Transaction
+changed_by (Set s f x) = charged SET_UNITS (with_field s f x)
+changed_by (Later s f x) = asked SET_UNITS (record { s = s; f = f; x = x })
+changed_by (Root s) = charged SET_UNITS (with_root s)
+changed_by (Free s) = charged SET_UNITS (without_object s)
+
+-- By the graph of the transaction, and by what is asked for later, the change may be made.
+abbrev pub MayChange : List (ℕ × ℕ) → Transaction → Change → Type 0
+MayChange types t (Set s f x) = MaySet types t.now s f x
+MayChange types t (Later s f x) = MaySet types t.now s f x
+MayChange types t (Root s) = MayName t.now s
+MayChange types t (Free s) = MayFree t.now s × (laters_name s t.laters ≡ false)
+
+-- ---- a transaction goes on
+
+-- It is the same client's, on the pool of the same name in the same slot, and has the same log.
+pub record StaysOpen (old new : Held) : Type 0 where
+  pub client : new.client ≡ old.client
+  pub name : new.name ≡ old.name
+  pub slot : new.slot ≡ old.slot
+  pub number : new.number ≡ old.number
+  pub gate : new.log.at ≡ old.log.at
+
+-- ---- an object is made
+
+-- why none is, whatever slots there are: by the map of its type, the units that were used, and the next serial
+abbrev pub refusal_to_make : (map : Option ℕ) → (units next : ℕ) → Option Refusal
+refusal_to_make map units next =
+    cond (is_none map) (Some refusals.Type) (cond (nat_lt LOG_ENTRY_WORDS (units + NEW_UNITS)) (Some refusals.TooBig) (cond (nat_le NUMBER_LIMIT next) (Some refusals.Full) None))
+
+-- why a pool of so many puddles has no puddle more for it: by the next UUID number, and whether a frame is free
+abbrev pub refusal_to_grow : (puddles number : ℕ) → (free : Bool) → Option Refusal
+refusal_to_grow puddles number free = cond (not (has_room puddles number)) (Some refusals.Full) (cond (not free) (Some refusals.Space) None)
+
+-- by the words of an image of so many frames
+abbrev pub refusal_by_tables : ℕ → Held → Image → Option Refusal
+refusal_by_tables F held image = refusal_to_grow (length held.at) (image NEXT_NUMBER_WORD) (is_some (first_free (tables_of F image).puddles 0 (tables_of F image).frames))
+
+-- by the world, of an object of this type
+abbrev pub refusal_by_world : World → Held → ℕ → Option Refusal
+refusal_by_world w held id = refusal_to_make (map_of id w.stored.types) held.log.used (next_in (graph_seen (w.transactions held.name) (pool_named held.name w.stored)))
+
+-- the world with a puddle more in the pool of the name
+abbrev pub with_more : List ℕ → World → World
+with_more name w = record w { stored = with_grown_pool name w.stored }
+
+-- the world with an object of this type more in the transaction on the pool of the name
+abbrev pub with_made : List ℕ → ℕ → World → World
+with_made name id w = record w { transactions = with_changed name (charged NEW_UNITS (with_new (object_made w id))) w.transactions }

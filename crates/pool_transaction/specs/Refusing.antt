@@ -1,0 +1,54 @@
+-- Why a line of a transaction is refused, by what was read for it, and what was found of the client's own.
+use Rattle.std.specs.Prelude.{◌+◌, ℕ, Bool, not, ◌||◌, nat_lt, cond, List, is_none, is_some, Option, Some, None}
+use Rattle.pud_defs.specs.declared.layout.TheConstants.{LOG_ENTRY_WORDS, SET_UNITS}
+use Rattle.pud_defs.specs.declared.objects.Val.{Val}
+use Rattle.pud_defs.specs.declared.machine.Refusal.{Refusal}
+use Rattle.pud_defs.specs.declared.machine.Refusal.TheVariants as refusals
+use Rattle.pud_defs.specs.PoolChanges.{pool_named}
+use Rattle.pud_defs.specs.Spaces.{Owner}
+use Rattle.pud_defs.specs.Step.{are_of_two_kinds, graph_in, writes}
+use Rattle.pud_defs.specs.Tables.{Pool}
+use Rattle.pud_defs.specs.Transactions.{is_others}
+use Rattle.pud_defs.specs.World.{Transaction, World}
+use Rattle.graph_read.specs.declared.fields.FieldRead.{FieldRead}
+use Rattle.graph_read.specs.declared.fields.FieldRead.TheVariants.{NoObject, NoField, Value}
+
+-- why a line on an open transaction is refused before what it asks is looked at: it is another client's
+abbrev pub busy_unless : (own : Bool) → Option Refusal
+busy_unless own = cond own None (Some refusals.Busy)
+
+-- why a change of three units is not made that may be made else, by how many are used: the log has no room for it
+abbrev pub room_refusal : (units : ℕ) → Option Refusal
+room_refusal units = cond (nat_lt LOG_ENTRY_WORDS (units + SET_UNITS)) (Some refusals.TooBig) None
+
+-- why a field is not set to a value of which this was read, by how many units are used
+abbrev pub field_refusal : FieldRead → Val → (units : ℕ) → Option Refusal
+field_refusal NoObject x units = Some refusals.Object
+field_refusal NoField x units = Some refusals.Field
+field_refusal (Value was) x units = cond (are_of_two_kinds (Some was) x) (Some refusals.Kind) (room_refusal units)
+
+-- the same, by whether the value names an object that is not there
+abbrev pub refusal_to_set : (missed : Bool) → FieldRead → Val → (units : ℕ) → Option Refusal
+refusal_to_set missed read x units = cond missed (Some refusals.Object) (field_refusal read x units)
+
+-- why an object is not made the root, by whether there is none of its serial
+abbrev pub refusal_to_root : (missed : Bool) → (units : ℕ) → Option Refusal
+refusal_to_root missed units = cond missed (Some refusals.Object) (room_refusal units)
+
+-- why an object that is there is not freed, by whether the root or a field names it, and whether what is asked for later does
+abbrev pub refusal_to_free : (held asked : Bool) → (units : ℕ) → Option Refusal
+refusal_to_free held asked units = cond (held || asked) (Some refusals.Held) (room_refusal units)
+
+-- why no transaction of the client begins on this pool, whatever it has open, where this is open on it: no one acts as the client, there is no
+-- pool, it is wild, its mode is against it, or the transaction is another's
+abbrev pub writing_refusal : Option Owner → Option Pool → (client : ℕ) → Option Transaction → Option Refusal
+writing_refusal who found client opened =
+    cond (not (is_some who)) (Some refusals.Client)
+    (cond (is_none found) (Some refusals.Pool)
+    (cond (is_none (graph_in found)) (Some refusals.Wild)
+    (cond (not (writes who found)) (Some refusals.Denied)
+    (cond (is_others client opened) (Some refusals.Busy) None))))
+
+-- the same of a client and a name
+abbrev pub refusal_to_write : World → (client : ℕ) → List ℕ → Option Refusal
+refusal_to_write w client name = writing_refusal (w.clients client) (pool_named name w.stored) client (w.transactions name)

@@ -1,0 +1,175 @@
+//! Transactions that are open, as the daemon holds them.
+
+ghost use Rattle.std.specs.Prelude.{◌≡◌, ◌<◌, ℕ, true, false, Option, IfSome, replicate};
+ghost use Rattle.pud_defs.specs.Settled.{ALL_LOGS};
+ghost use Rattle.pud_defs.specs.Stored.{IsOnDevice};
+ghost use Rattle.ready_daemon.specs.Memory.{held_under};
+ghost use Rattle.ready_daemon.specs.Held.{AreHeldWithin};
+ghost use Rattle.ready_daemon.specs.Holding.{is_held_on, FindsPuddles};
+
+use hybrid_tx::Tx;
+use pud_defs::records::{Name, Puddle};
+use puddle_table::Puddles;
+use recover::LOGS;
+use std::array;
+use std::marker::Model;
+
+/// A transaction that is open.
+pub struct Opened {
+    /// Whose it is, 0 to 7.
+    pub client: u8,
+    /// The name of its pool.
+    pub name: Name,
+    /// The slot of the pool's record.
+    pub slot: u32,
+    /// The pool's puddles by their ordinals, each with its frame.
+    pub puddles: Puddles,
+    /// The number of its log among those of all clients, 0 to 31.
+    pub number: u32,
+    /// What it changes.
+    pub tx: Tx,
+}
+
+impl Model for Opened {
+    ghost use Rattle.ready_daemon.specs.Memory.{Held};
+
+    ghost Value = { Held };
+
+    ghost view = { λ o. record { client = o.client; name = o.name; slot = o.slot; at = o.puddles; number = o.number; log = o.tx } };
+}
+
+/// The transactions that are open, by the numbers of their logs.
+pub type AllOpened = [Option<Opened>; LOGS];
+
+/// No transaction is open.
+pub fn none_opened() -> AllOpened
+    ensures { result ≡ replicate ALL_LOGS Option.None }
+{
+    array::from_fn(|_| None)
+}
+
+/// Whether it is a transaction on the pool in this slot.
+fn is_on(opened: &Option<Opened>, slot: u32) -> bool
+    ensures { result ≡ is_held_on slot opened.now }
+{
+    match opened {
+        Some(opened) => opened.slot == slot,
+        None => false,
+    }
+}
+
+/// The number of the log of the transaction that is open on the pool in this slot, 0 to 31, where one is.
+pub fn number_on(opened: &AllOpened, slot: u32) -> Option<u32>
+    ensures known { IfSome result (λ number. number < ALL_LOGS) }
+    ensures there { IfSome result (λ number. is_held_on slot (held_under opened.now number) ≡ true) }
+    ensures none { result ≡ Option.None → (number : ℕ) → is_held_on slot (held_under opened.now number) ≡ false }
+{
+    for number in 0..LOGS as u32 {
+        if is_on(&opened[number as usize], slot) {
+            return Some(number);
+        }
+    }
+    None
+}
+
+/// The puddles of the pool in this slot, each with its frame, where a transaction is open on it, and else none.
+pub fn puddles_on(opened: &AllOpened, slot: u32) -> &[(u32, Puddle)]
+    ensures found { FindsPuddles opened.now slot result.now }
+    ensures within { (F : ℕ) → AreHeldWithin F opened.now → IsOnDevice F result.now }
+{
+    let Some(number) = number_on(opened, slot) else {
+        return &[];
+    };
+    match &opened[number as usize] {
+        Some(opened) => opened.puddles.as_slice(),
+        None => &[],
+    }
+}
+
+/// Gives up what is open, where something is: power was lost, or the daemon ends. No device is touched.
+pub fn lose(opened: Option<Opened>) {
+    match opened {
+        Some(opened) => {
+            let Opened {
+                client: _client,
+                name: _name,
+                slot: _slot,
+                puddles: _puddles,
+                number: _number,
+                tx,
+            } = opened;
+            tx.lose();
+        }
+        None => {}
+    }
+}
+
+/// Gives up all that is open. No device is touched.
+pub fn lose_all(opened: AllOpened) {
+    let [
+        o0,
+        o1,
+        o2,
+        o3,
+        o4,
+        o5,
+        o6,
+        o7,
+        o8,
+        o9,
+        o10,
+        o11,
+        o12,
+        o13,
+        o14,
+        o15,
+        o16,
+        o17,
+        o18,
+        o19,
+        o20,
+        o21,
+        o22,
+        o23,
+        o24,
+        o25,
+        o26,
+        o27,
+        o28,
+        o29,
+        o30,
+        o31,
+    ] = opened;
+    lose(o0);
+    lose(o1);
+    lose(o2);
+    lose(o3);
+    lose(o4);
+    lose(o5);
+    lose(o6);
+    lose(o7);
+    lose(o8);
+    lose(o9);
+    lose(o10);
+    lose(o11);
+    lose(o12);
+    lose(o13);
+    lose(o14);
+    lose(o15);
+    lose(o16);
+    lose(o17);
+    lose(o18);
+    lose(o19);
+    lose(o20);
+    lose(o21);
+    lose(o22);
+    lose(o23);
+    lose(o24);
+    lose(o25);
+    lose(o26);
+    lose(o27);
+    lose(o28);
+    lose(o29);
+    lose(o30);
+    lose(o31);
+}

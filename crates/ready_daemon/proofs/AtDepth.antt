@@ -1,0 +1,172 @@
+-- A transaction that is held, of which only changes how often it was begun: no word changes, and its session says the same.
+use Rattle.std.proofs.Common.{◌≡◌, ◌≢◌, inl, inr, ℕ, ◌+◌, ◌<◌, bytes_eq, List, length, Option, Some, None, refl, sym, ap, ap₂, subst, ◌∙◌}
+use Rattle.std.specs.Prelude.{set}
+use Rattle.std.proofs.lemmas.Bool.{cases_Bool, cases_eq, cases_lt}
+use Rattle.std.proofs.lemmas.List.{get_or_past, get_or-set_same, get_or-set_other}
+use Rattle.std.proofs.lemmas.Option.{none-some, same_Some}
+use Rattle.std.proofs.lemmas.Slice.Eq.{bytes_eq-Decides}
+use Rattle.pm_model.specs.Moments.{State}
+use Rattle.pud_defs.specs.declared.machine.Command.TheVariants as commands
+use Rattle.pud_defs.specs.Graph.{Graph}
+use Rattle.pud_defs.specs.Laters.{Later}
+use Rattle.pud_defs.specs.Step.{graph_at_begin, after}
+use Rattle.pud_defs.specs.Transactions.{with_open, begun}
+use Rattle.pud_defs.specs.World.{Transaction, World}
+use Rattle.hybrid_tx.specs.Transactions.{IsOpenOn}
+use Rattle.nesting.specs.declared.Session.{Session}
+use Rattle.nesting.specs.Sessions.{session_in, session_depth, entered}
+use Rattle.ready_daemon.specs.Memory.{Held, Memory, held_under}
+use Rattle.ready_daemon.specs.Held.{IsHeld, IsHeldUnder, IsOpenUnder, Holds, HasSessions}
+use Rattle.ready_daemon.specs.Holding.{IsOwnOn}
+use Rattle.ready_daemon.specs.Ready.{IsReady}
+use Rattle.ready_daemon.proofs.OpenNames.{open_there, open_elsewhere}
+use Rattle.ready_daemon.proofs.PoolsBeside.{one_slot}
+
+module _ (size : ℕ) (w : World) (memory : Memory) (s : State) (ready : IsReady size w memory s) (number : ℕ) (held : Held) (there : held_under memory.held number ≡ Some held) where
+  abbrev pub its : IsHeldUnder w ready.held.opens ready.mask s.now.words number held
+  its = ready.held.each number held there
+
+  abbrev pub t : Transaction
+  t = its.is.transaction
+
+  pub its_session : session_in memory.sessions held.slot ≡ Some (record { client = t.client; depth = t.depth })
+  its_session = ready.sessions.each number held t there its.is.is
+
+  session_within : held.slot < length memory.sessions
+  session_within = elim (cases_lt held.slot (length memory.sessions)) [
+    | inl within ↦ within
+    | inr past ↦ absurd (let one : Session = record { client = t.client; depth = t.depth } in none-some one (sym (get_or_past memory.sessions held.slot None past) ∙ its_session))
+  ]
+
+  -- each other that is held is so on another pool
+  other_name : (m : ℕ) (h : Held) → held_under memory.held m ≡ Some h → m ≢ number → h.name ≢ held.name
+  other_name m h is apart same = apart (ready.held.names m number h held is there same)
+
+  other_slot : (m : ℕ) (h : Held) → held_under memory.held m ≡ Some h → m ≢ number → h.slot ≢ held.slot
+  other_slot m h is apart same = apart (one_slot w memory.held ready.mask s.now.words ready.held m number h held is there same)
+
+  -- what is so of it and of each other is so of each
+  each_of : (P : ℕ → Held → Type 0) → P number held → ((m : ℕ) (h : Held) → held_under memory.held m ≡ Some h → m ≢ number → P m h) → (m : ℕ) (h : Held) → held_under memory.held m ≡ Some h → P m h
+  each_of P own others m h is = elim (cases_eq m number) [
+    | inl same ↦ subst (λ (i : ℕ). P i h) (sym same) (subst (λ (g : Held). P number g) (same_Some held h (sym there ∙ ap (held_under memory.held) (sym same) ∙ is)) own)
+    | inr apart ↦ others m h is apart
+  ]
+
+  module _ (depth : ℕ) where
+    abbrev pub next : World
+    next = record w { transactions = with_open held.name (Some (record t { depth = depth })) w.transactions }
+
+    -- each is held as it was
+    under_as : (m : ℕ) (h : Held) (u : IsHeldUnder w ready.held.opens ready.mask s.now.words m h) (x : Transaction) → next.transactions h.name ≡ Some x → x.client ≡ u.is.transaction.client
+        → x.units ≡ u.is.transaction.units → u.is.transaction.now ≡ x.now → u.is.transaction.laters ≡ x.laters → IsHeldUnder next ready.held.opens ready.mask s.now.words m h
+    under_as m h u x is client units now laters =
+        let i : IsHeld w h ready.mask s.now.words = u.is in
+        record {
+          is = record {
+            rec = i.rec;
+            who = i.who;
+            before = i.before;
+            undone = i.undone;
+            transaction = x;
+            is = is;
+            client = client ∙ i.client;
+            units = units ∙ i.units;
+            present = i.present;
+            owner = i.owner;
+            gate = i.gate;
+            name = i.name;
+            stored = i.stored;
+            count = i.count;
+            pool = i.pool;
+            records = i.records;
+            running = subst (λ (ls : List Later). IsOpenOn w.stored.frames h.at w.stored.types h.log i.before i.undone x.now ls s.now.words) laters
+                (subst (λ (g : Graph). IsOpenOn w.stored.frames h.at w.stored.types h.log i.before i.undone g i.transaction.laters s.now.words) now i.running);
+            masked = i.masked;
+          };
+          number_is = u.number_is;
+          opened = u.opened;
+        }
+
+    known_still : (name : List ℕ) (x : Transaction) → next.transactions name ≡ Some x → IsOpenUnder memory.held name
+    known_still name x is = elim (cases_Bool (bytes_eq name held.name)) [
+      | inl same ↦ record { number = number; mine = held; is = there; name_is = sym ((bytes_eq-Decides name held.name).0 same) }
+      | inr other ↦
+          let differs : name ≢ held.name = λ e. let no = sym other ∙ (bytes_eq-Decides name held.name).1 e in cc in
+          ready.held.known name x (sym (open_elsewhere held.name w.transactions (Some (record t { depth = depth })) name differs) ∙ is)
+    ]
+
+    holds_at : Holds next memory.held ready.mask s.now.words
+    holds_at = record {
+      opens = ready.held.opens;
+      are = ready.held.are;
+      masks = ready.held.masks;
+      each = each_of (IsHeldUnder next ready.held.opens ready.mask s.now.words)
+          (under_as number held its (record t { depth = depth }) (open_there held.name w.transactions (Some (record t { depth = depth }))) refl refl refl refl)
+          (λ m h is apart.
+          let u = ready.held.each m h is in
+          under_as m h u u.is.transaction (open_elsewhere held.name w.transactions (Some (record t { depth = depth })) h.name (other_name m h is apart) ∙ u.is.is) refl refl refl refl);
+      none = ready.held.none;
+      known = known_still;
+      names = ready.held.names;
+    }
+
+    -- the sessions with its one so
+    abbrev pub sessions_at : List (Option Session)
+    sessions_at = set memory.sessions held.slot (Some (record { client = t.client; depth = depth }))
+
+    has_sessions_at : HasSessions next memory.held sessions_at
+    has_sessions_at = record {
+      each = λ m h x is open_on. each_of (λ i g. next.transactions g.name ≡ Some x → session_in sessions_at g.slot ≡ Some (record { client = x.client; depth = x.depth }))
+          (λ on.
+          let one : record t { depth = depth } ≡ x = same_Some (record t { depth = depth }) x (sym (open_there held.name w.transactions (Some (record t { depth = depth }))) ∙ on) in
+          get_or-set_same memory.sessions held.slot (Some (record { client = t.client; depth = depth })) None session_within
+          ∙ ap (λ (y : Transaction). Some (record { client = y.client; depth = y.depth })) one)
+          (λ i g was apart on.
+          get_or-set_other memory.sessions held.slot g.slot (Some (record { client = t.client; depth = depth })) None (other_slot i g was apart)
+          ∙ ready.sessions.each i g x was (sym (open_elsewhere held.name w.transactions (Some (record t { depth = depth })) g.name (other_name i g was apart)) ∙ on))
+          m h is open_on;
+      only = λ slot session is. elim (cases_eq slot held.slot) [
+        | inl same ↦ record { number = number; mine = held; is = there; slot_is = sym same }
+        | inr apart ↦ ready.sessions.only slot session (sym (get_or-set_other memory.sessions held.slot slot (Some (record { client = t.client; depth = depth })) None apart) ∙ is)
+      ];
+    }
+
+    -- the daemon is ready in the world in which it was begun so often
+    pub ready_at : (sessions : List (Option Session)) → sessions ≡ sessions_at → IsReady size next (record memory { sessions = sessions }) s
+    ready_at sessions is = record {
+      mask = ready.mask;
+      settled = ready.settled;
+      tables = ready.tables;
+      clients = ready.clients;
+      frames = ready.frames;
+      shelf = ready.shelf;
+      held = holds_at;
+      sessions = subst (λ (o : List (Option Session)). HasSessions next memory.held o) (sym is) has_sessions_at;
+      rest = ready.rest;
+      logs = ready.logs;
+      knows = ready.knows;
+    }
+
+  -- begun once more
+  deeper_world : (client : ℕ) → after w (commands.Begin client held.name) ≡ next (t.depth + 1)
+  unfolding after
+  deeper_world client =
+      ap (λ (o : Option Transaction). record w { transactions = with_open held.name (begun client (graph_at_begin w held.name) o) w.transactions }) its.is.is
+
+  deeper_sessions : (client : ℕ) → client ≡ t.client → entered client held.slot memory.sessions ≡ sessions_at (t.depth + 1)
+  deeper_sessions client whose =
+      ap₂ (λ (c : ℕ) (o : Option Session). set memory.sessions held.slot (Some (record { client = c; depth = session_depth o + 1 }))) whose its_session
+
+  pub ready_deeper : (client : ℕ) → client ≡ held.client → IsReady size (after w (commands.Begin client held.name)) (record memory { sessions = entered client held.slot memory.sessions }) s
+  ready_deeper client whose =
+      subst (λ (v : World). IsReady size v (record memory { sessions = entered client held.slot memory.sessions }) s) (sym (deeper_world client))
+      (ready_at (t.depth + 1) (entered client held.slot memory.sessions) (deeper_sessions client (whose ∙ sym its.is.client)))
+
+-- the client's own is begun once more
+pub ready_begun_again : (size : ℕ) (w : World) (memory : Memory) (s : State) (client : ℕ) (name : List ℕ) (slot number : ℕ) → IsReady size w memory s → IsOwnOn client name slot number memory.held
+    → IsReady size (after w (commands.Begin client name)) (record memory { sessions = entered client slot memory.sessions }) s
+ready_begun_again size w memory s client name slot number ready own =
+    let mine = own.own.mine in
+    subst (λ (n : List ℕ). IsReady size (after w (commands.Begin client n)) (record memory { sessions = entered client slot memory.sessions }) s) own.own.pool
+    (subst (λ (i : ℕ). IsReady size (after w (commands.Begin client mine.name)) (record memory { sessions = entered client i memory.sessions }) s) own.slot_is
+    (ready_deeper size w memory s ready number mine own.own.is client (sym own.own.whose)))

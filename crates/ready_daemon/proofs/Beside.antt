@@ -1,0 +1,455 @@
+-- What a command does beside the transactions that are open, from what it does with their words masked.
+use Rattle.std.proofs.Common.{◌≡◌, ◌≢◌, ◌⊎◌, inl, inr, ℕ, ◌+◌, ◌<◌, true, false, List, ◌∷◌, Option, Some, None, refl, sym, ap, subst, ◌∙◌, arith}
+use Rattle.std.proofs.lemmas.Bool.{and_from, le-leb, lt-ltb, or_left, or_right}
+use Rattle.std.proofs.lemmas.List.{append_cancel_right}
+use Rattle.std.proofs.lemmas.Option.{none-some, same_Some}
+use Rattle.pm_model.specs.declared.host.HostFault.{HostFault}
+use Rattle.pm_model.specs.declared.host.HostFault.TheVariants.{Cut}
+use Rattle.pm_model.specs.Words.{Has, Cell, values, Words, reads, Picks, HasOnly}
+use Rattle.pm_model.specs.Moments.{Moment, State}
+use Rattle.pm_model.specs.Changes.{Write, Footprint, Changes, Leaves, Silently}
+use Rattle.pm_model.specs.Masks.{masked_cell, masked, masked_image}
+use Rattle.pm_model.proofs.Changes.{Changes-said}
+use Rattle.pm_model.proofs.Leaves.{HasOrigin, Leaves-weaker, Leaves-changes}
+use Rattle.pm_model.proofs.Masks.{masked-elsewhere, Picks-masked, Leaves-unmasked}
+use Rattle.pud_defs.specs.declared.layout.TheConstants.{DAEMON_LOG, LOG_WORDS, POOL_TABLE}
+use Rattle.pud_defs.specs.Image.{Image}
+use Rattle.pud_defs.specs.Entries.{log_of, is_idle_gate}
+use Rattle.pud_defs.specs.Replay.{device_word, IsInLog, is_in_log}
+use Rattle.pud_defs.specs.Stored.{Stored, IsOnDevice, stored_in}
+use Rattle.pud_defs.specs.Graph.{Graph, graph_of}
+use Rattle.pud_defs.specs.PoolChanges.{pool_named}
+use Rattle.pud_defs.specs.Step.{graph_in}
+use Rattle.pud_defs.specs.Settled.{log_number_at}
+use Rattle.pud_defs.specs.Types.{map_of}
+use Rattle.pud_defs.specs.World.{Transaction, World, StoredWorld, world_of, idle_world_of, closed}
+use Rattle.pud_defs.proofs.Replay.{empty_range_of, new_value-closed, outside_log}
+use Rattle.hybrid_tx.specs.Grounds.{pool_mine, pool_ground}
+use Rattle.hybrid_tx.specs.Masks.{OpenPool, is_open_record, open_mask, IsOpenPool, IsLeftOpen}
+use Rattle.hybrid_tx.specs.ManyOpen.{OpenTransaction, Opens, MasksAll, AreOpenPools, HasRecords, AreLeftOpen}
+use Rattle.hybrid_tx.proofs.ManyMasks.{masks_below, opens_apart, two_logs, log_or_own, mine_or_record}
+use Rattle.hybrid_tx.proofs.OpenMasks.{open_record_place, mask_of_mine, mask_of_record, mask_of_log}
+use Rattle.hybrid_tx.proofs.OpenPools.{open_on_device}
+use Rattle.hybrid_tx.proofs.OpenSettled.{nothing_given}
+use Rattle.hybrid_tx.proofs.OpenWorlds.{world_with_masked, none_refused_with_masked}
+use Rattle.hybrid_tx.specs.Transactions.{IsOpenOn}
+use Rattle.hybrid_tx.proofs.Opening.{stored_in-mine}
+use Rattle.hybrid_tx.proofs.LatersKept.{KeepsObjects-same, place_in_pool-stored, AreLaters-wider}
+use Rattle.batch.specs.Tables.{HasDurableTables}
+use Rattle.nesting.specs.declared.Session.{Session}
+use Rattle.word_transaction.specs.Running.{SettlesTo, ByTransaction}
+use Rattle.word_transaction.proofs.Calls.{IsRunning-kept}
+use Rattle.word_transaction.proofs.Images.{SettlesTo-local, IsRunning-settles}
+use Rattle.ready_daemon.specs.Memory.{Held, Memory, held_under}
+use Rattle.ready_daemon.specs.Held.{pool_held, open_held, puddles_in, IsHeld, IsHeldUnder, Holds, HasSessions, HasDurableFrames, ByOthers, NamesNone, StaysSingle, KeepsHeld}
+use Rattle.ready_daemon.specs.KnownPools.{KnowsPools}
+use Rattle.ready_daemon.specs.Ready.{IsReady, RefusesNone, StandsBetween, AppliesMasked, Applies}
+
+-- ---- moments
+
+-- two claims of the same calls, of which nothing was said: each image has both
+pub Leaves-both : (P Q : Image → Type 0) (old new : State) → Leaves (Silently P) old new → Leaves (Silently Q) old new → Leaves (Silently (λ image. P image × Q image)) old new
+Leaves-both P Q old new p q =
+    let same : q.added ≡ p.added = append_cancel_right q.added p.added (old.now ∷ old.past) (sym q.history ∙ p.history) in
+    record {
+      added = p.added;
+      history = p.history;
+      start = λ image picked. (refl, ((p.start image picked).1, (q.start image picked).1));
+      later = λ m h.
+          let left = p.later m h in
+          let other = q.later m (subst (λ (ms : List Moment). Has ms m) (sym same) h) in
+          record {
+            bytes = left.bytes;
+            said = left.said;
+            each = λ image picked. ((left.each image picked).0, ((left.each image picked).1, (other.each image picked).1));
+          };
+    }
+
+-- each image left while words change has what is claimed of it, and an image of the start that it is from
+pub Leaves-from : (P : Image → Type 0) (may : Footprint) (fault : Option HostFault) (old new : State) → Changes may fault old new → Leaves (Silently P) old new
+    → Leaves (Silently (λ image. P image × HasOrigin may old.now.words image)) old new
+Leaves-from P may fault old new c l =
+    Leaves-both P (HasOrigin may old.now.words) old new l
+    (Leaves-changes (HasOrigin may old.now.words) may fault old new (λ before image picked from. record { before = before; picked = picked; from = from }) c)
+
+-- ---- one image
+
+-- an image stands for the world of so many frames that it stands for masked, and none of its registered logs is refused
+pub record IsUnderMask (size F : ℕ) (mask : Write) (image : Image) : Type 0 where
+  pub stands : (s : StoredWorld) → F ≡ s.frames → idle_world_of size (masked_image mask image) ≡ Some s → world_of size image ≡ Some s
+  pub none : (s : StoredWorld) → F ≡ s.frames → idle_world_of size (masked_image mask image) ≡ Some s → RefusesNone image
+
+in_log : (at k : ℕ) → IsInLog at k → is_in_log at k ≡ true
+in_log at k inside = and_from _ _ (le-leb at k inside.low) (lt-ltb k (at + LOG_WORDS) inside.high)
+
+-- no word that may be written is one of its log, of its frames, or of the records that it rests on
+pub record IsApart (F : ℕ) (held : Held) (p : OpenPool) (may : Footprint) : Type 0 where
+  pub log : (k v : ℕ) → may k v → IsInLog held.log.at k → ⊥
+  pub mine : (k v : ℕ) → may k v → pool_mine F held.at k ≡ true → ⊥
+  pub records : (k v : ℕ) → may k v → is_open_record p k ≡ true → ⊥
+
+-- The next world has the same of one transaction that is held.
+pub record KeepsOne (w next : World) (held : Held) : Type 0 where
+  pub frames : next.stored.frames ≡ w.stored.frames
+  pub transaction : next.transactions held.name ≡ w.transactions held.name
+  pub present : next.clients held.client ≡ w.clients held.client
+  pub stored : graph_in (pool_named held.name next.stored) ≡ graph_in (pool_named held.name w.stored)
+  pub puddles : puddles_in (pool_named held.name next.stored) ≡ puddles_in (pool_named held.name w.stored)
+  pub types : (id m : ℕ) → map_of id w.stored.types ≡ Some m → map_of id next.stored.types ≡ Some m
+  pub graphs : (st : Stored) (g : Graph) → graph_of w.stored.types st ≡ Some g → graph_of next.stored.types st ≡ Some g
+
+pub keeps_one : (w next : World) (held : List (Option Held)) → KeepsHeld w next held → (number : ℕ) (h : Held) → held_under held number ≡ Some h → KeepsOne w next h
+keeps_one w next held keeps number h there = record {
+  frames = keeps.frames;
+  transaction = ap (λ (o : List ℕ → Option Transaction). o h.name) keeps.transactions;
+  present = keeps.present number h there;
+  stored = keeps.stored number h there;
+  puddles = keeps.puddles number h there;
+  types = keeps.types;
+  graphs = keeps.graphs;
+}
+
+module _ (w : World) (held : Held) (mask : Write) (words : Words) (is : IsHeld w held mask words) where
+  abbrev F : ℕ
+  F = w.stored.frames
+
+  abbrev p : OpenPool
+  p = pool_held held is.rec is.who
+
+  on_device : IsOnDevice F held.at
+  on_device = open_on_device F p is.before is.pool
+
+  -- every word of the log, of the pool's frames and of its records is masked
+  pub log_masked : (k : ℕ) → IsInLog held.log.at k → mask k ≡ None → ⊥
+  log_masked k inside none =
+      let there = subst (λ (n : ℕ). IsInLog n k) is.gate inside in
+      let m = mask_of_log F p is.before k (in_log (log_number_at F held.number) k there) in
+      none-some m.0 (sym none ∙ is.masked k m.0 m.1)
+
+  pub own_masked : (k : ℕ) → pool_mine F held.at k ≡ true → mask k ≡ None → ⊥
+  own_masked k mine none = none-some (is.before k) (sym none ∙ is.masked k (is.before k) (mask_of_mine F p is.before k is.pool.known mine))
+
+  pub record_masked : (k : ℕ) → is_open_record p k ≡ true → mask k ≡ None → ⊥
+  record_masked k of none =
+      let place = open_record_place F p k is.pool.slot is.pool.known on_device of in
+      none-some (is.before k) (sym none ∙ is.masked k (is.before k) (mask_of_record F p is.before k place.high of))
+
+  -- so what others write is apart from it
+  pub others_apart : IsApart F held p (ByOthers mask)
+  others_apart = record {
+    log = λ k v none inside. log_masked k inside none;
+    mine = λ k v none mine. own_masked k mine none;
+    records = λ k v none of. record_masked k of none;
+  }
+
+  -- an image that may be left has its records as they were
+  pub record_picked : HasDurableTables F words → (image : Image) → Picks words image → (k : ℕ) → is_open_record p k ≡ true → image k ≡ is.before k
+  record_picked tables image picked k of =
+      let place = open_record_place F p k is.pool.slot is.pool.known on_device of in
+      let low = place.low in
+      (tables.each k (inr (omega arith)) place.high).each (image k) (picked.each k) ∙ is.records k of
+
+  module _ (may : Footprint) (apart : IsApart F held p may) where
+    -- one that is left by calls that write none of its words is left with it open
+    module _ (tables : HasDurableTables F words) (image : Image) (o : HasOrigin may words image) (names : NamesNone mask image) where
+      same : (k : ℕ) → ((v : ℕ) → may k v → ⊥) → image k ≡ o.before k
+      same k never = elim (o.from.each k) [ inl e ↦ e | inr wrote ↦ absurd (never (image k) wrote) ]
+
+      was_record : (k : ℕ) → is_open_record p k ≡ true → o.before k ≡ is.before k
+      was_record k of = record_picked tables o.before o.picked k of
+
+      pub left_apart : IsLeftOpen F p is.before image
+      left_apart = record {
+        unnamed = λ k v e. names.each k v (is.masked k v e);
+        records = λ k of. same k (λ v wrote. apart.records k v wrote of) ∙ was_record k of;
+        settles = subst (λ (n : ℕ). SettlesTo (pool_ground F held.at) n is.before image) is.gate
+            (SettlesTo-local (pool_ground F held.at) held.log.at is.before o.before image
+            (λ k inside. same k (λ v wrote. apart.log k v wrote inside)) (λ k mine. same k (λ v wrote. apart.mine k v wrote mine))
+            (IsRunning-settles (pool_ground F held.at) held.log is.running.saving.es is.before o.before words is.running.saving.running o.picked));
+      }
+
+-- ---- what is held stays
+
+pub kept_word : (may : Footprint) (old new : State) (k : ℕ) → Changes may None old new → ((v : ℕ) → may k v → ⊥) → reads new.now.words k ≡ reads old.now.words k
+kept_word may old new k c never = (c.keeps (λ cut. absurd (let no : None ≡ Some Cut = cut in cc)) k never).newest
+
+module _ (w next : World) (held : Held) (mask anew : Write) (old new : State) (is : IsHeld w held mask old.now.words) (keeps : KeepsOne w next held) (may : Footprint)
+    (apart : IsApart w.stored.frames held (pool_held held is.rec is.who) may) (c : Changes may None old new)
+    (masked_so : (k v : ℕ) → open_mask w.stored.frames (pool_held held is.rec is.who) is.before k ≡ Some v → anew k ≡ Some v) where
+  abbrev n : ℕ
+  n = w.stored.frames
+
+  stored_still : stored_in n held.at (reads new.now.words) ≡ stored_in n held.at (reads old.now.words)
+  stored_still = stored_in-mine n held.at (reads old.now.words) (reads new.now.words) (λ k mine. kept_word may old new k c (λ v wrote. apart.mine k v wrote mine))
+
+  pub still_running : IsOpenOn n held.at next.stored.types held.log is.before is.undone is.transaction.now is.transaction.laters new.now.words
+  still_running =
+      let r = is.running in
+      record {
+        redo = r.redo;
+        saving = record {
+          es = r.saving.es;
+          running = IsRunning-kept (pool_ground n held.at) held.log r.saving.es is.before may None old new c
+              (λ k v inside wrote. apart.log k v wrote inside) (λ k v mine wrote. apart.mine k v wrote mine) r.saving.running;
+          asks = r.saving.asks;
+        };
+        was = keeps.graphs (stored_in n held.at is.before) is.undone r.was;
+        is = keeps.graphs (stored_in n held.at (reads new.now.words)) is.transaction.now
+            (ap (graph_of w.stored.types) stored_still ∙ r.is);
+        are = AreLaters-wider n held.at held.at w.stored.types next.stored.types (reads old.now.words) (reads new.now.words) is.transaction.now is.transaction.now (record { each = λ o e there. there })
+            (record { each = keeps.types }) (record { each = λ s o live. place_in_pool-stored n held.at (reads old.now.words) (reads new.now.words) stored_still s }) (KeepsObjects-same is.transaction.now)
+            is.transaction.laters r.redo r.are;
+      }
+
+  -- with these words masked behind calls that write none of its own
+  abbrev pub held_still : IsHeld next held anew new.now.words
+  held_still =
+      let back = sym keeps.frames in
+      record {
+        rec = is.rec;
+        who = is.who;
+        before = is.before;
+        undone = is.undone;
+        transaction = is.transaction;
+        is = keeps.transaction ∙ is.is;
+        client = is.client;
+        units = is.units;
+        present = keeps.present ∙ is.present;
+        owner = is.owner;
+        gate = is.gate ∙ ap (λ (m : ℕ). log_number_at m held.number) back;
+        name = is.name;
+        stored = keeps.stored ∙ is.stored;
+        count = keeps.puddles ∙ is.count;
+        pool = subst (λ (m : ℕ). IsOpenPool m (pool_held held is.rec is.who) is.before) back is.pool;
+        records = λ k of. kept_word may old new k c (λ v wrote. apart.records k v wrote of) ∙ is.records k of;
+        running = subst (λ (m : ℕ). IsOpenOn m held.at next.stored.types held.log is.before is.undone is.transaction.now is.transaction.laters new.now.words) back still_running;
+        masked = subst (λ (m : ℕ). (k v : ℕ) → open_mask m (pool_held held is.rec is.who) is.before k ≡ Some v → anew k ≡ Some v) back masked_so;
+      }
+
+  -- and it is held so under its number, where it is open under that
+  pub still_under : (opens : Opens) (number : ℕ) → held.number ≡ number → opens number ≡ Some (open_held held is.rec is.who is.before) → IsHeldUnder next opens anew new.now.words number held
+  still_under opens number its opened = record { is = held_still; number_is = its; opened = opened }
+
+-- ---- all that is held
+
+-- what is open under a number is what is held there
+pub record IsOpenAs (w : World) (opens : Opens) (held : List (Option Held)) (mask : Write) (words : Words) (number : ℕ) (o : OpenTransaction) : Type 0 where
+  pub one : Held
+  pub there : held_under held number ≡ Some one
+  pub under : IsHeldUnder w opens mask words number one
+  pub same : open_held one under.is.rec under.is.who under.is.before ≡ o
+
+module _ (w : World) (held : List (Option Held)) (mask : Write) (words : Words) (holds : Holds w held mask words) where
+  abbrev N : ℕ
+  N = w.stored.frames
+
+  -- each is open so
+  pub held_is : (number : ℕ) (h : Held) → held_under held number ≡ Some h → IsHeld w h mask words
+  held_is number h there = (holds.each number h there).is
+
+  opened_by : (number : ℕ) (o : OpenTransaction) (x : Option Held) → held_under held number ≡ x → holds.opens number ≡ Some o → IsOpenAs w holds.opens held mask words number o
+  opened_by number o None e there = absurd (none-some o (sym (holds.none number e) ∙ there))
+  opened_by number o (Some h) e there =
+      let under = holds.each number h e in
+      record { one = h; there = e; under = under; same = same_Some (open_held h under.is.rec under.is.who under.is.before) o (sym under.opened ∙ there) }
+
+  pub opened_as : (number : ℕ) (o : OpenTransaction) → holds.opens number ≡ Some o → IsOpenAs w holds.opens held mask words number o
+  opened_as number o there = opened_by number o (held_under held number) refl there
+
+  -- each is open in the image, where each that is held is
+  module _ (image : Image) (each : (number : ℕ) (h : Held) (there : held_under held number ≡ Some h) (under : IsHeldUnder w holds.opens mask words number h) → IsLeftOpen N (pool_held h under.is.rec under.is.who) under.is.before image) where
+    pub left_all : AreLeftOpen N holds.opens image
+    left_all = record {
+      each = λ number o there.
+          let a = opened_as number o there in
+          subst (λ (t : OpenTransaction). IsLeftOpen N t.pool t.before image) a.same (each number a.one a.there a.under);
+    }
+
+  -- what is read has the records of each as they were at its beginning
+  pub records_all : HasRecords holds.opens (reads words)
+  records_all = record {
+    each = λ number o there k of.
+        let a = opened_as number o there in
+        a.under.is.records k (ap (λ (t : OpenTransaction). is_open_record t.pool k) a.same ∙ of) ∙ ap (λ (t : OpenTransaction). t.before k) a.same;
+  }
+
+  -- a word that none has is not masked
+  pub unmasked_by_all : (k : ℕ) → ((number : ℕ) (h : Held) (there : held_under held number ≡ Some h) (is : IsHeld w h mask words) → open_mask N (pool_held h is.rec is.who) is.before k ≡ None) → mask k ≡ None
+  unmasked_by_all k each = nothing_given (mask k) (λ v given.
+      let m = holds.masks.each k v given in
+      let a = opened_as m.number m.transaction m.there in
+      none-some v (sym (each m.number a.one a.there a.under.is) ∙ ap (λ (t : OpenTransaction). open_mask N t.pool t.before k) a.same ∙ m.is))
+
+  -- no word in front of the pool table is masked
+  pub unmasked_front : (k : ℕ) → k < POOL_TABLE → mask k ≡ None
+  unmasked_front k below = masks_below N holds.opens mask holds.are holds.masks k below
+
+  -- an image stands for what it stands for masked, where it is left with all of them open
+  module _ (size : ℕ) (image : Image) (left : AreLeftOpen N holds.opens image) where
+    pub under_left : IsUnderMask size N mask image
+    under_left = record {
+      stands = λ s frames idle. world_with_masked size N s holds.opens mask image frames holds.are holds.masks idle left;
+      none = λ s frames idle. record { each = none_refused_with_masked size N s holds.opens mask image frames holds.are holds.masks idle left };
+    }
+
+  -- so does one that is left by others
+  pub under_mask : (size : ℕ) → HasDurableTables N words → (image : Image) → HasOrigin (ByOthers mask) words image → NamesNone mask image → IsUnderMask size N mask image
+  under_mask size tables image origin names =
+      under_left size image
+      (left_all image (λ number h there under. left_apart w h mask words under.is (ByOthers mask) (others_apart w h mask words under.is) tables image origin names))
+
+  -- ---- the words that one of them may write
+
+  module _ (number other : ℕ) (h g : Held) (here : held_under held number ≡ Some h) (there : held_under held other ≡ Some g) (apart : number ≢ other) where
+    abbrev its : IsHeldUnder w holds.opens mask words number h
+    its = holds.each number h here
+
+    abbrev others : IsHeldUnder w holds.opens mask words other g
+    others = holds.each other g there
+
+    abbrev o : OpenTransaction
+    o = open_held h its.is.rec its.is.who its.is.before
+
+    abbrev q : OpenTransaction
+    q = open_held g others.is.rec others.is.who others.is.before
+
+    in_its_log : (k : ℕ) → IsInLog h.log.at k → is_in_log (log_number_at N h.number) k ≡ true
+    in_its_log k inside = in_log (log_number_at N h.number) k (subst (λ (n : ℕ). IsInLog n k) its.is.gate inside)
+
+    in_others_log : (k : ℕ) → IsInLog g.log.at k → is_in_log (log_number_at N g.number) k ≡ true
+    in_others_log k inside = in_log (log_number_at N g.number) k (subst (λ (n : ℕ). IsInLog n k) others.is.gate inside)
+
+    -- are no words of another
+    pub own_apart : IsApart N g (pool_held g others.is.rec others.is.who) (ByTransaction (pool_ground N h.at) h.log.at)
+    own_apart = record {
+      log = λ k v wrote inside. elim wrote [
+        | inl log ↦ two_logs N holds.opens (reads words) holds.are records_all number other o q its.opened others.opened apart k (in_its_log k log) (in_others_log k inside)
+        | inr mine ↦ log_or_own N holds.opens (reads words) holds.are records_all other number q o others.opened its.opened (λ same. apart (sym same)) k (in_others_log k inside) (or_left (pool_mine N h.at k) _ mine)
+      ];
+      mine = λ k v wrote also. elim wrote [
+        | inl log ↦ log_or_own N holds.opens (reads words) holds.are records_all number other o q its.opened others.opened apart k (in_its_log k log) (or_left (pool_mine N g.at k) _ also)
+        | inr mine ↦ let no : true ≡ false = sym also ∙ (opens_apart N holds.opens (reads words) holds.are records_all).each number other o q its.opened others.opened apart k mine in cc
+      ];
+      records = λ k v wrote of. elim wrote [
+        | inl log ↦ log_or_own N holds.opens (reads words) holds.are records_all number other o q its.opened others.opened apart k (in_its_log k log) (or_right (pool_mine N g.at k) _ of)
+        | inr mine ↦ mine_or_record N holds.opens (reads words) holds.are records_all number other o q its.opened others.opened apart k mine of
+      ];
+    }
+
+-- no word of the daemon log is masked
+pub daemon_log_unmasked : (w : World) (held : List (Option Held)) (mask : Write) (words : Words) → Holds w held mask words → mask DAEMON_LOG ≡ None
+daemon_log_unmasked w held mask words holds = unmasked_front w held mask words holds DAEMON_LOG (omega arith)
+
+-- ---- what is held stays beside others
+
+module _ (w next : World) (held : List (Option Held)) (mask : Write) (old new : State) (holds : Holds w held mask old.now.words) (keeps : KeepsHeld w next held) (c : Changes (ByOthers mask) None old new) where
+  under_still : (number : ℕ) (h : Held) → held_under held number ≡ Some h → IsHeldUnder next holds.opens mask new.now.words number h
+  under_still number h there =
+      let under = holds.each number h there in
+      still_under w next h mask mask old new under.is (keeps_one w next held keeps number h there) (ByOthers mask) (others_apart w h mask old.now.words under.is) c under.is.masked holds.opens number
+      under.number_is under.opened
+
+  pub holds_still : Holds next held mask new.now.words
+  holds_still =
+      let back = sym keeps.frames in
+      record {
+        opens = holds.opens;
+        are = subst (λ (m : ℕ). AreOpenPools m holds.opens) back holds.are;
+        masks = subst (λ (m : ℕ). MasksAll m holds.opens mask) back holds.masks;
+        each = under_still;
+        none = holds.none;
+        known = λ name t is. holds.known name t (ap (λ (o : List ℕ → Option Transaction). o name) (sym keeps.transactions) ∙ is);
+        names = holds.names;
+      }
+
+-- and so do its sessions
+pub sessions_still : (w next : World) (held : List (Option Held)) (sessions : List (Option Session)) → next.transactions ≡ w.transactions → HasSessions w held sessions → HasSessions next held sessions
+sessions_still w next held sessions same has = record {
+  each = λ number h t there is. has.each number h t there (ap (λ (o : List ℕ → Option Transaction). o h.name) (sym same) ∙ is);
+  only = has.only;
+}
+
+-- ---- words of the frames
+
+-- each has one value, masked, where those keep one that are not
+masked_single : (o : Option ℕ) (before after : Cell) → (HasOnly before before.newest → HasOnly after after.newest) → HasOnly (masked_cell o before) (masked_cell o before).newest
+    → HasOnly (masked_cell o after) (masked_cell o after).newest
+masked_single None before after still one = still one
+masked_single (Some v) before after still one = record { each = λ x had. elim had [ inl e ↦ e | inr none ↦ absurd none ] }
+
+pub durable_frames_still : (F : ℕ) (mask : Write) (old new : State) → StaysSingle old new → HasDurableFrames F (masked mask old.now.words) → HasDurableFrames F (masked mask new.now.words)
+durable_frames_still F mask old new stays frames = record {
+  each = λ k above. masked_single (mask k) (old.now.words k) (new.now.words k) (stays.each k (outside_log DAEMON_LOG k (inr (omega arith)))) (frames.each k above);
+}
+
+-- ---- the command
+
+module _ (size : ℕ) (w next : World) (memory : Memory) (fault : Option HostFault) (old new : State) (ready : IsReady size w memory old) (frames : next.stored.frames ≡ w.stored.frames)
+    (a : AppliesMasked size w next ready.mask fault old new) where
+  abbrev MaskedBetween : Image → Type 0
+  MaskedBetween image = (idle_world_of size (masked_image ready.mask image) ≡ Some (closed w)) ⊎ (idle_world_of size (masked_image ready.mask image) ≡ Some (closed next))
+
+  stands_between : (image : Image) → MaskedBetween image → NamesNone ready.mask image → HasOrigin (ByOthers ready.mask) old.now.words image → StandsBetween size w next image
+  stands_between image (inl before) names origin =
+      let under = under_mask w memory.held ready.mask old.now.words ready.held size ready.tables image origin names in
+      (inl (under.stands (closed w) refl before), under.none (closed w) refl before)
+  stands_between image (inr after) names origin =
+      let under = under_mask w memory.held ready.mask old.now.words ready.held size ready.tables image origin names in
+      (inr (under.stands (closed next) (sym frames) after), under.none (closed next) (sym frames) after)
+
+  -- at every moment each image stands for one of the worlds
+  pub moments_beside : Leaves (Silently (StandsBetween size w next)) old new
+  moments_beside =
+      let idle = Leaves-unmasked ready.mask (Silently (λ image. (idle_world_of size image ≡ Some (closed w)) ⊎ (idle_world_of size image ≡ Some (closed next)))) (ByOthers ready.mask) fault old new a.beside.changes a.moments in
+      let both = Leaves-both MaskedBetween (NamesNone ready.mask) old new idle a.beside.names in
+      let from = Leaves-from (λ image. MaskedBetween image × NamesNone ready.mask image) (ByOthers ready.mask) fault old new a.beside.changes both in
+      Leaves-weaker (Silently (λ image. (MaskedBetween image × NamesNone ready.mask image) × HasOrigin (ByOthers ready.mask) old.now.words image)) (Silently (StandsBetween size w next)) old new
+      (λ bytes image m. (m.0, stands_between image m.1.0.0 m.1.0.1 m.1.1)) from
+
+module _ (size : ℕ) (w next : World) (memory : Memory) (fault : Option HostFault) (old new : State) (ready : IsReady size w memory old) (keeps : KeepsHeld w next memory.held)
+    (a : AppliesMasked size w next ready.mask fault old new) where
+  -- with this memory behind it, which holds the same
+  pub Applies-beside : (behind : Memory) → behind.frames ≡ memory.frames → behind.held ≡ memory.held → behind.sessions ≡ memory.sessions
+      → (fault ≡ None → KnowsPools next.stored.frames behind.judged behind.held (reads new.now.words))
+      → Applies size w next behind fault old new
+  Applies-beside behind frames holds same knows = record {
+    moments = moments_beside size w next memory fault old new ready keeps.frames a;
+    quiet = Changes-said (ByOthers ready.mask) fault old new a.beside.changes;
+    ready = λ none. record {
+      mask = ready.mask;
+      settled = a.settled none;
+      tables = a.tables none;
+      clients = a.clients none;
+      frames = frames ∙ ready.frames ∙ sym keeps.frames;
+      shelf = a.beside.changes.shelf ∙ ready.shelf ∙ sym a.shelf;
+      held = subst (λ (o : List (Option Held)). Holds next o ready.mask new.now.words) (sym holds)
+          (holds_still w next memory.held ready.mask old new ready.held keeps (subst (λ (f : Option HostFault). Changes (ByOthers ready.mask) f old new) none a.beside.changes));
+      sessions = subst (λ (o : List (Option Held)). HasSessions next o behind.sessions) (sym holds)
+          (subst (λ (o : List (Option Session)). HasSessions next memory.held o) (sym same) (sessions_still w next memory.held memory.sessions keeps.transactions ready.sessions));
+      rest = subst (λ (n : ℕ). HasDurableFrames n (masked ready.mask new.now.words)) (sym keeps.frames) (durable_frames_still w.stored.frames ready.mask old new (a.beside.single none) ready.rest);
+      logs = a.logs none;
+      knows = knows none;
+    };
+    rests = a.beside.changes.rests;
+    script = a.beside.changes.script;
+  }
+
+-- ---- a daemon that is ready
+
+-- a log that counts nothing names none
+pub names_none_idle : (mask : Write) (image : Image) → is_idle_gate (image DAEMON_LOG) ≡ true → NamesNone mask image
+names_none_idle mask image idle = record { each = λ k v is. new_value-closed device_word (log_of image DAEMON_LOG) k (empty_range_of (image DAEMON_LOG) idle) }
+
+-- the daemon log counts nothing in any image
+pub ready_idle : (size : ℕ) (w : World) (memory : Memory) (s : State) → IsReady size w memory s → (image : Image) → Picks s.now.words image → is_idle_gate (image DAEMON_LOG) ≡ true
+ready_idle size w memory s ready image picked =
+    let none : ready.mask DAEMON_LOG ≡ None = daemon_log_unmasked w memory.held ready.mask s.now.words ready.held in
+    ready.settled.idle (image DAEMON_LOG) (subst (λ (c : Cell). Has (values c) (image DAEMON_LOG)) (sym (masked-elsewhere ready.mask s.now.words DAEMON_LOG none)) (picked.each DAEMON_LOG))
+
+-- each image that may be left stands for the world, and none of its logs is refused
+pub ready_stands : (size : ℕ) (w : World) (memory : Memory) (s : State) → IsReady size w memory s → (image : Image) → Picks s.now.words image → (world_of size image ≡ Some (closed w)) × RefusesNone image
+ready_stands size w memory s ready image picked =
+    let idle = ready.settled.stands (masked_image ready.mask image) (Picks-masked ready.mask s.now.words image picked) in
+    let origin : HasOrigin (ByOthers ready.mask) s.now.words image = record { before = image; picked = picked; from = record { each = λ k. inl refl } } in
+    let under = under_mask w memory.held ready.mask s.now.words ready.held size ready.tables image origin (names_none_idle ready.mask image (ready_idle size w memory s ready image picked)) in
+    (under.stands (closed w) refl idle, under.none (closed w) refl idle)

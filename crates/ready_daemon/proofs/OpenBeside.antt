@@ -1,0 +1,111 @@
+-- A pool on which a transaction is open, and those on which none is.
+use Rattle.std.proofs.Common.{◌≡◌, ◌≢◌, inr, ℕ, Bool, true, false, List, Option, Some, None, refl, sym, ap, ◌∙◌, arith}
+use Rattle.std.proofs.lemmas.Option.{none-some, same_Some}
+use Rattle.pm_model.specs.Words.{Words, reads}
+use Rattle.pm_model.specs.Changes.{Write}
+use Rattle.pm_model.specs.Masks.{masked_image}
+use Rattle.pm_model.proofs.Masks.{masked_image-elsewhere}
+use Rattle.pud_defs.specs.declared.records.PoolRec.{PoolRec}
+use Rattle.pud_defs.specs.declared.records.Puddle.{Puddle}
+use Rattle.pud_defs.specs.Image.{Image}
+use Rattle.pud_defs.specs.Graph.{Graph, graph_of}
+use Rattle.pud_defs.specs.PoolChanges.{pool_named}
+use Rattle.pud_defs.specs.Settled.{log_number_at}
+use Rattle.pud_defs.specs.Step.{graph_in}
+use Rattle.pud_defs.specs.Stored.{stored_in}
+use Rattle.pud_defs.specs.Tables.{Tables, tables_of, puddles_in_turn}
+use Rattle.pud_defs.specs.World.{Transaction, World}
+use Rattle.pud_defs.proofs.PoolMembers.{members_in_turn}
+use Rattle.pud_defs.proofs.Replay.{outside_log}
+use Rattle.hybrid_tx.specs.Grounds.{pool_mine}
+use Rattle.hybrid_tx.specs.Masks.{OpenPool, is_open_record, open_mask}
+use Rattle.hybrid_tx.proofs.OpenMasks.{open_record_place, mask_of_others}
+use Rattle.hybrid_tx.proofs.Opening.{stored_in-mine}
+use Rattle.hybrid_tx.proofs.OpenPools.{open_on_device}
+use Rattle.hybrid_tx.proofs.PoolGrounds.{pool_mine-each}
+use Rattle.hybrid_tx.proofs.PoolPlaces.{members_apart}
+use Rattle.ready_daemon.specs.Memory.{Held, held_under}
+use Rattle.ready_daemon.specs.Held.{pool_held, IsHeld, Holds, IsOwn}
+use Rattle.ready_daemon.proofs.Beside.{held_is, unmasked_by_all}
+use Rattle.ready_daemon.proofs.PoolsBeside.{used_still, members_still}
+
+-- ---- which pool it is
+
+-- A transaction of this client is open on the pool of the name, which had a graph when it began, and has by what is read the one that it shows.
+pub record IsOpenHere (w : World) (at : List (ℕ × Puddle)) (image : Image) (name : List ℕ) (client : ℕ) : Type 0 where
+  pub transaction : Transaction
+  pub is : w.transactions name ≡ Some transaction
+  pub whose : transaction.client ≡ client
+  pub undone : Graph
+  pub stored : graph_in (pool_named name w.stored) ≡ Some undone
+  pub now : graph_of w.stored.types (stored_in w.stored.frames at image) ≡ Some transaction.now
+
+-- where its own is held
+pub open_here : (w : World) (held : List (Option Held)) (mask : Write) (words : Words) (name : List ℕ) (client number : ℕ) → Holds w held mask words → (own : IsOwn client name number held)
+    → IsOpenHere w own.mine.at (reads words) name client
+open_here w held mask words name client number holds own =
+    let is = held_is w held mask words holds number own.mine own.is in
+    record {
+      transaction = is.transaction;
+      is = ap w.transactions (sym own.pool) ∙ is.is;
+      whose = is.client ∙ own.whose;
+      undone = is.undone;
+      stored = ap (λ (n : List ℕ). graph_in (pool_named n w.stored)) (sym own.pool) ∙ is.stored;
+      now = is.running.is;
+    }
+
+-- none is held on a name under which none is open
+pub not_named : (w : World) (held : List (Option Held)) (mask : Write) (words : Words) (name : List ℕ) → Holds w held mask words → w.transactions name ≡ None
+    → (number : ℕ) (h : Held) → held_under held number ≡ Some h → h.name ≢ name
+not_named w held mask words name holds none number h there same =
+    let is = held_is w held mask words holds number h there in
+    none-some is.transaction (sym none ∙ ap w.transactions (sym same) ∙ is.is)
+
+-- ---- frames of other pools
+
+module _ (w : World) (held : Held) (mask : Write) (words : Words) (is : IsHeld w held mask words) where
+  abbrev F : ℕ
+  F = w.stored.frames
+
+  abbrev now : Image
+  now = reads words
+
+  abbrev t : Tables
+  t = tables_of F now
+
+  abbrev p : OpenPool
+  p = pool_held held is.rec is.who
+
+  module _ (slot : ℕ) (r : PoolRec) (used : t.pools slot ≡ Some r) (other : r.name ≢ held.name) where
+    -- it does not stand in the slot of the held one
+    pub other_slot : slot ≡ held.slot → ⊥
+    other_slot same = other (ap (λ (x : PoolRec). x.name) (same_Some r is.rec (sym used ∙ ap t.pools same ∙ used_still w held mask words is)) ∙ is.name)
+
+    not_mine : (k : ℕ) → pool_mine F (puddles_in_turn t slot) k ≡ true → pool_mine F held.at k ≡ false
+    not_mine = members_apart F t slot held.slot (puddles_in_turn t slot) held.at (members_in_turn t slot) (members_still w held mask words is) other_slot
+
+    not_record : (k : ℕ) (of : Bool) → is_open_record p k ≡ of → pool_mine F (puddles_in_turn t slot) k ≡ true → of ≡ false
+    not_record k false e mine = refl
+    not_record k true e mine =
+        let here = pool_mine-each F (puddles_in_turn t slot) k mine in
+        let low = here.low in
+        let high = (open_record_place F p k is.pool.slot is.pool.known (open_on_device F p is.before is.pool) e).high in
+        absurd (omega arith)
+
+    -- it masks no word of the frames
+    pub unmasked_frames : (k : ℕ) → pool_mine F (puddles_in_turn t slot) k ≡ true → open_mask F p is.before k ≡ None
+    unmasked_frames k mine =
+        let here = pool_mine-each F (puddles_in_turn t slot) k mine in
+        let low = here.low in
+        let few = is.pool.known in
+        mask_of_others F p is.before k (outside_log (log_number_at F held.number) k (inr (omega arith))) (not_mine k mine) (not_record k (is_open_record p k) refl mine)
+
+-- what a pool stores on which none is held is read as it is
+pub pool_unmasked : (w : World) (held : List (Option Held)) (mask : Write) (words : Words) (name : List ℕ) (slot : ℕ) (r : PoolRec) → Holds w held mask words
+    → ((number : ℕ) (h : Held) → held_under held number ≡ Some h → h.name ≢ name) → (tables_of w.stored.frames (reads words)).pools slot ≡ Some r → r.name ≡ name
+    → stored_in w.stored.frames (puddles_in_turn (tables_of w.stored.frames (reads words)) slot) (masked_image mask (reads words))
+    ≡ stored_in w.stored.frames (puddles_in_turn (tables_of w.stored.frames (reads words)) slot) (reads words)
+pool_unmasked w held mask words name slot r holds shut used named =
+    stored_in-mine w.stored.frames (puddles_in_turn (tables_of w.stored.frames (reads words)) slot) (reads words) (masked_image mask (reads words))
+    (λ k mine. masked_image-elsewhere mask (reads words) k
+    (unmasked_by_all w held mask words holds k (λ number h there is. unmasked_frames w h mask words is slot r used (λ same. shut number h there (sym same ∙ named)) k mine)))

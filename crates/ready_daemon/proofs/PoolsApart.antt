@@ -1,0 +1,313 @@
+-- Changes of pools that write no word of an open transaction: what they do with the words of all masked, they do beside them.
+use Rattle.std.proofs.Common.{◌≡◌, ◌⊎◌, inl, inr, ℕ, zero, suc, ◌+◌, ◌-◌, ◌<◌, ◌≤◌, true, false, not, List, [], ◌∷◌, length, take, Option, Some, None, refl, sym, ap, subst, ◌∙◌, arith, length-take-le, eqb-true, ne_eqb}
+use Rattle.std.specs.Prelude.{⊤}
+use Rattle.std.specs.Option.{option_or}
+use Rattle.std.specs.Ordering.{eq_by_cmp}
+use Rattle.std.specs.Cmp.{Equal-is}
+use Rattle.std.specs.Cmp.Lexicographic.{nat_list_cmp_total}
+use Rattle.std.specs.FinMap.Entries.{find, put, find-put, find-where_key}
+use Rattle.std.proofs.lemmas.List.{length-replicate}
+use Rattle.std.proofs.lemmas.Bool.{cases_Bool, cond-true, cond-false}
+use Rattle.pm_model.specs.declared.host.HostFault.{HostFault}
+use Rattle.pm_model.specs.declared.host.HostFault.TheVariants.{Cut}
+use Rattle.pm_model.specs.Words.{Cell, Words, HasOnly, IsRested, reads}
+use Rattle.pm_model.specs.Moments.{State}
+use Rattle.pm_model.specs.Changes.{Write, written, Changes, Silently}
+use Rattle.pm_model.specs.Masks.{masked, masked_state, IsOff}
+use Rattle.pm_model.proofs.Leaves.{Leaves-still, Leaves-weaker}
+use Rattle.pm_model.proofs.Masks.{masked-elsewhere, reads-masked}
+use Rattle.pm_persist.proofs.Ranges.{placed_within}
+use Rattle.pud_defs.specs.declared.layout.TheConstants.{DAEMON_LOG, SPACE_TABLE, PUDDLE_TABLE, TYPE_TABLE, FRAME_WORDS}
+use Rattle.pud_defs.specs.declared.records.TheConstants.{POOL_RECORDS}
+use Rattle.pud_defs.specs.declared.records.PoolRec.{PoolRec}
+use Rattle.pud_defs.specs.declared.records.Put.{Put}
+use Rattle.pud_defs.specs.Image.{Image}
+use Rattle.pud_defs.specs.Entries.{Entry}
+use Rattle.pud_defs.specs.Frames.{frame_at, fresh_frame}
+use Rattle.pud_defs.specs.Layout.{tables_end, frames_at}
+use Rattle.pud_defs.specs.Keyed.{first_free, without}
+use Rattle.pud_defs.specs.Names.{name_cmp}
+use Rattle.pud_defs.specs.Pools.{pool_record_at}
+use Rattle.pud_defs.specs.Puddles.{Member, puddle_record_at}
+use Rattle.pud_defs.specs.Puts.{is_of_pool}
+use Rattle.pud_defs.specs.Replay.{value_at}
+use Rattle.pud_defs.specs.Tables.{Tables, Pool, tables_of}
+use Rattle.pud_defs.specs.Types.{map_of}
+use Rattle.pud_defs.specs.Graph.{graph_of}
+use Rattle.pud_defs.specs.PoolChanges.{pool_named}
+use Rattle.pud_defs.specs.Step.{graph_in}
+use Rattle.pud_defs.specs.World.{StoredWorld, World, idle_world_of, closed}
+use Rattle.pud_defs.proofs.Keyed.{first_free_some}
+use Rattle.pud_defs.proofs.PoolsChanged.{same_name}
+use Rattle.pud_defs.proofs.Spaces.{owner_of-same}
+use Rattle.pud_defs.proofs.TablesOf.{frames_of_tables}
+use Rattle.batch.specs.Batches.{batch_write, AreBatched, HasIdleGate, ByBatch}
+use Rattle.batch.specs.Tables.{HasDurableTables}
+use Rattle.batch.proofs.Tables.{StaysDurable, HasDurableTables-changed, reads_kept}
+use Rattle.registry.specs.Puts.{puts_batch, AreOfPools, IsOfPools, ByPools}
+use Rattle.registry.specs.Pools.{frame_write, making, changing, freeing, dropping, OrStill, CommitsPuts, PersistsThenCommits, MakesSomewhere, IsOffMaking, MayStand, ChangesPools}
+use Rattle.registry.proofs.PutBatches.{puts_batched}
+use Rattle.registry.proofs.Made.{making_of}
+use Rattle.registry.proofs.Changed.{changing_of, dropping_of}
+use Rattle.ready_daemon.specs.Memory.{Held, Memory, held_under}
+use Rattle.ready_daemon.specs.Held.{puddles_in, Holds, HasIdleLogs, ByOthers, NamesNone, IsBeside, KeepsHeld}
+use Rattle.ready_daemon.specs.Ready.{IsReady, AppliesMasked}
+use Rattle.ready_daemon.proofs.Beside.{unmasked_front, names_none_idle}
+use Rattle.ready_daemon.proofs.Beneath.{IsBeside-changes, IsBeside-commits, IsBeside-then, table_reads, table_reads-kept, persisted_single, logs_kept}
+use Rattle.ready_daemon.proofs.PoolsBeside.{IsOfOthers, unmasked_pool, unmasked_puddle, unmasked_frame, held_pool}
+
+-- ---- changes of records that write no masked word
+
+-- no word of these changes is masked
+abbrev pub AreOff : Write → List Put → Type 0
+AreOff mask [] = ⊤
+AreOff mask (p ∷ puts) = ((k : ℕ) → p.w ≤ k → k < p.w + p.n → mask k ≡ None) × AreOff mask puts
+
+put_fits : (F : ℕ) (p : Put) → IsOfPools F p → p.n ≤ length p.vals
+put_fits F p (inl of) = of.fits
+put_fits F p (inr (inl of)) = of.fits
+put_fits F p (inr (inr of)) = of.fits
+
+either_some : (first later : Option ℕ) (v : ℕ) → option_or later first ≡ Some v → (later ≡ Some v) ⊎ (first ≡ Some v)
+either_some first None v is = inr is
+either_some first (Some x) v is = inl is
+
+-- what their batch writes is not masked
+puts_off : (F : ℕ) (mask : Write) (puts : List Put) (k v : ℕ) → AreOfPools F puts → AreOff mask puts → batch_write (puts_batch puts) k ≡ Some v → mask k ≡ None
+unfolding batch_write
+puts_off F mask [] k v of off is = absurd (let no : None ≡ Some v = is in cc)
+puts_off F mask (p ∷ puts) k v of off is = elim (either_some (value_at p.w (take p.n p.vals) k) (batch_write (puts_batch puts) k) v is) [
+  | inl later ↦ puts_off F mask puts k v of.1 off.1 later
+  | inr first ↦
+      let within = placed_within p.w k v (take p.n p.vals) first in
+      let high = within.1 in
+      off.0 k within.0 (omega (arith, length-take-le p.n p.vals (put_fits F p of.0)))
+]
+
+masked_not : (mask : Write) (k x : ℕ) → mask k ≡ Some x → mask k ≡ None → ⊥
+masked_not mask k x is none = let it : Some x ≡ None = sym is ∙ none in cc
+
+module _ (w : World) (held : List (Option Held)) (mask : Write) (words : Words) (holds : Holds w held mask words) where
+  abbrev F : ℕ
+  F = w.stored.frames
+
+  abbrev t : Tables
+  t = tables_of F (reads words)
+
+  pub IsOff-puts : (puts : List Put) → AreOfPools F puts → AreOff mask puts → IsOff mask (ByBatch DAEMON_LOG (puts_batch puts))
+  IsOff-puts puts of off = record {
+    apart = λ k x v is may. masked_not mask k x is (elim may [
+      | inl log ↦ let high = log.high in unmasked_front w held mask words holds k (omega arith)
+      | inr named ↦ puts_off F mask puts k named.value of off named.is
+    ]);
+  }
+
+  -- ---- a pool is made
+
+  -- a slot that is free is not that of a pool that is held
+  free_apart : (slot : ℕ) → t.pools slot ≡ None → (number : ℕ) (h : Held) → held_under held number ≡ Some h → slot ≡ h.slot → ⊥
+  free_apart slot free number h there same =
+      let pool = held_pool w held mask words holds number h there in
+      let no : None ≡ Some pool.rec = sym free ∙ ap t.pools same ∙ pool.used in
+      cc
+
+  free_others : (frame : ℕ) → t.puddles frame ≡ None → IsOfOthers held (t.puddles frame)
+  free_others frame free number h there = ap (is_of_pool h.slot) free
+
+  length-fresh : (number ordinal : ℕ) → length (fresh_frame number ordinal) ≡ FRAME_WORDS
+  unfolding fresh_frame
+  length-fresh number ordinal = omega (arith, length-replicate {A = ℕ} (FRAME_WORDS - 4) 0)
+
+  -- the lowest free slot
+  module _ (slot : ℕ) (first : first_free t.pools 0 POOL_RECORDS ≡ Some slot) where
+    slot_below : slot < POOL_RECORDS
+    slot_below = let free = first_free_some t.pools 0 POOL_RECORDS slot first in let high = free.high in omega arith
+
+    new_slot : (k : ℕ) → pool_record_at slot ≤ k → k < pool_record_at (slot + 1) → mask k ≡ None
+    new_slot k low high = unmasked_pool w held mask words holds slot k slot_below (free_apart slot (first_free_some t.pools 0 POOL_RECORDS slot first).free) low high
+
+  -- and the lowest free frame
+  module _ (frame : ℕ) (first : first_free t.puddles 0 t.frames ≡ Some frame) where
+    pub frame_below : frame < F
+    frame_below = let free = first_free_some t.puddles 0 t.frames frame first in let high = free.high in omega (arith, frames_of_tables F (reads words))
+
+    frame_free : t.puddles frame ≡ None
+    frame_free = (first_free_some t.puddles 0 t.frames frame first).free
+
+    pub new_frame : (k : ℕ) → puddle_record_at frame ≤ k → k < puddle_record_at (frame + 1) → mask k ≡ None
+    new_frame k low high = unmasked_puddle w held mask words holds frame k frame_below (free_others frame frame_free) low high
+
+    pub filling_off : (number ordinal : ℕ) → IsOff mask (written (frame_write t.frames frame number ordinal))
+    filling_off number ordinal = record {
+      apart = λ k x v is may.
+          let within = placed_within (frame_at t.frames frame) k v (fresh_frame number ordinal) may in
+          let low = within.0 in
+          let high = within.1 in
+          masked_not mask k x is (unmasked_frame w held mask words holds frame k frame_below (free_others frame frame_free)
+          (omega (arith, frames_of_tables F (reads words))) (omega (arith, frames_of_tables F (reads words), length-fresh number ordinal)));
+    }
+
+  pub off_making : (next : ℕ) (name : List ℕ) (uid gid mode : ℕ) → IsOffMaking mask t next name uid gid mode
+  off_making next name uid gid mode = record {
+    frame = λ place for. filling_off place.frame for.frame (place.number + 1) 0;
+    records = λ place for.
+        let r : PoolRec = record { name = name; uid = uid; gid = gid; mode = mode; number = place.number } in
+        IsOff-puts (making place r) (making_of F place r (slot_below place.slot for.slot) (frame_below place.frame for.frame))
+        (λ k low high. unmasked_front w held mask words holds k (omega arith), (λ k low high. new_slot place.slot for.slot k low (omega arith), (λ k low high. new_frame place.frame for.frame k low (omega arith), tt)));
+  }
+
+  -- ---- a pool that is not held is changed, or dropped
+
+  module _ (slot : ℕ) (within : slot < POOL_RECORDS) (apart : (number : ℕ) (h : Held) → held_under held number ≡ Some h → slot ≡ h.slot → ⊥) where
+    pub off_changing : (mode : ℕ) → IsOff mask (ByBatch DAEMON_LOG (puts_batch (changing slot mode)))
+    off_changing mode =
+        IsOff-puts (changing slot mode) (changing_of F slot mode within)
+        (λ k low high. unmasked_pool w held mask words holds slot k within apart (omega arith) (omega arith), tt)
+
+    of_one : (s : ℕ) (m : Option Member) → (slot ≡ s → ⊥) → is_of_pool slot m ≡ true → is_of_pool s m ≡ false
+    of_one s None other of = refl
+    of_one s (Some m) other of =
+        let pool : m.pool ≡ slot + 1 = eqb-true m.pool (slot + 1) of in
+        ne_eqb m.pool (s + 1) (λ same. other (omega arith))
+
+    freeing_off : (frame count : ℕ) → frame + count ≤ F → AreOff mask (freeing t.puddles slot frame count)
+    unfolding freeing
+    freeing_off frame zero below = tt
+    freeing_off frame (suc count) below = elim (cases_Bool (is_of_pool slot (t.puddles frame))) [
+      | inl of ↦ subst (AreOff mask) (sym (cond-true _ _ _ of)) (
+        λ k low high. unmasked_puddle w held mask words holds frame k (omega arith) (λ number h there. of_one h.slot (t.puddles frame) (apart number h there) of) low (omega arith),
+        freeing_off (frame + 1) count (omega arith),
+      )
+      | inr other ↦ subst (AreOff mask) (sym (cond-false _ _ _ other)) (freeing_off (frame + 1) count (omega arith))
+    ]
+
+    pub off_dropping : IsOff mask (ByBatch DAEMON_LOG (puts_batch (dropping t slot)))
+    off_dropping =
+        IsOff-puts (dropping t slot) (dropping_of F t slot within (omega (arith, frames_of_tables F (reads words))))
+        (λ k low high. unmasked_pool w held mask words holds slot k within apart low (omega arith), freeing_off 0 t.frames (omega (arith, frames_of_tables F (reads words))))
+
+-- ---- what they do beside it
+
+not_spaces : (F k v : ℕ) → SPACE_TABLE ≤ k → k < PUDDLE_TABLE → ByPools F k v → ⊥
+not_spaces F k v low high (inl log) = let to = log.high in absurd (omega arith)
+not_spaces F k v low high (inr (inl (inl word))) = let to = word.high in absurd (omega arith)
+not_spaces F k v low high (inr (inl (inr (inl word)))) = let to = word.high in absurd (omega arith)
+not_spaces F k v low high (inr (inl (inr (inr word)))) = let from = word.low in absurd (omega arith)
+not_spaces F k v low high (inr (inr frame)) = let from = frame.low in absurd (omega arith)
+
+-- nor is the log of a client
+not_logs : (F k v : ℕ) → tables_end F ≤ k → k < frames_at F → ByPools F k v → ⊥
+not_logs F k v low high (inl log) = let to = log.high in absurd (omega arith)
+not_logs F k v low high (inr (inl (inl word))) = let to = word.high in absurd (omega arith)
+not_logs F k v low high (inr (inl (inr (inl word)))) = let to = word.high in absurd (omega arith)
+not_logs F k v low high (inr (inl (inr (inr word)))) = let to = word.high in absurd (omega arith)
+not_logs F k v low high (inr (inr frame)) = let from = frame.low in absurd (omega arith)
+
+module _ (size : ℕ) (w : World) (memory : Memory) (next : StoredWorld) (also : Image → Type 0) (fault : Option HostFault) (old new : State) (ready : IsReady size w memory old)
+    (b : IsBeside ready.mask fault old new) (p : ChangesPools size w.stored next also fault (masked_state ready.mask old) (masked_state ready.mask new)) where
+  stays_durable : fault ≡ None → (k : ℕ) (x : Option ℕ) → ready.mask k ≡ x → (k < DAEMON_LOG) ⊎ (TYPE_TABLE ≤ k) → k < tables_end w.stored.frames → StaysDurable (ByOthers ready.mask) new k
+  stays_durable none k None is outside below = inr (subst (λ (c : Cell). HasOnly c c.newest) (masked-elsewhere ready.mask new.now.words k is) ((p.tables none).each k outside below))
+  stays_durable none k (Some x) is outside below = inl (λ v m. masked_not ready.mask k x is m)
+
+  tables_then : fault ≡ None → HasDurableTables w.stored.frames new.now.words
+  tables_then none = HasDurableTables-changed w.stored.frames (ByOthers ready.mask) fault old new b.changes (λ k outside below. stays_durable none k (ready.mask k) refl outside below) ready.tables
+
+  space_then : fault ≡ None → (k : ℕ) → SPACE_TABLE ≤ k → k < PUDDLE_TABLE → reads new.now.words k ≡ reads old.now.words k
+  space_then none k low high =
+      let mask = ready.mask in
+      let beside = subst (λ (f : Option HostFault). Changes (ByOthers mask) f old new) none b.changes in
+      let changes = subst (λ (f : Option HostFault). Changes (ByPools w.stored.frames) f (masked_state mask old) (masked_state mask new)) none p.changes in
+      let now = λ (words : Words). ap (λ (i : Image). i k) (reads-masked mask words) in
+      sym (table_reads-kept w memory.held mask old new ready.held beside k (omega arith))
+      ∙ sym (now new.now.words)
+      ∙ reads_kept (ByPools w.stored.frames) (masked_state mask old) (masked_state mask new) k changes (λ v. not_spaces w.stored.frames k v low high)
+      ∙ now old.now.words
+      ∙ table_reads w memory.held mask old.now.words ready.held k (omega arith)
+
+  pub AppliesMasked-pools : next.frames ≡ w.stored.frames → AppliesMasked size w (record w { stored = next }) ready.mask fault old new
+  AppliesMasked-pools frames = record {
+    beside = b;
+    moments = Leaves-weaker (Silently (MayStand size w.stored next also)) (Silently (λ image. (idle_world_of size image ≡ Some (closed w)) ⊎ (idle_world_of size image ≡ Some next))) (masked_state ready.mask old) (masked_state ready.mask new)
+        (λ bytes image m. (m.0, elim m.1 [ inl before ↦ inl before | inr after ↦ inr after.0 ])) p.moments;
+    settled = p.settled;
+    tables = λ none. subst (λ (n : ℕ). HasDurableTables n new.now.words) (sym frames) (tables_then none);
+    logs = λ none. subst (λ (n : ℕ). HasIdleLogs n w.clients (masked ready.mask new.now.words)) (sym frames)
+        (logs_kept w.stored.frames w.clients (ByPools w.stored.frames) fault (masked_state ready.mask old) (masked_state ready.mask new) p.changes (λ k v low high. not_logs w.stored.frames k v low high) ready.logs);
+    clients = λ none client low. owner_of-same (reads new.now.words) (reads old.now.words) client low (λ k from to. space_then none k from to) ∙ ready.clients client low;
+    shelf = refl;
+  }
+
+-- ---- what stays of the pools that are held
+
+pub KeepsHeld-stored : (w : World) (next : StoredWorld) (held : List (Option Held)) → next.frames ≡ w.stored.frames → next.types ≡ w.stored.types
+    → ((number : ℕ) (h : Held) → held_under held number ≡ Some h → pool_named h.name next ≡ pool_named h.name w.stored) → KeepsHeld w (record w { stored = next }) held
+KeepsHeld-stored w next held frames types pool = record {
+  frames = frames;
+  transactions = refl;
+  present = λ number h there. refl;
+  stored = λ number h there. ap graph_in (pool number h there);
+  puddles = λ number h there. ap puddles_in (pool number h there);
+  types = λ id m is. ap (map_of id) types ∙ is;
+  graphs = λ st g is. ap (λ (ts : List (ℕ × ℕ)). graph_of ts st) types ∙ is;
+}
+
+-- a pool of another name
+names_apart : (x y : List ℕ) → (x ≡ y → ⊥) → eq_by_cmp name_cmp x y ≡ false
+names_apart x y apart = elim (cases_Bool (eq_by_cmp name_cmp x y)) [
+  | inl is ↦ absurd (apart (same_name x y ((Equal-is (name_cmp x y)).0 is)))
+  | inr other ↦ other
+]
+
+pub found_beside_put : (name other : List ℕ) (p : Pool) (ps : List (List ℕ × Pool)) → (other ≡ name → ⊥) → find name_cmp other (put name_cmp name p ps) ≡ find name_cmp other ps
+found_beside_put name other p ps apart = find-put name_cmp nat_list_cmp_total other name p ps ∙ cond-false _ _ _ (names_apart other name apart)
+
+pub found_beside_without : (name other : List ℕ) (ps : List (List ℕ × Pool)) → (other ≡ name → ⊥) → find name_cmp other (without name_cmp name ps) ≡ find name_cmp other ps
+found_beside_without name other ps apart =
+    find-where_key name_cmp (λ (x : List ℕ). not (eq_by_cmp name_cmp name x)) other (λ x tied. ap (λ (y : List ℕ). not (eq_by_cmp name_cmp name y)) (sym (same_name other x tied))) ps
+    ∙ cond-true _ _ _ (ap not (names_apart name other (λ same. apart (sym same))))
+
+-- ---- what calls on pools do beside it
+
+-- nothing happened
+pub IsBeside-still : (mask : Write) (fault : Option HostFault) (old new : State) → HasIdleGate DAEMON_LOG old.now.words → (fault ≡ Some Cut → IsRested new.now.words) → new ≡ old → IsBeside mask fault old new
+IsBeside-still mask fault old new idle rests same =
+    subst (λ (n : State). (fault ≡ Some Cut → IsRested n.now.words) → IsBeside mask fault old n) (sym same) (λ rests. record {
+      changes = record {
+        added = [];
+        history = refl;
+        quiet = λ m h. absurd h;
+        within = λ m h k v. absurd h;
+        keeps = λ not_cut k none. record { newest = refl; marked = λ marked. marked };
+        rests = rests;
+        script = refl;
+        shelf = refl;
+      };
+      names = Leaves-still (Silently (NamesNone mask)) old old (λ image picked. (refl, names_none_idle mask image (idle.each (image DAEMON_LOG) (picked.each DAEMON_LOG)))) refl;
+      single = λ none. record { each = λ k outside one. one };
+    }) rests
+
+-- a batch was committed, or nothing happened
+pub IsBeside-puts : (mask : Write) (puts : List Put) (fault : Option HostFault) (old new : State) → IsOff mask (ByBatch DAEMON_LOG (puts_batch puts)) → HasIdleGate DAEMON_LOG old.now.words
+    → (fault ≡ Some Cut → IsRested new.now.words) → OrStill (CommitsPuts puts) fault old new → IsBeside mask fault old new
+IsBeside-puts mask puts fault old new off idle rests (inl still) = IsBeside-still mask fault old new idle rests still.0
+IsBeside-puts mask puts fault old new off idle rests (inr commits) = IsBeside-commits mask (puts_batch puts) fault old new off (puts_batched puts) commits
+
+-- words were made durable, and then a batch was committed
+pub IsBeside-filled : (mask write : Write) (es : List Entry) (fault : Option HostFault) (old new : State) → IsOff mask (written write) → IsOff mask (ByBatch DAEMON_LOG es) → ((v : ℕ) → written write DAEMON_LOG v → ⊥)
+    → AreBatched es → HasIdleGate DAEMON_LOG old.now.words → PersistsThenCommits write es fault old new → IsBeside mask fault old new
+IsBeside-filled mask write es fault old new off_write off apart batched idle c =
+    let first : IsBeside mask c.first old c.mid = IsBeside-changes mask (written write) c.first old c.mid off_write apart idle (persisted_single write c.first old c.mid c.persists) c.persists.changes in
+    elim c.then [
+      | inl end ↦ subst (λ (s : State). IsBeside mask fault old s) (sym end.0) (subst (λ (f : Option HostFault). IsBeside mask f old c.mid) (sym end.1) first)
+      | inr on ↦ IsBeside-then mask fault old c.mid new (subst (λ (f : Option HostFault). IsBeside mask f old c.mid) on.0 first) (IsBeside-commits mask es fault c.mid new off batched on.1)
+    ]
+
+-- a pool was made somewhere
+pub IsBeside-makes : (mask : Write) (t : Tables) (next : ℕ) (name : List ℕ) (uid gid mode : ℕ) (fault : Option HostFault) (old new : State) → IsOffMaking mask t next name uid gid mode
+    → HasIdleGate DAEMON_LOG old.now.words → (fault ≡ Some Cut → IsRested new.now.words) → OrStill (MakesSomewhere t next name uid gid mode) fault old new → IsBeside mask fault old new
+IsBeside-makes mask t next name uid gid mode fault old new off idle rests (inl still) = IsBeside-still mask fault old new idle rests still.0
+IsBeside-makes mask t next name uid gid mode fault old new off idle rests (inr m) =
+    let r : PoolRec = record { name = name; uid = uid; gid = gid; mode = mode; number = m.place.number } in
+    IsBeside-filled mask (frame_write t.frames m.place.frame (m.place.number + 1) 0) (puts_batch (making m.place r)) fault old new (off.frame m.place m.is) (off.records m.place m.is)
+    (λ v may. let within = placed_within (frame_at t.frames m.place.frame) DAEMON_LOG v (fresh_frame (m.place.number + 1) 0) may in let low = within.0 in absurd (omega arith))
+    (puts_batched (making m.place r)) idle m.commits

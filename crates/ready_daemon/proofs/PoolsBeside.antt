@@ -1,0 +1,196 @@
+-- Pools made, changed and dropped beside open transactions: which words of the tables these mask, and what stays of the pool of each.
+use Rattle.std.proofs.Common.{◌≡◌, ◌⊎◌, inl, inr, ℕ, ◌+◌, ◌<◌, ◌≤◌, Bool, true, false, ◌||◌, leb, ltb, List, Option, Some, None, refl, sym, ap, subst, ◌∙◌, arith, eq-eqb}
+use Rattle.std.specs.Prelude.{slice_get}
+use Rattle.std.specs.List.{list_any}
+use Rattle.std.proofs.lemmas.Bool.{and_parts, and_from, or_cases, or_left, or_right, leb-true, ltb-true, le-leb, lt-ltb}
+use Rattle.pm_model.specs.Words.{Words, reads}
+use Rattle.pm_model.specs.Changes.{Write}
+use Rattle.pud_defs.specs.declared.records.TheConstants.{POOL_RECORDS}
+use Rattle.pud_defs.specs.declared.records.PoolRec.{PoolRec}
+use Rattle.pud_defs.specs.declared.records.Puddle.{Puddle}
+use Rattle.pud_defs.specs.Frames.{frame_at}
+use Rattle.pud_defs.specs.Layout.{IsWithin, tables_end}
+use Rattle.pud_defs.specs.Pools.{pool_record_at}
+use Rattle.pud_defs.specs.Puddles.{Member, puddle_record_at}
+use Rattle.pud_defs.specs.Puts.{is_of_pool}
+use Rattle.pud_defs.specs.Settled.{client_of_log, log_number_at}
+use Rattle.pud_defs.specs.Spaces.{space_record_at}
+use Rattle.pud_defs.specs.Tables.{Tables, tables_of}
+use Rattle.pud_defs.specs.World.{World}
+use Rattle.pud_defs.proofs.PoolMembers.{HasMembers, members_in_turn, HasMembers-same}
+use Rattle.pud_defs.proofs.Replay.{outside_log}
+use Rattle.pud_defs.proofs.TablesOf.{pools_below, puddles_below, frames_of_tables, pool_at-same, puddle_at-same}
+use Rattle.hybrid_tx.specs.Grounds.{pool_mine}
+use Rattle.hybrid_tx.specs.Masks.{OpenPool, is_in_pool_record, is_in_space_record, is_in_puddle_record, is_open_record, open_mask}
+use Rattle.hybrid_tx.proofs.OpenMasks.{mine_behind, mask_of_others}
+use Rattle.hybrid_tx.proofs.OpenPools.{open_on_device}
+use Rattle.hybrid_tx.proofs.PoolGrounds.{all_there, any_element, element_passes, pool_mine-each}
+use Rattle.ready_daemon.specs.Memory.{Held, held_under}
+use Rattle.ready_daemon.specs.Held.{pool_held, open_held, IsHeld, Holds}
+use Rattle.ready_daemon.proofs.Beside.{held_is, unmasked_by_all}
+
+-- ---- which words are masked
+
+not_true : (b : Bool) → (b ≡ true → ⊥) → b ≡ false
+not_true true never = absurd (never refl)
+not_true false never = refl
+
+-- a word of the record of one of these puddles
+record IsOfPuddle (at : List (ℕ × Puddle)) (k : ℕ) : Type 0 where
+  index : ℕ
+  element : ℕ × Puddle
+  there : slice_get at index ≡ Some element
+  within : IsWithin (puddle_record_at element.0) (puddle_record_at (element.0 + 1)) k
+
+-- a word of a record of a transaction is one of its pool's, of its client's, or of a puddle's
+open_record_of : (p : OpenPool) (k : ℕ) → is_open_record p k ≡ true
+    → IsWithin (pool_record_at p.slot) (pool_record_at (p.slot + 1)) k ⊎ (IsWithin (space_record_at (client_of_log p.number)) (space_record_at (client_of_log p.number + 1)) k ⊎ IsOfPuddle p.at k)
+unfolding is_open_record
+open_record_of p k is =
+    elim (or_cases (is_in_pool_record p.slot k || is_in_space_record (client_of_log p.number) k) (list_any (is_in_puddle_record k) p.at) is) [
+      | inl first ↦ elim (or_cases (is_in_pool_record p.slot k) (is_in_space_record (client_of_log p.number) k) first) [
+        | inl pool ↦
+            let parts = and_parts (leb (pool_record_at p.slot) k) (ltb k (pool_record_at (p.slot + 1))) pool in
+            inl (record { low = leb-true _ _ parts.0; high = ltb-true _ _ parts.1 })
+        | inr space ↦
+            let parts = and_parts (leb (space_record_at (client_of_log p.number)) k) (ltb k (space_record_at (client_of_log p.number + 1))) space in
+            inr (inl (record { low = leb-true _ _ parts.0; high = ltb-true _ _ parts.1 }))
+      ]
+      | inr puddle ↦
+          let found = any_element (is_in_puddle_record k) p.at puddle in
+          let parts = and_parts (leb (puddle_record_at found.element.0) k) (ltb k (puddle_record_at (found.element.0 + 1))) found.passes in
+          inr (inr (record { index = found.index; element = found.element; there = found.there; within = record { low = leb-true _ _ parts.0; high = ltb-true _ _ parts.1 } }))
+    ]
+
+of_pool_record : (p : OpenPool) (k : ℕ) → pool_record_at p.slot ≤ k → k < pool_record_at (p.slot + 1) → is_open_record p k ≡ true
+unfolding is_open_record
+of_pool_record p k low high =
+    or_left (is_in_pool_record p.slot k || is_in_space_record (client_of_log p.number) k) (list_any (is_in_puddle_record k) p.at)
+    (or_left (is_in_pool_record p.slot k) (is_in_space_record (client_of_log p.number) k) (and_from (leb (pool_record_at p.slot) k) (ltb k (pool_record_at (p.slot + 1))) (le-leb _ _ low) (lt-ltb _ _ high)))
+
+of_puddle_record : (p : OpenPool) (k o : ℕ) (e : ℕ × Puddle) → slice_get p.at o ≡ Some e → puddle_record_at e.0 ≤ k → k < puddle_record_at (e.0 + 1) → is_open_record p k ≡ true
+unfolding is_open_record
+of_puddle_record p k o e there low high =
+    or_right (is_in_pool_record p.slot k || is_in_space_record (client_of_log p.number) k) (list_any (is_in_puddle_record k) p.at)
+    (element_passes (is_in_puddle_record k) p.at o e there (and_from (leb (puddle_record_at e.0) k) (ltb k (puddle_record_at (e.0 + 1))) (le-leb _ _ low) (lt-ltb _ _ high)))
+
+module _ (w : World) (held : Held) (mask : Write) (words : Words) (is : IsHeld w held mask words) where
+  abbrev F : ℕ
+  F = w.stored.frames
+
+  abbrev p : OpenPool
+  p = pool_held held is.rec is.who
+
+  abbrev now : Tables
+  now = tables_of F (reads words)
+
+  -- a word of the tables that is none of its records
+  not_record : (k : ℕ) → k < tables_end F → (is_open_record p k ≡ true → ⊥) → open_mask F p is.before k ≡ None
+  not_record k below never =
+      mask_of_others F p is.before k (outside_log (log_number_at F held.number) k (inl (omega arith))) (mine_behind F held.at k (omega arith)) (not_true (is_open_record p k) never)
+
+  -- its record is read as it was
+  pub used_still : now.pools held.slot ≡ Some is.rec
+  used_still =
+      pools_below F (reads words) held.slot is.pool.slot ∙ pool_at-same (reads words) is.before held.slot (λ k low high. is.records k (of_pool_record p k low high))
+      ∙ sym (pools_below F is.before held.slot is.pool.slot) ∙ is.pool.used
+
+  -- and so are those of its puddles
+  pub members_still : HasMembers now held.slot held.at
+  members_still =
+      HasMembers-same (tables_of F is.before) now held.slot held.at (frames_of_tables F is.before ∙ sym (frames_of_tables F (reads words)))
+      (λ o e there.
+      let below = all_there (λ (d : ℕ × Puddle). d.0 < F) held.at o e (open_on_device F p is.before is.pool).frames there in
+      puddles_below F (reads words) e.0 below ∙ puddle_at-same (reads words) is.before e.0 (λ k low high. is.records k (of_puddle_record p k o e there low high)) ∙ sym (puddles_below F is.before e.0 below))
+      (subst (λ at. HasMembers (tables_of F is.before) held.slot at) is.pool.at (members_in_turn (tables_of F is.before) held.slot))
+
+  -- a frame that is none of its puddles'
+  not_its_own : (frame o : ℕ) (e : ℕ × Puddle) → is_of_pool held.slot (now.puddles frame) ≡ false → slice_get held.at o ≡ Some e → frame ≡ e.0 → ⊥
+  not_its_own frame o e other there same =
+      let m = members_still.each o e there in
+      let of : is_of_pool held.slot (now.puddles frame) ≡ true = ap (λ n. is_of_pool held.slot (now.puddles n)) same ∙ ap (is_of_pool held.slot) m.used ∙ eq-eqb m.member.pool (held.slot + 1) m.pool in
+      let no : true ≡ false = sym of ∙ other in
+      cc
+
+  other_pool : (slot k : ℕ) → slot < POOL_RECORDS → (slot ≡ held.slot → ⊥) → pool_record_at slot ≤ k → k < pool_record_at (slot + 1) → open_mask F p is.before k ≡ None
+  other_pool slot k within apart low high =
+      not_record k (omega arith) (λ of. elim (open_record_of p k of) [
+        | inl pool ↦ let from = pool.low in let to = pool.high in absurd (apart (omega arith))
+        | inr (inl space) ↦ let from = space.low in absurd (omega arith)
+        | inr (inr puddle) ↦ let from = puddle.within.low in absurd (omega arith)
+      ])
+
+  other_puddle : (frame k : ℕ) → frame < F → is_of_pool held.slot (now.puddles frame) ≡ false → puddle_record_at frame ≤ k → k < puddle_record_at (frame + 1) → open_mask F p is.before k ≡ None
+  other_puddle frame k below other low high =
+      let few = is.pool.known in
+      let slot = is.pool.slot in
+      not_record k (omega arith) (λ of. elim (open_record_of p k of) [
+        | inl pool ↦ let to = pool.high in absurd (omega arith)
+        | inr (inl space) ↦ let to = space.high in absurd (omega arith)
+        | inr (inr puddle) ↦
+            let from = puddle.within.low in let to = puddle.within.high in
+            absurd (not_its_own frame puddle.index puddle.element other puddle.there (omega arith))
+      ])
+
+  other_frame : (frame k : ℕ) → frame < F → is_of_pool held.slot (now.puddles frame) ≡ false → frame_at F frame ≤ k → k < frame_at F (frame + 1) → open_mask F p is.before k ≡ None
+  other_frame frame k below other low high =
+      let few = is.pool.known in
+      let slot = is.pool.slot in
+      mask_of_others F p is.before k (outside_log (log_number_at F held.number) k (inr (omega arith)))
+      (not_true (pool_mine F held.at k) (λ mine.
+      let m = pool_mine-each F held.at k mine in
+      let from = m.low in let to = m.high in
+      not_its_own frame m.ordinal m.puddle other m.there (omega arith)))
+      (not_true (is_open_record p k) (λ of. elim (open_record_of p k of) [
+        | inl pool ↦ let to = pool.high in absurd (omega arith)
+        | inr (inl space) ↦ let to = space.high in absurd (omega arith)
+        | inr (inr puddle) ↦
+            let frames = all_there (λ (d : ℕ × Puddle). d.0 < F) held.at puddle.index puddle.element (open_on_device F p is.before is.pool).frames puddle.there in
+            let to = puddle.within.high in absurd (omega arith)
+      ]))
+
+-- ---- whatever is held
+
+-- a member that is none of the pools on which one is held
+abbrev pub IsOfOthers : List (Option Held) → Option Member → Type 0
+IsOfOthers held m = (number : ℕ) (h : Held) → held_under held number ≡ Some h → is_of_pool h.slot m ≡ false
+
+-- no word of these is masked:
+module _ (w : World) (held : List (Option Held)) (mask : Write) (words : Words) (holds : Holds w held mask words) where
+  -- of the record of a pool on which none is held
+  pub unmasked_pool : (slot k : ℕ) → slot < POOL_RECORDS → ((number : ℕ) (h : Held) → held_under held number ≡ Some h → slot ≡ h.slot → ⊥)
+      → pool_record_at slot ≤ k → k < pool_record_at (slot + 1) → mask k ≡ None
+  unmasked_pool slot k within apart low high =
+      unmasked_by_all w held mask words holds k (λ number h there is. other_pool w h mask words is slot k within (apart number h there) low high)
+
+  -- of the record of a puddle of others
+  pub unmasked_puddle : (frame k : ℕ) → frame < w.stored.frames → IsOfOthers held ((tables_of w.stored.frames (reads words)).puddles frame)
+      → puddle_record_at frame ≤ k → k < puddle_record_at (frame + 1) → mask k ≡ None
+  unmasked_puddle frame k below other low high =
+      unmasked_by_all w held mask words holds k (λ number h there is. other_puddle w h mask words is frame k below (other number h there) low high)
+
+  -- of a frame of others
+  pub unmasked_frame : (frame k : ℕ) → frame < w.stored.frames → IsOfOthers held ((tables_of w.stored.frames (reads words)).puddles frame)
+      → frame_at w.stored.frames frame ≤ k → k < frame_at w.stored.frames (frame + 1) → mask k ≡ None
+  unmasked_frame frame k below other low high =
+      unmasked_by_all w held mask words holds k (λ number h there is. other_frame w h mask words is frame k below (other number h there) low high)
+
+-- no two are held on the pool of one slot
+pub one_slot : (w : World) (held : List (Option Held)) (mask : Write) (words : Words) → Holds w held mask words → (n m : ℕ) (h g : Held) → held_under held n ≡ Some h → held_under held m ≡ Some g
+    → h.slot ≡ g.slot → n ≡ m
+one_slot w held mask words holds n m h g here there same =
+    let its = holds.each n h here in
+    let others = holds.each m g there in
+    holds.are.slots n m (open_held h its.is.rec its.is.who its.is.before) (open_held g others.is.rec others.is.who others.is.before) its.opened others.opened same
+
+-- the record of the slot is used, and has the name
+pub record IsHeldPool (t : Tables) (h : Held) : Type 0 where
+  pub rec : PoolRec
+  pub used : t.pools h.slot ≡ Some rec
+  pub name : rec.name ≡ h.name
+
+pub held_pool : (w : World) (held : List (Option Held)) (mask : Write) (words : Words) → Holds w held mask words → (number : ℕ) (h : Held) → held_under held number ≡ Some h
+    → IsHeldPool (tables_of w.stored.frames (reads words)) h
+held_pool w held mask words holds number h there =
+    let is = held_is w held mask words holds number h there in
+    record { rec = is.rec; used = used_still w h mask words is; name = is.name }

@@ -1,0 +1,155 @@
+-- The session on a pool whose record was found in a slot, and the transaction that is open on the pool.
+use Rattle.std.proofs.Common.{◌≡◌, ◌≢◌, inl, inr, ℕ, ◌<◌, List, Option, Some, None, option_map, refl, sym, ap, ◌∙◌, arith}
+use Rattle.std.specs.Cmp.Lexicographic.{nat_list_cmp_total}
+use Rattle.std.specs.FinMap.Entries.{find}
+use Rattle.std.proofs.lemmas.Bool.{cases_lt}
+use Rattle.std.proofs.lemmas.Option.{none-some, same_Some}
+use Rattle.pm_model.specs.Words.{Words, reads}
+use Rattle.pm_model.specs.Changes.{Write}
+use Rattle.pm_model.specs.Moments.{State}
+use Rattle.pud_defs.specs.declared.records.PoolRec.{PoolRec}
+use Rattle.pud_defs.specs.declared.records.TheConstants.{POOL_RECORDS}
+use Rattle.pud_defs.specs.Image.{Image}
+use Rattle.pud_defs.specs.Names.{name_cmp}
+use Rattle.pud_defs.specs.SoundTables.{has_distinct_names, HasSoundTables}
+use Rattle.pud_defs.specs.Tables.{Tables, tables_of, named, records_of}
+use Rattle.pud_defs.specs.World.{Transaction, World}
+use Rattle.pud_defs.proofs.Keyed.{HasDistinctKeys, distinct_keys, find-keyed_place}
+use Rattle.pud_defs.proofs.TablesOf.{pools_beyond}
+use Rattle.nesting.specs.declared.Session.{Session}
+use Rattle.nesting.specs.Sessions.{client_in, session_in}
+use Rattle.ready_daemon.specs.Memory.{Held, Memory, held_under}
+use Rattle.ready_daemon.specs.Held.{Holds, HasSessions}
+use Rattle.ready_daemon.specs.Holding.{IsOwnOn}
+use Rattle.ready_daemon.specs.Owning.{IsSlotOf}
+use Rattle.ready_daemon.specs.Ready.{IsReady}
+use Rattle.ready_daemon.proofs.Beside.{held_is}
+use Rattle.ready_daemon.proofs.PoolsBeside.{used_still}
+use Rattle.ready_daemon.proofs.TablesBeside.{sound_read}
+
+-- the session that a transaction has
+abbrev pub session_of : Transaction → Session
+session_of t = record { client = t.client; depth = t.depth }
+
+-- The session in the slot is that of a transaction on the pool of the name, which is held under a number.
+pub record IsSessionOf (w : World) (held : List (Option Held)) (name : List ℕ) (slot : ℕ) (session : Session) : Type 0 where
+  pub number : ℕ
+  pub mine : Held
+  pub is : held_under held number ≡ Some mine
+  pub slot_is : mine.slot ≡ slot
+  pub name_is : mine.name ≡ name
+  pub transaction : Transaction
+  pub there : w.transactions name ≡ Some transaction
+  pub session_is : session ≡ session_of transaction
+  pub client : transaction.client ≡ mine.client
+
+-- where it is the client's, so is that transaction
+pub own_on : (w : World) (held : List (Option Held)) (client : ℕ) (name : List ℕ) (slot : ℕ) (session : Session) (of : IsSessionOf w held name slot session) → session.client ≡ client
+    → IsOwnOn client name slot of.number held
+own_on w held client name slot session of whose = record {
+  own = record { mine = of.mine; is = of.is; whose = sym of.client ∙ sym (ap client_in of.session_is) ∙ whose; pool = of.name_is };
+  slot_is = of.slot_is;
+}
+
+-- ---- which pools they are
+
+-- a slot whose record is used is one of the table
+pub slot_within : (F slot : ℕ) (image : Image) (r : PoolRec) → (tables_of F image).pools slot ≡ Some r → slot < POOL_RECORDS
+slot_within F slot image r used = elim (cases_lt slot POOL_RECORDS) [
+  | inl within ↦ within
+  | inr beyond ↦ absurd (none-some r (sym (pools_beyond F image slot beyond) ∙ used))
+]
+
+module _ (next : ℕ) (t : Tables) (sound : HasSoundTables next t) where
+  distinct : HasDistinctKeys name_cmp (named t) 0 POOL_RECORDS
+  unfolding has_distinct_names
+  distinct = distinct_keys name_cmp (named t) 0 POOL_RECORDS sound.names
+
+  -- in sound tables a record is found under its name
+  found_at : (slot : ℕ) (r : PoolRec) → slot < POOL_RECORDS → t.pools slot ≡ Some r → find name_cmp r.name (records_of t) ≡ Some (slot, r)
+  unfolding records_of
+  found_at slot r within used =
+      find-keyed_place name_cmp nat_list_cmp_total (named t) 0 POOL_RECORDS slot (r.name, (slot, r)) distinct (omega arith) (omega arith) (ap (option_map (λ (x : PoolRec). (x.name, (slot, x)))) used)
+
+  -- so no two have one name
+  pub slot_by_name : (i j : ℕ) (r q : PoolRec) → i < POOL_RECORDS → j < POOL_RECORDS → t.pools i ≡ Some r → t.pools j ≡ Some q → r.name ≡ q.name → i ≡ j
+  slot_by_name i j r q low high here there same =
+      let both : ◌≡◌ {A = Option (ℕ × PoolRec)} (Some (i, r)) (Some (j, q)) =
+      sym (found_at i r low here) ∙ ap (λ (n : List ℕ). find name_cmp n (records_of t)) same ∙ found_at j q high there in
+      ap (λ (p : ℕ × PoolRec). p.0) (same_Some {A = ℕ × PoolRec} (i, r) (j, q) both)
+
+module _ (w : World) (held : List (Option Held)) (mask : Write) (words : Words) (holds : Holds w held mask words) where
+  abbrev F : ℕ
+  F = w.stored.frames
+
+  abbrev t : Tables
+  t = tables_of F (reads words)
+
+  -- ---- the session of one
+
+  module _ (sessions : List (Option Session)) (has : HasSessions w held sessions) where
+    pub session_held : (number : ℕ) (h : Held) (there : held_under held number ≡ Some h) → session_in sessions h.slot ≡ Some (session_of (held_is w held mask words holds number h there).transaction)
+    session_held number h there =
+        let is = held_is w held mask words holds number h there in
+        has.each number h is.transaction there is.is
+
+    -- none is held on a pool that has no session
+    pub none_held : (slot : ℕ) → session_in sessions slot ≡ None → (number : ℕ) (h : Held) → held_under held number ≡ Some h → h.slot ≢ slot
+    none_held slot none number h there same =
+        none-some (session_of (held_is w held mask words holds number h there).transaction) (sym none ∙ ap (session_in sessions) (sym same) ∙ session_held number h there)
+
+    -- the session on the pool of a name is that of the transaction that is open on it
+    pub session_there : (name : List ℕ) (slot : ℕ) (r : PoolRec) (s : Session) → t.pools slot ≡ Some r → r.name ≡ name → session_in sessions slot ≡ Some s → IsSessionOf w held name slot s
+    session_there name slot r s used named there =
+        let on = has.only slot s there in
+        let is = held_is w held mask words holds on.number on.mine on.is in
+        let rec : is.rec ≡ r = same_Some is.rec r (sym (used_still w on.mine mask words is) ∙ ap t.pools on.slot_is ∙ used) in
+        let same : on.mine.name ≡ name = sym is.name ∙ ap (λ (x : PoolRec). x.name) rec ∙ named in
+        record {
+          number = on.number;
+          mine = on.mine;
+          is = on.is;
+          slot_is = on.slot_is;
+          name_is = same;
+          transaction = is.transaction;
+          there = ap w.transactions (sym same) ∙ is.is;
+          session_is = same_Some s (session_of is.transaction) (sym there ∙ ap (session_in sessions) (sym on.slot_is) ∙ session_held on.number on.mine on.is);
+          client = is.client;
+        }
+
+    shut_by : (next : ℕ) → HasSoundTables next t → (name : List ℕ) (slot : ℕ) (r : PoolRec) → t.pools slot ≡ Some r → r.name ≡ name → session_in sessions slot ≡ None
+        → (o : Option Transaction) → w.transactions name ≡ o → o ≡ None
+    shut_by next sound name slot r used named none None e = refl
+    shut_by next sound name slot r used named none (Some x) e =
+        let open_on = holds.known name x e in
+        let is = held_is w held mask words holds open_on.number open_on.mine open_on.is in
+        let there = used_still w open_on.mine mask words is in
+        let here : open_on.mine.slot ≡ slot =
+        slot_by_name next t sound open_on.mine.slot slot is.rec r is.pool.slot (slot_within F slot (reads words) r used) there used (is.name ∙ open_on.name_is ∙ sym named) in
+        absurd (none_held slot none open_on.number open_on.mine open_on.is here)
+
+    -- and none is open where it has none
+    pub no_session : (next : ℕ) → HasSoundTables next t → (name : List ℕ) (slot : ℕ) (r : PoolRec) → t.pools slot ≡ Some r → r.name ≡ name → session_in sessions slot ≡ None → w.transactions name ≡ None
+    no_session next sound name slot r used named none = shut_by next sound name slot r used named none (w.transactions name) refl
+
+-- ---- a daemon that is ready
+
+module _ (size : ℕ) (w : World) (memory : Memory) (s : State) (ready : IsReady size w memory s) (name : List ℕ) (slot : ℕ) (at : IsSlotOf w.stored.frames name (reads s.now.words) slot) where
+  -- the session in the slot of the pool of the name is that of its transaction
+  pub session_open : (session : Session) → session_in memory.sessions slot ≡ Some session → IsSessionOf w memory.held name slot session
+  session_open session there = session_there w memory.held ready.mask s.now.words ready.held memory.sessions ready.sessions name slot at.rec session at.used at.name_is there
+
+  -- none is open where there is none
+  pub session_shut : session_in memory.sessions slot ≡ None → w.transactions name ≡ None
+  session_shut none =
+      no_session w memory.held ready.mask s.now.words ready.held memory.sessions ready.sessions w.stored.next_number (sound_read size w memory s ready) name slot at.rec at.used at.name_is none
+
+  session_by : (o : Option Session) → session_in memory.sessions slot ≡ o → session_in memory.sessions slot ≡ option_map session_of (w.transactions name)
+  session_by None e = e ∙ ap (option_map session_of) (sym (session_shut e))
+  session_by (Some session) e =
+      let of = session_open session e in
+      e ∙ ap (λ (x : Session). Some x) of.session_is ∙ ap (option_map session_of) (sym of.there)
+
+  -- so it tells what is open on the pool
+  pub session_is : session_in memory.sessions slot ≡ option_map session_of (w.transactions name)
+  session_is = session_by (session_in memory.sessions slot) refl

@@ -1,0 +1,26 @@
+-- What is left in memory, and of the world, once transactions have ended.
+use Rattle.std.specs.Prelude.{ℕ, ◌≤◌, List, set, Option, Some, None}
+use Rattle.pm_model.specs.Changes.{Footprint}
+use Rattle.pud_defs.specs.Layout.{tables_end}
+use Rattle.pud_defs.specs.Transactions.{with_open, without_client}
+use Rattle.pud_defs.specs.World.{World}
+use Rattle.nesting.specs.declared.Session.{Session}
+use Rattle.ready_daemon.specs.Memory.{Held}
+
+-- the sessions, without that of this one
+abbrev pub sessions_behind : Option Held → List (Option Session) → List (Option Session)
+sessions_behind None sessions = sessions
+sessions_behind (Some held) sessions = set sessions held.slot None
+
+-- the world in which this one is not open
+abbrev pub world_without_log : Option Held → World → World
+world_without_log None w = w
+world_without_log (Some held) w = record w { transactions = with_open held.name None w.transactions }
+
+-- the world in which none of the client's is open
+abbrev pub world_without : (client : ℕ) → World → World
+world_without client w = record w { transactions = without_client client w.transactions }
+
+-- any value may come to a word behind the tables
+abbrev pub BehindTables : ℕ → Footprint
+BehindTables F k v = tables_end F ≤ k

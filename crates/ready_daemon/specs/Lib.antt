@@ -1,0 +1,10 @@
+pub mod Memory
+pub mod Held
+pub mod Holding
+pub mod Judged
+pub mod KnownPools
+pub mod Beginning
+pub mod Leaving
+pub mod Defined
+pub mod Owning
+pub mod Ready
