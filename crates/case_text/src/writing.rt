@@ -1,0 +1,141 @@
+//! Blocks of lines, written out one line after the other.
+use crate::counters::{Counters, number_of};
+use crate::lines::{Line, first_word};
+use crate::trouble::{Trouble, amiss};
+use std::alloc::Global;
+
+/// How many steps a file may take to be written out.
+const STEPS: u32 = 1_000_000;
+
+/// A block that is being written out. Places are those of lines that say something.
+#[derive(Drop)]
+enum Block {
+    /// Lines that were named, and the place to go on at behind them.
+    Used(usize),
+    /// Lines that are repeated: the place of the first, and the last value of their counter.
+    Repeated(usize, u64),
+}
+
+/// What is written out so far.
+#[derive(Drop)]
+pub struct Writing {
+    alloc: Global,
+    /// The place of the line that comes next.
+    place: usize,
+    /// The blocks that it stands in, the innermost last.
+    blocks: Vec<Block>,
+    /// A counter for each block that is repeated.
+    counters: Counters,
+    lines: Vec<Line>,
+}
+
+impl Writing {
+    /// Nothing is written out.
+    pub fn new(alloc: Global) -> Writing {
+        Writing {
+            alloc,
+            place: 0,
+            blocks: Vec::new(alloc),
+            counters: Counters::new(alloc),
+            lines: Vec::new(alloc),
+        }
+    }
+
+    /// All of the source, written out.
+    pub fn write_all(mut self, source: &[Line]) -> Result<Vec<Line>, Trouble> {
+        for _step in 0..STEPS {
+            let Some(line) = source.get(self.place) else {
+                return Ok(self.lines);
+            };
+            self.write(source, line)?;
+        }
+        let why = format!(in self.alloc; "there are too many lines");
+        Err(amiss(1, why))
+    }
+
+    fn write(&mut self, source: &[Line], line: &Line) -> Result<(), Trouble> {
+        let (word, rest) = first_word(&line.text);
+        match word {
+            "let" => self.place = self.behind(source, line)?,
+            "use" => self.go_to(source, line, rest)?,
+            "repeat" => self.repeat(source, line, rest)?,
+            "end" => self.end(line)?,
+            _ => {
+                let text = self.counters.fill(&line.text)?;
+                let number = line.number;
+                self.lines.push(Line { number, text })?;
+                self.place = self.place.saturating_add(1);
+            }
+        }
+        Ok(())
+    }
+
+    /// The place behind the block that this line, which comes next, begins.
+    fn behind(&self, source: &[Line], begin: &Line) -> Result<usize, Trouble> {
+        let mut depth = 0u32;
+        for (place, line) in source.iter().enumerate().skip(self.place) {
+            match first_word(&line.text).0 {
+                "let" | "repeat" => depth = depth.saturating_add(1),
+                "end" => depth = depth.saturating_sub(1),
+                _ => {}
+            }
+            if depth == 0 {
+                return Ok(place.saturating_add(1));
+            }
+        }
+        let why = format!(in self.alloc; "there is no end");
+        Err(amiss(begin.number, why))
+    }
+
+    /// Goes on with the lines of that name.
+    fn go_to(&mut self, source: &[Line], line: &Line, name: &str) -> Result<(), Trouble> {
+        for (place, line) in source.iter().enumerate() {
+            if first_word(&line.text) == ("let", name) {
+                let behind = self.place.saturating_add(1);
+                self.blocks.push(Block::Used(behind))?;
+                self.place = place.saturating_add(1);
+                return Ok(());
+            }
+        }
+        let why = format!(in self.alloc; "no lines have this name");
+        Err(amiss(line.number, why))
+    }
+
+    /// Goes on with the lines below for the first value of the counter, or behind them where there is none.
+    fn repeat(&mut self, source: &[Line], line: &Line, counter: &str) -> Result<(), Trouble> {
+        let counter = self.counters.fill(counter)?;
+        let (name, range) = first_word(&counter);
+        let (first, last) = first_word(range);
+        let (Some(first), Some(last)) = (number_of(first), number_of(last)) else {
+            let why = format!(in self.alloc; "a counter, its first and its last value are wanted");
+            return Err(amiss(line.number, why));
+        };
+        if first > last {
+            self.place = self.behind(source, line)?;
+            return Ok(());
+        }
+        self.place = self.place.saturating_add(1);
+        self.counters.push(name, first)?;
+        self.blocks.push(Block::Repeated(self.place, last))?;
+        Ok(())
+    }
+
+    /// Goes on at the end of a block: with its lines once more, or behind it.
+    fn end(&mut self, line: &Line) -> Result<(), Trouble> {
+        self.place = self.place.saturating_add(1);
+        match self.blocks.pop() {
+            Some(Block::Used(behind)) => self.place = behind,
+            Some(Block::Repeated(first, last)) => {
+                if self.counters.count_by(1, last)? {
+                    self.place = first;
+                    self.blocks.push(Block::Repeated(first, last))?;
+                }
+            }
+            None => {
+                let why = format!(in self.alloc; "no block ends here");
+                return Err(amiss(line.number, why));
+            }
+        }
+        Ok(())
+    }
+}
