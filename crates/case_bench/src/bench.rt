@@ -1,0 +1,142 @@
+//! A bench: a device in memory, the run that is being written down for it, and what agreed so far.
+use crate::device::{Copied, Room};
+use crate::program::Program;
+use crate::runs::{CUT, Run};
+use case_text::lines::Line;
+use case_text::trouble::{Trouble, amiss};
+use case_text::wanted::{around_arrow, count_cells};
+use pm_mem::{MemHost, Plan};
+use std::alloc::Global;
+
+/// The statuses of a run that met a fault: a call failed, or power was lost while the program started.
+const FAULTS: [u8; 2] = [5, 6];
+
+/// The device that a case begins with: how many frames it has, and its machine id.
+const FRAMES: u32 = 4;
+
+const MACHINE: u64 = 7;
+
+/// The room that it has.
+const ROOM: Room = Room {
+    steps: 65_536,
+    bytes: 65_536,
+};
+
+/// A device in memory, with what is to be done on it and what was seen.
+#[derive(Drop)]
+pub struct Bench {
+    pub(crate) alloc: Global,
+    pub(crate) host: MemHost,
+    pub(crate) room: Room,
+    /// How many of the said bytes were compared.
+    pub(crate) heard: usize,
+    /// The newest value of each word as they were remembered.
+    pub(crate) remembered: Vec<u64>,
+    /// The outcomes that agree with all that was seen, by their numbers.
+    pub(crate) agreeing: Vec<usize>,
+    /// How many outcomes there are.
+    pub(crate) outcomes: usize,
+    /// The run whose script is being written down.
+    pub(crate) run: Option<Run>,
+    /// How often the program was run.
+    pub(crate) runs: u32,
+    /// Whether a run met a fault, or a line was cut off.
+    pub(crate) is_met: bool,
+}
+
+impl Bench {
+    /// A formatted device of four frames, with one outcome.
+    pub fn new(alloc: Global) -> Result<Bench, Trouble> {
+        let device = Copied::formatted(alloc, FRAMES, MACHINE)?;
+        Ok(Bench {
+            alloc,
+            host: device.host(alloc, ROOM, Plan::none(alloc))?,
+            room: ROOM,
+            heard: 0,
+            remembered: Vec::new(alloc),
+            agreeing: Vec::from_array(alloc, [0])?,
+            outcomes: 1,
+            run: None,
+            runs: 0,
+            is_met: false,
+        })
+    }
+
+    /// Carries the lines out, in turn.
+    pub fn carry_out<P: Program>(&mut self, program: &P, lines: &[Line]) -> Result<(), Trouble> {
+        for line in lines {
+            self.check_line(line)?;
+            if !self.is_of_script(line)? {
+                self.finish(program)?;
+                self.act(line)?;
+            }
+        }
+        self.finish(program)
+    }
+
+    /// The line has to have no counter that is left, and a cell for each outcome or one for all.
+    fn check_line(&self, line: &Line) -> Result<(), Trouble> {
+        if line.text.contains('<') {
+            let why = format!(in self.alloc; "no counter has this name");
+            return Err(amiss(line.number, why));
+        }
+        let cells = around_arrow(&line.text).1.map_or(1, count_cells);
+        if cells != 1 && cells != self.outcomes {
+            let why = format!(in self.alloc; "a cell for each outcome is wanted");
+            return Err(amiss(line.number, why));
+        }
+        Ok(())
+    }
+
+    /// Takes another device.
+    pub(crate) fn take(&mut self, device: &Copied, plan: Plan) -> Result<(), Trouble> {
+        self.host = device.host(self.alloc, self.room, plan)?;
+        self.heard = 0;
+        Ok(())
+    }
+
+    /// Adds a line of a script to the run that is being written down. The answer is whether it is one.
+    fn is_of_script(&mut self, line: &Line) -> Result<bool, Trouble> {
+        let word = line.text.split(' ').next().unwrap_or("");
+        if !["", "newlines", "unended"].contains(&word) {
+            return Ok(false);
+        }
+        let Some(run) = &mut self.run else {
+            let why = format!(in self.alloc; "no run has this line");
+            return Err(amiss(line.number, why));
+        };
+        run.transcript.add(self.alloc, line)?;
+        Ok(true)
+    }
+
+    /// Carries out the run that was written down, if there is one.
+    fn finish<P: Program>(&mut self, program: &P) -> Result<(), Trouble> {
+        let Some(run) = self.run.take() else {
+            return Ok(());
+        };
+        self.host
+            .refill(self.alloc, run.transcript.script.as_bytes())?;
+        let status = program.run(self.alloc, &run.words, &mut self.host);
+        self.runs = self.runs.saturating_add(1);
+        let said = self.listen(run.number)?;
+        if FAULTS.contains(&status) || said.lines().any(|line| line == CUT) {
+            self.is_met = true;
+        }
+        self.check_said(&run, &said)?;
+        if run.may_fault() {
+            return Ok(());
+        }
+        self.check_numbers(run.number, &run.status, &[u64::from(status)])
+    }
+
+    /// What was said since the last run.
+    fn listen(&mut self, number: u32) -> Result<String, Trouble> {
+        let said = self.host.said();
+        let news = said.get(self.heard..).unwrap_or(&[]);
+        self.heard = said.len();
+        match str::from_utf8(news) {
+            Ok(news) => Ok(String::from_str(self.alloc, news)?),
+            Err(_) => Err(amiss(number, format!(in self.alloc; "what is said is no text"))),
+        }
+    }
+}

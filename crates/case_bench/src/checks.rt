@@ -1,0 +1,96 @@
+//! What is seen, compared with what is wanted.
+use crate::bench::Bench;
+use crate::numbers::numbers_of;
+use crate::runs::{Difference, NOTHING, Run};
+use case_text::trouble::{Trouble, amiss};
+use case_text::wanted::cell_of;
+
+impl Bench {
+    /// What the run says has to be what is wanted of it in one of the outcomes that agreed so far.
+    pub(crate) fn check_said(&mut self, run: &Run, said: &str) -> Result<(), Trouble> {
+        let mut agreeing = Vec::new(self.alloc);
+        let mut furthest = Difference {
+            place: 0,
+            found: NOTHING,
+        };
+        for outcome in self.agreeing.iter() {
+            match run.difference(said, *outcome) {
+                None => agreeing.push(*outcome)?,
+                Some(difference) if difference.place >= furthest.place => furthest = difference,
+                Some(_) => {}
+            }
+        }
+        if agreeing.is_empty() {
+            let found = furthest.found;
+            let (number, cells) = match run.transcript.wants.get(furthest.place) {
+                Some(want) => (want.number, want.cells.as_str()),
+                None => (run.number, NOTHING),
+            };
+            return Err(amiss(
+                number,
+                format!(in self.alloc; "said {found}, wanted {cells}"),
+            ));
+        }
+        self.agreeing = agreeing;
+        Ok(())
+    }
+
+    /// The numbers that are found have to begin with those that are wanted in one of the outcomes that agreed so far.
+    pub(crate) fn check_numbers(
+        &mut self,
+        number: u32,
+        cells: &str,
+        found: &[u64],
+    ) -> Result<(), Trouble> {
+        let mut agreeing = Vec::new(self.alloc);
+        let mut most = 0usize;
+        for outcome in self.agreeing.iter() {
+            let wanted = numbers_of(self.alloc, number, cell_of(cells, *outcome))?;
+            if wanted.is_empty() {
+                return Err(amiss(number, format!(in self.alloc; "numbers are wanted")));
+            }
+            if found.starts_with(&wanted) {
+                agreeing.push(*outcome)?;
+            }
+            most = most.max(wanted.len());
+        }
+        if agreeing.is_empty() {
+            let found = found.get(..most).unwrap_or(found);
+            let why = format!(in self.alloc; "found {found:?}, wanted {cells}");
+            return Err(amiss(number, why));
+        }
+        self.agreeing = agreeing;
+        Ok(())
+    }
+
+    /// The newest values from this word on have to begin with those that are wanted.
+    pub(crate) fn check_words(
+        &mut self,
+        number: u32,
+        first: u64,
+        cells: &str,
+    ) -> Result<(), Trouble> {
+        let newest = self.host.read_back(self.alloc)?;
+        let first = usize::try_from(first).unwrap_or(usize::MAX);
+        let found = newest.get(first..).unwrap_or(&[]);
+        self.check_numbers(number, cells, found)
+    }
+
+    /// Each word has to be as it was remembered, but for those of these ranges.
+    pub(crate) fn check_kept(&mut self, number: u32, ranges: &[(u64, u64)]) -> Result<(), Trouble> {
+        let newest = self.host.read_back(self.alloc)?;
+        if newest.len() != self.remembered.len() {
+            return Err(amiss(number, format!(in self.alloc; "nothing was remembered")));
+        }
+        for (at, (new, old)) in (0u64..).zip(newest.iter().zip(self.remembered.iter())) {
+            let is_free = ranges
+                .iter()
+                .any(|(first, last)| *first <= at && at <= *last);
+            if new != old && !is_free {
+                let why = format!(in self.alloc; "word {at} was {old} and is {new}");
+                return Err(amiss(number, why));
+            }
+        }
+        Ok(())
+    }
+}

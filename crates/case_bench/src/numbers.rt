@@ -1,0 +1,24 @@
+//! Numbers of a line.
+use case_text::counters::number_of;
+use case_text::trouble::{Trouble, amiss};
+use std::alloc::Global;
+
+/// The numbers that a text lists, with a space between two. There is none in the empty one.
+pub fn numbers_of(alloc: Global, line: u32, text: &str) -> Result<Vec<u64>, Trouble> {
+    let mut numbers = Vec::new(alloc);
+    for word in text.split_whitespace() {
+        match number_of(word) {
+            Some(number) => numbers.push(number)?,
+            None => return Err(amiss(line, format!(in alloc; "{word} is no number"))),
+        }
+    }
+    Ok(numbers)
+}
+
+/// The number, where it is below 2^32.
+pub fn small(alloc: Global, line: u32, number: u64) -> Result<u32, Trouble> {
+    match u32::try_from(number) {
+        Ok(number) => Ok(number),
+        Err(_) => Err(amiss(line, format!(in alloc; "{number} is too large"))),
+    }
+}
