@@ -1,20 +1,16 @@
-//! Tests of long scripts of transactions that the program runs over a host in memory.
+//! Tests of scripts that come by chance, which the program runs over a host in memory, against a plain model of the machine.
 #![tactic(auto)]
 
 #[cfg(test)]
-mod cuts;
-#[cfg(test)]
 mod dice;
-#[cfg(test)]
-mod faults;
 #[cfg(test)]
 mod lines;
 #[cfg(test)]
 mod machine;
 #[cfg(test)]
-mod many;
-#[cfg(test)]
 mod pokes;
+#[cfg(test)]
+mod program;
 #[cfg(test)]
 mod random;
 #[cfg(test)]

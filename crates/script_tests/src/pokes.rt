@@ -2,8 +2,7 @@
 use pm_mem::{MemHost, Plan};
 use std::alloc::Global;
 use std::process::Abort;
-use test_device::poke;
-use test_program::blank_of;
+use test_device::{blank_of, poke};
 
 /// The magic of a frame.
 const FRAME_MAGIC: u64 = 0x3130_454c_4444_5550;
@@ -13,12 +12,9 @@ const FIRST_BASE: u64 = 0x1000_0000_0000;
 
 const BASE_STEP: u64 = 0x4000;
 
-/// The name of a pool: the letters, and then the digits.
-pub fn name_of(pool: u8) -> u8 {
-    if pool < 26 {
-        return b'a' + pool;
-    }
-    b'0' + (pool - 26) % 10
+/// The name of a pool, a letter.
+fn name_of(pool: u8) -> u8 {
+    b'a' + pool % 26
 }
 
 /// Gives each of these words its value.
@@ -90,7 +86,13 @@ pub fn device_with(
     plan: Plan,
 ) -> MemHost {
     let frames = device.frames;
-    let host = blank_of(alloc, u32::from(frames), device.room, script, plan);
+    let host = blank_of(
+        alloc,
+        u32::from(frames),
+        device.room,
+        script.as_bytes(),
+        plan,
+    );
     let mut host = host.expect(rt, "memory");
     let mut pool = 0u8;
     for (owner, objects) in device.pools {

@@ -3,13 +3,13 @@ use crate::dice::lines_of;
 use crate::lines::{Ask, Line, Owner};
 use crate::machine::{Machine, Reply};
 use crate::pokes::{Pools, device_with};
+use crate::program::{EVERY_OTHER, Seen, run};
 use crate::talk::Talk;
 use pm_mem::{MemHost, Plan};
 use puddle_cli::DONE;
 use std::alloc::Global;
 use std::process::Abort;
 use test_device::poke;
-use test_program::{EVERY_OTHER, RUN, Seen, status_of};
 
 /// The owners of the pools that are there at first, and their objects. One frame is free.
 const OWNED: [(u8, u8); 6] = [(5, 60), (6, 4), (7, 4), (5, 2), (6, 1), (5, 1)];
@@ -144,7 +144,7 @@ fn run_seed(rt: &impl Abort, alloc: Global, seed: u64, counts: &mut Counts) {
     let read = reading(rt, alloc, [&machine, &machine]);
     go_on(rt, alloc, (&mut machine, &mut talk), &read, counts);
     let mut host = device(rt, alloc, (65_536, 32_768), &talk.script);
-    assert!(rt; status_of(alloc, &mut host, &RUN) == Some(DONE));
+    assert!(rt; run(alloc, &mut host) == Some(DONE));
     assert!(rt; host.heard() == talk.said.as_bytes(), "{seed}");
 }
 

@@ -2,12 +2,12 @@
 use crate::dice::lines_of;
 use crate::lines::{Ask, Line};
 use crate::machine::{Machine, Reply};
+use crate::program::{EVERY_OTHER, NEWEST, OLDEST, Seen, run};
 use crate::random::{Counts, device, first_machine, go_on, reading};
 use crate::talk::Talk;
 use puddle_cli::DONE;
 use std::alloc::Global;
 use std::process::Abort;
-use test_program::{EVERY_OTHER, NEWEST, OLDEST, RUN, Seen, status_of};
 
 /// The kinds of lines that are cut off.
 const KINDS: usize = 14;
@@ -105,7 +105,7 @@ fn case_at(rt: &impl Abort, alloc: Global, tried: &Tried, step: u32, pick: u64) 
     let script = format!(in alloc; "{before}arm {step} {pick}\n{behind}");
     let script = script.expect(rt, "memory");
     let mut host = device(rt, alloc, (16_384, 8_192), &script);
-    assert!(rt; status_of(alloc, &mut host, &RUN) == Some(DONE));
+    assert!(rt; run(alloc, &mut host) == Some(DONE));
     let said = host.heard().strip_prefix(tried.said_before.as_bytes());
     for (case, text) in tried.said.iter().enumerate() {
         if said == Some(text.as_bytes()) {

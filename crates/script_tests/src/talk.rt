@@ -23,12 +23,4 @@ impl Talk {
         self.script.push_str(lines).expect(rt, "memory");
         self.said.push_str(replies).expect(rt, "memory");
     }
-
-    /// These lines come next, with so many replies `ok`.
-    pub fn add_done(&mut self, rt: &impl Abort, lines: &str, replies: u8) {
-        self.add(rt, lines, "");
-        for _ in 0..replies {
-            self.add(rt, "", "ok\n");
-        }
-    }
 }

@@ -8,8 +8,8 @@
 use pm_mem::{MemHost, Plan};
 use pm_model::Host;
 use pud_defs::layout::{
-    DEVICE_MAGIC, FRAMES_WORD, MACHINE_WORD, MAGIC_WORD, MIN_FRAMES, NEXT_NUMBER_WORD, VERSION,
-    VERSION_WORD, device_words,
+    DEVICE_MAGIC, FRAMES_WORD, MACHINE_WORD, MAGIC_WORD, MAX_FRAMES, MIN_FRAMES, NEXT_NUMBER_WORD,
+    VERSION, VERSION_WORD, device_words,
 };
 use std::alloc::Global;
 
@@ -29,17 +29,30 @@ pub fn zero_device(alloc: Global, words: u32, script: &[u8], plan: Plan) -> Opti
     MemHost::new(alloc, lines * 8, script, STEPS, ROOM, plan).ok()
 }
 
-/// The smallest device, with the machine id [`MACHINE`], as it is once it is formatted. None where memory is refused.
-pub fn blank_device(alloc: Global, script: &[u8], plan: Plan) -> Option<MemHost> {
-    let mut host = zero_device(alloc, device_words(MIN_FRAMES), script, plan)?;
+/// A device of so many frames with the machine id [`MACHINE`], as it is once it is formatted, with room for so many device steps and said bytes. It
+/// has the words of at most as many frames as a device may have. None where memory is refused.
+pub fn blank_of(
+    alloc: Global,
+    frames: u32,
+    (steps, room): (u32, u32),
+    script: &[u8],
+    plan: Plan,
+) -> Option<MemHost> {
+    let lines = device_words(frames.min(MAX_FRAMES)) / 8;
+    let mut host = MemHost::new(alloc, lines * 8, script, steps, room, plan).ok()?;
     let described = [
         (MAGIC_WORD, DEVICE_MAGIC),
         (VERSION_WORD, VERSION),
         (MACHINE_WORD, MACHINE),
-        (FRAMES_WORD, u64::from(MIN_FRAMES)),
+        (FRAMES_WORD, u64::from(frames)),
         (NEXT_NUMBER_WORD, 1),
     ];
     poke(&mut host, &described).then_some(host)
+}
+
+/// The smallest device, as it is once it is formatted. None where memory is refused.
+pub fn blank_device(alloc: Global, script: &[u8], plan: Plan) -> Option<MemHost> {
+    blank_of(alloc, MIN_FRAMES, (STEPS, ROOM), script, plan)
 }
 
 /// Gives each of these words one durable value, in turn. The answer is whether the device has all of them.
@@ -51,17 +64,6 @@ pub fn poke(host: &mut MemHost, rows: &[(u32, u64)]) -> bool {
         host.poke(*word, *value);
     }
     true
-}
-
-/// The newest value of a word, without a call that might fail. None where the device has no such word, or memory is
-/// refused.
-pub fn newest(alloc: Global, host: &MemHost, word: u32) -> Option<u64> {
-    host.read_back(alloc).ok()?.get(word as usize).copied()
-}
-
-/// Arms a cut at the device step of number `steps` from now on, 1 in the place of 0.
-pub fn arm(host: &mut MemHost, steps: u32, pick: u64) {
-    host.arm(steps.max(1), pick);
 }
 
 /// The plan by which power is lost at these device steps, each with its pick. None where memory is refused.
