@@ -1,14 +1,8 @@
-//! Tests of the readers of graphs over their public calls: which pools are graphs, where objects stand, what fields hold, and who
-//! holds whom.
+//! Tests of the readers of graphs over their public calls, on pools that moved: which are graphs, what their fields hold, who
+//! holds whom, and where pointers lead.
 #![tactic(auto)]
 
-#[cfg(test)]
-mod full;
-#[cfg(test)]
-mod graphs;
 #[cfg(test)]
 mod moved;
 #[cfg(test)]
 mod pools;
-#[cfg(test)]
-mod reading;

@@ -41,7 +41,7 @@ fn moved(first: u64, second: u64) -> [Placed; 2] {
 
 /// Objects 1 and 2 in the first two slots of the first puddle and 3 in the first of the second, all of whose pointers are this one, and
 /// the root too.
-fn words(pointer: u64) -> [Row; 15] {
+fn words(pointer: u64) -> [Row; 14] {
     [
         (FRAME_1 + 3, 4),
         (FRAME_1 + 4, pointer),
@@ -57,7 +57,6 @@ fn words(pointer: u64) -> [Row; 15] {
         (FRAME_2 + 65, 1),
         (FRAME_2 + 66, 30),
         (FRAME_2 + 67, pointer),
-        (FRAME_2 + 2_016, 0),
     ]
 }
 
@@ -84,14 +83,7 @@ fn the_frontier_decides(rt: HostRuntime) {
         (NEW, 63, 1, Asked::Sound, Answer::No),
     ];
     for (pointer, first, second, asked, want) in rows {
-        let got = asked_of(
-            &rt,
-            alloc,
-            &[],
-            &moved(first, second),
-            &words(pointer),
-            asked,
-        );
+        let got = asked_of(&rt, alloc, &moved(first, second), &words(pointer), asked);
         assert!(rt; got == want, "{pointer} {first}");
     }
 }
