@@ -86,11 +86,16 @@ fn second_words_of_entries(rt: HostRuntime) {
 #[test]
 fn bytes_of_gates_and_entries(rt: HostRuntime) {
     for (word, bytes) in [
-        (393_728u64, [0, 2, 6, 0, 0, 0, 0, 0]),
-        (197_120, [0, 2, 3, 0, 0, 0, 0, 0]),
-        (65_537, [1, 0, 1, 0, 0, 0, 0, 0]),
-        (4_295_163_905, [1, 0, 3, 0, 1, 0, 0, 0]),
-        (17_592_186_044_944, [0x10, 2, 0, 0, 0, 0x10, 0, 0]),
+        (gate_word(0, 2, 6), [0, 2, 6, 0, 0, 0, 0, 0]),
+        (gate_word(0, 2, 3), [0, 2, 3, 0, 0, 0, 0, 0]),
+        (
+            entry_word(1, UNDO_SEQ, UNDO_ORDER),
+            [1, 0, 1, 0, 0, 0, 0, 0],
+        ),
+        (
+            entry_word(1, REDO_SEQ, REDO_ORDER),
+            [1, 0, 3, 0, 1, 0, 0, 0],
+        ),
     ] {
         assert!(rt; word.to_le_bytes() == bytes, "bytes of {word}");
     }
