@@ -10,8 +10,8 @@ use case_text::wanted::{around_arrow, cell_of, count_cells};
 use pm_mem::Plan;
 use std::alloc::Global;
 
-/// How many tries a loop may have.
-const TRIES: u32 = 1_000_000;
+/// How many tries a loop may have. One with more would not end within the time of a test.
+const TRIES: u32 = 50_000;
 
 /// A loop of tries.
 #[derive(Drop)]
