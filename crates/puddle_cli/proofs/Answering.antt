@@ -1,5 +1,5 @@
 -- A script is answered line by line.
-use Rattle.std.proofs.Common.{◌≡◌, ℕ, zero, suc, ◌+◌, ◌<◌, ◌≤◌, Bool, true, false, List, [], ◌∷◌, ◌++◌, length, map, take, Option, Some, None, Result, inl, inr, ⊎_elim, refl, sym, ap, subst, ◌∙◌, arith, append_assoc, length-append}
+use Rattle.std.proofs.Common.{◌≡◌, ℕ, zero, suc, ◌+◌, ◌<◌, ◌≤◌, Bool, true, false, List, [], ◌∷◌, ◌++◌, length, map, take, Option, Some, None, Result, Err, inl, inr, ⊎_elim, refl, sym, ap, subst, ◌∙◌, arith, append_assoc, length-append}
 use Rattle.std.proofs.lemmas.List.{append-nil, map-append}
 use Rattle.pm_model.specs.declared.host.HostFault.{HostFault}
 use Rattle.pm_model.specs.declared.host.HostFault.TheVariants as hosts
@@ -27,8 +27,8 @@ use Rattle.pud_defs.proofs.Said.{replies_text-append}
 use Rattle.pud_defs.proofs.Stands.{StandsAfter-more, StandsWith-later}
 use Rattle.puddled.specs.declared.daemon.RunFault.{RunFault}
 use Rattle.puddled.specs.declared.daemon.RunFault.TheVariants.{NotSound}
-use Rattle.puddled.specs.Faults.{of_host, run_fault, CountsLine, CountsTurns, Grows}
-use Rattle.puddled.proofs.Counted.{risen_grows, none_is_sound, lost_in_line, CountsTurns-one, CountsTurns-append}
+use Rattle.puddled.specs.Faults.{of_host, run_fault, CountsLine, CountsReply, CountsTurns, Grows}
+use Rattle.puddled.proofs.Counted.{risen_grows, none_is_sound, counted_fault, lost_in_line, CountsTurns-one, CountsTurns-append}
 use Rattle.ready_daemon.specs.Memory.{Memory}
 use Rattle.puddled.specs.Daemon.{KeepsLine, SaysPart, Answers}
 use Rattle.ready_daemon.specs.Ready.{IsReady}
@@ -371,10 +371,10 @@ TakesAtMost-behind most start mid now script shelf t =
 
 -- ---- a device that is not sound, whatever it held
 
-pub unsound_line : (command : Option Command) (fault : RunFault) (before after : Counts) (now : State) → CountsLine command (Some fault) 0 before after
+pub unsound_line : (command : Option Command) (cut : Bool) (fault : RunFault) (before after : Counts) (now : State) → CountsReply command (Err fault) cut before after
     → (fault ≡ NotSound → world_of before.size (reads now.now.words) ≡ None) → fault ≡ NotSound → IsUnsoundBehindLoss before after now
-unsound_line command fault before after now counted unsound is =
-    record { lost = lost_in_line command 0 before after (subst (λ (f : RunFault). CountsLine command (Some f) 0 before after) is counted); unsound = unsound is }
+unsound_line command cut fault before after now counted unsound is =
+    record { lost = lost_in_line command 0 before after (subst (λ (f : RunFault). CountsLine command (Some f) 0 before after) is (counted_fault command fault cut before after counted)); unsound = unsound is }
 
 -- behind lines that went on
 pub unsound_behind : (a b c : Counts) (now : State) → Grows a b → IsUnsoundBehindLoss b c now → IsUnsoundBehindLoss a c now

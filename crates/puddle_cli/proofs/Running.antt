@@ -3,7 +3,7 @@ use Rattle.std.proofs.Common.{◌<◌, ◌≡◌, ℕ, ◌+◌, ◌≤◌, Bool,
 use Rattle.std.proofs.lemmas.List.{append-nil}
 use Rattle.pm_model.specs.declared.host.HostFault.{HostFault}
 use Rattle.pm_model.specs.declared.host.HostFault.TheVariants as hosts
-use Rattle.pm_model.specs.Counts.{Counts, risen, after_fault}
+use Rattle.pm_model.specs.Counts.{Counts, after_fault}
 use Rattle.pm_model.specs.Words.{Image, IsRested, reads}
 use Rattle.pm_model.specs.Moments.{State}
 use Rattle.pm_model.specs.Changes.{Leaves}
@@ -21,8 +21,8 @@ use Rattle.pud_defs.proofs.Stands.{StandsBehind-closed, StandsBehind-after}
 use Rattle.recover.specs.Recovery.{DiffersByRecovery}
 use Rattle.puddled.specs.declared.daemon.RunFault.{RunFault}
 use Rattle.puddled.specs.declared.daemon.RunFault.TheVariants as faults
-use Rattle.puddled.specs.Faults.{RoseBy, last_fault, is_loss, CountsTurns}
-use Rattle.puddled.proofs.Counted.{risen_by-least, RoseBy-then, CountsTurns-cuts, rose_in_line, two_cuts_in_line, cut_in_restart, cuts_after_fault}
+use Rattle.puddled.specs.Faults.{risen_by, RoseBy, last_fault, CountsTurns}
+use Rattle.puddled.proofs.Counted.{risen_by-more, CountsTurns-cuts, counted_ends, cuts_of_ends, lost_in_restart, cuts_after_fault}
 use Rattle.puddled.specs.declared.daemon.StartFault.{StartFault}
 use Rattle.puddled.specs.declared.daemon.StartFault.TheVariants as starts
 use Rattle.ready_daemon.specs.Memory.{Memory}
@@ -31,7 +31,7 @@ use Rattle.puddled.specs.Daemon.{Starts}
 use Rattle.puddle_cli.specs.declared.status.TheConstants.{DONE, POWER_LOST, TOO_LONG}
 use Rattle.puddle_cli.specs.Status.{status_fault, run_fault_at, status_at, IsStatusOfMode}
 use Rattle.puddle_cli.specs.Serving.{TakesBy, CountsPending, Answered, AnsweredBy}
-use Rattle.puddle_cli.specs.Headline.{TakesScript, Headline}
+use Rattle.puddle_cli.specs.Headline.{TakesScript, cuts_lost, Headline}
 use Rattle.puddle_cli.proofs.Statuses.{not_whole_of, fault_at_status, not_whole_at}
 
 -- ---- the counts of all lines, and of what ended the run
@@ -41,14 +41,11 @@ rose_pending [] fault a b c =
     let later = cuts_after_fault (last_fault fault) a in
     let e : b.cuts ≡ (after_fault (last_fault fault) a).cuts = ap (λ (x : Counts). x.cuts) c.1 in
     omega arith
-rose_pending (t ∷ turns) fault a b c =
-    let rose = rose_in_line (command_of t.line) fault (cuts_of (t ∷ [])) a b c in
-    let least = risen_by-least (cuts_of (t ∷ [])) a.cuts in
-    omega arith
+rose_pending (t ∷ turns) fault a b c = cuts_of_ends fault a b (counted_ends (command_of t.line) fault (cuts_of (t ∷ [])) a b c)
 
-cut_pending : (pending : List Turn) (a b : Counts) → CountsPending pending (Some faults.CutInStart) a b → RoseBy 1 a.cuts b.cuts
-cut_pending [] a b c = absurd (c.0 refl)
-cut_pending (t ∷ turns) a b c = cut_in_restart (command_of t.line) (cuts_of (t ∷ [])) a b c
+lost_pending : (pending : List Turn) (a b : Counts) → CountsPending pending (Some faults.CutInStart) a b → b.cuts ≡ risen_by (cuts_lost pending) a.cuts
+lost_pending [] a b c = absurd (c.0 refl)
+lost_pending (t ∷ turns) a b c = lost_in_restart (command_of t.line) (cuts_of (t ∷ [])) a b c
 
 module _ (answered pending : List Turn) (fault : Option RunFault) (before mid after : Counts) (turns : CountsTurns answered before mid) (last : CountsPending pending fault mid after) where
   rose_in_all : RoseBy (cuts_of answered) before.cuts after.cuts
@@ -57,16 +54,17 @@ module _ (answered pending : List Turn) (fault : Option RunFault) (before mid af
       let later = rose_pending pending fault mid after last in
       omega arith
 
-  rose_at_end : fault ≡ Some faults.CutInStart → RoseBy (1 + cuts_of answered) before.cuts after.cuts
-  rose_at_end lost =
-      RoseBy-then (cuts_of answered) 1 before.cuts mid.cuts after.cuts (CountsTurns-cuts answered before mid turns)
-      (cut_pending pending mid after (subst (λ (f : Option RunFault). CountsPending pending f mid after) lost last))
+  -- no line is under way at the end
+  exact_in_all : fault ≡ None → pending ≡ [] → after.cuts ≡ risen_by (cuts_of answered) before.cuts
+  exact_in_all none nothing =
+      let still : CountsPending [] None mid after = subst (λ (p : List Turn). CountsPending p None mid after) nothing (subst (λ (f : Option RunFault). CountsPending pending f mid after) none last) in
+      ap (λ (x : Counts). x.cuts) still.1 ∙ CountsTurns-cuts answered before mid turns
 
-  rose_twice_at_end : fault ≡ Some faults.CutInStart → (t : Turn) → pending ≡ t ∷ [] → is_loss (command_of t.line) ≡ false → RoseBy (2 + cuts_of answered) before.cuts after.cuts
-  rose_twice_at_end lost t is other =
-      RoseBy-then (cuts_of answered) 2 before.cuts mid.cuts after.cuts (CountsTurns-cuts answered before mid turns)
-      (two_cuts_in_line (command_of t.line) (cuts_of (t ∷ [])) mid after other
-      (subst (λ (p : List Turn). CountsPending p (Some faults.CutInStart) mid after) is (subst (λ (f : Option RunFault). CountsPending pending f mid after) lost last)))
+  exact_at_end : fault ≡ Some faults.CutInStart → after.cuts ≡ risen_by (cuts_lost pending + cuts_of answered) before.cuts
+  exact_at_end lost =
+      lost_pending pending mid after (subst (λ (f : Option RunFault). CountsPending pending f mid after) lost last)
+      ∙ ap (λ (x : ℕ). risen_by (cuts_lost pending) x) (CountsTurns-cuts answered before mid turns)
+      ∙ sym (risen_by-more (cuts_of answered) (cuts_lost pending) before.cuts)
 
 -- a rested device whose words stand for the world is one to start on
 module _ (size : ℕ) (w : World) (start : State) (rested : IsRested start.now.words) (stands : world_of size (reads start.now.words) ≡ Some (closed w)) where
@@ -132,10 +130,10 @@ module _ (size : ℕ) (w : World) (start : State) (rested : IsRested start.now.w
           turns_counted = refl;
           pending_counted = λ e. absurd (let it : false ≡ true = e in cc);
           cuts = subst (λ (x : Counts). before.cuts ≤ x.cuts) (sym last) (cuts_after_fault (Some fault) before);
-          cuts_in_start = λ lost.
+          exact = λ none. absurd (not_whole none);
+          exact_at_loss = λ lost.
               let cut : Some fault ≡ Some hosts.Cut = sym is ∙ ap status_fault lost in
-              subst (λ (x : Counts). risen before.cuts ≤ x.cuts) (sym (last ∙ ap (λ (f : Option HostFault). after_fault f before) cut)) (omega arith);
-          cuts_in_line = λ lost t no. absurd (let it : [] ≡ t ∷ [] = no in cc);
+              ap (λ (x : Counts). x.cuts) (last ∙ ap (λ (f : Option HostFault). after_fault f before) cut);
         };
       }
 
@@ -204,8 +202,8 @@ module _ (size : ℕ) (w : World) (start : State) (rested : IsRested start.now.w
           turns_counted = a.turns_counted;
           pending_counted = λ _. subst (λ (f : Option RunFault). CountsPending a.pending f a.mid after) (sym is) a.counted;
           cuts = rose_in_all a.answered a.pending fault before a.mid after a.turns_counted a.counted;
-          cuts_in_start = λ lost. rose_at_end a.answered a.pending fault before a.mid after a.turns_counted a.counted (cut lost);
-          cuts_in_line = λ lost. rose_twice_at_end a.answered a.pending fault before a.mid after a.turns_counted a.counted (cut lost);
+          exact = λ none. exact_in_all a.answered a.pending fault before a.mid after a.turns_counted a.counted (sym is ∙ none) (a.whole (sym is ∙ none));
+          exact_at_loss = λ lost. exact_at_end a.answered a.pending fault before a.mid after a.turns_counted a.counted (cut lost);
         };
       }
 

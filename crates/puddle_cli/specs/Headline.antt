@@ -1,5 +1,5 @@
 -- What the program says and leaves over a script, for one and the same run of the machine.
-use Rattle.std.specs.Prelude.{◌≡◌, ◌↔◌, ℕ, ◌+◌, ◌<◌, ◌≤◌, Bool, true, false, List, [], ◌∷◌, ◌++◌, length, map, Some, None}
+use Rattle.std.specs.Prelude.{◌≡◌, ◌↔◌, ℕ, ◌+◌, ◌<◌, ◌≤◌, Bool, true, false, cond, List, [], ◌∷◌, ◌++◌, length, map, Some, None}
 use Rattle.pm_model.specs.Words.{Picks, reads}
 use Rattle.pm_model.specs.Counts.{Counts, after_fault}
 use Rattle.pm_model.specs.Moments.{State, MayLeave}
@@ -15,7 +15,7 @@ use Rattle.pud_defs.specs.Stands.{StandsBehind}
 use Rattle.puddle_cli.specs.declared.status.TheConstants.{DONE, POWER_LOST, TOO_LONG}
 use Rattle.recover.specs.Recovery.{DiffersByRecovery}
 use Rattle.puddled.specs.Daemon.{IsPart}
-use Rattle.puddled.specs.Faults.{RoseBy, is_loss, CountsTurns}
+use Rattle.puddled.specs.Faults.{risen_by, RoseBy, is_loss, CountsTurns}
 use Rattle.puddle_cli.specs.Status.{status_fault, run_fault_at}
 use Rattle.puddle_cli.specs.Serving.{CountsPending, file_under_way}
 
@@ -76,18 +76,24 @@ pub record RunMoments (size : ℕ) (w : World) (start end : State) (run : Script
   pub rights : (said : List ℕ) (image : Image) → MayLeave start end said image → newlines said < newlines (start_text (reads start.now.words))
       → DiffersByRecovery w.stored.frames (reads start.now.words) image
 
+-- how many cuts are counted where the restart behind the line under way was cut off: that one, and one in the line, unless it asks for the loss
+abbrev pub cuts_lost : List Turn → ℕ
+cuts_lost [] = 1
+cuts_lost (t ∷ turns) = cond (is_loss (command_of t.line)) 1 2
+
 -- What was counted in a run. Within the start it is the host's one fault. Behind it each line answered is counted by its command and its reply:
--- only there a cut is armed, or power lost at once, and no such line is answered `cut`; and the line under way is counted by its command and by
--- how it ended. A cut is counted for each line whose reply is `cut`, at status 6 one more, and two more where a line that asks for no power loss
--- was left without a reply.
+-- only there a cut is armed, or power lost at once, no such line is answered `cut`, and where another is not, nothing is counted in it; and the
+-- line under way is counted by its command and by how it ended. So the cuts of a run that ended without a fault are exactly those of its
+-- replies `cut`, and at status 6 those, one more, and another one where a line that asks for no power loss was left without a reply. With any
+-- status it is as many at least as there are such replies.
 pub record RunCounts (w : World) (status : ℕ) (before after : Counts) (start end : State) (run : ScriptRun w start end) : Type 0 where
   pub mid : Counts
   pub in_start : run.begun ≡ false → after ≡ after_fault (status_fault status) before
   pub turns_counted : CountsTurns run.answered before mid
   pub pending_counted : run.begun ≡ true → CountsPending run.pending (run_fault_at status) mid after
   pub cuts : RoseBy (cuts_of run.answered) before.cuts after.cuts
-  pub cuts_in_start : status ≡ POWER_LOST → RoseBy (1 + cuts_of run.answered) before.cuts after.cuts
-  pub cuts_in_line : status ≡ POWER_LOST → (t : Turn) → run.pending ≡ t ∷ [] → is_loss (command_of t.line) ≡ false → RoseBy (2 + cuts_of run.answered) before.cuts after.cuts
+  pub exact : run_fault_at status ≡ None → after.cuts ≡ risen_by (cuts_of run.answered) before.cuts
+  pub exact_at_loss : status ≡ POWER_LOST → after.cuts ≡ risen_by (cuts_lost run.pending + cuts_of run.answered) before.cuts
 
 -- The exit, the moments and the counts of one and the same run over a script, from a device whose images all stand for the stored world of w.
 pub record Headline (size : ℕ) (w : World) (status : ℕ) (before after : Counts) (start end : State) : Type 0 where

@@ -1,5 +1,5 @@
 -- How many cuts are counted, over one call after another.
-use Rattle.std.proofs.Common.{◌≡◌, ◌⊎◌, inl, inr, ℕ, zero, suc, ◌+◌, ◌-◌, ◌^◌, ◌≤◌, ltb, ltb-true, zero-add, Bool, true, false, cond, List, [], ◌∷◌, ◌++◌, Option, Some, None, Err, refl, sym, ap, subst, ◌∙◌, arith}
+use Rattle.std.proofs.Common.{◌≡◌, ◌≢◌, ◌⊎◌, inl, inr, ℕ, zero, suc, ◌+◌, ◌-◌, ◌^◌, ◌≤◌, ltb, ltb-true, zero-add, Bool, true, false, cond, List, [], ◌∷◌, ◌++◌, Option, Some, None, Result, Ok, Err, refl, sym, ap, subst, ◌∙◌, arith}
 use Rattle.std.proofs.lemmas.List.Sums.{sum_by-append}
 use Rattle.std.proofs.Math.Nat.{suc-add}
 use Rattle.std.proofs.lemmas.Bool.{ltb-false}
@@ -8,6 +8,7 @@ use Rattle.pm_model.specs.declared.host.HostFault.TheVariants as hosts
 use Rattle.pm_model.specs.Counts.{Counts, Rose, risen, after_fault, after_arm, after_loss_of}
 use Rattle.pud_defs.specs.World.{World}
 use Rattle.pud_defs.specs.declared.machine.Command.{Command}
+use Rattle.pud_defs.specs.declared.machine.Reply.TheVariants as replies
 use Rattle.pud_defs.specs.Grammar.{command_of}
 use Rattle.pud_defs.specs.Run.{Turn, is_cut, cuts_of}
 use Rattle.puddled.specs.declared.daemon.StartFault.{StartFault}
@@ -17,7 +18,7 @@ use Rattle.puddled.specs.declared.daemon.RunFault.TheVariants as faults
 use Rattle.ready_daemon.specs.Memory.{Memory}
 use Rattle.ready_daemon.proofs.Turns.{turn_of, no_cut_reply}
 use Rattle.puddled.specs.Faults.Kind.{ordinary, loses, arms}
-use Rattle.puddled.specs.Faults.{start_fault, of_host, of_start, risen_by, RoseBy, CountsCuts, CountsTurns, cuts_at, restart_cuts, last_fault, IsEnded, IsCounted, Kind, kind_of, is_loss_kind, is_loss, CountsKind, CountsLine, CountsCommand, HasLostPower, Grows, Ends}
+use Rattle.puddled.specs.Faults.{start_fault, of_host, of_start, risen_by, RoseBy, after_cuts, CountsTurns, AreCuts, restart_cuts, run_fault, last_fault, IsCounted, Kind, kind_of, is_loss_kind, is_loss, CountsKind, CountsLine, CountsReply, CountsCommand, behind_loss, HasLostPower, Grows, Ends}
 
 least_by : (n : ℕ) (b : Bool) → n ≤ cond b (n + 1) n
 least_by n true = omega arith
@@ -43,34 +44,9 @@ pub risen_by-least : (k n : ℕ) → n ≤ risen_by k n
 risen_by-least zero n = omega arith
 risen_by-least (suc k) n = let one = risen_least (risen_by k n) in let rest = risen_by-least k n in omega arith
 
-risen_by-more : (k l n : ℕ) → risen_by (l + k) n ≡ risen_by l (risen_by k n)
+pub risen_by-more : (k l n : ℕ) → risen_by (l + k) n ≡ risen_by l (risen_by k n)
 risen_by-more k zero n = rw zero-add refl
 risen_by-more k (suc l) n = rw suc-add (ap risen (risen_by-more k l n))
-
--- one rise after another
-pub RoseBy-then : (k l a b c : ℕ) → RoseBy k a b → RoseBy l b c → RoseBy (l + k) a c
-RoseBy-then k l a b c first later =
-    let e = risen_by-more k l a in
-    let le = risen_by-grows l (risen_by k a) b first in
-    omega arith
-
-pub CountsCuts-then : (k l : ℕ) (a b c : Counts) → CountsCuts k a b → CountsCuts l b c → CountsCuts (l + k) a c
-CountsCuts-then k l a b c first later =
-    record {
-      others = later.others ∙ ap (λ (x : Counts). record x { cuts = c.cuts }) first.others;
-      cuts = RoseBy-then k l a.cuts b.cuts c.cuts first.cuts later.cuts;
-    }
-
-pub CountsCuts-still : (a b : Counts) → b ≡ a → CountsCuts 0 a b
-CountsCuts-still a b same = subst (λ (x : Counts). CountsCuts 0 a x) (sym same) (record { others = refl; cuts = omega arith })
-
--- some cuts, of more that were counted
-pub CountsCuts-fewer : (k l : ℕ) (a b : Counts) → CountsCuts (l + k) a b → CountsCuts k a b
-CountsCuts-fewer k l a b c =
-    let e = risen_by-more k l a.cuts in
-    let least = risen_by-least l (risen_by k a.cuts) in
-    let had = c.cuts in
-    record { others = c.others; cuts = omega arith }
 
 -- a line that was carried out adds no cut to what is counted
 pub counted_step : (w : World) (line : List ℕ) (fault : Option RunFault) (before after : Counts) → CountsLine (command_of line) fault 0 before after
@@ -78,41 +54,50 @@ pub counted_step : (w : World) (line : List ℕ) (fault : Option RunFault) (befo
 counted_step w line fault before after c = subst (λ (n : ℕ). CountsLine (command_of line) fault n before after) (sym (no_cut_reply w line)) c
 
 pub counted_nothing : (before after : Counts) → after ≡ before → IsCounted None 0 before after
-counted_nothing before after same = record { before = after; cuts = CountsCuts-still before after same; last = refl }
-
--- one cut was counted
-pub CountsCuts-one : (before after : Counts) → after ≡ after_fault (Some hosts.Cut) before → CountsCuts 1 before after
-CountsCuts-one before after lost = subst (λ (x : Counts). CountsCuts 1 before x) (sym lost) (record { others = refl; cuts = omega arith })
+counted_nothing before after same = record { count = 0; cuts = refl; is = same }
 
 -- the restart behind a cut went well, or did not
 pub counted_cut : (before mid after : Counts) → mid ≡ after_fault (Some hosts.Cut) before → after ≡ mid → IsCounted None 1 before after
-counted_cut before mid after lost same = record { before = after; cuts = subst (λ (x : Counts). CountsCuts 1 before x) (sym same) (CountsCuts-one before mid lost); last = refl }
+counted_cut before mid after lost same = record { count = 1; cuts = refl; is = same ∙ lost }
 
 pub counted_restart : (fault : StartFault) (before mid after : Counts) → mid ≡ after_fault (Some hosts.Cut) before → after ≡ after_fault (start_fault {T = Memory} (Err fault)) mid
     → IsCounted (Some (of_start fault)) 0 before after
-counted_restart starts.NotSound before mid after lost last = record { before = mid; cuts = CountsCuts-one before mid lost; last = last }
+counted_restart starts.NotSound before mid after lost last = record { count = 1; cuts = (refl, refl); is = last ∙ lost }
 counted_restart (starts.Host hosts.Failed) before mid after lost last =
-    record { before = mid; cuts = CountsCuts-fewer 0 1 before mid (CountsCuts-one before mid lost); last = last }
+    record { count = 1; cuts = (omega arith, omega arith); is = last ∙ ap (λ (x : Counts). after_fault (Some hosts.Failed) x) lost }
 counted_restart (starts.Host hosts.Cut) before mid after lost last =
-    record { before = after; cuts = CountsCuts-then 1 1 before mid after (CountsCuts-one before mid lost) (CountsCuts-one mid after last); last = refl }
+    record { count = 2; cuts = (refl, refl); is = last ∙ ap (λ (x : Counts). after_fault (Some hosts.Cut) x) lost }
 
 -- the host failed as it carried out the line, or as it said the reply
 pub counted_failed : (before after : Counts) → after ≡ after_fault (Some hosts.Failed) before → IsCounted (Some faults.Failed) 0 before after
-counted_failed before after last = record { before = before; cuts = CountsCuts-still before before refl; last = last }
+counted_failed before after last = record { count = 0; cuts = (omega arith, omega arith); is = last }
 
-ended_failed : (n : ℕ) (before between after : Counts) → IsEnded n None before between → after ≡ after_fault (Some hosts.Failed) between → IsEnded n (Some faults.Failed) before after
-ended_failed n before between after c last = record { before = c.before; cuts = c.cuts; last = last ∙ ap (λ (x : Counts). after_fault (Some hosts.Failed) x) c.last }
-
-kind_failed : (kind : Kind) (n : ℕ) (before between after : Counts) → CountsKind kind None n before between → after ≡ after_fault (Some hosts.Failed) between
+kind_failed : (kind : Kind) (n : ℕ) (before between after : Counts) → n ≤ 1 → CountsKind kind None n before between → after ≡ after_fault (Some hosts.Failed) between
     → CountsKind kind (Some faults.Failed) n before after
-kind_failed ordinary n before between after c last = ended_failed (0 + n) before between after c last
-kind_failed (loses pick) n before between after c last = (c.0, ended_failed 0 (after_loss_of pick before) between after c.1 last)
-kind_failed (arms step pick) n before between after c last = (c.0, refl, last ∙ ap (λ (x : Counts). after_fault (Some hosts.Failed) x) c.2)
+kind_failed ordinary n before between after few c last =
+    let count = c.cuts in
+    record { count = c.count; cuts = (omega arith, omega arith); is = last ∙ ap (λ (x : Counts). after_fault (Some hosts.Failed) x) c.is }
+kind_failed (loses pick) n before between after few c last = (c.0, last ∙ ap (λ (x : Counts). after_fault (Some hosts.Failed) x) c.1)
+kind_failed (arms step pick) n before between after few c last = (c.0, (omega arith, omega arith), last ∙ ap (λ (x : Counts). after_fault (Some hosts.Failed) x) c.2)
 
-pub counted_say : (command : Option Command) (fault : HostFault) (n : ℕ) (before between after : Counts) → CountsLine command None n before between → after ≡ after_fault (Some fault) between
+pub counted_say : (command : Option Command) (fault : HostFault) (n : ℕ) (before between after : Counts) → n ≤ 1 → CountsLine command None n before between → after ≡ after_fault (Some fault) between
     → (Some fault ≡ Some hosts.Cut → ⊥) → CountsLine command (Some (of_host fault)) n before after
-counted_say command hosts.Failed n before between after c last never_cut = kind_failed (kind_of command) n before between after c last
-counted_say command hosts.Cut n before between after c last never_cut = absurd (never_cut refl)
+counted_say command hosts.Failed n before between after few c last never_cut = kind_failed (kind_of command) n before between after few c last
+counted_say command hosts.Cut n before between after few c last never_cut = absurd (never_cut refl)
+
+few_by : (b : Bool) → 0 + cond b 1 0 ≤ 1
+few_by true = omega arith
+few_by false = omega arith
+
+-- a line has one reply
+pub one_reply : (t : Turn) → cuts_of (t ∷ []) ≤ 1
+one_reply t = few_by (is_cut t.answer)
+
+-- where the host failed, a reply `cut` need not be told
+kind_untold : (kind : Kind) (a b : Counts) → CountsKind kind (Some faults.Failed) 1 a b → CountsKind kind (Some faults.Failed) 0 a b
+kind_untold ordinary a b c = let few = c.cuts.1 in record { count = c.count; cuts = (omega arith, few); is = c.is }
+kind_untold (loses pick) a b c = absurd (let no : 1 ≡ 0 = c.0 in omega arith)
+kind_untold (arms step pick) a b c = absurd (let no : 1 ≡ 0 = c.0 in omega arith)
 
 -- what the device is judged is not what a host's fault is
 pub host_is_sound : (fault : HostFault) → Some (of_host fault) ≡ Some faults.NotSound → ⊥
@@ -136,9 +121,9 @@ counted_same command fault n before between after c same = subst (λ (x : Counts
 -- power lost at once, and the restart behind it
 counted_loss : (pick : ℕ) (fault : StartFault) (before after : Counts) → after ≡ after_fault (start_fault {T = Memory} (Err fault)) (after_loss_of pick before)
     → CountsKind (loses pick) (Some (of_start fault)) 0 before after
-counted_loss pick starts.NotSound before after last = (refl, record { before = after_loss_of pick before; cuts = CountsCuts-still _ _ refl; last = last })
-counted_loss pick (starts.Host hosts.Failed) before after last = (refl, record { before = after_loss_of pick before; cuts = CountsCuts-still _ _ refl; last = last })
-counted_loss pick (starts.Host hosts.Cut) before after last = (refl, record { before = after; cuts = CountsCuts-one (after_loss_of pick before) after last; last = refl })
+counted_loss pick starts.NotSound before after last = (refl, last)
+counted_loss pick (starts.Host hosts.Failed) before after last = (refl, last)
+counted_loss pick (starts.Host hosts.Cut) before after last = (refl, last)
 
 -- ---- a command, and what goes on behind it
 
@@ -155,11 +140,9 @@ kind_faulty (loses pick) before after c = absurd (let no : Some hosts.Failed ≡
 kind_faulty (arms step pick) before after c = absurd (let no : Some hosts.Failed ≡ None = c.0 in cc)
 
 -- power was lost in it, and the restart went well
-pub kind_restarted : (kind : Kind) (before mid after : Counts) → CountsCommand kind (Some hosts.Cut) before mid → after ≡ mid → CountsKind kind None 0 before after
-kind_restarted ordinary before mid after c same =
-    let counted = counted_cut before mid after c same in
-    record { before = counted.before; cuts = CountsCuts-fewer 0 1 before counted.before counted.cuts; last = counted.last }
-kind_restarted (loses pick) before mid after c same = (refl, counted_nothing (after_loss_of pick before) after (same ∙ c.1))
+pub kind_restarted : (kind : Kind) (before mid after : Counts) → CountsCommand kind (Some hosts.Cut) before mid → after ≡ mid → CountsKind kind None 0 before after ⊎ ((behind_loss kind ≡ replies.Cut) × CountsKind kind None 1 before after)
+kind_restarted ordinary before mid after c same = inr (refl, counted_cut before mid after c same)
+kind_restarted (loses pick) before mid after c same = inl (refl, same ∙ c.1)
 kind_restarted (arms step pick) before mid after c same = absurd (let no : Some hosts.Cut ≡ None = c.0 in cc)
 
 -- or did not
@@ -169,16 +152,38 @@ kind_unstarted ordinary fault before mid after c last = counted_restart fault be
 kind_unstarted (loses pick) fault before mid after c last = counted_loss pick fault before after (last ∙ ap (λ (x : Counts). after_fault (start_fault {T = Memory} (Err fault)) x) c.1)
 kind_unstarted (arms step pick) fault before mid after c last = absurd (let no : Some hosts.Cut ≡ None = c.0 in cc)
 
--- where no power was lost, neither count moved
-pub no_power_lost : (kind : Kind) (before after : Counts) → CountsCommand kind None before after → HasLostPower before after → ⊥
-no_power_lost ordinary before after c (inl moved) = moved (ap (λ (x : Counts). x.cuts) c)
-no_power_lost ordinary before after c (inr moved) = moved (ap (λ (x : Counts). x.losses) c)
-no_power_lost (loses pick) before after c moved = absurd (let no : None ≡ Some hosts.Cut = c.0 in cc)
-no_power_lost (arms step pick) before after c (inl moved) = moved (ap (λ (x : Counts). x.cuts) c.1)
-no_power_lost (arms step pick) before after c (inr moved) = moved (ap (λ (x : Counts). x.losses) c.1)
+-- where no power was lost, no cut was counted
+pub no_power_lost : (kind : Kind) (before after : Counts) → CountsCommand kind None before after → (is_loss_kind kind ≡ true) ⊎ (after.cuts ≢ before.cuts) → ⊥
+no_power_lost ordinary before after c (inl asks) = let no : false ≡ true = asks in cc
+no_power_lost ordinary before after c (inr moved) = moved (ap (λ (x : Counts). x.cuts) c)
+no_power_lost (loses pick) before after c lost = absurd (let no : None ≡ Some hosts.Cut = c.0 in cc)
+no_power_lost (arms step pick) before after c (inl asks) = let no : false ≡ true = asks in cc
+no_power_lost (arms step pick) before after c (inr moved) = moved (ap (λ (x : Counts). x.cuts) c.1)
 
-pub no_power_lost_still : (before after : Counts) → after ≡ before → HasLostPower before after → ⊥
-no_power_lost_still before after same moved = no_power_lost ordinary before after same moved
+-- a line that is no command loses none
+pub bad_loses_nothing : (counts : Counts) → HasLostPower None counts counts → ⊥
+bad_loses_nothing counts lost = no_power_lost ordinary counts counts refl lost
+
+-- ---- where the answer is known in part
+
+-- no fault came behind a line that was counted as a line with a reply `cut`
+pub counted_fault : {T : Type 0} → (command : Option Command) (fault : RunFault) (cut : T) (a b : Counts) → CountsReply command (Err fault) cut a b → CountsLine command (Some fault) 0 a b
+counted_fault command fault cut a b (inl c) = c
+counted_fault command fault cut a b (inr c) = absurd (let no = c.0 in cc)
+
+-- a reply was said, or not
+pub reply_said : {T : Type 0} → (command : Option Command) (answered : T) (cut : T) (ok : Bool) (a b c : Counts) → (answered ≡ cut → ok ≡ false) → CountsReply command (Ok answered) cut a b → c ≡ b → CountsReply command (Ok ok) false a c
+reply_said command answered cut ok a b c is (inl k) same = inl (counted_same command None 0 a b c k same)
+reply_said command answered cut ok a b c is (inr k) same =
+    let it : answered ≡ cut = let e = k.0 in cc in
+    inr (ap Ok (is it), counted_same command None 1 a b c k.1 same)
+
+-- the host failed as it was said
+pub reply_unsaid : {T : Type 0} → (command : Option Command) (answered : T) (cut : T) (fault : HostFault) (a b c : Counts) → CountsReply command (Ok answered) cut a b → c ≡ after_fault (Some fault) b
+    → (Some fault ≡ Some hosts.Cut → ⊥) → CountsReply command (Err (of_host fault)) false a c
+reply_unsaid command answered cut fault a b c (inl k) last never_cut = inl (counted_say command fault 0 a b c (omega arith) k last never_cut)
+reply_unsaid command answered cut hosts.Failed a b c (inr k) last never_cut = inl (kind_untold (kind_of command) a c (kind_failed (kind_of command) 1 a b c (omega arith) k.1 last))
+reply_unsaid command answered cut hosts.Cut a b c (inr k) last never_cut = absurd (never_cut refl)
 
 -- ---- over turns
 
@@ -191,13 +196,6 @@ CountsTurns-append (t ∷ turns) more a b c first later = (first.0, first.1, Cou
 
 cuts_of-cons : (t : Turn) (turns : List Turn) → cuts_of (t ∷ turns) ≡ cuts_of turns + cuts_of (t ∷ [])
 cuts_of-cons t turns = omega (arith, sum_by-append (λ (x : Turn). cond (is_cut x.answer) 1 0) (t ∷ []) turns)
-
--- a rise by more is one by fewer
-pub RoseBy-fewer : (l k a b : ℕ) → RoseBy (l + k) a b → RoseBy k a b
-RoseBy-fewer l k a b rose =
-    let e = risen_by-more k l a in
-    let least = risen_by-least l (risen_by k a) in
-    omega arith
 
 pub cuts_after_fault : (fault : Option HostFault) (c : Counts) → c.cuts ≤ (after_fault fault c).cuts
 cuts_after_fault None c = omega arith
@@ -230,13 +228,8 @@ Grows-then a b c p q =
     let q_losses = q.losses in
     record { size = q.size ∙ p.size; faults = q.faults ∙ p.faults; cuts = omega arith; arms = omega arith; losses = omega arith }
 
-Grows-cuts : (n : ℕ) (a b : Counts) → CountsCuts n a b → Grows a b
-Grows-cuts n a b c =
-    let least = risen_by-least n a.cuts in
-    let rose = c.cuts in
-    let arms : b.arms ≡ a.arms = ap (λ (x : Counts). x.arms) c.others in
-    let losses : b.losses ≡ a.losses = ap (λ (x : Counts). x.losses) c.others in
-    record { size = ap (λ (x : Counts). x.size) c.others; faults = ap (λ (x : Counts). x.faults) c.others; cuts = omega arith; arms = omega arith; losses = omega arith }
+Grows-cuts : (n : ℕ) (a : Counts) → Grows a (after_cuts n a)
+Grows-cuts n a = record { size = refl; faults = refl; cuts = risen_by-least n a.cuts; arms = omega arith; losses = omega arith }
 
 Grows-arm : (step pick : ℕ) (a : Counts) → Grows a (after_arm step pick a)
 Grows-arm step pick a = record { size = refl; faults = refl; cuts = omega arith; arms = risen_least a.arms; losses = omega arith }
@@ -246,35 +239,40 @@ Grows-loss pick a = record { size = refl; faults = refl; cuts = omega arith; arm
 
 -- ---- what a line's counts say
 
-rose_in_restart : (fault : Option RunFault) (n a b : ℕ) → RoseBy (cuts_at fault + n) a b → RoseBy (restart_cuts fault) a b
-rose_in_restart None n a b rose = let least = risen_by-least n a in let r : RoseBy n a b = RoseBy-fewer 0 n a b rose in omega arith
-rose_in_restart (Some faults.Failed) n a b rose = let least = risen_by-least n a in let r : RoseBy n a b = RoseBy-fewer 0 n a b rose in omega arith
-rose_in_restart (Some faults.NotSound) n a b rose = let least = risen_by-least (1 + n) a in omega arith
-rose_in_restart (Some faults.CutInStart) n a b rose = RoseBy-fewer (n + 1) 1 a b (subst (λ (x : ℕ). RoseBy x a b) (let e : 2 + n ≡ (n + 1) + 1 = omega arith in e) rose)
+rose_in_restart : (fault : Option RunFault) (n count a : ℕ) → AreCuts fault n count → RoseBy (restart_cuts fault) a (risen_by count a)
+rose_in_restart None n count a are = risen_by-least count a
+rose_in_restart (Some faults.Failed) n count a are = risen_by-least count a
+rose_in_restart (Some faults.NotSound) n count a are = risen_by-least count a
+rose_in_restart (Some faults.CutInStart) n count a are = subst (λ (x : ℕ). RoseBy 1 a (risen_by x a)) (sym are.1) (risen_least (risen_by 1 a))
 
 ends_plain : (fault : Option RunFault) (n : ℕ) (a b : Counts) → IsCounted fault n a b → Ends fault a b
-ends_plain fault n a b c = record { before = c.before; grows = Grows-cuts (cuts_at fault + n) a c.before c.cuts; cuts = rose_in_restart fault n a.cuts c.before.cuts c.cuts.cuts; last = c.last }
+ends_plain fault n a b c = record { before = after_cuts c.count a; grows = Grows-cuts c.count a; cuts = rose_in_restart fault n c.count a.cuts c.cuts; last = c.is }
 
-no_restart : (fault : Option RunFault) (a : ℕ) → cuts_at fault ≡ 0 → RoseBy (restart_cuts fault) a a
+no_restart : (fault : Option RunFault) (a : ℕ) → AreCuts fault 0 0 → RoseBy (restart_cuts fault) a a
 no_restart None a none = omega arith
 no_restart (Some faults.Failed) a none = omega arith
 no_restart (Some faults.NotSound) a none = omega arith
-no_restart (Some faults.CutInStart) a none = absurd (let no : 2 ≡ 0 = none in omega arith)
+no_restart (Some faults.CutInStart) a none = absurd (let no : 0 ≡ 2 = none.1 in omega arith)
 
 -- whatever the line is
 kind_ends : (kind : Kind) (fault : Option RunFault) (n : ℕ) (a b : Counts) → CountsKind kind fault n a b → Ends fault a b
 kind_ends ordinary fault n a b c = ends_plain fault n a b c
 kind_ends (loses pick) fault n a b c =
     record {
-      before = c.1.before;
-      grows = Grows-then a (after_loss_of pick a) c.1.before (Grows-loss pick a) (Grows-cuts (restart_cuts fault) (after_loss_of pick a) c.1.before c.1.cuts);
-      cuts = c.1.cuts.cuts;
-      last = c.1.last;
+      before = after_cuts (restart_cuts fault) (after_loss_of pick a);
+      grows = Grows-then a (after_loss_of pick a) (after_cuts (restart_cuts fault) (after_loss_of pick a)) (Grows-loss pick a) (Grows-cuts (restart_cuts fault) (after_loss_of pick a));
+      cuts = omega arith;
+      last = c.1;
     }
 kind_ends (arms step pick) fault n a b c = record { before = after_arm step pick a; grows = Grows-arm step pick a; cuts = no_restart fault a.cuts c.1; last = c.2 }
 
 pub counted_ends : (command : Option Command) (fault : Option RunFault) (n : ℕ) (a b : Counts) → CountsLine command fault n a b → Ends fault a b
 counted_ends command fault n a b c = kind_ends (kind_of command) fault n a b c
+
+-- whatever was answered
+pub reply_ends : {T : Type 0} → (command : Option Command) (result : Result T RunFault) (cut : T) (a b : Counts) → CountsReply command result cut a b → Ends (run_fault result) a b
+reply_ends command result cut a b (inl c) = counted_ends command (run_fault result) 0 a b c
+reply_ends command result cut a b (inr c) = subst (λ (f : Option RunFault). Ends f a b) (sym (ap run_fault c.0)) (counted_ends command None 1 a b c.1)
 
 pub Ends-none : (a b : Counts) → Ends None a b → Grows a b
 Ends-none a b e = subst (λ (x : Counts). Grows a x) (sym e.last) e.grows
@@ -300,68 +298,51 @@ Ends-then fault a b c first later =
 pub size_of_ends : (fault : Option RunFault) (a b : Counts) → Ends fault a b → b.size ≡ a.size
 size_of_ends fault a b c = ap (λ (x : Counts). x.size) c.last ∙ size_after_fault (last_fault fault) c.before ∙ c.grows.size
 
--- the count of cuts rose by the cuts told, and by those that the end stands for
-rose_plain : (fault : Option RunFault) (n : ℕ) (a b : Counts) → IsEnded n fault a b → RoseBy n a.cuts b.cuts
-rose_plain fault n a b c =
+-- ---- how many cuts were counted in all
+
+-- none falls
+pub cuts_of_ends : (fault : Option RunFault) (a b : Counts) → Ends fault a b → a.cuts ≤ b.cuts
+cuts_of_ends fault a b c =
+    let first = c.grows.cuts in
     let later = cuts_after_fault (last_fault fault) c.before in
-    let rose = c.cuts.cuts in
     let e : b.cuts ≡ (after_fault (last_fault fault) c.before).cuts = ap (λ (x : Counts). x.cuts) c.last in
     omega arith
 
-rose_at_least : (fault : Option RunFault) (n : ℕ) (a b : Counts) → IsCounted fault n a b → RoseBy n a.cuts b.cuts
-rose_at_least fault n a b c = RoseBy-fewer (cuts_at fault) n a.cuts b.cuts (rose_plain fault (cuts_at fault + n) a b c)
+-- as many cuts are counted as the replies are `cut`, where the line ends without a fault
+exact_in_kind : (kind : Kind) (n : ℕ) (a b : Counts) → CountsKind kind None n a b → b.cuts ≡ risen_by n a.cuts
+exact_in_kind ordinary n a b c = ap (λ (x : Counts). x.cuts) c.is ∙ ap (λ (x : ℕ). risen_by x a.cuts) c.cuts
+exact_in_kind (loses pick) n a b c = ap (λ (x : Counts). x.cuts) c.1 ∙ ap (λ (x : ℕ). risen_by x a.cuts) (sym c.0)
+exact_in_kind (arms step pick) n a b c = ap (λ (x : Counts). x.cuts) c.2 ∙ ap (λ (x : ℕ). risen_by x a.cuts) (sym c.0)
 
-rose_by_none : (n a b : ℕ) → n ≡ 0 → a ≤ b → RoseBy n a b
-rose_by_none n a b none le = subst (λ (x : ℕ). RoseBy x a b) (sym none) le
+-- a line in which a cut was counted was answered so
+pub cut_is_answered : {T : Type 0} → (command : Option Command) (answered : T) (cut : T) (a b c : Counts) → CountsReply command (Ok answered) cut a b → c ≡ b → c.cuts ≢ a.cuts → answered ≡ cut
+cut_is_answered command answered cut a b c (inl k) same moved = absurd (moved (ap (λ (x : Counts). x.cuts) same ∙ exact_in_kind (kind_of command) 0 a b k))
+cut_is_answered command answered cut a b c (inr k) same moved = let e = k.0 in cc
 
-rose_in_kind : (kind : Kind) (fault : Option RunFault) (n : ℕ) (a b : Counts) → CountsKind kind fault n a b → RoseBy n a.cuts b.cuts
-rose_in_kind ordinary fault n a b c = rose_at_least fault n a b c
-rose_in_kind (loses pick) fault n a b c = rose_by_none n a.cuts b.cuts c.0 (let rose = rose_plain fault (restart_cuts fault) (after_loss_of pick a) b c.1 in let least = risen_by-least (restart_cuts fault) a.cuts in omega arith)
-rose_in_kind (arms step pick) fault n a b c =
-    rose_by_none n a.cuts b.cuts c.0 (let later = cuts_after_fault (last_fault fault) (after_arm step pick a) in let e : b.cuts ≡ (after_fault (last_fault fault) (after_arm step pick a)).cuts = ap (λ (x : Counts). x.cuts) c.2 in omega arith)
-
--- as many cuts are counted at least as the replies are `cut`
-pub rose_in_line : (command : Option Command) (fault : Option RunFault) (n : ℕ) (a b : Counts) → CountsLine command fault n a b → RoseBy n a.cuts b.cuts
-rose_in_line command fault n a b c = rose_in_kind (kind_of command) fault n a b c
-
-two_at_least : (n : ℕ) (a b : Counts) → IsCounted (Some faults.CutInStart) n a b → RoseBy 2 a.cuts b.cuts
-two_at_least n a b c =
-    RoseBy-fewer n 2 a.cuts b.cuts (subst (λ (x : ℕ). RoseBy x a.cuts b.cuts) (let e : 2 + n ≡ n + 2 = omega arith in e) (rose_plain (Some faults.CutInStart) (2 + n) a b c))
-
-two_cuts_in_kind : (kind : Kind) (n : ℕ) (a b : Counts) → is_loss_kind kind ≡ false → CountsKind kind (Some faults.CutInStart) n a b → RoseBy 2 a.cuts b.cuts
-two_cuts_in_kind ordinary n a b other c = two_at_least n a b c
-two_cuts_in_kind (loses pick) n a b other c = absurd (let no : true ≡ false = other in cc)
-two_cuts_in_kind (arms step pick) n a b other c = absurd (let no : 2 ≡ 0 = c.1 in omega arith)
+-- in each of the turns, and so in all
+pub CountsTurns-cuts : (turns : List Turn) (a b : Counts) → CountsTurns turns a b → b.cuts ≡ risen_by (cuts_of turns) a.cuts
+CountsTurns-cuts [] a b c = ap (λ (x : Counts). x.cuts) c
+CountsTurns-cuts (t ∷ turns) a b c =
+    CountsTurns-cuts turns c.0 b c.2
+    ∙ ap (λ (x : ℕ). risen_by (cuts_of turns) x) (exact_in_kind (kind_of (command_of t.line)) (cuts_of (t ∷ [])) a c.0 c.1)
+    ∙ sym (risen_by-more (cuts_of (t ∷ [])) (cuts_of turns) a.cuts)
+    ∙ ap (λ (x : ℕ). risen_by x a.cuts) (sym (cuts_of-cons t turns))
 
 -- where the restart ends in a cut two are counted, but for a line in which power was lost at once
-pub two_cuts_in_line : (command : Option Command) (n : ℕ) (a b : Counts) → is_loss command ≡ false → CountsLine command (Some faults.CutInStart) n a b → RoseBy 2 a.cuts b.cuts
-two_cuts_in_line command n a b other c = two_cuts_in_kind (kind_of command) n a b other c
+lost_in_kind : (kind : Kind) (n : ℕ) (a b : Counts) → CountsKind kind (Some faults.CutInStart) n a b → b.cuts ≡ risen_by (cond (is_loss_kind kind) 1 2) a.cuts
+lost_in_kind ordinary n a b c = ap (λ (x : Counts). x.cuts) c.is ∙ ap (λ (x : ℕ). risen_by x a.cuts) c.cuts.1
+lost_in_kind (loses pick) n a b c = ap (λ (x : Counts). x.cuts) c.1
+lost_in_kind (arms step pick) n a b c = absurd (let no : 0 ≡ 2 = c.1.1 in omega arith)
 
-cut_in_restart_of : (kind : Kind) (n : ℕ) (a b : Counts) → CountsKind kind (Some faults.CutInStart) n a b → RoseBy 1 a.cuts b.cuts
-cut_in_restart_of ordinary n a b c = RoseBy-fewer 1 1 a.cuts b.cuts (two_at_least n a b c)
-cut_in_restart_of (loses pick) n a b c = rose_plain (Some faults.CutInStart) 1 (after_loss_of pick a) b c.1
-cut_in_restart_of (arms step pick) n a b c = absurd (let no : 2 ≡ 0 = c.1 in omega arith)
-
-pub cut_in_restart : (command : Option Command) (n : ℕ) (a b : Counts) → CountsLine command (Some faults.CutInStart) n a b → RoseBy 1 a.cuts b.cuts
-cut_in_restart command n a b c = cut_in_restart_of (kind_of command) n a b c
-
--- as many cuts are counted at least as replies are `cut`
-pub CountsTurns-cuts : (turns : List Turn) (a b : Counts) → CountsTurns turns a b → RoseBy (cuts_of turns) a.cuts b.cuts
-CountsTurns-cuts [] a b c = let e : b.cuts ≡ a.cuts = ap (λ (x : Counts). x.cuts) c in omega arith
-CountsTurns-cuts (t ∷ turns) a b c =
-    subst (λ (n : ℕ). RoseBy n a.cuts b.cuts) (sym (cuts_of-cons t turns))
-    (RoseBy-then (cuts_of (t ∷ [])) (cuts_of turns) a.cuts c.0.cuts b.cuts (rose_in_line (command_of t.line) None (cuts_of (t ∷ [])) a c.0 c.1) (CountsTurns-cuts turns c.0 b c.2))
+pub lost_in_restart : (command : Option Command) (n : ℕ) (a b : Counts) → CountsLine command (Some faults.CutInStart) n a b → b.cuts ≡ risen_by (cond (is_loss command) 1 2) a.cuts
+lost_in_restart command n a b c = lost_in_kind (kind_of command) n a b c
 
 -- ---- a device that is not sound behind a power loss
 
 lost_before : (kind : Kind) (n : ℕ) (a b : Counts) → CountsKind kind (Some faults.NotSound) n a b → Rose a.cuts b.cuts ⊎ Rose a.losses b.losses
-lost_before ordinary n a b c =
-    inl (RoseBy-fewer n 1 a.cuts b.cuts (subst (λ (x : ℕ). RoseBy x a.cuts b.cuts) (let e : 1 + n ≡ n + 1 = omega arith in e) (rose_plain (Some faults.NotSound) (1 + n) a b c)))
-lost_before (loses pick) n a b c =
-    let others = ap (λ (x : Counts). x.losses) c.1.cuts.others in
-    let last = ap (λ (x : Counts). x.losses) c.1.last in
-    inr (omega arith)
-lost_before (arms step pick) n a b c = absurd (let no : 1 ≡ 0 = c.1 in omega arith)
+lost_before ordinary n a b c = inl (let e : b.cuts ≡ risen_by 1 a.cuts = ap (λ (x : Counts). x.cuts) c.is ∙ ap (λ (x : ℕ). risen_by x a.cuts) c.cuts.1 in omega arith)
+lost_before (loses pick) n a b c = inr (let e : b.losses ≡ risen a.losses = ap (λ (x : Counts). x.losses) c.1 in omega arith)
+lost_before (arms step pick) n a b c = absurd (let no : 0 ≡ 1 = c.1.1 in omega arith)
 
 -- power was lost in the line before, as counted or at once
 pub lost_in_line : (command : Option Command) (n : ℕ) (a b : Counts) → CountsLine command (Some faults.NotSound) n a b → Rose a.cuts b.cuts ⊎ Rose a.losses b.losses

@@ -36,7 +36,7 @@ use Rattle.pm_model.specs.Masks.{masked}
 use Rattle.ready_daemon.specs.Held.{Holds, HasDurableFrames, HasIdleLogs}
 use Rattle.ready_daemon.proofs.Beside.{ready_stands}
 use Rattle.ready_daemon.specs.Ready.{KeepsRest, IsReady, IsClosedIfFree, ClosesFirst, ClosesLogs, RefusesNone}
-use Rattle.puddled.specs.Daemon.{KeepsLine, IsPart, SaysPart, Recovers, Settles, Starts, spoken, Answers}
+use Rattle.puddled.specs.Daemon.{KeepsLine, IsPart, EndsIn, SaysPart, Recovers, Settles, Starts, spoken, Answers}
 use Rattle.puddled.proofs.Listed.{said_when_ready}
 use Rattle.puddled.proofs.Settling.{Between}
 use Rattle.puddled.proofs.Carrying.{KeepsLine-then}
@@ -58,6 +58,18 @@ SaysPart-says text fault old new s =
 pub SaysPart-nothing : (text : List ℕ) (fault : HostFault) (old new : State) → new.now.said ≡ old.now.said → SaysPart text (Some fault) old new
 SaysPart-nothing text fault old new quiet =
     record { bytes = []; rest = text; part = refl; said = quiet ∙ sym (append-nil old.now.said); whole = λ none. absurd (some_is_not_none fault none) }
+
+-- without a fault it was said last
+said_last : (text : List ℕ) (old new : State) → Says text None old new → EndsIn text new.now.said
+said_last text old new says =
+    let p = SaysPart-says text None old new says in
+    record { front = old.now.said; is = p.said ∙ ap (λ (l : List ℕ). old.now.said ++ l) (sym (p.part ∙ ap (λ (l : List ℕ). p.bytes ++ l) (p.whole refl) ∙ append-nil p.bytes)) }
+
+pub answer_last : (frames : ℕ) (image : Image) (answered answer : Answered) (old new : State) → answered ≡ answer → Says (said_text frames image answered) None old new → EndsIn (said_text frames image answer) new.now.said
+answer_last frames image answered answer old new is says = said_last (said_text frames image answer) old new (subst (λ (a : Answered). Says (said_text frames image a) None old new) is says)
+
+pub nothing_last : (s : State) → EndsIn [] s.now.said
+nothing_last s = record { front = s.now.said; is = sym (append-nil s.now.said) }
 
 pub words_said : (text : List ℕ) (fault : Option HostFault) (old new : State) → Says text fault old new → new.now.words ≡ old.now.words
 words_said text fault old new s = ap (λ (x : State). x.now.words) s.is ∙ words-all_said (take s.count text) old

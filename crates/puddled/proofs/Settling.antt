@@ -32,7 +32,7 @@ use Rattle.puddled.specs.declared.answers.Answered.TheVariants as answers
 use Rattle.ready_daemon.specs.Ready.{IsReady, Applies, IsClosedIfFree, IsClosedIfNamed, ClosesFirst, ClosesBefore, ClosesLogs, RefusesNone, StandsBetween}
 use Rattle.puddled.specs.Daemon.{CarriesOut, Recovers, Settles}
 use Rattle.ready_daemon.proofs.Turns.{turn_of, is_turn_of, cut_turn, is_cut_turn}
-use Rattle.puddled.proofs.Counted.{counted_step, counted_cut, counted_nothing, kind_done, kind_faulty, kind_unstarted, host_is_sound}
+use Rattle.puddled.proofs.Counted.{counted_step, counted_cut, kind_done, kind_faulty, kind_unstarted, host_is_sound}
 use Rattle.puddled.proofs.Carrying.{restart_line}
 use Rattle.puddled.proofs.Restarts.{closed_if_free}
 
@@ -243,7 +243,7 @@ module _ (size : ℕ) (w : World) (memory : Memory) (line : List ℕ) (before be
     Settles-lost pick is r same =
         let it = restart_line w (command_of line) pick is in
         let lost = subst (λ (x : Kind). CountsCommand x (Some hosts.Cut) before between) is k.counted in
-        let counts : CountsLine (command_of line) None 0 before after = subst (λ (x : Kind). CountsKind x None 0 before after) (sym is) (refl, counted_nothing _ after (same ∙ lost.1)) in
+        let counts : CountsLine (command_of line) None 0 before after = subst (λ (x : Kind). CountsKind x None 0 before after) (sym is) (refl, same ∙ lost.1) in
         record {
           turn = turn_of w line;
           of_line = refl;

@@ -43,6 +43,11 @@ pub record IsPart (bytes text : List ℕ) : Type 0 where
   pub rest : List ℕ
   pub is : text ≡ bytes ++ rest
 
+-- these bytes end with a text
+pub record EndsIn (text bytes : List ℕ) : Type 0 where
+  pub front : List ℕ
+  pub is : bytes ≡ front ++ text
+
 -- some bytes of a text were said, from its front; without a fault all of them
 pub record SaysPart {Fault : Type 0} (text : List ℕ) (fault : Option Fault) (old new : State) : Type 0 where
   pub bytes : List ℕ
@@ -122,7 +127,8 @@ spoken aloud answer = cond aloud (answer_text answer) []
 
 -- One line is one turn of the machine: at every moment the images stand for the world before it or the one that it gives, with its reply said
 -- only once that one is durable; without a fault the reply is whole and the daemon, with this memory, ready for the next line. A client that
--- goes has its logs closed first. In no image left at any moment a registered log is refused: a restart refuses none. Where the reply is `cut` power was lost.
+-- goes has its logs closed first. In no image left at any moment a registered log is refused: a restart refuses none. Without a fault a cut was
+-- counted where the reply is `cut`, and nowhere else.
 pub record Answers (size : ℕ) (w : World) (line : List ℕ) (aloud : Bool) (result : Result Bool RunFault) (memory : Memory) (before after : Counts) (old new : State) : Type 0 where
   pub turn : Turn
   pub of_line : turn.line ≡ line

@@ -1,5 +1,5 @@
 -- Why a start or a line ended, and what a host counted of it.
-use Rattle.std.specs.Prelude.{◌≡◌, ◌≢◌, ◌⊎◌, ℕ, zero, suc, ◌+◌, ◌≤◌, Bool, true, false, List, [], ◌∷◌, Option, Some, None, Result, Ok, Err}
+use Rattle.std.specs.Prelude.{◌≡◌, ◌≢◌, ◌⊎◌, ℕ, zero, suc, ◌≤◌, Bool, true, false, List, [], ◌∷◌, Option, Some, None, Result, Ok, Err}
 use Rattle.pm_model.specs.declared.host.HostFault.{HostFault}
 use Rattle.pm_model.specs.declared.host.HostFault.TheVariants as hosts
 use Rattle.pm_model.specs.Counts.{Counts, risen, after_fault, after_arm, after_loss_of}
@@ -45,22 +45,23 @@ risen_by (suc n) count = risen (risen_by n count)
 abbrev pub RoseBy : ℕ → ℕ → ℕ → Type 0
 RoseBy n before now = risen_by n before ≤ now
 
--- so many cuts were counted at least, and nothing else
-pub record CountsCuts (n : ℕ) (old new : Counts) : Type 0 where
-  pub others : new ≡ record old { cuts = new.cuts }
-  pub cuts : RoseBy n old.cuts new.cuts
+-- so many cuts more, and nothing else
+abbrev pub after_cuts : ℕ → Counts → Counts
+after_cuts n c = record c { cuts = risen_by n c.cuts }
 
 -- the fault that a call answered
 abbrev pub run_fault : {T : Type 0} → Result T RunFault → Option RunFault
 run_fault (Ok x) = None
 run_fault (Err fault) = Some fault
 
--- how many cuts are counted where a line ends so: one in it, and one more in the restart
-abbrev pub cuts_at : Option RunFault → ℕ
-cuts_at None = 0
-cuts_at (Some faults.Failed) = 0
-cuts_at (Some faults.CutInStart) = 2
-cuts_at (Some faults.NotSound) = 1
+-- How many cuts are counted in an ordinary line that has n replies `cut`, by how it ends. Without a fault as many: none, or the one for which it
+-- is answered `cut`. At `NotSound` the one behind which it started again, at `CutInStart` that one and one in the restart. Where the host failed
+-- none, or one before it failed.
+abbrev pub AreCuts : Option RunFault → ℕ → ℕ → Type 0
+AreCuts None n count = count ≡ n
+AreCuts (Some faults.Failed) n count = (n ≤ count) × (count ≤ 1)
+AreCuts (Some faults.CutInStart) n count = (n ≡ 0) × (count ≡ 2)
+AreCuts (Some faults.NotSound) n count = (n ≡ 0) × (count ≡ 1)
 
 -- the host's fault that it ends with
 abbrev pub last_fault : Option RunFault → Option HostFault
@@ -76,15 +77,11 @@ restart_cuts (Some faults.Failed) = 0
 restart_cuts (Some faults.CutInStart) = 1
 restart_cuts (Some faults.NotSound) = 0
 
--- n cuts were counted at least, and then it ended so
-pub record IsEnded (n : ℕ) (fault : Option RunFault) (old new : Counts) : Type 0 where
-  pub before : Counts
-  pub cuts : CountsCuts n old before
-  pub last : new ≡ after_fault (last_fault fault) before
-
--- n cuts were counted at least besides those that its end stands for, and then it ended so
-abbrev pub IsCounted : Option RunFault → ℕ → Counts → Counts → Type 0
-IsCounted fault n old new = IsEnded (cuts_at fault + n) fault old new
+-- so many cuts were counted, and then the fault that the line ends with
+pub record IsCounted (fault : Option RunFault) (n : ℕ) (old new : Counts) : Type 0 where
+  pub count : ℕ
+  pub cuts : AreCuts fault n count
+  pub is : new ≡ after_fault (last_fault fault) (after_cuts count old)
 
 -- What a host counts of a command: nothing of its own, a loss of power at once with this pick, or a cut armed with this step and pick.
 pub data Kind : Type 0 where
@@ -106,17 +103,22 @@ is_loss_kind (arms step pick) = false
 abbrev pub is_loss : Option Command → Bool
 is_loss command = is_loss_kind (kind_of command)
 
--- What a host counts in a line of the kind that has n replies `cut`, where it ends so. To arm a cut is counted with its step and pick, and
--- no power is lost. To lose power at once is counted with its pick, and no cut but in the restart. In all other lines nothing but cuts and
--- the fault at its end is counted.
+-- What a host counts in a line of the kind that has n replies `cut` and ends so: exactly this, and nothing else. To arm a cut is counted with its
+-- step and pick, and no power is lost. To lose power at once is counted with its pick, and no cut but in the restart. In each other line its cuts
+-- are counted, and the fault at its end.
 abbrev pub CountsKind : Kind → Option RunFault → ℕ → Counts → Counts → Type 0
 CountsKind ordinary fault n old new = IsCounted fault n old new
-CountsKind (loses pick) fault n old new = (n ≡ 0) × IsEnded (restart_cuts fault) fault (after_loss_of pick old) new
-CountsKind (arms step pick) fault n old new = (n ≡ 0) × (cuts_at fault ≡ 0) × (new ≡ after_fault (last_fault fault) (after_arm step pick old))
+CountsKind (loses pick) fault n old new = (n ≡ 0) × (new ≡ after_fault (last_fault fault) (after_cuts (restart_cuts fault) (after_loss_of pick old)))
+CountsKind (arms step pick) fault n old new = (n ≡ 0) × AreCuts fault 0 0 × (new ≡ after_fault (last_fault fault) (after_arm step pick old))
 
 -- in a line of the command
 abbrev pub CountsLine : Option Command → Option RunFault → ℕ → Counts → Counts → Type 0
 CountsLine command fault n old new = CountsKind (kind_of command) fault n old new
+
+-- What a host counts in a line, whatever the device holds: what is counted of a line that is not answered `cut`; or one cut, and then it was answered
+-- like this.
+abbrev pub CountsReply : {T : Type 0} → Option Command → Result T RunFault → T → Counts → Counts → Type 0
+CountsReply command result cut old new = CountsLine command (run_fault result) 0 old new ⊎ ((result ≡ Ok cut) × CountsLine command None 1 old new)
 
 -- What a host counts of a command up to its end, before a restart: the fault at its end. One that is to lose power at once ends with power
 -- lost, and one that arms a cut without a fault.
@@ -131,9 +133,10 @@ behind_loss ordinary = replies.Cut
 behind_loss (loses pick) = replies.Ok
 behind_loss (arms step pick) = replies.Cut
 
--- power was lost meanwhile, as counted or at once
-abbrev pub HasLostPower : Counts → Counts → Type 0
-HasLostPower old new = (new.cuts ≢ old.cuts) ⊎ (new.losses ≢ old.losses)
+-- Power was lost in a line, as far as the line and the counts tell: the line asks for it, or a cut was counted. A count at its type's end stands
+-- still, so a cut that falls there is told by the reply alone.
+abbrev pub HasLostPower : Option Command → Counts → Counts → Type 0
+HasLostPower command old new = (is_loss command ≡ true) ⊎ (new.cuts ≢ old.cuts)
 
 -- each of the turns was counted as its line, with its reply
 abbrev pub CountsTurns : List Turn → Counts → Counts → Type 0

@@ -1,5 +1,5 @@
 //! The daemon's own calls: start, one line, stop.
-ghost use Rattle.std.specs.Prelude.{◌≡◌, ◌≢◌, ◌≤◌, ◌↔◌, ℕ, List, IsOk, IfOk, Option, Result};
+ghost use Rattle.std.specs.Prelude.{◌≡◌, ◌≢◌, ◌≤◌, ◌↔◌, ℕ, false, List, IsOk, IfOk, Option, Result};
 ghost use Rattle.pm_model.specs.Words.{IsRested, reads};
 ghost use Rattle.pm_model.specs.Counts.{Counts, after_fault, after_arm, after_loss_of, fault_of};
 ghost use Rattle.pm_model.specs.Moments.{State};
@@ -7,7 +7,7 @@ ghost use Rattle.pud_defs.specs.declared.layout.TheConstants.{MIN_FRAMES};
 ghost use Rattle.pud_defs.specs.Layout.{device_words};
 ghost use Rattle.pud_defs.specs.Registry.{frames_of};
 ghost use Rattle.pud_defs.specs.World.{World, world_of, closed, restart};
-ghost use Rattle.puddled.specs.Faults.{start_fault, run_fault, kind_of, CountsLine, CountsCommand, behind_loss, HasLostPower};
+ghost use Rattle.puddled.specs.Faults.{start_fault, run_fault, kind_of, CountsReply, CountsCommand, behind_loss, HasLostPower};
 ghost use Rattle.pud_defs.specs.Grammar.{command_of, IsLegalCommand};
 ghost use Rattle.pud_defs.specs.Changing.{file_of, file_in};
 ghost use Rattle.ready_daemon.specs.Memory.{Memory};
@@ -278,14 +278,14 @@ fn go_on<H: Host>(
         → Settles size w line result daemon.new counted (H.counts h.new) before (H.state h.new) }
     // Whatever the device holds: where power was lost, it then reads as a sound one.
     ensures restarted { H.tells → (fault_of done ≡ Option.Some HostFault.Cut → IsRested (H.state h.old).now.words) → (counted : Counts)
-        → CountsCommand (kind_of (Option.Some command)) (fault_of done) counted (H.counts h.old) → IsOk result → HasLostPower counted (H.counts h.new)
+        → CountsCommand (kind_of (Option.Some command)) (fault_of done) counted (H.counts h.old) → IsOk result → HasLostPower (Option.Some command) counted (H.counts h.new)
         → world_of (H.counts h.old).size (reads (H.state h.new).now.words) ≢ Option.None }
     ensures not_sound { H.tells → result ≡ Result.Err RunFault.NotSound
         → world_of (H.counts h.old).size (reads (H.state h.new).now.words) ≡ Option.None }
     ensures rest { H.tells → KeepsRest (H.state h.old) (H.state h.new) }
     ensures room { device_words daemon.new.frames ≤ (H.counts h.old).size }
     ensures cause { (counted : Counts) → CountsCommand (kind_of (Option.Some command)) (fault_of done) counted (H.counts h.old)
-        → CountsLine (Option.Some command) (run_fault result) 0 counted (H.counts h.new) }
+        → CountsReply (Option.Some command) result (Answered.Reply Reply.Cut) counted (H.counts h.new) }
 {
     match done {
         Ok(answered) => Ok(answered),
@@ -305,13 +305,13 @@ fn settle<H: Host>(daemon: &mut Daemon, h: &mut H, line: &[u8]) -> Result<Answer
     ensures settles { H.tells → (size : ℕ) → size ≡ (H.counts h.old).size → (w : World) → IsReady size w daemon.old (H.state h.old)
         → Settles size w line.now result daemon.new (H.counts h.old) (H.counts h.new) (H.state h.old) (H.state h.new) }
     // Whatever the device holds: where power was lost, as counted or at once, it reads as a sound one behind the restart.
-    ensures restarted { H.tells → IsOk result → HasLostPower (H.counts h.old) (H.counts h.new)
+    ensures restarted { H.tells → IsOk result → HasLostPower (command_of line.now) (H.counts h.old) (H.counts h.new)
         → world_of (H.counts h.old).size (reads (H.state h.new).now.words) ≢ Option.None }
     ensures not_sound { H.tells → result ≡ Result.Err RunFault.NotSound
         → world_of (H.counts h.old).size (reads (H.state h.new).now.words) ≡ Option.None }
     ensures room { device_words daemon.new.frames ≤ (H.counts h.old).size }
     ensures rest { H.tells → KeepsLine (file_in (command_of line.now)) (H.state h.old) (H.state h.new) }
-    ensures cause { CountsLine (command_of line.now) (run_fault result) 0 (H.counts h.old) (H.counts h.new) }
+    ensures cause { CountsReply (command_of line.now) result (Answered.Reply Reply.Cut) (H.counts h.old) (H.counts h.new) }
 {
     match parse_line(line) {
         Err(_) => Ok(Answered::Reply(Reply::No(Refusal::Bad))),
@@ -325,7 +325,8 @@ fn settle<H: Host>(daemon: &mut Daemon, h: &mut H, line: &[u8]) -> Result<Answer
 impl Daemon {
     ghost use Rattle.pud_defs.specs.declared.layout.TheConstants.{MAX_FRAMES};
     ghost use Rattle.pud_defs.specs.StartText.{start_text};
-    ghost use Rattle.puddled.specs.Daemon.{SaysPart, Starts, Answers};
+    ghost use Rattle.pud_defs.specs.Step.Answer.{of_reply};
+    ghost use Rattle.puddled.specs.Daemon.{EndsIn, SaysPart, Starts, spoken, Answers};
 
     /// Starts on the device: applies what its daemon log names, replays and closes each registered log that its owner may, empties
     /// the log-space table, and says the start text: a line for each registered log that is refused, and `ready`.
@@ -389,7 +390,7 @@ impl Daemon {
             → Answers size w line.now aloud result self.new (H.counts h.old) (H.counts h.new) (H.state h.old) (H.state h.new) }
         // Whatever the device holds: where power was lost, as counted or at once, and without a fault, it then reads as a sound
         // one, and at `NotSound` it does not.
-        ensures restarted { H.tells → IsOk result → HasLostPower (H.counts h.old) (H.counts h.new)
+        ensures restarted { H.tells → IsOk result → HasLostPower (command_of line.now) (H.counts h.old) (H.counts h.new)
             → world_of (H.counts h.old).size (reads (H.state h.new).now.words) ≢ Option.None }
         ensures not_sound { H.tells → result ≡ Result.Err RunFault.NotSound
             → world_of (H.counts h.old).size (reads (H.state h.new).now.words) ≡ Option.None }
@@ -397,7 +398,11 @@ impl Daemon {
         ensures room { device_words self.new.frames ≤ (H.counts h.old).size }
         // The script stays, and each file but one that the line names.
         ensures rest { H.tells → KeepsLine (file_in (command_of line.now)) (H.state h.old) (H.state h.new) }
-        ensures cause { CountsLine (command_of line.now) (run_fault result) 0 (H.counts h.old) (H.counts h.new) }
+        // Whatever the device holds: where a cut was counted and no fault came, the reply that was said is `cut`.
+        ensures told { H.tells → IsOk result → (H.counts h.new).cuts ≢ (H.counts h.old).cuts → EndsIn (spoken aloud (of_reply Reply.Cut)) (H.state h.new).now.said }
+        // What is counted, whatever the host tells. Without a fault it is nothing, or one cut where the reply does not begin with `ok`; but at a
+        // line `cut N` that loss, and at a line `arm K N` that arming.
+        ensures cause { CountsReply (command_of line.now) result false (H.counts h.old) (H.counts h.new) }
     {
         let answered = settle(self, h, line)?;
         if aloud {

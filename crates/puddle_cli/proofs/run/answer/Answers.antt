@@ -1,6 +1,6 @@
 use Rattle.std.proofs.Common.{◌≡◌, [], true, false, refl, sym, ◌∙◌}
 use Rattle.std.proofs.lemmas.Result.{err_from_is_err_and}
-use Rattle.puddled.proofs.Counted.{counted_ends}
+use Rattle.puddled.proofs.Counted.{reply_ends}
 use Rattle.puddle_cli.proofs.Answering.{AnswersLine-turn, AnswersLine-nothing, KeepsScript-still, KeepsScript-line}
 use Rattle.puddle_cli.proofs.run.answer.Goals as goal
 
@@ -27,7 +27,7 @@ returns-clause-answers g c = λ t size e w ready line kept.
 pub returns-in_err-exec-clause-cause : goal.returns-in_err-exec-clause-cause
 returns-in_err-exec-clause-cause g c =
     let p = err_from_is_err_and c.from_residual.result c.from_residual.ensures.1 in
-    rw (p.1, p.2) (counted_ends _ _ 0 _ _ c.in_err-exec.ensures.cause)
+    rw (p.1, p.2) (reply_ends _ _ _ _ _ c.in_err-exec.ensures.cause)
 
 pub returns-then-is_empty-clause-rest : goal.returns-then-is_empty-clause-rest
 returns-then-is_empty-clause-rest g c = λ t. KeepsScript-still _ _ refl

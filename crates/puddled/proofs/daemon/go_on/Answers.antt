@@ -1,10 +1,12 @@
-use Rattle.std.proofs.Common.{◌≡◌, ℕ, Some, Result, Err, refl, ap, subst, ◌∙◌}
+use Rattle.std.proofs.Common.{◌≡◌, ℕ, inl, inr, ⊎_elim, Some, Result, Ok, Err, refl, ap, subst, ◌∙◌}
 use Rattle.std.proofs.lemmas.Result.{err_from_is_err_and}
 use Rattle.pm_model.specs.declared.host.HostFault.{HostFault}
 use Rattle.pm_model.specs.declared.host.HostFault.TheVariants as hosts
 use Rattle.pm_model.specs.Words.{reads}
 use Rattle.pm_model.specs.Counts.{fault_of}
 use Rattle.puddled.specs.declared.answers.Answered.{Answered}
+use Rattle.puddled.specs.declared.answers.Answered.TheVariants as answers
+use Rattle.pud_defs.specs.declared.machine.Reply.{Reply}
 use Rattle.pud_defs.specs.World.{world_of}
 use Rattle.pud_defs.specs.Grammar.{command_of}
 use Rattle.ready_daemon.specs.Memory.{Memory}
@@ -35,7 +37,7 @@ returns-in_err-started-in-Err-Cut-clause-cause g c = λ counted counts.
     let p = err_from_is_err_and c.from_residual.result c.from_residual.ensures.1 in
     let is : c.args.done ≡ Err hosts.Cut = c.in-Err-Cut.is ∙ ap Err (rw c.in-Err-Cut.is at c.in-Err-Cut.field-0-is) in
     let k = subst (λ (r : Result Answered HostFault). CountsCommand (kind_of (Some c.args.command)) (fault_of r) counted (g.H.Host.counts c.args.h.now)) is counts in
-    rw (p.1, p.2) (kind_unstarted (kind_of (Some c.args.command)) c.in_err-started-in-Err-Cut.field-0.0 _ _ _ k c.in_err-started-in-Err-Cut.ensures.cause)
+    rw (p.1, p.2) (inl (kind_unstarted (kind_of (Some c.args.command)) c.in_err-started-in-Err-Cut.field-0.0 _ _ _ k c.in_err-started-in-Err-Cut.ensures.cause))
 
 pub returns-in-Ok-clause-settles : goal.returns-in-Ok-clause-settles
 returns-in-Ok-clause-settles g c = λ t size e w line counted before of_line shelf carries.
@@ -44,7 +46,7 @@ returns-in-Ok-clause-settles g c = λ t size e w line counted before of_line she
 
 pub returns-in-Ok-clause-cause : goal.returns-in-Ok-clause-cause
 returns-in-Ok-clause-cause g c = λ counted counts.
-    kind_done (kind_of (Some c.args.command)) _ _ (subst (λ (r : Result Answered HostFault). CountsCommand (kind_of (Some c.args.command)) (fault_of r) counted (g.H.Host.counts c.args.h.now)) c.in-Ok.is counts)
+    inl (kind_done (kind_of (Some c.args.command)) _ _ (subst (λ (r : Result Answered HostFault). CountsCommand (kind_of (Some c.args.command)) (fault_of r) counted (g.H.Host.counts c.args.h.now)) c.in-Ok.is counts))
 
 pub returns-in-Ok-clause-restarted : goal.returns-in-Ok-clause-restarted
 returns-in-Ok-clause-restarted g c = λ t rested counted counts ok moved.
@@ -60,7 +62,7 @@ returns-in-Err-Failed-clause-settles g c = λ t size e w line counted before of_
 pub returns-in-Err-Failed-clause-cause : goal.returns-in-Err-Failed-clause-cause
 returns-in-Err-Failed-clause-cause g c = λ counted counts.
     let is : c.args.done ≡ Err hosts.Failed = c.in-Err-Failed.is ∙ ap Err (rw c.in-Err-Failed.is at c.in-Err-Failed.field-0-is) in
-    kind_faulty (kind_of (Some c.args.command)) _ _ (subst (λ (r : Result Answered HostFault). CountsCommand (kind_of (Some c.args.command)) (fault_of r) counted (g.H.Host.counts c.args.h.now)) is counts)
+    inl (kind_faulty (kind_of (Some c.args.command)) _ _ (subst (λ (r : Result Answered HostFault). CountsCommand (kind_of (Some c.args.command)) (fault_of r) counted (g.H.Host.counts c.args.h.now)) is counts))
 
 pub returns-in_ok-started-in-Err-Cut-clause-settles : goal.returns-in_ok-started-in-Err-Cut-clause-settles
 returns-in_ok-started-in-Err-Cut-clause-settles g c = λ t size e w line counted before of_line shelf carries.
@@ -75,8 +77,11 @@ returns-in_ok-started-in-Err-Cut-clause-settles g c = λ t size e w line counted
 pub returns-in_ok-started-in-Err-Cut-clause-cause : goal.returns-in_ok-started-in-Err-Cut-clause-cause
 returns-in_ok-started-in-Err-Cut-clause-cause g c = λ counted counts.
     let is : c.args.done ≡ Err hosts.Cut = c.in-Err-Cut.is ∙ ap Err (rw c.in-Err-Cut.is at c.in-Err-Cut.field-0-is) in
-    kind_restarted (kind_of (Some c.args.command)) _ _ _ (subst (λ (r : Result Answered HostFault). CountsCommand (kind_of (Some c.args.command)) (fault_of r) counted (g.H.Host.counts c.args.h.now)) is counts)
-    c.in_ok-started-in-Err-Cut.ensures.cause
+    let k = subst (λ (r : Result Answered HostFault). CountsCommand (kind_of (Some c.args.command)) (fault_of r) counted (g.H.Host.counts c.args.h.now)) is counts in
+    rw c.reply_behind_loss.ensures (⊎_elim
+    (λ plain. inl plain)
+    (λ cut. inr (ap (λ (r : Reply). Ok (answers.Reply r)) cut.0, cut.1))
+    (kind_restarted (kind_of (Some c.args.command)) _ _ _ k c.in_ok-started-in-Err-Cut.ensures.cause))
 
 pub returns-in_ok-started-in-Err-Cut-clause-restarted : goal.returns-in_ok-started-in-Err-Cut-clause-restarted
 returns-in_ok-started-in-Err-Cut-clause-restarted g c = λ t rested counted counts ok moved.

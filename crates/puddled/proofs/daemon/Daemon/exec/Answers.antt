@@ -1,14 +1,39 @@
-use Rattle.std.proofs.Common.{None, Some, Ok, Err, refl, ap, subst}
+use Rattle.std.proofs.Common.{◌≡◌, inl, false, [], None, Some, Ok, Err, refl, ap, subst, ◌∙◌}
 use Rattle.std.proofs.lemmas.Result.{err_from_is_err_and}
 use Rattle.pm_model.specs.Words.{reads}
 use Rattle.pm_model.specs.Counts.{Counts}
 use Rattle.puddled.specs.Faults.{of_host, HasLostPower}
-use Rattle.puddled.proofs.Counted.{not_none, none_is_sound, counted_say, counted_same, host_is_sound}
+use Rattle.puddled.proofs.Counted.{not_none, none_is_sound, counted_say, counted_same, counted_fault, one_reply, reply_said, reply_unsaid, cut_is_answered, host_is_sound}
 use Rattle.ready_daemon.specs.Memory.{Memory}
+use Rattle.pud_defs.specs.declared.machine.Reply.TheVariants as replies
+use Rattle.pud_defs.specs.Grammar.{command_of}
+use Rattle.pud_defs.specs.Step.Answer.{of_reply}
+use Rattle.pud_defs.specs.Texts.{reply_text, begins_with_ok}
+use Rattle.pud_defs.specs.World.{World, no_clients, nothing_open}
+use Rattle.puddled.specs.declared.answers.Answered.{Answered}
+use Rattle.puddled.specs.declared.answers.Answered.TheVariants as answers
+use Rattle.puddled.specs.Answered.{answer_of}
 use Rattle.puddled.proofs.Listed.{said_by}
-use Rattle.puddled.proofs.Lines.{Answers-fault, Answers-unsaid, Answers-said, KeepsLine-says, sound_said}
+use Rattle.puddled.proofs.Lines.{answer_last, nothing_last, Answers-fault, Answers-unsaid, Answers-said, KeepsLine-says, sound_said}
 use Rattle.puddled.proofs.daemon.Daemon.exec.Goals as goal
 use Rattle.puddled.proofs.daemon.Daemon.exec.Goals.{then-aloud+in_ok-say_answer, else-aloud}
+
+-- the reply `cut` does not begin with `ok`
+cut_is_not_ok : begins_with_ok (of_reply replies.Cut) ≡ false
+unfolding reply_text
+cut_is_not_ok = refl
+
+-- whether an answer begins with `ok` is the same in each world
+abbrev no_world : World
+no_world = record { stored = record { frames = 0; machine = 0; next_number = 0; types = []; pools = [] }; clients = no_clients; shelf = λ name. None; transactions = nothing_open }
+
+pub returns-clause-cause : goal.returns-clause-cause
+returns-clause-cause g c =
+    let not_ok : c.in_ok-answered.answered ≡ answers.Reply replies.Cut → c.is_ok.result ≡ false = λ cut. c.is_ok.ensures no_world ∙ ap (λ (a : Answered). begins_with_ok (answer_of no_world a)) cut ∙ cut_is_not_ok in
+    elim c.if-aloud.branch [
+      | then-aloud+in_ok-say_answer b ↦ rw b.h-is (reply_said _ c.in_ok-answered.answered _ c.is_ok.result _ _ _ not_ok c.in_ok-answered.ensures.cause b.in_ok-say_answer.ensures.cause)
+      | else-aloud b ↦ rw b.h-is (reply_said _ c.in_ok-answered.answered _ c.is_ok.result _ _ _ not_ok c.in_ok-answered.ensures.cause refl)
+    ]
 
 pub returns-in_err-answered-clause-answers : goal.returns-in_err-answered-clause-answers
 returns-in_err-answered-clause-answers g c =
@@ -22,13 +47,13 @@ returns-in_err-say_answer-clause-answers g c =
     let s = c.in_ok-answered.ensures.settles t size e w ready in
     let fault = c.in_err-say_answer.field-0.0 in
     Answers-said size w _ c.args.line.now _ _ _ _ _ _ _ s (Err (of_host fault)) (Some fault) (said_by _ _ (reads (g.H.Host.state c.settle.new.h).now.words) c.in_ok-answered.answered _ _ _ (ap (λ (m : Memory). m.frames) c.self.view_is) (c.in_err-say_answer.ensures.says t _ refl)) (λ no. absurd (not_none (of_host fault) no)) (λ v. tt) (host_is_sound fault)
-    (counted_say _ fault _ _ _ _ s.counted c.in_err-say_answer.ensures.cause c.in_err-say_answer.ensures.never_cut))
+    (counted_say _ fault _ _ _ _ (one_reply s.turn) s.counted c.in_err-say_answer.ensures.cause c.in_err-say_answer.ensures.never_cut))
 
 pub returns-clause-restarted : goal.returns-clause-restarted
 returns-clause-restarted g c = λ t. elim c.if-aloud.branch [
   | then-aloud+in_ok-say_answer b ↦
       rw b.h-is (λ _ moved. sound_said _ _ _ _ _ (b.in_ok-say_answer.ensures.says t _ refl)
-      (c.in_ok-answered.ensures.restarted t refl (subst (λ (x : Counts). HasLostPower (g.H.Host.counts c.args.h.now) x) b.in_ok-say_answer.ensures.cause moved)))
+      (c.in_ok-answered.ensures.restarted t refl (subst (λ (x : Counts). HasLostPower (command_of c.args.line.now) (g.H.Host.counts c.args.h.now) x) b.in_ok-say_answer.ensures.cause moved)))
   | else-aloud b ↦ rw b.h-is (λ _ moved. c.in_ok-answered.ensures.restarted t refl moved)
 ]
 
@@ -42,10 +67,24 @@ returns-clause-answers g c = λ t size e w ready.
       | else-aloud b ↦ rw (b.if-aloud.false, b.h-is) (Answers-unsaid size w _ c.args.line.now _ c.is_ok.result _ _ _ _ s c.is_ok.ensures)
     ]
 
+pub returns-in_err-answered-clause-cause : goal.returns-in_err-answered-clause-cause
+returns-in_err-answered-clause-cause g c =
+    let p = err_from_is_err_and c.from_residual.result c.from_residual.ensures.1 in
+    rw (p.1, p.2) (inl (counted_fault _ _ _ _ _ c.in_err-answered.ensures.cause))
+
 pub returns-in_err-say_answer-clause-cause : goal.returns-in_err-say_answer-clause-cause
 returns-in_err-say_answer-clause-cause g c =
     let p = err_from_is_err_and c.from_residual-in_err-say_answer.result c.from_residual-in_err-say_answer.ensures.1 in
-    rw (p.1, p.2) (counted_say _ c.in_err-say_answer.field-0.0 _ _ _ _ c.in_ok-answered.ensures.cause c.in_err-say_answer.ensures.cause c.in_err-say_answer.ensures.never_cut)
+    rw (p.1, p.2) (reply_unsaid _ c.in_ok-answered.answered _ c.in_err-say_answer.field-0.0 _ _ _ c.in_ok-answered.ensures.cause c.in_err-say_answer.ensures.cause c.in_err-say_answer.ensures.never_cut)
+
+pub returns-clause-told : goal.returns-clause-told
+returns-clause-told g c = λ t. elim c.if-aloud.branch [
+  | then-aloud+in_ok-say_answer b ↦
+      rw (b.if-aloud.true, b.h-is) (λ _ moved.
+      let cut = cut_is_answered _ c.in_ok-answered.answered (answers.Reply replies.Cut) _ _ _ c.in_ok-answered.ensures.cause b.in_ok-say_answer.ensures.cause moved in
+      answer_last _ (reads (g.H.Host.state c.settle.new.h).now.words) c.in_ok-answered.answered _ _ _ cut (b.in_ok-say_answer.ensures.says t _ refl))
+  | else-aloud b ↦ rw (b.if-aloud.false, b.h-is) (λ _ moved. nothing_last (g.H.Host.state c.settle.new.h))
+]
 
 pub returns-in_err-say_answer-clause-rest : goal.returns-in_err-say_answer-clause-rest
 returns-in_err-say_answer-clause-rest g c = λ t. KeepsLine-says _ _ _ _ _ _ (c.in_ok-answered.ensures.rest t) (c.in_err-say_answer.ensures.says t _ refl)
