@@ -2,13 +2,13 @@
 //! shelf is the files beside it.
 use crate::calls::{Call, DONE, END, LOST, answers, has_file};
 use pm_file::FileHost;
-use pm_model::{FILE_READ_LIMIT, Host};
+use pm_model::{FILE_READ_LIMIT, FileFault, Host, HostFault};
 use std::alloc::Global;
 use std::fs;
 use std::fs::File;
 use std::io::{Seek, SeekFrom, Write};
 use std::process::Abort;
-use std::rt::Runtime;
+use std::rt::{Files, Runtime};
 
 const DEVICE: &str = "puddles.pm";
 
@@ -19,7 +19,7 @@ const LAST_WORD: u32 = 2_139_647;
 const LAST_LINE: u32 = LAST_WORD / 8;
 
 /// Opens the device, and makes the calls in turn, each of which has to answer this.
-fn opened<R: Runtime + Abort>(rt: &R, alloc: Global, rows: &[(Call, u64)]) {
+fn opened<R: Runtime + Files<File = File> + Abort>(rt: &R, alloc: Global, rows: &[(Call, u64)]) {
     let mut host = FileHost::open(rt, alloc).expect(rt, "the device opens");
     answers(rt, &mut host, rows);
 }
@@ -84,6 +84,30 @@ fn what_is_fenced_is_read_again(rt: HostRuntime) {
         ],
     );
     has_bytes(&rt, DEVICE_BYTES, 0, &[8, 7, 6, 5, 4, 3, 2, 1, 0]);
+    without_device(&rt);
+}
+
+/// A second host on the device has to fail.
+fn is_taken<R: Runtime + Files<File = File> + Abort>(rt: &R, alloc: Global) {
+    assert!(rt;
+        matches!(
+            FileHost::open(rt, alloc),
+            Err(FileFault::Host(HostFault::Failed))
+        ),
+        "the device is open already"
+    );
+}
+
+#[test]
+fn a_device_is_open_once_at_a_time(rt: HostRuntime) {
+    let alloc = rt.alloc();
+    without_device(&rt);
+    for _ in 0..2 {
+        let mut host = FileHost::open(&rt, alloc).expect(&rt, "the device opens");
+        is_taken(&rt, alloc);
+        answers(&rt, &mut host, &[(Call::Store(0, 1), DONE)]);
+        is_taken(&rt, alloc);
+    }
     without_device(&rt);
 }
 

@@ -1,2 +1,4 @@
+pub mod Reach
 pub mod Silence
+pub mod Spelling
 pub mod Steps

@@ -1,26 +1,21 @@
--- What a step of the device does to its armed cut and to its rows.
-use Rattle.std.specs.Prelude.{◌≡◌, ℕ, Option, Some, None}
+-- What a step of the device does to its armed cut and to its words.
+use Rattle.std.specs.Prelude.{◌≡◌, ℕ, Option, Some}
 use Rattle.pm_model.specs.declared.losses.Armed.{Armed}
 use Rattle.pm_model.specs.Calls.{IsDue}
 use Rattle.pm_model.specs.declared.host.HostFault.{HostFault}
 use Rattle.pm_model.specs.declared.host.HostFault.TheVariants.{Failed, Cut}
-use Rattle.pm_rows.specs.declared.device_rows.DeviceRows.{DeviceRows}
 use Rattle.pm_rows.specs.Rows.{Loses}
+use Rattle.pm_file.specs.declared.device_words.DeviceWords.{DeviceWords}
+use Rattle.pm_file.specs.Reach.{KeepsWords}
 
 -- After a power loss each of the three rows has the values that the pick gives.
-pub record LosesRows (pick : ℕ) (old new : DeviceRows) : Type 0 where
-  pub durable : Loses pick old.durable.items old.newest.items new.durable.items
-  pub marked : Loses pick old.durable.items old.newest.items new.marked.items
-  pub newest : Loses pick old.durable.items old.newest.items new.newest.items
+pub record LosesWords (pick : ℕ) (old new : DeviceWords) : Type 0 where
+  pub durable : Loses pick old.rows.durable.items old.rows.newest.items new.rows.durable.items
+  pub marked : Loses pick old.rows.durable.items old.rows.newest.items new.rows.marked.items
+  pub newest : Loses pick old.rows.durable.items old.rows.newest.items new.rows.newest.items
 
--- The three rows stay.
-pub record KeepsRows (old new : DeviceRows) : Type 0 where
-  pub durable : new.durable ≡ old.durable
-  pub marked : new.marked ≡ old.marked
-  pub newest : new.newest ≡ old.newest
-
--- A step that fails keeps the rows; one that is cut was due to be, and loses power with the armed pick.
-pub record Stops (fault : Option HostFault) (armed : Option Armed) (old new : DeviceRows) : Type 0 where
-  pub failed : fault ≡ Some Failed → KeepsRows old new
+-- A step that fails keeps the words; one that is cut was due to be, and loses power with the armed pick.
+pub record Stops (fault : Option HostFault) (armed : Option Armed) (old new : DeviceWords) : Type 0 where
+  pub failed : fault ≡ Some Failed → KeepsWords old.rows new.rows
   pub due : fault ≡ Some Cut → IsDue armed
-  pub cut : fault ≡ Some Cut → (cut : Armed) → armed ≡ Some cut → LosesRows cut.pick old new
+  pub cut : fault ≡ Some Cut → (cut : Armed) → armed ≡ Some cut → LosesWords cut.pick old new

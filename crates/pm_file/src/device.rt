@@ -1,13 +1,14 @@
-//! The device: its rows of words, the file behind them, the armed cut and the counts.
-ghost use Rattle.std.specs.Prelude.{◌≡◌, ◌≢◌, ℕ, ◌*◌, ◌<◌, true, false, not, Option, IfOk, slice_index, slice_set};
+//! The device: its words, the file behind them, the armed cut and the counts.
+ghost use Rattle.std.specs.Prelude.{◌≡◌, ◌≢◌, ℕ, ◌*◌, ◌<◌, true, false, not, Option, IfOk, slice_index};
 ghost use Rattle.pm_model.specs.Counts.{counts_of, fresh_counts, after_fault, after_arm, after_loss_of, fault_of};
 ghost use Rattle.pm_model.specs.Calls.{IsDue, CountsDown, counted_down};
 ghost use Rattle.pm_rows.specs.Rows.{TakesLine, AreSame};
-ghost use Rattle.pm_file.specs.Steps.{LosesRows, KeepsRows, Stops};
+ghost use Rattle.pm_file.specs.Reach.{TakesWord};
+ghost use Rattle.pm_file.specs.Steps.{LosesWords, Stops};
 
 use crate::device_file::DeviceFile;
+use crate::device_words::DeviceWords;
 use pm_model::{Armed, HostFault, Tally, counted_down};
-use pm_rows::DeviceRows;
 use std::fs::OpenFile;
 use std::io::{Seek, Write};
 
@@ -15,7 +16,7 @@ use std::io::{Seek, Write};
 #[derive(Drop)]
 pub(crate) struct Device<F> {
     file: DeviceFile<F>,
-    pub(crate) rows: DeviceRows,
+    pub(crate) words: DeviceWords,
     /// Whether the file may hold something else than the durable words in the unsettled lines.
     pub(crate) is_behind: bool,
     pub(crate) armed: Option<Armed>,
@@ -26,13 +27,14 @@ pub(crate) struct Device<F> {
 
 impl<F: Write + Seek + OpenFile> Device<F> {
     /// A device at rest with these words, which the file has.
-    pub(crate) fn new(file: DeviceFile<F>, rows: DeviceRows) -> Device<F>
-        ensures rows { result.rows ≡ rows }
-        ensures counts { counts_of (8 * result.rows.lines) result.tally ≡ fresh_counts (8 * rows.lines) }
+    pub(crate) fn new(file: DeviceFile<F>, words: DeviceWords) -> Device<F>
+        ensures words { result.words ≡ words }
+        ensures counts { counts_of (8 * result.words.lines) result.tally
+            ≡ fresh_counts (8 * words.lines) }
     {
         Device {
             file,
-            rows,
+            words,
             is_behind: false,
             armed: None,
             owes_fault: false,
@@ -43,9 +45,9 @@ impl<F: Write + Seek + OpenFile> Device<F> {
     /// Counts a fault, and gives it.
     pub(crate) fn fail(&mut self) -> HostFault
         ensures failed { result ≡ HostFault.Failed }
-        ensures cause { counts_of (8 * self.new.rows.lines) self.new.tally
-            ≡ after_fault (Option.Some result) (counts_of (8 * self.old.rows.lines) self.old.tally) }
-        ensures rows { self.new.rows ≡ self.old.rows }
+        ensures cause { counts_of (8 * self.new.words.lines) self.new.tally
+            ≡ after_fault (Option.Some result) (counts_of (8 * self.old.words.lines) self.old.tally) }
+        ensures words { self.new.words ≡ self.old.words }
         ensures armed { self.new.armed ≡ self.old.armed }
         ensures owed { self.new.owes_fault ≡ self.old.owes_fault }
     {
@@ -58,34 +60,38 @@ impl<F: Write + Seek + OpenFile> Device<F> {
     ///
     /// A power loss before could not be written.
     pub(crate) fn load(&mut self, word: u32) -> Result<u64, HostFault>
-        requires { word < 8 * self.old.rows.lines }
-        ensures cause { counts_of (8 * self.new.rows.lines) self.new.tally
-            ≡ after_fault (fault_of result) (counts_of (8 * self.old.rows.lines) self.old.tally) }
+        requires { word < 8 * self.old.words.lines }
+        ensures cause { counts_of (8 * self.new.words.lines) self.new.tally
+            ≡ after_fault (fault_of result) (counts_of (8 * self.old.words.lines) self.old.tally) }
         ensures never_cut { fault_of result ≢ Option.Some HostFault.Cut }
-        ensures value { IfOk result (λ value. value ≡ slice_index self.old.rows.newest.items word) }
-        ensures rows { self.new.rows ≡ self.old.rows }
+        ensures value { IfOk result (λ value. value
+            ≡ slice_index self.old.words.rows.newest.items word) }
+        ensures words { self.new.words ≡ self.old.words }
         ensures armed { self.new.armed ≡ self.old.armed }
     {
         self.pay_fault()?;
-        Ok(self.rows.load(word))
+        Ok(self.words.load(word))
     }
 
     /// Stores a word, a device step.
     ///
     /// # Errors
     ///
-    /// `Failed` where a power loss before could not be written, `Cut` where the armed cut falls on this step.
+    /// `Failed` where a power loss before could not be written, or where memory was refused, whose room was taken at the
+    /// start; `Cut` where the armed cut falls on this step.
     pub(crate) fn store(&mut self, word: u32, value: u64) -> Result<(), HostFault>
-        requires { word < 8 * self.old.rows.lines }
-        ensures cause { counts_of (8 * self.new.rows.lines) self.new.tally
-            ≡ after_fault (fault_of result) (counts_of (8 * self.old.rows.lines) self.old.tally) }
+        requires { word < 8 * self.old.words.lines }
+        ensures cause { counts_of (8 * self.new.words.lines) self.new.tally
+            ≡ after_fault (fault_of result) (counts_of (8 * self.old.words.lines) self.old.tally) }
         ensures armed { CountsDown (fault_of result) self.old.armed self.new.armed }
-        ensures stopped { Stops (fault_of result) self.old.armed self.old.rows self.new.rows }
-        ensures stored { fault_of result ≡ Option.None → self.new.rows.newest.items
-            ≡ slice_set self.old.rows.newest.items word value }
+        ensures stopped { Stops (fault_of result) self.old.armed self.old.words self.new.words }
+        ensures stored { fault_of result ≡ Option.None → TakesWord word value
+            self.old.words.rows.newest.items self.new.words.rows.newest.items }
     {
         self.begin_step()?;
-        self.rows.store(word, value);
+        if self.words.store(word, value).is_err() {
+            return Err(self.fail());
+        }
         self.count_step();
         Ok(())
     }
@@ -96,16 +102,17 @@ impl<F: Write + Seek + OpenFile> Device<F> {
     ///
     /// Those of `store`.
     pub(crate) fn flush(&mut self, line: u32) -> Result<(), HostFault>
-        requires { line < self.old.rows.lines }
-        ensures cause { counts_of (8 * self.new.rows.lines) self.new.tally
-            ≡ after_fault (fault_of result) (counts_of (8 * self.old.rows.lines) self.old.tally) }
+        requires { line < self.old.words.lines }
+        ensures cause { counts_of (8 * self.new.words.lines) self.new.tally
+            ≡ after_fault (fault_of result) (counts_of (8 * self.old.words.lines) self.old.tally) }
         ensures armed { CountsDown (fault_of result) self.old.armed self.new.armed }
-        ensures stopped { Stops (fault_of result) self.old.armed self.old.rows self.new.rows }
-        ensures marked { fault_of result ≡ Option.None → TakesLine line self.old.rows.newest.items
-            self.old.rows.marked.items self.new.rows.marked.items }
+        ensures stopped { Stops (fault_of result) self.old.armed self.old.words self.new.words }
+        ensures marked { fault_of result ≡ Option.None → TakesLine line
+            self.old.words.rows.newest.items
+            self.old.words.rows.marked.items self.new.words.rows.marked.items }
     {
         self.begin_step()?;
-        self.rows.flush(line);
+        self.words.flush(line);
         self.count_step();
         Ok(())
     }
@@ -116,11 +123,12 @@ impl<F: Write + Seek + OpenFile> Device<F> {
     ///
     /// Those of `store`, and `Failed` where the file could not be written or synced: the next fence writes it again.
     pub(crate) fn fence(&mut self) -> Result<(), HostFault>
-        ensures cause { counts_of (8 * self.new.rows.lines) self.new.tally
-            ≡ after_fault (fault_of result) (counts_of (8 * self.old.rows.lines) self.old.tally) }
+        ensures cause { counts_of (8 * self.new.words.lines) self.new.tally
+            ≡ after_fault (fault_of result) (counts_of (8 * self.old.words.lines) self.old.tally) }
         ensures armed { CountsDown (fault_of result) self.old.armed self.new.armed }
-        ensures stopped { Stops (fault_of result) self.old.armed self.old.rows self.new.rows }
-        ensures durable { fault_of result ≡ Option.None → AreSame self.new.rows.durable.items self.old.rows.marked.items }
+        ensures stopped { Stops (fault_of result) self.old.armed self.old.words self.new.words }
+        ensures durable { fault_of result ≡ Option.None
+            → AreSame self.new.words.rows.durable.items self.old.words.rows.marked.items }
     {
         self.begin_step()?;
         if !self.settle() {
@@ -132,10 +140,10 @@ impl<F: Write + Seek + OpenFile> Device<F> {
 
     /// Loses power at once. Where the file could not be written the next device call fails.
     pub(crate) fn cut(&mut self, pick: u64)
-        ensures counted { counts_of (8 * self.new.rows.lines) self.new.tally
-            ≡ after_loss_of pick (counts_of (8 * self.old.rows.lines) self.old.tally) }
+        ensures counted { counts_of (8 * self.new.words.lines) self.new.tally
+            ≡ after_loss_of pick (counts_of (8 * self.old.words.lines) self.old.tally) }
         ensures armed { self.new.armed ≡ self.old.armed }
-        ensures lost { LosesRows pick self.old.rows self.new.rows }
+        ensures lost { LosesWords pick self.old.words self.new.words }
     {
         self.lose(pick);
         self.tally.loss(pick);
@@ -143,10 +151,10 @@ impl<F: Write + Seek + OpenFile> Device<F> {
 
     /// Arms a cut in the place of one that is armed.
     pub(crate) fn arm(&mut self, steps: u32, pick: u64)
-        ensures counted { counts_of (8 * self.new.rows.lines) self.new.tally
-            ≡ after_arm steps pick (counts_of (8 * self.old.rows.lines) self.old.tally) }
+        ensures counted { counts_of (8 * self.new.words.lines) self.new.tally
+            ≡ after_arm steps pick (counts_of (8 * self.old.words.lines) self.old.tally) }
         ensures armed { self.new.armed ≡ Option.Some (record { steps = steps; pick = pick }) }
-        ensures rows { self.new.rows ≡ self.old.rows }
+        ensures words { self.new.words ≡ self.old.words }
     {
         self.armed = Some(Armed { steps, pick });
         self.tally.arm(steps, pick);
@@ -154,12 +162,12 @@ impl<F: Write + Seek + OpenFile> Device<F> {
 
     // Answers the fault of a power loss that could not be written, once.
     fn pay_fault(&mut self) -> Result<(), HostFault>
-        ensures cause { counts_of (8 * self.new.rows.lines) self.new.tally
-            ≡ after_fault (fault_of result) (counts_of (8 * self.old.rows.lines) self.old.tally) }
+        ensures cause { counts_of (8 * self.new.words.lines) self.new.tally
+            ≡ after_fault (fault_of result) (counts_of (8 * self.old.words.lines) self.old.tally) }
         ensures never_cut { fault_of result ≢ Option.Some HostFault.Cut }
         ensures owed { self.old.owes_fault ≡ true → fault_of result ≡ Option.Some HostFault.Failed }
         ensures paid { self.new.owes_fault ≡ false }
-        ensures rows { self.new.rows ≡ self.old.rows }
+        ensures words { self.new.words ≡ self.old.words }
         ensures armed { self.new.armed ≡ self.old.armed }
     {
         if self.owes_fault {
@@ -171,14 +179,14 @@ impl<F: Write + Seek + OpenFile> Device<F> {
 
     // Begins a device step: it fails where a fault is owed, and is cut where the armed cut falls on it.
     fn begin_step(&mut self) -> Result<(), HostFault>
-        ensures cause { counts_of (8 * self.new.rows.lines) self.new.tally
-            ≡ after_fault (fault_of result) (counts_of (8 * self.old.rows.lines) self.old.tally) }
-        ensures size { self.new.rows.lines ≡ self.old.rows.lines }
+        ensures cause { counts_of (8 * self.new.words.lines) self.new.tally
+            ≡ after_fault (fault_of result) (counts_of (8 * self.old.words.lines) self.old.tally) }
+        ensures size { self.new.words.lines ≡ self.old.words.lines }
         ensures not_due { fault_of result ≡ Option.None → IsDue self.old.armed → ⊥ }
         ensures waits { fault_of result ≢ Option.Some HostFault.Cut → self.new.armed ≡ self.old.armed }
         ensures fires { fault_of result ≡ Option.Some HostFault.Cut → self.new.armed ≡ Option.None }
-        ensures kept { fault_of result ≡ Option.None → self.new.rows ≡ self.old.rows }
-        ensures stopped { Stops (fault_of result) self.old.armed self.old.rows self.new.rows }
+        ensures kept { fault_of result ≡ Option.None → self.new.words ≡ self.old.words }
+        ensures stopped { Stops (fault_of result) self.old.armed self.old.words self.new.words }
     {
         self.pay_fault()?;
         match self.armed {
@@ -193,7 +201,7 @@ impl<F: Write + Seek + OpenFile> Device<F> {
 
     // Counts an armed cut down by a step that was carried out.
     fn count_step(&mut self)
-        ensures rows { self.new.rows ≡ self.old.rows }
+        ensures words { self.new.words ≡ self.old.words }
         ensures tally { self.new.tally ≡ self.old.tally }
         ensures armed { self.new.armed ≡ counted_down self.old.armed }
     {
@@ -202,49 +210,51 @@ impl<F: Write + Seek + OpenFile> Device<F> {
 
     // Loses power: the file takes each line in which a durable word changes.
     fn lose(&mut self, pick: u64)
-        ensures size { self.new.rows.lines ≡ self.old.rows.lines }
+        ensures size { self.new.words.lines ≡ self.old.words.lines }
         ensures tally { self.new.tally ≡ self.old.tally }
         ensures armed { self.new.armed ≡ self.old.armed }
-        ensures lost { LosesRows pick self.old.rows self.new.rows }
+        ensures lost { LosesWords pick self.old.words self.new.words }
     {
-        self.rows.choose(pick);
+        self.words.rows.choose(pick);
         if !self.settle() {
-            self.rows.take_marked();
+            self.words.rows.take_marked();
             self.owes_fault = true;
         }
     }
 
     // Makes what is marked durable once the file has it, or nothing where the file failed, and says which.
     fn settle(&mut self) -> bool
-        ensures size { self.new.rows.lines ≡ self.old.rows.lines }
+        ensures size { self.new.words.lines ≡ self.old.words.lines }
         ensures tally { self.new.tally ≡ self.old.tally }
         ensures armed { self.new.armed ≡ self.old.armed }
-        ensures marked { self.new.rows.marked ≡ self.old.rows.marked }
-        ensures newest { self.new.rows.newest ≡ self.old.rows.newest }
-        ensures written { result ≡ true → AreSame self.new.rows.durable.items self.old.rows.marked.items }
-        ensures unwritten { result ≡ false → self.new.rows.durable ≡ self.old.rows.durable }
+        ensures marked { self.new.words.rows.marked ≡ self.old.words.rows.marked }
+        ensures newest { self.new.words.rows.newest ≡ self.old.words.rows.newest }
+        ensures written { result ≡ true
+            → AreSame self.new.words.rows.durable.items self.old.words.rows.marked.items }
+        ensures unwritten { result ≡ false
+            → self.new.words.rows.durable ≡ self.old.words.rows.durable }
         ensures behind { self.new.is_behind ≡ not result }
     {
         let is_written = self.write();
         if is_written {
-            self.rows.take_marked();
-            self.rows.forget_settled();
+            self.words.rows.take_marked();
+            self.words.rows.forget_settled();
         }
         is_written
     }
 
     // Writes the marked words of the unsettled lines, and says whether the file surely has them.
     fn write(&mut self) -> bool
-        ensures size { self.new.rows.lines ≡ self.old.rows.lines }
+        ensures size { self.new.words.lines ≡ self.old.words.lines }
         ensures tally { self.new.tally ≡ self.old.tally }
         ensures armed { self.new.armed ≡ self.old.armed }
-        ensures durable { self.new.rows.durable ≡ self.old.rows.durable }
-        ensures marked { self.new.rows.marked ≡ self.old.rows.marked }
-        ensures newest { self.new.rows.newest ≡ self.old.rows.newest }
+        ensures durable { self.new.words.rows.durable ≡ self.old.words.rows.durable }
+        ensures marked { self.new.words.rows.marked ≡ self.old.words.rows.marked }
+        ensures newest { self.new.words.rows.newest ≡ self.old.words.rows.newest }
         ensures behind { self.new.is_behind ≡ not result }
     {
-        self.rows.sort_unsettled();
-        let is_written = self.file.write_due(&self.rows, self.is_behind).is_ok();
+        self.words.rows.sort_unsettled();
+        let is_written = self.file.write_due(&self.words, self.is_behind).is_ok();
         self.is_behind = !is_written;
         is_written
     }

@@ -6,12 +6,14 @@ ghost use Rattle.pm_model.specs.Counts.{Counts, counts_of, fresh_counts, after_f
 ghost use Rattle.pm_file.specs.Silence.{silent};
 
 use crate::device::Device;
+use crate::device_words::DeviceWords;
 use crate::script::Script;
 use crate::storage_fault::StorageFault;
 use crate::{device_file, shelf};
 use pm_model::{FileFault, Host, HostFault};
-use pm_rows::DeviceRows;
-use std::alloc::{AllocError, Global};
+use pm_rows::LINE_WORDS;
+use std::alloc::Global;
+use std::fs::File;
 use std::io::{BufReader, Input};
 use std::rt::Files;
 
@@ -30,12 +32,13 @@ pub struct FileHost<R: Files + Input + Print> {
     device: Device<R::File>,
 }
 
-impl<R: Files + Input + Print + Clone + Drop> FileHost<R> {
-    /// Opens the device, which is made of zero words where its file is missing.
+impl<R: Files<File = File> + Input + Print + Clone + Drop> FileHost<R> {
+    /// Opens the device, which is made of zero words where its file is missing. While it is open, its file is locked.
     ///
     /// # Errors
     ///
-    /// `Memory` where memory was refused, `Host(Failed)` where the file could not be opened, made or read.
+    /// `Memory` where memory was refused, `Host(Failed)` where the file could not be opened, made, locked, read or synced,
+    /// as where it is open as a device already.
     pub fn open(runtime: &R, alloc: Global) -> Result<FileHost<R>, FileFault>
         ensures fresh { IfOk result (λ host. ⟦<FileHost<R> as Host>⟧.counts host ≡ fresh_counts 2139648) }
         ensures never_cut { result ≢ Result.Err (FileFault.Host HostFault.Cut) }
@@ -49,26 +52,20 @@ impl<R: Files + Input + Print + Clone + Drop> FileHost<R> {
 
     // Opens the device's file, and begins to read the script.
     fn open_files(runtime: &R, alloc: Global) -> Result<FileHost<R>, StorageFault>
-        ensures { IfOk result (λ host. counts_of (8 * host.device.rows.lines) host.device.tally ≡ fresh_counts 2139648) }
+        ensures { IfOk result (λ host. counts_of (8 * host.device.words.lines) host.device.tally
+            ≡ fresh_counts 2139648) }
     {
         let runtime = runtime.clone()?;
-        let mut words = zeroes(alloc, DEVICE_LINES)?;
+        let mut words = Vec::with_capacity(alloc, DEVICE_LINES as usize * LINE_WORDS)?;
         let file = device_file::open(&runtime, DEVICE_PATH, DEVICE_LINES, &mut words)?;
-        let rows = DeviceRows::new(alloc, DEVICE_LINES, words)?;
+        let words = DeviceWords::new(alloc, DEVICE_LINES, words)?;
         let script = Script::new(alloc, runtime.reader())?;
         Ok(FileHost {
             runtime,
             script,
-            device: Device::new(file, rows),
+            device: Device::new(file, words),
         })
     }
-}
-
-// Lines of zero words.
-fn zeroes(alloc: Global, lines: u32) -> Result<Vec<u64>, AllocError>
-    ensures { IfOk result (λ words. vec_len words ≡ 8 * lines) }
-{
-    vec![in alloc; 0u64; lines as usize * 8]
 }
 
 impl<R: Files + Input + Print + Clone + Drop> Host for FileHost<R> {
@@ -78,10 +75,10 @@ impl<R: Files + Input + Print + Clone + Drop> Host for FileHost<R> {
 
     ghost armed = { λ host. host.device.armed };
 
-    ghost counts = { λ host. counts_of (8 * host.device.rows.lines) host.device.tally };
+    ghost counts = { λ host. counts_of (8 * host.device.words.lines) host.device.tally };
 
     fn words(&self) -> u32 {
-        self.device.rows.words()
+        self.device.words.count()
     }
 
     fn load(&mut self, w: u32) -> Result<u64, HostFault> {

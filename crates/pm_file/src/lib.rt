@@ -4,8 +4,12 @@
 
 mod device;
 mod device_file;
+mod device_words;
+#[cfg(test)]
+mod fake_file;
 mod file_host;
 mod line_run;
+mod reading;
 mod script;
 mod shelf;
 mod storage_fault;

@@ -1,13 +1,14 @@
 //! The shelf: the files `<name>.pud` of the current folder.
-ghost use Rattle.std.specs.Prelude.{◌≤◌, length, vec_len, IfOk, IfSome};
+ghost use Rattle.std.specs.Prelude.{◌≤◌, vec_len, IfOk, IfSome};
 
+use crate::reading::read_once;
 use crate::storage_fault::StorageFault;
 use pm_model::FILE_READ_LIMIT;
 use std::alloc::Global;
+use std::fs;
 use std::fs::OpenFile;
 use std::io::{ErrorKind, Read, Write};
 use std::rt::Files;
-use std::{fs, io};
 
 const PIECE_BYTES: usize = 4_096;
 
@@ -77,16 +78,4 @@ fn read_limited<F: Read>(file: &mut F, alloc: Global) -> Result<Vec<u8>, Storage
         bytes.extend_from_slice(&piece[..count])?;
     }
     Ok(bytes)
-}
-
-fn read_once<F: Read>(file: &mut F, piece: &mut [u8]) -> io::Result<usize>
-    ensures { IfOk result (λ count. count ≤ length piece.new) }
-{
-    for _ in 0..u64::MAX {
-        match file.read(piece) {
-            Err(error) if error.kind() == ErrorKind::Interrupted => {}
-            answer => return answer,
-        }
-    }
-    Ok(0)
 }

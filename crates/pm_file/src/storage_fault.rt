@@ -3,6 +3,7 @@ ghost use Rattle.std.specs.Prelude.{◌≡◌};
 ghost use Rattle.pm_file.specs.declared.storage_fault.StorageFault.TheVariants.{Memory, Failed};
 
 use std::alloc::AllocError;
+use std::fs::TryLockError;
 use std::io;
 
 /// The two causes that the host tells apart.
@@ -10,7 +11,7 @@ use std::io;
 pub(crate) enum StorageFault {
     /// Memory was refused.
     Memory,
-    /// The file could not be opened, made, read, written or synced.
+    /// The file could not be opened, made, locked, read, written or synced.
     Failed,
 }
 
@@ -26,6 +27,14 @@ impl From<io::Error> for StorageFault {
     ghost from_gives = { λ _ fault. fault ≡ Failed };
 
     fn from(_error: io::Error) -> StorageFault {
+        StorageFault::Failed
+    }
+}
+
+impl From<TryLockError> for StorageFault {
+    ghost from_gives = { λ _ fault. fault ≡ Failed };
+
+    fn from(_error: TryLockError) -> StorageFault {
         StorageFault::Failed
     }
 }

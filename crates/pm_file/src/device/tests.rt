@@ -1,91 +1,21 @@
 use super::Device;
 use crate::device_file::DeviceFile;
+use crate::device_words::DeviceWords;
+use crate::fake_file::{BYTES, FakeFile};
 use pm_model::HostFault;
-use pm_rows::DeviceRows;
 use std::alloc::Global;
-use std::fs::{Metadata, OpenFile};
-use std::io;
-use std::io::{ErrorKind, Seek, SeekFrom, Write};
+use std::fs::OpenFile;
+use std::io::{Seek, Write};
 use std::process::Abort;
 
-const BYTES: usize = 1024;
-
-// A file of 16 lines in memory, which refuses to write or to sync when told so.
-#[derive(Drop)]
-struct Fake {
-    bytes: [u8; BYTES],
-    at: usize,
-    refuses_write: bool,
-    refuses_sync: bool,
-}
-
-impl Write for Fake {
-    fn write(&mut self, buf: &[u8]) -> io::Result<usize> {
-        let at = self.at;
-        if self.refuses_write || at > BYTES {
-            return Err(io::Error::from(ErrorKind::Other));
-        }
-        let count = buf.len().min(BYTES - at);
-        self.bytes[at..at + count].copy_from_slice(&buf[..count]);
-        self.at = at + count;
-        Ok(count)
-    }
-
-    fn flush(&mut self) -> io::Result<()> {
-        Ok(())
-    }
-}
-
-impl Seek for Fake {
-    fn seek(&mut self, to: SeekFrom) -> io::Result<u64> {
-        match to {
-            SeekFrom::Start(at) if at <= BYTES as u64 => {
-                self.at = at as usize;
-                Ok(at)
-            }
-            _ => Err(io::Error::from(ErrorKind::InvalidInput)),
-        }
-    }
-}
-
-impl OpenFile for Fake {
-    fn metadata(&self) -> io::Result<Metadata> {
-        Err(io::Error::from(ErrorKind::Unsupported))
-    }
-
-    fn set_len(&self, _size: u64) -> io::Result<()> {
-        Err(io::Error::from(ErrorKind::Unsupported))
-    }
-
-    fn sync_all(&self) -> io::Result<()> {
-        Err(io::Error::from(ErrorKind::Unsupported))
-    }
-
-    fn sync_data(&self) -> io::Result<()> {
-        if self.refuses_sync {
-            Err(io::Error::from(ErrorKind::Other))
-        } else {
-            Ok(())
-        }
-    }
-}
-
-fn fake_device(rt: &impl Abort, alloc: Global) -> Device<Fake> {
-    let words = vec![in alloc; 0u64; 128].expect(rt, "memory");
-    assert!(rt; words.len() == 128);
-    let rows = DeviceRows::new(alloc, 16, words).expect(rt, "memory");
-    let file = Fake {
-        bytes: [0; BYTES],
-        at: 0,
-        refuses_write: false,
-        refuses_sync: false,
-    };
+fn fake_device(rt: &impl Abort, alloc: Global) -> Device<FakeFile> {
+    let words = DeviceWords::new(alloc, 16, Vec::new(alloc)).expect(rt, "memory");
     Device::new(
         DeviceFile {
-            file,
+            file: FakeFile::new([0; BYTES]),
             is_short: false,
         },
-        rows,
+        words,
     )
 }
 
@@ -94,6 +24,7 @@ fn fake_device(rt: &impl Abort, alloc: Global) -> Device<Fake> {
 enum Call {
     /// Stores a word and flushes its line.
     Put(u32, u64),
+    Flush(u32),
     Load(u32),
     Fence,
     Cut(u64),
@@ -129,20 +60,24 @@ fn put<F: Write + Seek + OpenFile>(
     word: u32,
     value: u64,
 ) -> u64 {
-    assert!(rt; word < device.rows.words());
+    assert!(rt; word < device.words.count());
     let stored = done(device.store(word, value));
-    assert!(rt; word / 8 < device.rows.words() / 8);
+    assert!(rt; word / 8 < device.words.count() / 8);
     stored.max(done(device.flush(word / 8)))
 }
 
 fn load<F: Write + Seek + OpenFile>(rt: &impl Abort, device: &mut Device<F>, word: u32) -> u64 {
-    assert!(rt; word < device.rows.words());
+    assert!(rt; word < device.words.count());
     number(device.load(word))
 }
 
-fn answer(rt: &impl Abort, device: &mut Device<Fake>, call: Call) -> u64 {
+fn answer(rt: &impl Abort, device: &mut Device<FakeFile>, call: Call) -> u64 {
     match call {
         Call::Put(word, value) => put(rt, device, word, value),
+        Call::Flush(line) => {
+            assert!(rt; line < device.words.count() / 8);
+            done(device.flush(line))
+        }
         Call::Load(word) => load(rt, device, word),
         Call::Fence => done(device.fence()),
         Call::Cut(pick) => {
@@ -246,4 +181,29 @@ fn a_cut_keeps_values_by_its_pick(rt: HostRuntime) {
         ];
         answers(&rt, rt.alloc(), &rows);
     }
+}
+
+#[test]
+fn a_word_is_zero_until_it_is_stored(rt: HostRuntime) {
+    let rows = [
+        (Call::Load(127), 0),
+        (Call::Put(40, 3), DONE),
+        (Call::Load(127), 0),
+        (Call::Flush(15), DONE),
+        (Call::Put(120, 4), DONE),
+        (Call::Load(41), 0),
+        (Call::Load(127), 0),
+        (Call::Put(127, 5), DONE),
+        (Call::Load(40), 3),
+        (Call::Load(120), 4),
+        (Call::Load(127), 5),
+        (Call::Fence, DONE),
+        (Call::Cut(0), DONE),
+        (Call::Load(40), 3),
+        (Call::Load(127), 5),
+        (Call::Byte(320), 3),
+        (Call::Byte(960), 4),
+        (Call::Byte(1016), 5),
+    ];
+    answers(&rt, rt.alloc(), &rows);
 }
