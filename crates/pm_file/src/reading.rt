@@ -1,5 +1,5 @@
 //! The words of a file, read piece by piece.
-ghost use Rattle.std.specs.Prelude.{◌≡◌, ℕ, ◌+◌, ◌*◌, ◌/◌, ◌<◌, ◌≤◌, ◌^◌, length, take, slice_index, vec_len, IfOk, OnOk};
+ghost use Rattle.std.specs.Prelude.{◌≡◌, ℕ, ◌+◌, ◌*◌, ◌/◌, ◌<◌, ◌≤◌, ◌^◌, true, length, take, slice_index, vec_len, IfOk, OnOk};
 ghost use Rattle.std.specs.Io.KnownBytes.{ReadConsumes};
 ghost use Rattle.pm_file.specs.Reach.{TakesWord};
 ghost use Rattle.pm_file.specs.Spelling.{word_of, Fills, GoesOn, ReadsWords};
@@ -71,6 +71,9 @@ fn take_words(piece: &[u8], first: usize, words: &mut Vec<u64>) -> Result<(), Al
         piece.now words.old.items words.new.items) }
     ensures len { vec_len words.new ≤ first + length piece.now / 8 }
 {
+    if is_blank(piece) {
+        return Ok(());
+    }
     for place in 0..piece.len() / WORD_BYTES {
         let word = word_at(piece, place);
         if word != 0 {
@@ -78,6 +81,17 @@ fn take_words(piece: &[u8], first: usize, words: &mut Vec<u64>) -> Result<(), Al
         }
     }
     Ok(())
+}
+
+// Whether each word of the piece is zero. The loop writes and tests nothing, so that it becomes vector code.
+fn is_blank(piece: &[u8]) -> bool
+    ensures { result ≡ true → (place : ℕ) → place < length piece.now / 8 → word_of piece.now place ≡ 0 }
+{
+    let mut any = 0;
+    for place in 0..piece.len() / WORD_BYTES {
+        any |= word_at(piece, place);
+    }
+    any == 0
 }
 
 fn word_at(piece: &[u8], place: usize) -> u64
