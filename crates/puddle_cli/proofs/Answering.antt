@@ -30,9 +30,10 @@ use Rattle.puddled.specs.declared.daemon.RunFault.TheVariants.{NotSound}
 use Rattle.puddled.specs.Faults.{of_host, run_fault, CountsLine, CountsReply, CountsTurns, Grows}
 use Rattle.puddled.proofs.Counted.{risen_grows, none_is_sound, counted_fault, lost_in_line, CountsTurns-one, CountsTurns-append}
 use Rattle.ready_daemon.specs.Memory.{Memory}
-use Rattle.puddled.specs.Daemon.{KeepsLine, SaysPart, Answers}
-use Rattle.ready_daemon.specs.Ready.{IsReady}
-use Rattle.puddle_cli.specs.Serving.{KeepsScript, IsUnsoundBehindLoss, Takes, TakesAtMost, TakesAll, CountsPending, AnswersLine, Serves, Answered}
+use Rattle.puddled.specs.Saying.{SaysPart}
+use Rattle.puddled.specs.Daemon.{KeepsLine, Answers}
+use Rattle.ready_daemon.specs.Ready.{IsReady, RefusesNone}
+use Rattle.puddle_cli.specs.Serving.{KeepsScript, IsUnsoundBehindLoss, Takes, TakesAtMost, TakesAll, CountsPending, AllowsLogs, AnswersLine, Serves, Answered}
 
 nothing_from_take : (line : List ℕ) → take 129 line ≡ [] → line ≡ []
 nothing_from_take [] e = refl
@@ -92,6 +93,7 @@ AnswersLine-turn size w memory piece line result before after old new some kept 
       lines = sym (lines_among_line line longer);
       is_run = (is_turn_relined w a.turn piece line a.of_line kept a.is_turn, tt);
       moments = a.moments;
+      allowed = a.allowed;
       says = subst (λ (text : List ℕ). SaysPart text (run_fault result) old new) (sym (append-nil (answer_text a.turn.answer))) a.says;
       ready = a.ready;
       counted = counts;
@@ -111,6 +113,7 @@ AnswersLine-nothing size w memory line before after old new ready none uncounted
       lines = sym (lines_among_empty line (ap length (nothing_from_take line none)));
       is_run = tt;
       moments = Leaves-still (StandsWith size w []) old old (λ image picked. (ready_stands size w _ _ ready image picked).0) refl;
+      allowed = Leaves-still (λ bytes image. RefusesNone image) old old (λ image picked. (ready_stands size w _ _ ready image picked).1) refl;
       says = record { bytes = []; rest = []; part = refl; said = sym (append-nil old.now.said); whole = λ _. refl };
       ready = λ _. ready;
       counted = (λ lost. cc, uncounted);
@@ -154,6 +157,11 @@ module _ (size : ℕ) (w : World) (before : Counts) (start : State) (counts : Co
       (λ more image p. StandsWith-later size w s.turns turns more image p)
       so_far line
 
+  joined_allowed : (new : State) → AllowsLogs start read → read.now.said ≡ start.now.said ++ replies_text s.turns → AllowsLogs read new → AllowsLogs start new
+  joined_allowed new so_far said line =
+      let P : List ℕ → Image → Type 0 = λ bytes image. RefusesNone image in
+      Leaves-then P P P (replies_text s.turns) start read new said (λ front image p. p) (λ more image p. p) so_far line
+
   joined_lines : (taken : List ℕ) (ended : Bool) (turns : List Turn) → lines_taken taken ended ≡ lines_taken s.taken false ++ lines_among (open_rest s.taken ∷ [])
       → map (λ t. t.line) turns ≡ lines_among (open_rest s.taken ∷ []) → map (λ t. t.line) (s.turns ++ turns) ≡ lines_taken taken ended
   joined_lines taken ended turns all line =
@@ -163,10 +171,10 @@ module _ (size : ℕ) (w : World) (before : Counts) (start : State) (counts : Co
   pub Answered-line : (next : Memory) (taken : List ℕ) (ended : Bool) (fault : Option RunFault) (after : Counts) (new : State)
       → lines_taken taken ended ≡ lines_taken s.taken false ++ lines_among (open_rest s.taken ∷ [])
       → start.script ≡ taken ++ read.script → (ended ≡ true → read.script ≡ [])
-      → Leaves (StandsWith size w s.turns) start read → read.now.said ≡ start.now.said ++ replies_text s.turns
+      → Leaves (StandsWith size w s.turns) start read → AllowsLogs start read → read.now.said ≡ start.now.said ++ replies_text s.turns
       → (a : AnswersLine size (last_world w s.turns) (open_rest s.taken) fault next read_counts after read new) → (fault ≡ None → ⊥)
       → Answered size w ended fault before after start new
-  Answered-line next taken ended fault after new all script to_end so_far said a faulty =
+  Answered-line next taken ended fault after new all script to_end so_far logs said a faulty =
       record {
         taken = taken;
         answered = s.turns;
@@ -182,6 +190,7 @@ module _ (size : ℕ) (w : World) (before : Counts) (start : State) (counts : Co
         part = a.says.part;
         whole = λ none. absurd (faulty none);
         moments = joined_moments a.turns new so_far said a.moments;
+        allowed = joined_allowed new logs said a.allowed;
         memory = next;
         ready = λ none. absurd (faulty none);
         files = a.files;
@@ -204,6 +213,7 @@ module _ (size : ℕ) (w : World) (before : Counts) (start : State) (counts : Co
   Answered-end next after new same none_left a =
       let said = ap (λ (x : State). x.now.said) same ∙ s.said in
       let so_far = subst (λ (n : State). Leaves (StandsWith size w s.turns) start n) (sym same) s.moments in
+      let logs = subst (λ (n : State). AllowsLogs start n) (sym same) s.allowed in
       let ready_end : IsReady size (last_world w (s.turns ++ a.turns)) next new = subst (λ (v : World). IsReady size v next new) (sym (last_world-append w s.turns a.turns)) (a.ready refl) in
       record {
         taken = s.taken;
@@ -220,6 +230,7 @@ module _ (size : ℕ) (w : World) (before : Counts) (start : State) (counts : Co
         part = refl;
         whole = λ _. refl;
         moments = subst (λ (ts : List Turn). Leaves (StandsWith size w ts) start new) (sym (append-nil (s.turns ++ a.turns))) (joined_moments a.turns new so_far said a.moments);
+        allowed = joined_allowed new logs said a.allowed;
         memory = next;
         ready = λ _. ready_end;
         files = KeepsFiles-still None (last_world w (s.turns ++ a.turns)).shelf new.shelf ready_end.shelf;
@@ -235,6 +246,7 @@ module _ (size : ℕ) (w : World) (before : Counts) (start : State) (counts : Co
   Serves-line next byte after new newline took a =
       let said : read.now.said ≡ start.now.said ++ replies_text s.turns = ap (λ (x : State). x.now.said) took.1 ∙ s.said in
       let so_far : Leaves (StandsWith size w s.turns) start read = subst (λ (n : State). Leaves (StandsWith size w s.turns) start n) (sym took.1) (Leaves-script (StandsWith size w s.turns) read.script start now s.moments) in
+      let logs : AllowsLogs start read = subst (λ (n : State). AllowsLogs start n) (sym took.1) (Leaves-script (λ bytes image. RefusesNone image) read.script start now s.allowed) in
       record {
         taken = s.taken ++ byte ∷ [];
         turns = s.turns ++ a.turns;
@@ -244,6 +256,7 @@ module _ (size : ℕ) (w : World) (before : Counts) (start : State) (counts : Co
         script = s.script ∙ ap (λ (l : List ℕ). s.taken ++ l) (took.0 ∙ ap (λ (l : List ℕ). byte ∷ l) (sym a.script)) ∙ sym (append_assoc s.taken (byte ∷ []) new.script);
         said = all_said_whole a.turns a.says.bytes a.says.rest read new a.says.part (a.says.whole refl) a.says.said said;
         moments = joined_moments a.turns new so_far said a.moments;
+        allowed = joined_allowed new logs said a.allowed;
         ready = subst (λ (v : World). IsReady size v next new) (sym (last_world-append w s.turns a.turns)) (a.ready refl);
         counted = CountsTurns-append s.turns a.turns before read_counts after so_far_counted (a.turns_counted refl);
       }
@@ -256,6 +269,7 @@ module _ (size : ℕ) (w : World) (before : Counts) (start : State) (counts : Co
       (s.script ∙ ap (λ (l : List ℕ). s.taken ++ l) took.0 ∙ sym (append_assoc s.taken (byte ∷ []) read.script))
       (λ e. absurd (let no : false ≡ true = e in cc))
       (subst (λ (n : State). Leaves (StandsWith size w s.turns) start n) (sym took.1) (Leaves-script (StandsWith size w s.turns) read.script start now s.moments))
+      (subst (λ (n : State). AllowsLogs start n) (sym took.1) (Leaves-script (λ bytes image. RefusesNone image) read.script start now s.allowed))
       (ap (λ (x : State). x.now.said) took.1 ∙ s.said)
       a (λ none. let no : Some fault ≡ None = none in cc)
 
@@ -267,6 +281,7 @@ module _ (size : ℕ) (w : World) (before : Counts) (start : State) (counts : Co
       (s.script ∙ ap (λ (x : State). s.taken ++ x.script) (sym same))
       (λ _. ap (λ (x : State). x.script) same ∙ none_left)
       (subst (λ (n : State). Leaves (StandsWith size w s.turns) start n) (sym same) s.moments)
+      (subst (λ (n : State). AllowsLogs start n) (sym same) s.allowed)
       (ap (λ (x : State). x.now.said) same ∙ s.said)
       a (λ none. let no : Some fault ≡ None = none in cc)
 
@@ -288,6 +303,7 @@ module _ (size : ℕ) (w : World) (before : Counts) (start : State) (counts : Co
         part = refl;
         whole = λ _. refl;
         moments = subst (λ (ts : List Turn). Leaves (StandsWith size w ts) start now) (sym (append-nil s.turns)) s.moments;
+        allowed = s.allowed;
         memory = memory;
         ready = λ _. s.ready;
         files = KeepsFiles-still None (last_world w s.turns).shelf now.shelf s.ready.shelf;
@@ -309,6 +325,7 @@ module _ (size : ℕ) (w : World) (before : Counts) (start : State) (counts : Co
         script = s.script ∙ ap (λ (l : List ℕ). s.taken ++ l) took.0 ∙ sym (append_assoc s.taken (byte ∷ []) read.script);
         said = ap (λ (x : State). x.now.said) took.1 ∙ s.said;
         moments = subst (λ (n : State). Leaves (StandsWith size w s.turns) start n) (sym took.1) (Leaves-script (StandsWith size w s.turns) read.script start now s.moments);
+        allowed = subst (λ (n : State). AllowsLogs start n) (sym took.1) (Leaves-script (λ bytes image. RefusesNone image) read.script start now s.allowed);
         ready = subst (λ (n : State). IsReady size (last_world w s.turns) memory n) (sym took.1) (IsReady-script size (last_world w s.turns) memory read.script now s.ready);
         counted = so_far_counted;
       }
@@ -325,6 +342,7 @@ Serves-start size w memory before start now same ready =
       script = refl;
       said = sym (append-nil start.now.said);
       moments = Leaves-still (StandsWith size w []) start start (λ image picked. (ready_stands size w _ _ ready image picked).0) refl;
+      allowed = Leaves-still (λ bytes image. RefusesNone image) start start (λ image picked. (ready_stands size w _ _ ready image picked).1) refl;
       ready = ready;
       counted = refl;
     })

@@ -18,16 +18,17 @@ use Rattle.ready_daemon.proofs.Beside.{ready_stands}
 use Rattle.pud_defs.proofs.Changing.{KeepsFiles-still, KeepsUnwritable-still, KeepsUnwritable-then, KeepsUnwritable-none}
 use Rattle.pud_defs.proofs.Lines.{newlines-append, newlines_part, lines_taken-nothing}
 use Rattle.pud_defs.proofs.Stands.{StandsBehind-closed, StandsBehind-after}
-use Rattle.recover.specs.Recovery.{DiffersByRecovery}
+use Rattle.recover.specs.Recovery.{RefusesSame}
 use Rattle.puddled.specs.declared.daemon.RunFault.{RunFault}
 use Rattle.puddled.specs.declared.daemon.RunFault.TheVariants as faults
 use Rattle.puddled.specs.Faults.{risen_by, RoseBy, last_fault, CountsTurns}
+use Rattle.puddled.proofs.Beginning.{lines_of_start}
 use Rattle.puddled.proofs.Counted.{risen_by-more, CountsTurns-cuts, counted_ends, cuts_of_ends, lost_in_restart, cuts_after_fault}
 use Rattle.puddled.specs.declared.daemon.StartFault.{StartFault}
 use Rattle.puddled.specs.declared.daemon.StartFault.TheVariants as starts
 use Rattle.ready_daemon.specs.Memory.{Memory}
-use Rattle.ready_daemon.specs.Ready.{KeepsRest, IsReady}
-use Rattle.puddled.specs.Daemon.{Starts}
+use Rattle.ready_daemon.specs.Ready.{KeepsInput, IsReady, RefusesNone}
+use Rattle.puddled.specs.Starting.{DiffersByStart, refused_text, StandsInStart, Starts}
 use Rattle.puddle_cli.specs.declared.status.TheConstants.{DONE, POWER_LOST, TOO_LONG}
 use Rattle.puddle_cli.specs.Status.{status_fault, run_fault_at, status_at, IsStatusOfMode}
 use Rattle.puddle_cli.specs.Serving.{TakesBy, CountsPending, Answered, AnsweredBy}
@@ -77,16 +78,34 @@ module _ (size : ℕ) (w : World) (start : State) (rested : IsRested start.now.w
   start_moments turns result now s =
       Leaves-weaker _ _ start now
       (λ bytes image m.
-      let part = newlines_part bytes m.0.rest in
-      let whole = ap newlines (sym m.0.is) in
-      StandsBehind-closed (newlines text) size w turns (newlines bytes) image (omega arith) m.1) s.moments
+      let part = newlines_part bytes m.part.rest in
+      let whole = ap newlines (sym m.part.is) in
+      StandsBehind-closed (newlines text) size w turns (newlines bytes) image (omega arith) m.stands) s.moments
 
-  -- until its text is said whole an image differs from what was read only where a recovery may write
-  start_rights : (result : Result Memory StartFault) (now : State) → Starts size w result start now
-      → Leaves (λ bytes image. newlines bytes < newlines text → DiffersByRecovery w.stored.frames (reads start.now.words) image) start now
-  start_rights result now s =
-      Leaves-weaker (λ bytes image. DiffersByRecovery w.stored.frames (reads start.now.words) image) (λ bytes image. newlines bytes < newlines text → DiffersByRecovery w.stored.frames (reads start.now.words) image) start now
-      (λ bytes image m few. m) s.rights
+  -- until its text is said whole an image differs from what was read only where a start may write
+  abbrev Rights : List ℕ → Image → Type 0
+  Rights said image = newlines said < newlines text → DiffersByStart w.stored.frames (reads start.now.words) image
+
+  -- until each log that is refused is told of it is refused still
+  abbrev Untold : List ℕ → Image → Type 0
+  Untold said image = newlines said < newlines (refused_text (reads start.now.words)) → RefusesSame w.stored.frames (reads start.now.words) image
+
+  -- once it is said whole no registered log is refused
+  abbrev Allowed : List ℕ → Image → Type 0
+  Allowed said image = newlines text ≤ newlines said → RefusesNone image
+
+  start_rights : (result : Result Memory StartFault) (now : State) → Starts size w result start now → Leaves Rights start now
+  start_rights result now s = Leaves-weaker (StandsInStart size w (reads start.now.words)) Rights start now (λ bytes image m few. m.rights) s.moments
+
+  start_untold : (result : Result Memory StartFault) (now : State) → Starts size w result start now → Leaves Untold start now
+  start_untold result now s = Leaves-weaker (StandsInStart size w (reads start.now.words)) Untold start now (λ bytes image m few. m.untold few) s.moments
+
+  start_allowed : (result : Result Memory StartFault) (now : State) → Starts size w result start now → Leaves Allowed start now
+  start_allowed result now s = Leaves-weaker (StandsInStart size w (reads start.now.words)) Allowed start now (λ bytes image m whole. m.allowed whole) s.moments
+
+  -- the lines on refused logs are fewer than those of the text
+  fewer_lines : newlines (refused_text (reads start.now.words)) ≤ newlines text
+  fewer_lines = lines_of_start (reads start.now.words)
 
   -- the host failed within the start, or power was lost in it
   pub Headline-in_start : (fault : HostFault) (status : ℕ) (before after : Counts) (now : State) → IsStatusOfMode status → status_fault status ≡ Some fault
@@ -122,7 +141,9 @@ module _ (size : ℕ) (w : World) (start : State) (rested : IsRested start.now.w
         };
         moments = record {
           stands = Leaves-each (λ said image. StandsBehind (newlines text) size w [] (newlines said) image) start now (start_moments [] (Err (starts.Host fault)) now s);
-          rights = Leaves-each (λ said image. newlines said < newlines text → DiffersByRecovery w.stored.frames (reads start.now.words) image) start now (start_rights (Err (starts.Host fault)) now s);
+          rights = Leaves-each Rights start now (start_rights (Err (starts.Host fault)) now s);
+          untold = Leaves-each Untold start now (start_untold (Err (starts.Host fault)) now s);
+          allowed = Leaves-each Allowed start now (start_allowed (Err (starts.Host fault)) now s);
         };
         counted = record {
           mid = before;
@@ -191,10 +212,12 @@ module _ (size : ℕ) (w : World) (start : State) (rested : IsRested start.now.w
               (λ more image p. subst (λ (n : ℕ). StandsBehind (newlines text) size w (a.answered ++ a.pending) n image)
               (sym (newlines-append text more)) (StandsBehind-after (newlines text) size w (a.answered ++ a.pending) (newlines more) image p))
               (start_moments (a.answered ++ a.pending) (Ok memory) mid s) a.moments);
-          rights =
-              let R : List ℕ → Image → Type 0 = λ said image. newlines said < newlines text → DiffersByRecovery w.stored.frames (reads start.now.words) image in
-              Leaves-each R start now (Leaves-then R (StandsWith size w (a.answered ++ a.pending)) R text start mid now first (λ front image p. p)
+          rights = Leaves-each Rights start now (Leaves-then Rights (StandsWith size w (a.answered ++ a.pending)) Rights text start mid now first (λ front image p. p)
               (λ more image p. λ few. let count = newlines-append text more in absurd (omega arith)) (start_rights (Ok memory) mid s) a.moments);
+          untold = Leaves-each Untold start now (Leaves-then Untold (StandsWith size w (a.answered ++ a.pending)) Untold text start mid now first (λ front image p. p)
+              (λ more image p. λ few. let count = newlines-append text more in let fewer = fewer_lines in absurd (omega arith)) (start_untold (Ok memory) mid s) a.moments);
+          allowed = Leaves-each Allowed start now (Leaves-then Allowed (λ bytes image. RefusesNone image) Allowed text start mid now first (λ front image p. p)
+              (λ more image p. λ whole. p) (start_allowed (Ok memory) mid s) a.allowed);
         };
         counted = record {
           mid = a.mid;
@@ -244,7 +267,7 @@ module _ (size : ℕ) (begun after : Counts) (memory : Memory) (start mid now : 
 -- ---- the bytes taken, whatever the device holds
 
 -- before the start was said whole nothing is taken
-pub TakesScript-unstarted : (status : ℕ) (start end : State) → KeepsRest start end → (run_fault_at status ≡ None → ⊥) → TakesScript status start end
+pub TakesScript-unstarted : (status : ℕ) (start end : State) → KeepsInput start end → (run_fault_at status ≡ None → ⊥) → TakesScript status start end
 TakesScript-unstarted status start end kept faulty = record {
   taken = [];
   script = sym kept.script;
@@ -257,7 +280,7 @@ TakesScript-unstarted status start end kept faulty = record {
 }
 
 -- behind it what the loop over the script took
-pub TakesScript-served : (served : Result Bool RunFault) (start mid end : State) → KeepsRest start mid → TakesBy served mid end → TakesScript (status_by served) start end
+pub TakesScript-served : (served : Result Bool RunFault) (start mid end : State) → KeepsInput start mid → TakesBy served mid end → TakesScript (status_by served) start end
 TakesScript-served (Ok true) start mid end kept t =
     let files = KeepsUnwritable-then start.shelf mid.shelf end.shelf (KeepsUnwritable-still start.shelf mid.shelf kept.shelf) t.files in
     let below = t.below in

@@ -31,7 +31,8 @@ use Rattle.ready_daemon.proofs.Beside.{ready_stands}
 use Rattle.puddled.specs.declared.daemon.StartFault.{StartFault}
 use Rattle.puddled.specs.declared.daemon.StartFault.TheVariants as starts
 use Rattle.ready_daemon.specs.Memory.{Memory}
-use Rattle.puddled.specs.Daemon.{SaysPart, IsReplayed, Starts}
+use Rattle.puddled.specs.Saying.{SaysPart}
+use Rattle.puddled.specs.Starting.{IsReplayed, Starts}
 use Rattle.puddled.proofs.Lines.{SaysPart-says}
 use Rattle.puddle_cli.specs.declared.show.View.{View}
 use Rattle.puddle_cli.specs.declared.show.View.TheVariants.{Layout, Check}
@@ -145,7 +146,7 @@ module _ (size : ℕ) (s : StoredWorld) (old : State) where
   world_at start = record { stored = s; clients = no_clients; shelf = start.shelf; transactions = nothing_open }
 
   pub Leaves-start : (result : Result Memory StartFault) (new : State) → Starts size (world_at old) result old new → Leaves (λ bytes image. world_of size image ≡ Some s) old new
-  Leaves-start result new p = Leaves-weaker _ _ old new (λ bytes image m. m.1) p.moments
+  Leaves-start result new p = Leaves-weaker _ _ old new (λ bytes image m. m.stands) p.moments
 
   pub Leaves-shown : (memory : Memory) (mid new : State) (text : List ℕ) (fault : Option HostFault) → Starts size (world_at old) (Ok memory) old mid → Says text fault mid new → Leaves (λ bytes image. world_of size image ≡ Some s) old new
   Leaves-shown memory mid new text fault p says =

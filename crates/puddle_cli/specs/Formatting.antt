@@ -11,7 +11,7 @@ use Rattle.pud_defs.specs.Image.{Image}
 use Rattle.pud_defs.specs.Registry.{has_magic}
 use Rattle.pud_defs.specs.World.{world_of, blank_world, IsBlank}
 use Rattle.pud_defs.specs.Texts.{formatted_text}
-use Rattle.puddled.specs.Daemon.{SaysPart}
+use Rattle.puddled.specs.Saying.{SaysPart}
 use Rattle.puddle_cli.specs.declared.format.TheConstants.{FIRST_NUMBER}
 
 -- formatting is refused: the device is formatted already, or has too few words

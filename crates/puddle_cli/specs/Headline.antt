@@ -13,8 +13,10 @@ use Rattle.pud_defs.specs.Texts.{replies_text}
 use Rattle.pud_defs.specs.StartText.{start_text}
 use Rattle.pud_defs.specs.Stands.{StandsBehind}
 use Rattle.puddle_cli.specs.declared.status.TheConstants.{DONE, POWER_LOST, TOO_LONG}
-use Rattle.recover.specs.Recovery.{DiffersByRecovery}
-use Rattle.puddled.specs.Daemon.{IsPart}
+use Rattle.recover.specs.Recovery.{RefusesSame}
+use Rattle.ready_daemon.specs.Ready.{RefusesNone}
+use Rattle.puddled.specs.Saying.{IsPart}
+use Rattle.puddled.specs.Starting.{DiffersByStart, refused_text}
 use Rattle.puddled.specs.Faults.{risen_by, RoseBy, is_loss, CountsTurns}
 use Rattle.puddle_cli.specs.Status.{status_fault, run_fault_at}
 use Rattle.puddle_cli.specs.Serving.{CountsPending, file_under_way}
@@ -69,12 +71,16 @@ pub record RunExit (size : ℕ) (w : World) (status : ℕ) (start end : State) (
   pub shelf_of_run : run_fault_at status ≡ None → end.shelf ≡ (last_world w run.answered).shelf
 
 -- Every moment of a run: what an image stands for that may have been left since the start of the call, by the bytes said since then. The lines
--- of the start's text come first. Until they are whole an image differs from what the device read only where a recovery may write: what the
--- daemon log names, what logs give whose owners may write all that they name, their gates, the daemon log and the log-space table.
+-- of the start's text come first. Until they are whole an image differs from what the device read only where a start may write: what the
+-- daemon log names, what logs give whose owners may write all that they name, their gates, the daemon log and the log-space table. Until each
+-- log that is refused is told of it is refused still; and once they are whole no registered log is refused.
 pub record RunMoments (size : ℕ) (w : World) (start end : State) (run : ScriptRun w start end) : Type 0 where
   pub stands : (said : List ℕ) (image : Image) → MayLeave start end said image → StandsBehind (newlines (start_text (reads start.now.words))) size w (run.answered ++ run.pending) (newlines said) image
   pub rights : (said : List ℕ) (image : Image) → MayLeave start end said image → newlines said < newlines (start_text (reads start.now.words))
-      → DiffersByRecovery w.stored.frames (reads start.now.words) image
+      → DiffersByStart w.stored.frames (reads start.now.words) image
+  pub untold : (said : List ℕ) (image : Image) → MayLeave start end said image → newlines said < newlines (refused_text (reads start.now.words))
+      → RefusesSame w.stored.frames (reads start.now.words) image
+  pub allowed : (said : List ℕ) (image : Image) → MayLeave start end said image → newlines (start_text (reads start.now.words)) ≤ newlines said → RefusesNone image
 
 -- how many cuts are counted where the restart behind the line under way was cut off: that one, and one in the line, unless it asks for the loss
 abbrev pub cuts_lost : List Turn → ℕ

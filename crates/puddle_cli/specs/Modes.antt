@@ -9,8 +9,8 @@ use Rattle.pud_defs.specs.Settled.{settled}
 use Rattle.pud_defs.specs.Registry.{frames_of}
 use Rattle.pud_defs.specs.StartText.{start_text}
 use Rattle.pud_defs.specs.World.{StoredWorld, World, no_clients, nothing_open, world_of, closed}
-use Rattle.ready_daemon.specs.Ready.{KeepsRest}
-use Rattle.puddled.specs.Daemon.{SaysPart}
+use Rattle.ready_daemon.specs.Ready.{KeepsInput}
+use Rattle.puddled.specs.Saying.{SaysPart}
 use Rattle.command_line.specs.declared.modes.Mode.{Mode}
 use Rattle.command_line.specs.declared.modes.Mode.TheVariants.{Format, Run, Layout, Check}
 use Rattle.puddle_cli.specs.declared.status.TheConstants.{DONE, USAGE, NOT_USABLE, TOO_LONG}
@@ -59,7 +59,7 @@ pub record Shows (text : Image → List ℕ) (status : ℕ) (before after : Coun
   pub says : IsRested old.now.words → status ≢ NOT_USABLE → SaysPart (start_text (reads old.now.words) ++ text (settled (frames_of (reads old.now.words)) (reads old.now.words))) (status_fault status) old new
   pub in_the_end : IsRested old.now.words → status ≡ DONE → text (reads new.now.words) ≡ text (settled (frames_of (reads old.now.words)) (reads old.now.words))
   pub moments : IsRested old.now.words → (s : StoredWorld) → world_of before.size (reads old.now.words) ≡ Some s → Leaves (λ bytes image. world_of before.size image ≡ Some s) old new
-  pub rest : KeepsRest old new
+  pub rest : KeepsInput old new
 
 -- The statuses of each mode, and what a mode without lines counts: over words that are no mode nothing, and else the host's one fault.
 abbrev pub EndsBy : Option Mode → ℕ → Counts → Counts → Type 0

@@ -15,8 +15,8 @@ use Rattle.puddled.specs.declared.daemon.RunFault.{RunFault}
 use Rattle.puddled.specs.declared.daemon.RunFault.TheVariants.{CutInStart, NotSound}
 use Rattle.puddled.specs.Faults.{last_fault, CountsLine, CountsTurns}
 use Rattle.ready_daemon.specs.Memory.{Memory}
-use Rattle.ready_daemon.specs.Ready.{IsReady}
-use Rattle.puddled.specs.Daemon.{SaysPart}
+use Rattle.ready_daemon.specs.Ready.{IsReady, RefusesNone}
+use Rattle.puddled.specs.Saying.{SaysPart}
 use Rattle.puddle_cli.specs.declared.piece.TheConstants.{KEPT}
 
 -- the bytes left to read stay, and each file that no line may write
@@ -73,6 +73,10 @@ abbrev pub file_under_way : List Turn → Option (List ℕ)
 file_under_way [] = None
 file_under_way (t ∷ turns) = file_in (command_of t.line)
 
+-- in no image left at any moment a registered log is refused
+abbrev pub AllowsLogs : State → State → Type 0
+AllowsLogs old new = Leaves (λ bytes image. RefusesNone image) old new
+
 -- A line was answered: by no turn where it is empty, else by one turn of the machine, whose reply is said whole without a fault.
 pub record AnswersLine (size : ℕ) (w : World) (line : List ℕ) (fault : Option RunFault) (memory : Memory) (before after : Counts) (old new : State) : Type 0 where
   pub turns : List Turn
@@ -80,6 +84,7 @@ pub record AnswersLine (size : ℕ) (w : World) (line : List ℕ) (fault : Optio
   pub lines : map (λ t. t.line) turns ≡ lines_among (line ∷ [])
   pub is_run : IsRun w turns
   pub moments : Leaves (StandsWith size w turns) old new
+  pub allowed : AllowsLogs old new
   pub says : SaysPart (replies_text turns) fault old new
   pub ready : fault ≡ None → IsReady size (last_world w turns) memory new
   pub counted : CountsPending turns fault before after
@@ -99,6 +104,7 @@ pub record Serves (size : ℕ) (w : World) (before : Counts) (start : State) (co
   pub script : start.script ≡ taken ++ now.script
   pub said : now.now.said ≡ start.now.said ++ replies_text turns
   pub moments : Leaves (StandsWith size w turns) start now
+  pub allowed : AllowsLogs start now
   pub ready : IsReady size (last_world w turns) memory now
   pub counted : CountsTurns turns before counts
 
@@ -120,6 +126,7 @@ pub record Answered (size : ℕ) (w : World) (ended : Bool) (fault : Option RunF
   pub part : replies_text pending ≡ more ++ rest
   pub whole : fault ≡ None → pending ≡ []
   pub moments : Leaves (StandsWith size w (answered ++ pending)) start now
+  pub allowed : AllowsLogs start now
   pub memory : Memory
   pub ready : fault ≡ None → IsReady size (last_world w answered) memory now
   pub files : KeepsFiles (file_under_way pending) (last_world w answered).shelf now.shelf

@@ -24,21 +24,17 @@ use Rattle.puddled.specs.declared.answers.Answered.{Answered}
 use Rattle.puddled.specs.declared.answers.Answered.TheVariants as answers
 use Rattle.puddled.specs.Answered.{as_answered}
 use Rattle.ready_daemon.specs.Ready.{KeepsRest, IsReady, Applies, ClosesBefore, ClosesLogs}
-use Rattle.puddled.specs.Daemon.{KeepsLine, CarriesOut}
+use Rattle.puddled.specs.Daemon.{KeepsAllBut, CarriesOut}
 use Rattle.ready_daemon.proofs.Applying.{Applies-idle}
 
--- where nothing happened the rest stays
-pub keeps_still : (old new : State) → new ≡ old → KeepsRest old new
-keeps_still old new same = record { script = ap (λ (s : State). s.script) same; shelf = ap (λ (s : State). s.shelf) same }
-
 -- what keeps the shelf keeps each file
-pub keeps_line : (file : Option (List ℕ)) (old new : State) → KeepsRest old new → KeepsLine file old new
-keeps_line file old new k = record { script = k.script; files = KeepsFiles-still file old.shelf new.shelf k.shelf }
+pub keeps_line : (file : Option (List ℕ)) (old new : State) → KeepsRest old new → KeepsAllBut file old new
+keeps_line file old new k = record { quiet = k.quiet; script = k.script; files = KeepsFiles-still file old.shelf new.shelf k.shelf }
 
-pub KeepsLine-then : (file : Option (List ℕ)) (a b c : State) → KeepsLine file a b → KeepsRest b c → KeepsLine file a c
-KeepsLine-then file a b c p k =
+pub KeepsAllBut-then : (file : Option (List ℕ)) (a b c : State) → KeepsAllBut file a b → KeepsRest b c → KeepsAllBut file a c
+KeepsAllBut-then file a b c p k =
     let q = keeps_line file b c k in
-    record { script = q.script ∙ p.script; files = KeepsFiles-then file a.shelf b.shelf c.shelf p.files q.files }
+    record { quiet = q.quiet ∙ p.quiet; script = q.script ∙ p.script; files = KeepsFiles-then file a.shelf b.shelf c.shelf p.files q.files }
 
 -- ---- commands that are never refused
 

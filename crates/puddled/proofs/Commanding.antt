@@ -33,7 +33,8 @@ use Rattle.ready_daemon.specs.KnownPools.{KnowsPools}
 use Rattle.ready_daemon.specs.Memory.{Held, Memory, held_under}
 use Rattle.ready_daemon.proofs.Applying.{Applies-failed, Applies-refused, IsReady-beside}
 use Rattle.ready_daemon.proofs.Beside.{ready_stands}
-use Rattle.puddled.proofs.Carrying.{keeps_still, ClosesLogs-other, CarriesOut-plain}
+use Rattle.ready_daemon.proofs.Keeping.{KeepsRest-still}
+use Rattle.puddled.proofs.Carrying.{ClosesLogs-other, CarriesOut-plain}
 use Rattle.ready_daemon.proofs.JudgedOpen.{KnowsPools-read}
 
 -- ---- what is known of pools
@@ -70,13 +71,13 @@ module _ (size : ℕ) (w : World) (memory : Memory) (first last : Counts) (old n
   pub CarriesOut-refused : (r : Refusal) → refusal_of w c ≡ Some r → last ≡ first → CarriesOut size w memory (Some c) (as_answered (Ok (replies.No r))) first last old new
   CarriesOut-refused r refused cause =
       CarriesOut-plain size w memory first last old new c (Ok (replies.No r)) plain.kind plain.file (sym (refused_answer w c r refused))
-      (Applies-refused size w memory c r old new ready_before refused same) (ClosesLogs-other w (Some c) old new plain.stays) (keeps_still old new same) cause
+      (Applies-refused size w memory c r old new ready_before refused same) (ClosesLogs-other w (Some c) old new plain.stays) (KeepsRest-still old new same) cause
 
   -- one of them failed
   pub CarriesOut-unread : (fault : HostFault) → (Some fault ≡ Some Cut → ⊥) → last ≡ after_fault (Some fault) first → CarriesOut size w memory (Some c) (as_answered (Err fault)) first last old new
   CarriesOut-unread fault never_cut cause =
       CarriesOut-plain size w memory first last old new c (Err fault) plain.kind plain.file tt
-      (Applies-failed size w (world_by w (Some c)) memory fault old new ready_before same never_cut) (ClosesLogs-other w (Some c) old new plain.stays) (keeps_still old new same) cause
+      (Applies-failed size w (world_by w (Some c)) memory fault old new ready_before same never_cut) (ClosesLogs-other w (Some c) old new plain.stays) (KeepsRest-still old new same) cause
 
 -- behind calls that read it is carried out
 module _ (size : ℕ) (w : World) (memory : Memory) (first mid last : Counts) (a b d : State) (c : Command) (plain : IsPlain c) (free : refusal_of w c ≡ None) (same : b ≡ a) (counted : mid ≡ first)

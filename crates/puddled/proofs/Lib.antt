@@ -3,10 +3,11 @@ pub mod Readable
 pub mod RefusedLines
 pub mod Entering
 pub mod Counted
+pub mod Emptied
 pub mod Restarts
 pub mod Carrying
 pub mod Commanding
 pub mod Listed
 pub mod Settling
 pub mod Lines
-pub mod Started
+pub mod Beginning

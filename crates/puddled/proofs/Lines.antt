@@ -11,35 +11,32 @@ use Rattle.pm_model.proofs.Leaves.{Leaves-then, Leaves-weaker, Leaves-now, Leave
 use Rattle.pm_model.proofs.Said.{words-all_said, said-all_said, script-all_said, shelf-all_said}
 use Rattle.pud_defs.specs.Spaces.{owner_of}
 use Rattle.pud_defs.specs.Image.{Image}
-use Rattle.pud_defs.specs.World.{World, world_of, closed, restart}
+use Rattle.pud_defs.specs.World.{World, world_of, closed}
 use Rattle.pud_defs.specs.Grammar.{command_of}
 use Rattle.pud_defs.specs.Step.{Answer}
 use Rattle.pud_defs.specs.Run.{Turn, IsTurn, cuts_of, newlines}
 use Rattle.pud_defs.specs.Texts.{answer_text, begins_with_ok}
-use Rattle.pud_defs.specs.StartText.{start_text}
 use Rattle.pud_defs.specs.Stands.{StandsAfter, StandsWith}
 use Rattle.pud_defs.proofs.Lines.{newlines_part}
 use Rattle.pud_defs.proofs.Said.{newlines-answer_text}
 use Rattle.batch.specs.Tables.{HasDurableTables}
 use Rattle.batch.specs.Worlds.{IsSettled}
-use Rattle.recover.specs.Recovery.{DiffersByRecovery}
 use Rattle.puddled.specs.declared.daemon.RunFault.{RunFault}
 use Rattle.puddled.specs.declared.daemon.RunFault.TheVariants.{NotSound}
 use Rattle.ready_daemon.specs.Memory.{Memory}
 use Rattle.ready_daemon.specs.KnownPools.{KnowsPools}
 use Rattle.puddled.specs.declared.answers.Answered.{Answered}
 use Rattle.puddled.specs.Answered.{answer_of, said_text}
-use Rattle.puddled.specs.declared.daemon.StartFault.{StartFault}
-use Rattle.puddled.specs.declared.daemon.StartFault.TheVariants as starts
-use Rattle.puddled.specs.Faults.{start_fault, run_fault, CountsLine}
+use Rattle.puddled.specs.Faults.{run_fault, CountsLine}
 use Rattle.pm_model.specs.Masks.{masked}
 use Rattle.ready_daemon.specs.Held.{Holds, HasDurableFrames, HasIdleLogs}
 use Rattle.ready_daemon.proofs.Beside.{ready_stands}
-use Rattle.ready_daemon.specs.Ready.{KeepsRest, IsReady, IsClosedIfFree, ClosesFirst, ClosesLogs, RefusesNone}
-use Rattle.puddled.specs.Daemon.{KeepsLine, IsPart, EndsIn, SaysPart, Recovers, Settles, Starts, spoken, Answers}
+use Rattle.ready_daemon.specs.Ready.{KeepsRest, KeepsInput, IsReady, IsClosedIfFree, ClosesFirst, ClosesLogs, RefusesNone}
+use Rattle.puddled.specs.Saying.{EndsIn, SaysPart}
+use Rattle.puddled.specs.Daemon.{KeepsAllBut, KeepsLine, Settles, spoken, SaysAnswer, Answers}
 use Rattle.puddled.proofs.Listed.{said_when_ready}
 use Rattle.puddled.proofs.Settling.{Between}
-use Rattle.puddled.proofs.Carrying.{KeepsLine-then}
+use Rattle.pud_defs.proofs.Changing.{KeepsFiles-still, KeepsFiles-then}
 
 some_is_not_none : (fault : HostFault) → Some fault ≡ None → ⊥
 some_is_not_none fault e = cc
@@ -59,11 +56,15 @@ pub SaysPart-nothing : (text : List ℕ) (fault : HostFault) (old new : State) �
 SaysPart-nothing text fault old new quiet =
     record { bytes = []; rest = text; part = refl; said = quiet ∙ sym (append-nil old.now.said); whole = λ none. absurd (some_is_not_none fault none) }
 
--- without a fault it was said last
-said_last : (text : List ℕ) (old new : State) → Says text None old new → EndsIn text new.now.said
-said_last text old new says =
+-- without a fault all of it was said
+pub said_all : (text : List ℕ) (old new : State) → Says text None old new → new.now.said ≡ old.now.said ++ text
+said_all text old new says =
     let p = SaysPart-says text None old new says in
-    record { front = old.now.said; is = p.said ∙ ap (λ (l : List ℕ). old.now.said ++ l) (sym (p.part ∙ ap (λ (l : List ℕ). p.bytes ++ l) (p.whole refl) ∙ append-nil p.bytes)) }
+    p.said ∙ ap (λ (l : List ℕ). old.now.said ++ l) (sym (p.part ∙ ap (λ (l : List ℕ). p.bytes ++ l) (p.whole refl) ∙ append-nil p.bytes))
+
+-- and it was said last
+said_last : (text : List ℕ) (old new : State) → Says text None old new → EndsIn text new.now.said
+said_last text old new says = record { front = old.now.said; is = said_all text old new says }
 
 pub answer_last : (frames : ℕ) (image : Image) (answered answer : Answered) (old new : State) → answered ≡ answer → Says (said_text frames image answered) None old new → EndsIn (said_text frames image answer) new.now.said
 answer_last frames image answered answer old new is says = said_last (said_text frames image answer) old new (subst (λ (a : Answered). Says (said_text frames image a) None old new) is says)
@@ -80,7 +81,7 @@ script_said text fault old new s = ap (λ (x : State). x.script) s.is ∙ script
 pub shelf_said : (text : List ℕ) (fault : Option HostFault) (old new : State) → Says text fault old new → new.shelf ≡ old.shelf
 shelf_said text fault old new s = ap (λ (x : State). x.shelf) s.is ∙ shelf-all_said (take s.count text) old
 
-IsReady-said : (size : ℕ) (w : World) (memory : Memory) (old new : State) → new.now.words ≡ old.now.words → new.shelf ≡ old.shelf → IsReady size w memory old → IsReady size w memory new
+pub IsReady-said : (size : ℕ) (w : World) (memory : Memory) (old new : State) → new.now.words ≡ old.now.words → new.shelf ≡ old.shelf → IsReady size w memory old → IsReady size w memory new
 IsReady-said size w memory old new words shelf ready =
     record {
       mask = ready.mask;
@@ -95,50 +96,6 @@ IsReady-said size w memory old new words shelf ready =
       rest = subst (λ (x : Words). HasDurableFrames w.stored.frames (masked ready.mask x)) (sym words) ready.rest;
       knows = subst (λ (x : Words). KnowsPools w.stored.frames memory.judged memory.held (reads x)) (sym words) ready.knows;
     }
-
--- what was recovered holds of the result behind it
-ready_by : (size : ℕ) (w : World) (memory : Memory) (s : State) (result : Result Memory StartFault) → IfOk result (λ m. m ≡ memory) → IsReady size w memory s → IfOk result (λ m. IsReady size w m s)
-ready_by size w memory s (Ok m) same ready = subst (λ (x : Memory). IsReady size w x s) (sym same) ready
-ready_by size w memory s (Err fault) same ready = tt
-
--- a start was said behind a recovery
-pub Starts-says : (size : ℕ) (w : World) (memory : Memory) (result : Result Memory StartFault) (old mid new : State) → Recovers size w (Ok memory) old mid
-    → Says (start_text (reads old.now.words)) (start_fault result) mid new → IfOk result (λ m. m ≡ memory) → Starts size w result old new
-Starts-says size w memory result old mid new r says same =
-    let text = start_text (reads old.now.words) in
-    let fault = start_fault result in
-    let part = SaysPart-says text fault mid new says in
-    let P : List ℕ → Image → Type 0 = λ bytes image. IsPart bytes text × (world_of size image ≡ Some (closed w)) in
-    let D : List ℕ → Image → Type 0 = λ bytes image. DiffersByRecovery w.stored.frames (reads old.now.words) image in
-    record {
-      says = record { bytes = part.bytes; rest = part.rest; part = part.part; said = part.said ∙ ap (λ (l : List ℕ). l ++ part.bytes) r.quiet; whole = part.whole };
-      moments = Leaves-then (Silently (λ image. world_of size image ≡ Some (closed w))) P P [] old mid new (r.quiet ∙ sym (append-nil old.now.said))
-          (λ front image m. (record { rest = text; is = ap (λ (l : List ℕ). l ++ text) (sym m.0) }, m.1)) (λ more image m. m) r.moments
-          (Leaves-says text fault P mid new (λ front image prefix picked. (record { rest = prefix.rest; is = prefix.is }, (ready_stands size (restart w) memory mid r.ready image picked).0)) says);
-      rights = Leaves-then D D D [] old mid new (r.quiet ∙ sym (append-nil old.now.said)) (λ front image m. m) (λ more image m. m) r.rights
-          (Leaves-says text fault D mid new (λ front image prefix picked. Leaves-now D [] old mid (r.quiet ∙ sym (append-nil old.now.said)) r.rights image picked) says);
-      ready = ready_by size (restart w) memory new result same (IsReady-said size (restart w) memory mid new (words_said text fault mid new says) (shelf_said text fault mid new says) r.ready);
-      script = script_said text fault mid new says ∙ r.script;
-      shelf = shelf_said text fault mid new says ∙ r.shelf;
-    }
-
-Starts-nothing : (size : ℕ) (w : World) (fault : HostFault) (old new : State) → Recovers size w (Err (starts.Host fault)) old new → Starts size w (Err (starts.Host fault)) old new
-Starts-nothing size w fault old new r =
-    let text = start_text (reads old.now.words) in
-    record {
-      says = SaysPart-nothing text fault old new r.quiet;
-      rights = r.rights;
-      moments = Leaves-weaker (Silently (λ image. world_of size image ≡ Some (closed w))) (λ bytes image. IsPart bytes text × (world_of size image ≡ Some (closed w))) old new
-          (λ bytes image m. (record { rest = text; is = ap (λ (l : List ℕ). l ++ text) (sym m.0) }, m.1)) r.moments;
-      ready = tt;
-      script = r.script;
-      shelf = r.shelf;
-    }
-
--- the recovery failed, and nothing was said
-pub Starts-refused : (size : ℕ) (w : World) (fault : StartFault) (old new : State) → (fault ≡ starts.NotSound → ⊥) → Recovers size w (Err fault) old new → Starts size w (Err fault) old new
-Starts-refused size w starts.NotSound old new sound r = absurd (sound refl)
-Starts-refused size w (starts.Host fault) old new sound r = Starts-nothing size w fault old new r
 
 -- nothing was said yet
 silent_moments : (size : ℕ) (w : World) (t : Turn) (old new : State) → Leaves (Silently (Between size w t.under)) old new → Leaves (StandsWith size w (t ∷ [])) old new
@@ -259,8 +216,14 @@ module _ (size : ℕ) (w : World) (memory : Memory) (line : List ℕ) (answered 
         script = script_said _ fault mid new says ∙ s.script;
       }
 
-pub KeepsRest-says : (text : List ℕ) (fault : Option HostFault) (old mid new : State) → KeepsRest old mid → Says text fault mid new → KeepsRest old new
-KeepsRest-says text fault old mid new k says =
+pub KeepsInput-rest : (old new : State) → KeepsRest old new → KeepsInput old new
+KeepsInput-rest old new k = record { script = k.script; shelf = k.shelf }
+
+pub KeepsInput-then : (a b c : State) → KeepsInput a b → KeepsRest b c → KeepsInput a c
+KeepsInput-then a b c p k = record { script = k.script ∙ p.script; shelf = k.shelf ∙ p.shelf }
+
+pub KeepsInput-says : (text : List ℕ) (fault : Option HostFault) (old mid new : State) → KeepsInput old mid → Says text fault mid new → KeepsInput old new
+KeepsInput-says text fault old mid new k says =
     record { script = script_said text fault mid new says ∙ k.script; shelf = shelf_said text fault mid new says ∙ k.shelf }
 
 -- a reply is said of words that are sound still
@@ -268,6 +231,28 @@ pub sound_said : (size : ℕ) (text : List ℕ) (fault : Option HostFault) (mid 
     → world_of size (reads new.now.words) ≢ None
 sound_said size text fault mid new says sound none = sound (ap (λ (x : Words). world_of size (reads x)) (sym (words_said text fault mid new says)) ∙ none)
 
-pub KeepsLine-says : (file : Option (List ℕ)) (text : List ℕ) (fault : Option HostFault) (old mid new : State) → KeepsLine file old mid → Says text fault mid new → KeepsLine file old new
-KeepsLine-says file text fault old mid new k says =
-    KeepsLine-then file old mid new k (record { script = script_said text fault mid new says; shelf = shelf_said text fault mid new says })
+pub KeepsLine-says : (file : Option (List ℕ)) (text : List ℕ) (fault : Option HostFault) (old mid new : State) → KeepsAllBut file old mid → Says text fault mid new → KeepsLine file old new
+KeepsLine-says file text fault old mid new k says = record {
+  script = script_said text fault mid new says ∙ k.script;
+  files = KeepsFiles-then file old.shelf mid.shelf new.shelf k.files (KeepsFiles-still file mid.shelf new.shelf (shelf_said text fault mid new says));
+}
+
+pub KeepsLine-unsaid : (file : Option (List ℕ)) (old new : State) → KeepsAllBut file old new → KeepsLine file old new
+KeepsLine-unsaid file old new k = record { script = k.script; files = k.files }
+
+-- ---- what is said of a line, whatever the device holds
+
+pub SaysAnswer-aloud : (frames now : ℕ) (ok : Bool) (answered : Answered) (old mid new : State) → ((w : World) → ok ≡ begins_with_ok (answer_of w answered)) → mid.now.said ≡ old.now.said → frames ≡ now
+    → Says (said_text frames (reads mid.now.words) answered) None mid new → SaysAnswer now true ok old new
+SaysAnswer-aloud frames now ok answered old mid new is quiet same says =
+    let text : said_text frames (reads mid.now.words) answered ≡ said_text now (reads new.now.words) answered =
+    ap (λ (n : ℕ). said_text n (reads mid.now.words) answered) same ∙ ap (λ (x : Words). said_text now (reads x) answered) (sym (words_said _ None mid new says)) in
+    record {
+      answered = answered;
+      ok_of = is;
+      said = said_all (said_text frames (reads mid.now.words) answered) mid new says ∙ ap (λ (l : List ℕ). l ++ said_text frames (reads mid.now.words) answered) quiet
+          ∙ ap (λ (l : List ℕ). old.now.said ++ l) text;
+    }
+
+pub SaysAnswer-unsaid : (now : ℕ) (ok : Bool) (answered : Answered) (old new : State) → ((w : World) → ok ≡ begins_with_ok (answer_of w answered)) → new.now.said ≡ old.now.said → SaysAnswer now false ok old new
+SaysAnswer-unsaid now ok answered old new is quiet = record { answered = answered; ok_of = is; said = quiet ∙ sym (append-nil old.now.said) }

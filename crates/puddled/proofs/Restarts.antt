@@ -1,14 +1,15 @@
--- A device recovered, as the daemon has it.
-use Rattle.std.proofs.Common.{◌≡◌, ◌≢◌, ◌⊎◌, ◌↔◌, inl, inr, ⊎_elim, ℕ, ◌<◌, ◌≤◌, Bool, true, false, ◌&&◌, ltb, List, replicate, Option, Some, None, Result, Ok, Err, IfOk, refl, sym, ap, subst, ◌∙◌, arith}
+-- A device brought up to date behind a power loss or at a start, as the daemon has it.
+use Rattle.std.proofs.Common.{◌≡◌, ◌≢◌, ◌⊎◌, ◌↔◌, inl, inr, ⊎_elim, ℕ, ◌<◌, ◌≤◌, Bool, true, false, ◌&&◌, ltb, [], List, replicate, Option, Some, None, Result, Ok, Err, IfOk, refl, sym, ap, subst, ◌∙◌, arith}
 use Rattle.std.proofs.lemmas.Bool.{lt-leb}
+use Rattle.std.proofs.lemmas.List.{append-nil}
 use Rattle.pm_model.specs.declared.host.HostFault.{HostFault}
 use Rattle.pm_model.specs.Words.{reads}
 use Rattle.pm_model.specs.Moments.{State}
-use Rattle.pm_model.specs.Changes.{Changes, Silently}
+use Rattle.pm_model.specs.Changes.{Changes, Leaves, Silently}
 use Rattle.pm_model.specs.Masks.{no_mask}
 use Rattle.pm_model.proofs.Words.{Picks-reads}
 use Rattle.pm_model.proofs.Changes.{Changes-said}
-use Rattle.pm_model.proofs.Leaves.{Leaves-weaker}
+use Rattle.pm_model.proofs.Leaves.{Leaves-changes, Leaves-now, Leaves-then, Leaves-weaker}
 use Rattle.pud_defs.specs.declared.layout.TheConstants.{DAEMON_LOG, FRAMES_WORD, SPACE_TABLE, PUDDLE_TABLE, CLIENTS}
 use Rattle.pud_defs.specs.declared.records.TheConstants.{POOL_RECORDS}
 use Rattle.pud_defs.specs.Image.{Image}
@@ -24,20 +25,20 @@ use Rattle.pud_defs.proofs.Logged.{settled_by-unlogged}
 use Rattle.pud_defs.proofs.Worlds.{legal_log_of_world, frames_of_world, settled-below}
 use Rattle.pud_defs.proofs.Idle.{world_of_idle}
 use Rattle.log_replay.specs.Replaying.{Anything}
+use Rattle.batch.specs.Batches.{HasIdleGate, ByBatch, IsBatched}
+use Rattle.log_space.specs.Clearing.{clearing, Empties}
 use Rattle.recover.specs.declared.recovery.Report.{Report}
 use Rattle.recover.specs.declared.recovery.RecoverFault.{RecoverFault}
 use Rattle.recover.specs.declared.recovery.RecoverFault.TheVariants as recoveries
-use Rattle.recover.specs.Recovery.{recover_fault, ByRecovery, DiffersByRecovery, RefusesNo, StandsStill, RecoversDevice}
-use Rattle.nesting.specs.declared.Session.{Session}
+use Rattle.recover.specs.Recovery.{recover_fault, DiffersByRecovery, StandsStill, ReplaysLogs, RecoversDevice}
 use Rattle.puddled.specs.declared.daemon.StartFault.{StartFault}
-use Rattle.puddled.specs.declared.daemon.StartFault.TheVariants as starts
 use Rattle.puddled.specs.Faults.{start_fault, of_recover}
-use Rattle.ready_daemon.specs.Memory.{Held, Memory}
-use Rattle.ready_daemon.specs.Held.{Holds, HasSessions}
-use Rattle.ready_daemon.specs.KnownPools.{KnowsPools}
-use Rattle.ready_daemon.specs.Ready.{KeepsRest, IsReady, IsUsedAlone, IsClosedIfFree, IsClosedIfNamed, RefusesNone}
-use Rattle.puddled.specs.Daemon.{IsReplayed, Recovers}
+use Rattle.ready_daemon.specs.Memory.{Memory}
+use Rattle.ready_daemon.specs.Ready.{IsReady, IsUsedAlone, IsClosedIfFree, IsClosedIfNamed, RefusesNone}
+use Rattle.ready_daemon.proofs.JudgedOpen.{KnowsPools-none}
 use Rattle.ready_daemon.proofs.NoneHeld.{Holds-none, HasSessions-none}
+use Rattle.puddled.specs.Starting.{first_memory, ByStart, DiffersByStart, IsReplayed, Recovers}
+use Rattle.puddled.proofs.Emptied.{IsBehindRecovery, IsEmptying, behind_recovery, idle_gate, used_closed, batched_still, third_may, single_d, cleared_d, reads_d, settled_d}
 
 -- a recovery's fault is the host's or none, at a start too
 pub fault_of_recover : (fault : RecoverFault) → start_fault {T = Memory} (Err (of_recover fault)) ≡ recover_fault {T = Report} (Err fault)
@@ -51,12 +52,9 @@ recovery_fault_is e = cc
 pub recovered : {report : Report} {fault : RecoverFault} → ◌≡◌ {A = Result Report RecoverFault} (Ok report) (Err fault) → ⊥
 recovered e = cc
 
-pub KeepsRest-any : (fault : Option HostFault) (old new : State) → Changes Anything fault old new → KeepsRest old new
-KeepsRest-any fault old new changes = record { script = changes.script; shelf = changes.shelf }
-
 -- a record that is free has no owner
-nobody : (used uid gid : ℕ) → used ≡ 0 → owner_by used uid gid ≡ None
-nobody used uid gid free = ap (λ (v : ℕ). owner_by v uid gid) free
+nobody_there : (used uid gid : ℕ) → used ≡ 0 → owner_by used uid gid ≡ None
+nobody_there used uid gid free = ap (λ (v : ℕ). owner_by v uid gid) free
 
 -- a client's record that is used, and that the daemon log gives no value, is used also once that log is replayed
 used_settles : (client : ℕ) (image : Image) → IsUsedAlone client image → settled_by DAEMON_LOG image (space_record_at client) ≡ 1
@@ -72,75 +70,136 @@ closed_if_free F client image (inr shut) = inr shut
 
 -- ---- a rested device that stands for a world
 
-module _ (size : ℕ) (w : World) (a b : State) where
-  not_true : (x : Bool) → (x ≡ true → ⊥) → x ≡ false
-  not_true true never = absurd (never refl)
-  not_true false never = refl
+module _ (size : ℕ) (w : World) (a : State) (world : world_of size (reads a.now.words) ≡ Some (closed w)) where
+  abbrev i : Image
+  i = reads a.now.words
 
-  none_refused : world_of size (reads a.now.words) ≡ Some (closed w) → RefusesNone (reads a.now.words) → RefusesNo w.stored.frames (reads a.now.words)
-  none_refused world none = record {
-    each = λ number few.
-        ap (λ (F : ℕ). is_refused_log F (settled_by DAEMON_LOG (reads a.now.words)) number) (sym (frames_of_world size (reads a.now.words) (closed w) world)) ∙ none.each number few;
+  abbrev F : ℕ
+  F = w.stored.frames
+
+  abbrev Still : List ℕ → Image → Type 0
+  Still = Silently (StandsStill size (closed w) i)
+
+  none_refused : RefusesNone i → (number : ℕ) → number < ALL_LOGS → is_refused_log F (settled_by DAEMON_LOG i) number ≡ false
+  none_refused none number few = ap (λ (n : ℕ). is_refused_log n (settled_by DAEMON_LOG i) number) (sym (frames_of_world size i (closed w) world)) ∙ none.each number few
+
+  -- an image that stands for the world refuses none, where none is refused by the world's number of frames
+  pub refuses_none : (image : Image) → world_of size image ≡ Some (closed w) → ((number : ℕ) → number < ALL_LOGS → is_refused_log F (settled_by DAEMON_LOG image) number ≡ false) → RefusesNone image
+  refuses_none image stands none = record {
+    each = λ number few. ap (λ (n : ℕ). is_refused_log n (settled_by DAEMON_LOG image) number) (frames_of_world size image (closed w) stands) ∙ none number few;
   }
 
   -- a client's logs are closed, unless its record is used still
-  closed_still : (image : Image) → StandsStill size (closed w) (reads a.now.words) image → RefusesNo w.stored.frames (reads a.now.words) → (client : ℕ) → client < CLIENTS
-      → IsClosedIfNamed w.stored.frames client (reads a.now.words) → IsClosedIfFree w.stored.frames client image
-  closed_still image still none client few (inr was) = inr (still.closed client few was)
-  closed_still image still none client few (inl used) =
-      let settles = used_settles client (reads a.now.words) used in
-      elim (still.free none client few settles) [
-        | inl kept ↦ inl (record { now = kept.now used.unnamed ∙ used.now; replayed = kept.replayed ∙ settles })
-        | inr shut ↦ inr shut
-      ]
+  closed_still : (image : Image) → StandsStill size (closed w) i image → (client : ℕ) → client < CLIENTS → IsClosedIfNamed F client i → IsClosedIfFree F client image
+  closed_still image still client few (inr was) = inr (still.closed client few was)
+  closed_still image still client few (inl used) =
+      let kept = still.records client few in
+      inl (record { now = kept.now used.unnamed ∙ used.now; replayed = kept.replayed ∙ used_settles client i used })
 
-  Recovers-by : (fault : Option HostFault) (result : Result Memory StartFault) → world_of size (reads a.now.words) ≡ Some (closed w) → RecoversDevice size (closed w) fault a b
-      → IfOk result (λ memory. IsReady size (restart w) memory b) → Recovers size w result a b
-  Recovers-by fault result world r ready = record {
-    moments = Leaves-weaker (Silently (StandsStill size (closed w) (reads a.now.words))) (Silently (λ image. world_of size image ≡ Some (closed w))) a b (λ bytes image m. (m.0, m.1.stands)) r.moments;
-    rights = Leaves-weaker (Silently (DiffersByRecovery w.stored.frames (reads a.now.words))) (λ bytes image. DiffersByRecovery w.stored.frames (reads a.now.words) image) a b (λ bytes image m. m.1) r.rights;
-    allowed = λ none. Leaves-weaker (Silently (StandsStill size (closed w) (reads a.now.words))) (λ bytes image. RefusesNone image) a b (λ bytes image m. record {
-      each = λ number few.
-          let frames : frames_of image ≡ w.stored.frames = frames_of_world size image (closed w) m.1.stands in
-          let was = (none_refused world none).each number few in
-          ap (λ (F : ℕ). is_refused_log F (settled_by DAEMON_LOG image) number) frames
-          ∙ not_true (is_refused_log w.stored.frames (settled_by DAEMON_LOG image) number) (λ refused. let it : true ≡ false = sym (m.1.refused number few refused) ∙ was in cc);
-    }) r.moments;
-    logs = λ none client few was. Leaves-weaker (Silently (StandsStill size (closed w) (reads a.now.words))) (λ bytes image. IsClosedIfFree w.stored.frames client image) a b
-        (λ bytes image m. closed_still image m.1 (none_refused world none) client few was) r.moments;
-    quiet = Changes-said (ByRecovery w.stored.frames (reads a.now.words)) fault a b r.changes;
-    ready = ready;
-    script = r.changes.script;
-    shelf = r.changes.shelf;
+  pub wider_rights : (image : Image) → DiffersByRecovery F i image → DiffersByStart F i image
+  wider_rights image differs = record { each = λ k. elim (differs.each k) [ inl same ↦ inl same | inr may ↦ inr (inl may) ] }
+
+  -- ---- where the recovery did not come to its end
+
+  pub Recovers-failed : (b : State) (fault : RecoverFault) → (fault ≡ recoveries.NotSound → ⊥) → Changes Anything (recover_fault {T = Report} (Err fault)) a b
+      → RecoversDevice size (closed w) (recover_fault {T = Report} (Err fault)) a b → Recovers size w (Err (of_recover fault)) a b
+  Recovers-failed b recoveries.NotSound sound any r = absurd (sound refl)
+  Recovers-failed b (recoveries.Host fault) sound any r = record {
+    moments = Leaves-weaker Still (Silently (λ image. world_of size image ≡ Some (closed w))) a b (λ bytes image m. (m.0, m.1.stands)) r.moments;
+    rights = Leaves-weaker (Silently (DiffersByRecovery F i)) (λ bytes image. DiffersByStart F i image) a b (λ bytes image m. wider_rights image m.1) r.rights;
+    allowed = λ none. Leaves-weaker Still (λ bytes image. RefusesNone image) a b (λ bytes image m.
+        refuses_none image m.1.stands (λ number few. m.1.refused.each number few ∙ none_refused none number few)) r.moments;
+    logs = λ none client few was. Leaves-weaker Still (λ bytes image. IsClosedIfFree F client image) a b (λ bytes image m. closed_still image m.1 client few was) r.moments;
+    quiet = Changes-said Anything (Some fault) a b any;
+    ready = tt;
+    script = any.script;
+    shelf = any.shelf;
   }
 
-  -- the daemon is ready behind it
-  ready_behind : (memory : Memory) → memory.frames ≡ w.stored.frames → memory.held ≡ replicate ALL_LOGS None → memory.sessions ≡ replicate POOL_RECORDS None → KnowsPools w.stored.frames memory.judged memory.held (reads b.now.words) → a.shelf ≡ w.shelf
-      → RecoversDevice size (closed w) None a b → IsReady size (restart w) memory b
-  ready_behind memory frames idle none knows shelf r = record {
-    mask = no_mask;
-    settled = r.settled_now refl;
-    tables = record { each = λ k beside below. r.single refl k (outside_log DAEMON_LOG k (⊎_elim (λ low. inl low) (λ high. inr (omega arith)) beside)) };
-    clients = λ client few. nobody _ _ _ (r.cleared refl client few);
-    frames = frames;
-    shelf = r.changes.shelf ∙ shelf;
-    held = subst (λ (o : List (Option Held)). Holds (restart w) o no_mask b.now.words) (sym idle) (Holds-none (restart w) ALL_LOGS b.now.words refl);
-    sessions = subst (λ (o : List (Option Held)). HasSessions (restart w) o memory.sessions) (sym idle)
-        (subst (λ (o : List (Option Session)). HasSessions (restart w) (replicate ALL_LOGS None) o) (sym none) (HasSessions-none (restart w) ALL_LOGS POOL_RECORDS));
-    logs = record { each = λ client number low few present. absurd (let it : false ≡ true = present in cc) };
-    rest = record { each = λ k above. r.single refl k (outside_log DAEMON_LOG k (inr (omega arith))) };
-    knows = knows;
-  }
+  -- ---- the log-space table emptied behind it
 
-  pub Recovers-done : (memory : Memory) → world_of size (reads a.now.words) ≡ Some (closed w) → memory.frames ≡ frames_of (reads a.now.words) → memory.held ≡ replicate ALL_LOGS None → memory.sessions ≡ replicate POOL_RECORDS None
-      → KnowsPools w.stored.frames memory.judged memory.held (reads b.now.words) → a.shelf ≡ w.shelf → RecoversDevice size (closed w) None a b → Recovers size w (Ok memory) a b
-  Recovers-done memory world frames idle none knows shelf r =
-      Recovers-by None (Ok memory) world r (ready_behind memory (frames ∙ frames_of_world size (reads a.now.words) (closed w) world) idle none knows shelf r)
+  module _ (b c : State) (said : b.now.said ≡ a.now.said) (p : ReplaysLogs F None a b) (r : RecoversDevice size (closed w) None a b) where
+    behind : IsBehindRecovery size (closed w) i b.now.words
+    behind = behind_recovery size (closed w) a b p r
 
-  pub Recovers-failed : (fault : RecoverFault) → (fault ≡ recoveries.NotSound → ⊥) → world_of size (reads a.now.words) ≡ Some (closed w) → RecoversDevice size (closed w) (recover_fault {T = Report} (Err fault)) a b
-      → Recovers size w (Err (of_recover fault)) a b
-  Recovers-failed recoveries.NotSound sound world r = absurd (sound refl)
-  Recovers-failed (recoveries.Host fault) sound world r = Recovers-by (Some fault) (Err (starts.Host fault)) world r tt
+    pub idle_gate_behind : HasIdleGate DAEMON_LOG b.now.words
+    idle_gate_behind = idle_gate size (closed w) i world b behind
+
+    module _ (fault : Option HostFault) (empties : Empties fault b c) where
+      abbrev Batched : List ℕ → Image → Type 0
+      Batched = Silently (IsBatched b.now.words DAEMON_LOG (clearing CLIENTS))
+
+      emptying : (image : Image) → IsBatched b.now.words DAEMON_LOG (clearing CLIENTS) image → IsEmptying size (closed w) i (reads b.now.words) image
+      emptying = batched_still size (closed w) i world b behind
+
+      both : {P : List ℕ → Image → Type 0} → ((image : Image) → StandsStill size (closed w) i image → P [] image)
+          → ((image : Image) → IsEmptying size (closed w) i (reads b.now.words) image → P [] image) → Leaves P a c
+      both {P} early late = Leaves-then Still Batched P [] a b c (said ∙ sym (append-nil a.now.said)) (λ front image m. subst (λ (l : List ℕ). P l image) (sym m.0) (early image m.1))
+          (λ more image m. subst (λ (l : List ℕ). P l image) (sym m.0) (late image (emptying image m.1))) r.moments empties.commits.moments
+
+      still_b : StandsStill size (closed w) i (reads b.now.words)
+      still_b = behind.still
+
+      rights_c : Leaves (λ bytes image. DiffersByStart F i image) a c
+      rights_c = Leaves-weaker (Silently (DiffersByStart F i)) (λ bytes image. DiffersByStart F i image) a c (λ bytes image m. m.1)
+          (Leaves-then (Silently (DiffersByRecovery F i)) (Silently (λ image. DiffersByStart F i image)) (Silently (DiffersByStart F i)) [] a b c (said ∙ sym (append-nil a.now.said))
+          (λ front image m. (m.0, wider_rights image m.1)) (λ more image m. m) r.rights
+          (Leaves-changes (DiffersByStart F i) (ByBatch DAEMON_LOG (clearing CLIENTS)) fault b c (λ before image picked from. record {
+            each = λ k. elim (from.each k) [
+              | inl same ↦
+                  let was = (Leaves-now (Silently (DiffersByRecovery F i)) [] a b (said ∙ sym (append-nil a.now.said)) r.rights before picked).1 in
+                  elim (was.each k) [
+                    | inl kept ↦ inl (same ∙ kept)
+                    | inr may ↦ inr (subst (λ (v : ℕ). ByStart F i k v) (sym same) (inl may))
+                  ]
+              | inr by ↦ inr (third_may size (closed w) i world b behind k (image k) by)
+            ];
+          }) empties.commits.changes))
+
+      moments_c : Leaves (Silently (λ image. world_of size image ≡ Some (closed w))) a c
+      moments_c = both (λ image still. (refl, still.stands)) (λ image still. (refl, still.stands))
+
+      allowed_c : RefusesNone i → Leaves (λ bytes image. RefusesNone image) a c
+      allowed_c none = both {P = λ bytes image. RefusesNone image}
+          (λ image still. refuses_none image still.stands (λ number few. still.refused.each number few ∙ none_refused none number few))
+          (λ image still. refuses_none image still.stands (λ number few. still.refused number few (none_refused none number few)))
+
+      logs_c : RefusesNone i → (client : ℕ) → client < CLIENTS → IsClosedIfNamed F client i → Leaves (λ bytes image. IsClosedIfFree F client image) a c
+      logs_c none client few was = both {P = λ bytes image. IsClosedIfFree F client image} (λ image still. closed_still image still client few was) (λ image still. inr (still.closed client few ∙ elim was [
+        | inl used ↦ used_closed size (closed w) i world b behind (none_refused none) client few (used_settles client i used)
+        | inr shut ↦ still_b.closed client few shut
+      ]))
+
+      pub Recovers-by : (result : Result Memory StartFault) → c.script ≡ a.script → c.shelf ≡ a.shelf → IfOk result (λ memory. IsReady size (restart w) memory c) → Recovers size w result a c
+      Recovers-by result script shelf ready = record {
+        moments = moments_c;
+        rights = rights_c;
+        allowed = allowed_c;
+        logs = logs_c;
+        quiet = Changes-said (ByBatch DAEMON_LOG (clearing CLIENTS)) fault b c empties.commits.changes ∙ said;
+        ready = ready;
+        script = script;
+        shelf = shelf;
+      }
+
+-- the daemon is ready behind it
+pub ready_behind : (size : ℕ) (w : World) (i : Image) → (world : world_of size i ≡ Some (closed w)) → (b c : State) → (behind : IsBehindRecovery size (closed w) i b.now.words) → (empties : Empties None b c)
+    → (frames : ℕ) → frames ≡ frames_of i → c.shelf ≡ w.shelf → IsReady size (restart w) (first_memory frames) c
+ready_behind size w i world b c behind empties frames counted shelf =
+    let single = single_d size (closed w) i world b behind c empties in
+    record {
+      mask = no_mask;
+      settled = settled_d size (closed w) i world b behind c empties;
+      tables = record { each = λ k beside below. single k (outside_log DAEMON_LOG k (⊎_elim (λ low. inl low) (λ high. inr (omega arith)) beside)) };
+      clients = λ client few. nobody_there _ _ _ (cleared_d size (closed w) i world b behind c empties client few);
+      frames = counted ∙ frames_of_world size i (closed w) world;
+      shelf = shelf;
+      held = Holds-none (restart w) ALL_LOGS c.now.words refl;
+      sessions = HasSessions-none (restart w) ALL_LOGS POOL_RECORDS;
+      logs = record { each = λ client number low few present. absurd (let it : false ≡ true = present in cc) };
+      rest = record { each = λ k above. single k (outside_log DAEMON_LOG k (inr (omega arith))) };
+      knows = KnowsPools-none w.stored.frames POOL_RECORDS (replicate ALL_LOGS None) (reads c.now.words);
+    }
 
 -- it is not refused
 pub sound_recovery : (size : ℕ) (w : World) (fault : RecoverFault) (a : State) → world_of size (reads a.now.words) ≡ Some (closed w)
@@ -155,27 +214,33 @@ sound_recovery size w fault a world exact is =
 below_logs : (F k : ℕ) → k < tables_end F → is_in_logs F k ≡ false
 below_logs F k below = ap (λ (b : Bool). b && ltb k (frames_at F)) (lt-leb (tables_end F) k below)
 
--- what a recovery that went well leaves of a rested device
-pub record IsRecovered (size : ℕ) (a b : State) : Type 0 where
-  pub sound : world_of size (reads b.now.words) ≢ None
-  pub replayed : IsReplayed (reads a.now.words) (reads b.now.words)
-  pub frames : frames_of (reads a.now.words) ≡ frames_of (reads b.now.words)
+-- what a start that went well leaves of a rested device that read as this image
+pub record IsRecovered (size : ℕ) (i : Image) (c : State) : Type 0 where
+  pub sound : world_of size (reads c.now.words) ≢ None
+  pub replayed : IsReplayed i (reads c.now.words)
+  pub frames : frames_of i ≡ frames_of (reads c.now.words)
 
-recovered_world : (size : ℕ) (s : StoredWorld) (a b : State) → world_of size (reads a.now.words) ≡ Some s → RecoversDevice size s None a b → IsRecovered size a b
-recovered_world size s a b world r =
-    let i = reads a.now.words in
-    let frames : frames_of i ≡ s.frames = frames_of_world size i s world in
-    let now : (k : ℕ) → is_in_log DAEMON_LOG k ≡ false → is_in_logs (frames_of i) k ≡ false → (k < SPACE_TABLE) ⊎ (PUDDLE_TABLE ≤ k) → reads b.now.words k ≡ settled (frames_of i) i k = λ k outside beside spaces.
-    r.reads_so refl k outside (ap (λ (F : ℕ). is_in_logs F k) (sym frames) ∙ beside) spaces ∙ ap (λ (F : ℕ). settled F i k) (sym frames) in
-    record {
-      sound = λ none. let it : Some s ≡ None = sym (world_of_idle size (reads b.now.words) s ((r.settled_now refl).stands (reads b.now.words) (Picks-reads b.now.words))) ∙ none in cc;
-      replayed = record { each = now };
-      frames = sym (r.reads_so refl FRAMES_WORD (outside_log DAEMON_LOG FRAMES_WORD (inl (omega arith))) (below_logs s.frames FRAMES_WORD (omega arith)) (inl (omega arith))
-          ∙ settled-below s.frames i FRAMES_WORD (omega arith) ∙ settled_by-unlogged i FRAMES_WORD (legal_log_of_world size i s world) (omega arith));
-    }
+module _ (size : ℕ) (i : Image) (b c : State) where
+  recovered_world : (s : StoredWorld) → world_of size i ≡ Some s → IsBehindRecovery size s i b.now.words → Empties None b c → IsRecovered size i c
+  recovered_world s world behind empties =
+      let frames : frames_of i ≡ s.frames = frames_of_world size i s world in
+      let reads_so = reads_d size s i world b behind c empties in
+      let now : (k : ℕ) → is_in_log DAEMON_LOG k ≡ false → is_in_logs (frames_of i) k ≡ false → (k < SPACE_TABLE) ⊎ (PUDDLE_TABLE ≤ k) → reads c.now.words k ≡ settled (frames_of i) i k = λ k outside beside spaces.
+      reads_so k outside (ap (λ (F : ℕ). is_in_logs F k) (sym frames) ∙ beside) spaces ∙ ap (λ (F : ℕ). settled F i k) (sym frames) in
+      record {
+        sound = λ none. let it : Some s ≡ None = sym (world_of_idle size (reads c.now.words) s ((settled_d size s i world b behind c empties).stands (reads c.now.words) (Picks-reads c.now.words))) ∙ none in cc;
+        replayed = record { each = now };
+        frames = sym (reads_so FRAMES_WORD (outside_log DAEMON_LOG FRAMES_WORD (inl (omega arith))) (below_logs s.frames FRAMES_WORD (omega arith)) (inl (omega arith))
+            ∙ settled-below s.frames i FRAMES_WORD (omega arith) ∙ settled_by-unlogged i FRAMES_WORD (legal_log_of_world size i s world) (omega arith));
+      }
 
-pub recovered_any : (size : ℕ) (report : Report) (a b : State) (o : Option StoredWorld) → world_of size (reads a.now.words) ≡ o
-    → (◌≡◌ {A = Result Report RecoverFault} (Ok report) (Err recoveries.NotSound)) ↔ (world_of size (reads a.now.words) ≡ None)
-    → ((s : StoredWorld) → world_of size (reads a.now.words) ≡ Some s → RecoversDevice size s None a b) → IsRecovered size a b
-recovered_any size report a b None world exact r = absurd (recovered (exact.1 world))
-recovered_any size report a b (Some s) world exact r = recovered_world size s a b world (r s world)
+  recovered_by : (report : Report) (o : Option StoredWorld) → world_of size i ≡ o → (◌≡◌ {A = Result Report RecoverFault} (Ok report) (Err recoveries.NotSound)) ↔ (world_of size i ≡ None)
+      → ((s : StoredWorld) → world_of size i ≡ Some s → IsBehindRecovery size s i b.now.words × Empties None b c) → IsRecovered size i c
+  recovered_by report None world exact r = absurd (recovered (exact.1 world))
+  recovered_by report (Some s) world exact r = let all = r s world in recovered_world s world all.0 all.1
+
+  pub recovered_any : (report : Report) → (◌≡◌ {A = Result Report RecoverFault} (Ok report) (Err recoveries.NotSound)) ↔ (world_of size i ≡ None)
+      → ((s : StoredWorld) → world_of size i ≡ Some s → IsBehindRecovery size s i b.now.words) → (HasIdleGate DAEMON_LOG b.now.words → Empties None b c) → IsRecovered size i c
+  recovered_any report exact behind empties = recovered_by report (world_of size i) refl exact (λ s world.
+      let there = behind s world in
+      (there, empties (idle_gate size s i world b there)))

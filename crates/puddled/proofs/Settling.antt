@@ -30,7 +30,8 @@ use Rattle.ready_daemon.specs.Memory.{Memory}
 use Rattle.puddled.specs.declared.answers.Answered.{Answered}
 use Rattle.puddled.specs.declared.answers.Answered.TheVariants as answers
 use Rattle.ready_daemon.specs.Ready.{IsReady, Applies, IsClosedIfFree, IsClosedIfNamed, ClosesFirst, ClosesBefore, ClosesLogs, RefusesNone, StandsBetween}
-use Rattle.puddled.specs.Daemon.{CarriesOut, Recovers, Settles}
+use Rattle.puddled.specs.Starting.{Recovers}
+use Rattle.puddled.specs.Daemon.{CarriesOut, Settles}
 use Rattle.ready_daemon.proofs.Turns.{turn_of, is_turn_of, cut_turn, is_cut_turn}
 use Rattle.puddled.proofs.Counted.{counted_step, counted_cut, kind_done, kind_faulty, kind_unstarted, host_is_sound}
 use Rattle.puddled.proofs.Carrying.{restart_line}

@@ -1,5 +1,7 @@
 pub mod Answered
 pub mod Faults
+pub mod Saying
+pub mod Starting
 pub mod Daemon
 pub mod Reading
 pub mod Finding

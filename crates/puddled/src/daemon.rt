@@ -11,15 +11,17 @@ ghost use Rattle.puddled.specs.Faults.{start_fault, run_fault, kind_of, CountsRe
 ghost use Rattle.pud_defs.specs.Grammar.{command_of, IsLegalCommand};
 ghost use Rattle.pud_defs.specs.Changing.{file_of, file_in};
 ghost use Rattle.ready_daemon.specs.Memory.{Memory};
-ghost use Rattle.ready_daemon.specs.Ready.{KeepsRest, IsReady, Applies};
-ghost use Rattle.puddled.specs.Daemon.{KeepsLine, IsReplayed, AreMarks, CarriesOut, Recovers, Settles, without_marks};
+ghost use Rattle.ready_daemon.specs.Ready.{KeepsRest, KeepsInput, IsReady, Applies};
+ghost use Rattle.puddled.specs.Starting.{Recovers};
+ghost use Rattle.puddled.specs.Daemon.{KeepsAllBut, KeepsLine, CarriesOut, Settles};
 
 use crate::answers::{Answered, say_answer, with_reply};
 use crate::clients::come;
 use crate::judged::Judged;
 use crate::pools::{change, make};
-use crate::starting::{Marks, say_start};
+use crate::starting::{say_ready, say_refused};
 use crate::types::define_type;
+use log_space::clear_spaces;
 use nesting::Sessions;
 use pm_model::{Host, HostFault};
 use pool_transaction::{AllOpened, lose_all, none_opened};
@@ -130,36 +132,6 @@ impl From<RecoverFault> for StartFault {
     }
 }
 
-/// Recovers the device, all without a word. With the daemon it answers what it found of each client's log, by its number.
-fn recover_device<H: Host>(h: &mut H) -> Result<(Daemon, Marks), StartFault>
-    ensures not_sound { H.tells → start_fault result ≡ Option.None
-        → (without_marks result ≡ Result.Err StartFault.NotSound) ↔ (world_of (H.counts h.old).size (reads (H.state h.old).now.words) ≡ Option.None) }
-    ensures unchanged { H.tells → without_marks result ≡ Result.Err StartFault.NotSound → H.state h.new ≡ H.state h.old }
-    ensures recovers { H.tells → (size : ℕ) → size ≡ (H.counts h.old).size → (w : World) → IsRested (H.state h.old).now.words
-        → world_of size (reads (H.state h.old).now.words) ≡ Option.Some (closed w) → (H.state h.old).shelf ≡ w.shelf
-        → Recovers size w (without_marks result) (H.state h.old) (H.state h.new) }
-    ensures sound { H.tells → IsRested (H.state h.old).now.words → IfOk result (λ found. world_of (H.counts h.old).size (reads (H.state h.new).now.words) ≢ Option.None) }
-    ensures replays { H.tells → IsRested (H.state h.old).now.words → IfOk result (λ found. IsReplayed (reads (H.state h.old).now.words) (reads (H.state h.new).now.words)) }
-    ensures frames { H.tells → IsRested (H.state h.old).now.words → IfOk result (λ found. found.0.frames ≡ frames_of (reads (H.state h.new).now.words)) }
-    // Whatever the device holds.
-    ensures marks { H.tells → IfOk result (λ found. AreMarks (reads (H.state h.old).now.words) found.1) }
-    ensures quiet { H.tells → (H.state h.new).now.said ≡ (H.state h.old).now.said }
-    ensures enough { IfOk result (λ found. MIN_FRAMES ≤ found.0.frames) }
-    ensures room { IfOk result (λ found. device_words found.0.frames ≤ (H.counts h.old).size) }
-    ensures rest { H.tells → KeepsRest (H.state h.old) (H.state h.new) }
-    ensures cause { H.counts h.new ≡ after_fault (start_fault result) (H.counts h.old) }
-{
-    let report = recover(h)?;
-    let marks = report.marks;
-    let daemon = Daemon {
-        frames: report.frames,
-        opened: none_opened(),
-        sessions: Sessions::new(),
-        judged: Judged::none(),
-    };
-    Ok((daemon, marks))
-}
-
 /// Starts again behind a power loss, without a word: none on the logs that are refused either.
 fn restart<H: Host>(h: &mut H) -> Result<Daemon, StartFault>
     ensures not_sound { H.tells → start_fault result ≡ Option.None
@@ -173,8 +145,9 @@ fn restart<H: Host>(h: &mut H) -> Result<Daemon, StartFault>
     ensures rest { H.tells → KeepsRest (H.state h.old) (H.state h.new) }
     ensures cause { H.counts h.new ≡ after_fault (start_fault result) (H.counts h.old) }
 {
-    let (daemon, _marks) = recover_device(h)?;
-    Ok(daemon)
+    let report = recover(h)?;
+    clear_spaces(h)?;
+    Ok(Daemon::begun(report.frames))
 }
 
 /// Loses power at once: the daemon is to start again behind it, as behind each power loss.
@@ -209,7 +182,7 @@ fn apply<H: Host>(daemon: &mut Daemon, h: &mut H, command: Command) -> Result<An
     ensures carries { H.tells → (size : ℕ) → size ≡ (H.counts h.old).size → (w : World) → IsReady size w daemon.old (H.state h.old)
         → CarriesOut size w daemon.new (Option.Some command) result (H.counts h.old) (H.counts h.new) (H.state h.old) (H.state h.new) }
     ensures room { device_words daemon.new.frames ≤ (H.counts h.old).size }
-    ensures rest { H.tells → KeepsLine (file_of command) (H.state h.old) (H.state h.new) }
+    ensures rest { H.tells → KeepsAllBut (file_of command) (H.state h.old) (H.state h.new) }
     ensures rests { H.tells → fault_of result ≡ Option.Some HostFault.Cut → IsRested (H.state h.new).now.words }
     ensures cause { CountsCommand (kind_of (Option.Some command)) (fault_of result) (H.counts h.old) (H.counts h.new) }
 {
@@ -310,7 +283,7 @@ fn settle<H: Host>(daemon: &mut Daemon, h: &mut H, line: &[u8]) -> Result<Answer
     ensures not_sound { H.tells → result ≡ Result.Err RunFault.NotSound
         → world_of (H.counts h.old).size (reads (H.state h.new).now.words) ≡ Option.None }
     ensures room { device_words daemon.new.frames ≤ (H.counts h.old).size }
-    ensures rest { H.tells → KeepsLine (file_in (command_of line.now)) (H.state h.old) (H.state h.new) }
+    ensures rest { H.tells → KeepsAllBut (file_in (command_of line.now)) (H.state h.old) (H.state h.new) }
     ensures cause { CountsReply (command_of line.now) result (Answered.Reply Reply.Cut) (H.counts h.old) (H.counts h.new) }
 {
     match parse_line(line) {
@@ -326,14 +299,31 @@ impl Daemon {
     ghost use Rattle.pud_defs.specs.declared.layout.TheConstants.{MAX_FRAMES};
     ghost use Rattle.pud_defs.specs.StartText.{start_text};
     ghost use Rattle.pud_defs.specs.Step.Answer.{of_reply};
-    ghost use Rattle.puddled.specs.Daemon.{EndsIn, SaysPart, Starts, spoken, Answers};
+    ghost use Rattle.puddled.specs.Saying.{EndsIn, SaysPart};
+    ghost use Rattle.puddled.specs.Starting.{first_memory, IsReplayed, Starts};
+    ghost use Rattle.puddled.specs.Daemon.{spoken, SaysAnswer, Answers};
 
-    /// Starts on the device: applies what its daemon log names, replays and closes each registered log that its owner may, empties
-    /// the log-space table, and says the start text: a line for each registered log that is refused, and `ready`.
+    /// The daemon of a device of so many frames behind a start: no transaction is open, and no pool was judged.
+    fn begun(frames: u32) -> Daemon
+        requires some { MIN_FRAMES ≤ frames }
+        requires no_more { frames ≤ MAX_FRAMES }
+        ensures { result ≡ first_memory frames }
+    {
+        Daemon {
+            frames,
+            opened: none_opened(),
+            sessions: Sessions::new(),
+            judged: Judged::none(),
+        }
+    }
+
+    /// Starts on the device: applies what its daemon log names, replays and closes each registered log that its owner may,
+    /// says a line for each registered log that is refused, empties the log-space table, and says `ready`.
     ///
     /// `NotSound` comes exactly where the device is not a sound registry, where the host does not fail first; then no word
     /// was changed and nothing was said. On a device that is rested each image left at any moment stands for what the
-    /// device did, and each word but those of the logs and of the log-space table then reads as the settled image has it.
+    /// device did, and each word but those of the logs and of the log-space table then reads as the settled image has it. Where
+    /// not all lines on refused logs were said the next start says them, and once `ready` is said no log is refused.
     pub fn start<H: Host>(h: &mut H) -> Result<Daemon, StartFault>
         ensures not_sound { H.tells → start_fault result ≡ Option.None
             → (result ≡ Result.Err StartFault.NotSound) ↔ (world_of (H.counts h.old).size (reads (H.state h.old).now.words) ≡ Option.None) }
@@ -347,17 +337,14 @@ impl Daemon {
         ensures says { H.tells → result ≢ Result.Err StartFault.NotSound → SaysPart (start_text (reads (H.state h.old).now.words)) (start_fault result) (H.state h.old) (H.state h.new) }
         ensures enough { IfOk result (λ daemon. MIN_FRAMES ≤ daemon.frames) }
         ensures room { IfOk result (λ daemon. device_words daemon.frames ≤ (H.counts h.old).size) }
-        ensures rest { H.tells → KeepsRest (H.state h.old) (H.state h.new) }
+        ensures rest { H.tells → KeepsInput (H.state h.old) (H.state h.new) }
         ensures cause { H.counts h.new ≡ after_fault (start_fault result) (H.counts h.old) }
     {
-        let (daemon, marks) = recover_device(h)?;
-        match say_start(h, &marks) {
-            Ok(()) => Ok(daemon),
-            Err(fault) => {
-                daemon.stop();
-                Err(StartFault::from(fault))
-            }
-        }
+        let report = recover(h)?;
+        say_refused(h, &report.marks)?;
+        clear_spaces(h)?;
+        say_ready(h)?;
+        Ok(Daemon::begun(report.frames))
     }
 
     /// How many frames the device has, 4 to 1,024, as the start found it.
@@ -400,6 +387,8 @@ impl Daemon {
         ensures rest { H.tells → KeepsLine (file_in (command_of line.now)) (H.state h.old) (H.state h.new) }
         // Whatever the device holds: where a cut was counted and no fault came, the reply that was said is `cut`.
         ensures told { H.tells → IsOk result → (H.counts h.new).cuts ≢ (H.counts h.old).cuts → EndsIn (spoken aloud (of_reply Reply.Cut)) (H.state h.new).now.said }
+        // Whatever the device holds: one answer is said where `aloud`, and nothing else, and the result is whether it begins with `ok`.
+        ensures speaks { H.tells → IfOk result (λ ok. SaysAnswer self.new.frames aloud ok (H.state h.old) (H.state h.new)) }
         // What is counted, whatever the host tells. Without a fault it is nothing, or one cut where the reply does not begin with `ok`; but at a
         // line `cut N` that loss, and at a line `arm K N` that arming.
         ensures cause { CountsReply (command_of line.now) result false (H.counts h.old) (H.counts h.new) }

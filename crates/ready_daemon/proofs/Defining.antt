@@ -54,6 +54,7 @@ use Rattle.ready_daemon.specs.Held.{puddles_in, HasIdleLogs, Holds, ByOthers, Na
 use Rattle.ready_daemon.proofs.Beneath.{single_changes, persisted_single, logs_kept}
 use Rattle.ready_daemon.specs.Defined.{reply_of}
 use Rattle.ready_daemon.specs.Ready.{KeepsRest, IsReady, AppliesMasked, Applies}
+use Rattle.ready_daemon.proofs.Keeping.{KeepsRest-changes, KeepsRest-still}
 use Rattle.ready_daemon.specs.KnownPools.{KnowsPools}
 use Rattle.ready_daemon.proofs.Beside.{held_is, ready_idle, names_none_idle, Applies-beside}
 use Rattle.ready_daemon.proofs.JudgedLines.{KeepsPools-defined}
@@ -446,12 +447,12 @@ rest_by_place : (image : Image) (id map : ℕ) (fault : Option HostFault) (old n
     → (place_for image id ≡ None → new ≡ old) → ((r : ℕ) → place_for image id ≡ Some r → Defines r id map fault old new) → KeepsRest old new
 rest_by_place image id map fault old new None place idle defines =
     let same = idle place in
-    record { script = ap (λ (s : State). s.script) same; shelf = ap (λ (s : State). s.shelf) same }
+    KeepsRest-still old new same
 rest_by_place image id map fault old new (Some r) place idle defines =
     let d = defines r place in
-    record { script = d.persists.changes.script; shelf = d.persists.changes.shelf }
+    KeepsRest-changes _ fault old new d.persists.changes
 
--- whatever the device holds, a definition leaves the script and the shelf
+-- whatever the device holds, a definition says nothing, and leaves the script and the shelf
 pub KeepsRest-define : (image : Image) (id map : ℕ) (fault : Option HostFault) (old new : State)
     → (place_for image id ≡ None → new ≡ old) → ((r : ℕ) → place_for image id ≡ Some r → Defines r id map fault old new) → KeepsRest old new
 KeepsRest-define image id map fault old new idle defines = rest_by_place image id map fault old new (place_for image id) refl idle defines

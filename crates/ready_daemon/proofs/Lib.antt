@@ -1,3 +1,4 @@
+pub mod Keeping
 pub mod HeldUnder
 pub mod OpenNames
 pub mod Beside

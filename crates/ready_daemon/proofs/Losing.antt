@@ -71,4 +71,4 @@ Applies-lost size w memory a b ready loses =
 pub KeepsRest-lost : (a b : State) → LosesAtOnce a b → KeepsRest a b
 KeepsRest-lost a b loses =
     let lost = lost_at_once a b loses in
-    record { script = lost.script; shelf = lost.shelf }
+    record { quiet = lost.quiet; script = lost.script; shelf = lost.shelf }

@@ -22,8 +22,14 @@ use Rattle.ready_daemon.specs.Memory.{Memory}
 use Rattle.ready_daemon.specs.Held.{Holds, HasSessions, HasDurableFrames, HasIdleLogs, IsBeside}
 use Rattle.ready_daemon.specs.KnownPools.{KnowsPools}
 
--- the bytes left to read and the shelf stay
+-- nothing is said, and the bytes left to read and the shelf stay
 pub record KeepsRest (old new : State) : Type 0 where
+  pub quiet : new.now.said ≡ old.now.said
+  pub script : new.script ≡ old.script
+  pub shelf : new.shelf ≡ old.shelf
+
+-- the bytes left to read and the shelf stay
+pub record KeepsInput (old new : State) : Type 0 where
   pub script : new.script ≡ old.script
   pub shelf : new.shelf ≡ old.shelf
 

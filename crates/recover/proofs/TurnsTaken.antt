@@ -1,5 +1,5 @@
 -- The first logs replayed and closed in turn, and one more.
-use Rattle.std.proofs.Common.{◌≡◌, inl, inr, ℕ, ◌+◌, ◌<◌, ◌≤◌, true, [], Option, Some, None, refl, sym, ap, ◌∙◌, arith}
+use Rattle.std.proofs.Common.{◌≡◌, inl, inr, ℕ, ◌+◌, ◌<◌, ◌≤◌, [], Option, Some, None, refl, sym, ap, subst, ◌∙◌, arith}
 use Rattle.std.proofs.lemmas.Bool.{cases_eq}
 use Rattle.std.proofs.lemmas.List.{append-nil}
 use Rattle.pm_model.specs.declared.host.HostFault.{HostFault}
@@ -7,22 +7,23 @@ use Rattle.pm_model.specs.declared.host.HostFault.TheVariants.{Cut}
 use Rattle.pm_model.specs.Words.{reads, IsRested}
 use Rattle.pm_model.specs.Moments.{State}
 use Rattle.pm_model.specs.Changes.{Silently}
-use Rattle.pm_model.proofs.Words.{Picks-reads, reads_only}
+use Rattle.pm_model.proofs.Words.{reads_only}
 use Rattle.pm_model.proofs.Changes.{Changes-still, Changes-said, Changes-wider, Changes-then}
-use Rattle.pm_model.proofs.Leaves.{Leaves-still, Leaves-now, Leaves-then, Leaves-weaker}
+use Rattle.pm_model.proofs.Leaves.{Leaves-still, Leaves-then, Leaves-weaker}
 use Rattle.pud_defs.specs.declared.layout.TheConstants.{CLIENTS}
+use Rattle.pud_defs.specs.declared.log_words.TheConstants.{CLOSED_GATE}
 use Rattle.pud_defs.specs.Image.{Image}
 use Rattle.pud_defs.specs.Entries.{log_of}
 use Rattle.pud_defs.specs.Tables.{tables_of}
-use Rattle.pud_defs.specs.Spaces.{owner_of, is_closed_log, has_closed_logs}
+use Rattle.pud_defs.specs.Spaces.{owner_of, has_closed_logs}
 use Rattle.pud_defs.specs.Allowed.{is_accepted}
 use Rattle.pud_defs.specs.Settled.{gives_to, ALL_LOGS, client_of_log, log_number_at, given_by_log, is_refused_log, is_accepted_log, settled_over}
 use Rattle.pud_defs.specs.LogsTaken.{TakesLog}
-use Rattle.pud_defs.proofs.Spaces.{is_closed_log-same, owner_of-same}
+use Rattle.pud_defs.proofs.Spaces.{owner_of-same}
 use Rattle.pud_defs.proofs.TablesOf.{tables_of-same}
 use Rattle.pud_defs.proofs.LogsTaken.{beside_gate, below_logs, other_log, settled_same, refused_same, nothing_below_next, logs_still_closed}
 use Rattle.recover.specs.Verdicts.{verdict_by, verdict_of}
-use Rattle.recover.specs.Turns.{ByLog, ByLogs, TakesTurn, IsAlike, TakesTurns}
+use Rattle.recover.specs.Turns.{ByLog, ByLogs, TakesTurn, LeavesTurn, IsAlike, TakesTurns, LeavesTurns}
 
 -- ---- images that are alike
 
@@ -54,14 +55,19 @@ IsAlike-itself F image now same = record {
 
 -- ---- no log yet, and one more
 
-pub TakesTurns-start : (F : ℕ) (image : Image) (old : State) → IsRested old.now.words → reads old.now.words ≡ image → TakesTurns F 0 image None old old
-TakesTurns-start F image old rested is = record {
+pub TakesTurns-start : (F : ℕ) (image : Image) (old : State) → reads old.now.words ≡ image → TakesTurns F 0 image None old old
+TakesTurns-start F image old is = record {
   changes = Changes-still (ByLogs F 0 image) None old old (λ cut. absurd (let it : None ≡ Some _ = cut in cc)) refl;
-  moments = Leaves-still (Silently (IsAlike F image)) old old (λ other picked. (refl, IsAlike-itself F image other (reads_only old.now.words other rested picked ∙ is))) refl;
-  rested = λ none. rested;
+  alike = λ none. IsAlike-itself F image (reads old.now.words) is;
   gone = λ none. record { each = λ other w below. absurd (omega arith) };
   closed = λ none number below. absurd (omega arith);
   left = λ none number low few. ap (λ (i : Image). log_of i (log_number_at F number)) is;
+}
+
+pub LeavesTurns-still : (F : ℕ) (image : Image) (fault : Option HostFault) (old new : State) → IsRested old.now.words → reads old.now.words ≡ image → new ≡ old → LeavesTurns F image fault old new
+LeavesTurns-still F image fault old new rested is same = record {
+  moments = Leaves-still (Silently (IsAlike F image)) old new (λ other picked. (refl, IsAlike-itself F image other (reads_only old.now.words other rested picked ∙ is))) same;
+  rested = λ none. subst (λ (s : State). IsRested s.now.words) (sym same) rested;
 }
 
 module _ (F number : ℕ) (image : Image) (old mid : State) (known : number < ALL_LOGS) (first : TakesTurns F number image None old mid) where
@@ -72,7 +78,7 @@ module _ (F number : ℕ) (image : Image) (old mid : State) (known : number < AL
   said_mid = Changes-said (ByLogs F number image) None old mid first.changes
 
   alike_mid : IsAlike F image m
-  alike_mid = (Leaves-now (Silently (IsAlike F image)) [] old mid (said_mid ∙ sym (append-nil old.now.said)) first.moments m (Picks-reads mid.now.words)).1
+  alike_mid = first.alike refl
 
   log_mid : log_of m (log_number_at F number) ≡ log_of image (log_number_at F number)
   log_mid = first.left refl number (omega arith) known
@@ -106,33 +112,30 @@ module _ (F number : ℕ) (image : Image) (old mid : State) (known : number < AL
   }
 
   module _ (fault : Option HostFault) (new : State) (turn : TakesTurn F number m fault mid new) where
-    takes_now : TakesLog F number m (reads new.now.words)
-    takes_now = (Leaves-now (Silently (TakesLog F number m)) [] mid new (Changes-said (ByLog F number m) fault mid new turn.changes ∙ sym (append-nil mid.now.said)) turn.moments
-        (reads new.now.words) (Picks-reads new.now.words)).1
-
-    still_closed : (n : ℕ) → n < number → is_closed_log m (log_number_at F n) ≡ true → is_closed_log (reads new.now.words) (log_number_at F n) ≡ true
-    still_closed n below was =
-        is_closed_log-same (reads new.now.words) m (log_number_at F n) (λ k inside.
-        let low = inside.low in
-        let high = inside.high in
-        beside_gate F number m (reads new.now.words) known takes_now k (omega arith) (λ same. absurd (omega arith))) ∙ was
+    still_closed : fault ≡ None → (n : ℕ) → n < number → m (log_number_at F n) ≡ CLOSED_GATE → reads new.now.words (log_number_at F n) ≡ CLOSED_GATE
+    still_closed none n below was = beside_gate F number m (reads new.now.words) known (turn.takes none) (log_number_at F n) (omega arith) (λ same. absurd (omega arith)) ∙ was
 
     pub TakesTurns-turn : TakesTurns F (number + 1) image fault old new
     TakesTurns-turn = record {
       changes = Changes-then (ByLogs F (number + 1) image) fault old mid new
           (Changes-wider (ByLogs F number image) (ByLogs F (number + 1) image) None old mid widened first.changes)
           (Changes-wider (ByLog F number m) (ByLogs F (number + 1) image) fault mid new of_this turn.changes);
-      moments = Leaves-then (Silently (IsAlike F image)) (Silently (IsAlike F image)) (Silently (IsAlike F image)) [] old mid new (said_mid ∙ sym (append-nil old.now.said))
-          (λ front other q. q) (λ more other q. q) first.moments
-          (Leaves-weaker (Silently (TakesLog F number m)) (Silently (IsAlike F image)) mid new (λ bytes other q. (q.0, alike_then other q.1)) turn.moments);
-      rested = turn.rested;
-      gone = λ none. nothing_below_next F number m (reads new.now.words) known takes_now (first.gone refl) (turn.gone none);
+      alike = λ none. alike_then (reads new.now.words) (turn.takes none);
+      gone = λ none. nothing_below_next F number m (reads new.now.words) known (turn.takes none) (first.gone refl) (turn.gone none);
       closed = λ none n below accepted. elim (cases_eq n number) [
-        | inl here ↦ ap (λ (x : ℕ). is_closed_log (reads new.now.words) (log_number_at F x)) here
+        | inl here ↦ ap (λ (x : ℕ). reads new.now.words (log_number_at F x)) here
             ∙ turn.closed none (alike_accepted F image m alike_mid number known log_mid ∙ ap (is_accepted_log F image) (sym here) ∙ accepted)
-        | inr apart ↦ still_closed n (omega arith) (first.closed refl n (omega arith) accepted)
+        | inr apart ↦ still_closed none n (omega arith) (first.closed refl n (omega arith) accepted)
       ];
-      left = λ none n low few. other_log F number m (reads new.now.words) known takes_now n few (λ same. absurd (omega arith)) ∙ first.left refl n (omega arith) few;
+      left = λ none n low few. other_log F number m (reads new.now.words) known (turn.takes none) n few (λ same. absurd (omega arith)) ∙ first.left refl n (omega arith) few;
+    }
+
+    pub LeavesTurns-turn : LeavesTurns F image None old mid → LeavesTurn F number m fault mid new → LeavesTurns F image fault old new
+    LeavesTurns-turn so_far last = record {
+      moments = Leaves-then (Silently (IsAlike F image)) (Silently (IsAlike F image)) (Silently (IsAlike F image)) [] old mid new (said_mid ∙ sym (append-nil old.now.said))
+          (λ front other q. q) (λ more other q. q) so_far.moments
+          (Leaves-weaker (Silently (TakesLog F number m)) (Silently (IsAlike F image)) mid new (λ bytes other q. (q.0, alike_then other q.1)) last.moments);
+      rested = last.rested;
     }
 
 pub none_of_fault : {A : Type 0} (fault : HostFault) → Some fault ≡ None → A
@@ -143,20 +146,17 @@ pub TakesTurns-failed : (F count all : ℕ) (image : Image) (fault : HostFault) 
 TakesTurns-failed F count all image fault old new few t =
     record {
       changes = Changes-wider (ByLogs F count image) (ByLogs F all image) (Some fault) old new (λ k v by. record { number = by.number; below = let low = by.below in omega arith; of_log = by.of_log }) t.changes;
-      moments = t.moments;
-      rested = λ none. none_of_fault fault none;
+      alike = λ none. none_of_fault fault none;
       gone = λ none. none_of_fault fault none;
       closed = λ none. none_of_fault fault none;
       left = λ none. none_of_fault fault none;
     }
 
 -- nor where nothing was done
-pub TakesTurns-unread : (F : ℕ) (image : Image) (fault : HostFault) (old new : State) → IsRested old.now.words → reads old.now.words ≡ image → (Some fault ≡ Some Cut → ⊥) → new ≡ old
-    → TakesTurns F ALL_LOGS image (Some fault) old new
-TakesTurns-unread F image fault old new rested is uncut same = record {
+pub TakesTurns-unread : (F : ℕ) (image : Image) (fault : HostFault) (old new : State) → (Some fault ≡ Some Cut → ⊥) → new ≡ old → TakesTurns F ALL_LOGS image (Some fault) old new
+TakesTurns-unread F image fault old new uncut same = record {
   changes = Changes-still (ByLogs F ALL_LOGS image) (Some fault) old new uncut same;
-  moments = Leaves-still (Silently (IsAlike F image)) old new (λ other picked. (refl, IsAlike-itself F image other (reads_only old.now.words other rested picked ∙ is))) same;
-  rested = λ none. none_of_fault fault none;
+  alike = λ none. none_of_fault fault none;
   gone = λ none. none_of_fault fault none;
   closed = λ none. none_of_fault fault none;
   left = λ none. none_of_fault fault none;

@@ -5,10 +5,11 @@ use Rattle.pm_model.specs.Words.{reads, IsRested}
 use Rattle.pm_model.specs.Moments.{State}
 use Rattle.pm_model.specs.Changes.{Footprint, Changes, Leaves, Silently}
 use Rattle.pud_defs.specs.declared.layout.TheConstants.{CLIENTS}
+use Rattle.pud_defs.specs.declared.log_words.TheConstants.{CLOSED_GATE}
 use Rattle.pud_defs.specs.Image.{Image}
 use Rattle.pud_defs.specs.Layout.{tables_end}
 use Rattle.pud_defs.specs.Entries.{log_of}
-use Rattle.pud_defs.specs.Spaces.{is_closed_log, has_closed_logs}
+use Rattle.pud_defs.specs.Spaces.{has_closed_logs}
 use Rattle.pud_defs.specs.Settled.{ALL_LOGS, log_number_at, given_by_log, is_refused_log, is_accepted_log, settled_over}
 use Rattle.pud_defs.specs.LogsTaken.{TakesLog, GivesNothingBelow}
 use Rattle.log_replay.specs.Replaying.{IsNamed}
@@ -31,14 +32,18 @@ pub record IsOfLogs (F count : ℕ) (image : Image) (k : ℕ) : Type 0 where
 abbrev pub ByLogs : (F count : ℕ) → Image → Footprint
 ByLogs F count image k v = IsOfLogs F count image k
 
--- One log of a rested device, which reads as this image, was replayed and closed, where it is registered and allowed; else nothing changed.
--- Without a fault the device is rested, and the log gives nothing any more.
+-- One log of a device that reads as this image was replayed and closed, where it is registered and allowed; else nothing changed. Without a
+-- fault what is read is the image with that log taken, the log gives nothing any more, and one that is allowed has the gate of a closed log.
 pub record TakesTurn (F number : ℕ) (image : Image) (fault : Option HostFault) (old new : State) : Type 0 where
   pub changes : Changes (ByLog F number image) fault old new
+  pub takes : fault ≡ None → TakesLog F number image (reads new.now.words)
+  pub gone : fault ≡ None → (w : ℕ) → given_by_log F (reads new.now.words) number w ≡ None
+  pub closed : fault ≡ None → is_accepted_log F image number ≡ true → reads new.now.words (log_number_at F number) ≡ CLOSED_GATE
+
+-- Of a rested device each image left at any moment has the log taken, wholly or in part; without a fault it is rested again.
+pub record LeavesTurn (F number : ℕ) (image : Image) (fault : Option HostFault) (old new : State) : Type 0 where
   pub moments : Leaves (Silently (TakesLog F number image)) old new
   pub rested : fault ≡ None → IsRested new.now.words
-  pub gone : fault ≡ None → (w : ℕ) → given_by_log F (reads new.now.words) number w ≡ None
-  pub closed : fault ≡ None → is_accepted_log F image number ≡ true → is_closed_log (reads new.now.words) (log_number_at F number) ≡ true
 
 -- An image from which a start makes the same: below the clients' logs it is the same, it settles to the same, the same logs are refused, and where
 -- a client's logs were closed they are.
@@ -48,12 +53,17 @@ pub record IsAlike (F : ℕ) (before image : Image) : Type 0 where
   pub refused : (number : ℕ) → number < ALL_LOGS → is_refused_log F image number ≡ is_refused_log F before number
   pub closed : (client : ℕ) → client < CLIENTS → has_closed_logs before F client ≡ true → has_closed_logs image F client ≡ true
 
--- The first logs of a rested device, which reads as this image, were replayed and closed in turn, those that are registered and allowed; nothing
--- else changed. Without a fault the device is rested, and none of them gives anything any more; those behind them are as they were.
+-- The first logs of a device that reads as this image were replayed and closed in turn, those that are registered and allowed; nothing else
+-- changed. Without a fault a start makes the same of what is read, none of them gives anything any more, those that are allowed have the gate
+-- of a closed log, and those behind them are as they were.
 pub record TakesTurns (F count : ℕ) (image : Image) (fault : Option HostFault) (old new : State) : Type 0 where
   pub changes : Changes (ByLogs F count image) fault old new
+  pub alike : fault ≡ None → IsAlike F image (reads new.now.words)
+  pub gone : fault ≡ None → GivesNothingBelow F count (reads new.now.words)
+  pub closed : fault ≡ None → (number : ℕ) → number < count → is_accepted_log F image number ≡ true → reads new.now.words (log_number_at F number) ≡ CLOSED_GATE
+  pub left : fault ≡ None → (number : ℕ) → count ≤ number → number < ALL_LOGS → log_of (reads new.now.words) (log_number_at F number) ≡ log_of image (log_number_at F number)
+
+-- Of a rested device a start makes the same of each image left at any moment; without a fault it is rested again.
+pub record LeavesTurns (F : ℕ) (image : Image) (fault : Option HostFault) (old new : State) : Type 0 where
   pub moments : Leaves (Silently (IsAlike F image)) old new
   pub rested : fault ≡ None → IsRested new.now.words
-  pub gone : fault ≡ None → GivesNothingBelow F count (reads new.now.words)
-  pub closed : fault ≡ None → (number : ℕ) → number < count → is_accepted_log F image number ≡ true → is_closed_log (reads new.now.words) (log_number_at F number) ≡ true
-  pub left : fault ≡ None → (number : ℕ) → count ≤ number → number < ALL_LOGS → log_of (reads new.now.words) (log_number_at F number) ≡ log_of image (log_number_at F number)

@@ -14,12 +14,11 @@ ghost use Rattle.pud_defs.specs.World.{StoredWorld, world_of};
 ghost use Rattle.soundness.specs.Judging.{IsRoomFor};
 ghost use Rattle.log_replay.specs.Replaying.{Anything};
 ghost use Rattle.recover.specs.Verdicts.{verdict_of, mark_of, is_refused_mark};
-ghost use Rattle.recover.specs.Turns.{TakesTurns};
-ghost use Rattle.recover.specs.Recovery.{recover_fault, RecoversDevice};
+ghost use Rattle.recover.specs.Turns.{TakesTurns, LeavesTurns};
+ghost use Rattle.recover.specs.Recovery.{recover_fault, ReplaysLogs, RecoversDevice};
 
 use crate::judge::{LOGS, Mark, judge};
 use crate::turn::take_logs;
-use log_space::clear_spaces;
 use pm_model::{Host, HostFault};
 use registry::{LoadFault, load_sound};
 
@@ -85,8 +84,10 @@ fn settle_logs<H: Host>(h: &mut H, frames: u32) -> Result<[Mark; LOGS], HostFaul
     requires room { device_words frames ≤ (H.counts h.old).size }
     ensures marks { H.tells → (image : Image) → reads (H.state h.old).now.words ≡ image
         → IfOk result (λ marks. (number : ℕ) → number < ALL_LOGS → slice_index_or marks number Mark.Closed ≡ mark_of (verdict_of frames image number)) }
-    ensures takes { H.tells → (image : Image) → IsRested (H.state h.old).now.words → reads (H.state h.old).now.words ≡ image
+    ensures takes { H.tells → (image : Image) → reads (H.state h.old).now.words ≡ image
         → TakesTurns frames ALL_LOGS image (fault_of result) (H.state h.old) (H.state h.new) }
+    ensures leaves { H.tells → (image : Image) → IsRested (H.state h.old).now.words → reads (H.state h.old).now.words ≡ image
+        → LeavesTurns frames image (fault_of result) (H.state h.old) (H.state h.new) }
     ensures any { H.tells → Changes Anything (fault_of result) (H.state h.old) (H.state h.new) }
     ensures cause { H.counts h.new ≡ after_fault (fault_of result) (H.counts h.old) }
 {
@@ -95,18 +96,21 @@ fn settle_logs<H: Host>(h: &mut H, frames: u32) -> Result<[Mark; LOGS], HostFaul
     Ok(marks_of(&found))
 }
 
-/// Recovers the device: applies what its daemon log names, replays and closes each registered log that its owner may, in the
-/// order of their numbers, and empties the log-space table. It takes no memory, and may be cut off anywhere and done again.
+/// Recovers the device: applies what its daemon log names, and replays and closes each registered log that its owner may, in
+/// the order of their numbers. It takes no memory, and may be cut off anywhere and done again. Which logs are registered stays:
+/// what a start is to tell of them is told before they are forgotten.
 ///
 /// `NotSound` comes exactly where the device is not a sound registry, where the host does not fail first; then nothing
 /// changed. Clients' logs may hold anything: one that is not well formed, or names in its range anything but words of one
-/// puddle an entry that its owner may write, is refused whole, and stays as it is. On a device that is rested each image left
-/// meanwhile stands for the same world, and at `Ok` tables and frames read as the settled image. The only other errors are the
-/// host's own.
+/// puddle an entry that its owner may write, is refused whole, and stays as it is. At `Ok` tables and frames read as the settled
+/// image, and each log that was replayed or had nothing to replay has the gate of a closed log. On a device that is rested a
+/// start makes of each image left meanwhile what it makes of the device. The only other errors are the host's own.
 pub fn recover<H: Host>(h: &mut H) -> Result<Report, RecoverFault>
     ensures not_sound { H.tells → recover_fault result ≡ Option.None
         → (result ≡ Result.Err RecoverFault.NotSound) ↔ (world_of (H.counts h.old).size (reads (H.state h.old).now.words) ≡ Option.None) }
     ensures unchanged { H.tells → result ≡ Result.Err RecoverFault.NotSound → H.state h.new ≡ H.state h.old }
+    ensures replays { H.tells → (size : ℕ) → size ≡ (H.counts h.old).size → (s : StoredWorld)
+        → world_of size (reads (H.state h.old).now.words) ≡ Option.Some s → ReplaysLogs s.frames (recover_fault result) (H.state h.old) (H.state h.new) }
     ensures recovers { H.tells → (size : ℕ) → size ≡ (H.counts h.old).size → (s : StoredWorld) → IsRested (H.state h.old).now.words
         → world_of size (reads (H.state h.old).now.words) ≡ Option.Some s → RecoversDevice size s (recover_fault result) (H.state h.old) (H.state h.new) }
     ensures marks { H.tells → (image : Image) → reads (H.state h.old).now.words ≡ image
@@ -122,7 +126,6 @@ pub fn recover<H: Host>(h: &mut H) -> Result<Report, RecoverFault>
 {
     let geo = load_sound(h)?;
     let marks = settle_logs(h, geo.frames)?;
-    clear_spaces(h)?;
     Ok(Report {
         frames: geo.frames,
         marks,

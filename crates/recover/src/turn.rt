@@ -9,7 +9,7 @@ ghost use Rattle.pud_defs.specs.Layout.{device_words};
 ghost use Rattle.pud_defs.specs.Settled.{ALL_LOGS, log_number_at};
 ghost use Rattle.log_replay.specs.Replaying.{Anything};
 ghost use Rattle.recover.specs.Verdicts.{verdict_of};
-ghost use Rattle.recover.specs.Turns.{TakesTurn, TakesTurns};
+ghost use Rattle.recover.specs.Turns.{TakesTurn, LeavesTurn, TakesTurns, LeavesTurns};
 
 use crate::judge::{LOGS, Mark};
 use log_replay::{Target, settle_log};
@@ -27,20 +27,21 @@ fn log_number_at(frames: u32, number: LogNo) -> u32
     log_at(frames, number / CLIENT_LOGS, number % CLIENT_LOGS)
 }
 
-/// Closes a log none of whose entries is in range, durably. One that has the gate of a closed log, or of a device just
-/// formatted, stays as it is.
+/// Closes a log none of whose entries is in range, durably. One that has the gate of a closed log stays as it is.
 fn close_idle<H: Host>(h: &mut H, frames: u32, number: LogNo) -> Result<(), HostFault>
     requires few { frames ≤ MAX_FRAMES }
     requires known { number < ALL_LOGS }
     requires room { device_words frames ≤ (H.counts h.old).size }
-    ensures takes { H.tells → (image : Image) → IsRested (H.state h.old).now.words → reads (H.state h.old).now.words ≡ image
+    ensures takes { H.tells → (image : Image) → reads (H.state h.old).now.words ≡ image
         → verdict_of frames image number ≡ Option.Some Mark.Closed → TakesTurn frames number image (fault_of result) (H.state h.old) (H.state h.new) }
+    ensures leaves { H.tells → (image : Image) → IsRested (H.state h.old).now.words → reads (H.state h.old).now.words ≡ image
+        → verdict_of frames image number ≡ Option.Some Mark.Closed → LeavesTurn frames number image (fault_of result) (H.state h.old) (H.state h.new) }
     ensures any { H.tells → Changes Anything (fault_of result) (H.state h.old) (H.state h.new) }
     ensures cause { H.counts h.new ≡ after_fault (fault_of result) (H.counts h.old) }
 {
     let at = log_number_at(frames, number);
     let gate = h.load(at)?;
-    if gate == 0 || gate == CLOSED_GATE {
+    if gate == CLOSED_GATE {
         return Ok(());
     }
     persist_word(h, at, CLOSED_GATE)
@@ -56,8 +57,10 @@ fn take_log<H: Host>(
     requires few { frames ≤ MAX_FRAMES }
     requires known { number < ALL_LOGS }
     requires room { device_words frames ≤ (H.counts h.old).size }
-    ensures takes { H.tells → (image : Image) → IsRested (H.state h.old).now.words → reads (H.state h.old).now.words ≡ image
+    ensures takes { H.tells → (image : Image) → reads (H.state h.old).now.words ≡ image
         → found ≡ verdict_of frames image number → TakesTurn frames number image (fault_of result) (H.state h.old) (H.state h.new) }
+    ensures leaves { H.tells → (image : Image) → IsRested (H.state h.old).now.words → reads (H.state h.old).now.words ≡ image
+        → found ≡ verdict_of frames image number → LeavesTurn frames number image (fault_of result) (H.state h.old) (H.state h.new) }
     ensures any { H.tells → Changes Anything (fault_of result) (H.state h.old) (H.state h.new) }
     ensures cause { H.counts h.new ≡ after_fault (fault_of result) (H.counts h.old) }
 {
@@ -81,9 +84,12 @@ pub(crate) fn take_logs<H: Host>(
 ) -> Result<(), HostFault>
     requires few { frames ≤ MAX_FRAMES }
     requires room { device_words frames ≤ (H.counts h.old).size }
-    ensures takes { H.tells → (image : Image) → IsRested (H.state h.old).now.words → reads (H.state h.old).now.words ≡ image
+    ensures takes { H.tells → (image : Image) → reads (H.state h.old).now.words ≡ image
         → ((number : ℕ) → number < ALL_LOGS → slice_index_or found.now number Option.None ≡ verdict_of frames image number)
         → TakesTurns frames ALL_LOGS image (fault_of result) (H.state h.old) (H.state h.new) }
+    ensures leaves { H.tells → (image : Image) → IsRested (H.state h.old).now.words → reads (H.state h.old).now.words ≡ image
+        → ((number : ℕ) → number < ALL_LOGS → slice_index_or found.now number Option.None ≡ verdict_of frames image number)
+        → LeavesTurns frames image (fault_of result) (H.state h.old) (H.state h.new) }
     ensures any { H.tells → Changes Anything (fault_of result) (H.state h.old) (H.state h.new) }
     ensures cause { H.counts h.new ≡ after_fault (fault_of result) (H.counts h.old) }
 {

@@ -2,7 +2,7 @@ use Rattle.std.proofs.Common.{Some, None, refl, ap, ◌∙◌}
 use Rattle.std.proofs.lemmas.Result.{err_from_is_err_and}
 use Rattle.pm_model.specs.Words.{reads}
 use Rattle.puddle_cli.specs.Views.{text_of}
-use Rattle.puddled.proofs.Lines.{KeepsRest-says, words_said}
+use Rattle.puddled.proofs.Lines.{KeepsInput-says, words_said}
 use Rattle.puddle_cli.proofs.Showing.{not_refused, shown, shown_in_the_end, SaysPart-started, world_at, Leaves-start, Leaves-shown}
 use Rattle.puddle_cli.proofs.show.start_and_say.Goals as goal
 
@@ -30,7 +30,7 @@ returns-in_err-say_view-clause-moments g c = λ t size same rested s world.
     Leaves-shown size s old _ _ _ _ _ (c.in_ok-daemon.ensures.starts t size same (world_at size s old old) rested world refl) (c.in_err-say_view.ensures.says t).says
 
 pub returns-in_err-say_view-clause-rest : goal.returns-in_err-say_view-clause-rest
-returns-in_err-say_view-clause-rest g c = λ t. KeepsRest-says _ _ _ _ _ (c.in_ok-daemon.ensures.rest t) (c.in_err-say_view.ensures.says t).says
+returns-in_err-say_view-clause-rest g c = λ t. KeepsInput-says _ _ _ _ _ (c.in_ok-daemon.ensures.rest t) (c.in_err-say_view.ensures.says t).says
 
 -- ---- it was said whole
 
@@ -52,4 +52,4 @@ returns-clause-moments g c = λ t size same rested s world.
     Leaves-shown size s old _ _ _ _ _ (c.in_ok-daemon.ensures.starts t size same (world_at size s old old) rested world refl) (c.in_ok-say_view.ensures.says t).says
 
 pub returns-clause-rest : goal.returns-clause-rest
-returns-clause-rest g c = λ t. KeepsRest-says _ _ _ _ _ (c.in_ok-daemon.ensures.rest t) (c.in_ok-say_view.ensures.says t).says
+returns-clause-rest g c = λ t. KeepsInput-says _ _ _ _ _ (c.in_ok-daemon.ensures.rest t) (c.in_ok-say_view.ensures.says t).says

@@ -3,6 +3,7 @@ use Rattle.std.proofs.lemmas.Result.{err_from_is_err_and}
 use Rattle.pm_model.specs.Counts.{Counts}
 use Rattle.pud_defs.specs.World.{closed}
 use Rattle.ready_daemon.proofs.Coming.{gates_apart, record_apart, gate_closed, Applies-unadmitted, Applies-admitted}
+use Rattle.ready_daemon.proofs.Keeping.{KeepsRest-changes, KeepsRest-then}
 use Rattle.puddled.proofs.clients.admit.Goals as goal
 
 pub returns-in_err-close_logs-clause-applies : goal.returns-in_err-close_logs-clause-applies
@@ -23,3 +24,9 @@ returns-clause-applies g c = λ t size e w memory frames ready others.
     (c.register.ensures.commits t (gate_closed size w memory c.args.frames c.args.client _ _ ready gates))
     (c.register.ensures.registers t size then (closed w) ready.mask
     (record_apart size w memory c.args.client c.requires.known others _ ready (1 ∷ c.args.uid ∷ c.args.gid ∷ []) (omega arith)) (closes.settled refl) (closes.closed refl))
+
+pub returns-in_err-close_logs-clause-rest : goal.returns-in_err-close_logs-clause-rest
+returns-in_err-close_logs-clause-rest g c = λ t. KeepsRest-changes _ _ _ _ (c.in_err-close_logs.ensures.any t)
+
+pub returns-clause-rest : goal.returns-clause-rest
+returns-clause-rest g c = λ t. KeepsRest-then _ _ _ (KeepsRest-changes _ _ _ _ (c.in_ok-close_logs.ensures.any t)) (KeepsRest-changes _ _ _ _ (c.register.ensures.any t))

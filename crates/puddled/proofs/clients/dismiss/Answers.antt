@@ -3,6 +3,7 @@ use Rattle.std.proofs.lemmas.Result.{err_from_is_err_and}
 use Rattle.pm_model.specs.Counts.{Counts}
 use Rattle.pud_defs.specs.World.{closed}
 use Rattle.ready_daemon.proofs.Coming.{gates_apart, record_apart, gate_closed, Applies-undismissed, Applies-dismissed, ClosesBefore-closing, ClosesBefore-freed}
+use Rattle.ready_daemon.proofs.Keeping.{KeepsRest-changes, KeepsRest-then}
 use Rattle.puddled.proofs.clients.dismiss.Goals as goal
 
 pub returns-in_err-close_logs-clause-applies : goal.returns-in_err-close_logs-clause-applies
@@ -33,3 +34,9 @@ returns-clause-closes_first g c = λ t size e w memory frames ready present.
     let gates = c.in_ok-close_logs.ensures.gates t in
     ClosesBefore-freed size w memory c.args.client c.requires.known present c.args.frames _ _ _ _ (sym frames ∙ ready.frames) ready gates
     (c.unregister.ensures.commits t (gate_closed size w memory c.args.frames c.args.client _ _ ready gates))
+
+pub returns-in_err-close_logs-clause-rest : goal.returns-in_err-close_logs-clause-rest
+returns-in_err-close_logs-clause-rest g c = λ t. KeepsRest-changes _ _ _ _ (c.in_err-close_logs.ensures.any t)
+
+pub returns-clause-rest : goal.returns-clause-rest
+returns-clause-rest g c = λ t. KeepsRest-then _ _ _ (KeepsRest-changes _ _ _ _ (c.in_ok-close_logs.ensures.any t)) (KeepsRest-changes _ _ _ _ (c.unregister.ensures.any t))

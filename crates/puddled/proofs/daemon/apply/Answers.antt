@@ -6,7 +6,8 @@ use Rattle.pud_defs.specs.Grammar.{IsLegalCommand}
 use Rattle.ready_daemon.specs.Memory.{Memory}
 use Rattle.puddled.specs.declared.answers.Answered.TheVariants as answers
 use Rattle.puddled.specs.Daemon.{CarriesOut}
-use Rattle.puddled.proofs.Carrying.{keeps_still, ClosesLogs-leave, ClosesLogs-other, CarriesOut-plain, CarriesOut-as, CarriesOut-listed, CarriesOut-lost, CarriesOut-armed}
+use Rattle.ready_daemon.proofs.Keeping.{KeepsRest-still}
+use Rattle.puddled.proofs.Carrying.{ClosesLogs-leave, ClosesLogs-other, CarriesOut-plain, CarriesOut-as, CarriesOut-listed, CarriesOut-lost, CarriesOut-armed}
 use Rattle.puddled.proofs.daemon.apply.Goals as goal
 
 pub returns-in-Client-clause-carries : goal.returns-in-Client-clause-carries
@@ -61,7 +62,7 @@ returns-in-Get-clause-carries g c = λ t size e w ready.
     let get = Get c.in-Get.client c.in-Get.name c.in-Get.s c.in-Get.f in
     CarriesOut-as size w c.get_for.new.self _ _ _ _ c.args.command get c.with_reply-in-Get.result c.get_for.result c.in-Get.is c.with_reply-in-Get.ensures
     (CarriesOut-plain size w c.get_for.new.self _ _ _ _ get c.get_for.result refl refl (c.get_for.ensures.reply t size w ready) (c.get_for.ensures.applies t size w ready)
-    (ClosesLogs-other w _ _ _ (λ client no. cc)) (keeps_still _ _ (c.get_for.ensures.stays t)) c.get_for.ensures.cause)
+    (ClosesLogs-other w _ _ _ (λ client no. cc)) (KeepsRest-still _ _ (c.get_for.ensures.stays t)) c.get_for.ensures.cause)
 
 pub returns-in-Begin-clause-carries : goal.returns-in-Begin-clause-carries
 returns-in-Begin-clause-carries g c = λ t size e w ready.

@@ -10,9 +10,9 @@ use Rattle.pud_defs.specs.Grammar.{command_of}
 use Rattle.pud_defs.specs.Changing.{file_in}
 use Rattle.puddled.specs.Faults.{kind_of, CountsLine, CountsReply, HasLostPower}
 use Rattle.puddled.specs.declared.answers.Answered.TheVariants as answers
-use Rattle.puddled.specs.Daemon.{KeepsLine, CarriesOut}
+use Rattle.puddled.specs.Daemon.{KeepsAllBut, CarriesOut}
 use Rattle.puddled.proofs.Counted.{counted_nothing, bad_loses_nothing, size_of_command}
-use Rattle.puddled.proofs.Carrying.{CarriesOut-bad, KeepsLine-then}
+use Rattle.puddled.proofs.Carrying.{CarriesOut-bad, KeepsAllBut-then}
 use Rattle.puddled.proofs.Settling.{Settles-done}
 use Rattle.puddled.proofs.daemon.settle.Goals as goal
 
@@ -50,7 +50,7 @@ returns-in-Ok-clause-not_sound g c = λ t unsound.
 
 pub returns-in-Ok-clause-rest : goal.returns-in-Ok-clause-rest
 returns-in-Ok-clause-rest g c = λ t.
-    subst (λ (o : Option Command). KeepsLine (file_in o) (g.H.Host.state c.args.h.now) (g.H.Host.state c.go_on.new.h)) c.in-Ok.ensures.command (KeepsLine-then _ _ _ _ (c.apply-done.ensures.rest t) (c.go_on.ensures.rest t))
+    subst (λ (o : Option Command). KeepsAllBut (file_in o) (g.H.Host.state c.args.h.now) (g.H.Host.state c.go_on.new.h)) c.in-Ok.ensures.command (KeepsAllBut-then _ _ _ _ (c.apply-done.ensures.rest t) (c.go_on.ensures.rest t))
 
 pub returns-in-Ok-clause-cause : goal.returns-in-Ok-clause-cause
 returns-in-Ok-clause-cause g c =

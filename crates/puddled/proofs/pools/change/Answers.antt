@@ -12,6 +12,7 @@ use Rattle.pud_defs.proofs.PoolRefusals.{refusal_of-owned}
 use Rattle.pud_defs.proofs.Steps.{refused_answer, answer_is_ok}
 use Rattle.ready_daemon.proofs.Applying.{Applies-failed, Applies-refused}
 use Rattle.ready_daemon.proofs.Pooling.{Applies-behind, Applies-mode}
+use Rattle.ready_daemon.proofs.Keeping.{KeepsRest-changes, KeepsRest-still, KeepsRest-then}
 use Rattle.puddled.proofs.pools.change.Goals as goal
 
 pub returns-in_err-refusal-clause-applies : goal.returns-in_err-refusal-clause-applies
@@ -62,3 +63,9 @@ returns-in_ok-change_mode-in-Ok-clause-applies g c = λ t size e w memory sessio
     (subst (λ (s : State). IsSlotOf w.stored.frames c.args.name (reads s.now.words) c.in-Ok.slot) (sym (c.find_owned.ensures.stays t)) found) c.args.mode
     (c.in_ok-change_mode-in-Ok.ensures.any t).rests (λ idle. c.in_ok-change_mode-in-Ok.ensures.commits t size then idle)
     (λ off settled r at. c.in_ok-change_mode-in-Ok.ensures.changes t size then w.stored ready_then.mask off settled r at legal.3)) ready
+
+pub returns-in_err-change_mode-in-Ok-clause-rest : goal.returns-in_err-change_mode-in-Ok-clause-rest
+returns-in_err-change_mode-in-Ok-clause-rest g c = λ t. KeepsRest-then _ _ _ (KeepsRest-still _ _ (c.in_ok-refusal.ensures.stays t)) (KeepsRest-changes _ _ _ _ (c.in_err-change_mode-in-Ok.ensures.any t))
+
+pub returns-in_ok-change_mode-in-Ok-clause-rest : goal.returns-in_ok-change_mode-in-Ok-clause-rest
+returns-in_ok-change_mode-in-Ok-clause-rest g c = λ t. KeepsRest-then _ _ _ (KeepsRest-still _ _ (c.in_ok-refusal.ensures.stays t)) (KeepsRest-changes _ _ _ _ (c.in_ok-change_mode-in-Ok.ensures.any t))

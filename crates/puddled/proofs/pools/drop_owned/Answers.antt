@@ -15,6 +15,7 @@ use Rattle.ready_daemon.specs.Judged.{AreOnDevice}
 use Rattle.ready_daemon.proofs.Known.{AreOnDevice-forgotten}
 use Rattle.ready_daemon.proofs.Applying.{Applies-failed, Applies-refused, Applies-known}
 use Rattle.ready_daemon.proofs.Pooling.{Applies-behind, Applies-drop}
+use Rattle.ready_daemon.proofs.Keeping.{KeepsRest-changes, KeepsRest-still, KeepsRest-then}
 use Rattle.puddled.proofs.pools.drop_owned.Goals as goal
 
 pub returns-in_err-refusal-clause-applies : goal.returns-in_err-refusal-clause-applies
@@ -97,3 +98,9 @@ returns-in_err-drop_pool-in-Ok-clause-within g c = λ before. subst (AreOnDevice
 
 pub returns-in_ok-drop_pool-in-Ok-clause-within : goal.returns-in_ok-drop_pool-in-Ok-clause-within
 returns-in_ok-drop_pool-in-Ok-clause-within g c = λ before. subst (AreOnDevice c.args.frames) (sym c.forget.ensures) (AreOnDevice-forgotten c.args.frames c.args.judged.now c.in-Ok.slot before)
+
+pub returns-in_err-drop_pool-in-Ok-clause-rest : goal.returns-in_err-drop_pool-in-Ok-clause-rest
+returns-in_err-drop_pool-in-Ok-clause-rest g c = λ t. KeepsRest-then _ _ _ (KeepsRest-still _ _ (c.in_ok-refusal.ensures.stays t)) (KeepsRest-changes _ _ _ _ (c.in_err-drop_pool-in-Ok.ensures.any t))
+
+pub returns-in_ok-drop_pool-in-Ok-clause-rest : goal.returns-in_ok-drop_pool-in-Ok-clause-rest
+returns-in_ok-drop_pool-in-Ok-clause-rest g c = λ t. KeepsRest-then _ _ _ (KeepsRest-still _ _ (c.in_ok-refusal.ensures.stays t)) (KeepsRest-changes _ _ _ _ (c.in_ok-drop_pool-in-Ok.ensures.any t))

@@ -11,6 +11,7 @@ use Rattle.pud_defs.specs.declared.machine.Refusal.TheVariants as refusals
 use Rattle.pud_defs.proofs.Steps.{refused_answer}
 use Rattle.ready_daemon.proofs.Applying.{Applies-failed, Applies-refused}
 use Rattle.ready_daemon.proofs.Pooling.{acting, absent, refused_pool_client, Applies-behind, reply_making, Applies-making}
+use Rattle.ready_daemon.proofs.Keeping.{KeepsRest-changes, KeepsRest-still, KeepsRest-then}
 use Rattle.puddled.proofs.pools.make.Goals as goal
 
 pub returns-in_err-who-clause-applies : goal.returns-in_err-who-clause-applies
@@ -52,3 +53,6 @@ returns-clause-applies g c = λ t size e w memory frames ready legal.
     (λ idle none. c.make_pool.ensures.commits t size then _ refl idle none)
     (c.make_pool.ensures.unchanged t _ refl)
     (c.make_pool.ensures.any t).rests) ready
+
+pub returns-clause-rest : goal.returns-clause-rest
+returns-clause-rest g c = λ t. KeepsRest-then _ _ _ (KeepsRest-still _ _ (c.in_ok-who.ensures.stays t)) (KeepsRest-changes _ _ _ _ (c.make_pool.ensures.any t))

@@ -15,10 +15,18 @@ use Rattle.registry.specs.declared.LoadFault.{LoadFault}
 use Rattle.registry.specs.declared.LoadFault.TheVariants.{NotSound}
 use Rattle.registry.specs.Registry.{load_fault}
 use Rattle.recover.specs.Verdicts.{verdict_of, mark_of, is_refused_mark}
-use Rattle.recover.specs.Turns.{TakesTurns}
+use Rattle.recover.specs.Turns.{TakesTurns, LeavesTurns}
 use Rattle.recover.proofs.Marks.{refused_as_marked}
-use Rattle.recover.proofs.Recovered.{Recovers-loaded, Recovers-logs, Recovers-cleared, HasIdleGate-logs, verdict_behind, frames_loaded}
+use Rattle.recover.proofs.Recovered.{ReplaysLogs-loaded, ReplaysLogs-failed, ReplaysLogs-done, RecoversDevice-loaded, RecoversDevice-taken, verdict_behind, frames_loaded}
 use Rattle.recover.proofs.recovery.recover.Goals as goal
+
+pub returns-in_err-geo-clause-replays : goal.returns-in_err-geo-clause-replays
+returns-in_err-geo-clause-replays g c =
+    let p = err_from_is_err_and c.from_residual.result c.from_residual.ensures.1 in
+    let fault = c.in_err-geo.field-0.0 in
+    rw (p.1, p.2) (λ t size same s world.
+    let sound : fault ≡ NotSound → ⊥ = λ is. none-some s (sym ((c.in_err-geo.ensures.not_sound t (ap (λ (f : LoadFault). load_fault {T = Geo} (Err f)) is)).0 (ap Err is)) ∙ rw (sym same) world) in
+    ReplaysLogs-loaded size s (g.H.Host.state c.args.h.now) world fault (g.H.Host.state c.load_sound.new.h) sound (c.in_err-geo.ensures.settles t (λ is. sound cc)))
 
 pub returns-in_err-geo-clause-recovers : goal.returns-in_err-geo-clause-recovers
 returns-in_err-geo-clause-recovers g c =
@@ -26,8 +34,20 @@ returns-in_err-geo-clause-recovers g c =
     let fault = c.in_err-geo.field-0.0 in
     rw (p.1, p.2) (λ t size same s rested world.
     let sound : fault ≡ NotSound → ⊥ = λ is. none-some s (sym ((c.in_err-geo.ensures.not_sound t (ap (λ (f : LoadFault). load_fault {T = Geo} (Err f)) is)).0 (ap Err is)) ∙ rw (sym same) world) in
-    Recovers-loaded size s (g.H.Host.state c.args.h.now) rested world fault (g.H.Host.state c.load_sound.new.h) sound
+    RecoversDevice-loaded size s (g.H.Host.state c.args.h.now) world rested fault (g.H.Host.state c.load_sound.new.h) sound
     (c.in_err-geo.ensures.applies t size same s rested world) (c.in_err-geo.ensures.settles t (λ is. sound cc)))
+
+pub returns-in_err-marks-clause-replays : goal.returns-in_err-marks-clause-replays
+returns-in_err-marks-clause-replays g c =
+    let p = err_from_is_err_and c.from_residual-in_err-marks.result c.from_residual-in_err-marks.ensures.1 in
+    let a = g.H.Host.state c.args.h.now in
+    let b = g.H.Host.state c.load_sound.new.h in
+    let d = g.H.Host.state c.settle_logs.new.h in
+    let fault = c.in_err-marks.field-0.0 in
+    rw (p.1, p.2) (λ t size same s world.
+    ReplaysLogs-failed size s a world b (c.in_ok-geo.ensures.settles t (λ is. cc)) (c.in_ok-geo.ensures.stands t size same ∙ world) fault d
+    (subst (λ (F : ℕ). TakesTurns F ALL_LOGS (reads b.now.words) (Some fault) b d) (c.in_ok-geo.ensures.geo t size same s world).0
+    (c.in_err-marks.ensures.takes t (reads b.now.words) refl)))
 
 pub returns-in_err-marks-clause-recovers : goal.returns-in_err-marks-clause-recovers
 returns-in_err-marks-clause-recovers g c =
@@ -38,10 +58,10 @@ returns-in_err-marks-clause-recovers g c =
     let fault = c.in_err-marks.field-0.0 in
     rw (p.1, p.2) (λ t size same s rested world.
     let applies = c.in_ok-geo.ensures.applies t size same s rested world in
-    let settles = c.in_ok-geo.ensures.settles t (λ is. cc) in
-    Recovers-logs size s a rested world b applies settles fault d
-    (subst (λ (F : ℕ). TakesTurns F ALL_LOGS (reads b.now.words) (Some fault) b d) (c.in_ok-geo.ensures.geo t size same s world).0
-    (c.in_err-marks.ensures.takes t (reads b.now.words) (applies.rested refl) refl)))
+    let frames = (c.in_ok-geo.ensures.geo t size same s world).0 in
+    RecoversDevice-taken size s a world rested b applies (c.in_ok-geo.ensures.settles t (λ is. cc)) (c.in_ok-geo.ensures.stands t size same ∙ world) (Some fault) d
+    (subst (λ (F : ℕ). TakesTurns F ALL_LOGS (reads b.now.words) (Some fault) b d) frames (c.in_err-marks.ensures.takes t (reads b.now.words) refl))
+    (subst (λ (F : ℕ). LeavesTurns F (reads b.now.words) (Some fault) b d) frames (c.in_err-marks.ensures.leaves t (reads b.now.words) (applies.rested refl) refl)))
 
 pub returns-in_err-marks-clause-any : goal.returns-in_err-marks-clause-any
 returns-in_err-marks-clause-any g c =
@@ -49,29 +69,13 @@ returns-in_err-marks-clause-any g c =
     rw (p.1, p.2) (λ t. Changes-then Anything (Some c.in_err-marks.field-0.0) (g.H.Host.state c.args.h.now) (g.H.Host.state c.load_sound.new.h) (g.H.Host.state c.settle_logs.new.h)
     (c.in_ok-geo.ensures.any t) (c.in_err-marks.ensures.any t))
 
-pub returns-in_err-clear_spaces-clause-recovers : goal.returns-in_err-clear_spaces-clause-recovers
-returns-in_err-clear_spaces-clause-recovers g c =
-    let p = err_from_is_err_and c.from_residual-in_err-clear_spaces.result c.from_residual-in_err-clear_spaces.ensures.1 in
+pub returns-clause-replays : goal.returns-clause-replays
+returns-clause-replays g c = λ t size same s world.
     let a = g.H.Host.state c.args.h.now in
     let b = g.H.Host.state c.load_sound.new.h in
     let d = g.H.Host.state c.settle_logs.new.h in
-    let fault = c.in_err-clear_spaces.field-0.0 in
-    rw (p.1, p.2) (λ t size same s rested world.
-    let applies = c.in_ok-geo.ensures.applies t size same s rested world in
-    let settles = c.in_ok-geo.ensures.settles t (λ is. cc) in
-    let turns = subst (λ (F : ℕ). TakesTurns F ALL_LOGS (reads b.now.words) None b d) (c.in_ok-geo.ensures.geo t size same s world).0
-    (c.in_ok-marks.ensures.takes t (reads b.now.words) (applies.rested refl) refl) in
-    Recovers-cleared size s a rested world b applies settles d turns (Some fault) (g.H.Host.state c.clear_spaces.new.h)
-    (c.in_err-clear_spaces.ensures.empties t (HasIdleGate-logs size s a rested world b applies settles d turns)))
-
-pub returns-in_err-clear_spaces-clause-any : goal.returns-in_err-clear_spaces-clause-any
-returns-in_err-clear_spaces-clause-any g c =
-    let p = err_from_is_err_and c.from_residual-in_err-clear_spaces.result c.from_residual-in_err-clear_spaces.ensures.1 in
-    let a = g.H.Host.state c.args.h.now in
-    let b = g.H.Host.state c.load_sound.new.h in
-    let d = g.H.Host.state c.settle_logs.new.h in
-    rw (p.1, p.2) (λ t. Changes-then Anything (Some c.in_err-clear_spaces.field-0.0) a d (g.H.Host.state c.clear_spaces.new.h)
-    (Changes-then Anything None a b d (c.in_ok-geo.ensures.any t) (c.in_ok-marks.ensures.any t)) (c.in_err-clear_spaces.ensures.any t))
+    ReplaysLogs-done size s a world b (c.in_ok-geo.ensures.settles t (λ is. cc)) (c.in_ok-geo.ensures.stands t size same ∙ world) d
+    (subst (λ (F : ℕ). TakesTurns F ALL_LOGS (reads b.now.words) None b d) (c.in_ok-geo.ensures.geo t size same s world).0 (c.in_ok-marks.ensures.takes t (reads b.now.words) refl))
 
 pub returns-clause-recovers : goal.returns-clause-recovers
 returns-clause-recovers g c = λ t size same s rested world.
@@ -79,11 +83,10 @@ returns-clause-recovers g c = λ t size same s rested world.
     let b = g.H.Host.state c.load_sound.new.h in
     let d = g.H.Host.state c.settle_logs.new.h in
     let applies = c.in_ok-geo.ensures.applies t size same s rested world in
-    let settles = c.in_ok-geo.ensures.settles t (λ is. cc) in
-    let turns = subst (λ (F : ℕ). TakesTurns F ALL_LOGS (reads b.now.words) None b d) (c.in_ok-geo.ensures.geo t size same s world).0
-    (c.in_ok-marks.ensures.takes t (reads b.now.words) (applies.rested refl) refl) in
-    Recovers-cleared size s a rested world b applies settles d turns None (g.H.Host.state c.clear_spaces.new.h)
-    (c.in_ok-clear_spaces.ensures.empties t (HasIdleGate-logs size s a rested world b applies settles d turns))
+    let frames = (c.in_ok-geo.ensures.geo t size same s world).0 in
+    RecoversDevice-taken size s a world rested b applies (c.in_ok-geo.ensures.settles t (λ is. cc)) (c.in_ok-geo.ensures.stands t size same ∙ world) None d
+    (subst (λ (F : ℕ). TakesTurns F ALL_LOGS (reads b.now.words) None b d) frames (c.in_ok-marks.ensures.takes t (reads b.now.words) refl))
+    (subst (λ (F : ℕ). LeavesTurns F (reads b.now.words) None b d) frames (c.in_ok-marks.ensures.leaves t (reads b.now.words) (applies.rested refl) refl))
 
 pub returns-clause-frames : goal.returns-clause-frames
 returns-clause-frames g c = λ t.
@@ -106,7 +109,4 @@ returns-clause-refused g c = λ t image is number few.
 
 pub returns-clause-any : goal.returns-clause-any
 returns-clause-any g c = λ t.
-    let a = g.H.Host.state c.args.h.now in
-    let b = g.H.Host.state c.load_sound.new.h in
-    let d = g.H.Host.state c.settle_logs.new.h in
-    Changes-then Anything None a d (g.H.Host.state c.clear_spaces.new.h) (Changes-then Anything None a b d (c.in_ok-geo.ensures.any t) (c.in_ok-marks.ensures.any t)) (c.in_ok-clear_spaces.ensures.any t)
+    Changes-then Anything None (g.H.Host.state c.args.h.now) (g.H.Host.state c.load_sound.new.h) (g.H.Host.state c.settle_logs.new.h) (c.in_ok-geo.ensures.any t) (c.in_ok-marks.ensures.any t)

@@ -8,6 +8,7 @@ use Rattle.ready_daemon.specs.Held.{IsHeldWithin}
 use Rattle.ready_daemon.specs.Ready.{Applies}
 use Rattle.pool_transaction.proofs.HeldRuns.{is_held}
 use Rattle.pool_transaction.proofs.HeldSets.{Applies-line}
+use Rattle.ready_daemon.proofs.Keeping.{KeepsRest-changes}
 use Rattle.pool_transaction.proofs.opened.Opened.change.Goals as goal
 
 pub returns-clause-applies : goal.returns-clause-applies
@@ -40,3 +41,6 @@ returns-clause-within g c =
       gate = c.carry_out-done.ensures.at ∙ was.gate;
       used = omega (arith, counted, few);
     }
+
+pub returns-clause-rest : goal.returns-clause-rest
+returns-clause-rest g c = λ t. KeepsRest-changes _ _ _ _ (c.carry_out-done.ensures.changes t)

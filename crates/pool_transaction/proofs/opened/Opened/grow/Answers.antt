@@ -5,6 +5,7 @@ use Rattle.ready_daemon.specs.Memory.{Held, held_under, with_held}
 use Rattle.pool_transaction.specs.Changing.{refusal_by_tables, with_more}
 use Rattle.ready_daemon.specs.Ready.{Applies}
 use Rattle.pool_transaction.proofs.HeldGrows.{grows_failed, grows_unread, grows_done}
+use Rattle.ready_daemon.proofs.Keeping.{KeepsRest-changes, KeepsRest-still, KeepsRest-then}
 use Rattle.pool_transaction.proofs.opened.Opened.grow.Goals as goal
 
 pub returns-in_err-grow_pool-clause-grows : goal.returns-in_err-grow_pool-clause-grows
@@ -69,3 +70,12 @@ returns-clause-grows g c = λ t size e w memory frames there ready none.
     (λ mask keeps off settled r at graph holds can. c.in_ok-grow_pool.ensures.grows t size e w.stored n image refl mask keeps off settled r at graph holds can)
     (c.in_ok-self-inside.ensures.stays t) (c.in_ok-self-inside.ensures.found t _ refl))
     there none
+
+pub returns-in_err-grow_pool-clause-rest : goal.returns-in_err-grow_pool-clause-rest
+returns-in_err-grow_pool-clause-rest g c = λ t. KeepsRest-changes _ _ _ _ (c.in_err-grow_pool.ensures.any t)
+
+pub returns-in_err-self-inside-clause-rest : goal.returns-in_err-self-inside-clause-rest
+returns-in_err-self-inside-clause-rest g c = λ t. KeepsRest-then _ _ _ (KeepsRest-changes _ _ _ _ (c.in_ok-grow_pool.ensures.any t)) (KeepsRest-still _ _ (c.in_err-self-inside.ensures.stays t))
+
+pub returns-clause-rest : goal.returns-clause-rest
+returns-clause-rest g c = λ t. KeepsRest-then _ _ _ (KeepsRest-changes _ _ _ _ (c.in_ok-grow_pool.ensures.any t)) (KeepsRest-still _ _ (c.in_ok-self-inside.ensures.stays t))

@@ -7,6 +7,7 @@ use Rattle.ready_daemon.specs.Memory.{Held, held_under, with_held}
 use Rattle.pool_transaction.specs.Changing.{refusal_by_world, with_made}
 use Rattle.ready_daemon.specs.Ready.{Applies}
 use Rattle.pool_transaction.proofs.HeldMakes.{all_live, Applies-made, serial_made}
+use Rattle.ready_daemon.proofs.Keeping.{KeepsRest-changes}
 use Rattle.pool_transaction.proofs.opened.Opened.make.Goals as goal
 
 pub returns-clause-makes : goal.returns-clause-makes
@@ -52,3 +53,6 @@ returns-clause-full g c = λ t size w memory frames there ready more.
     let full = c.new-made.ensures.full t (all_live size w memory held old held.number there ready c.args.frames c.as_slice.result.now (sym frames ∙ ready.frames) c.as_slice.ensures.puddles more) in
     (full.0, full.1, ap (λ log. record held { log = log }) full.2))
     there more
+
+pub returns-clause-rest : goal.returns-clause-rest
+returns-clause-rest g c = λ t. KeepsRest-changes _ _ _ _ (c.new-made.ensures.changes t)

@@ -24,6 +24,7 @@ use Rattle.ready_daemon.proofs.AtDepth.{ready_begun_again}
 use Rattle.puddled.proofs.Commanding.{ready_read, CarriesOut-refused, CarriesOut-unread, CarriesOut-done, CarriesOut-ok, Applies-untouched, begin_is_plain}
 use Rattle.puddled.proofs.Entering.{depth_entered, refused_to_enter, begun_again, own_begun, not_begun, less, few}
 use Rattle.pool_transaction.proofs.TransactionRefusals.{refused_begin}
+use Rattle.ready_daemon.proofs.Keeping.{KeepsRest-still}
 use Rattle.puddled.proofs.daemon.Daemon.begin.Goals as goal
 
 pub returns-in_err-refusal-clause-carries : goal.returns-in_err-refusal-clause-carries
@@ -91,7 +92,7 @@ returns-then-depth-gt1-clause-carries g c = λ t size e w ready.
     let now = ready_begun_again size w (record { frames = i.frames; held = i.opened; sessions = i.sessions; judged = i.judged }) s c.args.client c.args.name slot mine.0 there
     (subst (λ (xs : List (Option Held)). IsOwnOn c.args.client c.args.name slot mine.0 xs) (sym held) mine.1) in
     let behind : Memory = record { frames = i.frames; held = i.opened; sessions = c.enter.new.self; judged = i.judged } in
-    CarriesOut-done size w behind _ _ _ _ _ _ (Begin c.args.client c.args.name) (begin_is_plain c.args.client c.args.name) free (k.stays t) k.cause (record { script = refl; shelf = refl }) replies.Ok
+    CarriesOut-done size w behind _ _ _ _ _ _ (Begin c.args.client c.args.name) (begin_is_plain c.args.client c.args.name) free (k.stays t) k.cause (KeepsRest-still _ _ refl) replies.Ok
     (sym (answer_is_ok w (Begin c.args.client c.args.name) refl refl free))
     (Applies-untouched size w (after w (Begin c.args.client c.args.name)) (record { frames = i.frames; held = i.opened; sessions = i.sessions; judged = i.judged }) behind s there
     (subst (λ (ss : List (Option Session)). IsReady size (after w (Begin c.args.client c.args.name)) (record { frames = i.frames; held = i.opened; sessions = ss; judged = i.judged }) s) (sym entered_is) now)) refl

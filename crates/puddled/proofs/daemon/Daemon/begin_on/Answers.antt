@@ -26,6 +26,7 @@ use Rattle.pool_transaction.proofs.Beginning.{Applies-begins}
 use Rattle.ready_daemon.proofs.Counting.{log_found}
 use Rattle.ready_daemon.proofs.HeldUnder.{AreHeldWithin-set}
 use Rattle.ready_daemon.proofs.Known.{AreOnDevice-forgotten}
+use Rattle.ready_daemon.proofs.Keeping.{KeepsRest-changes, KeepsRest-still, KeepsRest-then}
 use Rattle.puddled.proofs.daemon.Daemon.begin_on.Goals as goal
 
 pub returns-in_err-number-clause-begins : goal.returns-in_err-number-clause-begins
@@ -117,3 +118,9 @@ returns-clause-begins g c = λ t size e w sessions.
           (n.runs t pool before on (subst (λ (s : State). IsIdle (pool_ground i.frames pool) (log_number_at i.frames c.in-Some.number) before s.now.words) (sym (c.in_ok-number.ensures.stays t)) idle)))
           ready may,
     ))
+
+pub returns-in_err-tx-clause-rest : goal.returns-in_err-tx-clause-rest
+returns-in_err-tx-clause-rest g c = λ t. KeepsRest-then _ _ _ (KeepsRest-still _ _ (c.in_ok-number.ensures.stays t)) (KeepsRest-changes _ _ _ _ ((c.in_err-tx.ensures.persists t).changes))
+
+pub returns-clause-rest : goal.returns-clause-rest
+returns-clause-rest g c = λ t. KeepsRest-then _ _ _ (KeepsRest-still _ _ (c.in_ok-number.ensures.stays t)) (KeepsRest-changes _ _ _ _ ((c.in_ok-tx.ensures.persists t).changes))

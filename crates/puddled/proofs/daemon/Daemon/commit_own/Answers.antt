@@ -9,6 +9,7 @@ use Rattle.nesting.specs.Sessions.{depth_in, left}
 use Rattle.ready_daemon.specs.Memory.{Memory}
 use Rattle.puddled.proofs.Depth.{Applies-rises}
 use Rattle.pool_transaction.proofs.HeldEnds.{Commits, IsReleased, Applies-kept}
+use Rattle.ready_daemon.proofs.Keeping.{KeepsRest-changes}
 use Rattle.puddled.proofs.daemon.Daemon.commit_own.Goals as goal
 
 pub returns-then-depth-gt1-clause-applies : goal.returns-then-depth-gt1-clause-applies
@@ -42,3 +43,6 @@ returns-in-Some-clause-applies g c = λ t size e w name ready own.
     let released : IsReleased c.args.own.number c.args.self.now c.release.new.self = record { frames = r.frames; held = r.held; sessions = r.sessions; judged = r.judged } in
     Applies-kept size w c.args.self.now c.release.new.self c.args.own.number fault old new released ready sz c.args.client name c.args.own.slot c.in-Some.tx e own (sym r.tx ∙ c.in-Some.is) (omega (arith, depth, is, last))
     (subst (λ (m : Memory). Commits m.frames sz c.in-Some.tx fault old new) c.self.view_is (c.commit.ensures.ends t))
+
+pub returns-in-Some-clause-rest : goal.returns-in-Some-clause-rest
+returns-in-Some-clause-rest g c = λ t. KeepsRest-changes _ _ _ _ (c.commit.ensures.any t)

@@ -14,7 +14,7 @@ use Rattle.puddled.specs.declared.answers.Answered.{Answered}
 use Rattle.puddled.specs.declared.answers.Answered.TheVariants as answers
 use Rattle.puddled.specs.Answered.{answer_of}
 use Rattle.puddled.proofs.Listed.{said_by}
-use Rattle.puddled.proofs.Lines.{answer_last, nothing_last, Answers-fault, Answers-unsaid, Answers-said, KeepsLine-says, sound_said}
+use Rattle.puddled.proofs.Lines.{answer_last, nothing_last, Answers-fault, Answers-unsaid, Answers-said, KeepsLine-says, KeepsLine-unsaid, SaysAnswer-aloud, SaysAnswer-unsaid, sound_said}
 use Rattle.puddled.proofs.daemon.Daemon.exec.Goals as goal
 use Rattle.puddled.proofs.daemon.Daemon.exec.Goals.{then-aloud+in_ok-say_answer, else-aloud}
 
@@ -92,5 +92,16 @@ returns-in_err-say_answer-clause-rest g c = λ t. KeepsLine-says _ _ _ _ _ _ (c.
 pub returns-clause-rest : goal.returns-clause-rest
 returns-clause-rest g c = λ t. elim c.if-aloud.branch [
   | then-aloud+in_ok-say_answer b ↦ rw b.h-is (KeepsLine-says _ _ _ _ _ _ (c.in_ok-answered.ensures.rest t) (b.in_ok-say_answer.ensures.says t _ refl))
-  | else-aloud b ↦ rw b.h-is (c.in_ok-answered.ensures.rest t)
+  | else-aloud b ↦ rw b.h-is (KeepsLine-unsaid _ _ _ (c.in_ok-answered.ensures.rest t))
+]
+
+pub returns-in_err-answered-clause-rest : goal.returns-in_err-answered-clause-rest
+returns-in_err-answered-clause-rest g c = λ t. KeepsLine-unsaid _ _ _ (c.in_err-answered.ensures.rest t)
+
+pub returns-clause-speaks : goal.returns-clause-speaks
+returns-clause-speaks g c = λ t. elim c.if-aloud.branch [
+  | then-aloud+in_ok-say_answer b ↦
+      rw (b.if-aloud.true, b.h-is) (SaysAnswer-aloud _ _ c.is_ok.result c.in_ok-answered.answered _ _ _ c.is_ok.ensures (c.in_ok-answered.ensures.rest t).quiet (ap (λ (m : Memory). m.frames) c.self.view_is)
+      (b.in_ok-say_answer.ensures.says t _ refl))
+  | else-aloud b ↦ rw (b.if-aloud.false, b.h-is) (SaysAnswer-unsaid _ c.is_ok.result c.in_ok-answered.answered _ _ c.is_ok.ensures (c.in_ok-answered.ensures.rest t).quiet)
 ]

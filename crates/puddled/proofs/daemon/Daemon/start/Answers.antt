@@ -1,91 +1,293 @@
-use Rattle.std.proofs.Common.{◌≡◌, ℕ, None, Some, Ok, Err, refl, sym, ap, subst, ◌∙◌}
+use Rattle.std.proofs.Common.{ℕ, None, Some, refl, sym, ap, subst, ◌∙◌}
 use Rattle.std.proofs.lemmas.Result.{err_from_is_err_and}
-use Rattle.pm_model.specs.Counts.{Counts, after_fault}
 use Rattle.pm_model.specs.Words.{Words, reads}
+use Rattle.pm_model.proofs.Changes.{Changes-said}
 use Rattle.pud_defs.specs.Registry.{frames_of}
-use Rattle.pud_defs.specs.World.{world_of, closed}
-use Rattle.puddled.specs.declared.daemon.StartFault.{StartFault}
-use Rattle.puddled.specs.declared.daemon.StartFault.TheVariants as starts
+use Rattle.pud_defs.specs.World.{world_of, closed, restart}
 use Rattle.ready_daemon.specs.Memory.{Memory}
-use Rattle.puddled.specs.Faults.{start_fault}
-use Rattle.puddled.specs.Daemon.{IsReplayed}
-use Rattle.puddled.proofs.Lines.{words_said, Starts-says, Starts-refused, KeepsRest-says}
-use Rattle.puddled.proofs.Started.{SaysPart-behind}
+use Rattle.ready_daemon.specs.Ready.{IsReady}
+use Rattle.ready_daemon.proofs.Keeping.{KeepsRest-changes}
+use Rattle.puddled.specs.Starting.{AreMarks, IsReplayed}
+use Rattle.puddled.proofs.Emptied.{IsBehindRecovery, idle_gate, behind_recovery}
+use Rattle.puddled.proofs.Restarts.{ready_behind, sound_recovery, recovered_any}
+use Rattle.puddled.proofs.Lines.{words_said, shelf_said, IsReady-said, KeepsInput-rest, KeepsInput-then, KeepsInput-says}
+use Rattle.puddled.proofs.Beginning.{SaysPart-lines, SaysPart-behind_lines, SaysPart-ready, In-lines, In-emptied, In-ready, behind_lines, SaysPart-unsaid, Starts-refused}
 use Rattle.puddled.proofs.daemon.Daemon.start.Goals as goal
 
-pub returns-in_err-daemon-clause-starts : goal.returns-in_err-daemon-clause-starts
-returns-in_err-daemon-clause-starts g c =
+-- ---- the device was not recovered
+
+pub returns-in_err-report-clause-starts : goal.returns-in_err-report-clause-starts
+returns-in_err-report-clause-starts g c =
     let p = err_from_is_err_and c.from_residual.result c.from_residual.ensures.1 in
     rw (p.1, p.2) (λ t size same w rested world shelf.
-    let fault = c.in_err-daemon.field-0.0 in
-    Starts-refused size w fault _ _
-    (λ unsound.
-    let none = (c.in_err-daemon.ensures.not_sound t (ap (λ (f : StartFault). start_fault {T = Memory} (Err f)) unsound)).0 (ap Err unsound) in
-    let it : None ≡ Some (closed w) = sym none ∙ ap (λ (n : ℕ). world_of n (reads (g.H.Host.state c.args.h.now).now.words)) (sym same) ∙ world in
-    absurd (cc))
-    (c.in_err-daemon.ensures.recovers t size same w rested world shelf))
+    let a = g.H.Host.state c.args.h.now in
+    let fault = c.in_err-report.field-0.0 in
+    let here = ap (λ (n : ℕ). world_of n (reads a.now.words)) (sym same) ∙ world in
+    Starts-refused size w a world (g.H.Host.state c.recover.new.h) fault (sound_recovery _ w fault a here (c.in_err-report.ensures.not_sound t))
+    (KeepsRest-changes _ _ _ _ (c.in_err-report.ensures.any t)) (c.in_err-report.ensures.recovers t size same (closed w) rested world))
 
-pub returns-in-Err-clause-starts : goal.returns-in-Err-clause-starts
-returns-in-Err-clause-starts g c =
-    rw c.from.ensures (λ t size same w rested world shelf. Starts-says size w _ (Err (starts.Host c.in-Err.fault)) _ _ _ (c.in_ok-daemon.ensures.recovers t size same w rested world shelf) (rw c.in-Err.is at c.say_start.ensures.says t _ (c.in_ok-daemon.ensures.marks t)) tt)
-
-pub returns-in-Ok-clause-starts : goal.returns-in-Ok-clause-starts
-returns-in-Ok-clause-starts g c = λ t size same w rested world shelf. Starts-says size w _ (Ok _) _ _ _ (c.in_ok-daemon.ensures.recovers t size same w rested world shelf) (rw c.in-Ok.is at c.say_start.ensures.says t _ (c.in_ok-daemon.ensures.marks t)) refl
-
-pub returns-in-Err-clause-rest : goal.returns-in-Err-clause-rest
-returns-in-Err-clause-rest g c = λ t. KeepsRest-says _ _ _ _ _ (c.in_ok-daemon.ensures.rest t) (c.say_start.ensures.says t _ (c.in_ok-daemon.ensures.marks t))
-
--- ---- what the order of the two calls leaves of the first one's clauses
-
-pub returns-in_err-daemon-clause-not_sound : goal.returns-in_err-daemon-clause-not_sound
-returns-in_err-daemon-clause-not_sound g c =
+pub returns-in_err-report-clause-says : goal.returns-in_err-report-clause-says
+returns-in_err-report-clause-says g c =
     let p = err_from_is_err_and c.from_residual.result c.from_residual.ensures.1 in
-    rw (p.1, p.2) c.in_err-daemon.ensures.not_sound
+    rw (p.1, p.2) (λ t sound. SaysPart-unsaid _ c.in_err-report.field-0.0 _ _ sound (Changes-said _ _ _ _ (c.in_err-report.ensures.any t)))
 
-pub returns-in-Ok-clause-not_sound : goal.returns-in-Ok-clause-not_sound
-returns-in-Ok-clause-not_sound g c = c.in_ok-daemon.ensures.not_sound
+pub returns-in_err-report-clause-rest : goal.returns-in_err-report-clause-rest
+returns-in_err-report-clause-rest g c = λ t. KeepsInput-rest _ _ (KeepsRest-changes _ _ _ _ (c.in_err-report.ensures.any t))
 
-pub returns-in_err-daemon-clause-unchanged : goal.returns-in_err-daemon-clause-unchanged
-returns-in_err-daemon-clause-unchanged g c =
-    let p = err_from_is_err_and c.from_residual.result c.from_residual.ensures.1 in
-    rw (p.1, p.2) c.in_err-daemon.ensures.unchanged
+-- ---- the lines on refused logs were not all said
 
-pub returns-in-Ok-clause-room : goal.returns-in-Ok-clause-room
-returns-in-Ok-clause-room g c = c.in_ok-daemon.ensures.room
+pub returns-in_err-say_refused-clause-starts : goal.returns-in_err-say_refused-clause-starts
+returns-in_err-say_refused-clause-starts g c =
+    let p = err_from_is_err_and c.from_residual-in_err-say_refused.result c.from_residual-in_err-say_refused.ensures.1 in
+    let fault = c.in_err-say_refused.field-0.0 in
+    rw (p.1, p.2) (λ t size same w rested world shelf.
+    let a = g.H.Host.state c.args.h.now in
+    let b = g.H.Host.state c.recover.new.h in
+    let i = reads a.now.words in
+    let marks : AreMarks i c.in_ok-report.report.marks = record { each = λ number few. c.in_ok-report.ensures.refused t i refl number few } in
+    let rest = KeepsRest-changes _ _ a b (c.in_ok-report.ensures.any t) in
+    let c1 = g.H.Host.state c.say_refused.new.h in
+    let lines = c.in_err-say_refused.ensures.says t i marks in
+    let replays = c.in_ok-report.ensures.replays t size same (closed w) world in
+    let recovers = c.in_ok-report.ensures.recovers t size same (closed w) rested world in
+    let kept = KeepsInput-says _ _ a b c1 (KeepsInput-rest a b rest) lines in
+    record {
+      says = SaysPart-lines i a b rest.quiet fault fault c1 lines;
+      moments = In-lines size w a world b rest.quiet replays recovers c1 (Some fault) lines;
+      ready = tt;
+      script = kept.script;
+      shelf = kept.shelf;
+    })
 
-pub returns-in_err-daemon-clause-rest : goal.returns-in_err-daemon-clause-rest
-returns-in_err-daemon-clause-rest g c = c.in_err-daemon.ensures.rest
+pub returns-in_err-say_refused-clause-says : goal.returns-in_err-say_refused-clause-says
+returns-in_err-say_refused-clause-says g c =
+    let p = err_from_is_err_and c.from_residual-in_err-say_refused.result c.from_residual-in_err-say_refused.ensures.1 in
+    rw (p.1, p.2) (λ t sound.
+    let a = g.H.Host.state c.args.h.now in
+    let b = g.H.Host.state c.recover.new.h in
+    let i = reads a.now.words in
+    let marks : AreMarks i c.in_ok-report.report.marks = record { each = λ number few. c.in_ok-report.ensures.refused t i refl number few } in
+    let rest = KeepsRest-changes _ _ a b (c.in_ok-report.ensures.any t) in
+    let c1 = g.H.Host.state c.say_refused.new.h in
+    let lines = c.in_err-say_refused.ensures.says t i marks in
+    SaysPart-lines i a b rest.quiet _ _ c1 lines)
 
-pub returns-in-Ok-clause-rest : goal.returns-in-Ok-clause-rest
-returns-in-Ok-clause-rest g c = λ t. KeepsRest-says _ _ _ _ _ (c.in_ok-daemon.ensures.rest t) (c.say_start.ensures.says t _ (c.in_ok-daemon.ensures.marks t))
+pub returns-in_err-say_refused-clause-rest : goal.returns-in_err-say_refused-clause-rest
+returns-in_err-say_refused-clause-rest g c = λ t.
+    let a = g.H.Host.state c.args.h.now in
+    let b = g.H.Host.state c.recover.new.h in
+    let i = reads a.now.words in
+    let marks : AreMarks i c.in_ok-report.report.marks = record { each = λ number few. c.in_ok-report.ensures.refused t i refl number few } in
+    let rest = KeepsRest-changes _ _ a b (c.in_ok-report.ensures.any t) in
+    let c1 = g.H.Host.state c.say_refused.new.h in
+    let lines = c.in_err-say_refused.ensures.says t i marks in
+    KeepsInput-says _ _ a b c1 (KeepsInput-rest a b rest) lines
 
-pub returns-in_err-daemon-clause-cause : goal.returns-in_err-daemon-clause-cause
-returns-in_err-daemon-clause-cause g c =
-    let p = err_from_is_err_and c.from_residual.result c.from_residual.ensures.1 in
-    rw (p.1, p.2) c.in_err-daemon.ensures.cause
+-- ---- the log-space table was not emptied
 
-pub returns-in-Err-clause-cause : goal.returns-in-Err-clause-cause
-returns-in-Err-clause-cause g c =
-    rw c.from.ensures ((rw c.in-Err.is at c.say_start.ensures.cause) ∙ ap (λ (x : Counts). after_fault (Some c.in-Err.fault) x) c.in_ok-daemon.ensures.cause)
+pub returns-in_err-clear_spaces-clause-starts : goal.returns-in_err-clear_spaces-clause-starts
+returns-in_err-clear_spaces-clause-starts g c =
+    let p = err_from_is_err_and c.from_residual-in_err-clear_spaces.result c.from_residual-in_err-clear_spaces.ensures.1 in
+    let fault = c.in_err-clear_spaces.field-0.0 in
+    rw (p.1, p.2) (λ t size same w rested world shelf.
+    let a = g.H.Host.state c.args.h.now in
+    let b = g.H.Host.state c.recover.new.h in
+    let i = reads a.now.words in
+    let marks : AreMarks i c.in_ok-report.report.marks = record { each = λ number few. c.in_ok-report.ensures.refused t i refl number few } in
+    let rest = KeepsRest-changes _ _ a b (c.in_ok-report.ensures.any t) in
+    let c1 = g.H.Host.state c.say_refused.new.h in
+    let lines = c.in_ok-say_refused.ensures.says t i marks in
+    let d = g.H.Host.state c.clear_spaces.new.h in
+    let still = KeepsRest-changes _ _ c1 d (c.in_err-clear_spaces.ensures.any t) in
+    let replays = c.in_ok-report.ensures.replays t size same (closed w) world in
+    let recovers = c.in_ok-report.ensures.recovers t size same (closed w) rested world in
+    let empties = c.in_err-clear_spaces.ensures.empties t (idle_gate size (closed w) i world c1 (behind_lines size w a world b rest.quiet replays recovers c1 lines)) in
+    let kept = KeepsInput-then a c1 d (KeepsInput-says _ _ a b c1 (KeepsInput-rest a b rest) lines) still in
+    record {
+      says = SaysPart-behind_lines i a b rest.quiet c1 lines d still.quiet fault;
+      moments = In-emptied size w a world b rest.quiet replays recovers c1 lines d (Some fault) empties;
+      ready = tt;
+      script = kept.script;
+      shelf = kept.shelf;
+    })
 
-pub returns-in-Ok-clause-cause : goal.returns-in-Ok-clause-cause
-returns-in-Ok-clause-cause g c = (rw c.in-Ok.is at c.say_start.ensures.cause) ∙ c.in_ok-daemon.ensures.cause
+pub returns-in_err-clear_spaces-clause-says : goal.returns-in_err-clear_spaces-clause-says
+returns-in_err-clear_spaces-clause-says g c =
+    let p = err_from_is_err_and c.from_residual-in_err-clear_spaces.result c.from_residual-in_err-clear_spaces.ensures.1 in
+    rw (p.1, p.2) (λ t sound.
+    let a = g.H.Host.state c.args.h.now in
+    let b = g.H.Host.state c.recover.new.h in
+    let i = reads a.now.words in
+    let marks : AreMarks i c.in_ok-report.report.marks = record { each = λ number few. c.in_ok-report.ensures.refused t i refl number few } in
+    let rest = KeepsRest-changes _ _ a b (c.in_ok-report.ensures.any t) in
+    let c1 = g.H.Host.state c.say_refused.new.h in
+    let lines = c.in_ok-say_refused.ensures.says t i marks in
+    let d = g.H.Host.state c.clear_spaces.new.h in
+    let still = KeepsRest-changes _ _ c1 d (c.in_err-clear_spaces.ensures.any t) in
+    SaysPart-behind_lines i a b rest.quiet c1 lines d still.quiet _)
 
--- ---- what was said, whatever the device holds
+pub returns-in_err-clear_spaces-clause-rest : goal.returns-in_err-clear_spaces-clause-rest
+returns-in_err-clear_spaces-clause-rest g c = λ t.
+    let a = g.H.Host.state c.args.h.now in
+    let b = g.H.Host.state c.recover.new.h in
+    let i = reads a.now.words in
+    let marks : AreMarks i c.in_ok-report.report.marks = record { each = λ number few. c.in_ok-report.ensures.refused t i refl number few } in
+    let rest = KeepsRest-changes _ _ a b (c.in_ok-report.ensures.any t) in
+    let c1 = g.H.Host.state c.say_refused.new.h in
+    let lines = c.in_ok-say_refused.ensures.says t i marks in
+    let d = g.H.Host.state c.clear_spaces.new.h in
+    let still = KeepsRest-changes _ _ c1 d (c.in_err-clear_spaces.ensures.any t) in
+    KeepsInput-then a c1 d (KeepsInput-says _ _ a b c1 (KeepsInput-rest a b rest) lines) still
 
-pub returns-in-Err-clause-says : goal.returns-in-Err-clause-says
-returns-in-Err-clause-says g c =
-    rw c.from.ensures (λ t sound. SaysPart-behind _ _ _ _ _ (c.in_ok-daemon.ensures.quiet t) (rw c.in-Err.is at c.say_start.ensures.says t _ (c.in_ok-daemon.ensures.marks t)))
+-- ---- `ready` was not said whole
 
-pub returns-in-Ok-clause-says : goal.returns-in-Ok-clause-says
-returns-in-Ok-clause-says g c = λ t sound. SaysPart-behind _ _ _ _ _ (c.in_ok-daemon.ensures.quiet t) (rw c.in-Ok.is at c.say_start.ensures.says t _ (c.in_ok-daemon.ensures.marks t))
+pub returns-in_err-say_ready-clause-starts : goal.returns-in_err-say_ready-clause-starts
+returns-in_err-say_ready-clause-starts g c =
+    let p = err_from_is_err_and c.from_residual-in_err-say_ready.result c.from_residual-in_err-say_ready.ensures.1 in
+    let fault = c.in_err-say_ready.field-0.0 in
+    rw (p.1, p.2) (λ t size same w rested world shelf.
+    let a = g.H.Host.state c.args.h.now in
+    let b = g.H.Host.state c.recover.new.h in
+    let i = reads a.now.words in
+    let marks : AreMarks i c.in_ok-report.report.marks = record { each = λ number few. c.in_ok-report.ensures.refused t i refl number few } in
+    let rest = KeepsRest-changes _ _ a b (c.in_ok-report.ensures.any t) in
+    let c1 = g.H.Host.state c.say_refused.new.h in
+    let lines = c.in_ok-say_refused.ensures.says t i marks in
+    let d = g.H.Host.state c.clear_spaces.new.h in
+    let still = KeepsRest-changes _ _ c1 d (c.in_ok-clear_spaces.ensures.any t) in
+    let replays = c.in_ok-report.ensures.replays t size same (closed w) world in
+    let recovers = c.in_ok-report.ensures.recovers t size same (closed w) rested world in
+    let empties = c.in_ok-clear_spaces.ensures.empties t (idle_gate size (closed w) i world c1 (behind_lines size w a world b rest.quiet replays recovers c1 lines)) in
+    let e = g.H.Host.state c.say_ready.new.h in
+    let ready = c.in_err-say_ready.ensures.says t in
+    let kept = KeepsInput-says _ _ a d e (KeepsInput-then a c1 d (KeepsInput-says _ _ a b c1 (KeepsInput-rest a b rest) lines) still) ready in
+    record {
+      says = SaysPart-ready i a b rest.quiet c1 lines d still.quiet (Some fault) e ready;
+      moments = In-ready size w a world b rest.quiet replays recovers c1 lines d empties (Some fault) e ready;
+      ready = tt;
+      script = kept.script;
+      shelf = kept.shelf;
+    })
 
-pub returns-in-Ok-clause-replays : goal.returns-in-Ok-clause-replays
-returns-in-Ok-clause-replays g c = λ t rested.
-    let words = words_said _ _ _ _ (rw c.in-Ok.is at c.say_start.ensures.says t _ (c.in_ok-daemon.ensures.marks t)) in
-    subst (λ (x : Words). IsReplayed (reads (g.H.Host.state c.args.h.now).now.words) (reads x)) (sym words) (c.in_ok-daemon.ensures.replays t rested)
+pub returns-in_err-say_ready-clause-says : goal.returns-in_err-say_ready-clause-says
+returns-in_err-say_ready-clause-says g c =
+    let p = err_from_is_err_and c.from_residual-in_err-say_ready.result c.from_residual-in_err-say_ready.ensures.1 in
+    rw (p.1, p.2) (λ t sound.
+    let a = g.H.Host.state c.args.h.now in
+    let b = g.H.Host.state c.recover.new.h in
+    let i = reads a.now.words in
+    let marks : AreMarks i c.in_ok-report.report.marks = record { each = λ number few. c.in_ok-report.ensures.refused t i refl number few } in
+    let rest = KeepsRest-changes _ _ a b (c.in_ok-report.ensures.any t) in
+    let c1 = g.H.Host.state c.say_refused.new.h in
+    let lines = c.in_ok-say_refused.ensures.says t i marks in
+    let d = g.H.Host.state c.clear_spaces.new.h in
+    let still = KeepsRest-changes _ _ c1 d (c.in_ok-clear_spaces.ensures.any t) in
+    SaysPart-ready i a b rest.quiet c1 lines d still.quiet _ _ (c.in_err-say_ready.ensures.says t))
 
-pub returns-in-Ok-clause-frames : goal.returns-in-Ok-clause-frames
-returns-in-Ok-clause-frames g c = λ t rested.
-    let words = words_said _ _ _ _ (rw c.in-Ok.is at c.say_start.ensures.says t _ (c.in_ok-daemon.ensures.marks t)) in
-    c.in_ok-daemon.ensures.frames t rested ∙ ap (λ (x : Words). frames_of (reads x)) (sym words)
+pub returns-in_err-say_ready-clause-rest : goal.returns-in_err-say_ready-clause-rest
+returns-in_err-say_ready-clause-rest g c = λ t.
+    let a = g.H.Host.state c.args.h.now in
+    let b = g.H.Host.state c.recover.new.h in
+    let i = reads a.now.words in
+    let marks : AreMarks i c.in_ok-report.report.marks = record { each = λ number few. c.in_ok-report.ensures.refused t i refl number few } in
+    let rest = KeepsRest-changes _ _ a b (c.in_ok-report.ensures.any t) in
+    let c1 = g.H.Host.state c.say_refused.new.h in
+    let lines = c.in_ok-say_refused.ensures.says t i marks in
+    let d = g.H.Host.state c.clear_spaces.new.h in
+    let still = KeepsRest-changes _ _ c1 d (c.in_ok-clear_spaces.ensures.any t) in
+    KeepsInput-says _ _ a d _ (KeepsInput-then a c1 d (KeepsInput-says _ _ a b c1 (KeepsInput-rest a b rest) lines) still) (c.in_err-say_ready.ensures.says t)
+
+-- ---- the daemon is ready
+
+pub returns-clause-starts : goal.returns-clause-starts
+returns-clause-starts g c = λ t size same w rested world shelf.
+    let a = g.H.Host.state c.args.h.now in
+    let b = g.H.Host.state c.recover.new.h in
+    let i = reads a.now.words in
+    let marks : AreMarks i c.in_ok-report.report.marks = record { each = λ number few. c.in_ok-report.ensures.refused t i refl number few } in
+    let rest = KeepsRest-changes _ _ a b (c.in_ok-report.ensures.any t) in
+    let c1 = g.H.Host.state c.say_refused.new.h in
+    let lines = c.in_ok-say_refused.ensures.says t i marks in
+    let d = g.H.Host.state c.clear_spaces.new.h in
+    let still = KeepsRest-changes _ _ c1 d (c.in_ok-clear_spaces.ensures.any t) in
+    let replays = c.in_ok-report.ensures.replays t size same (closed w) world in
+    let recovers = c.in_ok-report.ensures.recovers t size same (closed w) rested world in
+    let empties = c.in_ok-clear_spaces.ensures.empties t (idle_gate size (closed w) i world c1 (behind_lines size w a world b rest.quiet replays recovers c1 lines)) in
+    let e = g.H.Host.state c.say_ready.new.h in
+    let ready = c.in_ok-say_ready.ensures.says t in
+    let behind = behind_lines size w a world b rest.quiet replays recovers c1 lines in
+    let before = KeepsInput-then a c1 d (KeepsInput-says _ _ a b c1 (KeepsInput-rest a b rest) lines) still in
+    let kept = KeepsInput-says _ _ a d e before ready in
+    let there = IsReady-said size (restart w) _ d e (words_said _ _ d e ready) (shelf_said _ _ d e ready)
+    (ready_behind size w i world c1 d behind empties c.in_ok-report.report.frames (c.in_ok-report.ensures.frames t) (before.shelf ∙ shelf)) in
+    record {
+      says = SaysPart-ready i a b rest.quiet c1 lines d still.quiet None e ready;
+      moments = In-ready size w a world b rest.quiet replays recovers c1 lines d empties None e ready;
+      ready = subst (λ (m : Memory). IsReady size (restart w) m e) (sym c.begun.ensures) there;
+      script = kept.script;
+      shelf = kept.shelf;
+    }
+
+pub returns-clause-says : goal.returns-clause-says
+returns-clause-says g c = λ t sound.
+    let a = g.H.Host.state c.args.h.now in
+    let b = g.H.Host.state c.recover.new.h in
+    let i = reads a.now.words in
+    let marks : AreMarks i c.in_ok-report.report.marks = record { each = λ number few. c.in_ok-report.ensures.refused t i refl number few } in
+    let rest = KeepsRest-changes _ _ a b (c.in_ok-report.ensures.any t) in
+    let c1 = g.H.Host.state c.say_refused.new.h in
+    let lines = c.in_ok-say_refused.ensures.says t i marks in
+    let d = g.H.Host.state c.clear_spaces.new.h in
+    let still = KeepsRest-changes _ _ c1 d (c.in_ok-clear_spaces.ensures.any t) in
+    SaysPart-ready i a b rest.quiet c1 lines d still.quiet None _ (c.in_ok-say_ready.ensures.says t)
+
+pub returns-clause-rest : goal.returns-clause-rest
+returns-clause-rest g c = λ t.
+    let a = g.H.Host.state c.args.h.now in
+    let b = g.H.Host.state c.recover.new.h in
+    let i = reads a.now.words in
+    let marks : AreMarks i c.in_ok-report.report.marks = record { each = λ number few. c.in_ok-report.ensures.refused t i refl number few } in
+    let rest = KeepsRest-changes _ _ a b (c.in_ok-report.ensures.any t) in
+    let c1 = g.H.Host.state c.say_refused.new.h in
+    let lines = c.in_ok-say_refused.ensures.says t i marks in
+    let d = g.H.Host.state c.clear_spaces.new.h in
+    let still = KeepsRest-changes _ _ c1 d (c.in_ok-clear_spaces.ensures.any t) in
+    KeepsInput-says _ _ a d _ (KeepsInput-then a c1 d (KeepsInput-says _ _ a b c1 (KeepsInput-rest a b rest) lines) still) (c.in_ok-say_ready.ensures.says t)
+
+pub returns-clause-replays : goal.returns-clause-replays
+returns-clause-replays g c = λ t rested.
+    let a = g.H.Host.state c.args.h.now in
+    let b = g.H.Host.state c.recover.new.h in
+    let i = reads a.now.words in
+    let marks : AreMarks i c.in_ok-report.report.marks = record { each = λ number few. c.in_ok-report.ensures.refused t i refl number few } in
+    let rest = KeepsRest-changes _ _ a b (c.in_ok-report.ensures.any t) in
+    let c1 = g.H.Host.state c.say_refused.new.h in
+    let lines = c.in_ok-say_refused.ensures.says t i marks in
+    let d = g.H.Host.state c.clear_spaces.new.h in
+    let still = KeepsRest-changes _ _ c1 d (c.in_ok-clear_spaces.ensures.any t) in
+    let size = (g.H.Host.counts c.args.h.now).size in
+    let words = words_said _ _ b c1 lines in
+    let behind = recovered_any size i c1 d c.in_ok-report.report (c.in_ok-report.ensures.not_sound t refl)
+    (λ s world. subst (λ (x : Words). IsBehindRecovery size s i x) (sym words) (behind_recovery size s a b (c.in_ok-report.ensures.replays t size refl s world) (c.in_ok-report.ensures.recovers t size refl s rested world)))
+    (c.in_ok-clear_spaces.ensures.empties t) in
+    let same = words_said _ _ d (g.H.Host.state c.say_ready.new.h) (c.in_ok-say_ready.ensures.says t) in
+    subst (λ (x : Words). IsReplayed i (reads x)) (sym same) behind.replayed
+
+pub returns-clause-frames : goal.returns-clause-frames
+returns-clause-frames g c = λ t rested.
+    let a = g.H.Host.state c.args.h.now in
+    let b = g.H.Host.state c.recover.new.h in
+    let i = reads a.now.words in
+    let marks : AreMarks i c.in_ok-report.report.marks = record { each = λ number few. c.in_ok-report.ensures.refused t i refl number few } in
+    let rest = KeepsRest-changes _ _ a b (c.in_ok-report.ensures.any t) in
+    let c1 = g.H.Host.state c.say_refused.new.h in
+    let lines = c.in_ok-say_refused.ensures.says t i marks in
+    let d = g.H.Host.state c.clear_spaces.new.h in
+    let still = KeepsRest-changes _ _ c1 d (c.in_ok-clear_spaces.ensures.any t) in
+    let size = (g.H.Host.counts c.args.h.now).size in
+    let words = words_said _ _ b c1 lines in
+    let behind = recovered_any size i c1 d c.in_ok-report.report (c.in_ok-report.ensures.not_sound t refl)
+    (λ s world. subst (λ (x : Words). IsBehindRecovery size s i x) (sym words) (behind_recovery size s a b (c.in_ok-report.ensures.replays t size refl s world) (c.in_ok-report.ensures.recovers t size refl s rested world)))
+    (c.in_ok-clear_spaces.ensures.empties t) in
+    let same = words_said _ _ d (g.H.Host.state c.say_ready.new.h) (c.in_ok-say_ready.ensures.says t) in
+    ap (λ (m : Memory). m.frames) c.begun.ensures ∙ c.in_ok-report.ensures.frames t ∙ behind.frames ∙ ap (λ (x : Words). frames_of (reads x)) (sym same)

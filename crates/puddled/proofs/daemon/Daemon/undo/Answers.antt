@@ -2,6 +2,7 @@ use Rattle.std.proofs.Common.{None, sym, subst, ◌∙◌}
 use Rattle.pm_model.specs.Counts.{fault_of}
 use Rattle.ready_daemon.specs.Memory.{Memory}
 use Rattle.pool_transaction.proofs.HeldEnds.{Undoes, IsReleased, Applies-undone, Applies-unheld, behind_undone}
+use Rattle.ready_daemon.proofs.Keeping.{KeepsRest-changes}
 use Rattle.puddled.proofs.daemon.Daemon.undo.Goals as goal
 
 pub returns-in-Some-clause-applies : goal.returns-in-Some-clause-applies
@@ -32,3 +33,6 @@ returns-in-None-clause-applies g c = λ t size e w ready.
     let r = c.release.ensures in
     let released : IsReleased c.args.number c.args.self.now c.release.new.self = record { frames = r.frames; held = r.held; sessions = r.sessions; judged = r.judged } in
     Applies-unheld size w c.args.self.now c.release.new.self c.args.number None old old released ready (sym r.tx ∙ c.in-None.is)
+
+pub returns-in-Some-clause-rest : goal.returns-in-Some-clause-rest
+returns-in-Some-clause-rest g c = λ t. KeepsRest-changes _ _ _ _ (c.abort.ensures.any t)

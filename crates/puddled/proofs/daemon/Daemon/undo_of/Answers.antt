@@ -5,6 +5,7 @@ use Rattle.pm_model.proofs.Changes.{Changes-then}
 use Rattle.pud_defs.specs.Settled.{client_of_log}
 use Rattle.ready_daemon.specs.Leaving.{BehindTables}
 use Rattle.ready_daemon.proofs.Leaving.{IsUndone-start, IsUndone-more, AreUndone-more, Applies-interrupted, Applies-all}
+use Rattle.ready_daemon.proofs.Keeping.{KeepsRest-still, KeepsRest-then}
 use Rattle.puddled.proofs.daemon.Daemon.undo_of.Goals as goal
 
 pub loop-number-init : goal.loop-number-init
@@ -13,7 +14,7 @@ loop-number-init g c =
     record {
       counts = refl;
       frames = refl;
-      rest = λ t. record { script = refl; shelf = refl };
+      rest = λ t. KeepsRest-still _ _ refl;
       none = record { each = λ number low high. absurd (omega arith) };
       undone = λ t size e w ready. IsUndone-start size w c.args.client c.args.self.now (g.H.Host.state c.args.h.now) ready;
     }
@@ -26,7 +27,7 @@ loop-number-preserved g c =
     record {
       counts = ◌∙◌ {b = g.H.Host.counts l.h} u.cause before.counts;
       frames = u.frames ∙ before.frames;
-      rest = λ t. record { script = (u.rest t).script ∙ (before.rest t).script; shelf = (u.rest t).shelf ∙ (before.rest t).shelf };
+      rest = λ t. KeepsRest-then _ _ _ (before.rest t) (u.rest t);
       none = AreUndone-more c.args.client l.number l.self.held c.undo.new.self.held u.held before.none;
       undone = λ t size e w ready.
           let from = c.from-first.ensures in

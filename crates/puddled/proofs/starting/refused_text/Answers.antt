@@ -1,13 +1,12 @@
 use Rattle.std.proofs.Common.{◌≡◌, ℕ, ◌++◌, List, [], Bool, cond, length, sym, ap, ◌∙◌, arith, append-nil}
 use Rattle.std.specs.Prelude.{slice_index_or}
 use Rattle.pud_defs.specs.Settled.{ALL_LOGS}
-use Rattle.pud_defs.specs.Texts.{ready_text}
 use Rattle.pud_defs.specs.StartText.{refused_line}
 use Rattle.pud_defs.proofs.StartText.{first_lines, first_lines-none, first_lines-more, first_lines-all}
 use Rattle.recover.specs.declared.judge.Mark.TheVariants.{Closed}
 use Rattle.recover.specs.Verdicts.{is_refused_mark}
-use Rattle.puddled.proofs.starting.start_text.Goals as goal
-use Rattle.puddled.proofs.starting.start_text.Goals.{then-is_refused, else-is_refused}
+use Rattle.puddled.proofs.starting.refused_text.Goals as goal
+use Rattle.puddled.proofs.starting.refused_text.Goals.{then-is_refused, else-is_refused}
 
 pub loop-number-init : goal.loop-number-init
 loop-number-init c = record { lines = c.new-text.ensures ∙ sym (first_lines-none _); within = omega (arith, ap length c.new-text.ensures) }
@@ -30,8 +29,6 @@ loop-number-preserved c =
     ]
 
 pub returns : goal.returns
-unfolding ready_text
 returns c =
     let last : c.loop-number.number ≡ ALL_LOGS = omega (arith, c.loop-number-test.false) in
-    c.push_str.ensures.bytes ∙ ap (λ (l : List ℕ). l ++ ready_text)
-    (c.loop-number.invariant.lines ∙ ap (λ (n : ℕ). first_lines (λ number. is_refused_mark (slice_index_or c.args.marks.now number Closed)) n) last ∙ first_lines-all _)
+    c.loop-number.invariant.lines ∙ ap (λ (n : ℕ). first_lines (λ number. is_refused_mark (slice_index_or c.args.marks.now number Closed)) n) last ∙ first_lines-all _

@@ -1,0 +1,222 @@
+-- A start, stage by stage: the device recovered, the lines on refused logs said, the log-space table emptied, `ready` said.
+use Rattle.std.proofs.Common.{◌≡◌, inl, inr, ℕ, ◌+◌, ◌≤◌, [], List, ◌++◌, Option, Some, None, Result, Err, refl, sym, ap, subst, ◌∙◌, arith}
+use Rattle.std.specs.Prelude.{slice_index_or}
+use Rattle.std.proofs.lemmas.List.{append-nil, append_assoc}
+use Rattle.pm_model.specs.declared.host.HostFault.{HostFault}
+use Rattle.pm_model.specs.Words.{Words, reads}
+use Rattle.pm_model.specs.Moments.{State}
+use Rattle.pm_model.specs.Calls.{Says}
+use Rattle.pm_model.specs.Changes.{Leaves, Silently}
+use Rattle.pm_model.proofs.Changes.{Changes-said}
+use Rattle.pm_model.proofs.Leaves.{Leaves-changes, Leaves-now, Leaves-then, Leaves-weaker, Leaves-says}
+use Rattle.pud_defs.specs.declared.layout.TheConstants.{DAEMON_LOG, CLIENTS}
+use Rattle.pud_defs.specs.Image.{Image}
+use Rattle.pud_defs.specs.Run.{newlines}
+use Rattle.pud_defs.specs.StartText.{refused_lines, start_text}
+use Rattle.pud_defs.specs.Texts.{ready_text}
+use Rattle.pud_defs.specs.World.{World, world_of, closed}
+use Rattle.pud_defs.proofs.Lines.{newlines-append, newlines_part}
+use Rattle.pud_defs.proofs.StartText.{refused_lines-same}
+use Rattle.batch.specs.Batches.{ByBatch, IsBatched}
+use Rattle.log_space.specs.Clearing.{clearing, Empties}
+use Rattle.recover.specs.declared.judge.Mark.{Mark}
+use Rattle.recover.specs.declared.judge.Mark.TheVariants.{Closed}
+use Rattle.recover.specs.Verdicts.{is_refused_mark}
+use Rattle.recover.specs.declared.recovery.Report.{Report}
+use Rattle.recover.specs.declared.recovery.RecoverFault.{RecoverFault}
+use Rattle.recover.specs.declared.recovery.RecoverFault.TheVariants as recoveries
+use Rattle.recover.specs.Recovery.{recover_fault, DiffersByRecovery, StandsStill, ReplaysLogs, RecoversDevice}
+use Rattle.recover.proofs.Moments.{Leaves-both}
+use Rattle.ready_daemon.specs.Memory.{Memory}
+use Rattle.ready_daemon.specs.Ready.{KeepsRest, RefusesNone}
+use Rattle.puddled.specs.declared.daemon.StartFault.{StartFault}
+use Rattle.puddled.specs.declared.daemon.StartFault.TheVariants as starts
+use Rattle.puddled.specs.Faults.{start_fault, of_recover}
+use Rattle.puddled.specs.Saying.{SaysPart}
+use Rattle.puddled.specs.Starting.{AreMarks, ByStart, DiffersByStart, refused_text, StandsInStart, Starts}
+use Rattle.puddled.proofs.Emptied.{IsBehindRecovery, behind_recovery, batched_still, third_may, refuses_none_d}
+use Rattle.puddled.proofs.Lines.{SaysPart-says, SaysPart-nothing, said_all, words_said}
+use Rattle.puddled.proofs.Restarts.{wider_rights, refuses_none}
+
+-- the text of a start is the lines on refused logs, and `ready`
+start_text-is : (image : Image) → start_text image ≡ refused_text image ++ ready_text
+unfolding start_text
+start_text-is image = refl
+
+newlines_ready : newlines ready_text ≡ 1
+unfolding ready_text
+newlines_ready = refl
+
+-- so it has one line more
+newlines_start : (image : Image) → newlines (start_text image) ≡ newlines (refused_text image) + 1
+newlines_start image = ap newlines (start_text-is image) ∙ newlines-append (refused_text image) ready_text ∙ ap (λ (n : ℕ). newlines (refused_text image) + n) newlines_ready
+
+pub lines_of_start : (image : Image) → newlines (refused_text image) ≤ newlines (start_text image)
+lines_of_start image = let all = newlines_start image in omega arith
+
+-- the lines by what was found are those of the image that was judged
+pub text_by_marks : (image : Image) (marks : List Mark) (text : List ℕ) → AreMarks image marks → text ≡ refused_lines (λ number. is_refused_mark (slice_index_or marks number Closed))
+    → text ≡ refused_text image
+text_by_marks image marks text found is = is ∙ refused_lines-same _ _ found.each
+
+-- ---- what is said
+
+-- where there is no text nothing is said
+pub Says-nothing : (text : List ℕ) (s : State) → text ≡ [] → Says text None s s
+Says-nothing text s none = subst (λ (l : List ℕ). Says l None s s) (sym none) (record { count = 0; within = omega arith; is = refl; whole = λ _. refl })
+
+module _ (image : Image) (a b : State) (quiet : b.now.said ≡ a.now.said) where
+  -- a fault came while the lines on refused logs were said
+  pub SaysPart-lines : {Fault : Type 0} (fault : Fault) (host : HostFault) (c : State) → Says (refused_text image) (Some host) b c → SaysPart (start_text image) (Some fault) a c
+  SaysPart-lines fault host c says =
+      let p = SaysPart-says (refused_text image) (Some host) b c says in
+      record {
+        bytes = p.bytes;
+        rest = p.rest ++ ready_text;
+        part = start_text-is image ∙ ap (λ (l : List ℕ). l ++ ready_text) p.part ∙ append_assoc p.bytes p.rest ready_text;
+        said = p.said ∙ ap (λ (l : List ℕ). l ++ p.bytes) quiet;
+        whole = λ none. absurd (let it : Some fault ≡ None = none in cc);
+      }
+
+  module _ (c : State) (lines : Says (refused_text image) None b c) (d : State) (still : d.now.said ≡ c.now.said) where
+    pub said_lines : d.now.said ≡ a.now.said ++ refused_text image
+    said_lines = still ∙ said_all (refused_text image) b c lines ∙ ap (λ (l : List ℕ). l ++ refused_text image) quiet
+
+    -- or behind them
+    pub SaysPart-behind_lines : {Fault : Type 0} (fault : Fault) → SaysPart (start_text image) (Some fault) a d
+    SaysPart-behind_lines fault = record {
+      bytes = refused_text image;
+      rest = ready_text;
+      part = start_text-is image;
+      said = said_lines;
+      whole = λ none. absurd (let it : Some fault ≡ None = none in cc);
+    }
+
+    -- `ready` was said, or a part of it
+    pub SaysPart-ready : (fault : Option HostFault) (e : State) → Says ready_text fault d e → SaysPart (start_text image) fault a e
+    SaysPart-ready fault e says =
+        let p = SaysPart-says ready_text fault d e says in
+        record {
+          bytes = refused_text image ++ p.bytes;
+          rest = p.rest;
+          part = start_text-is image ∙ ap (λ (l : List ℕ). refused_text image ++ l) p.part ∙ sym (append_assoc (refused_text image) p.bytes p.rest);
+          said = p.said ∙ ap (λ (l : List ℕ). l ++ p.bytes) said_lines ∙ append_assoc a.now.said (refused_text image) p.bytes;
+          whole = p.whole;
+        }
+
+-- a recovery that failed said nothing
+pub SaysPart-unsaid : (text : List ℕ) (fault : RecoverFault) (old new : State) → (◌≡◌ {A = Result Memory StartFault} (Err (of_recover fault)) (Err starts.NotSound) → ⊥) → new.now.said ≡ old.now.said
+    → SaysPart text (start_fault {T = Memory} (Err (of_recover fault))) old new
+SaysPart-unsaid text recoveries.NotSound old new sound quiet = absurd (sound refl)
+SaysPart-unsaid text (recoveries.Host fault) old new sound quiet = SaysPart-nothing text fault old new quiet
+
+-- ---- what is left
+
+module _ (size : ℕ) (w : World) (a : State) (world : world_of size (reads a.now.words) ≡ Some (closed w)) where
+  abbrev i : Image
+  i = reads a.now.words
+
+  abbrev F : ℕ
+  F = w.stored.frames
+
+  abbrev In : List ℕ → Image → Type 0
+  In = StandsInStart size w i
+
+  -- while lines on refused logs are said
+  early : (bytes rest : List ℕ) → refused_text i ≡ bytes ++ rest → (image : Image) → StandsStill size (closed w) i image → DiffersByRecovery F i image → In bytes image
+  early bytes rest is image still differs =
+      let part = newlines_part bytes rest in
+      let all = ap newlines is in
+      let text = newlines_start i in
+      record {
+        part = record { rest = rest ++ ready_text; is = start_text-is i ∙ ap (λ (l : List ℕ). l ++ ready_text) is ∙ append_assoc bytes rest ready_text };
+        stands = still.stands;
+        rights = wider_rights size w a world image differs;
+        untold = λ few. still.refused;
+        allowed = λ whole. absurd (omega arith);
+      }
+
+  -- behind them
+  late : (more rest : List ℕ) → ready_text ≡ more ++ rest → (image : Image) → world_of size image ≡ Some (closed w) → DiffersByStart F i image
+      → (newlines (start_text i) ≤ newlines (refused_text i ++ more) → RefusesNone image) → In (refused_text i ++ more) image
+  late more rest is image stands differs allowed =
+      let count = newlines-append (refused_text i) more in
+      record {
+        part = record { rest = rest; is = start_text-is i ∙ ap (λ (l : List ℕ). refused_text i ++ l) is ∙ sym (append_assoc (refused_text i) more rest) };
+        stands = stands;
+        rights = differs;
+        untold = λ few. absurd (omega arith);
+        allowed = allowed;
+      }
+
+  module _ (b : State) where
+    -- the device is recovered, and nothing said
+    pub In-recovered : (fault : Option HostFault) → RecoversDevice size (closed w) fault a b → Leaves In a b
+    In-recovered fault r = Leaves-weaker (Silently (λ image. StandsStill size (closed w) i image × DiffersByRecovery F i image)) In a b
+        (λ bytes image m. subst (λ (l : List ℕ). In l image) (sym m.0) (early [] (refused_text i) refl image m.1.0 m.1.1))
+        (Leaves-both (StandsStill size (closed w) i) (DiffersByRecovery F i) a b r.moments r.rights)
+
+    -- it is not, and nothing said
+    pub Starts-refused : (fault : RecoverFault) → (fault ≡ recoveries.NotSound → ⊥) → KeepsRest a b → RecoversDevice size (closed w) (recover_fault {T = Report} (Err fault)) a b → Starts size w (Err (of_recover fault)) a b
+    Starts-refused recoveries.NotSound sound rest r = absurd (sound refl)
+    Starts-refused (recoveries.Host fault) sound rest r = record {
+      says = SaysPart-nothing (start_text i) fault a b rest.quiet;
+      moments = In-recovered (Some fault) r;
+      ready = tt;
+      script = rest.script;
+      shelf = rest.shelf;
+    }
+
+    module _ (quiet : b.now.said ≡ a.now.said) (p : ReplaysLogs F None a b) (r : RecoversDevice size (closed w) None a b) (c : State) where
+      nothing_said : b.now.said ≡ a.now.said ++ []
+      nothing_said = quiet ∙ sym (append-nil a.now.said)
+
+      -- the lines on refused logs are said
+      pub In-lines : (fault : Option HostFault) → Says (refused_text i) fault b c → Leaves In a c
+      In-lines fault says = Leaves-then In In In [] a b c nothing_said (λ front image m. m) (λ more image m. m) (In-recovered None r)
+          (Leaves-says (refused_text i) fault In b c (λ front image prefix picked. early front prefix.rest prefix.is image
+          (Leaves-now (Silently (StandsStill size (closed w) i)) [] a b nothing_said r.moments image picked).1
+          (Leaves-now (Silently (DiffersByRecovery F i)) [] a b nothing_said r.rights image picked).1) says)
+
+      module _ (lines : Says (refused_text i) None b c) where
+        pub behind_lines : IsBehindRecovery size (closed w) i c.now.words
+        behind_lines = subst (λ (x : Words). IsBehindRecovery size (closed w) i x) (sym (words_said (refused_text i) None b c lines)) (behind_recovery size (closed w) a b p r)
+
+        said_c : c.now.said ≡ a.now.said ++ refused_text i
+        said_c = said_all (refused_text i) b c lines ∙ ap (λ (l : List ℕ). l ++ refused_text i) quiet
+
+        module _ (d : State) where
+          abbrev Batched : Image → Type 0
+          Batched = IsBatched c.now.words DAEMON_LOG (clearing CLIENTS)
+
+          differs_d : (fault : Option HostFault) → Empties fault c d → Leaves (Silently (DiffersByStart F i)) c d
+          differs_d fault empties = Leaves-changes (DiffersByStart F i) (ByBatch DAEMON_LOG (clearing CLIENTS)) fault c d (λ before image picked from. record {
+            each = λ k. elim (from.each k) [
+              | inl same ↦ elim ((Leaves-now In (refused_text i) a c said_c (In-lines None lines) before picked).rights.each k) [
+                | inl kept ↦ inl (same ∙ kept)
+                | inr may ↦ inr (subst (λ (v : ℕ). ByStart F i k v) (sym same) may)
+              ]
+              | inr by ↦ inr (third_may size (closed w) i world c behind_lines k (image k) by)
+            ];
+          }) empties.commits.changes
+
+          -- the log-space table is emptied
+          pub In-emptied : (fault : Option HostFault) → Empties fault c d → Leaves In a d
+          In-emptied fault empties = Leaves-then In (Silently (λ image. Batched image × DiffersByStart F i image)) In (refused_text i) a c d said_c (λ front image m. m)
+              (λ more image m.
+              let text = newlines_start i in
+              let nothing = ap newlines (append-nil (refused_text i)) in
+              subst (λ (l : List ℕ). In (refused_text i ++ l) image) (sym m.0)
+              (late [] ready_text refl image (batched_still size (closed w) i world c behind_lines image m.1.0).stands m.1.1 (λ whole. absurd (omega arith))))
+              (In-lines None lines)
+              (Leaves-both Batched (DiffersByStart F i) c d empties.commits.moments (differs_d fault empties))
+
+          -- `ready` is said
+          pub In-ready : Empties None c d → (fault : Option HostFault) (e : State) → Says ready_text fault d e → Leaves In a e
+          In-ready empties fault e says =
+              let said_d = Changes-said (ByBatch DAEMON_LOG (clearing CLIENTS)) None c d empties.commits.changes ∙ said_c in
+              Leaves-then In (λ more image. In (refused_text i ++ more) image) In (refused_text i) a d e said_d (λ front image m. m) (λ more image m. m) (In-emptied None empties)
+              (Leaves-says ready_text fault (λ more image. In (refused_text i ++ more) image) d e (λ front image prefix picked.
+              let now = Leaves-now In (refused_text i) a d said_d (In-emptied None empties) image picked in
+              late front prefix.rest prefix.is image now.stands now.rights
+              (λ whole. refuses_none size w a world image now.stands (refuses_none_d size (closed w) i world c behind_lines d empties image picked))) says)

@@ -1,0 +1,255 @@
+-- The log-space table emptied behind a recovery: what is left at each moment, and what is there at the end.
+use Rattle.std.proofs.Common.{◌≡◌, ◌⊎◌, inl, inr, ⊎_elim, ℕ, ◌+◌, ◌*◌, ◌<◌, ◌≤◌, Bool, true, false, not, ◌&&◌, leb, ltb, List, [], Option, Some, None, refl, sym, ap, subst, ◌∙◌, arith}
+use Rattle.std.proofs.lemmas.Bool.{cases_lt, cond-false, lt-leb, le-ltb}
+use Rattle.std.proofs.lemmas.List.{append-nil}
+use Rattle.std.proofs.lemmas.Option.{none-some}
+use Rattle.pm_model.specs.declared.host.HostFault.TheVariants.{Cut}
+use Rattle.pm_model.specs.Words.{Words, reads, Picks, HasOnly, IsRested}
+use Rattle.pm_model.specs.Moments.{State}
+use Rattle.pm_model.specs.Changes.{Silently}
+use Rattle.pm_model.proofs.Words.{Picks-reads, reads_only, HasOnly-newest, HasOnly-own}
+use Rattle.pm_model.proofs.Changes.{Changes-said, HasOnly-kept}
+use Rattle.pm_model.proofs.Leaves.{Leaves-now}
+use Rattle.pud_defs.specs.declared.layout.TheConstants.{DAEMON_LOG, FRAMES_WORD, SPACE_TABLE, PUDDLE_TABLE, CLIENTS, CLIENT_LOGS}
+use Rattle.pud_defs.specs.declared.log_words.TheConstants.{CLOSED_GATE}
+use Rattle.pud_defs.specs.Image.{Image}
+use Rattle.pud_defs.specs.Layout.{IsWithin, tables_end, log_at, frames_at}
+use Rattle.pud_defs.specs.Entries.{Entry, log_of, is_idle_gate}
+use Rattle.pud_defs.specs.Replay.{overwritten, is_in_log, settled_by}
+use Rattle.pud_defs.specs.Spaces.{Owner, owner, owner_by, owner_of, is_closed_log, has_closed_logs, space_record_at}
+use Rattle.pud_defs.specs.Tables.{tables_of}
+use Rattle.pud_defs.specs.Allowed.{is_allowed_log, is_refused, is_accepted}
+use Rattle.pud_defs.specs.Settled.{ALL_LOGS, client_of_log, log_number_at, is_refused_log, is_accepted_log, is_in_logs, beside_logs, settled_over, settled}
+use Rattle.pud_defs.specs.Registry.{frames_of, has_legal_log}
+use Rattle.pud_defs.specs.World.{StoredWorld, world_of}
+use Rattle.pud_defs.proofs.Replay.{overwritten-stays, overwritten-there, settled_by-idle, outside_log, not_inside}
+use Rattle.pud_defs.proofs.Spaces.{all_below-from, has_closed_logs-same, are_legal_spaces-same, are_legal_spaces-none}
+use Rattle.pud_defs.proofs.Settled.{settled_over-none}
+use Rattle.pud_defs.proofs.LogsBeside.{IsReadBeside, world_again}
+use Rattle.pud_defs.proofs.Logged.{has_legal_log-of}
+use Rattle.pud_defs.proofs.ClosedLogs.{closed_by_gate}
+use Rattle.pud_defs.proofs.Parts.{HoldsWorld}
+use Rattle.pud_defs.proofs.Worlds.{settled-below, holding_of_world, frames_of_world}
+use Rattle.pud_defs.proofs.IdleWorlds.{legal_log_idle}
+use Rattle.pud_defs.proofs.Idle.{given_by_log-unowned, idle_world_of-unowned}
+use Rattle.batch.specs.Batches.{HasIdleGate, batch_write, ByBatch, committed, IsBatched}
+use Rattle.batch.specs.Worlds.{IsSettled}
+use Rattle.log_space.specs.Clearing.{clearing, Empties}
+use Rattle.log_space.proofs.Cleared.{clearing-there, clearing-outside, clearing-allowed}
+use Rattle.recover.specs.Recovery.{ByRecovery, StandsStill, ReplaysLogs, RecoversDevice}
+use Rattle.puddled.specs.Starting.{ByStart}
+
+abbrev emptied : List Entry
+emptied = clearing CLIENTS
+
+never_both : (b : Bool) → b && false ≡ false
+never_both true = refl
+never_both false = refl
+
+not_false : (b : Bool) → not b ≡ false → b ≡ true
+not_false true never = refl
+not_false false never = absurd (let it : true ≡ false = never in cc)
+
+-- a record that is free has no owner
+free_record : (image : Image) (client : ℕ) → image (space_record_at client) ≡ 0 → owner_of image client ≡ None
+free_record image client free = ap (λ (used : ℕ). owner_by used (image (space_record_at client + 1)) (image (space_record_at client + 2))) free
+
+-- without an owner no log is refused
+unowned_not_refused : (F : ℕ) (image : Image) (number : ℕ) → owner_of image (client_of_log number) ≡ None → is_refused_log F image number ≡ false
+unowned_not_refused F image number none = ap (λ (who : Option Owner). is_refused (tables_of F image) who (log_of image (log_number_at F number))) none
+
+-- a log of a record that is used is accepted where it is not refused
+accepted_owner : (F : ℕ) (image : Image) (number : ℕ) (who : Option Owner) (used uid gid : ℕ) → who ≡ owner_by used uid gid → used ≡ 1
+    → is_refused (tables_of F image) who (log_of image (log_number_at F number)) ≡ false → is_accepted (tables_of F image) who (log_of image (log_number_at F number)) ≡ true
+accepted_owner F image number None used uid gid of_record is allowed = absurd (none-some (owner uid gid) (of_record ∙ ap (λ (v : ℕ). owner_by v uid gid) is))
+accepted_owner F image number (Some who) used uid gid of_record is allowed = not_false (is_allowed_log (tables_of F image) who (log_of image (log_number_at F number))) allowed
+
+allowed_accepted : (F : ℕ) (image : Image) (number : ℕ) → image (space_record_at (client_of_log number)) ≡ 1 → is_refused_log F image number ≡ false → is_accepted_log F image number ≡ true
+allowed_accepted F image number used allowed =
+    let at = space_record_at (client_of_log number) in
+    accepted_owner F image number (owner_of image (client_of_log number)) (image at) (image (at + 1)) (image (at + 2)) refl used allowed
+
+-- the words of the log-space table are those that the batch may name
+in_table : (k v : ℕ) → batch_write emptied k ≡ Some v → IsWithin SPACE_TABLE PUDDLE_TABLE k
+in_table k v is = elim (cases_lt k SPACE_TABLE) [
+  | inl below ↦ absurd (none-some v (sym (clearing-outside CLIENTS k (omega arith) (inl below)) ∙ is))
+  | inr low ↦ elim (cases_lt k PUDDLE_TABLE) [
+    | inl high ↦ record { low = low; high = high }
+    | inr beyond ↦ absurd (none-some v (sym (clearing-outside CLIENTS k (omega arith) (inr beyond)) ∙ is))
+  ]
+]
+
+-- words that a recovery left of a rested device that read as this image and stood for this world
+pub record IsBehindRecovery (size : ℕ) (s : StoredWorld) (i : Image) (words : Words) : Type 0 where
+  pub rested : IsRested words
+  pub still : StandsStill size s i (reads words)
+  pub gate : HasOnly (words DAEMON_LOG) CLOSED_GATE
+  pub reads_so : (k : ℕ) → is_in_log DAEMON_LOG k ≡ false → is_in_logs s.frames k ≡ false → reads words k ≡ settled s.frames i k
+  pub closed : (number : ℕ) → number < ALL_LOGS → is_accepted_log s.frames (settled_by DAEMON_LOG i) number ≡ true → reads words (log_number_at s.frames number) ≡ CLOSED_GATE
+
+pub behind_recovery : (size : ℕ) (s : StoredWorld) (a b : State) → ReplaysLogs s.frames None a b → RecoversDevice size s None a b → IsBehindRecovery size s (reads a.now.words) b.now.words
+behind_recovery size s a b p r =
+    let said = Changes-said (ByRecovery s.frames (reads a.now.words)) None a b p.changes ∙ sym (append-nil a.now.said) in
+    record {
+      rested = r.rested refl;
+      still = (Leaves-now (Silently (StandsStill size s (reads a.now.words))) [] a b said r.moments (reads b.now.words) (Picks-reads b.now.words)).1;
+      gate = p.daemon_log refl;
+      reads_so = p.reads_so refl;
+      closed = p.closed refl;
+    }
+
+-- An image while the log-space table is emptied: it stands for the world, a log is refused only where it was, and each client's logs are closed
+-- that were when it began.
+pub record IsEmptying (size : ℕ) (s : StoredWorld) (i n image : Image) : Type 0 where
+  pub stands : world_of size image ≡ Some s
+  pub refused : (number : ℕ) → number < ALL_LOGS → is_refused_log s.frames (settled_by DAEMON_LOG i) number ≡ false → is_refused_log s.frames (settled_by DAEMON_LOG image) number ≡ false
+  pub closed : (client : ℕ) → client < CLIENTS → has_closed_logs image s.frames client ≡ has_closed_logs n s.frames client
+
+module _ (size : ℕ) (s : StoredWorld) (i : Image) (world : world_of size i ≡ Some s) (c : State) (behind : IsBehindRecovery size s i c.now.words) where
+  abbrev F : ℕ
+  F = s.frames
+
+  abbrev n : Image
+  n = reads c.now.words
+
+  idle_c : is_idle_gate (n DAEMON_LOG) ≡ true
+  idle_c = ap is_idle_gate (HasOnly-newest (c.now.words DAEMON_LOG) CLOSED_GATE behind.gate)
+
+  -- the daemon log counts nothing
+  pub idle_gate : HasIdleGate DAEMON_LOG c.now.words
+  idle_gate = record { each = λ v had. ap is_idle_gate (behind.gate.each v had) }
+
+  frames_c : n FRAMES_WORD ≡ F
+  frames_c = frames_of_world size n s behind.still.stands
+
+  -- where no log is refused, each log of a client whose record is used is closed
+  pub used_closed : ((number : ℕ) → number < ALL_LOGS → is_refused_log F (settled_by DAEMON_LOG i) number ≡ false) → (client : ℕ) → client < CLIENTS
+      → settled_by DAEMON_LOG i (space_record_at client) ≡ 1 → has_closed_logs n F client ≡ true
+  used_closed none client few used = all_below-from CLIENT_LOGS (λ k. is_closed_log n (log_at F client k)) (λ k below.
+      let number = CLIENT_LOGS * client + k in
+      let at : log_at F client k ≡ log_number_at F number = omega arith in
+      let of_client : client_of_log number ≡ client = omega arith in
+      let accepted : is_accepted_log F (settled_by DAEMON_LOG i) number ≡ true = allowed_accepted F (settled_by DAEMON_LOG i) number
+      (ap (λ (c : ℕ). settled_by DAEMON_LOG i (space_record_at c)) of_client ∙ used) (none number (omega arith)) in
+      ap (is_closed_log n) at ∙ closed_by_gate n (log_number_at F number) (behind.closed number (omega arith) accepted))
+
+  held_i : HoldsWorld size (settled F i) s
+  held_i = subst (λ (n : ℕ). HoldsWorld size (settled n i) s) (frames_of_world size i s world) (holding_of_world size i s world)
+
+  module _ (image : Image) (batched : IsBatched c.now.words DAEMON_LOG emptied image) where
+    before_c : batched.before ≡ n
+    before_c = reads_only c.now.words batched.before behind.rested batched.picked
+
+    frames_j : frames_of image ≡ F
+    frames_j =
+        batched.outside FRAMES_WORD (outside_log DAEMON_LOG FRAMES_WORD (inl (omega arith))) (clearing-outside CLIENTS FRAMES_WORD (omega arith) (inl (omega arith)))
+        ∙ ap (λ (x : Image). x FRAMES_WORD) before_c ∙ frames_c
+
+    legal_j : has_legal_log image ≡ true
+    legal_j = elim batched.log [
+      | inl idle ↦ legal_log_idle image idle
+      | inr full ↦ has_legal_log-of image F (committed emptied) frames_j full (clearing-allowed F CLIENTS (committed emptied) (omega arith))
+    ]
+
+    -- the clients' logs are none of the batch's words
+    logs_j : (client : ℕ) → client < CLIENTS → has_closed_logs image F client ≡ has_closed_logs n F client
+    logs_j client few =
+        has_closed_logs-same image n F client few (λ k low high.
+        batched.outside k (outside_log DAEMON_LOG k (inr (omega arith))) (clearing-outside CLIENTS k (omega arith) (inr (omega arith))) ∙ ap (λ (x : Image). x k) before_c)
+
+    -- as it was
+    same_still : settled_by DAEMON_LOG image ≡ settled_by DAEMON_LOG batched.before → IsEmptying size s i n image
+    unfolding settled
+    same_still same =
+        let is : settled_by DAEMON_LOG image ≡ settled_by DAEMON_LOG n = same ∙ ap (settled_by DAEMON_LOG) before_c in
+        let settles_so : (k : ℕ) → settled F image k ≡ settled F i k = λ k. ap (λ (x : Image). settled_over F x k) is ∙ behind.still.settles k in
+        record {
+          stands = world_again size s i image world legal_j (λ k read. settles_so k)
+              (are_legal_spaces-same (settled F image) (settled F i) (λ k low high. settles_so k) ∙ held_i.spaces);
+          refused = λ number few not_refused. ap (λ (x : Image). is_refused_log F x number) is ∙ behind.still.refused.each number few ∙ not_refused;
+          closed = logs_j;
+        }
+
+    outside_logs : (k : ℕ) → (k < tables_end F) ⊎ (frames_at F ≤ k) → is_in_logs F k ≡ false
+    outside_logs k (inl below) = ap (λ (b : Bool). b && ltb k (frames_at F)) (lt-leb (tables_end F) k below)
+    outside_logs k (inr above) = ap (λ (b : Bool). leb (tables_end F) k && b) (le-ltb k (frames_at F) above) ∙ never_both (leb (tables_end F) k)
+
+    module _ (all : settled_by DAEMON_LOG image ≡ overwritten (batch_write emptied) (settled_by DAEMON_LOG batched.before)) where
+      over_n : settled_by DAEMON_LOG image ≡ overwritten (batch_write emptied) (settled_by DAEMON_LOG n)
+      over_n = all ∙ ap (λ (x : Image). overwritten (batch_write emptied) (settled_by DAEMON_LOG x)) before_c
+
+      record_free : (client : ℕ) → client < CLIENTS → settled_by DAEMON_LOG image (space_record_at client) ≡ 0
+      record_free client few =
+          ap (λ (x : Image). x (space_record_at client)) over_n
+          ∙ overwritten-there (batch_write emptied) (settled_by DAEMON_LOG n) (space_record_at client) 0 (clearing-there CLIENTS client few)
+
+      nobody : (client : ℕ) → client < CLIENTS → owner_of (settled_by DAEMON_LOG image) client ≡ None
+      nobody client few = free_record (settled_by DAEMON_LOG image) client (record_free client few)
+
+      -- beside the table it settles to the same
+      settles_beside : (k : ℕ) → IsReadBeside F k → settled F image k ≡ settled F i k
+      unfolding settled
+      settles_beside k read =
+          let outside : is_in_log DAEMON_LOG k ≡ false = outside_log DAEMON_LOG k (⊎_elim (λ low. inl low) (λ high. inr (omega arith)) read.beside) in
+          let beside : is_in_logs F k ≡ false = outside_logs k read.logs in
+          let plain : settled F image ≡ beside_logs F (settled_by DAEMON_LOG image) = settled_over-none F (settled_by DAEMON_LOG image)
+          (λ number w few. given_by_log-unowned F (settled_by DAEMON_LOG image) number w nobody few) in
+          ap (λ (x : Image). x k) plain ∙ cond-false (is_in_logs F k) 0 (settled_by DAEMON_LOG image k) beside
+          ∙ ap (λ (x : Image). x k) over_n ∙ overwritten-stays (batch_write emptied) (settled_by DAEMON_LOG n) k (clearing-outside CLIENTS k (omega arith) read.spaces)
+          ∙ settled_by-idle DAEMON_LOG n k idle_c outside ∙ behind.reads_so k outside beside
+
+      -- with the table emptied
+      emptied_still : IsEmptying size s i n image
+      emptied_still = record {
+        stands = world_again size s i image world legal_j settles_beside
+            (are_legal_spaces-none (settled F image) (λ client few. settled-below F image (space_record_at client) (omega arith) ∙ record_free client few));
+        refused = λ number few not_refused. unowned_not_refused F (settled_by DAEMON_LOG image) number (nobody (client_of_log number) (omega arith));
+        closed = logs_j;
+      }
+
+    pub batched_still : IsEmptying size s i n image
+    batched_still = elim batched.settled [ inl same ↦ same_still same | inr all ↦ emptied_still all ]
+
+  pub third_may : (k v : ℕ) → ByBatch DAEMON_LOG emptied k v → ByStart F i k v
+  third_may k v (inl inside) = inl (inl inside)
+  third_may k v (inr named) = inr (in_table k named.value named.is)
+
+  -- ---- at the end
+
+  module _ (d : State) (empties : Empties None c d) where
+    -- a word that the batch does not write stays
+    kept_d : (k : ℕ) → is_in_log DAEMON_LOG k ≡ false → batch_write emptied k ≡ None → reads d.now.words k ≡ n k
+    kept_d k outside nothing = (empties.commits.changes.keeps (λ cut. absurd (let it : None ≡ Some Cut = cut in cc)) k (λ v by. elim by [
+      | inl inside ↦ not_inside DAEMON_LOG k outside inside
+      | inr named ↦ none-some named.value (sym nothing ∙ named.is)
+    ])).newest
+
+    pub single_d : (k : ℕ) → is_in_log DAEMON_LOG k ≡ false → HasOnly (d.now.words k) (reads d.now.words k)
+    single_d k outside = elim (batch_write emptied k) as (λ o. batch_write emptied k ≡ o → HasOnly (d.now.words k) (reads d.now.words k)) [
+      | Some v ↦ λ some. HasOnly-own (d.now.words k) v (empties.commits.durable refl k v some)
+      | None ↦ λ nothing. HasOnly-own (d.now.words k) (n k) (HasOnly-kept (ByBatch DAEMON_LOG emptied) None c d k (n k) empties.commits.changes (λ x by. elim by [
+        | inl inside ↦ not_inside DAEMON_LOG k outside inside
+        | inr named ↦ none-some named.value (sym nothing ∙ named.is)
+      ]) (behind.rested.each k))
+    ] refl
+
+    pub cleared_d : (client : ℕ) → client < CLIENTS → reads d.now.words (space_record_at client) ≡ 0
+    cleared_d client few = HasOnly-newest (d.now.words (space_record_at client)) 0 (empties.commits.durable refl (space_record_at client) 0 (clearing-there CLIENTS client few))
+
+    -- beside the logs and the table it reads as it settles to
+    pub reads_d : (k : ℕ) → is_in_log DAEMON_LOG k ≡ false → is_in_logs F k ≡ false → (k < SPACE_TABLE) ⊎ (PUDDLE_TABLE ≤ k) → reads d.now.words k ≡ settled F i k
+    reads_d k outside beside spaces = kept_d k outside (clearing-outside CLIENTS k (omega arith) spaces) ∙ behind.reads_so k outside beside
+
+    -- each image stands for the world, with nothing under way
+    pub settled_d : IsSettled size s d.now.words
+    settled_d = record {
+      stands = λ image picked.
+          let said = Changes-said (ByBatch DAEMON_LOG emptied) None c d empties.commits.changes ∙ sym (append-nil c.now.said) in
+          let batched = (Leaves-now (Silently (IsBatched c.now.words DAEMON_LOG emptied)) [] c d said empties.commits.moments image picked).1 in
+          idle_world_of-unowned size image s (batched_still image batched).stands (λ client few. (empties.done refl image picked).each client few);
+      idle = λ v had. ap is_idle_gate ((empties.commits.closed refl).each v had);
+    }
+
+    -- and refuses no log
+    pub refuses_none_d : (image : Image) → Picks d.now.words image → (number : ℕ) → number < ALL_LOGS → is_refused_log F (settled_by DAEMON_LOG image) number ≡ false
+    refuses_none_d image picked number few = unowned_not_refused F (settled_by DAEMON_LOG image) number ((empties.done refl image picked).each (client_of_log number) (omega arith))

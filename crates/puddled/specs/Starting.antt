@@ -1,0 +1,82 @@
+-- What a start does, at every moment.
+use Rattle.std.specs.Prelude.{◌≡◌, ◌⊎◌, ℕ, ◌<◌, ◌≤◌, false, List, replicate, slice_index_or, Some, None, Result, IfOk}
+use Rattle.pm_model.specs.Words.{reads}
+use Rattle.pm_model.specs.Moments.{State}
+use Rattle.pm_model.specs.Changes.{Footprint, Leaves, Silently}
+use Rattle.pud_defs.specs.declared.layout.TheConstants.{DAEMON_LOG, SPACE_TABLE, PUDDLE_TABLE, CLIENTS}
+use Rattle.pud_defs.specs.declared.records.TheConstants.{POOL_RECORDS}
+use Rattle.pud_defs.specs.Image.{Image}
+use Rattle.pud_defs.specs.Layout.{IsWithin}
+use Rattle.pud_defs.specs.Replay.{is_in_log, settled_by}
+use Rattle.pud_defs.specs.Registry.{frames_of}
+use Rattle.pud_defs.specs.Settled.{ALL_LOGS, is_refused_log, is_in_logs, settled}
+use Rattle.pud_defs.specs.Run.{newlines}
+use Rattle.pud_defs.specs.StartText.{refused_lines, start_text}
+use Rattle.pud_defs.specs.World.{World, world_of, closed, restart}
+use Rattle.recover.specs.declared.judge.Mark.{Mark}
+use Rattle.recover.specs.declared.judge.Mark.TheVariants.{Closed}
+use Rattle.recover.specs.Verdicts.{is_refused_mark}
+use Rattle.recover.specs.Recovery.{ByRecovery, RefusesSame}
+use Rattle.ready_daemon.specs.Memory.{Memory}
+use Rattle.ready_daemon.specs.Ready.{IsReady, RefusesNone, IsClosedIfFree, IsClosedIfNamed}
+use Rattle.puddled.specs.declared.daemon.StartFault.{StartFault}
+use Rattle.puddled.specs.Faults.{start_fault}
+use Rattle.puddled.specs.Saying.{IsPart, SaysPart}
+
+-- what the daemon holds in memory behind a start: no transaction is open, and no pool was judged
+abbrev pub first_memory : (frames : ℕ) → Memory
+first_memory frames = record { frames = frames; held = replicate ALL_LOGS None; sessions = replicate POOL_RECORDS None; judged = replicate POOL_RECORDS None }
+
+-- Rights at a start: it writes what a recovery may write, and the log-space table.
+abbrev pub ByStart : ℕ → Image → Footprint
+ByStart F start k v = ByRecovery F start k v ⊎ IsWithin SPACE_TABLE PUDDLE_TABLE k
+
+-- An image that differs from another only in words that a start on that one may write.
+pub record DiffersByStart (F : ℕ) (start image : Image) : Type 0 where
+  pub each : (k : ℕ) → (image k ≡ start k) ⊎ ByStart F start k (image k)
+
+-- the lines on the logs that are refused of an image, judged behind the daemon log
+abbrev pub refused_text : Image → List ℕ
+refused_text image = refused_lines (is_refused_log (frames_of image) (settled_by DAEMON_LOG image))
+
+-- What was found of the clients' logs of an image, by their numbers, judged behind the daemon log: which are registered and refused.
+pub record AreMarks (image : Image) (marks : List Mark) : Type 0 where
+  pub each : (number : ℕ) → number < ALL_LOGS → is_refused_mark (slice_index_or marks number Closed) ≡ is_refused_log (frames_of image) (settled_by DAEMON_LOG image) number
+
+-- What a device reads behind a start: each word but those of the logs and of the log-space table as the settled image has it.
+pub record IsReplayed (before now : Image) : Type 0 where
+  pub each : (k : ℕ) → is_in_log DAEMON_LOG k ≡ false → is_in_logs (frames_of before) k ≡ false → (k < SPACE_TABLE) ⊎ (PUDDLE_TABLE ≤ k) → now k ≡ settled (frames_of before) before k
+
+-- The device was brought up to date behind a power loss, from one that is rested and stands for a world, without a word: at each moment each
+-- image stands for the world, differs from what was read only where a start may write, refuses no log where none was refused, and then has a
+-- client's logs closed unless its record is used still, where they were unless it was used and no batch named it; without a fault the daemon is
+-- ready in it.
+pub record Recovers (size : ℕ) (w : World) (result : Result Memory StartFault) (old new : State) : Type 0 where
+  pub moments : Leaves (Silently (λ image. world_of size image ≡ Some (closed w))) old new
+  pub rights : Leaves (λ bytes image. DiffersByStart w.stored.frames (reads old.now.words) image) old new
+  pub allowed : RefusesNone (reads old.now.words) → Leaves (λ bytes image. RefusesNone image) old new
+  pub logs : RefusesNone (reads old.now.words) → (client : ℕ) → client < CLIENTS → IsClosedIfNamed w.stored.frames client (reads old.now.words)
+      → Leaves (λ bytes image. IsClosedIfFree w.stored.frames client image) old new
+  pub quiet : new.now.said ≡ old.now.said
+  pub ready : IfOk result (λ memory. IsReady size (restart w) memory new)
+  pub script : new.script ≡ old.script
+  pub shelf : new.shelf ≡ old.shelf
+
+-- An image left by a start, with the bytes said since it began: they are a front of the start's text. The image stands for the world, and differs
+-- from what was read only where a start may write. Until each log that is refused is told of it is refused still, so that the next start tells of
+-- it; and once `ready` is said no registered log is refused.
+pub record StandsInStart (size : ℕ) (w : World) (start : Image) (bytes : List ℕ) (image : Image) : Type 0 where
+  pub part : IsPart bytes (start_text start)
+  pub stands : world_of size image ≡ Some (closed w)
+  pub rights : DiffersByStart w.stored.frames start image
+  pub untold : newlines bytes < newlines (refused_text start) → RefusesSame w.stored.frames start image
+  pub allowed : newlines (start_text start) ≤ newlines bytes → RefusesNone image
+
+-- A rested device that stands for a world was started on: at each moment each image stands for it, and the start text of what it read was said,
+-- or with a fault a part of it; without a fault the daemon is ready.
+pub record Starts (size : ℕ) (w : World) (result : Result Memory StartFault) (old new : State) : Type 0 where
+  pub says : SaysPart (start_text (reads old.now.words)) (start_fault result) old new
+  pub moments : Leaves (StandsInStart size w (reads old.now.words)) old new
+  pub ready : IfOk result (λ memory. IsReady size (restart w) memory new)
+  pub script : new.script ≡ old.script
+  pub shelf : new.shelf ≡ old.shelf
