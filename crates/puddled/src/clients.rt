@@ -63,22 +63,22 @@ pub fn come<H: Host>(
     Ok(Reply::Ok)
 }
 
-/// Closes the client's logs, and then registers them no more.
-fn dismiss<H: Host>(h: &mut H, frames: u32, client: u32) -> Result<(), HostFault>
-    requires known { client < CLIENTS }
+/// Closes the logs of client `slot`, and then registers them no more.
+fn dismiss<H: Host>(h: &mut H, frames: u32, slot: u32) -> Result<(), HostFault>
+    requires known { slot < CLIENTS }
     requires few { frames ≤ MAX_FRAMES }
     requires room { device_words frames ≤ (H.counts h.old).size }
-    ensures applies { H.tells → (size : ℕ) → size ≡ (H.counts h.old).size → (w : World) → (memory : Memory) → memory.frames ≡ frames → IsReady size w memory (H.state h.old) → IsOthers client memory.held
-        → Applies size w (after w (commands.Leave client)) memory (fault_of result) (H.state h.old) (H.state h.new) }
+    ensures applies { H.tells → (size : ℕ) → size ≡ (H.counts h.old).size → (w : World) → (memory : Memory) → memory.frames ≡ frames → IsReady size w memory (H.state h.old) → IsOthers slot memory.held
+        → Applies size w (after w (commands.Leave slot)) memory (fault_of result) (H.state h.old) (H.state h.new) }
     // Its logs are closed in each image in which its record is free, or the daemon log gives it a value.
     ensures closes_first { H.tells → (size : ℕ) → size ≡ (H.counts h.old).size → (w : World) → (memory : Memory) → memory.frames ≡ frames → IsReady size w memory (H.state h.old)
-        → true ≡ is_some (w.clients client) → ClosesBefore w.stored.frames client (H.state h.old) (H.state h.new) }
+        → true ≡ is_some (w.clients slot) → ClosesBefore w.stored.frames slot (H.state h.old) (H.state h.new) }
     ensures rest { H.tells → KeepsRest (H.state h.old) (H.state h.new) }
     ensures rests { H.tells → fault_of result ≡ Option.Some HostFault.Cut → IsRested (H.state h.new).now.words }
     ensures cause { H.counts h.new ≡ after_fault (fault_of result) (H.counts h.old) }
 {
-    close_logs(h, frames, client)?;
-    unregister(h, client)
+    close_logs(h, frames, slot)?;
+    unregister(h, slot)
 }
 
 impl Daemon {

@@ -11,29 +11,29 @@ returns-in_err-close_logs-clause-applies g c =
     let p = err_from_is_err_and c.from_residual.result c.from_residual.ensures.1 in
     rw (p.1, p.2) (λ t size e w memory frames ready others.
     let is = sym frames ∙ ready.frames in
-    Applies-undismissed size w memory c.args.client c.requires.known others _ ready c.args.frames c.in_err-close_logs.field-0.0 _ is (c.in_err-close_logs.ensures.gates t)
-    (c.in_err-close_logs.ensures.closes t size e (closed w) is ready.mask (gates_apart size w memory c.args.client c.requires.known others _ ready c.args.frames is) ready.settled))
+    Applies-undismissed size w memory c.args.slot c.requires.known others _ ready c.args.frames c.in_err-close_logs.field-0.0 _ is (c.in_err-close_logs.ensures.gates t)
+    (c.in_err-close_logs.ensures.closes t size e (closed w) is ready.mask (gates_apart size w memory c.args.slot c.requires.known others _ ready c.args.frames is) ready.settled))
 
 pub returns-clause-applies : goal.returns-clause-applies
 returns-clause-applies g c = λ t size e w memory frames ready others.
     let is = sym frames ∙ ready.frames in
     let gates = c.in_ok-close_logs.ensures.gates t in
-    let closes = c.in_ok-close_logs.ensures.closes t size e (closed w) is ready.mask (gates_apart size w memory c.args.client c.requires.known others _ ready c.args.frames is) ready.settled in
+    let closes = c.in_ok-close_logs.ensures.closes t size e (closed w) is ready.mask (gates_apart size w memory c.args.slot c.requires.known others _ ready c.args.frames is) ready.settled in
     let then = e ∙ sym (ap (λ (n : Counts). n.size) c.in_ok-close_logs.ensures.cause) in
-    Applies-dismissed size w memory c.args.client c.requires.known others _ ready c.args.frames _ _ _ is gates closes
-    (c.unregister.ensures.commits t (gate_closed size w memory c.args.frames c.args.client _ _ ready gates))
+    Applies-dismissed size w memory c.args.slot c.requires.known others _ ready c.args.frames _ _ _ is gates closes
+    (c.unregister.ensures.commits t (gate_closed size w memory c.args.frames c.args.slot _ _ ready gates))
     (c.unregister.ensures.unregisters t size then (closed w) ready.mask
-    (record_apart size w memory c.args.client c.requires.known others _ ready (0 ∷ []) (omega arith)) (closes.settled refl))
+    (record_apart size w memory c.args.slot c.requires.known others _ ready (0 ∷ []) (omega arith)) (closes.settled refl))
 
 pub returns-in_err-close_logs-clause-closes_first : goal.returns-in_err-close_logs-clause-closes_first
 returns-in_err-close_logs-clause-closes_first g c = λ t size e w memory frames ready present.
-    ClosesBefore-closing size w memory c.args.client c.requires.known present c.args.frames _ _ _ (sym frames ∙ ready.frames) ready (c.in_err-close_logs.ensures.gates t)
+    ClosesBefore-closing size w memory c.args.slot c.requires.known present c.args.frames _ _ _ (sym frames ∙ ready.frames) ready (c.in_err-close_logs.ensures.gates t)
 
 pub returns-clause-closes_first : goal.returns-clause-closes_first
 returns-clause-closes_first g c = λ t size e w memory frames ready present.
     let gates = c.in_ok-close_logs.ensures.gates t in
-    ClosesBefore-freed size w memory c.args.client c.requires.known present c.args.frames _ _ _ _ (sym frames ∙ ready.frames) ready gates
-    (c.unregister.ensures.commits t (gate_closed size w memory c.args.frames c.args.client _ _ ready gates))
+    ClosesBefore-freed size w memory c.args.slot c.requires.known present c.args.frames _ _ _ _ (sym frames ∙ ready.frames) ready gates
+    (c.unregister.ensures.commits t (gate_closed size w memory c.args.frames c.args.slot _ _ ready gates))
 
 pub returns-in_err-close_logs-clause-rest : goal.returns-in_err-close_logs-clause-rest
 returns-in_err-close_logs-clause-rest g c = λ t. KeepsRest-changes _ _ _ _ (c.in_err-close_logs.ensures.any t)
