@@ -1,18 +1,32 @@
 -- What is known once a transaction has ended.
-use Rattle.std.proofs.Common.{◌≡◌, inl, inr, ℕ, true, false, Option, Some, None, sym, ap, ◌∙◌}
+use Rattle.std.proofs.Common.{◌≡◌, ◌⊎◌, inl, inr, ℕ, true, false, Option, Some, None, sym, ap, ◌∙◌}
 use Rattle.pm_model.specs.declared.host.HostFault.{HostFault}
 use Rattle.pm_model.specs.declared.host.HostFault.TheVariants.{Cut}
 use Rattle.pm_model.specs.Words.{Words, reads, Picks}
 use Rattle.pm_model.specs.Moments.{State}
-use Rattle.pm_model.specs.Changes.{Changes}
+use Rattle.pm_model.specs.Changes.{Changes, Leaves, Silently}
 use Rattle.pm_model.proofs.Words.{HasOnly-newest}
+use Rattle.pm_model.proofs.Leaves.{Leaves-weaker}
 use Rattle.pud_defs.specs.Image.{Image}
 use Rattle.pud_defs.specs.Entries.{is_idle_gate}
 use Rattle.pud_defs.specs.Replay.{is_in_log}
 use Rattle.pud_defs.proofs.Replay.{not_inside}
 use Rattle.word_transaction.specs.Ground.{Ground}
-use Rattle.word_transaction.specs.Running.{ByTransaction, IsIdle, SettlesTo, Closes, Ends}
+use Rattle.word_transaction.specs.Running.{ByTransaction, IsIdle, SettlesTo, SettlesByRange, Closes, Ends}
 use Rattle.word_transaction.proofs.Images.{SettlesTo-idle}
+
+-- ---- whatever its range
+
+-- an image settles to one of the two
+pub settles_either : (g : Ground) (at : ℕ) (before after image : Image) → SettlesByRange g at before after image → SettlesTo g at before image ⊎ SettlesTo g at after image
+settles_either g at before after image (inl unmoved) = inl unmoved.settles
+settles_either g at before after image (inr moved) = inr moved.settles
+
+pub Ends-either : (g : Ground) (at : ℕ) (before after : Image) (fault : Option HostFault) (old new : State) → Ends g at before after fault old new
+    → Leaves (Silently (λ image. SettlesTo g at before image ⊎ SettlesTo g at after image)) old new
+Ends-either g at before after fault old new e =
+    Leaves-weaker (Silently (SettlesByRange g at before after)) (Silently (λ image. SettlesTo g at before image ⊎ SettlesTo g at after image)) old new
+    (λ bytes image p. (p.0, settles_either g at before after image p.1)) e.moments
 
 -- ---- none is open any more
 
