@@ -12,6 +12,7 @@ pub mod LatersNamed
 pub mod Opening
 pub mod InFrames
 pub mod FieldPut
+pub mod LowestSlot
 pub mod ObjectPut
 pub mod SlotFreed
 pub mod RootPut

@@ -23,7 +23,7 @@ ghost use Rattle.word_transaction.specs.Running.{ByTransaction};
 ghost use Rattle.hybrid_tx.specs.Grounds.{pool_ground, IsPlaced, IsRewritten};
 ghost use Rattle.pud_defs.specs.Laters.{Later, laters_name};
 ghost use Rattle.hybrid_tx.specs.Stores.{address_at, word_for, new_words};
-ghost use Rattle.hybrid_tx.specs.Transactions.{MayName, MaySet, MayFree, IsSaving, IsOpenOn, Saves, RunsOn};
+ghost use Rattle.hybrid_tx.specs.Transactions.{MayName, MaySet, MayFree, IsSaving, IsOpenOn, Saves, RunsOn, MakesIn};
 
 use crate::Tx;
 use graph_read::find_serial;
@@ -157,6 +157,9 @@ impl Tx {
             → IsOpenOn frames pool.now types self.old before undone now laters (H.state h.old).now.words → map_of t types ≡ Option.Some m → now.next_serial < NUMBER_LIMIT
             → place_word (stored_in frames pool.now (reads (H.state h.old).now.words)).word (place_at at.now) SLOT_SERIAL_WORD ≡ 0
             → RunsOn frames pool.now types self.new before undone (with_new (blank_object t m) now) laters (fault_of result) (H.state h.old) (H.state h.new) }
+        ensures makes { H.tells → (types : List (ℕ × ℕ)) (before : Image) (undone : Graph) (now : Graph) (laters : List Later) → IsPlaced frames pool.now
+            → IsOpenOn frames pool.now types self.old before undone now laters (H.state h.old).now.words → now.next_serial < NUMBER_LIMIT
+            → MakesIn frames pool.now self.old.at at.now t (fault_of result) (H.state h.old) (H.state h.new) }
         ensures serial { H.tells → (types : List (ℕ × ℕ)) (now : Graph) → graph_of types (stored_in frames pool.now (reads (H.state h.old).now.words)) ≡ Option.Some now
             → IfOk result (λ serial. serial ≡ now.next_serial) }
         ensures counts { IfOk result (λ _. self.new ≡ longer NEW_UNITS self.old) }
@@ -182,7 +185,8 @@ impl Tx {
     ///
     /// The log lies before the frames, and has room for 37 units. Where the type is defined and the next serial is below 2^63,
     /// the pool's graph has the object at `Ok`, and what is asked for later stays; each image left until the transaction is
-    /// committed is, with the log replayed, as at the beginning. The only errors are the host's own. Four fences.
+    /// committed is, with the log replayed, as at the beginning. Outside the log only the words of that slot and the next serial
+    /// are written. The only errors are the host's own. Four fences.
     pub fn new<H: Host>(
         &mut self,
         h: &mut H,
@@ -201,6 +205,10 @@ impl Tx {
             → IsOpenOn frames pool.now types self.old before undone now laters (H.state h.old).now.words → map_of t types ≡ Option.Some m → now.next_serial < NUMBER_LIMIT
             → (AreAllLive (stored_in frames pool.now (reads (H.state h.old).now.words)) → ⊥)
             → RunsOn frames pool.now types self.new before undone (with_new (blank_object t m) now) laters (fault_of result) (H.state h.old) (H.state h.new) }
+        ensures makes { H.tells → (types : List (ℕ × ℕ)) (before : Image) (undone : Graph) (now : Graph) (laters : List Later) → IsPlaced frames pool.now
+            → IsOpenOn frames pool.now types self.old before undone now laters (H.state h.old).now.words → now.next_serial < NUMBER_LIMIT
+            → (slot : Slot) → IsSlotOf pool.now slot → IsLowestFreeSlot (stored_in frames pool.now (reads (H.state h.old).now.words)) (place_at slot)
+            → MakesIn frames pool.now self.old.at slot t (fault_of result) (H.state h.old) (H.state h.new) }
         ensures serial { H.tells → (types : List (ℕ × ℕ)) (now : Graph) → graph_of types (stored_in frames pool.now (reads (H.state h.old).now.words)) ≡ Option.Some now
             → (AreAllLive (stored_in frames pool.now (reads (H.state h.old).now.words)) → ⊥) → IfOk result (λ serial. serial ≡ now.next_serial) }
         ensures counts { H.tells → (AreAllLive (stored_in frames pool.now (reads (H.state h.old).now.words)) → ⊥) → IfOk result (λ _. self.new ≡ longer NEW_UNITS self.old) }

@@ -31,8 +31,9 @@ impl Tx {
     /// The log lies in the device, before the frames, and so does the puddle table of so many frames, at most 1,024. Where values
     /// are asked for later, that table stands in front of the log, each word of it has one value, the addresses of the pool's
     /// ranges are by it where the transaction took them to be, and the pool's puddles are rewritten. Each image left meanwhile is,
-    /// with the log replayed, as at the beginning, or has all that was changed and asked for; it is the latter from the word on by
-    /// which the log's range moves. The only errors are the host's own.
+    /// with the log replayed, as at the beginning while its log has the range of a running one; once that is the range of a
+    /// committing one, or the log is closed, it has all that was changed and asked for. At `Ok` the range moved when all that was
+    /// changed was durable, and before any value that was asked for was given. The only errors are the host's own.
     ///
     /// It reads the log's entries up to the first that asks for a value. Where there is none the only word written is the log's
     /// gate, and it takes three fences; else the loads of a replay, and four fences.

@@ -104,6 +104,8 @@ impl Tx {
         ensures at { self.new.at ≡ self.old.at }
         ensures done { IfOk result (λ _. self.new ≡ longer (length vals.now + ENTRY_HEADER_WORDS) self.old) }
         ensures changes { H.tells → Changes (ByTransaction (pool_ground frames pool.now) self.old.at) (fault_of result) (H.state h.old) (H.state h.new) }
+        ensures puts { H.tells → (e : ℕ × Puddle) → slice_get pool.now ordinal ≡ Option.Some e
+            → Changes (ByPut self.old.at (frame_at frames e.0 + word) vals.now) (fault_of result) (H.state h.old) (H.state h.new) }
         ensures saves { H.tells → IsPlaced frames pool.now → (e : ℕ × Puddle) → slice_get pool.now ordinal ≡ Option.Some e → (before : Image) (redo : List Entry)
             → IsSaving frames pool.now self.old before redo (H.state h.old).now.words
             → Saves frames pool.now self.new before redo (placed (frame_at frames e.0 + word) vals.now) (fault_of result) (H.state h.old) (H.state h.new) }
