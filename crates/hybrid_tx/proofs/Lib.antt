@@ -15,6 +15,7 @@ pub mod FieldPut
 pub mod LowestSlot
 pub mod ObjectPut
 pub mod SlotFreed
+pub mod RewrittenPools
 pub mod RootPut
 pub mod PoolEnding
 pub mod OpenMasks

@@ -22,7 +22,7 @@ use Rattle.graph_read.specs.Reading.{place_in_pool, place_at, IsSlotOf}
 use Rattle.log_store.specs.Store.{OpenLog}
 use Rattle.word_transaction.specs.Ground.{redo_entry, asked}
 use Rattle.word_transaction.specs.Running.{IsRunning, IsIdle, Runs, Closes, Ends}
-use Rattle.hybrid_tx.specs.Grounds.{pool_ground}
+use Rattle.hybrid_tx.specs.Grounds.{pool_ground, IsRewrittenAt}
 use Rattle.hybrid_tx.specs.Stores.{word_for, field_word, making, ByMaking}
 
 -- ---- what may be named, set and freed
@@ -44,6 +44,10 @@ pub record MaySet (types : List (ℕ × ℕ)) (g : Graph) (s f : ℕ) (x : Val) 
   pub defined : map_of object.type_id types ≡ Some map
   pub below : f < field_count map
   pub holds : MayHold map f g x
+
+-- Each pointer in the puddle in which, by this image of the pool, the object of a serial lies stands over the pool's bases.
+pub record IsRewrittenFor (F : ℕ) (at : List (ℕ × Puddle)) (image : Image) (s : ℕ) : Type 0 where
+  pub each : (slot : Slot) → IsSlotOf at slot → place_in_pool F at image s ≡ Some (place_at slot) → IsRewrittenAt at slot.ordinal
 
 -- The object of a serial is live, and nothing holds it: neither the root nor a pointer field of an object, itself included, names it.
 pub record MayFree (g : Graph) (s : ℕ) : Type 0 where
