@@ -90,8 +90,8 @@ pub record IsOpenOn (F : ℕ) (at : List (ℕ × Puddle)) (types : List (ℕ × 
   pub is : graph_of types (stored_in F at (reads words)) ≡ Some now
   pub are : AreLaters F at types (reads words) now laters redo
 
--- No transaction is open on the pool: the log whose gate is this word counts nothing in any image, each word of the pool's frames has one value, and
--- by these the pool has this graph.
+-- No transaction is open on the pool: the log whose gate is this word is closed in each image, each word of the pool's frames has one value, and by
+-- these the pool has this graph.
 pub record IsAtRest (F : ℕ) (at : List (ℕ × Puddle)) (types : List (ℕ × ℕ)) (log_at : ℕ) (g : Graph) (words : Words) : Type 0 where
   pub idle : IsIdle (pool_ground F at) log_at (reads words) words
   pub is : graph_of types (stored_in F at (reads words)) ≡ Some g
