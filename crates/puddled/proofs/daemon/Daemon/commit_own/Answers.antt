@@ -42,3 +42,12 @@ returns-in-Some-clause-applies g c = λ t size e w name ready own.
     let released : IsReleased c.args.own.number c.args.self.now c.release.new.self = record { frames = r.frames; held = r.held; sessions = r.sessions; judged = r.judged } in
     Applies-kept size w c.args.self.now c.release.new.self c.args.own.number fault old new released ready sz c.args.client name c.args.own.slot c.in-Some.tx e own (sym r.tx ∙ c.in-Some.is) (omega (arith, depth, is, last))
     (subst (λ (m : Memory). Commits m.frames sz c.in-Some.tx fault old new) c.self.view_is (c.commit.ensures.ends t))
+
+-- ---- begun more often than once
+
+pub returns-in-Some-clause-nested : goal.returns-in-Some-clause-nested
+returns-in-Some-clause-nested g c = λ deep.
+    let depth = ap (λ (m : Memory). depth_in m.sessions c.args.own.slot) c.self.view_is in
+    let is = c.depth.ensures.depth in
+    let last = c.if-depth-gt1.false in
+    absurd (omega (arith, depth, is, last, deep))
