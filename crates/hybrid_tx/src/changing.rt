@@ -95,8 +95,9 @@ impl Tx {
     ///
     /// The field is below 30, the log lies before the frames, and it has room for three units. Where the object is live, its
     /// puddle is rewritten, its type has the field and the field may hold the value, the pool's graph has it so at `Ok`, and what
-    /// is asked for later stays; each image left until the transaction is committed is, with the log replayed, as at the beginning. Where no object
-    /// has the serial, or none has the one that is to be named, nothing is done. The only errors are the host's own. Two fences.
+    /// is asked for later stays; each image left until the transaction is committed is, with the log replayed, as at the
+    /// beginning. Where no object has the serial, or none has the one that is to be named, nothing is done. The only errors are
+    /// the host's own. Two fences.
     pub fn set<H: Host>(
         &mut self,
         h: &mut H,
@@ -289,9 +290,9 @@ impl Tx {
     /// Makes the object of serial `s` the pool's root, or takes the root away with 0.
     ///
     /// The log lies before the frames, and it has room for three units. Where `s` is 0 or its object is live, and the puddle of
-    /// ordinal 0 is rewritten, it is the root of the pool's graph at `Ok`, and what is asked for later stays; each image left until the transaction is committed is, with
-    /// the log replayed, as at the beginning. Where no object has the serial, or the pool has no puddle, nothing is done. The
-    /// only errors are the host's own. Two fences.
+    /// ordinal 0 is rewritten, it is the root of the pool's graph at `Ok`, and what is asked for later stays; each image left
+    /// until the transaction is committed is, with the log replayed, as at the beginning. Where no object has the serial, or the
+    /// pool has no puddle, nothing is done. The only errors are the host's own. Two fences.
     pub fn root<H: Host>(
         &mut self,
         h: &mut H,

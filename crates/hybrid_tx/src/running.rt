@@ -35,7 +35,8 @@ impl Tx {
     /// entry.
     ///
     /// Where the log is closed in each image, whatever entries it has, and each word of the frames of a pool that has a graph has
-    /// one value, a transaction is open on the pool. The only errors are the host's own. The one word written is the gate. One fence.
+    /// one value, a transaction is open on the pool. The only errors are the host's own. The one word written is the gate. One
+    /// fence.
     pub fn begin<H: Host>(h: &mut H, frames: u32, log: u32) -> Result<Tx, HostFault>
         requires few { frames ≤ MAX_FRAMES }
         requires device { device_words frames ≤ (H.counts h.old).size }
