@@ -31,9 +31,9 @@ use Rattle.log_store.specs.Store.{OpenLog}
 use Rattle.word_transaction.specs.Ground.{redo_entry}
 use Rattle.word_transaction.specs.Running.{nothing}
 use Rattle.word_transaction.proofs.Calls.{Runs-stopped, some_fault}
-use Rattle.hybrid_tx.specs.Grounds.{pool_ground, IsPlaced, IsRewritten}
+use Rattle.hybrid_tx.specs.Grounds.{pool_ground, IsPlaced}
 use Rattle.hybrid_tx.specs.Stores.{address_at, word_for, field_word}
-use Rattle.hybrid_tx.specs.Transactions.{MaySet, IsLater, AreLaters, IsSaving, IsOpenOn, Saves, RunsOn}
+use Rattle.hybrid_tx.specs.Transactions.{MaySet, IsRewrittenFor, IsLater, AreLaters, IsSaving, IsOpenOn, Saves, RunsOn}
 use Rattle.hybrid_tx.proofs.PoolGrounds.{all_there}
 use Rattle.hybrid_tx.proofs.FieldsSet.{placed_if_live, word_if_held, set_value}
 use Rattle.hybrid_tx.proofs.LatersKept.{AreLaters-kept, AreLaters-more}
@@ -79,7 +79,7 @@ module _ (F : ℕ) (at : List (ℕ × Puddle)) (types : List (ℕ × ℕ)) (log 
     pub no_value : word_for F at (reads old.now.words) x ≡ None → ⊥
     no_value = word_if_held types F at (reads old.now.words) now is_open.is may.map f x may.holds
 
-    pub RunsOn-set : (size word : ℕ) (slot : Slot) (v : ℕ) (fault : Option HostFault) (mid new : State) → IsPlaced F at → IsRewritten at → device_words F ≤ size → log.at + LOG_WORDS ≤ frames_at F
+    pub RunsOn-set : (size word : ℕ) (slot : Slot) (v : ℕ) (fault : Option HostFault) (mid new : State) → IsPlaced F at → IsRewrittenFor F at (reads old.now.words) s → device_words F ≤ size → log.at + LOG_WORDS ≤ frames_at F
         → behind.at ≡ log.at → mid ≡ old → IsSlotOf at slot → place_in_pool F at (reads old.now.words) s ≡ Some (place_at slot) → word_for F at (reads old.now.words) x ≡ Some v → word ≡ field_word slot.slot f
         → ((e : ℕ × Puddle) → slice_get at slot.ordinal ≡ Some e → (b : Image) (redo : List Entry) → IsSaving F at log b redo mid.now.words
         → Saves F at behind b redo (placed (frame_at F e.0 + word) (v ∷ [])) fault mid new)
@@ -93,7 +93,7 @@ module _ (F : ℕ) (at : List (ℕ × Puddle)) (types : List (ℕ × ℕ)) (log 
         let put_here = subst (λ (k : ℕ). IsSaving F at log before redo mid.now.words → Saves F at behind before redo (placed (frame_at F slot.frame + k) (v ∷ [])) fault mid new) is_word
         (put (slot.frame, of.puddle) of.there before redo) in
         RunsOn-write F size at types before log behind undone now (with_field s f x now) laters laters redo write fault old mid new is_placed device apart same stays is_open put_here
-        (set_value types F at image now is_open.is is_placed rewritten s f slot of found x v may value)
+        (set_value types F at image now is_open.is is_placed s f slot (rewritten.each slot of found) of found x v may value)
         (AreLaters-kept F at types image (overwritten write image) now (with_field s f x now)
         (KeepsPlaces-field F at image is_placed.frames slot of f v (omega arith) now) (KeepsObjects-field s f x now) laters redo is_open.are)
 

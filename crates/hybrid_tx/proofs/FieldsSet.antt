@@ -1,5 +1,5 @@
 -- A field's word is stored in an image of a pool: its graph has the value in the field.
-use Rattle.std.proofs.Common.{◌≡◌, ◌⊎◌, inl, inr, ℕ, ◌+◌, ◌*◌, ◌/◌, ◌%◌, ◌<◌, cond, List, [], ◌∷◌, Option, Some, None, get_or, option_map, refl, sym, ap, ap₂, ◌∙◌, arith, eqb, eq-eqb, ne_eqb}
+use Rattle.std.proofs.Common.{◌≡◌, ◌⊎◌, inl, inr, ℕ, ◌+◌, ◌*◌, ◌/◌, ◌%◌, ◌<◌, cond, List, [], ◌∷◌, Option, Some, None, get_or, option_map, refl, sym, ap, ap₂, subst, ◌∙◌, arith, eqb, eq-eqb, ne_eqb}
 use Rattle.std.specs.Prelude.{slice_get}
 use Rattle.std.proofs.lemmas.Bool.{cases_eq, cases_lt, cond-true, cond-false}
 use Rattle.std.proofs.lemmas.Option.{none-some, same_Some, slice_get-map, slice_get-get_or}
@@ -28,10 +28,9 @@ use Rattle.graph_laws.proofs.StoredImages.{stored_in-written}
 use Rattle.graph_laws.proofs.Words.{place_of-some, few_fields}
 use Rattle.graph_read.specs.Reading.{place_in_pool, place_at, IsSlotOf}
 use Rattle.graph_read.proofs.Placed.{place_ordinal, place_slot}
-use Rattle.hybrid_tx.specs.Grounds.{IsPlaced, IsRewritten}
+use Rattle.hybrid_tx.specs.Grounds.{IsPlaced, IsRewrittenAt}
 use Rattle.hybrid_tx.specs.Stores.{address_at, word_for, field_word}
 use Rattle.hybrid_tx.specs.Transactions.{MayName, MayHold, MaySet}
-use Rattle.hybrid_tx.proofs.PoolGrounds.{all_there}
 use Rattle.hybrid_tx.proofs.LatersKept.{some_object}
 
 -- one word written over an image
@@ -110,9 +109,9 @@ module _ (types : List (ℕ × ℕ)) (F : ℕ) (at : List (ℕ × Puddle)) (imag
   -- ---- addresses
 
   -- the address of a place is one for a pointer at any step of any puddle
-  pub address_of_place : IsPlaced F at → IsRewritten at → (o step : ℕ) (e : ℕ × Puddle) → slice_get at o ≡ Some e → step < LAST_FRONTIER → (q v : ℕ) → q < places_of st → address_at at q ≡ v → IsAddress st.puddles o step q v
-  address_of_place placed rewritten o step e here below q v within is =
-      let last : e.1.frontier ≡ LAST_FRONTIER = all_there (λ d. d.1.frontier ≡ LAST_FRONTIER) at o e rewritten.each here in
+  pub address_of_place : IsPlaced F at → (o step : ℕ) (e : ℕ × Puddle) → IsRewrittenAt at o → slice_get at o ≡ Some e → step < LAST_FRONTIER → (q v : ℕ) → q < places_of st → address_at at q ≡ v → IsAddress st.puddles o step q v
+  address_of_place placed o step e rewritten here below q v within is =
+      let last : e.1.frontier ≡ LAST_FRONTIER = rewritten.each e here in
       let there = slice_get-get_or st.puddles (q / FRAME_SLOTS) e.1 (omega arith) in
       record {
         bases = placed.bases;
@@ -126,7 +125,7 @@ module _ (types : List (ℕ × ℕ)) (F : ℕ) (at : List (ℕ × Puddle)) (imag
 
   -- ---- the field
 
-  module _ (placed : IsPlaced F at) (rewritten : IsRewritten at) (s f : ℕ) (slot : Slot) (of : IsSlotOf at slot) (found : place_in_pool F at image s ≡ Some (place_at slot)) where
+  module _ (placed : IsPlaced F at) (s f : ℕ) (slot : Slot) (rewritten : IsRewrittenAt at slot.ordinal) (of : IsSlotOf at slot) (found : place_in_pool F at image s ≡ Some (place_at slot)) where
     abbrev p : ℕ
     p = place_at slot
 
@@ -140,8 +139,8 @@ module _ (types : List (ℕ × ℕ)) (F : ℕ) (at : List (ℕ × Puddle)) (imag
       address r v named =
           let within = (place_of-some (table_of types st) (places_of st) r named.place (place_is r ∙ named.found)).within in
           let slots = of.below in
-          address_of_place placed rewritten (p / FRAME_SLOTS) (p % FRAME_SLOTS + 1) (slot.frame, of.puddle)
-          (ap (slice_get at) (place_ordinal slot.ordinal slot.slot of.below) ∙ of.there) (omega arith) named.place v within named.is
+          address_of_place placed (p / FRAME_SLOTS) (p % FRAME_SLOTS + 1) (slot.frame, of.puddle)
+          (subst (λ (o : ℕ). IsRewrittenAt at o) (sym (place_ordinal slot.ordinal slot.slot of.below)) rewritten) (ap (slice_get at) (place_ordinal slot.ordinal slot.slot of.below) ∙ of.there) (omega arith) named.place v within named.is
 
       of_value : (x : Val) (v : ℕ) → MayHold m f g x → word_for F at image x ≡ Some v → graph_of types (with_field_word p f v st) ≡ Some (with_field s f x g)
       of_value (Num n) v number word =

@@ -12,8 +12,10 @@ pub mod LatersNamed
 pub mod Opening
 pub mod InFrames
 pub mod FieldPut
+pub mod LowestSlot
 pub mod ObjectPut
 pub mod SlotFreed
+pub mod RewrittenPools
 pub mod RootPut
 pub mod PoolEnding
 pub mod OpenMasks

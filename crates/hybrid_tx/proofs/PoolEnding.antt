@@ -1,5 +1,6 @@
 -- A transaction on a pool ends, and what images left meanwhile settle to.
-use Rattle.std.proofs.Common.{◌≡◌, ◌≢◌, ℕ, ◌+◌, ◌≤◌, true, false, List, [], ◌∷◌, Option, Some, None, refl, sym, ap, ◌∙◌}
+use Rattle.std.proofs.Common.{◌≡◌, ◌≢◌, ℕ, ◌+◌, ◌≤◌, true, false, List, [], Option, Some, None, refl, sym, ap, ◌∙◌}
+use Rattle.std.specs.Prelude.{All}
 use Rattle.pm_model.specs.declared.host.HostFault.{HostFault}
 use Rattle.pm_model.specs.Words.{Words, reads}
 use Rattle.pm_model.proofs.Words.{HasOnly-own}
@@ -18,8 +19,8 @@ use Rattle.word_transaction.specs.Ground.{Ground, IsGround, asks, written_in_tur
 use Rattle.word_transaction.specs.Running.{IsRunning, IsIdle, SettlesTo, Closes, Ends, CanRedo}
 use Rattle.word_transaction.proofs.Pending.{asks-none, pending-in_turn}
 use Rattle.word_transaction.proofs.Ended.{Ends-idle, Closes-idle, IsIdle-reads}
-use Rattle.hybrid_tx.specs.Grounds.{pool_place, pool_ground, IsPlaced, IsRewritten}
-use Rattle.hybrid_tx.specs.Transactions.{AreLaters, IsOpenOn, IsAtRest, ClosesOn, EndsOn}
+use Rattle.hybrid_tx.specs.Grounds.{pool_place, pool_ground, IsPlaced}
+use Rattle.hybrid_tx.specs.Transactions.{IsRewrittenFor, IsOpenOn, IsAtRest, ClosesOn, EndsOn}
 use Rattle.hybrid_tx.proofs.PoolGrounds.{is_ground}
 use Rattle.hybrid_tx.proofs.Opening.{stored_in-mine}
 use Rattle.hybrid_tx.proofs.LatersKept.{AreLaters-none}
@@ -37,19 +38,12 @@ module _ (F size : ℕ) (at : List (ℕ × Puddle)) (types : List (ℕ × ℕ)) 
       pending-in_turn (pool_ground F at) (pool_place F at) s.es (reads old.now.words) s.running.own
       ∙ ap (λ (redo : List Entry). written_in_turn (pool_place F at) redo (reads old.now.words)) s.asks
 
-  -- which make the graph with what is asked for
-  graph_by : (ls : List Later) (redo : List Entry) → (ls ≢ [] → IsRewritten at) → AreLaters F at types (reads old.now.words) now ls redo
-      → graph_of types (stored_in F at (written_in_turn (pool_place F at) redo (reads old.now.words))) ≡ Some (with_laters ls now)
-  graph_by [] [] rewritten are = is_open.is
-  graph_by [] (e ∷ es) rewritten are = absurd are
-  graph_by (l ∷ ls) redo rewritten are = laters_applied F at types is_placed (rewritten (λ none. cc)) (l ∷ ls) redo (reads old.now.words) now is_open.is are
-
   some_asked : asks is_open.saving.es ≡ true → laters ≢ []
   some_asked asked_some none =
       let empty = AreLaters-none F at types (reads old.now.words) now laters is_open.redo none is_open.are in
       absurd (let it : true ≡ false = sym asked_some ∙ asks-none is_open.saving.es (is_open.saving.asks ∙ empty) in cc)
 
-  pub EndsOn-ends : (laters ≢ [] → IsRewritten at) → (laters ≢ [] → CanRedo (pool_ground F at) F log.at old.now.words)
+  pub EndsOn-ends : All (λ (l : Later). IsRewrittenFor F at (reads old.now.words) l.s) laters → (laters ≢ [] → CanRedo (pool_ground F at) F log.at old.now.words)
       → ((g : Ground) (es : List Entry) (b : Image) → IsGround size log.at g → IsRunning g log es b old.now.words → (asks es ≡ true → CanRedo g F log.at old.now.words)
       → Ends g log.at b (overwritten (pending g.place es) (reads old.now.words)) fault old new) → EndsOn F at types log.at before undone (with_laters laters now) fault old new
   EndsOn-ends rewritten can ends =
@@ -58,7 +52,7 @@ module _ (F size : ℕ) (at : List (ℕ × Puddle)) (types : List (ℕ × ℕ)) 
         after = after;
         ends = ends (pool_ground F at) s.es before (is_ground F size log.at at is_placed device apart) s.running (λ asked_some. can (some_asked asked_some));
         was = is_open.was;
-        is = ap (λ (i : Image). graph_of types (stored_in F at i)) in_turn ∙ graph_by laters is_open.redo rewritten is_open.are;
+        is = ap (λ (i : Image). graph_of types (stored_in F at i)) in_turn ∙ laters_applied F at types is_placed laters is_open.redo (reads old.now.words) now is_open.is is_open.are rewritten;
       }
 
   pub ClosesOn-closes : ((es : List Entry) → IsGround size log.at (pool_ground F at) → IsRunning (pool_ground F at) log es before old.now.words → Closes (pool_ground F at) log.at before fault old new)

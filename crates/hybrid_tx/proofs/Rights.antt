@@ -1,8 +1,8 @@
 -- The log of a transaction on a pool is allowed where its client may write the pool.
-use Rattle.std.proofs.Common.{◌≡◌, ℕ, ◌+◌, ◌-◌, ◌/◌, ◌%◌, ◌≤◌, true, not, ◌||◌, leb, eqb, List, [], ◌∷◌, length, Some, refl, ap, ◌∙◌, arith, ne_eqb, eq-eqb}
+use Rattle.std.proofs.Common.{◌≡◌, inl, inr, ℕ, ◌+◌, ◌-◌, ◌/◌, ◌%◌, ◌≤◌, true, not, ◌||◌, leb, eqb, List, [], ◌∷◌, length, Some, refl, ap, ◌∙◌, arith, ne_eqb, eq-eqb}
 use Rattle.std.specs.Prelude.{All}
 use Rattle.std.specs.List.{list_all}
-use Rattle.std.proofs.lemmas.Bool.{and_from, or_right, le-leb}
+use Rattle.std.proofs.lemmas.Bool.{cases_Bool, and_from, or_left, or_right, le-leb}
 use Rattle.std.proofs.lemmas.List.Elements.{All-head, All-tail}
 use Rattle.pud_defs.specs.declared.layout.TheConstants.{FRAME_WORDS}
 use Rattle.pud_defs.specs.declared.space.TheConstants.{WORD_BYTES}
@@ -16,9 +16,9 @@ use Rattle.pud_defs.specs.Rights.{may_write}
 use Rattle.pud_defs.specs.SoundTables.{HasSoundTables}
 use Rattle.pud_defs.specs.Spaces.{Owner, owner}
 use Rattle.pud_defs.specs.Tables.{Tables}
-use Rattle.word_transaction.specs.Ground.{IsOwn}
 use Rattle.hybrid_tx.specs.Grounds.{pool_ground}
 use Rattle.hybrid_tx.proofs.PoolGrounds.{IsNamed, pool_may-named}
+use Rattle.hybrid_tx.proofs.OwnEntries.{IsOwnInRange}
 use Rattle.pud_defs.proofs.PoolMembers.{IsMemberOf, HasMembers, located_of_member}
 
 -- The pool of the slot is there, and its mode lets this owner write it.
@@ -51,14 +51,17 @@ module _ (next : ℕ) (t : Tables) (sound : HasSoundTables next t) (slot : ℕ) 
       (le-leb _ _ (let few : (e.address - d.1.base) / WORD_BYTES + length e.vals ≤ FRAME_WORDS = omega arith in few))
       (may_write_member named.ordinal d is))
 
-  all_own_allowed : (F : ℕ) (log : Log) (es : List Entry) → All (IsOwn (pool_ground F at)) es → list_all (λ e. not (is_in_range log e) || is_allowed_entry t who e) es ≡ true
+  all_own_allowed : (F : ℕ) (log : Log) (es : List Entry) → All (IsOwnInRange (pool_ground F at) log) es → list_all (λ e. not (is_in_range log e) || is_allowed_entry t who e) es ≡ true
   all_own_allowed F log [] own = refl
   all_own_allowed F log (e ∷ es) own =
       and_from _ _
-      (or_right (not (is_in_range log e)) _ (allowed_named e (pool_may-named at e.address (length e.vals) (All-head (IsOwn (pool_ground F at)) e es own).may)))
-      (all_own_allowed F log es (All-tail (IsOwn (pool_ground F at)) e es own))
+      (elim (cases_Bool (is_in_range log e)) [
+        | inl inside ↦ or_right (not (is_in_range log e)) _ (allowed_named e (pool_may-named at e.address (length e.vals) (All-head (IsOwnInRange (pool_ground F at) log) e es own inside).may))
+        | inr out ↦ or_left (not (is_in_range log e)) _ (ap not out)
+      ])
+      (all_own_allowed F log es (All-tail (IsOwnInRange (pool_ground F at) log) e es own))
 
-  -- and a log with entries of the transaction is allowed
-  pub own_log_allowed : (F : ℕ) (log : Log) (es : List Entry) → log.entries ≡ Some es → All (IsOwn (pool_ground F at)) es → is_allowed_log t who log ≡ true
+  -- and a log whose entries in range are the transaction's is allowed
+  pub own_log_allowed : (F : ℕ) (log : Log) (es : List Entry) → log.entries ≡ Some es → All (IsOwnInRange (pool_ground F at) log) es → is_allowed_log t who log ≡ true
   unfolding is_allowed_log
   own_log_allowed F log es are own = ap (are_allowed_entries t who log) are ∙ all_own_allowed F log es own

@@ -1,5 +1,5 @@
 -- The ground of a transaction on a pool: its words are those of its puddles' frames, named by global addresses.
-use Rattle.std.specs.Prelude.{◌≡◌, ℕ, ◌+◌, ◌*◌, ◌%◌, Bool, true, ◌&&◌, nat_le, nat_lt, ◌==◌, List, [], ◌∷◌, All, map, Option, None, option_map}
+use Rattle.std.specs.Prelude.{◌≡◌, ℕ, ◌+◌, ◌*◌, ◌%◌, Bool, true, ◌&&◌, nat_le, nat_lt, ◌==◌, List, [], ◌∷◌, All, map, slice_get, Option, Some, None, option_map}
 use Rattle.std.specs.List.{list_any}
 use Rattle.std.specs.Option.{option_or}
 use Rattle.pud_defs.specs.declared.layout.TheConstants.{FRAME_WORDS}
@@ -56,6 +56,10 @@ pub record IsPlaced (F : ℕ) (at : List (ℕ × Puddle)) : Type 0 where
   pub legal : All (λ e. is_legal_base e.1.base ≡ true) at
   pub bases : AreBases (map (λ d. d.base) (map (λ e. e.1) at))
 
--- each pointer in these puddles stands over the pool's bases
+-- each pointer in the puddle of this ordinal stands over the pool's bases
+pub record IsRewrittenAt (at : List (ℕ × Puddle)) (ordinal : ℕ) : Type 0 where
+  pub each : (e : ℕ × Puddle) → slice_get at ordinal ≡ Some e → e.1.frontier ≡ LAST_FRONTIER
+
+-- each pointer in these puddles does
 pub record IsRewritten (at : List (ℕ × Puddle)) : Type 0 where
   pub each : All (λ e. e.1.frontier ≡ LAST_FRONTIER) at

@@ -1,10 +1,10 @@
 -- When a transaction on the objects of a pool is open, what each call of it does at every moment, and how it ends.
-use Rattle.std.specs.Prelude.{◌≡◌, ◌⊎◌, ℕ, ◌+◌, ◌*◌, ◌<◌, true, false, List, [], ◌∷◌, is_some, Option, Some, None}
+use Rattle.std.specs.Prelude.{◌≡◌, ◌⊎◌, ℕ, ◌+◌, ◌*◌, ◌<◌, true, false, List, [], ◌∷◌, is_some, slice_get, Option, Some, None}
 use Rattle.std.specs.List.{AllZip}
 use Rattle.pm_model.specs.declared.host.HostFault.{HostFault}
 use Rattle.pm_model.specs.Words.{Words, reads}
 use Rattle.pm_model.specs.Moments.{State}
-use Rattle.pm_model.specs.Changes.{Write}
+use Rattle.pm_model.specs.Changes.{Write, Changes}
 use Rattle.pud_defs.specs.declared.space.TheConstants.{WORD_BYTES}
 use Rattle.pud_defs.specs.declared.objects.Val.{Val}
 use Rattle.pud_defs.specs.declared.objects.Val.TheVariants.{Num, Ref}
@@ -14,15 +14,16 @@ use Rattle.pud_defs.specs.TypeMap.{is_pointer}
 use Rattle.pud_defs.specs.Types.{map_of}
 use Rattle.pud_defs.specs.Image.{Image}
 use Rattle.pud_defs.specs.Entries.{Entry}
+use Rattle.pud_defs.specs.Replay.{overwritten, is_in_log}
 use Rattle.pud_defs.specs.Stored.{stored_in}
-use Rattle.pud_defs.specs.Graph.{Object, Graph, object_in, field_count, is_held, graph_of}
+use Rattle.pud_defs.specs.Graph.{Object, Graph, object_in, field_count, is_held, next_serial_of, graph_of}
 use Rattle.pud_defs.specs.Laters.{Later}
 use Rattle.graph_read.specs.Reading.{place_in_pool, place_at, IsSlotOf}
 use Rattle.log_store.specs.Store.{OpenLog}
 use Rattle.word_transaction.specs.Ground.{redo_entry, asked}
 use Rattle.word_transaction.specs.Running.{IsRunning, IsIdle, Runs, Closes, Ends}
-use Rattle.hybrid_tx.specs.Grounds.{pool_ground}
-use Rattle.hybrid_tx.specs.Stores.{word_for, field_word}
+use Rattle.hybrid_tx.specs.Grounds.{pool_ground, IsRewrittenAt}
+use Rattle.hybrid_tx.specs.Stores.{word_for, field_word, making, ByMaking}
 
 -- ---- what may be named, set and freed
 
@@ -43,6 +44,10 @@ pub record MaySet (types : List (ℕ × ℕ)) (g : Graph) (s f : ℕ) (x : Val) 
   pub defined : map_of object.type_id types ≡ Some map
   pub below : f < field_count map
   pub holds : MayHold map f g x
+
+-- Each pointer in the puddle in which, by this image of the pool, the object of a serial lies stands over the pool's bases.
+pub record IsRewrittenFor (F : ℕ) (at : List (ℕ × Puddle)) (image : Image) (s : ℕ) : Type 0 where
+  pub each : (slot : Slot) → IsSlotOf at slot → place_in_pool F at image s ≡ Some (place_at slot) → IsRewrittenAt at slot.ordinal
 
 -- The object of a serial is live, and nothing holds it: neither the root nor a pointer field of an object, itself included, names it.
 pub record MayFree (g : Graph) (s : ℕ) : Type 0 where
@@ -85,8 +90,8 @@ pub record IsOpenOn (F : ℕ) (at : List (ℕ × Puddle)) (types : List (ℕ × 
   pub is : graph_of types (stored_in F at (reads words)) ≡ Some now
   pub are : AreLaters F at types (reads words) now laters redo
 
--- No transaction is open on the pool: the log whose gate is this word counts nothing in any image, each word of the pool's frames has one value, and
--- by these the pool has this graph.
+-- No transaction is open on the pool: the log whose gate is this word is closed in each image, each word of the pool's frames has one value, and by
+-- these the pool has this graph.
 pub record IsAtRest (F : ℕ) (at : List (ℕ × Puddle)) (types : List (ℕ × ℕ)) (log_at : ℕ) (g : Graph) (words : Words) : Type 0 where
   pub idle : IsIdle (pool_ground F at) log_at (reads words) words
   pub is : graph_of types (stored_in F at (reads words)) ≡ Some g
@@ -111,13 +116,23 @@ pub record RunsOn (F : ℕ) (at : List (ℕ × Puddle)) (types : List (ℕ × �
   pub is : fault ≡ None → graph_of types (stored_in F at (reads new.now.words)) ≡ Some next
   pub are : fault ≡ None → AreLaters F at types (reads new.now.words) next laters redo
 
+-- A call that makes an object of this type in this slot, under the pool's next serial: at each moment only words of the log, whose gate is this word, of the
+-- slot, and that of the next serial get values. Without a fault what is read outside the log is as it was but for the object's words in the slot, and
+-- for the next serial, which is one more.
+pub record MakesIn (F : ℕ) (at : List (ℕ × Puddle)) (log_at : ℕ) (slot : Slot) (type_id : ℕ) (fault : Option HostFault) (old new : State) : Type 0 where
+  pub first : ℕ × Puddle
+  pub head : slice_get at 0 ≡ Some first
+  pub changes : Changes (ByMaking F log_at first.0 slot (next_serial_of (stored_in F at (reads old.now.words))) type_id) fault old new
+  pub now : fault ≡ None → (k : ℕ) → is_in_log log_at k ≡ false
+      → reads new.now.words k ≡ overwritten (making F first.0 slot (next_serial_of (stored_in F at (reads old.now.words))) type_id) (reads old.now.words) k
+
 -- The transaction is undone, and its log, whose gate is this word, closed: each image settles to what the words held at the beginning.
 pub record ClosesOn (F : ℕ) (at : List (ℕ × Puddle)) (types : List (ℕ × ℕ)) (log_at : ℕ) (before : Image) (undone : Graph) (fault : Option HostFault) (old new : State) : Type 0 where
   pub closes : Closes (pool_ground F at) log_at before fault old new
   pub was : graph_of types (stored_in F at before) ≡ Some undone
 
--- The transaction is committed, and its log closed: each image settles to what the words held at the beginning, or to what they come to hold, by which
--- the pool has the new graph.
+-- The transaction is committed, and its log closed: until the range of the log moves each image settles to what the words held at the beginning, and from
+-- then on to what they come to hold, by which the pool has the new graph.
 pub record EndsOn (F : ℕ) (at : List (ℕ × Puddle)) (types : List (ℕ × ℕ)) (log_at : ℕ) (before : Image) (undone next : Graph) (fault : Option HostFault) (old new : State) : Type 0 where
   pub after : Image
   pub ends : Ends (pool_ground F at) log_at before after fault old new

@@ -20,10 +20,10 @@ ghost use Rattle.graph_laws.specs.Slots.{AreAllLive, IsLowestFreeSlot};
 ghost use Rattle.graph_read.specs.Reading.{place_at, place_in_pool, IsSlotOf};
 ghost use Rattle.object_alloc.specs.Alloc.{serial_word_at};
 ghost use Rattle.word_transaction.specs.Running.{ByTransaction};
-ghost use Rattle.hybrid_tx.specs.Grounds.{pool_ground, IsPlaced, IsRewritten};
+ghost use Rattle.hybrid_tx.specs.Grounds.{pool_ground, IsPlaced, IsRewrittenAt};
 ghost use Rattle.pud_defs.specs.Laters.{Later, laters_name};
 ghost use Rattle.hybrid_tx.specs.Stores.{address_at, word_for, new_words};
-ghost use Rattle.hybrid_tx.specs.Transactions.{MayName, MaySet, MayFree, IsSaving, IsOpenOn, Saves, RunsOn};
+ghost use Rattle.hybrid_tx.specs.Transactions.{MayName, MaySet, IsRewrittenFor, MayFree, IsSaving, IsOpenOn, Saves, RunsOn, MakesIn};
 
 use crate::Tx;
 use graph_read::find_serial;
@@ -94,9 +94,10 @@ impl Tx {
     /// Gives field `f` of the object of serial `s` another value.
     ///
     /// The field is below 30, the log lies before the frames, and it has room for three units. Where the object is live, its
-    /// type has the field and the field may hold the value, the pool's graph has it so at `Ok`, and what is asked for later
-    /// stays; each image left until the transaction is committed is, with the log replayed, as at the beginning. Where no object
-    /// has the serial, or none has the one that is to be named, nothing is done. The only errors are the host's own. Two fences.
+    /// puddle is rewritten, its type has the field and the field may hold the value, the pool's graph has it so at `Ok`, and what
+    /// is asked for later stays; each image left until the transaction is committed is, with the log replayed, as at the
+    /// beginning. Where no object has the serial, or none has the one that is to be named, nothing is done. The only errors are
+    /// the host's own. Two fences.
     pub fn set<H: Host>(
         &mut self,
         h: &mut H,
@@ -114,8 +115,8 @@ impl Tx {
         requires room { self.old.used + SET_UNITS ≤ LOG_ENTRY_WORDS }
         ensures at { self.new.at ≡ self.old.at }
         ensures changes { H.tells → Changes (ByTransaction (pool_ground frames pool.now) self.old.at) (fault_of result) (H.state h.old) (H.state h.new) }
-        ensures runs { H.tells → (types : List (ℕ × ℕ)) (before : Image) (undone : Graph) (now : Graph) (laters : List Later) → IsPlaced frames pool.now → IsRewritten pool.now
-            → IsOpenOn frames pool.now types self.old before undone now laters (H.state h.old).now.words → MaySet types now s f x
+        ensures runs { H.tells → (types : List (ℕ × ℕ)) (before : Image) (undone : Graph) (now : Graph) (laters : List Later) → IsPlaced frames pool.now
+            → IsRewrittenFor frames pool.now (reads (H.state h.old).now.words) s → IsOpenOn frames pool.now types self.old before undone now laters (H.state h.old).now.words → MaySet types now s f x
             → RunsOn frames pool.now types self.new before undone (with_field s f x now) laters (fault_of result) (H.state h.old) (H.state h.new) }
         ensures counts { H.tells → (types : List (ℕ × ℕ)) (before : Image) (undone : Graph) (now : Graph) (laters : List Later) → IsPlaced frames pool.now
             → IsOpenOn frames pool.now types self.old before undone now laters (H.state h.old).now.words → MaySet types now s f x
@@ -157,6 +158,9 @@ impl Tx {
             → IsOpenOn frames pool.now types self.old before undone now laters (H.state h.old).now.words → map_of t types ≡ Option.Some m → now.next_serial < NUMBER_LIMIT
             → place_word (stored_in frames pool.now (reads (H.state h.old).now.words)).word (place_at at.now) SLOT_SERIAL_WORD ≡ 0
             → RunsOn frames pool.now types self.new before undone (with_new (blank_object t m) now) laters (fault_of result) (H.state h.old) (H.state h.new) }
+        ensures makes { H.tells → (types : List (ℕ × ℕ)) (before : Image) (undone : Graph) (now : Graph) (laters : List Later) → IsPlaced frames pool.now
+            → IsOpenOn frames pool.now types self.old before undone now laters (H.state h.old).now.words → now.next_serial < NUMBER_LIMIT
+            → MakesIn frames pool.now self.old.at at.now t (fault_of result) (H.state h.old) (H.state h.new) }
         ensures serial { H.tells → (types : List (ℕ × ℕ)) (now : Graph) → graph_of types (stored_in frames pool.now (reads (H.state h.old).now.words)) ≡ Option.Some now
             → IfOk result (λ serial. serial ≡ now.next_serial) }
         ensures counts { IfOk result (λ _. self.new ≡ longer NEW_UNITS self.old) }
@@ -182,7 +186,8 @@ impl Tx {
     ///
     /// The log lies before the frames, and has room for 37 units. Where the type is defined and the next serial is below 2^63,
     /// the pool's graph has the object at `Ok`, and what is asked for later stays; each image left until the transaction is
-    /// committed is, with the log replayed, as at the beginning. The only errors are the host's own. Four fences.
+    /// committed is, with the log replayed, as at the beginning. Outside the log only the words of that slot and the next serial
+    /// are written. The only errors are the host's own. Four fences.
     pub fn new<H: Host>(
         &mut self,
         h: &mut H,
@@ -201,6 +206,10 @@ impl Tx {
             → IsOpenOn frames pool.now types self.old before undone now laters (H.state h.old).now.words → map_of t types ≡ Option.Some m → now.next_serial < NUMBER_LIMIT
             → (AreAllLive (stored_in frames pool.now (reads (H.state h.old).now.words)) → ⊥)
             → RunsOn frames pool.now types self.new before undone (with_new (blank_object t m) now) laters (fault_of result) (H.state h.old) (H.state h.new) }
+        ensures makes { H.tells → (types : List (ℕ × ℕ)) (before : Image) (undone : Graph) (now : Graph) (laters : List Later) → IsPlaced frames pool.now
+            → IsOpenOn frames pool.now types self.old before undone now laters (H.state h.old).now.words → now.next_serial < NUMBER_LIMIT
+            → (slot : Slot) → IsSlotOf pool.now slot → IsLowestFreeSlot (stored_in frames pool.now (reads (H.state h.old).now.words)) (place_at slot)
+            → MakesIn frames pool.now self.old.at slot t (fault_of result) (H.state h.old) (H.state h.new) }
         ensures serial { H.tells → (types : List (ℕ × ℕ)) (now : Graph) → graph_of types (stored_in frames pool.now (reads (H.state h.old).now.words)) ≡ Option.Some now
             → (AreAllLive (stored_in frames pool.now (reads (H.state h.old).now.words)) → ⊥) → IfOk result (λ serial. serial ≡ now.next_serial) }
         ensures counts { H.tells → (AreAllLive (stored_in frames pool.now (reads (H.state h.old).now.words)) → ⊥) → IfOk result (λ _. self.new ≡ longer NEW_UNITS self.old) }
@@ -280,10 +289,10 @@ impl Tx {
 
     /// Makes the object of serial `s` the pool's root, or takes the root away with 0.
     ///
-    /// The log lies before the frames, and it has room for three units. Where `s` is 0 or its object is live, it is the root of
-    /// the pool's graph at `Ok`, and what is asked for later stays; each image left until the transaction is committed is, with
-    /// the log replayed, as at the beginning. Where no object has the serial, or the pool has no puddle, nothing is done. The
-    /// only errors are the host's own. Two fences.
+    /// The log lies before the frames, and it has room for three units. Where `s` is 0 or its object is live, and the puddle of
+    /// ordinal 0 is rewritten, it is the root of the pool's graph at `Ok`, and what is asked for later stays; each image left
+    /// until the transaction is committed is, with the log replayed, as at the beginning. Where no object has the serial, or the
+    /// pool has no puddle, nothing is done. The only errors are the host's own. Two fences.
     pub fn root<H: Host>(
         &mut self,
         h: &mut H,
@@ -298,8 +307,8 @@ impl Tx {
         requires room { self.old.used + SET_UNITS ≤ LOG_ENTRY_WORDS }
         ensures at { self.new.at ≡ self.old.at }
         ensures changes { H.tells → Changes (ByTransaction (pool_ground frames pool.now) self.old.at) (fault_of result) (H.state h.old) (H.state h.new) }
-        ensures runs { H.tells → (types : List (ℕ × ℕ)) (before : Image) (undone : Graph) (now : Graph) (laters : List Later) → IsPlaced frames pool.now → IsRewritten pool.now
-            → IsOpenOn frames pool.now types self.old before undone now laters (H.state h.old).now.words → MayName now s
+        ensures runs { H.tells → (types : List (ℕ × ℕ)) (before : Image) (undone : Graph) (now : Graph) (laters : List Later) → IsPlaced frames pool.now
+            → IsRewrittenAt pool.now 0 → IsOpenOn frames pool.now types self.old before undone now laters (H.state h.old).now.words → MayName now s
             → RunsOn frames pool.now types self.new before undone (with_root s now) laters (fault_of result) (H.state h.old) (H.state h.new) }
         ensures counts { H.tells → (types : List (ℕ × ℕ)) (before : Image) (undone : Graph) (now : Graph) (laters : List Later) → IsPlaced frames pool.now
             → IsOpenOn frames pool.now types self.old before undone now laters (H.state h.old).now.words → MayName now s

@@ -1,7 +1,7 @@
 //! How a transaction ends: committed, undone, or lost.
 #![tactic(auto)]
 
-ghost use Rattle.std.specs.Prelude.{◌≡◌, ◌≢◌, ◌+◌, ◌≤◌, ℕ, List, [], false, Option};
+ghost use Rattle.std.specs.Prelude.{◌≡◌, ◌≢◌, ◌+◌, ◌≤◌, ℕ, List, [], All, false, Option};
 ghost use Rattle.pm_model.specs.Words.{reads};
 ghost use Rattle.pm_model.specs.Counts.{after_fault, fault_of};
 ghost use Rattle.pm_model.specs.Changes.{Changes};
@@ -18,8 +18,8 @@ ghost use Rattle.log_store.specs.Store.{IsOpen};
 ghost use Rattle.log_replay.specs.Replaying.{HasPuddleTable, Anything};
 ghost use Rattle.word_transaction.specs.Ground.{asks};
 ghost use Rattle.word_transaction.specs.Running.{ByCommit, HasPlaces, HasOneTable, CanRedo};
-ghost use Rattle.hybrid_tx.specs.Grounds.{pool_ground, IsPlaced, IsRewritten};
-ghost use Rattle.hybrid_tx.specs.Transactions.{IsOpenOn, ClosesOn, EndsOn};
+ghost use Rattle.hybrid_tx.specs.Grounds.{pool_ground, IsPlaced};
+ghost use Rattle.hybrid_tx.specs.Transactions.{IsRewrittenFor, IsOpenOn, ClosesOn, EndsOn};
 
 use crate::Tx;
 use pm_model::{Host, HostFault};
@@ -30,9 +30,11 @@ impl Tx {
     ///
     /// The log lies in the device, before the frames, and so does the puddle table of so many frames, at most 1,024. Where values
     /// are asked for later, that table stands in front of the log, each word of it has one value, the addresses of the pool's
-    /// ranges are by it where the transaction took them to be, and the pool's puddles are rewritten. Each image left meanwhile is,
-    /// with the log replayed, as at the beginning, or has all that was changed and asked for; it is the latter from the word on by
-    /// which the log's range moves. The only errors are the host's own.
+    /// ranges are by it where the transaction took them to be, and the puddles in whose fields the values come are rewritten. Each
+    /// image left meanwhile is, with the log replayed, as at the beginning while its log has the range of a running one; once that
+    /// is the range of a committing one, or the log is closed, it has all that was changed and asked for. At `Ok` the range moved
+    /// when all that was changed was durable, and before any value that was asked for was given. The only errors are the host's
+    /// own.
     ///
     /// It reads the log's entries up to the first that asks for a value. Where there is none the only word written is the log's
     /// gate, and it takes three fences; else the loads of a replay, and four fences.
@@ -41,7 +43,7 @@ impl Tx {
         requires tables { HasPuddleTable frames (H.counts h.old).size }
         ensures ends { H.tells → (pool : List (ℕ × Puddle)) (types : List (ℕ × ℕ)) (before : Image) (undone : Graph) (now : Graph) (laters : List Later) → IsPlaced frames pool
             → device_words frames ≤ (H.counts h.old).size → self.at + LOG_WORDS ≤ frames_at frames → IsOpenOn frames pool types self before undone now laters (H.state h.old).now.words
-            → (laters ≢ [] → IsRewritten pool) → (laters ≢ [] → CanRedo (pool_ground frames pool) frames self.at (H.state h.old).now.words)
+            → All (λ l. IsRewrittenFor frames pool (reads (H.state h.old).now.words) l.s) laters → (laters ≢ [] → CanRedo (pool_ground frames pool) frames self.at (H.state h.old).now.words)
             → EndsOn frames pool types self.at before undone (with_laters laters now) (fault_of result) (H.state h.old) (H.state h.new) }
         ensures gate { H.tells → (es : List Entry) → IsOpen self es (H.state h.old).now.words → asks es ≡ false → Changes (ByCommit self) (fault_of result) (H.state h.old) (H.state h.new) }
         ensures any { H.tells → Changes Anything (fault_of result) (H.state h.old) (H.state h.new) }

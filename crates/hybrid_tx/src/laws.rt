@@ -1,6 +1,6 @@
 //! The laws. Each function here does nothing; its contract is the law.
 
-ghost use Rattle.std.specs.Prelude.{◌≡◌, ◌+◌, ◌*◌, ◌<◌, ◌≤◌, ℕ, false, List, [], ◌∷◌, slice_get, Option};
+ghost use Rattle.std.specs.Prelude.{◌≡◌, ◌+◌, ◌*◌, ◌<◌, ◌≤◌, ℕ, false, List, [], ◌∷◌, All, slice_get, Option};
 ghost use Rattle.pm_model.specs.Moments.{State};
 ghost use Rattle.pm_model.specs.Changes.{placed};
 ghost use Rattle.pud_defs.specs.declared.layout.TheConstants.{LOG_WORDS, NUMBER_LIMIT};
@@ -24,9 +24,9 @@ ghost use Rattle.object_alloc.specs.Alloc.{serial_word_at};
 ghost use Rattle.log_store.specs.Store.{OpenLog};
 ghost use Rattle.word_transaction.specs.Ground.{IsGround, written_in_turn};
 ghost use Rattle.word_transaction.specs.Running.{SettlesTo};
-ghost use Rattle.hybrid_tx.specs.Grounds.{pool_place, pool_ground, IsPlaced, IsRewritten};
+ghost use Rattle.hybrid_tx.specs.Grounds.{pool_place, pool_ground, IsPlaced, IsRewrittenAt};
 ghost use Rattle.hybrid_tx.specs.Stores.{word_for, field_word, making};
-ghost use Rattle.hybrid_tx.specs.Transactions.{MaySet, AreLaters, IsOpenOn, IsAtRest, RunsOn, ClosesOn, EndsOn};
+ghost use Rattle.hybrid_tx.specs.Transactions.{MaySet, IsRewrittenFor, AreLaters, IsOpenOn, IsAtRest, RunsOn, ClosesOn, EndsOn};
 
 /// What the addresses of a pool's ranges name are words of its frames, none of which is one of a log before all frames.
 pub fn pools_are_grounds()
@@ -37,7 +37,7 @@ pub fn pools_are_grounds()
 /// A field in whose word is stored what stands for a value has this value.
 pub fn stored_word_sets_the_field()
     ensures { (types : List (ℕ × ℕ)) (frames : ℕ) (at : List (ℕ × Puddle)) (image : Image) (g : Graph) → graph_of types (stored_in frames at image) ≡ Option.Some g
-        → IsPlaced frames at → IsRewritten at → (s : ℕ) (f : ℕ) (slot : Slot) → IsSlotOf at slot → place_in_pool frames at image s ≡ Option.Some (place_at slot)
+        → IsPlaced frames at → (s : ℕ) (f : ℕ) (slot : Slot) → IsRewrittenAt at slot.ordinal → IsSlotOf at slot → place_in_pool frames at image s ≡ Option.Some (place_at slot)
         → (x : Val) (v : ℕ) → MaySet types g s f x → word_for frames at image x ≡ Option.Some v
         → graph_of types (stored_in frames at (overwritten (placed (frame_at frames slot.frame + field_word slot.slot f) (v ∷ [])) image)) ≡ Option.Some (with_field s f x g) }
 {}
@@ -54,7 +54,7 @@ pub fn stored_words_make_the_object()
 /// A pool in the first of whose frames is stored what stands for a root has this root.
 pub fn stored_word_is_the_root()
     ensures { (types : List (ℕ × ℕ)) (frames : ℕ) (at : List (ℕ × Puddle)) (image : Image) (g : Graph) → graph_of types (stored_in frames at image) ≡ Option.Some g
-        → IsPlaced frames at → IsRewritten at → (first : ℕ × Puddle) → slice_get at 0 ≡ Option.Some first → (s : ℕ) (v : ℕ) → word_for frames at image (Ref s) ≡ Option.Some v
+        → IsPlaced frames at → IsRewrittenAt at 0 → (first : ℕ × Puddle) → slice_get at 0 ≡ Option.Some first → (s : ℕ) (v : ℕ) → word_for frames at image (Ref s) ≡ Option.Some v
         → graph_of types (stored_in frames at (overwritten (placed (frame_at frames first.0 + ROOT_WORD) (v ∷ [])) image)) ≡ Option.Some (with_root s g) }
 {}
 
@@ -67,8 +67,8 @@ pub fn cleared_serial_frees_the_object()
 
 /// The redo entries of what is asked for later, written in turn over an image, make its graph the one with what is asked for.
 pub fn entries_of_laters_make_the_graph()
-    ensures { (frames : ℕ) (at : List (ℕ × Puddle)) (types : List (ℕ × ℕ)) → IsPlaced frames at → IsRewritten at → (laters : List Later) (redo : List Entry) (image : Image) (now : Graph)
-        → graph_of types (stored_in frames at image) ≡ Option.Some now → AreLaters frames at types image now laters redo
+    ensures { (frames : ℕ) (at : List (ℕ × Puddle)) (types : List (ℕ × ℕ)) → IsPlaced frames at → (laters : List Later) (redo : List Entry) (image : Image) (now : Graph)
+        → graph_of types (stored_in frames at image) ≡ Option.Some now → AreLaters frames at types image now laters redo → All (λ l. IsRewrittenFor frames at image l.s) laters
         → graph_of types (stored_in frames at (written_in_turn (pool_place frames at) redo image)) ≡ Option.Some (with_laters laters now) }
 {}
 

@@ -34,8 +34,9 @@ impl Tx {
     /// Begins a transaction in the log of this number, 0 to 31 over all clients: at `Ok` that log is running, durably, with no
     /// entry.
     ///
-    /// Where no transaction is open on the words of a pool that has a graph, one is open on it. The only errors are the host's
-    /// own. The one word written is the gate. One fence.
+    /// Where the log is closed in each image, whatever entries it has, and each word of the frames of a pool that has a graph has
+    /// one value, a transaction is open on the pool. The only errors are the host's own. The one word written is the gate. One
+    /// fence.
     pub fn begin<H: Host>(h: &mut H, frames: u32, log: u32) -> Result<Tx, HostFault>
         requires few { frames ≤ MAX_FRAMES }
         requires device { device_words frames ≤ (H.counts h.old).size }
@@ -104,6 +105,8 @@ impl Tx {
         ensures at { self.new.at ≡ self.old.at }
         ensures done { IfOk result (λ _. self.new ≡ longer (length vals.now + ENTRY_HEADER_WORDS) self.old) }
         ensures changes { H.tells → Changes (ByTransaction (pool_ground frames pool.now) self.old.at) (fault_of result) (H.state h.old) (H.state h.new) }
+        ensures puts { H.tells → (e : ℕ × Puddle) → slice_get pool.now ordinal ≡ Option.Some e
+            → Changes (ByPut self.old.at (frame_at frames e.0 + word) vals.now) (fault_of result) (H.state h.old) (H.state h.new) }
         ensures saves { H.tells → IsPlaced frames pool.now → (e : ℕ × Puddle) → slice_get pool.now ordinal ≡ Option.Some e → (before : Image) (redo : List Entry)
             → IsSaving frames pool.now self.old before redo (H.state h.old).now.words
             → Saves frames pool.now self.new before redo (placed (frame_at frames e.0 + word) vals.now) (fault_of result) (H.state h.old) (H.state h.new) }

@@ -1,6 +1,6 @@
 -- A transaction begins beside others: each image left meanwhile stands for the world, and behind it the daemon that is ready holds it too.
-use Rattle.std.proofs.Common.{◌≡◌, ◌≢◌, inl, inr, ℕ, ◌+◌, ◌-◌, ◌*◌, ◌/◌, ◌<◌, ◌≤◌, true, false, leb, ltb, List, [], length, Option, Some, None, refl, sym, ap, ap₂, subst, ◌∙◌, arith}
-use Rattle.std.specs.Prelude.{unwrap_or, is_some, set}
+use Rattle.std.proofs.Common.{◌≡◌, ◌≢◌, inl, inr, ℕ, ◌+◌, ◌*◌, ◌/◌, ◌<◌, ◌≤◌, true, false, leb, ltb, List, [], length, Option, Some, None, refl, sym, ap, ap₂, subst, ◌∙◌, arith}
+use Rattle.std.specs.Prelude.{unwrap_or, set}
 use Rattle.std.proofs.lemmas.Bool.{cases_eq, cases_lt, and_from, le-leb, lt-ltb, false_from_ne_true}
 use Rattle.std.proofs.lemmas.List.{length-map}
 use Rattle.std.proofs.lemmas.Option.{none-some}
@@ -12,7 +12,7 @@ use Rattle.pm_model.specs.Masks.{masked, masked_image, masked_cell}
 use Rattle.pm_model.proofs.Words.{only_at, HasOnly-own}
 use Rattle.pm_model.proofs.Changes.{Changes-said, Changes-now, HasOnly-kept}
 use Rattle.pm_model.proofs.Leaves.{HasOrigin, origin, Leaves-weaker}
-use Rattle.pm_model.proofs.Masks.{masked-there, masked-elsewhere, Picks-masked, Picks-unmasked, reads-masked}
+use Rattle.pm_model.proofs.Masks.{masked-there, masked-elsewhere, masked_image-elsewhere, Picks-masked, Picks-unmasked, reads-masked}
 use Rattle.pud_defs.specs.declared.layout.TheConstants.{DAEMON_LOG, CLIENTS, CLIENT_LOGS, LOG_WORDS}
 use Rattle.pud_defs.specs.declared.log_words.TheConstants.{RUNNING_GATE, CLOSED_GATE}
 use Rattle.pud_defs.specs.declared.machine.Command.TheVariants as commands
@@ -27,7 +27,7 @@ use Rattle.pud_defs.specs.Layout as layouts
 use Rattle.pud_defs.specs.PoolChanges.{pool_named}
 use Rattle.pud_defs.specs.Replay.{is_in_log}
 use Rattle.pud_defs.specs.Settled.{ALL_LOGS, log_number_at, client_of_log}
-use Rattle.pud_defs.specs.Spaces.{owner_of}
+use Rattle.pud_defs.specs.Spaces.{owner_of, is_closed_log}
 use Rattle.pud_defs.specs.Step.{graph_in, graph_at_begin, after}
 use Rattle.pud_defs.specs.Stored.{Stored, IsOnDevice, stored_in}
 use Rattle.pud_defs.specs.Tables.{tables_of, puddles_of, listed, pool_of, puddles_in_turn}
@@ -35,7 +35,10 @@ use Rattle.pud_defs.specs.Transactions as transactions
 use Rattle.pud_defs.specs.Transactions.{with_open}
 use Rattle.pud_defs.specs.World.{Transaction, World, world_of, idle_world_of}
 use Rattle.pud_defs.proofs.Replay.{outside_log, within_log}
-use Rattle.pud_defs.proofs.Spaces.{owner_of-same}
+use Rattle.pud_defs.proofs.Idle.{registered_is_closed}
+use Rattle.pud_defs.proofs.IdleWorlds.{standing_beside, standing_idle}
+use Rattle.pud_defs.proofs.Parts.Part.{Spaces}
+use Rattle.pud_defs.proofs.Spaces.{owner_of-same, is_closed_log-same}
 use Rattle.batch.specs.Batches.{HasIdleGate}
 use Rattle.batch.specs.Worlds.{IsSettled}
 use Rattle.batch.proofs.Tables.{HasDurableTables-kept, reads_kept}
@@ -63,7 +66,7 @@ use Rattle.ready_daemon.proofs.Counting.{log_free}
 use Rattle.pool_transaction.proofs.Ending.{world_now, left_stands, idle_now, records_now}
 use Rattle.ready_daemon.proofs.InTurn.{pool_in_slot}
 use Rattle.ready_daemon.proofs.JudgedOpen.{KeepsPools-begun, KnowsPools-begun}
-use Rattle.ready_daemon.proofs.TablesBeside.{header_read, types_read, sound_read}
+use Rattle.ready_daemon.proofs.TablesBeside.{header_read, types_read, sound_read, owner_under}
 use Rattle.ready_daemon.proofs.HeldMore.{HasSessions-more, Holds-more, keeps_others, other_number}
 use Rattle.ready_daemon.proofs.OpenBeside.{not_named, pool_unmasked, unmasked_frames}
 use Rattle.ready_daemon.proofs.OpenNames.{open_there}
@@ -194,15 +197,25 @@ module _ (size : ℕ) (w : World) (memory : Memory) (old : State) (ready : IsRea
       unmasked_frames w h ready.mask old.now.words is slot may.rec may.used
       (λ same. not_named w memory.held ready.mask old.now.words name ready.held vacant.shut m h there (sym same ∙ may.name_is)) k (ap (λ (puddles : List (ℕ × Puddle)). pool_mine n puddles k) may.puddles ∙ mine))
 
-  -- its log counts nothing in any image, and each word of its frames has one value
+  -- its log is closed in each image, as those of the clients are where the words of the open ones are masked
+  log_closed : (i : Image) → Picks old.now.words i → is_closed_log i gate ≡ true
+  log_closed i picked =
+      let under = masked_image ready.mask i in
+      let there = Picks-masked ready.mask old.now.words i picked in
+      let stands = standing_beside size under w.stored (standing_idle size under w.stored (ready.settled.idle (under DAEMON_LOG) (there.each DAEMON_LOG)) (ready.settled.stands under there)) in
+      let records : owner_of under client ≡ owner_of (reads (masked ready.mask old.now.words)) client =
+      owner_of-same under (reads (masked ready.mask old.now.words)) client low_client (λ k low high.
+      ap (unwrap_or (ready.mask k)) ((ready.tables.each k (inr (omega arith)) (omega arith)).each (i k) (picked.each k)) ∙ sym (ap (λ (j : Image). j k) (reads-masked ready.mask old.now.words))) in
+      let owned : owner_of under (client_of_log number) ≡ Some may.who = ap (owner_of under) vacant.whose ∙ records ∙ owner_under size w memory old ready client low_client ∙ may.owned in
+      is_closed_log-same i under gate (λ k inside.
+      sym (masked_image-elsewhere ready.mask i k (masks_beside_log n opens ready.mask ready.held.are ready.held.masks number k (ready.held.none number vacant.free) known inside)))
+      ∙ registered_is_closed n under number may.who (stands.holds Spaces).logs known owned
+
+  -- and each word of its frames has one value
   idle : IsIdle g gate now old.now.words
   idle =
-      let whose = vacant.whose in
-      let own : layouts.log_at n client (number - CLIENT_LOGS * client) ≡ gate = omega arith in
-      let log : HasIdleGate gate (masked ready.mask old.now.words) =
-      subst (λ (k : ℕ). HasIdleGate k (masked ready.mask old.now.words)) own (ready.logs.each client (number - CLIENT_LOGS * client) low_client (omega arith) (ap is_some present)) in
       record {
-        closed = λ v had. log.each v (subst (λ (x : Cell). Has (values x) v) (sym (masked-elsewhere ready.mask old.now.words gate gate_unmasked)) had);
+        closed = log_closed;
         single = λ k mine.
             let m = pool_mine-each n at k mine in let low = m.low in
             subst (λ (x : Cell). HasOnly x x.newest) (masked-elsewhere ready.mask old.now.words k (mine_unmasked k mine)) (ready.rest.each k (omega arith));

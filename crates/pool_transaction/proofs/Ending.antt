@@ -35,7 +35,7 @@ use Rattle.batch.specs.Worlds.{IsSettled}
 use Rattle.batch.proofs.Tables.{HasDurableTables-kept, reads_kept}
 use Rattle.word_transaction.specs.Ground.{Ground}
 use Rattle.word_transaction.specs.Running.{ByTransaction, SettlesTo, Closes, Ends}
-use Rattle.word_transaction.proofs.Ended.{beside_transaction}
+use Rattle.word_transaction.proofs.Ended.{beside_transaction, Ends-either}
 use Rattle.hybrid_tx.specs.Grounds.{pool_mine, pool_ground}
 use Rattle.hybrid_tx.specs.Masks.{OpenPool, is_open_record, IsOpenPool, IsLeftOpen}
 use Rattle.hybrid_tx.specs.ManyOpen.{OpenTransaction, Opens, with_transaction, open_masks, AreOpenPools, MasksAll, HasRecords, AreLeftOpen, IsOneMore}
@@ -148,7 +148,7 @@ pub EndsBy-ends : (g : Ground) (at : ℕ) (before after : Image) (fault : Option
 EndsBy-ends g at before after fault old new e = record {
   changes = e.changes;
   moments = Leaves-weaker (Silently (λ image. SettlesTo g at before image ⊎ SettlesTo g at after image)) (Silently (λ image. SettlesTo g at before image ⊎ SettlesTo g at (mixed g after before) image)) old new
-      (λ bytes image m. (m.0, elim m.1 [ inl was ↦ inl was | inr now ↦ inr (SettlesTo-mixed g at after before image now) ])) e.moments;
+      (λ bytes image m. (m.0, elim m.1 [ inl was ↦ inl was | inr now ↦ inr (SettlesTo-mixed g at after before image now) ])) (Ends-either g at before after fault old new e);
   durable = λ none k mine. subst (λ (v : ℕ). HasOnly (new.now.words k) v) (sym (cond-true _ _ _ mine)) (e.durable none k mine);
   closed = e.closed;
 }

@@ -1,6 +1,6 @@
 -- What is held is committed or undone: what the calls that do so ask of the device, and the world that they give.
 use Rattle.std.proofs.Common.{◌≡◌, ◌≢◌, inl, inr, ℕ, ◌+◌, ◌<◌, ◌≤◌, true, false, ◌||◌, cond, leb, eqb, List, [], Option, Some, None, option_map, refl, sym, ap, ap₂, subst, ◌∙◌, arith}
-use Rattle.std.specs.Prelude.{unwrap_or, set}
+use Rattle.std.specs.Prelude.{All, unwrap_or, set}
 use Rattle.std.specs.FinMap.Entries.{find, put}
 use Rattle.std.proofs.lemmas.Bool.{cond-true, cond-false, le-leb}
 use Rattle.std.proofs.lemmas.List.{set-get_or}
@@ -36,10 +36,11 @@ use Rattle.pud_defs.proofs.TablesOf.{tables_of-same}
 use Rattle.log_store.specs.Store.{OpenLog}
 use Rattle.nesting.specs.Sessions.{session_depth, depth_in}
 use Rattle.word_transaction.specs.Running.{ByTransaction, HasPlaces, HasOneTable, CanRedo}
-use Rattle.hybrid_tx.specs.Grounds.{pool_mine, pool_ground, IsPlaced, IsRewritten}
+use Rattle.hybrid_tx.specs.Grounds.{pool_mine, pool_ground, IsPlaced}
 use Rattle.hybrid_tx.specs.Masks.{OpenPool, is_open_record, open_mask}
 use Rattle.hybrid_tx.specs.ManyOpen.{open_masks}
-use Rattle.hybrid_tx.specs.Transactions.{IsOpenOn, ClosesOn, EndsOn}
+use Rattle.hybrid_tx.specs.Transactions.{IsRewrittenFor, IsOpenOn, ClosesOn, EndsOn}
+use Rattle.hybrid_tx.proofs.RewrittenPools.{rewritten_for}
 use Rattle.hybrid_tx.proofs.ManyIdle.{masks_changed, places_beside}
 use Rattle.hybrid_tx.proofs.Opening.{stored_in-mine}
 use Rattle.hybrid_tx.proofs.OpenMasks.{mask_of_mine}
@@ -93,7 +94,7 @@ Undoes F sz log fault old new =
 abbrev pub Commits : (F sz : ℕ) → OpenLog → Option HostFault → State → State → Type 0
 Commits F sz log fault old new =
     (pool : List (ℕ × Puddle)) (types : List (ℕ × ℕ)) (before : Image) (undone : Graph) (seen : Graph) (laters : List Later) → IsPlaced F pool → device_words F ≤ sz → log.at + LOG_WORDS ≤ frames_at F
-    → IsOpenOn F pool types log before undone seen laters old.now.words → (laters ≢ [] → IsRewritten pool) → (laters ≢ [] → CanRedo (pool_ground F pool) F log.at old.now.words)
+    → IsOpenOn F pool types log before undone seen laters old.now.words → All (λ (l : Later). IsRewrittenFor F pool (reads old.now.words) l.s) laters → (laters ≢ [] → CanRedo (pool_ground F pool) F log.at old.now.words)
     → EndsOn F pool types log.at before undone (with_laters laters seen) fault old new
 
 -- a transaction writes no word in front of the clients' logs
@@ -233,7 +234,7 @@ module _ (size : ℕ) (w : World) (memory : Memory) (number : ℕ) (held : Held)
         → Applies size w (after w (Commit client held.name)) (ended number held memory) fault old new
     Applies-committed F sz fault new on same commits =
         let e = subst (λ (m : ℕ). Commits m sz held.log fault old new) on commits held.at w.stored.types is.before is.undone is.transaction.now is.transaction.laters placed (omega (arith, same, room)) log_apart is.running
-        (λ some. held_rewritten size w memory old ready number held there) (λ some. can_redo) in
+        (λ n d below. rewritten_for held.at (held_rewritten size w memory old ready number held there) _ _ _) (λ some. can_redo) in
         subst (λ (v : World). Applies size w v (ended number held memory) fault old new) (sym committed_world)
         (Applies-ended size w memory number held old ready there (values e.after e.is) (values_beside e.after e.is) (pools_after e.after e.is) (stands_after e.after e.is) (pools_beside e.after e.is) made
         (graph_after e.after e.is) fault new (EndsBy-ends (pool_ground n held.at) held.log.at is.before e.after fault old new e.ends))

@@ -11,6 +11,7 @@ use Rattle.pud_defs.specs.declared.layout.TheConstants.{LOG_ENTRY_WORDS, NEW_UNI
 use Rattle.pud_defs.specs.declared.machine.Refusal.{Refusal}
 use Rattle.pud_defs.specs.declared.machine.Refusal.TheVariants as refusals
 use Rattle.pud_defs.specs.declared.records.Puddle.{Puddle}
+use Rattle.pud_defs.specs.declared.records.Slot.{Slot}
 use Rattle.pud_defs.specs.Graph.{Graph, graph_of}
 use Rattle.pud_defs.specs.GraphChanges.{with_new, blank_object}
 use Rattle.pud_defs.specs.PoolChanges.{pool_named}
@@ -19,14 +20,16 @@ use Rattle.pud_defs.specs.Stored.{stored_in}
 use Rattle.pud_defs.specs.Transactions.{charged}
 use Rattle.pud_defs.specs.Types.{map_of}
 use Rattle.pud_defs.specs.World.{Transaction, World}
-use Rattle.graph_laws.specs.Slots.{AreAllLive}
+use Rattle.graph_laws.specs.Slots.{AreAllLive, IsLowestFreeSlot}
+use Rattle.graph_read.specs.Reading.{place_at, IsSlotOf}
 use Rattle.log_store.specs.Store.{OpenLog, longer}
-use Rattle.hybrid_tx.specs.Transactions.{RunsOn}
+use Rattle.hybrid_tx.specs.Grounds.{IsPlaced}
+use Rattle.hybrid_tx.specs.Transactions.{IsOpenOn, RunsOn, MakesIn}
 use Rattle.ready_daemon.specs.Memory.{Held, Memory, held_under, with_held}
 use Rattle.ready_daemon.specs.Held.{IsHeld}
 use Rattle.pool_transaction.specs.Changing.{refusal_to_make, refusal_by_world, with_made}
 use Rattle.ready_daemon.specs.Ready.{IsReady, Applies}
-use Rattle.pool_transaction.proofs.HeldRuns.{is_held, Applies-runs}
+use Rattle.pool_transaction.proofs.HeldRuns.{is_held, held_placed, Applies-runs}
 use Rattle.pool_transaction.proofs.HeldSets.{used_more, OwesRuns, told, owed}
 use Rattle.ready_daemon.proofs.OpenNames.{Charges-charged}
 use Rattle.pool_transaction.proofs.HeldPools.{grows_live, grows_not}
@@ -90,6 +93,22 @@ module _ (size : ℕ) (w : World) (memory : Memory) (held : Held) (old : State) 
         let graph = subst (λ (puddles : List (ℕ × Puddle)). graph_of w.stored.types (stored_in F puddles (reads old.now.words)) ≡ Some is.transaction.now) (sym listed)
         (subst (λ (n : ℕ). graph_of w.stored.types (stored_in n held.at (reads old.now.words)) ≡ Some is.transaction.now) (sym same) is.running.is) in
         subst (λ (n : ℕ). IfOk done (λ serial. serial ≡ n)) (sym next_serial) (told graph (not_live less))
+
+    -- what a call owes that makes an object in a slot, on these puddles
+    abbrev OwesMakes : (slot : Slot) (id : ℕ) → Option HostFault → State → List (ℕ × Puddle) → Type 0
+    OwesMakes slot id fault new puddles =
+        IsPlaced F puddles → IsOpenOn F puddles w.stored.types held.log is.before is.undone is.transaction.now is.transaction.laters old.now.words → is.transaction.now.next_serial < NUMBER_LIMIT
+        → IsSlotOf puddles slot → IsLowestFreeSlot (stored_in F puddles (reads old.now.words)) (place_at slot) → MakesIn F puddles held.log.at slot id fault old new
+
+    -- it makes it in the lowest free one
+    pub made_lowest : (id : ℕ) → refusal_by_world w held id ≡ None → (fault : Option HostFault) (new : State) (slot : Slot) → OwesMakes slot id fault new at → IsSlotOf held.at slot
+        → IsLowestFreeSlot (stored_in F held.at (reads old.now.words)) (place_at slot) → MakesIn F held.at held.log.at slot id fault old new
+    made_lowest id none fault new slot owes of lowest =
+        let may = may_make (map_of id w.stored.types) held.log.used (next_in (graph_seen (w.transactions held.name) (pool_named held.name w.stored))) none in
+        subst (λ (puddles : List (ℕ × Puddle)). OwesMakes slot id fault new puddles) listed owes
+        (subst (λ (n : ℕ). IsPlaced n held.at) (sym same) (held_placed size w memory held old number there ready))
+        (subst (λ (n : ℕ). IsOpenOn n held.at w.stored.types held.log is.before is.undone is.transaction.now is.transaction.laters old.now.words) (sym same) is.running)
+        (subst (λ (n : ℕ). n < NUMBER_LIMIT) next_serial may.left) of lowest
 
     module _ (id : ℕ) (none : refusal_by_world w held id ≡ None) (log : OpenLog) (new : State) (gate : log.at ≡ held.log.at) where
       may : MayMake (map_of id w.stored.types) held.log.used (next_in (graph_seen (w.transactions held.name) (pool_named held.name w.stored)))

@@ -5,6 +5,7 @@ ghost use Rattle.pm_model.specs.Counts.{after_fault, fault_of};
 ghost use Rattle.pm_model.specs.Changes.{Changes};
 ghost use Rattle.pud_defs.specs.declared.layout.TheConstants.{LOG_WORDS, LOG_ENTRY_WORDS, MAX_FRAMES, NEXT_NUMBER_WORD, SET_UNITS, NEW_UNITS};
 ghost use Rattle.pud_defs.specs.declared.records.TheConstants.{POOL_RECORDS, MAX_PUDDLES};
+ghost use Rattle.pud_defs.specs.declared.records.Slot.{Slot};
 ghost use Rattle.pud_defs.specs.declared.machine.Command.TheVariants as commands;
 ghost use Rattle.pud_defs.specs.Image.{Image};
 ghost use Rattle.pud_defs.specs.Keyed.{first_free};
@@ -17,10 +18,12 @@ ghost use Rattle.pud_defs.specs.Tables.{tables_of, puddles_in_turn};
 ghost use Rattle.pud_defs.specs.Step.{refusal_of, after, graph_seen, next_in, grows, answer_by, world_by};
 ghost use Rattle.pud_defs.specs.Step.Answer.{of_reply};
 ghost use Rattle.pud_defs.specs.World.{Transaction, World};
+ghost use Rattle.graph_laws.specs.Slots.{IsLowestFreeSlot};
+ghost use Rattle.graph_read.specs.Reading.{place_at, IsSlotOf};
 ghost use Rattle.log_store.specs.Store.{longer};
 ghost use Rattle.word_transaction.specs.Running.{ByTransaction};
 ghost use Rattle.hybrid_tx.specs.Grounds.{pool_ground, IsPlaced, IsRewritten};
-ghost use Rattle.hybrid_tx.specs.Transactions.{IsOpenOn, RunsOn};
+ghost use Rattle.hybrid_tx.specs.Transactions.{IsOpenOn, RunsOn, MakesIn};
 ghost use Rattle.ready_daemon.specs.Memory.{Memory, held_under, with_held};
 ghost use Rattle.ready_daemon.specs.Held.{IsHeldWithin};
 ghost use Rattle.pool_transaction.specs.Changing.{line_of, changed_by, IsLegalChange, MayChange, StaysOpen, refusal_to_make, refusal_to_grow, refusal_by_tables, refusal_by_world, with_more, with_made};
@@ -281,6 +284,10 @@ impl Opened {
         ensures full { H.tells → (size : ℕ) → (w : World) → (memory : Memory) → memory.frames ≡ frames → held_under memory.held (self.old).number ≡ Option.Some self.old
             → IsReady size w memory (H.state h.old) → grows w (self.old).name ≡ true
             → IfOk result (λ serial. serial ≡ 0) × (H.state h.new ≡ H.state h.old) × (self.new ≡ self.old) }
+        ensures lowest { H.tells → (size : ℕ) → (w : World) → (memory : Memory) → memory.frames ≡ frames → held_under memory.held (self.old).number ≡ Option.Some self.old
+            → IsReady size w memory (H.state h.old) → refusal_by_world w self.old t ≡ Option.None
+            → (slot : Slot) → IsSlotOf (self.old).at slot → IsLowestFreeSlot (stored_in frames (self.old).at (reads (H.state h.old).now.words)) (place_at slot)
+            → MakesIn frames (self.old).at (self.old).log.at slot t (fault_of result) (H.state h.old) (H.state h.new) }
         ensures within { IsHeldWithin frames self.new }
         ensures stays { StaysOpen self.old self.new }
         ensures rest { H.tells → KeepsRest (H.state h.old) (H.state h.new) }

@@ -2,6 +2,7 @@
 use Rattle.std.proofs.Common.{◌≡◌, ℕ, ◌-◌, ◌<◌, false, leb, List, Option, Some, None, sym, ap, ap₂, subst, ◌∙◌, arith}
 use Rattle.std.specs.Prelude.{set}
 use Rattle.std.proofs.lemmas.Bool.{cond-false, lt-leb}
+use Rattle.std.proofs.lemmas.Option.{same_Some}
 use Rattle.pm_model.specs.Moments.{State}
 use Rattle.pud_defs.specs.declared.machine.Command.TheVariants as commands
 use Rattle.pud_defs.specs.Step.{after}
@@ -60,3 +61,14 @@ Applies-rises size w memory behind s client name slot number deep same ready on 
     (subst (λ (n : List ℕ). Applies size w (after w (commands.Commit client n)) (record memory { sessions = left slot memory.sessions }) None s s) on.own.pool
     (subst (λ (k : ℕ). Applies size w (after w (commands.Commit client mine.name)) (record memory { sessions = left k memory.sessions }) None s s) on.slot_is
     (Applies-risen size w memory s ready number mine there client (omega (arith, depth, deep)))))
+
+-- the session of the client's own says how often it was begun in the world
+pub depth_by_world : (size : ℕ) (w : World) (memory : Memory) (s : State) (client : ℕ) (name : List ℕ) (slot number : ℕ) → IsReady size w memory s → IsOwnOn client name slot number memory.held
+    → (running : Transaction) → w.transactions name ≡ Some running → depth_in memory.sessions slot ≡ running.depth
+depth_by_world size w memory s client name slot number ready on running found =
+    let mine = on.own.mine in
+    let there = on.own.is in
+    let is = (its size w memory s ready number mine there).is in
+    ap (depth_in memory.sessions) (sym on.slot_is)
+    ∙ depth_is size w memory number mine s ready there
+    ∙ ap (λ (x : Transaction). x.depth) (same_Some is.transaction running (sym is.is ∙ ap w.transactions on.own.pool ∙ found))

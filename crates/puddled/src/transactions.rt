@@ -11,7 +11,7 @@ ghost use Rattle.pud_defs.specs.Settled.{ALL_LOGS};
 ghost use Rattle.pud_defs.specs.World.{World};
 ghost use Rattle.pud_defs.specs.Step.{after};
 ghost use Rattle.nesting.specs.declared.Session.{Session};
-ghost use Rattle.nesting.specs.Sessions.{AreSessions, client_in, session_in, count_of, entered};
+ghost use Rattle.nesting.specs.Sessions.{AreSessions, client_in, session_in, depth_in, count_of, entered};
 ghost use Rattle.ready_daemon.specs.Memory.{held_under};
 ghost use Rattle.ready_daemon.specs.Holding.{IsOwnOn};
 ghost use Rattle.ready_daemon.specs.Judged.{known_in};
@@ -126,6 +126,8 @@ impl Daemon {
         ensures applies { H.tells → (size : ℕ) → size ≡ (H.counts h.old).size → (w : World) → (name : List ℕ) → IsReady size w self.old (H.state h.old)
             → IsOwnOn client name own.slot own.number (self.old).held
             → Applies size w (after w (commands.Commit client name)) self.new (fault_of result) (H.state h.old) (H.state h.new) }
+        // Where it was begun more often than once, no call of the device is made.
+        ensures nested { 1 < depth_in (self.old).sessions own.slot → h.new ≡ h.old }
         ensures frames { (self.new).frames ≡ (self.old).frames }
         ensures rest { H.tells → KeepsRest (H.state h.old) (H.state h.new) }
         ensures rests { H.tells → fault_of result ≡ Option.Some HostFault.Cut → IsRested (H.state h.new).now.words }

@@ -12,8 +12,9 @@ use Rattle.pm_model.proofs.Leaves.{Leaves-changes}
 use Rattle.pud_defs.specs.declared.layout.TheConstants.{LOG_HEADER_WORDS}
 use Rattle.pud_defs.specs.declared.log_words.TheConstants.{RUNNING_GATE}
 use Rattle.pud_defs.specs.Image.{Image}
-use Rattle.pud_defs.specs.Entries.{log_of, is_idle_gate}
+use Rattle.pud_defs.specs.Entries.{log_of}
 use Rattle.pud_defs.specs.Replay.{IsInLog, is_in_log}
+use Rattle.pud_defs.specs.Spaces.{is_closed_log}
 use Rattle.pud_defs.proofs.Entries.{words_from-none, entries_in-nothing}
 use Rattle.pud_defs.proofs.Replay.{undone-none, not_inside}
 use Rattle.log_store.specs.Store.{saying}
@@ -21,7 +22,7 @@ use Rattle.log_store.proofs.Open.{log_of-is, IsOpen-running}
 use Rattle.word_transaction.specs.Ground.{Ground, IsGround, IsOwn, running_range, saved}
 use Rattle.word_transaction.specs.Running.{IsRunning, IsIdle, nothing, begun, SettlesTo, ByTransaction, Runs}
 use Rattle.word_transaction.proofs.Saved.{some_not_none}
-use Rattle.word_transaction.proofs.Images.{SettlesTo-running, SettlesTo-idle}
+use Rattle.word_transaction.proofs.Images.{SettlesTo-running, SettlesTo-closed}
 use Rattle.word_transaction.proofs.Calls.{not_cut}
 
 -- no word is saved yet
@@ -52,7 +53,7 @@ module _ (size at : ℕ) (g : Ground) (before : Image) (fault : Option HostFault
   moment was image picked from =
       let same : (k : ℕ) → g.mine k ≡ true → was k ≡ before k = λ k mine. (idle.single k mine).each (was k) (picked.each k) in
       elim (one_word at RUNNING_GATE was image from) [
-        | inl still ↦ SettlesTo-idle g at before image (ap (λ (i : Image). is_idle_gate (i at)) still ∙ idle.closed (was at) (picked.each at)) (λ k mine. ap (λ (i : Image). i k) still ∙ same k mine)
+        | inl still ↦ SettlesTo-closed g at before image (ap (λ (i : Image). is_closed_log i at) still ∙ idle.closed was picked) (λ k mine. ap (λ (i : Image). i k) still ∙ same k mine)
         | inr runs ↦ SettlesTo-running g (begun at) [] before image refl refl (All-nil (IsOwn g)) (log_of-begun at image runs.there)
             (λ k v mine is. nothing_saved g before k v is) (λ k mine none. runs.others k (other k (ground.apart k mine)) ∙ same k mine)
       ]

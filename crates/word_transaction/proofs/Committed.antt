@@ -1,25 +1,27 @@
 -- A transaction committed: its words made durable, the range moved, and its log closed.
-use Rattle.std.proofs.Common.{◌≡◌, ◌⊎◌, inl, inr, ℕ, true, false, List, [], Option, Some, None, refl, sym, ap, subst, ◌∙◌, arith}
+use Rattle.std.proofs.Common.{◌≡◌, ◌⊎◌, inl, inr, ℕ, true, false, List, [], ◌∷◌, ◌++◌, Option, Some, None, refl, sym, ap, subst, ◌∙◌, append_assoc, arith}
 use Rattle.std.proofs.lemmas.List.{append-nil}
 use Rattle.pm_model.specs.declared.host.HostFault.{HostFault}
 use Rattle.pm_model.specs.declared.host.HostFault.TheVariants.{Cut}
 use Rattle.pm_model.specs.Words.{Cell, reads, Picks, HasOnly, fenced, after_fence}
-use Rattle.pm_model.specs.Moments.{State}
+use Rattle.pm_model.specs.Moments.{Moment, State}
 use Rattle.pm_model.specs.Calls.{Steps}
 use Rattle.pm_model.specs.Changes.{Footprint, Changes, Leaves, Silently, Persists, IsFrom, only, written}
+use Rattle.pm_model.proofs.Has.{Has-append_right}
 use Rattle.pm_model.proofs.Words.{HasOnly-newest, HasOnly-fenced, values-fenced, only_at}
-use Rattle.pm_model.proofs.Changes.{Changes-still, Changes-fence, Changes-then, Changes-wider, Changes-said, HasOnly-kept}
-use Rattle.pm_model.proofs.Leaves.{Leaves-still, Leaves-changes, Leaves-then, Leaves-weaker}
+use Rattle.pm_model.proofs.Changes.{now_among, Changes-still, Changes-fence, Changes-then, Changes-wider, Changes-said, HasOnly-kept}
+use Rattle.pm_model.proofs.Leaves.{Leaves-still, Leaves-changes, Leaves-then}
 use Rattle.pm_model.proofs.OneWord.{one_word}
 use Rattle.pud_defs.specs.declared.log_words.TheConstants.{COMMITTING_LO, COMMITTING_HI, CLOSED_GATE}
 use Rattle.pud_defs.specs.Image.{Image}
-use Rattle.pud_defs.specs.Entries.{Entry, gate_word, is_idle_gate}
+use Rattle.pud_defs.specs.Entries.{Entry, Log, log_of, gate_lo, gate_hi, gate_word, is_idle_gate}
 use Rattle.pud_defs.specs.Replay.{overwritten}
+use Rattle.pud_defs.proofs.Entries.{gate_lo-of, gate_hi-of}
 use Rattle.pud_defs.proofs.Replay.{not_inside, overwritten-stays}
-use Rattle.log_store.specs.Store.{OpenLog, IsOpen, committing}
-use Rattle.log_store.proofs.Open.{IsOpen-log, IsOpen-kept, IsOpen-moved, log_of-moving, only_here, only_value}
+use Rattle.log_store.specs.Store.{OpenLog, IsOpen, saying, committing}
+use Rattle.log_store.proofs.Open.{IsOpen-fits, IsOpen-log, IsOpen-kept, IsOpen-moved, log_of-moving, only_here, only_value}
 use Rattle.word_transaction.specs.Ground.{Ground, IsGround, asks, pending}
-use Rattle.word_transaction.specs.Running.{IsRunning, SettlesTo, ByTransaction, ByCommit, Closes, Ends}
+use Rattle.word_transaction.specs.Running.{IsRunning, SettlesTo, HasRange, SettlesByRange, ByTransaction, ByCommit, Closes, MovesRange, Ends}
 use Rattle.word_transaction.proofs.Images.{SettlesTo-running, SettlesTo-idle, IsRunning-settles}
 use Rattle.word_transaction.proofs.Calls.{some_fault, not_cut}
 use Rattle.word_transaction.proofs.Pending.{pending-none, SettlesTo-committing}
@@ -40,6 +42,18 @@ written_gate : {A : Type 0} → (w x k v : ℕ) → written (only w x) k v → (
 written_gate w x k v new make =
     let here = only_at w x k v new in
     make here (only_value w x v (subst (λ (n : ℕ). only w x n ≡ Some v) here new))
+
+-- ---- the log is closed
+
+-- An image left while the log is closed: its own words settle to these values, and its gate is as it was or that of a closed log.
+pub record IsShut (g : Ground) (at was : ℕ) (values image : Image) : Type 0 where
+  pub settles : SettlesTo g at values image
+  pub gate : (image at ≡ was) ⊎ (image at ≡ CLOSED_GATE)
+
+-- each image left meanwhile is such a one
+pub record Shuts (g : Ground) (at was : ℕ) (values : Image) (fault : Option HostFault) (old new : State) : Type 0 where
+  pub closes : Closes g at values fault old new
+  pub moments : Leaves (Silently (IsShut g at was values)) old new
 
 -- ---- the log of words that each have one value is closed
 
@@ -62,6 +76,22 @@ module _ (size at : ℕ) (g : Ground) (ground : IsGround size at g) (values : Im
             HasOnly-kept (written (only at CLOSED_GATE)) fault c d k (values k) p.changes (λ x new. mine_apart size at g k ground mine (only_at at CLOSED_GATE k x new)) (single k mine);
         closed = λ none. p.durable none at CLOSED_GATE (only_here at CLOSED_GATE);
       }
+
+  -- with the gate that it had
+  module _ (was : ℕ) (one : HasOnly (c.now.words at) was) where
+    shut_gate : (before image : Image) → Picks c.now.words before → IsFrom (written (only at CLOSED_GATE)) before image → (image at ≡ was) ⊎ (image at ≡ CLOSED_GATE)
+    shut_gate before image picked from = elim (one_word at CLOSED_GATE before image from) [
+      | inl same ↦ inl (ap (λ (i : Image). i at) same ∙ one.each (before at) (picked.each at))
+      | inr shut ↦ inr shut.there
+    ]
+
+    pub Shuts-shut : Shuts g at was values fault c d
+    Shuts-shut =
+        record {
+          closes = Closes-shut;
+          moments = Leaves-changes (IsShut g at was values) (written (only at CLOSED_GATE)) fault c d
+              (λ before image picked from. record { settles = shut_image before image picked from; gate = shut_gate before image picked from }) p.changes;
+        }
 
 -- ---- a fence
 
@@ -109,20 +139,38 @@ module _ (size : ℕ) (log : OpenLog) (es : List Entry) (g : Ground) (before : I
   abbrev after : Image
   after = overwritten (pending g.place es) (reads a.now.words)
 
-  -- what an image has with the log replayed, at the start or at the end
-  abbrev Either : Image → Type 0
-  Either image = SettlesTo g log.at before image ⊎ SettlesTo g log.at after image
+  -- what an image has with the log replayed, at the start or at the end, as its range says
+  abbrev ByRange : Image → Type 0
+  ByRange = SettlesByRange g log.at before after
 
-  fence_image : (was image : Image) → Picks a.now.words was → IsFrom Nowhere was image → SettlesTo g log.at before image
+  -- with the range that it had it is as at the start
+  unmoved : (image : Image) → log_of image log.at ≡ saying log es → SettlesTo g log.at before image → ByRange image
+  unmoved image says settles = inl (record { range = record { lo_is = ap (λ (l : Log). l.lo) says ∙ r.lo; hi_is = ap (λ (l : Log). l.hi) says ∙ r.hi }; settles = settles })
+
+  start_image : (image : Image) → Picks a.now.words image → ByRange image
+  start_image image picked = unmoved image (IsOpen-log log es a.now.words image r.opened picked) (IsRunning-settles g log es before image a.now.words r picked)
+
+  -- with this gate it has that of a committing log
+  moved_range : (image : Image) → image log.at ≡ moved_gate log → HasRange COMMITTING_LO COMMITTING_HI log.at image
+  moved_range image is =
+      let few = (IsOpen-fits log es a.now.words r.opened).used_within in
+      record {
+        lo_is = ap gate_lo is ∙ gate_lo-of COMMITTING_LO COMMITTING_HI log.used (omega arith) (omega arith) (omega arith);
+        hi_is = ap gate_hi is ∙ gate_hi-of COMMITTING_LO COMMITTING_HI log.used (omega arith) (omega arith) (omega arith);
+      }
+
+  -- and settles to the end, as it does with that of a closed one
+  moved : (image : Image) → IsShut g log.at (moved_gate log) after image → ByRange image
+  moved image s = inr (record { range = elim s.gate [ inl gate ↦ inl (moved_range image gate) | inr shut ↦ inr shut ]; settles = s.settles })
+
+  fence_image : (was image : Image) → Picks a.now.words was → IsFrom Nowhere was image → ByRange image
   fence_image was image picked from =
       let each : (k : ℕ) → image k ≡ was k = λ k. elim (from.each k) [ inl is ↦ is | inr new ↦ absurd new ] in
       let same : image ≡ was = λ i k. each k i in
-      subst (λ (i : Image). SettlesTo g log.at before i) (sym same) (IsRunning-settles g log es before was a.now.words r picked)
+      subst (λ (i : Image). ByRange i) (sym same) (start_image was picked)
 
-  fence_left : (fault : Option HostFault) (b : State) → Steps after_fence fault a b → Leaves (Silently Either) a b
-  fence_left fault b step =
-      Leaves-weaker (Silently (SettlesTo g log.at before)) (Silently Either) a b (λ bytes image p. (p.0, inl p.1))
-      (Leaves-changes (SettlesTo g log.at before) Nowhere fault a b fence_image (Changes-fence Nowhere fault a b step))
+  fence_left : (fault : Option HostFault) (b : State) → Steps after_fence fault a b → Leaves (Silently ByRange) a b
+  fence_left fault b step = Leaves-changes ByRange Nowhere fault a b fence_image (Changes-fence Nowhere fault a b step)
 
   -- behind it each own word has one value
   fence_single : (b : State) → Steps after_fence None a b → (k : ℕ) → g.mine k ≡ true → HasOnly (b.now.words k) (reads a.now.words k)
@@ -141,21 +189,24 @@ module _ (size : ℕ) (log : OpenLog) (es : List Entry) (g : Ground) (before : I
   ]
 
   moved_image : (b c : State) (fault : Option HostFault) (m : Moves log fault a b c) (was image : Image) → Picks b.now.words was
-      → IsFrom (written (only log.at (moved_gate log))) was image → Either image
+      → IsFrom (written (only log.at (moved_gate log))) was image → ByRange image
   moved_image b c fault m was image picked from =
       let own = moved_own b c fault m was image picked from in
       elim (log_of-moving COMMITTING_LO COMMITTING_HI log es b.now.words was image (omega arith) (omega arith) (fence_open b m.fence) picked from) [
-        | inl says ↦ inl (SettlesTo-running g log es before image r.lo r.hi r.own says (λ k v mine is. r.saves k v is)
+        | inl says ↦ unmoved image says (SettlesTo-running g log es before image r.lo r.hi r.own says (λ k v mine is. r.saves k v is)
             (λ k mine kept. own k mine ∙ HasOnly-newest (a.now.words k) (before k) (r.single k mine kept)))
-        | inr says ↦ inr (SettlesTo-committing g log es (reads a.now.words) image r.own says own)
+        | inr says ↦ inr (record {
+          range = inl (record { lo_is = ap (λ (l : Log). l.lo) says; hi_is = ap (λ (l : Log). l.hi) says });
+          settles = SettlesTo-committing g log es (reads a.now.words) image r.own says own;
+        })
       ]
 
-  moved_left : (b c : State) (fault : Option HostFault) (m : Moves log fault a b c) → Leaves (Silently Either) a c
+  moved_left : (b c : State) (fault : Option HostFault) (m : Moves log fault a b c) → Leaves (Silently ByRange) a c
   moved_left b c fault m =
-      let P = Silently Either in
+      let P = Silently ByRange in
       let said = Changes-said Nowhere None a b (Changes-fence Nowhere None a b m.fence) in
       Leaves-then P P P [] a b c (said ∙ sym (append-nil a.now.said)) (λ front image p. p) (λ more image p. p) (fence_left None b m.fence)
-      (Leaves-changes Either (written (only log.at (moved_gate log))) fault b c (moved_image b c fault m) m.move.changes)
+      (Leaves-changes ByRange (written (only log.at (moved_gate log))) fault b c (moved_image b c fault m) m.move.changes)
 
   -- behind it each own word has one value, and the log runs in the range of redo entries
   pub moved_single : (b c : State) (m : Moves log None a b c) → (k : ℕ) → g.mine k ≡ true → HasOnly (c.now.words k) (reads a.now.words k)
@@ -182,7 +233,8 @@ module _ (size : ℕ) (log : OpenLog) (es : List Entry) (g : Ground) (before : I
   Ends-stopped fault b kept same =
       record {
         changes = Changes-still (ByTransaction g log.at) (Some fault) a b kept same;
-        moments = Leaves-still (Silently Either) a b (λ image picked. (refl, inl (IsRunning-settles g log es before image a.now.words r picked))) same;
+        moments = Leaves-still (Silently ByRange) a b (λ image picked. (refl, start_image image picked)) same;
+        moves = λ e. absurd (some_fault fault e);
         durable = λ e. absurd (some_fault fault e);
         closed = λ e. absurd (some_fault fault e);
         stays = λ e. absurd (some_fault fault e);
@@ -193,6 +245,7 @@ module _ (size : ℕ) (log : OpenLog) (es : List Entry) (g : Ground) (before : I
       record {
         changes = Changes-fence (ByTransaction g log.at) (Some fault) a b step;
         moments = fence_left (Some fault) b step;
+        moves = λ e. absurd (some_fault fault e);
         durable = λ e. absurd (some_fault fault e);
         closed = λ e. absurd (some_fault fault e);
         stays = λ e. absurd (some_fault fault e);
@@ -203,20 +256,36 @@ module _ (size : ℕ) (log : OpenLog) (es : List Entry) (g : Ground) (before : I
       record {
         changes = Changes-wider (ByCommit log) (ByTransaction g log.at) (Some fault) a c own_gate (gate_moves log (Some fault) a b c m);
         moments = moved_left b c (Some fault) m;
+        moves = λ e. absurd (some_fault fault e);
         durable = λ e. absurd (some_fault fault e);
         closed = λ e. absurd (some_fault fault e);
         stays = λ e. absurd (some_fault fault e);
       }
 
+  -- behind the move the range is that of a committing log, with all that was written durable
+  range_moves : (b c d : State) (fault : Option HostFault) (may : Footprint) → Moves log None a b c → Changes may fault c d → MovesRange g log.at a d
+  range_moves b c d fault may m changes =
+      let moves = gate_moves log None a b c m in
+      record {
+        added = changes.added ++ moves.added;
+        history = changes.history ∙ ap (λ (l : List Moment). changes.added ++ l) moves.history ∙ sym (append_assoc changes.added moves.added (a.now ∷ a.past));
+        moment = c.now;
+        among = elim (now_among a c moves.added moves.history) [ inl same ↦ inl same | inr h ↦ inr (Has-append_right changes.added moves.added c.now h) ];
+        range = λ image picked. moved_range image ((moved_open b c m).gate.each (image log.at) (picked.each log.at));
+        durable = moved_single b c m;
+      }
+
   -- its log is closed, with all words as they come to be
-  pub Ends-closes : (fault : Option HostFault) (b c d : State) → Moves log None a b c → Closes g log.at after fault c d → Ends g log.at before after fault a d
-  Ends-closes fault b c d m closes =
+  pub Ends-closes : (fault : Option HostFault) (b c d : State) → Moves log None a b c → Shuts g log.at (moved_gate log) after fault c d → Ends g log.at before after fault a d
+  Ends-closes fault b c d m shuts =
+      let closes = shuts.closes in
       let moves = gate_moves log None a b c m in
       let changes = Changes-then (ByTransaction g log.at) fault a c d (Changes-wider (ByCommit log) (ByTransaction g log.at) None a c own_gate moves) closes.changes in
       record {
         changes = changes;
-        moments = Leaves-then (Silently Either) (Silently (SettlesTo g log.at after)) (Silently Either) [] a c d (Changes-said (ByCommit log) None a c moves ∙ sym (append-nil a.now.said))
-            (λ front image p. p) (λ more image p. (p.0, inr p.1)) (moved_left b c None m) closes.moments;
+        moments = Leaves-then (Silently ByRange) (Silently (IsShut g log.at (moved_gate log) after)) (Silently ByRange) [] a c d
+            (Changes-said (ByCommit log) None a c moves ∙ sym (append-nil a.now.said)) (λ front image p. p) (λ more image p. (p.0, moved image p.1)) (moved_left b c None m) shuts.moments;
+        moves = λ none. range_moves b c d fault (ByTransaction g log.at) m closes.changes;
         durable = closes.durable;
         closed = closes.closed;
         stays = λ e k outside other. reads_beside g log.at fault a d changes (not_cut fault e) k outside other;
@@ -226,5 +295,6 @@ module _ (size : ℕ) (log : OpenLog) (es : List Entry) (g : Ground) (before : I
   pub Ends-close : (fault : Option HostFault) (b c d : State) → asks es ≡ false → Moves log None a b c → Persists (only log.at CLOSED_GATE) fault c d → Ends g log.at before after fault a d
   Ends-close fault b c d none m p =
       Ends-closes fault b c d m
-      (Closes-shut size log.at g ground after fault c d (moved_settles b c m)
-      (λ k mine. subst (λ (v : ℕ). HasOnly (c.now.words k) v) (sym (overwritten-stays (pending g.place es) (reads a.now.words) k (pending-none g.place es k none))) (moved_single b c m k mine)) p)
+      (Shuts-shut size log.at g ground after fault c d (moved_settles b c m)
+      (λ k mine. subst (λ (v : ℕ). HasOnly (c.now.words k) v) (sym (overwritten-stays (pending g.place es) (reads a.now.words) k (pending-none g.place es k none))) (moved_single b c m k mine)) p
+      (moved_gate log) (moved_open b c m).gate)

@@ -1,26 +1,39 @@
 -- What is known once a transaction has ended.
-use Rattle.std.proofs.Common.{◌≡◌, inl, inr, ℕ, true, false, Option, Some, None, sym, ap, ◌∙◌}
+use Rattle.std.proofs.Common.{◌≡◌, ◌⊎◌, inl, inr, ℕ, true, false, Option, Some, None, sym, ◌∙◌}
 use Rattle.pm_model.specs.declared.host.HostFault.{HostFault}
 use Rattle.pm_model.specs.declared.host.HostFault.TheVariants.{Cut}
 use Rattle.pm_model.specs.Words.{Words, reads, Picks}
 use Rattle.pm_model.specs.Moments.{State}
-use Rattle.pm_model.specs.Changes.{Changes}
+use Rattle.pm_model.specs.Changes.{Changes, Leaves, Silently}
 use Rattle.pm_model.proofs.Words.{HasOnly-newest}
+use Rattle.pm_model.proofs.Leaves.{Leaves-weaker}
 use Rattle.pud_defs.specs.Image.{Image}
-use Rattle.pud_defs.specs.Entries.{is_idle_gate}
 use Rattle.pud_defs.specs.Replay.{is_in_log}
 use Rattle.pud_defs.proofs.Replay.{not_inside}
 use Rattle.word_transaction.specs.Ground.{Ground}
-use Rattle.word_transaction.specs.Running.{ByTransaction, IsIdle, SettlesTo, Closes, Ends}
-use Rattle.word_transaction.proofs.Images.{SettlesTo-idle}
+use Rattle.word_transaction.specs.Running.{ByTransaction, IsIdle, SettlesTo, SettlesByRange, Closes, Ends}
+use Rattle.word_transaction.proofs.Images.{SettlesTo-closed, closed_by_gate}
+
+-- ---- whatever its range
+
+-- an image settles to one of the two
+pub settles_either : (g : Ground) (at : ℕ) (before after image : Image) → SettlesByRange g at before after image → SettlesTo g at before image ⊎ SettlesTo g at after image
+settles_either g at before after image (inl unmoved) = inl unmoved.settles
+settles_either g at before after image (inr moved) = inr moved.settles
+
+pub Ends-either : (g : Ground) (at : ℕ) (before after : Image) (fault : Option HostFault) (old new : State) → Ends g at before after fault old new
+    → Leaves (Silently (λ image. SettlesTo g at before image ⊎ SettlesTo g at after image)) old new
+Ends-either g at before after fault old new e =
+    Leaves-weaker (Silently (SettlesByRange g at before after)) (Silently (λ image. SettlesTo g at before image ⊎ SettlesTo g at after image)) old new
+    (λ bytes image p. (p.0, settles_either g at before after image p.1)) e.moments
 
 -- ---- none is open any more
 
 pub Ends-idle : (g : Ground) (at : ℕ) (before after : Image) (fault : Option HostFault) (old new : State) → fault ≡ None → Ends g at before after fault old new → IsIdle g at after new.now.words
-Ends-idle g at before after fault old new none e = record { closed = λ v has. ap is_idle_gate ((e.closed none).each v has); single = λ k mine. e.durable none k mine }
+Ends-idle g at before after fault old new none e = record { closed = λ image picked. closed_by_gate at image ((e.closed none).each (image at) (picked.each at)); single = λ k mine. e.durable none k mine }
 
 pub Closes-idle : (g : Ground) (at : ℕ) (values : Image) (fault : Option HostFault) (old new : State) → fault ≡ None → Closes g at values fault old new → IsIdle g at values new.now.words
-Closes-idle g at values fault old new none c = record { closed = λ v has. ap is_idle_gate ((c.closed none).each v has); single = λ k mine. c.durable none k mine }
+Closes-idle g at values fault old new none c = record { closed = λ image picked. closed_by_gate at image ((c.closed none).each (image at) (picked.each at)); single = λ k mine. c.durable none k mine }
 
 -- ---- then each own word has the value
 
@@ -33,11 +46,8 @@ module _ (g : Ground) (at : ℕ) (values : Image) (words : Words) (idle : IsIdle
   pub IsIdle-image : (image : Image) → Picks words image → (k : ℕ) → g.mine k ≡ true → image k ≡ values k
   IsIdle-image image picked k mine = (idle.single k mine).each (image k) (picked.each k)
 
-  pub IsIdle-gate : (image : Image) → Picks words image → is_idle_gate (image at) ≡ true
-  IsIdle-gate image picked = idle.closed (image at) (picked.each at)
-
   pub IsIdle-settles : (image : Image) → Picks words image → SettlesTo g at values image
-  IsIdle-settles image picked = SettlesTo-idle g at values image (IsIdle-gate image picked) (IsIdle-image image picked)
+  IsIdle-settles image picked = SettlesTo-closed g at values image (idle.closed image picked) (IsIdle-image image picked)
 
 -- ---- what stays meanwhile
 

@@ -1,16 +1,18 @@
 -- What an image says of a transaction on words, by its log's words and the transaction's own.
-use Rattle.std.proofs.Common.{◌≡◌, ℕ, true, List, [], Option, Some, None, refl, sym, ap, ap₂, ◌∙◌, arith}
+use Rattle.std.proofs.Common.{◌≡◌, ℕ, ◌+◌, ◌≤◌, true, false, ◌&&◌, ◌||◌, eqb, List, [], get_or, Option, Some, None, is_some, refl, sym, ap, ap₂, subst, ◌∙◌, arith}
 use Rattle.std.specs.Prelude.{All, unwrap_or}
+use Rattle.std.proofs.lemmas.Bool.{eqb-true, and_parts}
 use Rattle.std.proofs.lemmas.List.Elements.{All-nil}
 use Rattle.pm_model.specs.Words.{Words, Picks}
-use Rattle.pud_defs.specs.declared.log_words.TheConstants.{RUNNING_LO, RUNNING_HI}
+use Rattle.pud_defs.specs.declared.log_words.TheConstants.{RUNNING_LO, RUNNING_HI, COMMITTING_HI, CLOSED_GATE}
 use Rattle.pud_defs.specs.Image.{Image}
-use Rattle.pud_defs.specs.Entries.{Entry, Log, log_of, is_idle_gate}
-use Rattle.pud_defs.specs.Replay.{new_value, IsInLog}
+use Rattle.pud_defs.specs.Entries.{Entry, Log, log_of, gate_lo, gate_hi, entries_of, is_idle_gate}
+use Rattle.pud_defs.specs.Replay.{is_in_range, new_value, IsInLog}
+use Rattle.pud_defs.specs.Spaces.{is_closed_range, is_closed_log}
 use Rattle.pud_defs.proofs.Entries.{log_of-same, used_within}
-use Rattle.pud_defs.proofs.Replay.{replayed-none, empty_range_of, entries_of-idle}
+use Rattle.pud_defs.proofs.Replay.{closed_range, replayed-none, empty_range_of, entries_of-idle}
 use Rattle.log_store.specs.Store.{OpenLog, saying}
-use Rattle.log_store.proofs.Open.{IsOpen-log}
+use Rattle.log_store.proofs.Open.{IsOpen-log, log_of-closed}
 use Rattle.word_transaction.specs.Ground.{Ground, IsOwn, saved}
 use Rattle.word_transaction.specs.Running.{IsRunning, SettlesTo}
 use Rattle.word_transaction.proofs.Saved.{new_value-running}
@@ -24,7 +26,7 @@ SettlesTo-local g at values i j in_log own s =
     record {
       es = s.es;
       spells = ap (λ (l : Log). l.entries) same ∙ s.spells;
-      own = s.own;
+      own = subst (λ (l : Log). All (λ (e : Entry). is_in_range l e ≡ true → IsOwn g e) s.es) (sym same) s.own;
       settled = λ k mine. ap₂ (λ (l : Log) (v : ℕ). unwrap_or (new_value g.place l k) v) same (own k mine) ∙ s.settled k mine;
     }
 
@@ -42,7 +44,7 @@ SettlesTo-given g log es write values image own says given gives stays =
     record {
       es = es;
       spells = ap (λ (l : Log). l.entries) says;
-      own = own;
+      own = λ n d below counts. own n d below;
       settled = λ k mine.
           ap (λ (o : Option ℕ). unwrap_or o (image k)) (ap (λ (l : Log). new_value g.place l k) says ∙ given k)
           ∙ unwrapped (write k) (image k) (values k) (λ v. gives k v mine) (stays k mine);
@@ -66,6 +68,35 @@ SettlesTo-idle g at before image idle same =
     record {
       es = [];
       spells = entries_of-idle image at idle;
-      own = All-nil (IsOwn g);
+      own = All-nil (λ (e : Entry). is_in_range (log_of image at) e ≡ true → IsOwn g e);
       settled = λ k mine. ap (λ (i : Image). i k) (replayed-none g.place (log_of image at) image (empty_range_of (image at) idle)) ∙ same k mine;
     }
+
+-- ---- images with a closed log
+
+some_entries : (o : Option (List Entry)) → is_some o ≡ true → (es : List Entry) × (o ≡ Some es)
+some_entries None is = absurd (let it : false ≡ true = is in cc)
+some_entries (Some es) is = (es, refl)
+
+-- a closed range has no number in it
+closed_range_of : (v : ℕ) → is_closed_range v ≡ true → gate_hi v ≤ gate_lo v + 1
+closed_range_of v closed =
+    let same : gate_lo v ≡ gate_hi v = eqb-true _ _ (and_parts (eqb (gate_lo v) (gate_hi v)) (eqb (gate_hi v) COMMITTING_HI || eqb (gate_hi v) 0) closed).0 in
+    omega arith
+
+-- so none of its entries is the transaction's, and the words are as they are
+pub SettlesTo-closed : (g : Ground) (at : ℕ) (before image : Image) → is_closed_log image at ≡ true → ((k : ℕ) → g.mine k ≡ true → image k ≡ before k) → SettlesTo g at before image
+SettlesTo-closed g at before image closed same =
+    let parts = and_parts (is_closed_range (image at)) (is_some (entries_of image at)) closed in
+    let range : gate_hi (image at) ≤ gate_lo (image at) + 1 = closed_range_of (image at) parts.0 in
+    let entries = some_entries (entries_of image at) parts.1 in
+    record {
+      es = entries.0;
+      spells = entries.1;
+      own = λ n d below counts. absurd (let it : true ≡ false = sym counts ∙ closed_range (log_of image at) (get_or entries.0 n d) range in cc);
+      settled = λ k mine. ap (λ (i : Image). i k) (replayed-none g.place (log_of image at) image range) ∙ same k mine;
+    }
+
+-- the gate of a closed log that counts no word is enough
+pub closed_by_gate : (at : ℕ) (image : Image) → image at ≡ CLOSED_GATE → is_closed_log image at ≡ true
+closed_by_gate at image gate = ap₂ (λ (v : ℕ) (l : Log). is_closed_range v && is_some l.entries) gate (log_of-closed at image gate)

@@ -123,7 +123,7 @@ SettlesTo-committing g log es was image own says same =
     record {
       es = es;
       spells = ap (λ (l : Log). l.entries) says;
-      own = own;
+      own = λ n d below counts. own n d below;
       settled = λ k mine.
           ap (λ (l : Log). replayed g.place l image k) says
           ∙ ap₂ unwrap_or (new_value-committing g g.place (saying (committing log) es) es k refl refl refl own) (same k mine);

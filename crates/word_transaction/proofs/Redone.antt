@@ -22,7 +22,7 @@ use Rattle.word_transaction.proofs.Saved.{pending_is_mine}
 use Rattle.word_transaction.proofs.Growing.{redone-places}
 use Rattle.word_transaction.proofs.Pending.{new_value-committing}
 use Rattle.word_transaction.proofs.Committed.{Moves, gate_moves, moved_single, moved_open, Ends-closes}
-use Rattle.word_transaction.proofs.Settled.{Gives, replayable, durable_log, Closes-settled}
+use Rattle.word_transaction.proofs.Settled.{Gives, replayable, durable_log, Shuts-settled}
 
 -- ---- the puddle table, while the gate changes
 
@@ -78,4 +78,4 @@ module _ (size : ℕ) (log : OpenLog) (es : List Entry) (g : Ground) (before : I
       let left = subst (λ (k : ℕ). IsReplayable (place_of (Puddles F) (reads c.now.words)) size k es (reads c.now.words) → HasDurableLog (Puddles F) k c.now.words
       → Leaves (Silently (IsSettling (Puddles F) k c.now.words)) c d) here moments in
       Ends-closes size log es g before a ground r fault b c d m
-      (Closes-settled size F g (committing log) es write after c ground given places table fault d (settled may) (left may durable))
+      (Shuts-settled size F g (committing log) es write after c ground given places table fault d (settled may) (left may durable))

@@ -11,7 +11,7 @@ use Rattle.pm_model.proofs.Changes.{Changes-wider, HasOnly-kept}
 use Rattle.pm_model.proofs.Leaves.{Leaves-weaker}
 use Rattle.pud_defs.specs.declared.layout.TheConstants.{LOG_WORDS, LOG_HEADER_WORDS}
 use Rattle.pud_defs.specs.Image.{Image}
-use Rattle.pud_defs.specs.Entries.{Entry, Log, log_of, gate_used, is_idle_gate}
+use Rattle.pud_defs.specs.Entries.{Entry, Log, log_of, gate_used, gate_word, is_idle_gate}
 use Rattle.pud_defs.specs.Replay.{Place, new_value, is_in_log, IsInLog}
 use Rattle.pud_defs.specs.Tables.{tables_of}
 use Rattle.pud_defs.specs.Allowed.{puddle_word}
@@ -24,7 +24,7 @@ use Rattle.log_replay.proofs.Whole.{new_values-apart, new_values_picked}
 use Rattle.word_transaction.specs.Ground.{Ground, IsGround, IsOwn}
 use Rattle.word_transaction.specs.Running.{SettlesTo, ByTransaction, Closes, HasPlaces, HasOneTable}
 use Rattle.word_transaction.proofs.Images.{SettlesTo-given, SettlesTo-idle}
-use Rattle.word_transaction.proofs.Committed.{mine_apart}
+use Rattle.word_transaction.proofs.Committed.{mine_apart, IsShut, Shuts}
 
 -- The log is open. It gives these words their values, which are the transaction's own, wherever places agree on what its entries name; and each own word
 -- that it gives none has its one value.
@@ -132,6 +132,12 @@ module _ (size F : ℕ) (g : Ground) (log : OpenLog) (es : List Entry) (write : 
           (λ k mine. by_given (write k) (image k) (values k) (λ v is. shut.1 k v (gives_before k ∙ is) ∙ r.saves k v is) (not_given k mine))
     ]
 
+    shut : IsShut g log.at (gate_word log.lo log.hi log.used) values image
+    shut = record {
+      settles = settles;
+      gate = elim p.closing.gate [ inl gate ↦ inl (gate ∙ r.opened.gate.each (p.before log.at) (p.picked.each log.at)) | inr closed ↦ inr closed.0 ];
+    }
+
   pub Closes-settled : (fault : Option HostFault) (b : State) → SettlesLog (Puddles F) log.at fault a b → Leaves (Silently (IsSettling (Puddles F) log.at a.now.words)) a b
       → Closes g log.at values fault a b
   Closes-settled fault b s moments =
@@ -149,4 +155,13 @@ module _ (size F : ℕ) (g : Ground) (log : OpenLog) (es : List Entry) (write : 
               | inr named ↦ absurd (let it : None ≡ Some named.value = sym (gives k ∙ free) ∙ named.is in cc)
             ]) (r.single k mine free));
         closed = s.closed;
+      }
+
+  pub Shuts-settled : (fault : Option HostFault) (b : State) → SettlesLog (Puddles F) log.at fault a b → Leaves (Silently (IsSettling (Puddles F) log.at a.now.words)) a b
+      → Shuts g log.at (gate_word log.lo log.hi log.used) values fault a b
+  Shuts-settled fault b s moments =
+      record {
+        closes = Closes-settled fault b s moments;
+        moments = Leaves-weaker (Silently (IsSettling (Puddles F) log.at a.now.words)) (Silently (IsShut g log.at (gate_word log.lo log.hi log.used) values)) a b
+            (λ bytes image p. (p.0, shut image p.1)) moments;
       }

@@ -1,15 +1,16 @@
 -- When a transaction on words is open, what each call of it does at every moment, and how it ends.
 use Rattle.std.specs.Prelude.{◌≡◌, ◌⊎◌, ℕ, ◌≤◌, true, false, List, [], ◌∷◌, ◌++◌, All, Option, Some, None}
 use Rattle.pm_model.specs.declared.host.HostFault.{HostFault}
-use Rattle.pm_model.specs.Words.{Has, values, Words, reads, HasOnly}
-use Rattle.pm_model.specs.Moments.{State}
+use Rattle.pm_model.specs.Words.{Has, Words, reads, Picks, HasOnly}
+use Rattle.pm_model.specs.Moments.{Moment, State}
 use Rattle.pm_model.specs.Changes.{Footprint, Write, Changes, Leaves, Silently}
 use Rattle.pud_defs.specs.declared.layout.TheConstants.{PUDDLE_TABLE}
 use Rattle.pud_defs.specs.declared.log_words.TheConstants.{RUNNING_LO, RUNNING_HI, COMMITTING_LO, COMMITTING_HI, CLOSED_GATE}
 use Rattle.pud_defs.specs.Image.{Image}
 use Rattle.pud_defs.specs.Layout.{tables_end, IsWithin}
-use Rattle.pud_defs.specs.Entries.{Entry, entries_of, log_of, gate_word, is_idle_gate}
-use Rattle.pud_defs.specs.Replay.{Place, overwritten, replayed, IsInLog, is_in_log}
+use Rattle.pud_defs.specs.Entries.{Entry, entries_of, log_of, gate_lo, gate_hi, gate_word}
+use Rattle.pud_defs.specs.Replay.{Place, is_in_range, overwritten, replayed, IsInLog, is_in_log}
+use Rattle.pud_defs.specs.Spaces.{is_closed_log}
 use Rattle.pud_defs.specs.Tables.{tables_of}
 use Rattle.pud_defs.specs.Allowed.{puddle_word}
 use Rattle.log_store.specs.Store.{OpenLog, IsOpen}
@@ -28,9 +29,9 @@ pub record IsRunning (g : Ground) (log : OpenLog) (es : List Entry) (before : Im
   pub single : (k : ℕ) → g.mine k ≡ true → saved g.place es k ≡ None → HasOnly (words k) (before k)
   pub marked : (k : ℕ) → g.mine k ≡ true → ((words k).kept ≡ []) ⊎ HasOnly (words k) (words k).newest
 
--- No transaction is open: the log whose gate is this word counts nothing in any image, and each own word has one value.
+-- No transaction is open: the log whose gate is this word is closed in each image, and each own word has one value.
 pub record IsIdle (g : Ground) (at : ℕ) (before : Image) (words : Words) : Type 0 where
-  pub closed : (v : ℕ) → Has (values (words at)) v → is_idle_gate v ≡ true
+  pub closed : (image : Image) → Picks words image → is_closed_log image at ≡ true
   pub single : (k : ℕ) → g.mine k ≡ true → HasOnly (words k) (before k)
 
 -- The entry may be appended: it is one that the transaction may write, and with it a word that is saved is so still with its value from the
@@ -54,13 +55,32 @@ begun at = record { at = at; lo = RUNNING_LO; hi = RUNNING_HI; used = 0 }
 
 -- ---- what an image has
 
--- With the log replayed whose gate is this word the transaction's own words have these values; the log is well formed, and its entries are the
+-- With the log replayed whose gate is this word the transaction's own words have these values; the log is well formed, and its entries in range are the
 -- transaction's.
 pub record SettlesTo (g : Ground) (at : ℕ) (values image : Image) : Type 0 where
   pub es : List Entry
   pub spells : entries_of image at ≡ Some es
-  pub own : All (IsOwn g) es
+  pub own : All (λ e. is_in_range (log_of image at) e ≡ true → IsOwn g e) es
   pub settled : (k : ℕ) → g.mine k ≡ true → replayed g.place (log_of image at) image k ≡ values k
+
+-- the log whose gate is this word has this range
+pub record HasRange (lo hi at : ℕ) (image : Image) : Type 0 where
+  pub lo_is : gate_lo (image at) ≡ lo
+  pub hi_is : gate_hi (image at) ≡ hi
+
+-- The range of the log is that of a running one still, and the transaction's own words settle to these values.
+pub record IsUnmoved (g : Ground) (at : ℕ) (values image : Image) : Type 0 where
+  pub range : HasRange RUNNING_LO RUNNING_HI at image
+  pub settles : SettlesTo g at values image
+
+-- The range of the log has moved to that of a committing one, or the log is closed, and the transaction's own words settle to these values.
+pub record IsMoved (g : Ground) (at : ℕ) (values image : Image) : Type 0 where
+  pub range : HasRange COMMITTING_LO COMMITTING_HI at image ⊎ (image at ≡ CLOSED_GATE)
+  pub settles : SettlesTo g at values image
+
+-- Until the range moves an image settles to the values from the beginning, and from then on to the new ones: which of the two is told by its gate.
+abbrev pub SettlesByRange : Ground → (at : ℕ) → (before after image : Image) → Type 0
+SettlesByRange g at before after image = IsUnmoved g at before image ⊎ IsMoved g at after image
 
 -- ---- what calls do
 
@@ -89,11 +109,23 @@ pub record Closes (g : Ground) (at : ℕ) (values : Image) (fault : Option HostF
   pub durable : fault ≡ None → (k : ℕ) → g.mine k ≡ true → HasOnly (new.now.words k) (values k)
   pub closed : fault ≡ None → HasOnly (new.now.words at) CLOSED_GATE
 
--- The transaction is committed: each image left meanwhile settles to the values from the beginning or to the new ones. Without a fault each own
--- word has its new value and no other, the log is closed, and what is read of other words is as it was.
+-- At some moment from old on the log has the range of a committing one in each image, and each own word has the value that was read of it at old, and no
+-- other.
+pub record MovesRange (g : Ground) (at : ℕ) (old new : State) : Type 0 where
+  pub added : List Moment
+  pub history : new.now ∷ new.past ≡ added ++ old.now ∷ old.past
+  pub moment : Moment
+  pub among : (moment ≡ old.now) ⊎ Has added moment
+  pub range : (image : Image) → Picks moment.words image → HasRange COMMITTING_LO COMMITTING_HI at image
+  pub durable : (k : ℕ) → g.mine k ≡ true → HasOnly (moment.words k) (reads old.now.words k)
+
+-- The transaction is committed: each image left meanwhile settles to the values from the beginning until its range has moved, and to the new ones from then
+-- on. Without a fault the range moved once all that was written was durable, each own word has its new value and no other, the log is closed, and what
+-- is read of other words is as it was.
 pub record Ends (g : Ground) (at : ℕ) (before after : Image) (fault : Option HostFault) (old new : State) : Type 0 where
   pub changes : Changes (ByTransaction g at) fault old new
-  pub moments : Leaves (Silently (λ image. SettlesTo g at before image ⊎ SettlesTo g at after image)) old new
+  pub moments : Leaves (Silently (SettlesByRange g at before after)) old new
+  pub moves : fault ≡ None → MovesRange g at old new
   pub durable : fault ≡ None → (k : ℕ) → g.mine k ≡ true → HasOnly (new.now.words k) (after k)
   pub closed : fault ≡ None → HasOnly (new.now.words at) CLOSED_GATE
   pub stays : fault ≡ None → (k : ℕ) → is_in_log at k ≡ false → g.mine k ≡ false → reads new.now.words k ≡ reads old.now.words k

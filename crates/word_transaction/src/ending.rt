@@ -45,8 +45,9 @@ impl WordTransaction {
     ///
     /// The log lies in the device, and so does the puddle table of so many frames, at most 1,024. Where values are asked for, that
     /// table stands in front of the log, each word of it has one value, and the addresses that the log names are where the
-    /// transaction took them to be. Each image left meanwhile is, with the log replayed, as at the beginning, or has all that was
-    /// written and asked for; it is the latter from the word on by which the range moves. The only errors are the host's own.
+    /// transaction took them to be. Each image left meanwhile is, with the log replayed, as at the beginning while its log has the
+    /// range of a running one; once that is the range of a committing one, or the log is closed, it has all that was written and
+    /// asked for. At `Ok` the range moved when all that was written was durable. The only errors are the host's own.
     ///
     /// It reads the log's entries up to the first that asks for values. Where there is none the gate is the only word written, and
     /// it takes three fences; else the loads of a replay, and four fences.

@@ -46,8 +46,9 @@ fn read_words<H: Host>(
 impl WordTransaction {
     /// Begins a transaction whose log's gate is word `at`: at `Ok` that log is running, durably, with no entry.
     ///
-    /// The log lies in the device. Where no transaction is open on these words, each image left meanwhile has them, with the
-    /// log replayed, as they are. The only errors are the host's own. The one word written is the gate. One fence.
+    /// The log lies in the device. Where it is closed in each image, whatever entries it has, and each of these words has one
+    /// value, each image left meanwhile has them, with the log replayed, as they are. The only errors are the host's own. The one
+    /// word written is the gate. One fence.
     pub fn begin<H: Host>(h: &mut H, at: u32) -> Result<WordTransaction, HostFault>
         requires { at + LOG_WORDS ≤ (H.counts h.old).size }
         ensures opened { IfOk result (λ transaction. transaction ≡ begun at) }

@@ -5,7 +5,7 @@ use Rattle.pm_model.specs.Words.{reads}
 use Rattle.pm_model.proofs.Changes.{Changes-still}
 use Rattle.hybrid_tx.specs.Grounds.{pool_ground}
 use Rattle.hybrid_tx.proofs.FieldPut.{RunsOn-stopped}
-use Rattle.hybrid_tx.proofs.ObjectPut.{serial_is_next, Changes-made, RunsOn-unput, RunsOn-new}
+use Rattle.hybrid_tx.proofs.ObjectPut.{serial_is_next, Changes-made, MakesIn-stopped, MakesIn-unput, MakesIn-new, RunsOn-unput, RunsOn-new}
 use Rattle.hybrid_tx.proofs.Tx.make.Goals as goal
 
 pub returns-in_err-serial-clause-changes : goal.returns-in_err-serial-clause-changes
@@ -61,3 +61,42 @@ returns-clause-serial g c = λ t types now is.
     let some = slice_get_within c.args.pool.now c.args.at.now.ordinal (c.args.at.now.frame, c.requires.within.puddle) c.requires.within.there in
     let image = reads (g.H.Host.state c.args.h.now).now.words in
     serial_is_next c.args.frames c.args.pool.now types image _ (slice_get-get_or c.args.pool.now 0 _ (omega (arith, some))) c.in_ok-serial.serial (c.in_ok-serial.ensures.word t image refl) now is
+
+-- ---- which words are written
+
+pub returns-in_err-serial-clause-makes : goal.returns-in_err-serial-clause-makes
+returns-in_err-serial-clause-makes g c =
+    let p = err_from_is_err_and c.from_residual.result c.from_residual.ensures.1 in
+    let some = slice_get_within c.args.pool.now c.args.at.now.ordinal (c.args.at.now.frame, c.requires.within.puddle) c.requires.within.there in
+    rw (p.1, p.2) (λ t types before undone now laters placed is_open room.
+    MakesIn-stopped c.args.frames c.args.pool.now _ c.args.at.now c.requires.within _ c.args.t _ _ _
+    (slice_get-get_or c.args.pool.now 0 (c.args.at.now.frame, c.requires.within.puddle) (omega (arith, some)))
+    c.in_err-serial.ensures.never_cut (c.in_err-serial.ensures.stays t))
+
+pub returns-in_err-put_in_frame-clause-makes : goal.returns-in_err-put_in_frame-clause-makes
+returns-in_err-put_in_frame-clause-makes g c =
+    let p = err_from_is_err_and c.from_residual-in_err-put_in_frame.result c.from_residual-in_err-put_in_frame.ensures.1 in
+    let some = slice_get_within c.args.pool.now c.args.at.now.ordinal (c.args.at.now.frame, c.requires.within.puddle) c.requires.within.there in
+    rw (p.1, p.2) (λ t types before undone now laters placed is_open room.
+    MakesIn-unput c.args.frames c.args.pool.now _ c.args.at.now c.requires.within _ c.args.t (g.H.Host.state c.args.h.now) c.in_ok-serial.serial _ _ _ _ _ (slice_get-get_or c.args.pool.now 0 _ (omega (arith, some)))
+    (c.in_ok-serial.ensures.stays t) (c.in_ok-serial.ensures.word t (reads (g.H.Host.state c.args.h.now).now.words) refl) c.slot_at.ensures c.new_words-words.ensures (c.in_err-put_in_frame.ensures.puts t))
+
+pub returns-in_err-put_in_frame-2-clause-makes : goal.returns-in_err-put_in_frame-2-clause-makes
+returns-in_err-put_in_frame-2-clause-makes g c =
+    let p = err_from_is_err_and c.from_residual-in_err-put_in_frame-2.result c.from_residual-in_err-put_in_frame-2.ensures.1 in
+    let some = slice_get_within c.args.pool.now c.args.at.now.ordinal (c.args.at.now.frame, c.requires.within.puddle) c.requires.within.there in
+    rw (p.1, p.2) (λ t types before undone now laters placed is_open room.
+    MakesIn-new c.args.frames c.args.pool.now types c.args.self.now before undone now laters (g.H.Host.state c.args.h.now) is_open _ _ _ c.args.at.now c.in_ok-serial.serial _ c.args.t _ _ _ _ _ _
+    c.in_ok-put_in_frame.ensures.at c.in_err-put_in_frame-2.ensures.at (c.in_ok-serial.ensures.stays t)
+    (slice_get-get_or c.args.pool.now 0 _ (omega (arith, some))) c.requires.within (c.in_ok-serial.ensures.word t (reads (g.H.Host.state c.args.h.now).now.words) refl) room
+    c.slot_at.ensures c.new_words-words.ensures (c.in_ok-put_in_frame.ensures.saves t placed) (c.in_ok-put_in_frame.ensures.puts t) refl
+    (c.in_err-put_in_frame-2.ensures.saves t placed) (c.in_err-put_in_frame-2.ensures.puts t))
+
+pub returns-clause-makes : goal.returns-clause-makes
+returns-clause-makes g c = λ t types before undone now laters placed is_open room.
+    let some = slice_get_within c.args.pool.now c.args.at.now.ordinal (c.args.at.now.frame, c.requires.within.puddle) c.requires.within.there in
+    MakesIn-new c.args.frames c.args.pool.now types c.args.self.now before undone now laters (g.H.Host.state c.args.h.now) is_open _ _ _ c.args.at.now c.in_ok-serial.serial _ c.args.t _ _ None _ _ _
+    c.in_ok-put_in_frame.ensures.at c.in_ok-put_in_frame-2.ensures.at (c.in_ok-serial.ensures.stays t)
+    (slice_get-get_or c.args.pool.now 0 _ (omega (arith, some))) c.requires.within (c.in_ok-serial.ensures.word t (reads (g.H.Host.state c.args.h.now).now.words) refl) room
+    c.slot_at.ensures c.new_words-words.ensures (c.in_ok-put_in_frame.ensures.saves t placed) (c.in_ok-put_in_frame.ensures.puts t) refl
+    (c.in_ok-put_in_frame-2.ensures.saves t placed) (c.in_ok-put_in_frame-2.ensures.puts t)

@@ -1,4 +1,4 @@
-use Rattle.std.proofs.Common.{◌≡◌, None, Some, Err, subst, refl}
+use Rattle.std.proofs.Common.{◌≡◌, None, Some, Err, ap, subst, refl}
 use Rattle.pm_model.specs.Words.{reads}
 use Rattle.pm_model.specs.Counts.{fault_of}
 use Rattle.pm_model.specs.Moments.{State}
@@ -11,8 +11,10 @@ use Rattle.object_alloc.specs.Alloc.{alloc_fault}
 use Rattle.pm_model.specs.declared.host.HostFault.TheVariants.{Cut}
 use Rattle.pud_defs.specs.GraphChanges.{with_new, blank_object}
 use Rattle.graph_read.specs.Reading.{place_at}
-use Rattle.hybrid_tx.specs.Transactions.{IsOpenOn, RunsOn}
+use Rattle.hybrid_tx.specs.Transactions.{IsOpenOn, RunsOn, MakesIn}
 use Rattle.hybrid_tx.proofs.FieldPut.{RunsOn-stopped}
+use Rattle.hybrid_tx.proofs.LowestSlot.{one_lowest, lowest_is_free, one_slot, first_there}
+use Rattle.hybrid_tx.proofs.ObjectPut.{MakesIn-stopped}
 use Rattle.hybrid_tx.proofs.Tx.new.Goals as goal
 
 pub returns-in-Ok-clause-runs : goal.returns-in-Ok-clause-runs
@@ -35,3 +37,30 @@ returns-in-Err-Host-clause-changes g c = λ t. Changes-still _ _ _ _ (subst (λ 
 pub returns-in-Err-Host-clause-runs : goal.returns-in-Err-Host-clause-runs
 returns-in-Err-Host-clause-runs g c = λ t types m before undone now laters placed is_open defined room some.
     RunsOn-stopped _ _ types c.args.self.now _ before undone now laters _ _ _ _ _ refl (subst (λ (e : AllocFault). alloc_fault {T = Slot} (Err e) ≡ Some Cut → ⊥) c.in-Err-Host.field-0-is c.in-Err-Host.ensures.never_cut) (c.in-Err-Host.ensures.stays t) is_open
+
+-- ---- which slot it is
+
+pub returns-in-Ok-clause-makes : goal.returns-in-Ok-clause-makes
+returns-in-Ok-clause-makes g c = λ t types before undone now laters placed is_open room slot of lowest.
+    let F = c.args.frames in
+    let pool = c.args.pool.now in
+    let log = c.args.self.now in
+    let fault = fault_of c.make.result in
+    let old = g.H.Host.state c.args.h.now in
+    let new = g.H.Host.state c.make.new.h in
+    let found = c.in-Ok.ensures.free t (reads old.now.words) refl in
+    let same = one_slot pool c.in-Ok.at slot c.in-Ok.ensures.within of (one_lowest (stored_in F pool (reads old.now.words)) (place_at c.in-Ok.at) (place_at slot) found lowest) in
+    subst (λ (s : Slot). MakesIn F pool log.at s c.args.t fault old new) same
+    (subst (λ (s : State). IsOpenOn F pool types log before undone now laters s.now.words → MakesIn F pool log.at c.in-Ok.at c.args.t fault s new) (c.in-Ok.ensures.stays t)
+    (λ still. c.make.ensures.makes t types before undone now laters placed still room) is_open)
+
+pub returns-in-Err-Full-clause-makes : goal.returns-in-Err-Full-clause-makes
+returns-in-Err-Full-clause-makes g c = λ t types before undone now laters placed is_open room slot of lowest.
+    let image = reads (g.H.Host.state c.args.h.now).now.words in
+    absurd (lowest_is_free (stored_in c.args.frames c.args.pool.now image) (place_at slot) lowest ((c.in-Err-Full.ensures.full t image refl (ap (λ (e : AllocFault). alloc_fault {T = Slot} (Err e)) c.in-Err-Full.field-0-is)).0 (ap (λ (e : AllocFault). Err e) c.in-Err-Full.field-0-is)))
+
+pub returns-in-Err-Host-clause-makes : goal.returns-in-Err-Host-clause-makes
+returns-in-Err-Host-clause-makes g c = λ t types before undone now laters placed is_open room slot of lowest.
+    let first = first_there c.args.pool.now slot (slot.frame, of.puddle) of in
+    MakesIn-stopped c.args.frames c.args.pool.now c.args.self.now.at slot of first.0 c.args.t _ _ _ first.1
+    (subst (λ (e : AllocFault). alloc_fault {T = Slot} (Err e) ≡ Some Cut → ⊥) c.in-Err-Host.field-0-is c.in-Err-Host.ensures.never_cut) (c.in-Err-Host.ensures.stays t)

@@ -30,3 +30,9 @@ returns-clause-saves g c = λ t placed e there before redo s.
     (ap (λ (d : ℕ × Puddle). (d.1.base + 8 * c.args.word) % 2 ^ 64) same)
     (ap (λ (k : ℕ). k + c.args.word) (c.frame_at.ensures ∙ ap (λ (d : ℕ × Puddle). frame_at c.args.frames d.0) same)) s
     (λ es ground may place running. c.put.ensures.runs t _ refl (pool_ground c.args.frames c.args.pool.now) es before ground may place running))
+
+pub returns-clause-puts : goal.returns-clause-puts
+returns-clause-puts g c = λ t e there.
+    let same = get_or_from_slice_get c.args.pool.now c.args.ordinal e _ there in
+    subst (λ (k : ℕ). Changes (ByPut c.args.self.now.at (k + c.args.word) c.args.vals.now) (fault_of c.put.result) (g.H.Host.state c.args.h.now) (g.H.Host.state c.put.new.h))
+    (c.frame_at.ensures ∙ ap (λ (d : ℕ × Puddle). frame_at c.args.frames d.0) same) (c.put.ensures.changes t)

@@ -2,4 +2,4 @@ use Rattle.hybrid_tx.proofs.LatersApplied.{laters_applied}
 use Rattle.hybrid_tx.proofs.laws.entries_of_laters_make_the_graph.Goals as goal
 
 pub returns : goal.returns
-returns c = λ frames at types placed rewritten. laters_applied frames at types placed rewritten
+returns c = laters_applied

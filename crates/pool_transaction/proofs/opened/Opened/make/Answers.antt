@@ -1,13 +1,18 @@
 use Rattle.std.proofs.Common.{◌≡◌, true, false, Some, None, sym, ap, ◌∙◌, subst}
 use Rattle.std.specs.Prelude.{IfOk}
 use Rattle.pm_model.specs.Counts.{fault_of}
+use Rattle.pm_model.specs.Words.{reads}
 use Rattle.pud_defs.specs.PoolChanges.{pool_named}
+use Rattle.pud_defs.specs.Stored.{stored_in}
+use Rattle.graph_laws.specs.Slots.{IsLowestFreeSlot}
+use Rattle.graph_read.specs.Reading.{place_at, IsSlotOf}
+use Rattle.hybrid_tx.specs.Transactions.{MakesIn}
 use Rattle.pud_defs.specs.Step.{graph_seen, next_in, grows}
 use Rattle.ready_daemon.specs.Memory.{Held, held_under, with_held}
 use Rattle.pool_transaction.specs.Changing.{refusal_by_world, with_made}
 use Rattle.ready_daemon.specs.Ready.{Applies}
-use Rattle.pool_transaction.proofs.HeldMakes.{all_live, Applies-made, serial_made}
 use Rattle.ready_daemon.proofs.Keeping.{KeepsRest-changes}
+use Rattle.pool_transaction.proofs.HeldMakes.{all_live, made_lowest, Applies-made, serial_made}
 use Rattle.pool_transaction.proofs.opened.Opened.make.Goals as goal
 
 pub returns-clause-makes : goal.returns-clause-makes
@@ -56,3 +61,19 @@ returns-clause-full g c = λ t size w memory frames there ready more.
 
 pub returns-clause-rest : goal.returns-clause-rest
 returns-clause-rest g c = λ t. KeepsRest-changes _ _ _ _ (c.new-made.ensures.changes t)
+
+pub returns-clause-lowest : goal.returns-clause-lowest
+returns-clause-lowest g c = λ t size w memory frames there ready none slot of lowest.
+    let i = c.self.inside in
+    let held : Held = record { client = i.client; name = i.name; slot = i.slot; at = i.puddles; number = i.number; log = i.tx } in
+    let old = g.H.Host.state c.args.h.now in
+    let new = g.H.Host.state c.new-made.new.h in
+    let fault = fault_of c.new-made.result in
+    subst (λ (o : Held).
+    held_under memory.held o.number ≡ Some o → refusal_by_world w o c.args.t ≡ None → IsSlotOf o.at slot → IsLowestFreeSlot (stored_in c.args.frames o.at (reads old.now.words)) (place_at slot)
+    → MakesIn c.args.frames o.at o.log.at slot c.args.t fault old new)
+    c.self.view_is
+    (λ there none.
+    made_lowest size w memory held old held.number there ready c.args.frames c.as_slice.result.now (sym frames ∙ ready.frames) c.as_slice.ensures.puddles c.args.t none fault new slot
+    (λ placed running left. c.new-made.ensures.makes t _ _ _ _ _ placed running left slot))
+    there none of lowest

@@ -1,4 +1,4 @@
-use Rattle.std.proofs.Common.{List, Option, refl, sym, ap, subst, ◌∙◌}
+use Rattle.std.proofs.Common.{List, Option, refl, sym, ap, subst, ◌∙◌, arith}
 use Rattle.std.proofs.lemmas.Result.{err_from_is_err_and}
 use Rattle.pm_model.specs.Counts.{Counts}
 use Rattle.pud_defs.specs.declared.machine.Command.TheVariants.{Commit}
@@ -8,6 +8,7 @@ use Rattle.ready_daemon.specs.Memory.{Held}
 use Rattle.ready_daemon.specs.Holding.{IsOwnOn}
 use Rattle.ready_daemon.specs.Owning.{refusal_found}
 use Rattle.puddled.proofs.Commanding.{ready_read, CarriesOut-refused, CarriesOut-unread, CarriesOut-stopped, CarriesOut-done, commit_is_plain}
+use Rattle.puddled.proofs.Depth.{depth_by_world}
 use Rattle.puddled.proofs.daemon.Daemon.commit.Goals as goal
 
 pub returns-in_err-refusal-clause-carries : goal.returns-in_err-refusal-clause-carries
@@ -49,3 +50,23 @@ returns-clause-carries g c = λ t size e w ready.
     CarriesOut-done size w c.commit_own.new.self _ _ _ _ _ _ (Commit c.args.client c.args.name) (commit_is_plain c.args.client c.args.name) free (k.stays t) k.cause (n.rest t) replies.Ok
     (sym (answer_is_ok w (Commit c.args.client c.args.name) refl refl free))
     (n.applies t size (e ∙ sym (ap (λ (m : Counts). m.size) k.cause)) w c.args.name known own) n.cause
+
+-- ---- begun more often than once
+
+pub returns-in_err-commit_own-clause-nested : goal.returns-in_err-commit_own-clause-nested
+returns-in_err-commit_own-clause-nested g c = λ t size w ready running is deep.
+    let k = c.in_ok-refusal.ensures in
+    let known = ready_read size w c.args.self.now c.find_own.new.self _ _ ready (k.stays t) k.frames k.held k.sessions (k.judged t) (k.apart t size w ready) in
+    let found = rw c.in-Ok.is at (k.own t size w ready) in
+    let own = subst (λ (held : List (Option Held)). IsOwnOn c.args.client c.args.name c.in-Ok.own.slot c.in-Ok.own.number held) (sym k.held) found in
+    let depth = depth_by_world size w c.find_own.new.self _ c.args.client c.args.name c.in-Ok.own.slot c.in-Ok.own.number known own running is in
+    ap (λ h. g.H.Host.state h) (c.in_err-commit_own.ensures.nested (omega (arith, depth, deep))) ∙ k.stays t
+
+pub returns-clause-nested : goal.returns-clause-nested
+returns-clause-nested g c = λ t size w ready running is deep.
+    let k = c.in_ok-refusal.ensures in
+    let known = ready_read size w c.args.self.now c.find_own.new.self _ _ ready (k.stays t) k.frames k.held k.sessions (k.judged t) (k.apart t size w ready) in
+    let found = rw c.in-Ok.is at (k.own t size w ready) in
+    let own = subst (λ (held : List (Option Held)). IsOwnOn c.args.client c.args.name c.in-Ok.own.slot c.in-Ok.own.number held) (sym k.held) found in
+    let depth = depth_by_world size w c.find_own.new.self _ c.args.client c.args.name c.in-Ok.own.slot c.in-Ok.own.number known own running is in
+    ap (λ h. g.H.Host.state h) (c.in_ok-commit_own.ensures.nested (omega (arith, depth, deep))) ∙ k.stays t

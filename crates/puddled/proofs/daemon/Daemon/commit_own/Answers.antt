@@ -46,3 +46,12 @@ returns-in-Some-clause-applies g c = λ t size e w name ready own.
 
 pub returns-in-Some-clause-rest : goal.returns-in-Some-clause-rest
 returns-in-Some-clause-rest g c = λ t. KeepsRest-changes _ _ _ _ (c.commit.ensures.any t)
+
+-- ---- begun more often than once
+
+pub returns-in-Some-clause-nested : goal.returns-in-Some-clause-nested
+returns-in-Some-clause-nested g c = λ deep.
+    let depth = ap (λ (m : Memory). depth_in m.sessions c.args.own.slot) c.self.view_is in
+    let is = c.depth.ensures.depth in
+    let last = c.if-depth-gt1.false in
+    absurd (omega (arith, depth, is, last, deep))
