@@ -1,5 +1,5 @@
 -- A run: the turns of the machine over the lines of a script.
-use Rattle.std.specs.Prelude.{◌≡◌, ◌⊎◌, ℕ, Bool, true, false, cond, not, ◌==◌, List, [], ◌∷◌, length, map, take, filter, count_by, ⊤}
+use Rattle.std.specs.Prelude.{◌≡◌, ◌⊎◌, ℕ, Bool, true, false, cond, not, ◌==◌, List, [], ◌∷◌, length, take, filter, count_by, ⊤}
 use Rattle.std.specs.List.{after_last}
 use Rattle.pud_defs.specs.declared.machine.Reply.TheVariants as replies
 use Rattle.pud_defs.specs.World.{World, restart}
@@ -47,18 +47,6 @@ IsRun w (t ∷ turns) = IsTurn w t × IsRun t.next turns
 abbrev pub last_world : World → List Turn → World
 last_world w [] = w
 last_world w (t ∷ turns) = last_world t.next turns
-
--- the world after k of the turns
-abbrev pub world_after : World → List Turn → ℕ → World
-world_after w turns k = last_world w (take k turns)
-
--- there is a run over these lines with these answers, which ends in this world
-pub record Run (w : World) (lines : List (List ℕ)) (answers : List Answer) (end : World) : Type 0 where
-  pub turns : List Turn
-  pub is_run : IsRun w turns
-  pub has_lines : map (λ t. t.line) turns ≡ lines
-  pub has_answers : map (λ t. t.answer) turns ≡ answers
-  pub ends : last_world w turns ≡ end
 
 -- how many newlines there are among the bytes
 abbrev pub newlines : List ℕ → ℕ

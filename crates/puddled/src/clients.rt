@@ -36,7 +36,7 @@ fn admit<H: Host>(h: &mut H, frames: u32, client: u32, uid: u32, gid: u32) -> Re
 
 /// Lets the client come as this owner and this group, or refuses to. Its logs are closed durably before they are registered.
 /// A refused one changes nothing. The device has so many frames.
-pub fn come<H: Host>(
+pub(crate) fn come<H: Host>(
     h: &mut H,
     frames: u32,
     client: u32,

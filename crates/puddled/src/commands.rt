@@ -29,7 +29,7 @@ impl Daemon {
     ///
     /// The only errors are the host's own: `Failed` where a call of it failed, `Cut` where power was lost. At either the device stands for what it
     /// stood for before the call or for what the line gives, and the daemon is to be stopped, and to start anew.
-    pub fn begin<H: Host>(&mut self, h: &mut H, client: u8, name: Name) -> Result<Reply, HostFault>
+    pub(crate) fn begin<H: Host>(&mut self, h: &mut H, client: u8, name: Name) -> Result<Reply, HostFault>
         requires known { client < CLIENTS }
         requires room { device_words (self.old).frames ≤ (H.counts h.old).size }
         ensures carries { H.tells → (size : ℕ) → size ≡ (H.counts h.old).size → (w : World) → IsReady size w self.old (H.state h.old)
@@ -59,7 +59,7 @@ impl Daemon {
     ///
     /// The only errors are the host's own: `Failed` where a call of it failed, `Cut` where power was lost. At either the device stands for what it
     /// stood for before the call or for what the line gives, and the daemon is to be stopped, and to start anew.
-    pub fn commit<H: Host>(&mut self, h: &mut H, client: u8, name: Name) -> Result<Reply, HostFault>
+    pub(crate) fn commit<H: Host>(&mut self, h: &mut H, client: u8, name: Name) -> Result<Reply, HostFault>
         requires known { client < CLIENTS }
         requires room { device_words (self.old).frames ≤ (H.counts h.old).size }
         ensures carries { H.tells → (size : ℕ) → size ≡ (H.counts h.old).size → (w : World) → IsReady size w self.old (H.state h.old)
@@ -86,7 +86,7 @@ impl Daemon {
     ///
     /// The only errors are the host's own: `Failed` where a call of it failed, `Cut` where power was lost. At either the device stands for what it
     /// stood for before the call or for what the line gives, and the daemon is to be stopped, and to start anew.
-    pub fn abort<H: Host>(&mut self, h: &mut H, client: u8, name: Name) -> Result<Reply, HostFault>
+    pub(crate) fn abort<H: Host>(&mut self, h: &mut H, client: u8, name: Name) -> Result<Reply, HostFault>
         requires known { client < CLIENTS }
         requires room { device_words (self.old).frames ≤ (H.counts h.old).size }
         ensures carries { H.tells → (size : ℕ) → size ≡ (H.counts h.old).size → (w : World) → IsReady size w self.old (H.state h.old)
@@ -113,7 +113,7 @@ impl Daemon {
     ///
     /// The only errors are the host's own: `Failed` where a call of it failed, `Cut` where power was lost. At either the device stands for what it
     /// stood for before the call or for what the line gives, and the daemon is to be stopped, and to start anew.
-    pub fn new_object<H: Host>(
+    pub(crate) fn new_object<H: Host>(
         &mut self,
         h: &mut H,
         client: u8,
@@ -178,7 +178,7 @@ impl Daemon {
     ///
     /// The only errors are the host's own: `Failed` where a call of it failed, `Cut` where power was lost. At either the device stands for what it
     /// stood for before the call or for what the line gives, and the daemon is to be stopped, and to start anew.
-    pub fn set<H: Host>(
+    pub(crate) fn set<H: Host>(
         &mut self,
         h: &mut H,
         client: u8,
@@ -209,7 +209,7 @@ impl Daemon {
     ///
     /// The only errors are the host's own: `Failed` where a call of it failed, `Cut` where power was lost. At either the device stands for what it
     /// stood for before the call or for what the line gives, and the daemon is to be stopped, and to start anew.
-    pub fn later<H: Host>(
+    pub(crate) fn later<H: Host>(
         &mut self,
         h: &mut H,
         client: u8,
@@ -239,7 +239,7 @@ impl Daemon {
     ///
     /// The only errors are the host's own: `Failed` where a call of it failed, `Cut` where power was lost. At either the device stands for what it
     /// stood for before the call or for what the line gives, and the daemon is to be stopped, and to start anew.
-    pub fn root<H: Host>(
+    pub(crate) fn root<H: Host>(
         &mut self,
         h: &mut H,
         client: u8,
@@ -267,7 +267,7 @@ impl Daemon {
     ///
     /// The only errors are the host's own: `Failed` where a call of it failed, `Cut` where power was lost. At either the device stands for what it
     /// stood for before the call or for what the line gives, and the daemon is to be stopped, and to start anew.
-    pub fn free<H: Host>(
+    pub(crate) fn free<H: Host>(
         &mut self,
         h: &mut H,
         client: u8,

@@ -40,7 +40,7 @@ fn reply_of(done: Result<(), MakeFault>) -> Result<Reply, HostFault>
 
 /// Makes the pool of this name with this mode for the client, or refuses to. A refused one changes nothing. The device has so many
 /// frames.
-pub fn make<H: Host>(
+pub(crate) fn make<H: Host>(
     h: &mut H,
     frames: u32,
     client: u32,
@@ -110,7 +110,7 @@ fn find_owned<H: Host>(
 }
 
 /// Gives the client's pool of this name the mode, or refuses to. A refused one changes nothing.
-pub fn change<H: Host>(
+pub(crate) fn change<H: Host>(
     h: &mut H,
     sessions: &Sessions,
     client: u8,

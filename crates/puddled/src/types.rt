@@ -29,7 +29,7 @@ fn reply_of(done: Result<(), TypeFault>) -> Result<Reply, HostFault>
 }
 
 /// Defines a type, or refuses to. A refused one changes nothing.
-pub fn define_type<H: Host>(h: &mut H, id: u32, map: u64) -> Result<Reply, HostFault>
+pub(crate) fn define_type<H: Host>(h: &mut H, id: u32, map: u64) -> Result<Reply, HostFault>
     requires { POOL_TABLE ≤ (H.counts h.old).size }
     ensures reply { H.tells → (size : ℕ) → size ≡ (H.counts h.old).size → (w : World) → (memory : Memory) → IsReady size w memory (H.state h.old)
         → IfOk result (λ reply. of_reply reply ≡ answer_by w (Option.Some (Define id map))) }
