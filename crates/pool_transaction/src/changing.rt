@@ -106,7 +106,7 @@ fn refusal_to_make(map: Option<u64>, units: u32, next: u64) -> Option<Refusal>
     ensures fits { IfNone result (units + NEW_UNITS ≤ LOG_ENTRY_WORDS) }
 {
     if map.is_none() {
-        Some(Refusal::Type)
+        Some(Refusal::NoType)
     } else if units + NEW_UNITS > LOG_ENTRY_WORDS {
         Some(Refusal::TooBig)
     } else if next >= NUMBER_LIMIT {
