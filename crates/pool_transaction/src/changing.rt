@@ -4,7 +4,7 @@ ghost use Rattle.pm_model.specs.Words.{IsRested, reads};
 ghost use Rattle.pm_model.specs.Counts.{after_fault, fault_of};
 ghost use Rattle.pm_model.specs.Changes.{Changes};
 ghost use Rattle.pud_defs.specs.declared.layout.TheConstants.{LOG_WORDS, LOG_ENTRY_WORDS, MAX_FRAMES, NEXT_NUMBER_WORD, SET_UNITS, NEW_UNITS};
-ghost use Rattle.pud_defs.specs.declared.records.TheConstants.{POOL_RECORDS, MAX_PUDDLES};
+ghost use Rattle.pud_defs.specs.declared.records.TheConstants.{MAX_PUDDLES};
 ghost use Rattle.pud_defs.specs.declared.machine.Command.TheVariants as commands;
 ghost use Rattle.pud_defs.specs.Image.{Image};
 ghost use Rattle.pud_defs.specs.Keyed.{first_free};
@@ -13,7 +13,7 @@ ghost use Rattle.pud_defs.specs.Types.{map_of, types_of};
 ghost use Rattle.pud_defs.specs.Stored.{IsOnDevice, stored_in};
 ghost use Rattle.pud_defs.specs.Graph.{Graph, next_serial_of};
 ghost use Rattle.pud_defs.specs.PoolChanges.{pool_named};
-ghost use Rattle.pud_defs.specs.Tables.{tables_of, puddles_in_turn};
+ghost use Rattle.pud_defs.specs.Tables.{tables_of};
 ghost use Rattle.pud_defs.specs.Step.{refusal_of, after, graph_seen, next_in, grows, answer_by, world_by};
 ghost use Rattle.pud_defs.specs.Step.Answer.{of_reply};
 ghost use Rattle.pud_defs.specs.World.{Transaction, World};
@@ -34,7 +34,7 @@ use pud_defs::machine::{Refusal, Reply};
 use pud_defs::objects::Val;
 use pud_defs::records::{MAX_PUDDLES, Puddle};
 use puddle_header::next_serial;
-use puddle_table::{PuddleFault, Puddles, find_places, free_frame};
+use puddle_table::{PuddleFault, find_puddles, free_frame};
 use registry::grow_pool;
 use type_maps::find;
 
@@ -83,20 +83,6 @@ fn has_free_frame<H: Host>(h: &mut H, frames: u32) -> Result<bool, HostFault>
         Err(PuddleFault::NoSpace) => Ok(false),
         Err(PuddleFault::Host(fault)) => Err(fault),
     }
-}
-
-/// The puddles of the pool in this slot by their ordinals, each with its frame.
-fn find_puddles<H: Host>(h: &mut H, frames: u32, slot: u32) -> Result<Puddles, HostFault>
-    requires known { slot < POOL_RECORDS }
-    requires few { frames ≤ MAX_FRAMES }
-    requires room { device_words frames ≤ (H.counts h.old).size }
-    ensures found { H.tells → (image : Image) → reads (H.state h.old).now.words ≡ image → IfOk result (λ puddles. puddles ≡ puddles_in_turn (tables_of frames image) slot) }
-    ensures within { IfOk result (IsOnDevice frames) }
-    ensures stays { H.tells → H.state h.new ≡ H.state h.old }
-    ensures cause { H.counts h.new ≡ after_fault (fault_of result) (H.counts h.old) }
-    ensures never_cut { fault_of result ≢ Option.Some HostFault.Cut }
-{
-    find_places(h, frames)?.of_pool(h, slot)
 }
 
 /// Why no object is made, whatever slots there are: by the map of its type, the units that were used, and the next serial.
