@@ -35,6 +35,7 @@ use Rattle.pud_defs.proofs.PutsMade.{with_put-outside, with_put-inside, puddle_p
 use Rattle.pud_defs.proofs.PoolsCounted.{few_members, length_puddles}
 use Rattle.graph_laws.specs.Reads.{with_puddle, IsGrown}
 use Rattle.graph_laws.proofs.Grown.{slice_get-front, slice_get-push, graph_of-grown}
+use Rattle.graph_laws.proofs.StaysWild.{graph_of-wild}
 use Rattle.registry.specs.declared.growing.Growth.{Growth}
 use Rattle.registry.specs.Puts.{AreOfPools, number_put, with_puts}
 use Rattle.registry.specs.Growth.{grown_puddle, growing, IsGrowthFor, HoldsGraph, HoldsNoGraph, added_puddle, kept_longer, with_kept_longer, with_wild_grown}
@@ -57,11 +58,11 @@ abbrev kept_of : Stored → Holding → Stored
 kept_of st (Sound g) = st
 kept_of st (Wild kept) = kept
 
-wild_stored : (types : List (ℕ × ℕ)) (st kept : Stored) → held_by types st ≡ Wild kept → st ≡ kept
+wild_stored : (types : List (ℕ × ℕ)) (st kept : Stored) → held_by types st ≡ Wild kept → (graph_of types st ≡ None) × (st ≡ kept)
 wild_stored types st kept holds = by_graph (graph_of types st) holds
   where
-    by_graph : (o : Option Graph) → held_as st o ≡ Wild kept → st ≡ kept
-    by_graph None e = ap (kept_of st) e
+    by_graph : (o : Option Graph) → held_as st o ≡ Wild kept → (o ≡ None) × (st ≡ kept)
+    by_graph None e = (refl, ap (kept_of st) e)
     by_graph (Some k) e = absurd (let no : Sound k ≡ Wild kept = e in cc)
 
 fresh_past : (number ordinal k : ℕ) → FRAME_WORDS ≤ k → slice_index (fresh_frame number ordinal) k ≡ 0
@@ -121,11 +122,15 @@ module _ (types : List (ℕ × ℕ)) (F : ℕ) (i : Image) (at : List (ℕ × Pu
     ]
   ]
 
-  stored_kept : stored_in F longer i ≡ kept_longer d st
-  stored_kept = stored_longer ∙ (λ p. record { puddles = st.puddles ++ d ∷ []; word = λ o k. word_kept o k p })
+  stored_kept : with_puddle d word st ≡ kept_longer d st
+  stored_kept = λ p. record { puddles = st.puddles ++ d ∷ []; word = λ o k. word_kept o k p }
 
-  pub still_wild : (kept : Stored) → holding_in types F i at ≡ Wild kept → holding_in types F i longer ≡ held_by types (kept_longer d kept)
-  still_wild kept holds = ap (held_by types) (stored_kept ∙ ap (kept_longer d) (wild_stored types st kept holds))
+  pub still_wild : (kept : Stored) → holding_in types F i at ≡ Wild kept → holding_in types F i longer ≡ Wild (kept_longer d kept)
+  still_wild kept holds =
+      let was = wild_stored types st kept holds in
+      ap (held_by types) stored_longer
+      ∙ ap (held_as (with_puddle d word st)) (graph_of-wild types st d word grown was.0)
+      ∙ ap (λ (x : Stored). Wild x) (stored_kept ∙ ap (kept_longer d) was.1)
 
   pub still_holds : (g : Graph) → holding_in types F i at ≡ Sound g → holding_in types F i longer ≡ Sound g
   still_holds g holds = ap (held_by types) stored_longer ∙ ap (held_as (with_puddle d word st)) (graph_of-grown types st d word grown g (held_graph types st g holds))
@@ -160,7 +165,7 @@ pub grown_world : (s : StoredWorld) (name : List ℕ) → pools_next s (s.next_n
 unfolding with_grown_pool
 grown_world s name = refl
 
-pub wild_world : (s : StoredWorld) (name : List ℕ) (d : Puddle) (kept : Stored) → pools_next s (s.next_number + 1) (changed_pool name (with_kept_longer s.types d kept) s.pools) ≡ with_wild_grown name d kept s
+pub wild_world : (s : StoredWorld) (name : List ℕ) (d : Puddle) (kept : Stored) → pools_next s (s.next_number + 1) (changed_pool name (with_kept_longer d kept) s.pools) ≡ with_wild_grown name d kept s
 unfolding with_wild_grown
 wild_world s name d kept = refl
 
@@ -273,11 +278,11 @@ module _ (s : StoredWorld) (image : Image) (slot : ℕ) (r : PoolRec) (p : Growt
       wild : hold (listed before) ≡ Wild kept
       wild = held_as_found holds.pool holds.there ∙ holds.holds
 
-      pool_wild : pool_of hold r after ≡ with_kept_longer s.types (added_puddle p) kept (pool_of hold r before)
+      pool_wild : pool_of hold r after ≡ with_kept_longer (added_puddle p) kept (pool_of hold r before)
       unfolding pool_of
       pool_wild =
           let count = length_push before (m.ordinal, (p.frame, m.puddle)) in
-          let then = held_then (held_by s.types (kept_longer m.puddle kept)) (still_wild s.types s.frames i (listed before) p.frame m.puddle some_listed fresh_here kept wild) in
+          let then = held_then (Wild (kept_longer m.puddle kept)) (still_wild s.types s.frames i (listed before) p.frame m.puddle some_listed fresh_here kept wild) in
           λ k. record { owner = owner r.uid r.gid; mode = r.mode; number = r.number; puddles = count k; holding = then k }
 
   MakesPools-by : (change : Pool → Pool)
@@ -303,5 +308,5 @@ module _ (s : StoredWorld) (image : Image) (slot : ℕ) (r : PoolRec) (p : Growt
   MakesPools-grown g holds = MakesPools-by with_puddle_more (λ i fresh pools. pool_grown i fresh pools g holds)
 
   pub MakesPools-wild : (kept : Stored) → HoldsNoGraph r.name s kept
-      → MakesPools s (s.next_number + 1) (changed_pool r.name (with_kept_longer s.types (added_puddle p) kept) s.pools) (growing slot p) (IsFreshFrame s.frames p.frame p.number p.ordinal) t
-  MakesPools-wild kept holds = MakesPools-by (with_kept_longer s.types (added_puddle p) kept) (λ i fresh pools. pool_wild i fresh pools kept holds)
+      → MakesPools s (s.next_number + 1) (changed_pool r.name (with_kept_longer (added_puddle p) kept) s.pools) (growing slot p) (IsFreshFrame s.frames p.frame p.number p.ordinal) t
+  MakesPools-wild kept holds = MakesPools-by (with_kept_longer (added_puddle p) kept) (λ i fresh pools. pool_wild i fresh pools kept holds)

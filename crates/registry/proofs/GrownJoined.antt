@@ -67,7 +67,7 @@ module _ (size : ℕ) (s : StoredWorld) (slot : ℕ) (r : PoolRec) (p : Growth) 
   -- of one that holds none
   pub ChangesPools-wild : (kept : Stored) → HoldsNoGraph r.name s kept → GrowsTo (with_wild_grown r.name (added_puddle p) kept s)
   ChangesPools-wild kept holds =
-      grown_on size s (with_wild_grown r.name (added_puddle p) kept s) (changed_pool r.name (with_kept_longer s.types (added_puddle p) kept) s.pools) slot r p es fault a b c (wild_world s r.name (added_puddle p) kept) settled is
+      grown_on size s (with_wild_grown r.name (added_puddle p) kept s) (changed_pool r.name (with_kept_longer (added_puddle p) kept) s.pools) slot r p es fault a b c (wild_world s r.name (added_puddle p) kept) settled is
       (λ world used place. MakesPools-wild s (reads a.now.words) slot r p world within used place kept holds)
 
 -- ---- behind the search for its place

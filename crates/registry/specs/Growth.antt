@@ -14,7 +14,6 @@ use Rattle.pud_defs.specs.Image.{Image}
 use Rattle.pud_defs.specs.Keyed.{first_free, count_used}
 use Rattle.pud_defs.specs.Frames.{fresh_frame, IsFreshFrame}
 use Rattle.pud_defs.specs.Graph.{Graph}
-use Rattle.pud_defs.specs.Holdings.{held_by}
 use Rattle.pud_defs.specs.Holdings.Holding.{Sound, Wild}
 use Rattle.pud_defs.specs.Places.{IsLowestBase}
 use Rattle.pud_defs.specs.Puts.{puddle_put}
@@ -111,13 +110,13 @@ added_puddle g = record { number = g.number; base = g.base; old_base = g.base; f
 abbrev pub kept_longer : Puddle → Stored → Stored
 kept_longer d kept = with_puddle d (λ o k. cond (o == length kept.puddles) (slice_index (fresh_frame d.number o) k) (kept.word o k)) kept
 
--- the pool with this puddle more, as these types read what it keeps then
-abbrev pub with_kept_longer : List (ℕ × ℕ) → Puddle → Stored → Pool → Pool
-with_kept_longer types d kept p = record p { puddles = p.puddles + 1; holding = held_by types (kept_longer d kept) }
+-- the pool with this puddle more, which holds no graph either
+abbrev pub with_kept_longer : Puddle → Stored → Pool → Pool
+with_kept_longer d kept p = record p { puddles = p.puddles + 1; holding = Wild (kept_longer d kept) }
 
 -- the world with this puddle more in the pool of this name, which kept that, and which took the next UUID number
 unfoldable pub with_wild_grown : List ℕ → Puddle → Stored → StoredWorld → StoredWorld
-with_wild_grown name d kept s = record s { next_number = s.next_number + 1; pools = changed_pool name (with_kept_longer s.types d kept) s.pools }
+with_wild_grown name d kept s = record s { next_number = s.next_number + 1; pools = changed_pool name (with_kept_longer d kept) s.pools }
 
 -- The pool of the name and of a slot, which keeps this and holds no graph, grows by some puddle that is the one for it.
 pub record GrowsWild (size : ℕ) (s : StoredWorld) (name : List ℕ) (kept : Stored) (t : Tables) (next slot : ℕ) (fault : Option HostFault) (old new : State) : Type 0 where

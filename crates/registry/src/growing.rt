@@ -159,8 +159,8 @@ fn grow_at<H: Host>(h: &mut H, frames: u32, slot: u32, growth: Growth) -> Result
 /// no UUID number is left below 2^63, or no frame is free. Else the frame is filled and durable before the batch names it. Where each
 /// image stands for a world, the tables are durable, and the slot's record is that of a pool, each image left meanwhile stands for
 /// that world, or for the one in which this pool has a puddle more, and then has the frame filled; at `Ok` each stands for the
-/// latter, and the daemon log is closed. A pool which holds a graph then holds the same one. One that holds none keeps what it kept,
-/// and behind it the record and the words of the new puddle. The only errors are the host's own.
+/// latter, and the daemon log is closed. A pool which holds a graph then holds the same one. One that holds none still holds none, and
+/// keeps what it kept, and behind it the record and the words of the new puddle. The only errors are the host's own.
 pub fn grow_pool<H: Host>(h: &mut H, frames: u32, slot: u32) -> Result<(), HostFault>
     requires few { frames ≤ MAX_FRAMES }
     requires room { device_words frames ≤ (H.counts h.old).size }
