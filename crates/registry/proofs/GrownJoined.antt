@@ -1,5 +1,5 @@
 -- What the calls owe that make a pool grow, from what their batch does.
-use Rattle.std.proofs.Common.{◌≡◌, inr, refl, ℕ, ◌+◌, ◌<◌, List, Option, Some, None, sym, ap, subst, ◌∙◌}
+use Rattle.std.proofs.Common.{◌≡◌, inl, inr, refl, ℕ, ◌+◌, ◌<◌, List, Option, Some, None, sym, ap, subst, ◌∙◌}
 use Rattle.pm_model.specs.declared.host.HostFault.{HostFault}
 use Rattle.pm_model.specs.Words.{reads}
 use Rattle.pm_model.specs.Moments.{State}
@@ -12,8 +12,6 @@ use Rattle.pud_defs.specs.declared.records.PoolRec.{PoolRec}
 use Rattle.pud_defs.specs.Image.{Image}
 use Rattle.pud_defs.specs.Entries.{Entry}
 use Rattle.pud_defs.specs.Frames.{IsFreshFrame}
-use Rattle.pud_defs.specs.Graph.{Graph}
-use Rattle.pud_defs.specs.Stored.{Stored}
 use Rattle.pud_defs.specs.Tables.{Tables, Pool, tables_of}
 use Rattle.pud_defs.proofs.TablesOf.{frames_of_tables}
 use Rattle.pud_defs.specs.PoolChanges.{changed_pool, with_puddle_more, with_grown_pool}
@@ -24,7 +22,7 @@ use Rattle.batch.specs.Tables.{HasDurableTables}
 use Rattle.registry.specs.declared.growing.Growth.{Growth}
 use Rattle.registry.specs.Puts.{puts_batch}
 use Rattle.registry.specs.Pools.{frame_write, PersistsThenCommits, OrStill, KeepsTables, IsPoolAt, ChangesPools}
-use Rattle.registry.specs.Growth.{puddle_count, IsGrowthFor, growing, GrowsSomewhere, HasFreshPuddle, IsOffGrowing, HoldsGraph, HoldsNoGraph, added_puddle, with_kept_longer, with_wild_grown}
+use Rattle.registry.specs.Growth.{puddle_count, IsGrowthFor, growing, GrowsSomewhere, HasFreshPuddle, IsOffGrowing, added_puddle, with_kept_longer, with_wild_grown, IsGrownBy}
 use Rattle.registry.proofs.Moved.{ReadsWorld, MakesPools, pools_next, reads_world}
 use Rattle.registry.proofs.Grown.{MakesPools-grown, MakesPools-wild, grown_world, wild_world}
 use Rattle.registry.proofs.Joined.{free_there, MovesThen, filled_then, ChangesPools-weaker}
@@ -58,17 +56,15 @@ module _ (size : ℕ) (s : StoredWorld) (slot : ℕ) (r : PoolRec) (p : Growth) 
       → Persists (frame_write F p.frame p.number p.ordinal) None a b → (IsSettled size s b.now.words → MovesBy size s next es b.now.words → Moves size s next es fault b c)
       → ChangesPools size s next (IsFreshFrame F p.frame p.number p.ordinal) fault a c
 
-  -- of a pool that holds a graph
-  pub ChangesPools-grown : (g : Graph) → HoldsGraph r.name s g → GrowsTo (with_grown_pool r.name s)
-  ChangesPools-grown g holds =
-      grown_on size s (with_grown_pool r.name s) (changed_pool r.name with_puddle_more s.pools) slot r p es fault a b c (grown_world s r.name) settled is
-      (λ world used place. MakesPools-grown s (reads a.now.words) slot r p world within used place g holds)
-
-  -- of one that holds none
-  pub ChangesPools-wild : (kept : Stored) → HoldsNoGraph r.name s kept → GrowsTo (with_wild_grown r.name (added_puddle p) kept s)
-  ChangesPools-wild kept holds =
-      grown_on size s (with_wild_grown r.name (added_puddle p) kept s) (changed_pool r.name (with_kept_longer (added_puddle p) kept) s.pools) slot r p es fault a b c (wild_world s r.name (added_puddle p) kept) settled is
-      (λ world used place. MakesPools-wild s (reads a.now.words) slot r p world within used place kept holds)
+  pub ChangesPools-grown : (next : StoredWorld) → IsGrownBy r.name s (added_puddle p) next → GrowsTo next
+  ChangesPools-grown next (inl (g, holds, same)) =
+      subst GrowsTo (sym same)
+      (grown_on size s (with_grown_pool r.name s) (changed_pool r.name with_puddle_more s.pools) slot r p es fault a b c (grown_world s r.name) settled is
+      (λ world used place. MakesPools-grown s (reads a.now.words) slot r p world within used place g holds))
+  ChangesPools-grown next (inr (kept, holds, same)) =
+      subst GrowsTo (sym same)
+      (grown_on size s (with_wild_grown r.name (added_puddle p) kept s) (changed_pool r.name (with_kept_longer (added_puddle p) kept) s.pools) slot r p es fault a b c (wild_world s r.name (added_puddle p) kept) settled is
+      (λ world used place. MakesPools-wild s (reads a.now.words) slot r p world within used place kept holds))
 
 -- ---- behind the search for its place
 

@@ -1,5 +1,5 @@
 -- A pool that grows by a puddle: where that one stands, what its batch writes, and what the world is then.
-use Rattle.std.specs.Prelude.{◌≡◌, ℕ, ◌+◌, ◌<◌, Bool, ◌&&◌, ◌==◌, nat_lt, cond, List, [], ◌∷◌, length, slice_index, Option, Some, is_some}
+use Rattle.std.specs.Prelude.{◌≡◌, ◌⊎◌, ℕ, ◌+◌, ◌<◌, Bool, ◌&&◌, ◌==◌, nat_lt, cond, List, [], ◌∷◌, length, slice_index, Option, Some, is_some}
 use Rattle.pm_model.specs.declared.host.HostFault.{HostFault}
 use Rattle.pm_model.specs.Moments.{State}
 use Rattle.pm_model.specs.Changes.{Write, written}
@@ -19,7 +19,7 @@ use Rattle.pud_defs.specs.Places.{IsLowestBase}
 use Rattle.pud_defs.specs.Puts.{puddle_put}
 use Rattle.pud_defs.specs.Stored.{Stored}
 use Rattle.pud_defs.specs.Tables.{Tables, Pool, members}
-use Rattle.pud_defs.specs.PoolChanges.{pool_named, changed_pool}
+use Rattle.pud_defs.specs.PoolChanges.{pool_named, changed_pool, with_grown_pool}
 use Rattle.pud_defs.specs.World.{StoredWorld}
 use Rattle.graph_laws.specs.Reads.{with_puddle}
 use Rattle.batch.specs.Batches.{ByBatch}
@@ -117,6 +117,12 @@ with_kept_longer d kept p = record p { puddles = p.puddles + 1; holding = Wild (
 -- the world with this puddle more in the pool of this name, which kept that, and which took the next UUID number
 unfoldable pub with_wild_grown : List ℕ → Puddle → Stored → StoredWorld → StoredWorld
 with_wild_grown name d kept s = record s { next_number = s.next_number + 1; pools = changed_pool name (with_kept_longer d kept) s.pools }
+
+-- With this puddle more in the pool of the name the world is the next: one that holds a graph holds the same, and one that holds none keeps the
+-- puddle too.
+abbrev pub IsGrownBy : List ℕ → StoredWorld → Puddle → StoredWorld → Type 0
+IsGrownBy name s d next =
+    ((g : Graph) × HoldsGraph name s g × (next ≡ with_grown_pool name s)) ⊎ ((kept : Stored) × HoldsNoGraph name s kept × (next ≡ with_wild_grown name d kept s))
 
 -- The pool of the name and of a slot, which keeps this and holds no graph, grows by some puddle that is the one for it.
 pub record GrowsWild (size : ℕ) (s : StoredWorld) (name : List ℕ) (kept : Stored) (t : Tables) (next slot : ℕ) (fault : Option HostFault) (old new : State) : Type 0 where

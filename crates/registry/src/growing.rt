@@ -21,7 +21,7 @@ ghost use Rattle.batch.specs.Batches.{HasIdleGate, ByBatch};
 ghost use Rattle.batch.specs.Worlds.{IsSettled};
 ghost use Rattle.registry.specs.Puts.{puts_batch};
 ghost use Rattle.registry.specs.Pools.{frame_write, PersistsThenCommits, OrStill, KeepsTables, IsPoolAt, ChangesPools};
-ghost use Rattle.registry.specs.Growth.{puddle_count, has_room, can_grow, IsGrowthFor, IsGrowthWithin, growing, GrowsSomewhere, HasFreshPuddle, IsOffGrowing, HoldsGraph, HoldsNoGraph, added_puddle, with_wild_grown, GrowsWild};
+ghost use Rattle.registry.specs.Growth.{puddle_count, has_room, can_grow, IsGrowthFor, IsGrowthWithin, growing, GrowsSomewhere, HasFreshPuddle, IsOffGrowing, HoldsGraph, HoldsNoGraph, added_puddle, IsGrownBy, GrowsWild};
 
 use crate::frames::fill_frame;
 use crate::puts::{add_put, number_put};
@@ -134,16 +134,9 @@ fn grow_at<H: Host>(h: &mut H, frames: u32, slot: u32, growth: Growth) -> Result
     ensures grows { H.tells → (size : ℕ) → size ≡ (H.counts h.old).size → (s : StoredWorld) → frames ≡ s.frames
         → (mask : Write) → IsOff mask (written (frame_write frames growth.frame growth.number growth.ordinal)) → IsOff mask (ByBatch DAEMON_LOG (puts_batch (growing slot growth)))
         → IsSettled size s (masked mask (H.state h.old).now.words)
-        → (r : PoolRec) → IsPoolAt frames slot r (masked mask (H.state h.old).now.words) → (g : Graph) → HoldsGraph r.name s g
+        → (r : PoolRec) → IsPoolAt frames slot r (masked mask (H.state h.old).now.words) → (next : StoredWorld) → IsGrownBy r.name s (added_puddle growth) next
         → IsGrowthFor (tables_of frames (reads (masked mask (H.state h.old).now.words))) s.next_number slot growth
-        → ChangesPools size s (with_grown_pool r.name s) (IsFreshFrame frames growth.frame growth.number growth.ordinal) (fault_of result)
-        (masked_state mask (H.state h.old)) (masked_state mask (H.state h.new)) }
-    ensures wild { H.tells → (size : ℕ) → size ≡ (H.counts h.old).size → (s : StoredWorld) → frames ≡ s.frames
-        → (mask : Write) → IsOff mask (written (frame_write frames growth.frame growth.number growth.ordinal)) → IsOff mask (ByBatch DAEMON_LOG (puts_batch (growing slot growth)))
-        → IsSettled size s (masked mask (H.state h.old).now.words)
-        → (r : PoolRec) → IsPoolAt frames slot r (masked mask (H.state h.old).now.words) → (kept : Stored) → HoldsNoGraph r.name s kept
-        → IsGrowthFor (tables_of frames (reads (masked mask (H.state h.old).now.words))) s.next_number slot growth
-        → ChangesPools size s (with_wild_grown r.name (added_puddle growth) kept s) (IsFreshFrame frames growth.frame growth.number growth.ordinal) (fault_of result)
+        → ChangesPools size s next (IsFreshFrame frames growth.frame growth.number growth.ordinal) (fault_of result)
         (masked_state mask (H.state h.old)) (masked_state mask (H.state h.new)) }
     ensures any { H.tells → Changes Anything (fault_of result) (H.state h.old) (H.state h.new) }
     ensures cause { H.counts h.new ≡ after_fault (fault_of result) (H.counts h.old) }

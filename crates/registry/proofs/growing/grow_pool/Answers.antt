@@ -1,4 +1,4 @@
-use Rattle.std.proofs.Common.{inl, inr, Option, Some, None, IfSome, sym, ap, subst, ◌∙◌}
+use Rattle.std.proofs.Common.{inl, inr, refl, Option, Some, None, IfSome, sym, ap, subst, ◌∙◌}
 use Rattle.std.proofs.lemmas.Result.{err_from_is_err_and}
 use Rattle.pm_model.specs.Counts.{Counts, fault_of}
 use Rattle.pm_model.specs.Masks.{masked_state}
@@ -38,7 +38,7 @@ returns-in-Some-clause-grows g c = λ t size same s frames image read mask keeps
     let place = subst (λ (o : Option Growth). IfSome o (IsGrowthFor (tables_of c.args.frames image) (image NEXT_NUMBER_WORD) c.args.slot)) c.in-Some.is (c.in_ok-growth.ensures.growth t image read) in
     ChangesPools-growth_masked size s _ c.args.frames image c.args.slot r c.in-Some.growth (fault_of c.grow_at.result) mask (g.H.Host.state c.args.h.now) (g.H.Host.state c.find_growth.new.h) (g.H.Host.state c.grow_at.new.h) read frames keeps off place
     settled at (c.in_ok-growth.ensures.stays t)
-    (λ off_frame off_records settled_then at_then place_then. c.grow_at.ensures.grows t size then s frames mask off_frame off_records settled_then r at_then graph holds place_then)
+    (λ off_frame off_records settled_then at_then place_then. c.grow_at.ensures.grows t size then s frames mask off_frame off_records settled_then r at_then _ (inl (graph, holds, refl)) place_then)
 
 pub returns-in-Some-clause-wild : goal.returns-in-Some-clause-wild
 returns-in-Some-clause-wild g c = λ t size same s frames image read mask keeps off settled r at kept holds can.
@@ -49,7 +49,7 @@ returns-in-Some-clause-wild g c = λ t size same s frames image read mask keeps 
       is = place;
       changes = ChangesPools-growth_masked size s _ c.args.frames image c.args.slot r c.in-Some.growth (fault_of c.grow_at.result) mask (g.H.Host.state c.args.h.now) (g.H.Host.state c.find_growth.new.h) (g.H.Host.state c.grow_at.new.h) read frames keeps off place
           settled at (c.in_ok-growth.ensures.stays t)
-          (λ off_frame off_records settled_then at_then place_then. c.grow_at.ensures.wild t size then s frames mask off_frame off_records settled_then r at_then kept holds place_then);
+          (λ off_frame off_records settled_then at_then place_then. c.grow_at.ensures.grows t size then s frames mask off_frame off_records settled_then r at_then _ (inr (kept, holds, refl)) place_then);
     })
 
 pub returns-in-None-clause-any : goal.returns-in-None-clause-any
