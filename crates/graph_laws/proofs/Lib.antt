@@ -9,6 +9,7 @@ pub mod Roots
 pub mod Same
 pub mod Unread
 pub mod Grown
+pub mod StaysWild
 pub mod Rewritten
 pub mod Places
 pub mod LiveSlots

@@ -124,6 +124,12 @@ pub fn fresh_puddle_behind_others_keeps_the_graph()
         → graph_of types (with_puddle d word st) ≡ Option.Some g }
 {}
 
+/// Where there was no graph it makes none: no pointer leads to a live slot of it.
+pub fn fresh_puddle_behind_others_makes_no_graph()
+    ensures { (types : List (ℕ × ℕ)) (st : Stored) (d : Puddle) (word : ℕ → ℕ → ℕ) → graph_of types st ≡ Option.None → IsGrown st d word
+        → graph_of types (with_puddle d word st) ≡ Option.None }
+{}
+
 /// A slot whose pointers are rewritten as the frontier passes it holds the same object.
 pub fn rewritten_slot_keeps_the_graph()
     ensures { (types : List (ℕ × ℕ)) (st : Stored) (g : Graph) (word : ℕ → ℕ → ℕ) (p : ℕ) (home : Puddle) → graph_of types st ≡ Option.Some g → AreBases (map (λ d. d.base) st.puddles)

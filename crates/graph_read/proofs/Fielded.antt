@@ -20,8 +20,9 @@ use Rattle.pud_defs.specs.Graph.{Content, target, at_place, pointee_at, content,
 use Rattle.pud_defs.specs.Graph.Content.{Number, Null, At, Nowhere}
 use Rattle.graph_read.specs.declared.fields.FieldRead.{FieldRead}
 use Rattle.graph_read.specs.declared.fields.FieldRead.TheVariants.{NoField, Value}
-use Rattle.graph_read.specs.Reading.{table_in, place_at, pointee_of, read_value, read_by}
-use Rattle.graph_read.proofs.Placed.{place_ordinal, place_slot}
+use Rattle.puddle_header.specs.Places.{place_at}
+use Rattle.graph_read.specs.Reading.{table_in, pointee_of, read_value, read_by}
+use Rattle.puddle_header.proofs.Placed.{place_ordinal, place_slot}
 
 -- ---- values
 

@@ -6,7 +6,8 @@ use Rattle.std.proofs.lemmas.Bool.Decides.{nat_tests}
 use Rattle.std.proofs.lemmas.Option.{slice_get-map, slice_get-get_or}
 use Rattle.std.proofs.lemmas.List.{length-map}
 use Rattle.pud_defs.proofs.DistinctKeys.{some_or, none_by_some, some_under}
-use Rattle.graph_read.proofs.Placed.{stored_word}
+use Rattle.puddle_header.proofs.Fits.{is_header-words}
+use Rattle.puddle_header.proofs.Placed.{stored_word}
 use Rattle.pud_defs.specs.declared.layout.TheConstants.{FRAME_WORDS}
 use Rattle.pud_defs.specs.declared.space.TheConstants.{FRAME_MAGIC_WORD, FRAME_NUMBER_WORD, FRAME_ORDINAL_WORD, ROOT_WORD, FRAME_SLOTS}
 use Rattle.pud_defs.specs.declared.records.Puddle.{Puddle}
@@ -27,9 +28,6 @@ use Rattle.graph_read.specs.Asking.{content_of, serials_in, with_serials, conten
 -- the frame and the record of an ordinal
 abbrev pub entry : List (ℕ × Puddle) → ℕ → ℕ × Puddle
 entry at o = get_or at o no_puddle
-
-pub is_header-words : (given place m n o m' n' o' : ℕ) → m ≡ m' → n ≡ n' → o ≡ o' → is_header given place m n o ≡ is_header given place m' n' o'
-is_header-words given place m n o m' n' o' a b c = rw (a, b, c) refl
 
 -- the frame of an ordinal has the header of its puddle
 abbrev pub header_at : Stored → ℕ → Bool

@@ -4,6 +4,5 @@ pub mod Found
 pub mod Held
 pub mod Judging
 pub mod Passing
-pub mod Placed
 pub mod Pointed
 pub mod SerialsRead

@@ -13,7 +13,7 @@ use Rattle.pud_defs.specs.declared.objects.Pointee.TheVariants as pointees
 use Rattle.pud_defs.specs.Graph.{Content, slot_in, place_in, at_place, target, bases_by, pointee_at}
 use Rattle.pud_defs.specs.Graph.Content.{Null, At, Nowhere}
 use Rattle.graph_read.specs.Reading.{pointee_of}
-use Rattle.graph_read.proofs.Placed.{place_ordinal, place_slot}
+use Rattle.puddle_header.proofs.Placed.{place_ordinal, place_slot}
 
 -- what an ordinal beyond the last one reads
 abbrev pub no_puddle : ℕ × Puddle

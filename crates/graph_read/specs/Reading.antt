@@ -1,8 +1,7 @@
 -- What is read of a pool: slots, pointers and fields, as its table and its graph have them.
-use Rattle.std.specs.Prelude.{◌≡◌, ℕ, ◌+◌, ◌*◌, ◌/◌, ◌%◌, ◌<◌, List, length, slice_get, Option, Some, None, option_map}
+use Rattle.std.specs.Prelude.{ℕ, ◌/◌, ◌%◌, ◌<◌, List, slice_get, Option, Some, None, option_map}
 use Rattle.pud_defs.specs.declared.space.TheConstants.{FRAME_SLOTS}
 use Rattle.pud_defs.specs.declared.records.Puddle.{Puddle}
-use Rattle.pud_defs.specs.declared.records.Slot.{Slot}
 use Rattle.pud_defs.specs.declared.objects.Val.{Val}
 use Rattle.pud_defs.specs.declared.objects.Pointee.{Pointee}
 use Rattle.pud_defs.specs.declared.objects.Pointee.TheVariants as pointees
@@ -11,12 +10,9 @@ use Rattle.pud_defs.specs.Types.{types_of}
 use Rattle.pud_defs.specs.Stored.{stored_in}
 use Rattle.pud_defs.specs.Graph.{Table, table_of, place_of, Content, Object, object_at}
 use Rattle.pud_defs.specs.Graph.Content.{Number, Null, At, Nowhere}
+use Rattle.puddle_header.specs.Places.{places_in}
 use Rattle.graph_read.specs.declared.fields.FieldRead.{FieldRead}
 use Rattle.graph_read.specs.declared.fields.FieldRead.TheVariants.{NoObject, NoField, Value}
-
--- how many places the puddles have
-abbrev pub places_in : List (ℕ × Puddle) → ℕ
-places_in at = FRAME_SLOTS * length at
 
 -- the slots of an image's puddles as a table, by the types that are defined
 abbrev pub table_in : (F : ℕ) → List (ℕ × Puddle) → Image → Table
@@ -25,16 +21,6 @@ table_in F at image = table_of (types_of image) (stored_in F at image)
 -- the lowest place whose slot has this serial
 abbrev pub place_in_pool : (F : ℕ) → List (ℕ × Puddle) → Image → ℕ → Option ℕ
 place_in_pool F at image s = place_of s (table_in F at image) (places_in at)
-
--- the place of a slot
-abbrev pub place_at : Slot → ℕ
-place_at s = FRAME_SLOTS * s.ordinal + s.slot
-
--- a slot of one of these puddles, in its frame
-pub record IsSlotOf (at : List (ℕ × Puddle)) (s : Slot) : Type 0 where
-  pub puddle : Puddle
-  pub there : slice_get at s.ordinal ≡ Some (s.frame, puddle)
-  pub below : s.slot < FRAME_SLOTS
 
 -- ---- pointers
 

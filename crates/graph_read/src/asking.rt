@@ -9,9 +9,9 @@ ghost use Rattle.pud_defs.specs.Layout.{device_words};
 ghost use Rattle.pud_defs.specs.Spaces.{all_below};
 ghost use Rattle.pud_defs.specs.Stored.{IsOnDevice, stored_in, place_word};
 ghost use Rattle.graph_read.specs.Asking.{content_of, passes, serial_passes, unknown_passes, contents_pass, place_passes, with_serials};
-ghost use Rattle.graph_read.specs.Reading.{places_in, table_in};
+ghost use Rattle.puddle_header.specs.Places.{places_in};
+ghost use Rattle.graph_read.specs.Reading.{table_in};
 
-use crate::places::slot_at_place;
 use crate::pointers::read_pointer;
 use crate::serials::{Serials, named};
 use pm_model::{Host, HostFault};
@@ -20,7 +20,7 @@ use pud_defs::objects::Pointee;
 use pud_defs::records::{MAX_PUDDLES, Puddle};
 use pud_defs::space::{FRAME_SLOTS, SLOT_FIELDS_WORD, SLOT_TYPE_WORD};
 use pud_defs::type_map::{map_fields, map_is_pointer};
-use puddle_header::{slot_field, slot_type};
+use puddle_header::{slot_at_place, slot_field, slot_type};
 use type_maps::find;
 
 /// What is asked of a slot that is not free.

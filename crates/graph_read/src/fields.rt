@@ -8,7 +8,8 @@ ghost use Rattle.pud_defs.specs.Layout.{device_words};
 ghost use Rattle.pud_defs.specs.Types.{types_of};
 ghost use Rattle.pud_defs.specs.Stored.{IsOnDevice, stored_in, place_word};
 ghost use Rattle.pud_defs.specs.Graph.{Graph, pointee_at, content, named_by, value_of, object_at, graph_of, object_in};
-ghost use Rattle.graph_read.specs.Reading.{table_in, place_at, IsSlotOf, read_by, field_in};
+ghost use Rattle.puddle_header.specs.Places.{place_at, IsSlotOf};
+ghost use Rattle.graph_read.specs.Reading.{table_in, read_by, field_in};
 
 use crate::places::find_serial;
 use crate::pointers::read_pointer;

@@ -5,15 +5,13 @@ ghost use Rattle.std.specs.List.{list_any};
 ghost use Rattle.std.specs.Ordering.{nat_cmp};
 ghost use Rattle.pm_model.specs.Words.{reads};
 ghost use Rattle.pm_model.specs.Counts.{after_fault, fault_of};
-ghost use Rattle.pud_defs.specs.Frames.{frame_word};
 ghost use Rattle.pud_defs.specs.Graph.{graph_of, headers_fit, is_next_serial, under_serial};
-ghost use Rattle.pud_defs.specs.Headers.{is_header};
 ghost use Rattle.pud_defs.specs.Image.{Image};
 ghost use Rattle.pud_defs.specs.Keyed.{are_distinct, count_used, is_apart};
 ghost use Rattle.pud_defs.specs.Layout.{device_words};
 ghost use Rattle.pud_defs.specs.Stored.{IsOnDevice, stored_in};
 ghost use Rattle.pud_defs.specs.Types.{types_of};
-ghost use Rattle.graph_read.specs.Reading.{places_in};
+ghost use Rattle.puddle_header.specs.Places.{places_in};
 
 use crate::asking::{Asked, places_pass};
 use crate::pointers::read_pointer;
@@ -21,40 +19,8 @@ use crate::serials::{PLACES, Serials, read_serials};
 use pm_model::{Host, HostFault};
 use pud_defs::layout::{MAX_FRAMES, NUMBER_LIMIT};
 use pud_defs::records::Puddle;
-use pud_defs::space::{
-    FRAME_MAGIC, FRAME_MAGIC_WORD, FRAME_NUMBER_WORD, FRAME_ORDINAL_WORD, FRAME_SLOTS,
-};
-use puddle_header::{frame_magic, frame_number, frame_ordinal, next_serial, root_value};
-
-/// Whether a header of these words is that of the puddle with this UUID number and ordinal.
-fn is_header(given: u64, place: u32, magic: u64, number: u64, ordinal: u64) -> bool
-    ensures { result ≡ is_header given place magic number ordinal }
-{
-    magic == FRAME_MAGIC && number == given && ordinal == u64::from(place)
-}
-
-/// Whether the frame has the header of the puddle with this UUID number and ordinal.
-fn header_fits<H: Host>(
-    h: &mut H,
-    frames: u32,
-    frame: u32,
-    given: u64,
-    place: u32,
-) -> Result<bool, HostFault>
-    requires few { frames ≤ MAX_FRAMES }
-    requires room { device_words frames ≤ (H.counts h.old).size }
-    requires known { frame < frames }
-    ensures fits { H.tells → (image : Image) → reads (H.state h.old).now.words ≡ image
-        → IfOk result (λ fits. fits ≡ is_header given place (frame_word frames frame FRAME_MAGIC_WORD image) (frame_word frames frame FRAME_NUMBER_WORD image) (frame_word frames frame FRAME_ORDINAL_WORD image)) }
-    ensures stays { H.tells → H.state h.new ≡ H.state h.old }
-    ensures cause { H.counts h.new ≡ after_fault (fault_of result) (H.counts h.old) }
-    ensures never_cut { fault_of result ≢ Option.Some HostFault.Cut }
-{
-    let magic = frame_magic(h, frames, frame)?;
-    let number = frame_number(h, frames, frame)?;
-    let ordinal = frame_ordinal(h, frames, frame)?;
-    Ok(is_header(given, place, magic, number, ordinal))
-}
+use pud_defs::space::FRAME_SLOTS;
+use puddle_header::{has_header, next_serial, root_value};
 
 /// Whether each frame of a pool has the header of its puddle.
 fn headers_fit<H: Host>(h: &mut H, frames: u32, pool: &[(u32, Puddle)]) -> Result<bool, HostFault>
@@ -68,7 +34,7 @@ fn headers_fit<H: Host>(h: &mut H, frames: u32, pool: &[(u32, Puddle)]) -> Resul
 {
     for ordinal in 0..pool.len() as u32 {
         let (frame, puddle) = pool[ordinal as usize];
-        if !header_fits(h, frames, frame, puddle.number, ordinal)? {
+        if !has_header(h, frames, frame, puddle.number, ordinal)? {
             return Ok(false);
         }
     }

@@ -17,5 +17,5 @@ mod serials;
 pub use fields::{FieldRead, read_field};
 pub use holders::is_held;
 pub use judge::{objects_held, pool_is_sound};
-pub use places::{find_place, find_serial, serial_at, slot_at_place};
+pub use places::{find_place, find_serial};
 pub use pointers::read_pointer;

@@ -10,48 +10,14 @@ ghost use Rattle.pud_defs.specs.Layout.{device_words};
 ghost use Rattle.pud_defs.specs.Types.{types_of};
 ghost use Rattle.pud_defs.specs.Stored.{IsOnDevice, stored_in};
 ghost use Rattle.pud_defs.specs.Graph.{Graph, table_of, place_of, graph_of, object_in};
-ghost use Rattle.graph_read.specs.Reading.{table_in, places_in, place_in_pool, place_at, IsSlotOf};
+ghost use Rattle.puddle_header.specs.Places.{places_in, place_at, IsSlotOf};
+ghost use Rattle.graph_read.specs.Reading.{table_in, place_in_pool};
 
 use pm_model::{Host, HostFault};
 use pud_defs::layout::MAX_FRAMES;
 use pud_defs::records::{Puddle, Slot};
 use pud_defs::space::FRAME_SLOTS;
-use puddle_header::slot_serial;
-
-/// The slot at a place.
-pub fn slot_at_place(pool: &[(u32, Puddle)], place: u32) -> Slot
-    requires { place < places_in pool.now }
-    ensures place { place_at result ≡ place }
-    ensures within { IsSlotOf pool.now result }
-{
-    let ordinal = place / FRAME_SLOTS;
-    let (frame, _) = pool[ordinal as usize];
-    Slot {
-        frame,
-        ordinal,
-        slot: place % FRAME_SLOTS,
-    }
-}
-
-/// The serial at a place, 0 where the place is free. One word is read.
-pub fn serial_at<H: Host>(
-    h: &mut H,
-    frames: u32,
-    pool: &[(u32, Puddle)],
-    place: u32,
-) -> Result<u64, HostFault>
-    requires few { frames ≤ MAX_FRAMES }
-    requires room { device_words frames ≤ (H.counts h.old).size }
-    requires known { IsOnDevice frames pool.now }
-    requires within { place < places_in pool.now }
-    ensures serial { H.tells → (image : Image) → reads (H.state h.old).now.words ≡ image → IfOk result (λ v. v ≡ (table_in frames pool.now image).serial place) }
-    ensures stays { H.tells → H.state h.new ≡ H.state h.old }
-    ensures cause { H.counts h.new ≡ after_fault (fault_of result) (H.counts h.old) }
-    ensures never_cut { fault_of result ≢ Option.Some HostFault.Cut }
-{
-    let at = slot_at_place(pool, place);
-    slot_serial(h, frames, at.frame, at.slot)
-}
+use puddle_header::{serial_at, slot_at_place};
 
 /// The lowest place of the pool whose slot has serial `s`, or None exactly where none has, or `s` is 0. Each place is read
 /// once at most.

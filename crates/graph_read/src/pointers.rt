@@ -6,13 +6,7 @@ ghost use Rattle.graph_read.specs.Reading.{pointee_of, LeadsWithin};
 
 use pud_defs::objects::Pointee;
 use pud_defs::records::{MAX_PUDDLES, Puddle};
-use pud_defs::space::{FRAME_HEADER_WORDS, FRAME_SLOTS, SLOT_WORDS, WORD_BYTES};
-
-/// How many addresses of a puddle's range stand before its slots.
-const HEADER_BYTES: u64 = (WORD_BYTES * FRAME_HEADER_WORDS) as u64;
-
-/// How many addresses a slot has.
-const SLOT_BYTES: u64 = (WORD_BYTES * SLOT_WORDS) as u64;
+use pud_defs::space::{FRAME_SLOTS, HEADER_BYTES, SLOT_BYTES};
 
 /// The slot of the puddle with this base at whose first address the value is.
 fn slot_in(base: u64, value: u64) -> Option<u32>

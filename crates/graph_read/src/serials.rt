@@ -9,12 +9,12 @@ ghost use Rattle.pud_defs.specs.Layout.{device_words};
 ghost use Rattle.pud_defs.specs.Stored.{IsOnDevice, stored_in};
 ghost use Rattle.graph_read.specs.Asking.{content_of, serials_in};
 
-use crate::places::serial_at;
 use pm_model::{Host, HostFault};
 use pud_defs::layout::MAX_FRAMES;
 use pud_defs::objects::Pointee;
 use pud_defs::records::{MAX_PUDDLES, Puddle};
 use pud_defs::space::FRAME_SLOTS;
+use puddle_header::serial_at;
 
 /// How many places a pool has at most. A place is a slot of a puddle, counted over the puddles by their ordinals.
 pub(crate) const PLACES: usize = (MAX_PUDDLES * FRAME_SLOTS) as usize;

@@ -25,8 +25,9 @@ use Rattle.pud_defs.specs.GraphChanges.{with_field}
 use Rattle.pud_defs.specs.Laters.{Later}
 use Rattle.graph_laws.specs.Rewriting.{base_of}
 use Rattle.graph_laws.proofs.Words.{few_fields}
-use Rattle.graph_read.specs.Reading.{place_in_pool, place_at, IsSlotOf}
-use Rattle.graph_read.proofs.Placed.{place_ordinal, place_slot}
+use Rattle.puddle_header.specs.Places.{place_at, IsSlotOf}
+use Rattle.graph_read.specs.Reading.{place_in_pool}
+use Rattle.puddle_header.proofs.Placed.{place_ordinal, place_slot}
 use Rattle.log_store.specs.Store.{OpenLog}
 use Rattle.word_transaction.specs.Ground.{redo_entry}
 use Rattle.word_transaction.specs.Running.{nothing}

@@ -26,8 +26,9 @@ use Rattle.graph_laws.proofs.Fields.{graph_of-number, graph_of-null, graph_of-re
 use Rattle.graph_laws.proofs.Places.{object_in-place}
 use Rattle.graph_laws.proofs.StoredImages.{stored_in-written}
 use Rattle.graph_laws.proofs.Words.{place_of-some, few_fields}
-use Rattle.graph_read.specs.Reading.{place_in_pool, place_at, IsSlotOf}
-use Rattle.graph_read.proofs.Placed.{place_ordinal, place_slot}
+use Rattle.puddle_header.specs.Places.{place_at, IsSlotOf}
+use Rattle.graph_read.specs.Reading.{place_in_pool}
+use Rattle.puddle_header.proofs.Placed.{place_ordinal, place_slot}
 use Rattle.hybrid_tx.specs.Grounds.{IsPlaced, IsRewrittenAt}
 use Rattle.hybrid_tx.specs.Stores.{address_at, word_for, field_word}
 use Rattle.hybrid_tx.specs.Transactions.{MayName, MayHold, MaySet}

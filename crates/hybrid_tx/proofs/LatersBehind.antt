@@ -27,7 +27,8 @@ use Rattle.graph_laws.specs.Reads.{HasDistinctFrames}
 use Rattle.graph_laws.proofs.Places.{object_in-place}
 use Rattle.graph_laws.proofs.TableChanges.{under_other}
 use Rattle.graph_laws.proofs.Words.{with_word-other, place_of-some}
-use Rattle.graph_read.specs.Reading.{places_in, place_in_pool, place_at, IsSlotOf}
+use Rattle.puddle_header.specs.Places.{places_in, place_at, IsSlotOf}
+use Rattle.graph_read.specs.Reading.{place_in_pool}
 use Rattle.hybrid_tx.specs.Grounds.{IsPlaced}
 use Rattle.hybrid_tx.specs.Stores.{field_word, making}
 use Rattle.hybrid_tx.proofs.FieldsSet.{stored_in-one}

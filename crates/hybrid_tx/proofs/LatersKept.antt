@@ -16,7 +16,8 @@ use Rattle.pud_defs.specs.Graph.{slot_address, under_serial, Object, Graph, obje
 use Rattle.pud_defs.specs.Laters.{Later}
 use Rattle.graph_laws.specs.Rewriting.{base_of}
 use Rattle.graph_laws.proofs.Words.{place_of-some}
-use Rattle.graph_read.specs.Reading.{places_in, place_in_pool, table_in}
+use Rattle.puddle_header.specs.Places.{places_in}
+use Rattle.graph_read.specs.Reading.{place_in_pool, table_in}
 use Rattle.hybrid_tx.specs.Stores.{address_at, word_for}
 use Rattle.hybrid_tx.specs.Transactions.{MayHold, MaySet, IsLater, AreLaters}
 

@@ -24,8 +24,9 @@ use Rattle.log_entry.proofs.Left.{entries_left-start, taken, none_left}
 use Rattle.graph_laws.specs.Changes.{AreBases}
 use Rattle.graph_laws.proofs.Pointers.{target-there}
 use Rattle.graph_laws.proofs.Words.{few_fields, IsLive, place_of-some}
-use Rattle.graph_read.specs.Reading.{places_in, place_in_pool, table_in, place_at, IsSlotOf}
-use Rattle.graph_read.proofs.Placed.{slot_at_place}
+use Rattle.puddle_header.specs.Places.{places_in, place_at, IsSlotOf}
+use Rattle.graph_read.specs.Reading.{place_in_pool, table_in}
+use Rattle.puddle_header.proofs.Placed.{slot_at_place}
 use Rattle.word_transaction.specs.Ground.{redo_entry, is_redo, asked}
 use Rattle.hybrid_tx.specs.Grounds.{IsPlaced}
 use Rattle.hybrid_tx.specs.Laters.{IsFieldAddress, IsFieldOf}

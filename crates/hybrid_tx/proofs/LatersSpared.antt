@@ -21,7 +21,8 @@ use Rattle.pud_defs.specs.Laters.{Later, later_names, laters_name}
 use Rattle.pud_defs.proofs.TypeLists.{same_test, same_number}
 use Rattle.graph_laws.specs.Changes.{with_serial_word}
 use Rattle.graph_laws.proofs.Words.{place_of-some, slot_word-there, slot_word-other}
-use Rattle.graph_read.specs.Reading.{places_in, place_in_pool, table_in, place_at, IsSlotOf}
+use Rattle.puddle_header.specs.Places.{places_in, place_at, IsSlotOf}
+use Rattle.graph_read.specs.Reading.{place_in_pool, table_in}
 use Rattle.object_alloc.specs.Alloc.{serial_word_at}
 use Rattle.hybrid_tx.specs.Grounds.{IsPlaced}
 use Rattle.hybrid_tx.specs.Transactions.{MayHold, IsLater, AreLaters}

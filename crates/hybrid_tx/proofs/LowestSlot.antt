@@ -7,7 +7,7 @@ use Rattle.pud_defs.specs.declared.records.Puddle.{Puddle}
 use Rattle.pud_defs.specs.declared.records.Slot.{Slot}
 use Rattle.pud_defs.specs.Stored.{Stored}
 use Rattle.graph_laws.specs.Slots.{AreAllLive, IsLowestFreeSlot}
-use Rattle.graph_read.specs.Reading.{place_at, IsSlotOf}
+use Rattle.puddle_header.specs.Places.{place_at, IsSlotOf}
 
 -- no two places are that of the lowest free slot
 pub one_lowest : (st : Stored) (p q : ℕ) → IsLowestFreeSlot st p → IsLowestFreeSlot st q → p ≡ q

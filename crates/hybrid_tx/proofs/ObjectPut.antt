@@ -22,8 +22,8 @@ use Rattle.pud_defs.specs.Graph.{Graph, next_serial_of, graph_of}
 use Rattle.pud_defs.proofs.Graphs.{graph_of-each}
 use Rattle.pud_defs.specs.GraphChanges.{with_new, blank_object}
 use Rattle.pud_defs.specs.Laters.{Later}
-use Rattle.graph_read.specs.Reading.{place_at, IsSlotOf}
-use Rattle.graph_read.proofs.Placed.{stored_word}
+use Rattle.puddle_header.specs.Places.{place_at, IsSlotOf}
+use Rattle.puddle_header.proofs.Placed.{stored_word}
 use Rattle.log_store.specs.Store.{OpenLog}
 use Rattle.word_transaction.specs.Ground.{Ground}
 use Rattle.word_transaction.specs.Running.{ByTransaction}

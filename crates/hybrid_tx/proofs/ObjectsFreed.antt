@@ -14,8 +14,9 @@ use Rattle.pud_defs.specs.GraphChanges.{without_object}
 use Rattle.graph_laws.specs.Changes.{with_word, with_words, with_serial_word}
 use Rattle.graph_laws.specs.Reads.{HasDistinctFrames}
 use Rattle.graph_laws.proofs.FreedObjects.{graph_of-freed}
-use Rattle.graph_read.specs.Reading.{place_in_pool, place_at, IsSlotOf}
-use Rattle.graph_read.proofs.Placed.{place_ordinal, place_slot}
+use Rattle.puddle_header.specs.Places.{place_at, IsSlotOf}
+use Rattle.graph_read.specs.Reading.{place_in_pool}
+use Rattle.puddle_header.proofs.Placed.{place_ordinal, place_slot}
 use Rattle.object_alloc.specs.Alloc.{serial_word_at}
 use Rattle.hybrid_tx.specs.Grounds.{IsPlaced}
 use Rattle.hybrid_tx.proofs.FieldsSet.{stored_in-one, place_is}

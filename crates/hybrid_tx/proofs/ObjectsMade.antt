@@ -22,8 +22,8 @@ use Rattle.pud_defs.specs.GraphChanges.{blank_object, with_new}
 use Rattle.graph_laws.specs.Changes.{IsMade}
 use Rattle.graph_laws.proofs.NewObjects.{graph_of-new}
 use Rattle.graph_laws.proofs.Words.{few_fields}
-use Rattle.graph_read.specs.Reading.{place_at, IsSlotOf}
-use Rattle.graph_read.proofs.Placed.{place_ordinal, place_slot, stored_word, stored_slot}
+use Rattle.puddle_header.specs.Places.{place_at, IsSlotOf}
+use Rattle.puddle_header.proofs.Placed.{place_ordinal, place_slot, stored_word, stored_slot}
 use Rattle.hybrid_tx.specs.Grounds.{IsPlaced}
 use Rattle.hybrid_tx.specs.Stores.{new_words, making}
 

@@ -15,7 +15,8 @@ use Rattle.pud_defs.specs.Entries.{Entry, words_from}
 use Rattle.pud_defs.specs.Graph.{Graph}
 use Rattle.pud_defs.specs.GraphChanges.{without_object}
 use Rattle.pud_defs.specs.Laters.{Later, laters_name}
-use Rattle.graph_read.specs.Reading.{place_in_pool, place_at, IsSlotOf}
+use Rattle.puddle_header.specs.Places.{place_at, IsSlotOf}
+use Rattle.graph_read.specs.Reading.{place_in_pool}
 use Rattle.log_store.specs.Store.{OpenLog, InLog, longer}
 use Rattle.object_alloc.specs.Alloc.{serial_word_at}
 use Rattle.object_alloc.proofs.Freed.{placed-single}

@@ -4,7 +4,7 @@ use Rattle.pud_defs.specs.declared.layout.TheConstants.{MAX_FIELDS}
 use Rattle.pud_defs.specs.declared.space.TheConstants.{WORD_BYTES, FRAME_SLOTS}
 use Rattle.pud_defs.specs.declared.records.Puddle.{Puddle}
 use Rattle.pud_defs.specs.declared.records.Slot.{Slot}
-use Rattle.graph_read.specs.Reading.{IsSlotOf}
+use Rattle.puddle_header.specs.Places.{IsSlotOf}
 use Rattle.hybrid_tx.specs.Stores.{field_word}
 
 -- The address is that of the word of field f of a slot, in the range of the puddle with this base.

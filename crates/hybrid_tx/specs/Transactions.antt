@@ -18,7 +18,8 @@ use Rattle.pud_defs.specs.Replay.{overwritten, is_in_log}
 use Rattle.pud_defs.specs.Stored.{stored_in}
 use Rattle.pud_defs.specs.Graph.{Object, Graph, object_in, field_count, is_held, next_serial_of, graph_of}
 use Rattle.pud_defs.specs.Laters.{Later}
-use Rattle.graph_read.specs.Reading.{place_in_pool, place_at, IsSlotOf}
+use Rattle.puddle_header.specs.Places.{place_at, IsSlotOf}
+use Rattle.graph_read.specs.Reading.{place_in_pool}
 use Rattle.log_store.specs.Store.{OpenLog}
 use Rattle.word_transaction.specs.Ground.{redo_entry, asked}
 use Rattle.word_transaction.specs.Running.{IsRunning, IsIdle, Runs, Closes, Ends}

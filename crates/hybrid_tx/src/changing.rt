@@ -17,7 +17,8 @@ ghost use Rattle.pud_defs.specs.Graph.{Graph, graph_of};
 ghost use Rattle.log_store.specs.Store.{longer};
 ghost use Rattle.pud_defs.specs.GraphChanges.{with_field, with_new, blank_object, without_object, with_root};
 ghost use Rattle.graph_laws.specs.Slots.{AreAllLive, IsLowestFreeSlot};
-ghost use Rattle.graph_read.specs.Reading.{place_at, place_in_pool, IsSlotOf};
+ghost use Rattle.puddle_header.specs.Places.{place_at, IsSlotOf};
+ghost use Rattle.graph_read.specs.Reading.{place_in_pool};
 ghost use Rattle.object_alloc.specs.Alloc.{serial_word_at};
 ghost use Rattle.word_transaction.specs.Running.{ByTransaction};
 ghost use Rattle.hybrid_tx.specs.Grounds.{pool_ground, IsPlaced, IsRewrittenAt};
@@ -33,7 +34,7 @@ use pud_defs::objects::Val;
 use pud_defs::records::{Puddle, Slot};
 use pud_defs::space::{
     NEXT_SERIAL_WORD, ROOT_WORD, SLOT_FIELDS_WORD, SLOT_SERIAL_WORD, SLOT_TYPE_WORD, SLOT_WORDS,
-    WORD_BYTES, frame_at, slot_at,
+    frame_at, slot_at, word_address,
 };
 use puddle_header::next_serial;
 
@@ -43,9 +44,7 @@ pub(crate) fn slot_address(pool: &[(u32, Puddle)], at: &Slot) -> u64
     ensures address { All (λ e. is_legal_base e.1.base ≡ true) pool.now → result ≡ address_at pool.now (place_at at.now) }
 {
     let (_, puddle) = pool[at.ordinal as usize];
-    puddle
-        .base
-        .wrapping_add((WORD_BYTES * slot_at(at.slot)) as u64)
+    word_address(puddle.base, slot_at(at.slot))
 }
 
 /// The word that stands for a value: the number, 0 for null, or the address of the serial's object, None exactly where there

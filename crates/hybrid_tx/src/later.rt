@@ -18,7 +18,8 @@ ghost use Rattle.pud_defs.specs.Laters.{Later, later_names, laters_name};
 ghost use Rattle.log_entry.specs.Reading.{entry_from};
 ghost use Rattle.log_store.specs.Store.{InLog, longer};
 ghost use Rattle.graph_laws.specs.Changes.{AreBases};
-ghost use Rattle.graph_read.specs.Reading.{place_in_pool, IsSlotOf};
+ghost use Rattle.puddle_header.specs.Places.{IsSlotOf};
+ghost use Rattle.graph_read.specs.Reading.{place_in_pool};
 ghost use Rattle.hybrid_tx.specs.Grounds.{IsPlaced};
 ghost use Rattle.hybrid_tx.specs.Laters.{IsFieldAddress, IsFieldOf};
 ghost use Rattle.hybrid_tx.specs.Stores.{address_at, word_for};
@@ -33,17 +34,11 @@ use pud_defs::log_words::REDO_ORDER;
 use pud_defs::objects::Val;
 use pud_defs::records::{MAX_PUDDLES, Puddle, Slot};
 use pud_defs::space::{
-    FRAME_HEADER_WORDS, FRAME_SLOTS, SLOT_FIELDS_WORD, SLOT_WORDS, WORD_BYTES, slot_at,
+    FRAME_SLOTS, HEADER_BYTES, SLOT_BYTES, SLOT_FIELDS_WORD, WORD_BYTES, slot_at,
 };
 use pud_defs::type_map::map_is_pointer;
 use puddle_header::{slot_serial, slot_type};
 use type_maps::find;
-
-/// How many addresses of a puddle's range stand before its slots.
-const HEADER_BYTES: u64 = (WORD_BYTES * FRAME_HEADER_WORDS) as u64;
-
-/// How many addresses a slot has.
-const SLOT_BYTES: u64 = (WORD_BYTES * SLOT_WORDS) as u64;
 
 /// How many addresses a word has.
 const ONE_WORD: u64 = WORD_BYTES as u64;

@@ -25,9 +25,9 @@ ghost use Rattle.hybrid_tx.specs.Transactions.{IsSaving, IsOpenOn, Saves};
 
 use crate::Tx;
 use pm_model::{Host, HostFault};
-use pud_defs::layout::{CLIENT_LOGS, log_at};
+use pud_defs::layout::log_number_at;
 use pud_defs::records::Puddle;
-use pud_defs::space::{WORD_BYTES, frame_at};
+use pud_defs::space::{frame_at, word_address};
 use word_transaction::WordTransaction;
 
 impl Tx {
@@ -50,7 +50,7 @@ impl Tx {
             → IfOk result (λ tx. IsOpenOn frames at types tx before g g [] (H.state h.new).now.words) }
         ensures cause { H.counts h.new ≡ after_fault (fault_of result) (H.counts h.old) }
     {
-        let gate = log_at(frames, log / CLIENT_LOGS, log % CLIENT_LOGS);
+        let gate = log_number_at(frames, log);
         let words = WordTransaction::begin(h, gate)?;
         Ok(Tx { words })
     }
@@ -113,7 +113,7 @@ impl Tx {
         ensures cause { H.counts h.new ≡ after_fault (fault_of result) (H.counts h.old) }
     {
         let (frame, puddle) = pool[ordinal as usize];
-        let address = puddle.base.wrapping_add((WORD_BYTES * word) as u64);
+        let address = word_address(puddle.base, word);
         self.put(h, address, frame_at(frames, frame) + word, vals)
     }
 
@@ -139,7 +139,7 @@ impl Tx {
         ensures cause { H.counts h.new ≡ after_fault (fault_of result) (H.counts h.old) }
     {
         let (_, puddle) = pool[ordinal as usize];
-        let field = puddle.base.wrapping_add((WORD_BYTES * word) as u64);
+        let field = word_address(puddle.base, word);
         self.words.ask(h, field, &[value])
     }
 }

@@ -17,6 +17,7 @@ ghost use Rattle.log_entry.specs.Ranges.{HasRange};
 
 mod closed;
 pub mod laws;
+mod values;
 
 pub use closed::is_closed_log;
 use pm_model::{Host, HostFault};
@@ -29,6 +30,7 @@ use pud_defs::log_words::{
     is_legal_gate,
 };
 use std::marker::Model;
+pub use values::read_values;
 
 /// An entry of a log on a device.
 #[derive(Clone, Copy)]

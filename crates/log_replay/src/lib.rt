@@ -21,7 +21,7 @@ ghost use Rattle.log_entry.specs.Reading.{entry_from};
 ghost use Rattle.log_entry.specs.Ranges.{HasRange};
 ghost use Rattle.log_replay.specs.Replaying.{place_of, HasTables, NamesApart, IsLeft, IsReplayable, HasDurableLog, new_values, Anything, Applies, Replays, ReplaysAgain, IsSettling, SettlesSame, SettlesLog};
 
-use log_entry::{Entry, EntryReader, LogRange};
+use log_entry::{Entry, EntryReader, LogRange, read_values};
 use pm_model::{Host, HostFault};
 use pm_persist::{persist_word, write_range};
 use pud_defs::layout::MAX_ENTRY_VALUES;
@@ -74,12 +74,7 @@ fn copy_words<H: Host>(h: &mut H, from: u32, n: u32, to: u32) -> Result<(), Host
     ensures any { H.tells → Changes Anything (fault_of result) (H.state h.old) (H.state h.new) }
     ensures cause { H.counts h.new ≡ after_fault (fault_of result) (H.counts h.old) }
 {
-    let words = h.words();
-    prove!(n <= words - from);
-    let mut values = [0u64; MAX_ENTRY_VALUES as usize];
-    for i in 0..n {
-        values[i as usize] = h.load(from + i)?;
-    }
+    let values = read_values(h, from, n)?;
     write_range(h, to, &values[..n as usize])
 }
 

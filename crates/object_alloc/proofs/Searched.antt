@@ -7,7 +7,7 @@ use Rattle.pud_defs.specs.declared.space.TheConstants.{FRAME_SLOTS, SLOT_SERIAL_
 use Rattle.pud_defs.specs.declared.records.Puddle.{Puddle}
 use Rattle.pud_defs.specs.Image.{Image}
 use Rattle.pud_defs.specs.Stored.{Stored, stored_in, places_of, place_word}
-use Rattle.graph_read.specs.Reading.{places_in}
+use Rattle.puddle_header.specs.Places.{places_in}
 use Rattle.graph_laws.specs.Slots.{AreAllLive, IsLowestFreeSlot}
 
 -- each place before this one is live

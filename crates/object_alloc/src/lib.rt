@@ -11,15 +11,15 @@ ghost use Rattle.pm_model.specs.Changes.{only, Writes};
 ghost use Rattle.pud_defs.specs.Layout.{device_words};
 ghost use Rattle.pud_defs.specs.Stored.{IsOnDevice, stored_in};
 ghost use Rattle.graph_laws.specs.Slots.{AreAllLive, IsLowestFreeSlot};
-ghost use Rattle.graph_read.specs.Reading.{places_in, place_at, IsSlotOf};
+ghost use Rattle.puddle_header.specs.Places.{places_in, place_at, IsSlotOf};
 ghost use Rattle.object_alloc.specs.Alloc.{alloc_fault, serial_word_at};
 
-use graph_read::{serial_at, slot_at_place};
 use pm_model::{Host, HostFault};
 use pm_persist::write_range;
 use pud_defs::layout::MAX_FRAMES;
 use pud_defs::records::{Puddle, Slot};
 use pud_defs::space::{FRAME_SLOTS, SLOT_SERIAL_WORD, frame_at, slot_at};
+use puddle_header::{serial_at, slot_at_place};
 
 /// Why no slot was found. Nothing changed.
 #[derive(Clone, Copy, Debug, PartialEq, Eq, thiserror::Error)]

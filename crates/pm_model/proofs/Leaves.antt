@@ -1,6 +1,6 @@
 -- The images that may be left during some calls, from one call to many.
 use Rattle.std.proofs.Common.{◌≡◌, ◌⊎◌, inl, inr, ℕ, ◌-◌, List, [], ◌∷◌, ◌++◌, length, Option, refl, sym, ap, subst, ◌∙◌, append_assoc, length-append, take, drop, take-append-drop, arith}
-use Rattle.std.proofs.lemmas.List.{append-nil, take_at}
+use Rattle.std.proofs.lemmas.List.{append-nil, append_cancel_right, take_at}
 use Rattle.pm_model.specs.declared.host.HostFault.{HostFault}
 use Rattle.pm_model.specs.Words.{Has, Image, Words, values, Picks}
 use Rattle.pm_model.specs.Moments.{Moment, State, MayLeave, one_said, all_said, clock, since}
@@ -60,6 +60,24 @@ Leaves-weaker P Q old new weaker l =
       history = l.history;
       start = λ image picked. weaker [] image (l.start image picked);
       later = λ m h. let at = l.later m h in record { bytes = at.bytes; said = at.said; each = λ image picked. weaker at.bytes image (at.each image picked) };
+    }
+
+-- two claims of the same calls, of which nothing was said: each image has both
+pub Leaves-both : (P Q : Image → Type 0) (old new : State) → Leaves (Silently P) old new → Leaves (Silently Q) old new → Leaves (Silently (λ image. P image × Q image)) old new
+Leaves-both P Q old new p q =
+    let same : q.added ≡ p.added = append_cancel_right q.added p.added (old.now ∷ old.past) (sym q.history ∙ p.history) in
+    record {
+      added = p.added;
+      history = p.history;
+      start = λ image picked. (refl, ((p.start image picked).1, (q.start image picked).1));
+      later = λ m h.
+          let left = p.later m h in
+          let other = q.later m (subst (λ (ms : List Moment). Has ms m) (sym same) h) in
+          record {
+            bytes = left.bytes;
+            said = left.said;
+            each = λ image picked. ((left.each image picked).0, ((left.each image picked).1, (other.each image picked).1));
+          };
     }
 
 -- one run of calls after another, the bytes said joined

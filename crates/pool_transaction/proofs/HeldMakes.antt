@@ -21,7 +21,7 @@ use Rattle.pud_defs.specs.Transactions.{charged}
 use Rattle.pud_defs.specs.Types.{map_of}
 use Rattle.pud_defs.specs.World.{Transaction, World}
 use Rattle.graph_laws.specs.Slots.{AreAllLive, IsLowestFreeSlot}
-use Rattle.graph_read.specs.Reading.{place_at, IsSlotOf}
+use Rattle.puddle_header.specs.Places.{place_at, IsSlotOf}
 use Rattle.log_store.specs.Store.{OpenLog, longer}
 use Rattle.hybrid_tx.specs.Grounds.{IsPlaced}
 use Rattle.hybrid_tx.specs.Transactions.{IsOpenOn, RunsOn, MakesIn}
@@ -53,7 +53,7 @@ pub record MayMake (map : Option ℕ) (units next : ℕ) : Type 0 where
 
 pub may_make : (map : Option ℕ) (units next : ℕ) → refusal_to_make map units next ≡ None → MayMake map units next
 may_make map units next none =
-    let type = not_so (is_none map) refusals.Type _ none in
+    let type = not_so (is_none map) refusals.NoType _ none in
     let big = not_so (ltb LOG_ENTRY_WORDS (units + NEW_UNITS)) refusals.TooBig _ type.1 in
     let full = not_so (leb NUMBER_LIMIT next) refusals.Full None big.1 in
     let there = some_there map type.0 in

@@ -75,8 +75,8 @@ none_or_some (Some x) = refl
 -- ---- the causes in order
 
 joined : (type big serial many out lacks grow room free : Bool) → (grow ≡ false → many ≡ false) → (grow ≡ true → (many || out) ≡ not room) → lacks ≡ not free
-    → cond type (Some refusals.Type) (cond big (Some refusals.TooBig) (cond ((serial || many) || (grow && out)) (Some refusals.Full) (cond (grow && lacks) (Some refusals.Space) None)))
-    ≡ option_or (cond type (Some refusals.Type) (cond big (Some refusals.TooBig) (cond serial (Some refusals.Full) None))) (cond grow (cond (not room) (Some refusals.Full) (cond (not free) (Some refusals.Space) None)) None)
+    → cond type (Some refusals.NoType) (cond big (Some refusals.TooBig) (cond ((serial || many) || (grow && out)) (Some refusals.Full) (cond (grow && lacks) (Some refusals.Space) None)))
+    ≡ option_or (cond type (Some refusals.NoType) (cond big (Some refusals.TooBig) (cond serial (Some refusals.Full) None))) (cond grow (cond (not room) (Some refusals.Full) (cond (not free) (Some refusals.Space) None)) None)
 joined true big serial many out lacks grow room free less more frames = refl
 joined false true serial many out lacks grow room free less more frames = refl
 joined false false true many out lacks grow room free less more frames = refl
@@ -145,7 +145,7 @@ module _ (size : ℕ) (w : World) (memory : Memory) (held : Held) (s : State) (n
       let next = next_serial size w memory held s number there ready in
       refusal_of-new w held.client held.name id
       ∙ ap (λ (first : Option Refusal). option_or first (making_refusal (map_of id w.stored.types) (units_of (w.transactions held.name)) (lacks_room w held.name) (grows w held.name && lacks_frames w.stored 1))) own
-      ∙ (λ p. cond (is_none (map_of id w.stored.types)) (Some refusals.Type) (cond (ltb LOG_ENTRY_WORDS (units p + NEW_UNITS)) (Some refusals.TooBig)
+      ∙ (λ p. cond (is_none (map_of id w.stored.types)) (Some refusals.NoType) (cond (ltb LOG_ENTRY_WORDS (units p + NEW_UNITS)) (Some refusals.TooBig)
       (cond (full p || (grows w held.name && lacks_a_number w.stored.next_number)) (Some refusals.Full) (cond (grows w held.name && lacks_frames w.stored 1) (Some refusals.Space) None))))
       ∙ joined (is_none (map_of id w.stored.types)) (ltb LOG_ENTRY_WORDS (held.log.used + NEW_UNITS)) (leb NUMBER_LIMIT is.transaction.now.next_serial) many (lacks_a_number w.stored.next_number) (lacks_frames w.stored 1)
       (grows w held.name) (has_room (length held.at) (image NEXT_NUMBER_WORD)) (is_some (first_free t.puddles 0 t.frames)) less_by more_by frames_lack

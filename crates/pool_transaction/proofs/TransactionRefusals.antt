@@ -76,7 +76,7 @@ change_refusal (changes.Free s) g laters units = freeing_refusal g laters units 
 -- of `new`, where the client's own transaction is open, by the map of the type and by what is full
 abbrev pub making_refusal : (map : Option ℕ) → (units : ℕ) → (full lacks : Bool) → Option Refusal
 making_refusal map units full lacks =
-    cond (is_none map) (Some refusals.Type)
+    cond (is_none map) (Some refusals.NoType)
     (cond (ltb LOG_ENTRY_WORDS (units + NEW_UNITS)) (Some refusals.TooBig)
     (cond full (Some refusals.Full)
     (cond lacks (Some refusals.Space) None)))

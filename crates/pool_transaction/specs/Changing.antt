@@ -66,7 +66,7 @@ pub record StaysOpen (old new : Held) : Type 0 where
 -- why none is, whatever slots there are: by the map of its type, the units that were used, and the next serial
 abbrev pub refusal_to_make : (map : Option ℕ) → (units next : ℕ) → Option Refusal
 refusal_to_make map units next =
-    cond (is_none map) (Some refusals.Type) (cond (nat_lt LOG_ENTRY_WORDS (units + NEW_UNITS)) (Some refusals.TooBig) (cond (nat_le NUMBER_LIMIT next) (Some refusals.Full) None))
+    cond (is_none map) (Some refusals.NoType) (cond (nat_lt LOG_ENTRY_WORDS (units + NEW_UNITS)) (Some refusals.TooBig) (cond (nat_le NUMBER_LIMIT next) (Some refusals.Full) None))
 
 -- why a pool of so many puddles has no puddle more for it: by the next UUID number, and whether a frame is free
 abbrev pub refusal_to_grow : (puddles number : ℕ) → (free : Bool) → Option Refusal

@@ -4,7 +4,7 @@ ghost use Rattle.pm_model.specs.Words.{IsRested, reads};
 ghost use Rattle.pm_model.specs.Counts.{after_fault, fault_of};
 ghost use Rattle.pm_model.specs.Changes.{Changes};
 ghost use Rattle.pud_defs.specs.declared.layout.TheConstants.{LOG_WORDS, LOG_ENTRY_WORDS, MAX_FRAMES, NEXT_NUMBER_WORD, SET_UNITS, NEW_UNITS};
-ghost use Rattle.pud_defs.specs.declared.records.TheConstants.{POOL_RECORDS, MAX_PUDDLES};
+ghost use Rattle.pud_defs.specs.declared.records.TheConstants.{MAX_PUDDLES};
 ghost use Rattle.pud_defs.specs.declared.records.Slot.{Slot};
 ghost use Rattle.pud_defs.specs.declared.machine.Command.TheVariants as commands;
 ghost use Rattle.pud_defs.specs.Image.{Image};
@@ -14,12 +14,12 @@ ghost use Rattle.pud_defs.specs.Types.{map_of, types_of};
 ghost use Rattle.pud_defs.specs.Stored.{IsOnDevice, stored_in};
 ghost use Rattle.pud_defs.specs.Graph.{Graph, next_serial_of};
 ghost use Rattle.pud_defs.specs.PoolChanges.{pool_named};
-ghost use Rattle.pud_defs.specs.Tables.{tables_of, puddles_in_turn};
+ghost use Rattle.pud_defs.specs.Tables.{tables_of};
 ghost use Rattle.pud_defs.specs.Step.{refusal_of, after, graph_seen, next_in, grows, answer_by, world_by};
 ghost use Rattle.pud_defs.specs.Step.Answer.{of_reply};
 ghost use Rattle.pud_defs.specs.World.{Transaction, World};
 ghost use Rattle.graph_laws.specs.Slots.{IsLowestFreeSlot};
-ghost use Rattle.graph_read.specs.Reading.{place_at, IsSlotOf};
+ghost use Rattle.puddle_header.specs.Places.{place_at, IsSlotOf};
 ghost use Rattle.log_store.specs.Store.{longer};
 ghost use Rattle.word_transaction.specs.Running.{ByTransaction};
 ghost use Rattle.hybrid_tx.specs.Grounds.{pool_ground, IsPlaced, IsRewritten};
@@ -37,7 +37,7 @@ use pud_defs::machine::{Refusal, Reply};
 use pud_defs::objects::Val;
 use pud_defs::records::{MAX_PUDDLES, Puddle};
 use puddle_header::next_serial;
-use puddle_table::{PuddleFault, Puddles, find_places, free_frame};
+use puddle_table::{PuddleFault, find_puddles, free_frame};
 use registry::grow_pool;
 use type_maps::find;
 
@@ -88,20 +88,6 @@ fn has_free_frame<H: Host>(h: &mut H, frames: u32) -> Result<bool, HostFault>
     }
 }
 
-/// The puddles of the pool in this slot by their ordinals, each with its frame.
-fn find_puddles<H: Host>(h: &mut H, frames: u32, slot: u32) -> Result<Puddles, HostFault>
-    requires known { slot < POOL_RECORDS }
-    requires few { frames ≤ MAX_FRAMES }
-    requires room { device_words frames ≤ (H.counts h.old).size }
-    ensures found { H.tells → (image : Image) → reads (H.state h.old).now.words ≡ image → IfOk result (λ puddles. puddles ≡ puddles_in_turn (tables_of frames image) slot) }
-    ensures within { IfOk result (IsOnDevice frames) }
-    ensures stays { H.tells → H.state h.new ≡ H.state h.old }
-    ensures cause { H.counts h.new ≡ after_fault (fault_of result) (H.counts h.old) }
-    ensures never_cut { fault_of result ≢ Option.Some HostFault.Cut }
-{
-    find_places(h, frames)?.of_pool(h, slot)
-}
-
 /// Why no object is made, whatever slots there are: by the map of its type, the units that were used, and the next serial.
 fn refusal_to_make(map: Option<u64>, units: u32, next: u64) -> Option<Refusal>
     requires { units ≤ LOG_ENTRY_WORDS }
@@ -109,7 +95,7 @@ fn refusal_to_make(map: Option<u64>, units: u32, next: u64) -> Option<Refusal>
     ensures fits { IfNone result (units + NEW_UNITS ≤ LOG_ENTRY_WORDS) }
 {
     if map.is_none() {
-        Some(Refusal::Type)
+        Some(Refusal::NoType)
     } else if units + NEW_UNITS > LOG_ENTRY_WORDS {
         Some(Refusal::TooBig)
     } else if next >= NUMBER_LIMIT {

@@ -8,9 +8,9 @@ ghost use Rattle.ready_daemon.specs.Held.{AreHeldWithin};
 ghost use Rattle.ready_daemon.specs.Holding.{is_held_on, FindsPuddles};
 
 use hybrid_tx::Tx;
+use pud_defs::layout::LOGS;
 use pud_defs::records::{Name, Puddle};
 use puddle_table::Puddles;
-use recover::LOGS;
 use std::array;
 use std::marker::Model;
 

@@ -48,7 +48,7 @@ owning_refusal who found busy own =
     (cond (is_none found) (Some refusals.Pool)
     (cond (not (owns who found)) (Some refusals.Denied)
     (cond busy (Some refusals.Busy)
-    (cond own (Some refusals.Open) None))))
+    (cond own (Some refusals.OpenHere) None))))
 
 pub refusal_of-chmod : (w : World) (client mode : ℕ) (name : List ℕ) → refusal_of w (Chmod client name mode) ≡ owning_refusal (w.clients client) (pool_named name w.stored) (is_others client (w.transactions name)) (is_own client (w.transactions name))
 unfolding refusal_of holds

@@ -2,6 +2,7 @@
 
 ghost use Rattle.std.specs.Prelude.{◌≡◌, ◌<◌, ◌≤◌};
 ghost use Rattle.pud_defs.specs.Layout.{tables_end, log_at, frames_at, device_words};
+ghost use Rattle.pud_defs.specs.Settled.{ALL_LOGS, log_number_at};
 
 /// The number of a log among the 32 of a device, 0 to 31: log `k` of client `c` has the number `4 * c + k`.
 pub type LogNo = u32;
@@ -72,6 +73,9 @@ pub const CLIENTS: u32 = 8;
 /// How many logs each client has.
 pub const CLIENT_LOGS: u32 = 4;
 
+/// How many logs all clients have.
+pub const LOGS: usize = (CLIENTS * CLIENT_LOGS) as usize;
+
 /// How often a transaction may be begun before it ends.
 pub const MAX_DEPTH: u32 = 16;
 
@@ -138,6 +142,15 @@ pub const fn log_at(frames: u32, client: u32, number: u32) -> u32
     ensures { result ≡ log_at frames client number }
 {
     tables_end(frames) + LOG_WORDS * (CLIENT_LOGS * client + number)
+}
+
+/// The gate of a log by its number among those of all clients, on a device of so many frames.
+pub const fn log_number_at(frames: u32, number: LogNo) -> u32
+    requires few_frames { frames ≤ MAX_FRAMES }
+    requires known { number < ALL_LOGS }
+    ensures { result ≡ log_number_at frames number }
+{
+    log_at(frames, number / CLIENT_LOGS, number % CLIENT_LOGS)
 }
 
 /// The first word of the first frame of a device of so many frames. Between the puddle table and the frames lie

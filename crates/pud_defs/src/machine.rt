@@ -168,11 +168,11 @@ pub enum Refusal {
     /// Another client has a transaction open on the pool.
     Busy,
     /// The client itself has one open on it.
-    Open,
+    OpenHere,
     /// The client has none open on it.
     Tx,
     /// The type is not defined.
-    Type,
+    NoType,
     /// The pool has no object of the serial, or none of the serial that is to be the value or the root.
     Object,
     /// The object's type has no such field.

@@ -5,7 +5,7 @@
 
 ghost use Rattle.std.specs.Prelude.{◌≡◌, ◌<◌, ◌^◌};
 ghost use Rattle.pud_defs.specs.Modes.{is_legal_mode};
-ghost use Rattle.pud_defs.specs.Names.{name_by};
+ghost use Rattle.pud_defs.specs.Names.{name_by, is_name_byte};
 ghost use Rattle.pud_defs.specs.Pools.{owner_uid, owner_gid, owner_word};
 ghost use Rattle.pud_defs.specs.Puddles.{member_pool, member_ordinal, member_word};
 
@@ -180,6 +180,13 @@ pub fn is_legal_mode(v: u64) -> bool
     ensures { result ≡ is_legal_mode v }
 {
     v <= u64::from(MAX_MODE) && v % 2 == 0 && v / 8 % 2 == 0 && v / 64 % 2 == 0
+}
+
+/// Whether a name may have the byte: a small letter, a digit, or `_`.
+pub fn is_name_byte(byte: u8) -> bool
+    ensures { result ≡ is_name_byte byte }
+{
+    matches!(byte, b'a'..=b'z' | b'0'..=b'9' | b'_')
 }
 
 /// The 16 bytes of a name, by the two words that hold it.

@@ -3,7 +3,7 @@
 //! Each puddle has a range of 16,384 addresses of the space and a frame of 2,048 words on the device. Word k of the frame
 //! has the eight addresses from `base + 8 * k` on.
 
-ghost use Rattle.std.specs.Prelude.{◌≡◌, ◌<◌, ◌≤◌};
+ghost use Rattle.std.specs.Prelude.{◌≡◌, ◌+◌, ◌*◌, ◌%◌, ◌^◌, ◌<◌, ◌≤◌};
 ghost use Rattle.pud_defs.specs.Bases.{is_legal_base, base_at};
 ghost use Rattle.pud_defs.specs.Frames.{frame_at, slot_at};
 
@@ -51,6 +51,12 @@ pub const SLOT_WORDS: u32 = 32;
 /// How many slots a frame has.
 pub const FRAME_SLOTS: u32 = 62;
 
+/// How many addresses of a puddle's range stand before its slots.
+pub const HEADER_BYTES: u64 = (WORD_BYTES * FRAME_HEADER_WORDS) as u64;
+
+/// How many addresses a slot has.
+pub const SLOT_BYTES: u64 = (WORD_BYTES * SLOT_WORDS) as u64;
+
 /// The word of a slot that holds the serial of its object, 0 where the slot is free.
 pub const SLOT_SERIAL_WORD: u32 = 0;
 
@@ -94,4 +100,12 @@ pub fn base_at(k: u32) -> u64
     ensures { result ≡ base_at k }
 {
     SPACE_START + RANGE_BYTES * u64::from(k)
+}
+
+/// The address of a word of the frame of the puddle with this base, where the base is legal. Else it may wrap around.
+pub fn word_address(base: u64, word: u32) -> u64
+    requires { word < FRAME_WORDS }
+    ensures { result ≡ (base + WORD_BYTES * word) % 2 ^ 64 }
+{
+    base.wrapping_add((WORD_BYTES * word) as u64)
 }

@@ -1,28 +1,40 @@
 -- Whether a header is that of a record's puddle, by the words of both.
-use Rattle.std.proofs.Common.{◌≡◌, ℕ, ◌+◌, Bool, true, false, not, ◌&&◌, eqb, Some, None, refl, sym}
+use Rattle.std.proofs.Common.{◌≡◌, ℕ, ◌+◌, Bool, true, false, eqb, Some, None, refl, sym, ap, ap₂, ◌∙◌}
 use Rattle.std.specs.Prelude.{cond}
-use Rattle.pud_defs.specs.declared.space.TheConstants.{FRAME_MAGIC, FRAME_MAGIC_WORD, FRAME_NUMBER_WORD, FRAME_ORDINAL_WORD}
+use Rattle.std.proofs.lemmas.Bool.{cond-true, cond-false}
+use Rattle.pud_defs.specs.declared.space.TheConstants.{FRAME_MAGIC_WORD, FRAME_NUMBER_WORD, FRAME_ORDINAL_WORD}
 use Rattle.pud_defs.specs.declared.records.TheConstants.{PUDDLE_NUMBER_WORD}
 use Rattle.pud_defs.specs.Image.{Image}
 use Rattle.pud_defs.specs.Frames.{frame_word}
 use Rattle.pud_defs.specs.Puddles.{puddle_by, puddle_at, puddle_record_at, member_pool, member_ordinal}
-use Rattle.pud_defs.specs.Headers.{is_header_of, header_fits}
+use Rattle.pud_defs.specs.Headers.{is_header, is_header_of, header_fits}
 
--- the header is that of a record of these words
-abbrev has_words : (member given magic number ordinal : ℕ) → Bool
-has_words member given magic number ordinal = not (eqb member 0) && (eqb magic FRAME_MAGIC && eqb number given && eqb ordinal (member_ordinal member))
+pub is_header-words : (given place m n o m' n' o' : ℕ) → m ≡ m' → n ≡ n' → o ≡ o' → is_header given place m n o ≡ is_header given place m' n' o'
+is_header-words given place m n o m' n' o' a b c = rw (a, b, c) refl
 
-header_by_words : (w0 w1 w2 w3 w4 magic number ordinal : ℕ) → is_header_of (puddle_by w0 w1 w2 w3 w4) magic number ordinal ≡ has_words w0 w1 magic number ordinal
+-- the header is that of the puddle of a record of these words, which is free where the first is 0
+header_by_words : (w0 w1 w2 w3 w4 magic number ordinal : ℕ)
+    → is_header_of (puddle_by w0 w1 w2 w3 w4) magic number ordinal ≡ cond (eqb w0 0) false (is_header w1 (member_ordinal w0) magic number ordinal)
 unfolding puddle_by
 header_by_words w0 w1 w2 w3 w4 magic number ordinal =
     elim (eqb w0 0)
     as (λ b. is_header_of (cond b None (Some (record { pool = member_pool w0; ordinal = member_ordinal w0; puddle = record { number = w1; base = w2; old_base = w3; frontier = w4 } }))) magic number ordinal
-    ≡ (not b && (eqb magic FRAME_MAGIC && eqb number w1 && eqb ordinal (member_ordinal w0)))) [ true ↦ refl | false ↦ refl ]
+    ≡ cond b false (is_header w1 (member_ordinal w0) magic number ordinal)) [ true ↦ refl | false ↦ refl ]
 
-pub header_by_image : (F frame : ℕ) (image : Image) (member given magic number ordinal : ℕ)
-    → member ≡ image (puddle_record_at frame) → given ≡ image (puddle_record_at frame + PUDDLE_NUMBER_WORD)
-    → magic ≡ frame_word F frame FRAME_MAGIC_WORD image → number ≡ frame_word F frame FRAME_NUMBER_WORD image → ordinal ≡ frame_word F frame FRAME_ORDINAL_WORD image
-    → has_words member given magic number ordinal ≡ header_fits F frame image
+-- the header that a frame is asked for by the words of its record
+abbrev pub header_asked : (F frame member given : ℕ) → Image → Bool
+header_asked F frame member given image = is_header given (member_ordinal member) (frame_word F frame FRAME_MAGIC_WORD image) (frame_word F frame FRAME_NUMBER_WORD image) (frame_word F frame FRAME_ORDINAL_WORD image)
+
+by_image : (F frame : ℕ) (image : Image) → header_fits F frame image
+    ≡ cond (eqb (image (puddle_record_at frame)) 0) false (header_asked F frame (image (puddle_record_at frame)) (image (puddle_record_at frame + PUDDLE_NUMBER_WORD)) image)
 unfolding puddle_at
-header_by_image F frame image member given magic number ordinal is_member is_given is_magic is_number is_ordinal =
-    rw (is_member, is_given, is_magic, is_number, is_ordinal) (sym (header_by_words _ _ _ _ _ _ _ _))
+by_image F frame image = header_by_words _ _ _ _ _ _ _ _
+
+pub no_header : (F frame : ℕ) (image : Image) (member : ℕ) → member ≡ image (puddle_record_at frame) → eqb member 0 ≡ true → header_fits F frame image ≡ false
+no_header F frame image member is free = by_image F frame image ∙ cond-true (eqb (image (puddle_record_at frame)) 0) false _ (ap (λ (v : ℕ). eqb v 0) (sym is) ∙ free)
+
+pub header_by_record : (F frame : ℕ) (image : Image) (member given : ℕ) → member ≡ image (puddle_record_at frame) → given ≡ image (puddle_record_at frame + PUDDLE_NUMBER_WORD) → eqb member 0 ≡ false
+    → header_fits F frame image ≡ header_asked F frame member given image
+header_by_record F frame image member given is is_given used =
+    by_image F frame image ∙ cond-false (eqb (image (puddle_record_at frame)) 0) false _ (ap (λ (v : ℕ). eqb v 0) (sym is) ∙ used)
+    ∙ ap₂ (λ (v n : ℕ). header_asked F frame v n image) (sym is) (sym is_given)

@@ -1,18 +1,21 @@
-//! The frames of puddles, read: the words of a header, those of a slot, and whether a header is its puddle's.
+//! The frames of puddles, read: the words of a header, those of a slot, what stands at a place of a pool, and whether a header
+//! is its puddle's.
 //!
 //! Each call takes the number of the device's frames, at most 1,024, and a frame below it, on a device that has the words
 //! which so many frames need. It answers on every content of the device. Nothing changes, and the only errors are the host's
 //! own.
 #![tactic(auto)]
 
-ghost use Rattle.std.specs.Prelude.{◌≡◌, ◌≢◌, ◌+◌, ◌<◌, ◌≤◌, ℕ, Bool, not, ◌&&◌, ◌==◌, Option, IfOk};
+ghost use Rattle.std.specs.Prelude.{◌≡◌, ◌≢◌, ◌+◌, ◌<◌, ◌≤◌, Option, IfOk};
 ghost use Rattle.pm_model.specs.Words.{Image, reads};
 ghost use Rattle.pm_model.specs.Counts.{after_fault, fault_of};
 ghost use Rattle.pud_defs.specs.Layout.{device_words};
 ghost use Rattle.pud_defs.specs.Frames.{frame_word};
-ghost use Rattle.pud_defs.specs.Puddles.{member_ordinal};
-ghost use Rattle.pud_defs.specs.Headers.{slot_word, header_fits};
+ghost use Rattle.pud_defs.specs.Headers.{slot_word, is_header, header_fits};
 
+mod places;
+
+pub use places::{serial_at, slot_at_place};
 use pm_model::{Host, HostFault};
 use pud_defs::layout::{FRAME_WORDS, MAX_FIELDS, MAX_FRAMES, PUDDLE_RECORD_WORDS, PUDDLE_TABLE};
 use pud_defs::records::{PUDDLE_NUMBER_WORD, member_ordinal};
@@ -171,18 +174,37 @@ pub fn slot_field<H: Host>(
     slot_word(h, frames, frame, slot, SLOT_FIELDS_WORD + f)
 }
 
-/// Whether a header of these words is that of the puddle of a record that has this member word and UUID number.
-fn is_header_of(member: u64, given: u64, magic: u64, number: u64, ordinal: u64) -> bool
-    ensures { result ≡ (not (member == 0) && (magic == FRAME_MAGIC && number == given && ordinal == member_ordinal member)) }
+/// Whether a header of these words is that of the puddle with this UUID number and ordinal.
+fn is_header(given: u64, place: u32, magic: u64, number: u64, ordinal: u64) -> bool
+    ensures { result ≡ is_header given place magic number ordinal }
 {
-    member != 0
-        && magic == FRAME_MAGIC
-        && number == given
-        && ordinal == u64::from(member_ordinal(member))
+    magic == FRAME_MAGIC && number == given && ordinal == u64::from(place)
 }
 
-/// Whether the frame has the header of the puddle that its record says it has: the frame magic, the UUID number and the
-/// ordinal. A frame whose record is free has none.
+/// Whether the frame has the header of the puddle with this UUID number and ordinal: the frame magic and both of them.
+pub fn has_header<H: Host>(
+    h: &mut H,
+    frames: u32,
+    frame: u32,
+    given: u64,
+    place: u32,
+) -> Result<bool, HostFault>
+    requires few { frames ≤ MAX_FRAMES }
+    requires room { device_words frames ≤ (H.counts h.old).size }
+    requires known { frame < frames }
+    ensures fits { H.tells → (image : Image) → reads (H.state h.old).now.words ≡ image
+        → IfOk result (λ fits. fits ≡ is_header given place (frame_word frames frame FRAME_MAGIC_WORD image) (frame_word frames frame FRAME_NUMBER_WORD image) (frame_word frames frame FRAME_ORDINAL_WORD image)) }
+    ensures stays { H.tells → H.state h.new ≡ H.state h.old }
+    ensures cause { H.counts h.new ≡ after_fault (fault_of result) (H.counts h.old) }
+    ensures never_cut { fault_of result ≢ Option.Some HostFault.Cut }
+{
+    let magic = frame_magic(h, frames, frame)?;
+    let number = frame_number(h, frames, frame)?;
+    let ordinal = frame_ordinal(h, frames, frame)?;
+    Ok(is_header(given, place, magic, number, ordinal))
+}
+
+/// Whether the frame has the header of the puddle that its record says it has. A frame whose record is free has none.
 pub fn header_fits<H: Host>(h: &mut H, frames: u32, frame: u32) -> Result<bool, HostFault>
     requires few { frames ≤ MAX_FRAMES }
     requires room { device_words frames ≤ (H.counts h.old).size }
@@ -194,9 +216,9 @@ pub fn header_fits<H: Host>(h: &mut H, frames: u32, frame: u32) -> Result<bool, 
 {
     let record = PUDDLE_TABLE + PUDDLE_RECORD_WORDS * frame;
     let member = h.load(record)?;
-    let given = h.load(record + PUDDLE_NUMBER_WORD)?;
-    let magic = frame_magic(h, frames, frame)?;
-    let number = frame_number(h, frames, frame)?;
-    let ordinal = frame_ordinal(h, frames, frame)?;
-    Ok(is_header_of(member, given, magic, number, ordinal))
+    if member == 0 {
+        return Ok(false);
+    }
+    let number = h.load(record + PUDDLE_NUMBER_WORD)?;
+    has_header(h, frames, frame, number, member_ordinal(member))
 }

@@ -19,7 +19,7 @@ ghost use Rattle.pud_defs.specs.Tables.{tables_of, puddle_in};
 ghost use Rattle.pud_defs.specs.Puts.{puddle_put, free_puddle_put, with_put, with_puddle_at, member_by};
 ghost use Rattle.puddle_table.specs.Records.{fault_in, frame_by, added, Adds, CountsPools, CountsMember, is_member, puddle_words_at, frontier_of, IsFrame};
 
-pub use places::{Places, Puddles, find_places};
+pub use places::{Places, Puddles, find_places, find_puddles};
 use pm_model::{Host, HostFault};
 use pud_defs::layout::{MAX_FRAMES, PUDDLE_RECORD_WORDS, PUDDLE_TABLE};
 use pud_defs::records::{

@@ -211,3 +211,21 @@ pub fn find_places<H: Host>(h: &mut H, frames: u32) -> Result<Places, HostFault>
     }
     Ok(found)
 }
+
+/// The puddles of the pool of this slot by their ordinals from 0 on, each with its frame, of so many frames, up to the first
+/// ordinal that no used record has: all of them where the tables are sound. It loads one word of each frame and four words a
+/// puddle.
+///
+/// The device has the puddle table of so many frames, whatever it holds. The only errors are the host's own.
+pub fn find_puddles<H: Host>(h: &mut H, frames: u32, pool: u32) -> Result<Puddles, HostFault>
+    requires pool { pool < POOL_RECORDS }
+    requires few { frames ≤ MAX_FRAMES }
+    requires table { tables_end frames ≤ (H.counts h.old).size }
+    ensures found { H.tells → (image : Image) → reads (H.state h.old).now.words ≡ image → IfOk result (λ puddles. puddles ≡ puddles_in_turn (tables_of frames image) pool) }
+    ensures known { IfOk result (IsOnDevice frames) }
+    ensures stays { H.tells → H.state h.new ≡ H.state h.old }
+    ensures cause { H.counts h.new ≡ after_fault (fault_of result) (H.counts h.old) }
+    ensures never_cut { fault_of result ≢ Option.Some HostFault.Cut }
+{
+    find_places(h, frames)?.of_pool(h, pool)
+}

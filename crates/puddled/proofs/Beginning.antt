@@ -8,7 +8,7 @@ use Rattle.pm_model.specs.Moments.{State}
 use Rattle.pm_model.specs.Calls.{Says}
 use Rattle.pm_model.specs.Changes.{Leaves, Silently}
 use Rattle.pm_model.proofs.Changes.{Changes-said}
-use Rattle.pm_model.proofs.Leaves.{Leaves-changes, Leaves-now, Leaves-then, Leaves-weaker, Leaves-says}
+use Rattle.pm_model.proofs.Leaves.{Leaves-both, Leaves-changes, Leaves-now, Leaves-then, Leaves-weaker, Leaves-says}
 use Rattle.pud_defs.specs.declared.layout.TheConstants.{DAEMON_LOG, CLIENTS}
 use Rattle.pud_defs.specs.Image.{Image}
 use Rattle.pud_defs.specs.Run.{newlines}
@@ -26,7 +26,6 @@ use Rattle.recover.specs.declared.recovery.Report.{Report}
 use Rattle.recover.specs.declared.recovery.RecoverFault.{RecoverFault}
 use Rattle.recover.specs.declared.recovery.RecoverFault.TheVariants as recoveries
 use Rattle.recover.specs.Recovery.{recover_fault, DiffersByRecovery, StandsStill, ReplaysLogs, RecoversDevice}
-use Rattle.recover.proofs.Moments.{Leaves-both}
 use Rattle.ready_daemon.specs.Memory.{Memory}
 use Rattle.ready_daemon.specs.Ready.{KeepsRest, RefusesNone}
 use Rattle.puddled.specs.declared.daemon.StartFault.{StartFault}

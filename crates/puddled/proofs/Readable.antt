@@ -64,12 +64,11 @@ kept_with_graph : (puddles : List (ℕ × Puddle)) (g : Option Graph) → option
 kept_with_graph puddles None = refl
 kept_with_graph puddles (Some graph) = refl
 
-pub puddles_judged : (frames count slot : ℕ) (image : Image) (puddles slice : List (ℕ × Puddle)) (sound : Bool) → count ≡ frames → puddles ≡ puddles_in_turn (tables_of count image) slot → slice ≡ puddles
+pub puddles_judged : (frames slot : ℕ) (image : Image) (puddles slice : List (ℕ × Puddle)) (sound : Bool) → puddles ≡ puddles_in_turn (tables_of frames image) slot → slice ≡ puddles
     → sound ≡ is_some (graph_of (types_of image) (stored_in frames slice image)) → puddles_with_graph frames image slot ≡ cond sound (Some puddles) None
 unfolding puddles_with_graph
-puddles_judged frames count slot image puddles slice sound counted turned same judged =
-    let had : puddles ≡ puddles_in_turn (tables_of frames image) slot = turned ∙ ap (λ (n : ℕ). puddles_in_turn (tables_of n image) slot) counted in
-    ap (λ at. option_map (λ graph. at) (graph_of (types_of image) (stored_in frames at image))) (sym had)
+puddles_judged frames slot image puddles slice sound turned same judged =
+    ap (λ at. option_map (λ graph. at) (graph_of (types_of image) (stored_in frames at image))) (sym turned)
     ∙ kept_with_graph puddles (graph_of (types_of image) (stored_in frames puddles image))
     ∙ ap (λ b. cond b (Some puddles) None) (sym (judged ∙ ap (λ at. is_some (graph_of (types_of image) (stored_in frames at image))) same))
 

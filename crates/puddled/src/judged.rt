@@ -13,7 +13,7 @@ ghost use Rattle.ready_daemon.specs.Judged.{known_in, AreOnDevice, AreJudged};
 use graph_read::pool_is_sound;
 use pm_model::{Host, HostFault};
 use pud_defs::records::{POOL_RECORDS, Puddle};
-use puddle_table::{Puddles, find_places};
+use puddle_table::{Puddles, find_puddles};
 use std::array;
 use std::marker::Model;
 
@@ -44,7 +44,7 @@ fn find_graph<H: Host>(h: &mut H, frames: u32, slot: u32) -> Result<Option<Puddl
     ensures cause { H.counts h.new ≡ after_fault (fault_of result) (H.counts h.old) }
     ensures never_cut { fault_of result ≢ Option.Some HostFault.Cut }
 {
-    let puddles = find_places(h, frames)?.of_pool(h, slot)?;
+    let puddles = find_puddles(h, frames, slot)?;
     if !pool_is_sound(h, frames, puddles.as_slice())? {
         return Ok(None);
     }

@@ -70,7 +70,7 @@ fn refusal_beside(holder: Option<u8>, client: u8) -> Option<Refusal>
     ensures { result ≡ refusal_beside holder client }
 {
     if holder? == client {
-        Some(Refusal::Open)
+        Some(Refusal::OpenHere)
     } else {
         Some(Refusal::Busy)
     }

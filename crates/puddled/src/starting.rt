@@ -15,8 +15,8 @@ ghost use Rattle.puddled.specs.declared.starting.TheConstants.{LINE_LIMIT, TEXT_
 use arrayvec::ArrayString;
 use itoa::Buffer;
 use pm_model::{Host, HostFault};
-use pud_defs::layout::{CLIENT_LOGS, CLIENTS};
-use recover::{LOGS, Mark};
+use pud_defs::layout::{CLIENT_LOGS, CLIENTS, LOGS};
+use recover::Mark;
 
 /// What a start found of each client's log, by its number.
 pub(crate) type Marks = [Mark; LOGS];

@@ -1,16 +1,15 @@
 -- What a command does beside the transactions that are open, from what it does with their words masked.
-use Rattle.std.proofs.Common.{◌≡◌, ◌≢◌, ◌⊎◌, inl, inr, ℕ, ◌+◌, ◌<◌, true, false, List, ◌∷◌, Option, Some, None, refl, sym, ap, subst, ◌∙◌, arith}
+use Rattle.std.proofs.Common.{◌≡◌, ◌≢◌, ◌⊎◌, inl, inr, ℕ, ◌+◌, ◌<◌, true, false, List, Option, Some, None, refl, sym, ap, subst, ◌∙◌, arith}
 use Rattle.std.proofs.lemmas.Bool.{and_from, le-leb, lt-ltb, or_left, or_right}
-use Rattle.std.proofs.lemmas.List.{append_cancel_right}
 use Rattle.std.proofs.lemmas.Option.{none-some, same_Some}
 use Rattle.pm_model.specs.declared.host.HostFault.{HostFault}
 use Rattle.pm_model.specs.declared.host.HostFault.TheVariants.{Cut}
 use Rattle.pm_model.specs.Words.{Has, Cell, values, Words, reads, Picks, HasOnly}
-use Rattle.pm_model.specs.Moments.{Moment, State}
+use Rattle.pm_model.specs.Moments.{State}
 use Rattle.pm_model.specs.Changes.{Write, Footprint, Changes, Leaves, Silently}
 use Rattle.pm_model.specs.Masks.{masked_cell, masked, masked_image}
 use Rattle.pm_model.proofs.Changes.{Changes-said}
-use Rattle.pm_model.proofs.Leaves.{HasOrigin, Leaves-weaker, Leaves-changes}
+use Rattle.pm_model.proofs.Leaves.{HasOrigin, Leaves-both, Leaves-weaker, Leaves-changes}
 use Rattle.pm_model.proofs.Masks.{masked-elsewhere, Picks-masked, Leaves-unmasked}
 use Rattle.pud_defs.specs.declared.layout.TheConstants.{DAEMON_LOG, LOG_WORDS, POOL_TABLE}
 use Rattle.pud_defs.specs.Image.{Image}
@@ -46,24 +45,6 @@ use Rattle.ready_daemon.specs.KnownPools.{KnowsPools}
 use Rattle.ready_daemon.specs.Ready.{IsReady, RefusesNone, StandsBetween, AppliesMasked, Applies}
 
 -- ---- moments
-
--- two claims of the same calls, of which nothing was said: each image has both
-pub Leaves-both : (P Q : Image → Type 0) (old new : State) → Leaves (Silently P) old new → Leaves (Silently Q) old new → Leaves (Silently (λ image. P image × Q image)) old new
-Leaves-both P Q old new p q =
-    let same : q.added ≡ p.added = append_cancel_right q.added p.added (old.now ∷ old.past) (sym q.history ∙ p.history) in
-    record {
-      added = p.added;
-      history = p.history;
-      start = λ image picked. (refl, ((p.start image picked).1, (q.start image picked).1));
-      later = λ m h.
-          let left = p.later m h in
-          let other = q.later m (subst (λ (ms : List Moment). Has ms m) (sym same) h) in
-          record {
-            bytes = left.bytes;
-            said = left.said;
-            each = λ image picked. ((left.each image picked).0, ((left.each image picked).1, (other.each image picked).1));
-          };
-    }
 
 -- each image left while words change has what is claimed of it, and an image of the start that it is from
 pub Leaves-from : (P : Image → Type 0) (may : Footprint) (fault : Option HostFault) (old new : State) → Changes may fault old new → Leaves (Silently P) old new

@@ -13,7 +13,8 @@ use Rattle.pud_defs.specs.Stored.{Stored, word_in_frame, stored_in, places_of, p
 use Rattle.pud_defs.proofs.Keyed.{first_from_at, first_from_some}
 use Rattle.graph_laws.proofs.Grown.{slice_get-front}
 use Rattle.graph_laws.proofs.Places.{object_in-place}
-use Rattle.graph_read.specs.Reading.{places_in, place_in_pool}
+use Rattle.puddle_header.specs.Places.{places_in}
+use Rattle.graph_read.specs.Reading.{place_in_pool}
 use Rattle.registry.proofs.Grown.{still_holds}
 use Rattle.hybrid_tx.proofs.LatersKept.{KeepsPlaces}
 

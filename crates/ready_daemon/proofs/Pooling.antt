@@ -382,10 +382,10 @@ module _ (size : ℕ) (w : World) (memory : Memory) (client uid gid mode F : ℕ
 
 -- the refusals beside what is open
 abbrev open_refusal : ℕ → Option Transaction → Option Refusal
-open_refusal client on = cond (is_others client on) (Some refusals.Busy) (cond (is_own client on) (Some refusals.Open) None)
+open_refusal client on = cond (is_others client on) (Some refusals.Busy) (cond (is_own client on) (Some refusals.OpenHere) None)
 
 -- one is open on the pool, the client's or another's
-by_holder : (own : Bool) → cond (not own) (Some refusals.Busy) (cond own (Some refusals.Open) None) ≡ cond own (Some refusals.Open) (Some refusals.Busy)
+by_holder : (own : Bool) → cond (not own) (Some refusals.Busy) (cond own (Some refusals.OpenHere) None) ≡ cond own (Some refusals.OpenHere) (Some refusals.Busy)
 by_holder true = refl
 by_holder false = refl
 
@@ -394,8 +394,8 @@ open_beside : (client : ℕ) (on : Option Transaction) (session : Option Session
 open_beside client None session is = ap (λ (o : Option Session). refusal_beside (option_map client_in o) client) (sym is)
 open_beside client (Some t) session is = by_holder (eqb t.client client) ∙ ap (λ (o : Option Session). refusal_beside (option_map client_in o) client) (sym is)
 
-some_open : (own : Bool) → cond (not own) (Some refusals.Busy) (cond own (Some refusals.Open) None) ≡ None → ⊥
-some_open true none = let no : Some refusals.Open ≡ None = none in cc
+some_open : (own : Bool) → cond (not own) (Some refusals.Busy) (cond own (Some refusals.OpenHere) None) ≡ None → ⊥
+some_open true none = let no : Some refusals.OpenHere ≡ None = none in cc
 some_open false none = let no : Some refusals.Busy ≡ None = none in cc
 
 -- nothing is open where they refuse nothing

@@ -27,7 +27,7 @@ refusal_found (Err refusal) = Some refusal
 -- why a client may not change a pool on which the transaction of this one is open: it is its own, or another's
 abbrev pub refusal_beside : Option ℕ → (client : ℕ) → Option Refusal
 refusal_beside None client = None
-refusal_beside (Some holder) client = cond (holder == client) (Some refusals.Open) (Some refusals.Busy)
+refusal_beside (Some holder) client = cond (holder == client) (Some refusals.OpenHere) (Some refusals.Busy)
 
 -- the record of the slot is that of the pool of this name
 pub record IsSlotOf (F : ℕ) (name : List ℕ) (image : Image) (slot : ℕ) : Type 0 where

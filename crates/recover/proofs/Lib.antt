@@ -5,5 +5,4 @@ pub mod Marks
 pub mod Accepting
 pub mod TurnTaken
 pub mod TurnsTaken
-pub mod Moments
 pub mod Recovered

@@ -9,7 +9,7 @@ use Rattle.pm_model.specs.Moments.{State}
 use Rattle.pm_model.specs.Changes.{Changes, Leaves, Silently}
 use Rattle.pm_model.proofs.Words.{reads_only, HasOnly-newest}
 use Rattle.pm_model.proofs.Changes.{Changes-said, Changes-wider, Changes-then, HasOnly-kept}
-use Rattle.pm_model.proofs.Leaves.{Leaves-changes, Leaves-then, Leaves-weaker}
+use Rattle.pm_model.proofs.Leaves.{Leaves-both, Leaves-changes, Leaves-then, Leaves-weaker}
 use Rattle.pud_defs.specs.declared.layout.TheConstants.{DAEMON_LOG, TYPE_TABLE}
 use Rattle.pud_defs.specs.declared.log_words.TheConstants.{CLOSED_GATE}
 use Rattle.pud_defs.specs.Image.{Image}
@@ -41,7 +41,6 @@ use Rattle.recover.specs.declared.recovery.Report.{Report}
 use Rattle.recover.specs.Verdicts.{verdict_by, verdict_of}
 use Rattle.recover.specs.Turns.{ByLogs, IsAlike, TakesTurns, LeavesTurns}
 use Rattle.recover.specs.Recovery.{recover_fault, of_load, ByRecovery, DiffersByRecovery, StandsStill, ReplaysLogs, RecoversDevice}
-use Rattle.recover.proofs.Moments.{Leaves-both}
 use Rattle.recover.proofs.TurnsTaken.{none_of_fault}
 
 -- a word beside the gate of the daemon log is as in another image, where the log of that one gives it no value

@@ -19,7 +19,7 @@ use log_entry::{Entry, EntryReader, LogRange};
 use owner_modes::may_write;
 use pm_model::{Host, HostFault};
 use pud_defs::layout::{
-    CLIENT_LOGS, CLIENTS, ENTRY_HEADER_WORDS, FRAME_WORDS, LOG_WORDS, MAX_FRAMES, POOL_TABLE,
+    CLIENT_LOGS, CLIENTS, ENTRY_HEADER_WORDS, FRAME_WORDS, LOG_WORDS, LOGS, MAX_FRAMES, POOL_TABLE,
     PUDDLE_RECORD_WORDS, PUDDLE_TABLE, SPACE_RECORD_WORDS, SPACE_TABLE, log_at,
 };
 use pud_defs::log_words::{gate_hi, gate_lo, gate_used, is_legal_gate};
@@ -49,9 +49,6 @@ impl Mark {
         matches!(self, Mark::Refused)
     }
 }
-
-/// How many logs there are.
-pub const LOGS: usize = (CLIENTS * CLIENT_LOGS) as usize;
 
 /// As whom a client's logs act, by the words of their record. On a device that is not sound they may have any value.
 #[derive(Clone, Copy)]

@@ -8,5 +8,5 @@ mod judge;
 mod recovery;
 mod turn;
 
-pub use judge::{LOGS, Mark};
+pub use judge::Mark;
 pub use recovery::{RecoverFault, Report, recover};

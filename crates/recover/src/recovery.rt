@@ -17,9 +17,10 @@ ghost use Rattle.recover.specs.Verdicts.{verdict_of, mark_of, is_refused_mark};
 ghost use Rattle.recover.specs.Turns.{TakesTurns, LeavesTurns};
 ghost use Rattle.recover.specs.Recovery.{recover_fault, ReplaysLogs, RecoversDevice};
 
-use crate::judge::{LOGS, Mark, judge};
+use crate::judge::{Mark, judge};
 use crate::turn::take_logs;
 use pm_model::{Host, HostFault};
+use pud_defs::layout::LOGS;
 use registry::{LoadFault, load_sound};
 
 /// What a recovery found.

@@ -11,21 +11,12 @@ ghost use Rattle.log_replay.specs.Replaying.{Anything};
 ghost use Rattle.recover.specs.Verdicts.{verdict_of};
 ghost use Rattle.recover.specs.Turns.{TakesTurn, LeavesTurn, TakesTurns, LeavesTurns};
 
-use crate::judge::{LOGS, Mark};
+use crate::judge::Mark;
 use log_replay::{Target, settle_log};
 use pm_model::{Host, HostFault};
 use pm_persist::persist_word;
-use pud_defs::layout::{CLIENT_LOGS, LogNo, MAX_FRAMES, log_at};
+use pud_defs::layout::{LOGS, LogNo, MAX_FRAMES, log_number_at};
 use pud_defs::log_words::CLOSED_GATE;
-
-/// The gate of a log by its number.
-fn log_number_at(frames: u32, number: LogNo) -> u32
-    requires few { frames ≤ MAX_FRAMES }
-    requires known { number < ALL_LOGS }
-    ensures { result ≡ log_number_at frames number }
-{
-    log_at(frames, number / CLIENT_LOGS, number % CLIENT_LOGS)
-}
 
 /// Closes a log none of whose entries is in range, durably. One that has the gate of a closed log stays as it is.
 fn close_idle<H: Host>(h: &mut H, frames: u32, number: LogNo) -> Result<(), HostFault>

@@ -1,5 +1,5 @@
 -- What the calls owe that make a pool grow, from what their batch does.
-use Rattle.std.proofs.Common.{◌≡◌, inr, refl, ℕ, ◌+◌, ◌<◌, List, Option, None, sym, ap, subst, ◌∙◌}
+use Rattle.std.proofs.Common.{◌≡◌, inl, inr, refl, ℕ, ◌+◌, ◌<◌, List, Option, Some, None, sym, ap, subst, ◌∙◌}
 use Rattle.pm_model.specs.declared.host.HostFault.{HostFault}
 use Rattle.pm_model.specs.Words.{reads}
 use Rattle.pm_model.specs.Moments.{State}
@@ -12,46 +12,59 @@ use Rattle.pud_defs.specs.declared.records.PoolRec.{PoolRec}
 use Rattle.pud_defs.specs.Image.{Image}
 use Rattle.pud_defs.specs.Entries.{Entry}
 use Rattle.pud_defs.specs.Frames.{IsFreshFrame}
-use Rattle.pud_defs.specs.Graph.{Graph}
 use Rattle.pud_defs.specs.Tables.{Tables, Pool, tables_of}
 use Rattle.pud_defs.proofs.TablesOf.{frames_of_tables}
 use Rattle.pud_defs.specs.PoolChanges.{changed_pool, with_puddle_more, with_grown_pool}
 use Rattle.pud_defs.specs.World.{StoredWorld}
 use Rattle.batch.specs.Batches.{HasIdleGate, ByBatch}
-use Rattle.batch.specs.Worlds.{IsSettled}
+use Rattle.batch.specs.Worlds.{IsSettled, MovesBy, Moves}
 use Rattle.batch.specs.Tables.{HasDurableTables}
 use Rattle.registry.specs.declared.growing.Growth.{Growth}
 use Rattle.registry.specs.Puts.{puts_batch}
 use Rattle.registry.specs.Pools.{frame_write, PersistsThenCommits, OrStill, KeepsTables, IsPoolAt, ChangesPools}
-use Rattle.registry.specs.Growth.{puddle_count, IsGrowthFor, growing, GrowsSomewhere, HasFreshPuddle, IsOffGrowing, HoldsGraph}
-use Rattle.registry.proofs.Moved.{reads_world}
-use Rattle.registry.proofs.Grown.{MakesPools-grown, grown_world}
+use Rattle.registry.specs.Growth.{puddle_count, IsGrowthFor, growing, GrowsSomewhere, HasFreshPuddle, IsOffGrowing, added_puddle, with_kept_longer, with_wild_grown, IsGrownBy}
+use Rattle.registry.proofs.Moved.{ReadsWorld, MakesPools, pools_next, reads_world}
+use Rattle.registry.proofs.Grown.{MakesPools-grown, MakesPools-wild, grown_world, wild_world}
 use Rattle.registry.proofs.Joined.{free_there, MovesThen, filled_then, ChangesPools-weaker}
 
--- a pool grows: the frame was filled, and then the batch is written
-module _ (size : ℕ) (s : StoredWorld) (slot : ℕ) (r : PoolRec) (p : Growth) (g : Graph) (es : List Entry) (fault : Option HostFault) (a b c : State) (settled : IsSettled size s a.now.words) (within : slot < POOL_RECORDS)
-    (holds : HoldsGraph r.name s g) (is : es ≡ puts_batch (growing slot p)) where
-  abbrev next : StoredWorld
-  next = with_grown_pool r.name s
-
-  abbrev pools : List (List ℕ × Pool)
-  pools = changed_pool r.name with_puddle_more s.pools
-
+-- a pool grows: the frame was filled, and then the batch is written, which makes these pools of the next world
+module _ (size : ℕ) (s next : StoredWorld) (pools : List (List ℕ × Pool)) (slot : ℕ) (r : PoolRec) (p : Growth) (es : List Entry) (fault : Option HostFault) (a b c : State)
+    (stands : pools_next s (s.next_number + 1) pools ≡ next) (settled : IsSettled size s a.now.words) (is : es ≡ puts_batch (growing slot p))
+    (makes : ReadsWorld s (reads a.now.words) → (tables_of s.frames (reads a.now.words)).pools slot ≡ Some r → IsGrowthFor (tables_of s.frames (reads a.now.words)) s.next_number slot p
+    → MakesPools s (s.next_number + 1) pools (growing slot p) (IsFreshFrame s.frames p.frame p.number p.ordinal) (tables_of s.frames (reads a.now.words))) where
   abbrev GrowsThen : Type 0
-  GrowsThen = MovesThen size s next (s.next_number + 1) pools (growing slot p) p.frame p.number p.ordinal es fault a b c (grown_world s r.name) settled is
+  GrowsThen = MovesThen size s next (s.next_number + 1) pools (growing slot p) p.frame p.number p.ordinal es fault a b c stands settled is
 
   grown_behind : p.frame < s.frames → IsPoolAt s.frames slot r a.now.words → IsGrowthFor (tables_of s.frames (reads a.now.words)) s.next_number slot p
       → Persists (frame_write s.frames p.frame p.number p.ordinal) None a b → GrowsThen → ChangesPools size s next (IsFreshFrame s.frames p.frame p.number p.ordinal) fault a c
   grown_behind known at place filled moves =
-      filled_then size s next (s.next_number + 1) pools (growing slot p) p.frame p.number p.ordinal es fault a b c (grown_world s r.name) settled is known
+      filled_then size s next (s.next_number + 1) pools (growing slot p) p.frame p.number p.ordinal es fault a b c stands settled is known
       (record { tables = at.tables; free = free_there s.frames (reads a.now.words) p.frame place.frame })
-      (MakesPools-grown s (reads a.now.words) slot r p g (reads_world size s a.now.words settled at.tables) within at.used place holds) filled moves
+      (makes (reads_world size s a.now.words settled at.tables) at.used place) filled moves
 
   -- on so many frames
-  pub ChangesPools-grown : (F : ℕ) → F ≡ s.frames → p.frame < F → IsPoolAt F slot r a.now.words → IsGrowthFor (tables_of F (reads a.now.words)) s.next_number slot p
+  grown_on : (F : ℕ) → F ≡ s.frames → p.frame < F → IsPoolAt F slot r a.now.words → IsGrowthFor (tables_of F (reads a.now.words)) s.next_number slot p
       → Persists (frame_write F p.frame p.number p.ordinal) None a b → GrowsThen → ChangesPools size s next (IsFreshFrame F p.frame p.number p.ordinal) fault a c
-  ChangesPools-grown F same = subst (λ (n : ℕ). p.frame < n → IsPoolAt n slot r a.now.words → IsGrowthFor (tables_of n (reads a.now.words)) s.next_number slot p
+  grown_on F same = subst (λ (n : ℕ). p.frame < n → IsPoolAt n slot r a.now.words → IsGrowthFor (tables_of n (reads a.now.words)) s.next_number slot p
       → Persists (frame_write n p.frame p.number p.ordinal) None a b → GrowsThen → ChangesPools size s next (IsFreshFrame n p.frame p.number p.ordinal) fault a c) (sym same) grown_behind
+
+module _ (size : ℕ) (s : StoredWorld) (slot : ℕ) (r : PoolRec) (p : Growth) (es : List Entry) (fault : Option HostFault) (a b c : State) (settled : IsSettled size s a.now.words) (within : slot < POOL_RECORDS)
+    (is : es ≡ puts_batch (growing slot p)) where
+  -- the frame is filled, and then the batch is written where each image stands for the world still
+  abbrev GrowsTo : (next : StoredWorld) → Type 0
+  GrowsTo next = (F : ℕ) → F ≡ s.frames → p.frame < F → IsPoolAt F slot r a.now.words → IsGrowthFor (tables_of F (reads a.now.words)) s.next_number slot p
+      → Persists (frame_write F p.frame p.number p.ordinal) None a b → (IsSettled size s b.now.words → MovesBy size s next es b.now.words → Moves size s next es fault b c)
+      → ChangesPools size s next (IsFreshFrame F p.frame p.number p.ordinal) fault a c
+
+  pub ChangesPools-grown : (next : StoredWorld) → IsGrownBy r.name s (added_puddle p) next → GrowsTo next
+  ChangesPools-grown next (inl (g, holds, same)) =
+      subst GrowsTo (sym same)
+      (grown_on size s (with_grown_pool r.name s) (changed_pool r.name with_puddle_more s.pools) slot r p es fault a b c (grown_world s r.name) settled is
+      (λ world used place. MakesPools-grown s (reads a.now.words) slot r p world within used place g holds))
+  ChangesPools-grown next (inr (kept, holds, same)) =
+      subst GrowsTo (sym same)
+      (grown_on size s (with_wild_grown r.name (added_puddle p) kept s) (changed_pool r.name (with_kept_longer (added_puddle p) kept) s.pools) slot r p es fault a b c (wild_world s r.name (added_puddle p) kept) settled is
+      (λ world used place. MakesPools-wild s (reads a.now.words) slot r p world within used place kept holds))
 
 -- ---- behind the search for its place
 

@@ -1,5 +1,5 @@
 -- A pool that grows by a puddle: where that one stands, what its batch writes, and what the world is then.
-use Rattle.std.specs.Prelude.{◌≡◌, ℕ, ◌+◌, ◌<◌, Bool, ◌&&◌, nat_lt, List, [], ◌∷◌, Option, Some, is_some}
+use Rattle.std.specs.Prelude.{◌≡◌, ◌⊎◌, ℕ, ◌+◌, ◌<◌, Bool, ◌&&◌, ◌==◌, nat_lt, cond, List, [], ◌∷◌, length, slice_index, Option, Some, is_some}
 use Rattle.pm_model.specs.declared.host.HostFault.{HostFault}
 use Rattle.pm_model.specs.Moments.{State}
 use Rattle.pm_model.specs.Changes.{Write, written}
@@ -7,22 +7,25 @@ use Rattle.pm_model.specs.Masks.{IsOff}
 use Rattle.pud_defs.specs.declared.layout.TheConstants.{DAEMON_LOG, NUMBER_LIMIT}
 use Rattle.pud_defs.specs.declared.space.TheConstants.{LAST_FRONTIER}
 use Rattle.pud_defs.specs.declared.records.TheConstants.{MAX_PUDDLES}
+use Rattle.pud_defs.specs.declared.records.Puddle.{Puddle}
 use Rattle.pud_defs.specs.declared.records.PuddleRec.{PuddleRec}
 use Rattle.pud_defs.specs.declared.records.Put.{Put}
 use Rattle.pud_defs.specs.Image.{Image}
 use Rattle.pud_defs.specs.Keyed.{first_free, count_used}
-use Rattle.pud_defs.specs.Frames.{IsFreshFrame}
+use Rattle.pud_defs.specs.Frames.{fresh_frame, IsFreshFrame}
 use Rattle.pud_defs.specs.Graph.{Graph}
-use Rattle.pud_defs.specs.Holdings.Holding.{Sound}
+use Rattle.pud_defs.specs.Holdings.Holding.{Sound, Wild}
 use Rattle.pud_defs.specs.Places.{IsLowestBase}
 use Rattle.pud_defs.specs.Puts.{puddle_put}
+use Rattle.pud_defs.specs.Stored.{Stored}
 use Rattle.pud_defs.specs.Tables.{Tables, Pool, members}
-use Rattle.pud_defs.specs.PoolChanges.{pool_named}
+use Rattle.pud_defs.specs.PoolChanges.{pool_named, changed_pool, with_grown_pool}
 use Rattle.pud_defs.specs.World.{StoredWorld}
+use Rattle.graph_laws.specs.Reads.{with_puddle}
 use Rattle.batch.specs.Batches.{ByBatch}
 use Rattle.registry.specs.declared.growing.Growth.{Growth}
 use Rattle.registry.specs.Puts.{puts_batch, number_put}
-use Rattle.registry.specs.Pools.{frame_write, PersistsThenCommits}
+use Rattle.registry.specs.Pools.{frame_write, PersistsThenCommits, ChangesPools}
 
 -- ---- where it stands
 
@@ -90,3 +93,39 @@ pub record HoldsGraph (name : List ℕ) (s : StoredWorld) (g : Graph) : Type 0 w
   pub pool : Pool
   pub there : pool_named name s ≡ Some pool
   pub holds : pool.holding ≡ Sound g
+
+-- ---- a pool that holds no graph
+
+-- the world has a pool of the name, which holds no graph, and this is what it keeps
+pub record HoldsNoGraph (name : List ℕ) (s : StoredWorld) (kept : Stored) : Type 0 where
+  pub pool : Pool
+  pub there : pool_named name s ≡ Some pool
+  pub holds : pool.holding ≡ Wild kept
+
+-- the puddle that is added
+abbrev pub added_puddle : Growth → Puddle
+added_puddle g = record { number = g.number; base = g.base; old_base = g.base; frontier = LAST_FRONTIER }
+
+-- what is kept with this puddle behind the others: its record, and the words of its frame, which is that of a new puddle
+abbrev pub kept_longer : Puddle → Stored → Stored
+kept_longer d kept = with_puddle d (λ o k. cond (o == length kept.puddles) (slice_index (fresh_frame d.number o) k) (kept.word o k)) kept
+
+-- the pool with this puddle more, which holds no graph either
+abbrev pub with_kept_longer : Puddle → Stored → Pool → Pool
+with_kept_longer d kept p = record p { puddles = p.puddles + 1; holding = Wild (kept_longer d kept) }
+
+-- the world with this puddle more in the pool of this name, which kept that, and which took the next UUID number
+unfoldable pub with_wild_grown : List ℕ → Puddle → Stored → StoredWorld → StoredWorld
+with_wild_grown name d kept s = record s { next_number = s.next_number + 1; pools = changed_pool name (with_kept_longer d kept) s.pools }
+
+-- With this puddle more in the pool of the name the world is the next: one that holds a graph holds the same, and one that holds none keeps the
+-- puddle too.
+abbrev pub IsGrownBy : List ℕ → StoredWorld → Puddle → StoredWorld → Type 0
+IsGrownBy name s d next =
+    ((g : Graph) × HoldsGraph name s g × (next ≡ with_grown_pool name s)) ⊎ ((kept : Stored) × HoldsNoGraph name s kept × (next ≡ with_wild_grown name d kept s))
+
+-- The pool of the name and of a slot, which keeps this and holds no graph, grows by some puddle that is the one for it.
+pub record GrowsWild (size : ℕ) (s : StoredWorld) (name : List ℕ) (kept : Stored) (t : Tables) (next slot : ℕ) (fault : Option HostFault) (old new : State) : Type 0 where
+  pub growth : Growth
+  pub is : IsGrowthFor t next slot growth
+  pub changes : ChangesPools size s (with_wild_grown name (added_puddle growth) kept s) (HasFreshPuddle t s.next_number (puddle_count t slot)) fault old new

@@ -13,6 +13,7 @@ ghost use Rattle.pud_defs.specs.Keyed.{first_free};
 ghost use Rattle.pud_defs.specs.Layout.{device_words, tables_end};
 ghost use Rattle.pud_defs.specs.Frames.{IsFreshFrame};
 ghost use Rattle.pud_defs.specs.Graph.{Graph};
+ghost use Rattle.pud_defs.specs.Stored.{Stored};
 ghost use Rattle.pud_defs.specs.Tables.{tables_of};
 ghost use Rattle.pud_defs.specs.PoolChanges.{with_grown_pool};
 ghost use Rattle.pud_defs.specs.World.{StoredWorld};
@@ -20,7 +21,7 @@ ghost use Rattle.batch.specs.Batches.{HasIdleGate, ByBatch};
 ghost use Rattle.batch.specs.Worlds.{IsSettled};
 ghost use Rattle.registry.specs.Puts.{puts_batch};
 ghost use Rattle.registry.specs.Pools.{frame_write, PersistsThenCommits, OrStill, KeepsTables, IsPoolAt, ChangesPools};
-ghost use Rattle.registry.specs.Growth.{puddle_count, has_room, can_grow, IsGrowthFor, IsGrowthWithin, growing, GrowsSomewhere, HasFreshPuddle, IsOffGrowing, HoldsGraph};
+ghost use Rattle.registry.specs.Growth.{puddle_count, has_room, can_grow, IsGrowthFor, IsGrowthWithin, growing, GrowsSomewhere, HasFreshPuddle, IsOffGrowing, HoldsGraph, HoldsNoGraph, added_puddle, IsGrownBy, GrowsWild};
 
 use crate::frames::fill_frame;
 use crate::puts::{add_put, number_put};
@@ -133,9 +134,9 @@ fn grow_at<H: Host>(h: &mut H, frames: u32, slot: u32, growth: Growth) -> Result
     ensures grows { H.tells → (size : ℕ) → size ≡ (H.counts h.old).size → (s : StoredWorld) → frames ≡ s.frames
         → (mask : Write) → IsOff mask (written (frame_write frames growth.frame growth.number growth.ordinal)) → IsOff mask (ByBatch DAEMON_LOG (puts_batch (growing slot growth)))
         → IsSettled size s (masked mask (H.state h.old).now.words)
-        → (r : PoolRec) → IsPoolAt frames slot r (masked mask (H.state h.old).now.words) → (g : Graph) → HoldsGraph r.name s g
+        → (r : PoolRec) → IsPoolAt frames slot r (masked mask (H.state h.old).now.words) → (next : StoredWorld) → IsGrownBy r.name s (added_puddle growth) next
         → IsGrowthFor (tables_of frames (reads (masked mask (H.state h.old).now.words))) s.next_number slot growth
-        → ChangesPools size s (with_grown_pool r.name s) (IsFreshFrame frames growth.frame growth.number growth.ordinal) (fault_of result)
+        → ChangesPools size s next (IsFreshFrame frames growth.frame growth.number growth.ordinal) (fault_of result)
         (masked_state mask (H.state h.old)) (masked_state mask (H.state h.new)) }
     ensures any { H.tells → Changes Anything (fault_of result) (H.state h.old) (H.state h.new) }
     ensures cause { H.counts h.new ≡ after_fault (fault_of result) (H.counts h.old) }
@@ -149,9 +150,10 @@ fn grow_at<H: Host>(h: &mut H, frames: u32, slot: u32, growth: Growth) -> Result
 ///
 /// The device has so many frames and the words that they need. Nothing changes, and the answer is `Ok`, where the pool has 16 puddles,
 /// no UUID number is left below 2^63, or no frame is free. Else the frame is filled and durable before the batch names it. Where each
-/// image stands for a world, the tables are durable, and the slot's record is that of a pool which holds a graph, each image left
-/// meanwhile stands for that world, or for the one in which this pool has a puddle more and the same graph, and then has the frame
-/// filled; at `Ok` each stands for the latter, and the daemon log is closed. The only errors are the host's own.
+/// image stands for a world, the tables are durable, and the slot's record is that of a pool, each image left meanwhile stands for
+/// that world, or for the one in which this pool has a puddle more, and then has the frame filled; at `Ok` each stands for the
+/// latter, and the daemon log is closed. A pool which holds a graph then holds the same one. One that holds none still holds none, and
+/// keeps what it kept, and behind it the record and the words of the new puddle. The only errors are the host's own.
 pub fn grow_pool<H: Host>(h: &mut H, frames: u32, slot: u32) -> Result<(), HostFault>
     requires few { frames ≤ MAX_FRAMES }
     requires room { device_words frames ≤ (H.counts h.old).size }
@@ -166,6 +168,12 @@ pub fn grow_pool<H: Host>(h: &mut H, frames: u32, slot: u32) -> Result<(), HostF
         → IsSettled size s (masked mask (H.state h.old).now.words) → (r : PoolRec) → IsPoolAt frames slot r (masked mask (H.state h.old).now.words) → (g : Graph) → HoldsGraph r.name s g
         → can_grow (tables_of frames image) (image NEXT_NUMBER_WORD) slot ≡ true
         → ChangesPools size s (with_grown_pool r.name s) (HasFreshPuddle (tables_of frames image) s.next_number (puddle_count (tables_of frames image) slot)) (fault_of result)
+        (masked_state mask (H.state h.old)) (masked_state mask (H.state h.new)) }
+    ensures wild { H.tells → (size : ℕ) → size ≡ (H.counts h.old).size → (s : StoredWorld) → frames ≡ s.frames → (image : Image) → reads (H.state h.old).now.words ≡ image
+        → (mask : Write) → KeepsTables frames mask image → IsOffGrowing mask (tables_of frames image) (image NEXT_NUMBER_WORD) slot
+        → IsSettled size s (masked mask (H.state h.old).now.words) → (r : PoolRec) → IsPoolAt frames slot r (masked mask (H.state h.old).now.words) → (kept : Stored) → HoldsNoGraph r.name s kept
+        → can_grow (tables_of frames image) (image NEXT_NUMBER_WORD) slot ≡ true
+        → OrStill (GrowsWild size s r.name kept (tables_of frames image) (image NEXT_NUMBER_WORD) slot) (fault_of result)
         (masked_state mask (H.state h.old)) (masked_state mask (H.state h.new)) }
     ensures any { H.tells → Changes Anything (fault_of result) (H.state h.old) (H.state h.new) }
     ensures cause { H.counts h.new ≡ after_fault (fault_of result) (H.counts h.old) }

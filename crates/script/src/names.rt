@@ -5,14 +5,7 @@ ghost use Rattle.std.specs.List.{list_all};
 ghost use Rattle.pud_defs.specs.Grammar.{is_mode_digit, pool_mode, pool_name};
 ghost use Rattle.pud_defs.specs.Names.{is_name_byte};
 
-use pud_defs::records::{NAME_BYTES, Name};
-
-/// Whether a name may have the byte: a small letter, a digit, or `_`.
-fn is_name_byte(byte: u8) -> bool
-    ensures { result ≡ is_name_byte byte }
-{
-    matches!(byte, b'a'..=b'z' | b'0'..=b'9' | b'_')
-}
+use pud_defs::records::{NAME_BYTES, Name, is_name_byte};
 
 /// Whether a name may have each of the bytes.
 fn are_name_bytes(bytes: &[u8]) -> bool

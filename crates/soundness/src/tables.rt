@@ -21,16 +21,10 @@ use pud_defs::layout::{MAX_OWNER_ID, POOL_TABLE, PUDDLE_RECORD_WORDS, PUDDLE_TAB
 use pud_defs::records::{
     MAX_PUDDLES, POOL_MODE_WORD, POOL_NUMBER_WORD, POOL_OWNER_WORD, POOL_RECORD_WORDS,
     POOL_RECORDS, PUDDLE_BASE_WORD, PUDDLE_FRONTIER_WORD, PUDDLE_NUMBER_WORD, PUDDLE_OLD_BASE_WORD,
-    RECORD_WORDS_READ, is_legal_mode, member_ordinal, member_pool, name_by, owner_gid, owner_uid,
+    RECORD_WORDS_READ, is_legal_mode, is_name_byte, member_ordinal, member_pool, name_by,
+    owner_gid, owner_uid,
 };
 use pud_defs::space::{LAST_FRONTIER, is_legal_base};
-
-/// A small letter, a digit or `_`.
-fn is_name_byte(byte: u8) -> bool
-    ensures { result ≡ is_name_byte byte }
-{
-    byte.is_ascii_lowercase() || byte.is_ascii_digit() || byte == b'_'
-}
 
 /// Whether all bytes are zeros.
 fn are_zero(bytes: &[u8]) -> bool

@@ -14,34 +14,11 @@ ghost use Rattle.word_transaction.specs.Ground.{Ground, IsGround, undo_entry, re
 ghost use Rattle.word_transaction.specs.Running.{IsRunning, IsIdle, MayAppend, IsCovered, nothing, begun, Runs};
 
 use crate::WordTransaction;
+use log_entry::read_values;
 use log_store::{AppendFault, Log};
 use pm_model::{Host, HostFault};
 use pm_persist::write_range;
-use pud_defs::layout::MAX_ENTRY_VALUES;
 use pud_defs::log_words::{REDO_ORDER, REDO_SEQ, UNDO_ORDER, UNDO_SEQ};
-
-/// Reads `n` words, from 1 to 32, from word `from` on: they stand at the front of the array.
-fn read_words<H: Host>(
-    h: &mut H,
-    from: u32,
-    n: u32,
-) -> Result<[u64; MAX_ENTRY_VALUES as usize], HostFault>
-    requires few { n ≤ MAX_ENTRY_VALUES }
-    requires within { from + n ≤ (H.counts h.old).size }
-    ensures taken { H.tells → IfOk result (λ values. take n values ≡ words_from (reads (H.state h.old).now.words) from n) }
-    ensures room { IfOk result (λ values. length values ≡ MAX_ENTRY_VALUES) }
-    ensures stays { H.tells → H.state h.new ≡ H.state h.old }
-    ensures cause { H.counts h.new ≡ after_fault (fault_of result) (H.counts h.old) }
-    ensures never_cut { fault_of result ≢ Option.Some HostFault.Cut }
-{
-    let words = h.words();
-    prove!(n <= words - from);
-    let mut values = [0u64; MAX_ENTRY_VALUES as usize];
-    for i in 0..n {
-        values[i as usize] = h.load(from + i)?;
-    }
-    Ok(values)
-}
 
 impl WordTransaction {
     /// Begins a transaction whose log's gate is word `at`: at `Ok` that log is running, durably, with no entry.
@@ -118,7 +95,7 @@ impl WordTransaction {
             (fault_of result) (H.state h.old) (H.state h.new) }
         ensures cause { H.counts h.new ≡ after_fault (fault_of result) (H.counts h.old) }
     {
-        let values = read_words(h, first, count)?;
+        let values = read_values(h, first, count)?;
         self.append(h, address, UNDO_SEQ, UNDO_ORDER, &values[..count as usize])
     }
 

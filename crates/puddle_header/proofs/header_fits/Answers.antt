@@ -1,20 +1,27 @@
-use Rattle.std.proofs.Common.{◌≡◌, ◌+◌, ap, ◌∙◌}
+use Rattle.std.proofs.Common.{◌≡◌, ℕ, ◌+◌, Bool, IfOk, sym, ap, subst, ◌∙◌, eq-eqb, ne_eqb}
 use Rattle.pm_model.specs.Words.{reads}
 use Rattle.pm_model.specs.Moments.{State}
+use Rattle.pud_defs.specs.declared.space.TheConstants.{FRAME_MAGIC_WORD, FRAME_NUMBER_WORD, FRAME_ORDINAL_WORD}
 use Rattle.pud_defs.specs.Image.{Image}
+use Rattle.pud_defs.specs.Frames.{frame_word}
+use Rattle.pud_defs.specs.Headers.{is_header}
 use Rattle.pud_defs.specs.Puddles.{puddle_record_at}
-use Rattle.puddle_header.proofs.Fits.{header_by_image}
+use Rattle.puddle_header.proofs.Fits.{no_header, header_by_record}
 use Rattle.puddle_header.proofs.header_fits.Goals as goal
+
+pub returns-then-member-eq0-clause-fits : goal.returns-then-member-eq0-clause-fits
+returns-then-member-eq0-clause-fits g c = λ t image same.
+    sym (no_header c.args.frames c.args.frame image c.in_ok-member.member (c.in_ok-member.ensures.value t ∙ ap (λ (i : Image). i (puddle_record_at c.args.frame)) same)
+    (eq-eqb _ _ c.if-member-eq0.true))
 
 pub returns-clause-fits : goal.returns-clause-fits
 returns-clause-fits g c = λ t image same.
-    let at = puddle_record_at c.args.frame in
     let first : reads (g.H.Host.state c.load.new.self).now.words ≡ image = ap (λ (s : State). reads s.now.words) (c.load.ensures.state t) ∙ same in
     let second : reads (g.H.Host.state c.load-2.new.self).now.words ≡ image = ap (λ (s : State). reads s.now.words) (c.load-2.ensures.state t) ∙ first in
-    let third : reads (g.H.Host.state c.frame_magic.new.h).now.words ≡ image = ap (λ (s : State). reads s.now.words) (c.frame_magic.ensures.stays t) ∙ second in
-    let fourth : reads (g.H.Host.state c.frame_number.new.h).now.words ≡ image = ap (λ (s : State). reads s.now.words) (c.frame_number.ensures.stays t) ∙ third in
-    c.is_header_of.ensures
-    ∙ header_by_image c.args.frames c.args.frame image c.in_ok-member.member c.in_ok-given.given c.in_ok-magic.magic c.in_ok-number.number c.in_ok-ordinal.ordinal
-    (c.in_ok-member.ensures.value t ∙ ap (λ (i : Image). i at) same)
-    (c.in_ok-given.ensures.value t ∙ ap (λ (i : Image). i (at + 1)) first)
-    (c.in_ok-magic.ensures.word t image second) (c.in_ok-number.ensures.word t image third) (c.in_ok-ordinal.ensures.word t image fourth)
+    let is = c.in_ok-member.ensures.value t ∙ ap (λ (i : Image). i (puddle_record_at c.args.frame)) same in
+    let is_number = c.in_ok-number.ensures.value t ∙ ap (λ (i : Image). i (puddle_record_at c.args.frame + 1)) first in
+    let asked =
+    ap (λ (o : ℕ). is_header c.in_ok-number.number o (frame_word c.args.frames c.args.frame FRAME_MAGIC_WORD image) (frame_word c.args.frames c.args.frame FRAME_NUMBER_WORD image) (frame_word c.args.frames c.args.frame FRAME_ORDINAL_WORD image))
+    c.member_ordinal.ensures
+    ∙ sym (header_by_record c.args.frames c.args.frame image c.in_ok-member.member c.in_ok-number.number is is_number (ne_eqb _ _ c.if-member-eq0.false)) in
+    subst (λ (b : Bool). IfOk c.has_header.result (λ fits. fits ≡ b)) asked (c.has_header.ensures.fits t image second)

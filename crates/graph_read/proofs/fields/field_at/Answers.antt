@@ -4,8 +4,8 @@ use Rattle.pm_model.specs.Moments.{State}
 use Rattle.pud_defs.specs.declared.space.TheConstants.{SLOT_TYPE_WORD}
 use Rattle.pud_defs.specs.Types.{types_of, map_of}
 use Rattle.graph_read.specs.declared.fields.FieldRead.TheVariants.{Value}
-use Rattle.graph_read.specs.Reading.{place_at}
-use Rattle.graph_read.proofs.Placed.{slot_at_place}
+use Rattle.puddle_header.specs.Places.{place_at}
+use Rattle.puddle_header.proofs.Placed.{slot_at_place}
 use Rattle.graph_read.proofs.Fielded.{field-past, field-there}
 use Rattle.graph_read.proofs.fields.field_at.Goals as goal
 

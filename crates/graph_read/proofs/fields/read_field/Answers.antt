@@ -2,7 +2,8 @@ use Rattle.std.proofs.Common.{◌≡◌, ℕ, ◌∙◌, ap, sym, subst, IfOk, O
 use Rattle.pm_model.specs.Words.{reads}
 use Rattle.pm_model.specs.Moments.{State}
 use Rattle.pud_defs.specs.Graph.{Object, object_at}
-use Rattle.graph_read.specs.Reading.{table_in, place_in_pool, place_at, read_by}
+use Rattle.puddle_header.specs.Places.{place_at}
+use Rattle.graph_read.specs.Reading.{table_in, place_in_pool, read_by}
 use Rattle.graph_read.proofs.Found.{object_in-place}
 use Rattle.graph_read.proofs.fields.read_field.Goals as goal
 

@@ -7,8 +7,9 @@ use Rattle.pud_defs.specs.declared.space.TheConstants.{SLOT_FIELDS_WORD}
 use Rattle.pud_defs.specs.declared.objects.Val.TheVariants.{Ref}
 use Rattle.pud_defs.specs.Stored.{stored_in, place_word}
 use Rattle.pud_defs.specs.Graph.{pointee_at, named_by}
-use Rattle.graph_read.specs.Reading.{table_in, place_at}
-use Rattle.graph_read.proofs.Placed.{slot_at_place}
+use Rattle.puddle_header.specs.Places.{place_at}
+use Rattle.graph_read.specs.Reading.{table_in}
+use Rattle.puddle_header.proofs.Placed.{slot_at_place}
 use Rattle.graph_read.proofs.Fielded.{value_at-slot}
 use Rattle.graph_read.proofs.fields.value_at.Goals as goal
 

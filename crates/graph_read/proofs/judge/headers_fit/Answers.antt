@@ -19,17 +19,17 @@ loop-ordinal-init g c = record {
 pub returns-then-not-branch-clause-fit : goal.returns-then-not-branch-clause-fit
 returns-then-not-branch-clause-fit g c = λ t image same.
     let before = ap (λ (s : State). reads s.now.words) (c.loop-ordinal.invariant.stays t) ∙ same in
-    let here = header_at-read c.args.frames c.args.pool.now image c.loop-ordinal.ordinal c.in_ok-header_fits.field-0 (omega arith) (c.in_ok-header_fits.ensures.fits t image before) in
+    let here = header_at-read c.args.frames c.args.pool.now image c.loop-ordinal.ordinal c.in_ok-has_header.field-0 (omega arith) (c.in_ok-has_header.ensures.fits t image before) in
     sym (headers_fit-each c.args.frames c.args.pool.now image
     ∙ all_below-fails (length c.args.pool.now) c.loop-ordinal.ordinal (header_at (stored_in c.args.frames c.args.pool.now image)) (omega arith) (sym here ∙ c.if-not-branch.true))
 
 pub loop-ordinal-preserved : goal.loop-ordinal-preserved
 loop-ordinal-preserved g c = record {
-  counts = c.header_fits.ensures.cause ∙ ap (λ r. after_fault (fault_of r) (g.H.Host.counts c.loop-ordinal.h)) c.in_ok-header_fits.was ∙ c.loop-ordinal.invariant.counts;
-  stays = λ t. c.header_fits.ensures.stays t ∙ c.loop-ordinal.invariant.stays t;
+  counts = c.has_header.ensures.cause ∙ ap (λ r. after_fault (fault_of r) (g.H.Host.counts c.loop-ordinal.h)) c.in_ok-has_header.was ∙ c.loop-ordinal.invariant.counts;
+  stays = λ t. c.has_header.ensures.stays t ∙ c.loop-ordinal.invariant.stays t;
   passed = λ t image same.
       let before = ap (λ (s : State). reads s.now.words) (c.loop-ordinal.invariant.stays t) ∙ same in
-      let here = header_at-read c.args.frames c.args.pool.now image c.loop-ordinal.ordinal c.in_ok-header_fits.field-0 (omega arith) (c.in_ok-header_fits.ensures.fits t image before) in
+      let here = header_at-read c.args.frames c.args.pool.now image c.loop-ordinal.ordinal c.in_ok-has_header.field-0 (omega arith) (c.in_ok-has_header.ensures.fits t image before) in
       all_below-more c.loop-ordinal.ordinal (header_at (stored_in c.args.frames c.args.pool.now image)) (c.loop-ordinal.invariant.passed t image same) (sym here ∙ c.if-not-branch.false);
 }
 

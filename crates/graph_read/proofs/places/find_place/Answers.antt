@@ -1,7 +1,8 @@
 use Rattle.std.proofs.Common.{◌≡◌, refl, sym, ap, ◌∙◌, arith}
 use Rattle.pm_model.specs.Words.{reads}
 use Rattle.pm_model.specs.Moments.{State}
-use Rattle.graph_read.specs.Reading.{table_in, places_in, place_in_pool}
+use Rattle.puddle_header.specs.Places.{places_in}
+use Rattle.graph_read.specs.Reading.{table_in, place_in_pool}
 use Rattle.graph_read.proofs.Found.{place_from-start, place_from-here, place_from-other, place_from-end, place_of-zero}
 use Rattle.graph_read.proofs.places.find_place.Goals as goal
 

@@ -1,7 +1,8 @@
 use Rattle.std.proofs.Common.{◌≡◌}
 use Rattle.pm_model.specs.Words.{reads}
 use Rattle.pud_defs.specs.Image.{Image}
-use Rattle.graph_read.specs.Reading.{table_in, places_in, place_in_pool}
+use Rattle.puddle_header.specs.Places.{places_in}
+use Rattle.graph_read.specs.Reading.{table_in, place_in_pool}
 use Rattle.graph_read.proofs.Found.{place_from}
 use Rattle.graph_read.proofs.places.find_place.Given as goal
 

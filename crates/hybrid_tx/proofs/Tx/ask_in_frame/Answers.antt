@@ -1,4 +1,4 @@
-use Rattle.std.proofs.Common.{ℕ, ◌+◌, ◌*◌, ◌%◌, ◌^◌, rules, refl, ap}
+use Rattle.std.proofs.Common.{ℕ, ◌+◌, ◌*◌, ◌%◌, ◌^◌, rules, refl, ap, ◌∙◌}
 use Rattle.std.proofs.lemmas.Option.{get_or_from_slice_get}
 use Rattle.pm_model.specs.Counts.{fault_of}
 use Rattle.pud_defs.specs.declared.records.Puddle.{Puddle}
@@ -14,5 +14,5 @@ returns-clause-asks g c =
     let same = get_or_from_slice_get c.args.pool.now c.args.ordinal e _ there in
     Saves-behind frames c.args.pool.now (longer 3 log) _ before _ _ c.ask.result _ _ (search rules) c.ask.ensures.asked
     (Saves-asked frames _ c.args.pool.now c.args.word e c.args.ordinal log (longer 3 log) before redo _ c.args.value (fault_of c.ask.result) _ _
-    placed device apart there c.requires.within (ap (λ (d : ℕ × Puddle). (d.1.base + 8 * c.args.word) % 2 ^ 64) same) s
+    placed device apart there c.requires.within (c.word_address-field.ensures ∙ ap (λ (d : ℕ × Puddle). (d.1.base + 8 * c.args.word) % 2 ^ 64) same) s
     (λ es ground may running. c.ask.ensures.runs t _ refl (pool_ground frames c.args.pool.now) es before ground may running)))

@@ -10,24 +10,24 @@ use Rattle.hybrid_tx.proofs.Tx.begin.Goals as goal
 pub returns-in_err-words-clause-runs : goal.returns-in_err-words-clause-runs
 returns-in_err-words-clause-runs g c =
     let p = err_from_is_err_and c.from_residual.result c.from_residual.ensures.1 in
-    let gate = c.log_at-gate.ensures in
+    let gate = c.log_number_at-gate.ensures in
     let few = c.requires.known in
     rw (p.1, p.2, ← gate) (λ t at before placed idle.
     c.in_err-words.ensures.runs t _ refl (pool_ground c.args.frames at) before (is_ground c.args.frames _ _ at placed c.requires.device (omega arith)) idle)
 
 pub returns-clause-runs : goal.returns-clause-runs
 returns-clause-runs g c =
-    let gate = c.log_at-gate.ensures in
+    let gate = c.log_number_at-gate.ensures in
     let few = c.requires.known in
     rw (← gate) (λ t at before placed idle.
     c.in_ok-words.ensures.runs t _ refl (pool_ground c.args.frames at) before (is_ground c.args.frames _ _ at placed c.requires.device (omega arith)) idle)
 
 pub returns-clause-open : goal.returns-clause-open
 returns-clause-open g c =
-    let gate = c.log_at-gate.ensures in
+    let gate = c.log_number_at-gate.ensures in
     let few = c.requires.known in
     let new = g.H.Host.state c.begin.new.h in
     rw (← gate) (λ t at before placed idle types k is.
-    let ground = is_ground c.args.frames (g.H.Host.counts c.args.h.now).size c.log_at-gate.result at placed c.requires.device (omega arith) in
+    let ground = is_ground c.args.frames (g.H.Host.counts c.args.h.now).size c.log_number_at-gate.result at placed c.requires.device (omega arith) in
     subst (λ (l : OpenLog). IsOpenOn c.args.frames at types l before k k [] new.now.words) (sym c.in_ok-words.ensures.opened)
     (IsOpenOn-begun c.args.frames _ at types before _ k _ new ground idle is (c.in_ok-words.ensures.runs t _ refl (pool_ground c.args.frames at) before ground idle)))

@@ -5,7 +5,7 @@ use Rattle.pm_model.specs.Words.{reads}
 use Rattle.pm_model.specs.Counts.{fault_of}
 use Rattle.pm_model.proofs.Changes.{Changes-still}
 use Rattle.pud_defs.specs.declared.records.Slot.{Slot}
-use Rattle.graph_read.specs.Reading.{place_at, IsSlotOf}
+use Rattle.puddle_header.specs.Places.{place_at, IsSlotOf}
 use Rattle.hybrid_tx.proofs.FieldsSet.{placed_if_live}
 use Rattle.hybrid_tx.proofs.FieldPut.{RunsOn-stopped}
 use Rattle.hybrid_tx.proofs.SlotFreed.{RunsOn-free}

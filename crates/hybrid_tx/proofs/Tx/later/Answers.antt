@@ -7,7 +7,7 @@ use Rattle.pm_model.specs.Moments.{State}
 use Rattle.pm_model.proofs.Changes.{Changes-still}
 use Rattle.pud_defs.specs.declared.records.Slot.{Slot}
 use Rattle.pud_defs.specs.Layout.{device_words}
-use Rattle.graph_read.specs.Reading.{place_at, IsSlotOf}
+use Rattle.puddle_header.specs.Places.{place_at, IsSlotOf}
 use Rattle.hybrid_tx.proofs.FieldPut.{RunsOn-stopped, no_place, no_value, RunsOn-later}
 use Rattle.hybrid_tx.proofs.Tx.later.Goals as goal
 

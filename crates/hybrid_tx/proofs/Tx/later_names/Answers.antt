@@ -7,7 +7,7 @@ use Rattle.pud_defs.specs.Entries.{Log, entries_of}
 use Rattle.pud_defs.specs.Stored.{stored_in}
 use Rattle.pud_defs.specs.Graph.{graph_of}
 use Rattle.log_entry.proofs.Left.{IsReading-start, IsReading-more}
-use Rattle.graph_read.specs.Reading.{place_at}
+use Rattle.puddle_header.specs.Places.{place_at}
 use Rattle.hybrid_tx.specs.Transactions.{AreLaters}
 use Rattle.hybrid_tx.proofs.LatersNamed.{NamesRest-start, NamesRest-more, NamesRest-passed, NamesOne-decided, NamesRest-end, none_named}
 use Rattle.hybrid_tx.proofs.Tx.later_names.Goals as goal

@@ -10,7 +10,7 @@ use Rattle.object_alloc.specs.declared.AllocFault.{AllocFault}
 use Rattle.object_alloc.specs.Alloc.{alloc_fault}
 use Rattle.pm_model.specs.declared.host.HostFault.TheVariants.{Cut}
 use Rattle.pud_defs.specs.GraphChanges.{with_new, blank_object}
-use Rattle.graph_read.specs.Reading.{place_at}
+use Rattle.puddle_header.specs.Places.{place_at}
 use Rattle.hybrid_tx.specs.Transactions.{IsOpenOn, RunsOn, MakesIn}
 use Rattle.hybrid_tx.proofs.FieldPut.{RunsOn-stopped}
 use Rattle.hybrid_tx.proofs.LowestSlot.{one_lowest, lowest_is_free, one_slot, first_there}

@@ -27,7 +27,7 @@ returns-clause-saves g c = λ t placed e there before redo s.
     Saves-behind c.args.frames c.args.pool.now long _ before redo _ c.put.result _ _ c.put.ensures.at c.put.ensures.done
     (Saves-put c.args.frames _ c.args.pool.now c.args.ordinal c.args.word e c.args.self.now long before redo _ _ c.args.vals.now _ (fault_of c.put.result) _ _
     placed c.requires.device c.requires.place there c.requires.some c.requires.within
-    (ap (λ (d : ℕ × Puddle). (d.1.base + 8 * c.args.word) % 2 ^ 64) same)
+    (c.word_address-address.ensures ∙ ap (λ (d : ℕ × Puddle). (d.1.base + 8 * c.args.word) % 2 ^ 64) same)
     (ap (λ (k : ℕ). k + c.args.word) (c.frame_at.ensures ∙ ap (λ (d : ℕ × Puddle). frame_at c.args.frames d.0) same)) s
     (λ es ground may place running. c.put.ensures.runs t _ refl (pool_ground c.args.frames c.args.pool.now) es before ground may place running))
 

@@ -20,7 +20,7 @@ use Rattle.registry.proofs.growing.grow_at.Goals as goal
 pub returns-in_err-fill_frame-clause-grows : goal.returns-in_err-fill_frame-clause-grows
 returns-in_err-fill_frame-clause-grows g c =
     let p = err_from_is_err_and c.from_residual.result c.from_residual.ensures.1 in
-    rw (p.1, p.2) (λ t size same s frames mask off_frame off settled r at graph holds place.
+    rw (p.1, p.2) (λ t size same s frames mask off_frame off settled r at next grown place.
     let write = frame_write c.args.frames c.args.growth.frame c.args.growth.number c.args.growth.ordinal in
     let a = g.H.Host.state c.args.h.now in
     let b = g.H.Host.state c.fill_frame.new.h in
@@ -51,14 +51,14 @@ returns-clause-commits g c = λ t size same idle.
     }
 
 pub returns-clause-grows : goal.returns-clause-grows
-returns-clause-grows g c = λ t size same s frames mask off_frame off settled r at graph holds place.
+returns-clause-grows g c = λ t size same s frames mask off_frame off settled r at next grown place.
     let then = same ∙ sym (ap (λ (n : Counts). n.size) c.in_ok-fill_frame.ensures.cause) in
     let write = frame_write c.args.frames c.args.growth.frame c.args.growth.number c.args.growth.ordinal in
     let a = g.H.Host.state c.args.h.now in
     let b = g.H.Host.state c.fill_frame.new.h in
     let d = g.H.Host.state c.commit.new.h in
     let apart = subst (λ (es : List Entry). IsOff mask (ByBatch DAEMON_LOG es)) (sym c.growing.ensures) off in
-    ChangesPools-grown size s c.args.slot r c.args.growth graph c.growing.result (fault_of c.commit.result) (masked_state mask a) (masked_state mask b) (masked_state mask d) settled c.requires.known holds c.growing.ensures c.args.frames frames
+    ChangesPools-grown size s c.args.slot r c.args.growth c.growing.result (fault_of c.commit.result) (masked_state mask a) (masked_state mask b) (masked_state mask d) settled c.requires.known c.growing.ensures next grown c.args.frames frames
     c.requires.within.frame at place (Persists-masked mask write None a b off_frame (c.in_ok-fill_frame.ensures.fills t)) (λ settled_then moves. c.commit.ensures.moves t size then s _ mask apart settled_then moves)
 
 pub returns-clause-any : goal.returns-clause-any

@@ -5,7 +5,7 @@ use Rattle.pm_model.specs.Words.{reads}
 use Rattle.pud_defs.specs.PoolChanges.{pool_named}
 use Rattle.pud_defs.specs.Stored.{stored_in}
 use Rattle.graph_laws.specs.Slots.{IsLowestFreeSlot}
-use Rattle.graph_read.specs.Reading.{place_at, IsSlotOf}
+use Rattle.puddle_header.specs.Places.{place_at, IsSlotOf}
 use Rattle.hybrid_tx.specs.Transactions.{MakesIn}
 use Rattle.pud_defs.specs.Step.{graph_seen, next_in, grows}
 use Rattle.ready_daemon.specs.Memory.{Held, held_under, with_held}

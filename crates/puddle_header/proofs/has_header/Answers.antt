@@ -1,8 +1,8 @@
 use Rattle.std.proofs.Common.{ap, ◌∙◌}
 use Rattle.pm_model.specs.Words.{reads}
 use Rattle.pm_model.specs.Moments.{State}
-use Rattle.graph_read.proofs.Judging.{is_header-words}
-use Rattle.graph_read.proofs.judge.header_fits.Goals as goal
+use Rattle.puddle_header.proofs.Fits.{is_header-words}
+use Rattle.puddle_header.proofs.has_header.Goals as goal
 
 pub returns-clause-fits : goal.returns-clause-fits
 returns-clause-fits g c = λ t image same.

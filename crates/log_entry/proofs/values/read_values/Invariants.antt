@@ -1,7 +1,7 @@
 use Rattle.std.proofs.Common.{◌≡◌, length, take}
 use Rattle.pm_model.specs.Words.{reads}
 use Rattle.pud_defs.specs.Entries.{words_from}
-use Rattle.word_transaction.proofs.running.read_words.Given as goal
+use Rattle.log_entry.proofs.values.read_values.Given as goal
 
 abbrev pub invariant-loop-i : goal.invariant-loop-i
 invariant-loop-i g l = record {

@@ -9,7 +9,7 @@ use Rattle.pud_defs.specs.Image.{Image}
 use Rattle.pud_defs.specs.Frames.{frame_word, slot_at}
 use Rattle.pud_defs.specs.Headers.{slot_word}
 use Rattle.pud_defs.specs.Stored.{stored_in, place_word, word_in_frame}
-use Rattle.graph_read.specs.Reading.{place_at, IsSlotOf}
+use Rattle.puddle_header.specs.Places.{place_at, IsSlotOf}
 
 -- the ordinal and the slot of a place
 pub place_ordinal : (o s : ℕ) → s < FRAME_SLOTS → (FRAME_SLOTS * o + s) / FRAME_SLOTS ≡ o

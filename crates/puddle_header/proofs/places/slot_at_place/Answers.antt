@@ -1,7 +1,7 @@
 use Rattle.std.proofs.Common.{◌/◌, ◌<◌, length, arith}
 use Rattle.std.proofs.lemmas.Option.{slice_get-get_or}
 use Rattle.pud_defs.specs.declared.space.TheConstants.{FRAME_SLOTS}
-use Rattle.graph_read.proofs.places.slot_at_place.Goals as goal
+use Rattle.puddle_header.proofs.places.slot_at_place.Goals as goal
 
 pub returns-clause-within : goal.returns-clause-within
 returns-clause-within c =

@@ -3,7 +3,7 @@ use Rattle.std.proofs.lemmas.List.{take_more_set, length-set}
 use Rattle.pm_model.specs.Words.{reads}
 use Rattle.pm_model.specs.Moments.{State}
 use Rattle.pud_defs.proofs.Entries.{words_from-more, words_from-none}
-use Rattle.word_transaction.proofs.running.read_words.Goals as goal
+use Rattle.log_entry.proofs.values.read_values.Goals as goal
 
 pub loop-i-init : goal.loop-i-init
 loop-i-init g c = record {

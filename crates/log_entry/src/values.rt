@@ -1,0 +1,34 @@
+//! As many words as an entry has values.
+
+ghost use Rattle.std.specs.Prelude.{◌≡◌, ◌≢◌, ◌+◌, ◌≤◌, Option, IfOk, length, take};
+ghost use Rattle.pm_model.specs.Words.{reads};
+ghost use Rattle.pm_model.specs.Counts.{after_fault, fault_of};
+ghost use Rattle.pud_defs.specs.Entries.{words_from};
+
+use pm_model::{Host, HostFault};
+use pud_defs::layout::MAX_ENTRY_VALUES;
+
+/// Reads `n` words, as many as the values of an entry may be, from word `from` on: they stand at the front of the array.
+///
+/// The words lie in the device. The only errors are the host's own.
+pub fn read_values<H: Host>(
+    h: &mut H,
+    from: u32,
+    n: u32,
+) -> Result<[u64; MAX_ENTRY_VALUES as usize], HostFault>
+    requires few { n ≤ MAX_ENTRY_VALUES }
+    requires within { from + n ≤ (H.counts h.old).size }
+    ensures taken { H.tells → IfOk result (λ values. take n values ≡ words_from (reads (H.state h.old).now.words) from n) }
+    ensures room { IfOk result (λ values. length values ≡ MAX_ENTRY_VALUES) }
+    ensures stays { H.tells → H.state h.new ≡ H.state h.old }
+    ensures cause { H.counts h.new ≡ after_fault (fault_of result) (H.counts h.old) }
+    ensures never_cut { fault_of result ≢ Option.Some HostFault.Cut }
+{
+    let words = h.words();
+    prove!(n <= words - from);
+    let mut values = [0u64; MAX_ENTRY_VALUES as usize];
+    for i in 0..n {
+        values[i as usize] = h.load(from + i)?;
+    }
+    Ok(values)
+}

@@ -1,0 +1,54 @@
+//! The slots of a pool by their places.
+//!
+//! A place is a slot of a puddle, counted over the puddles by their ordinals: 62 times the ordinal, and the slot. A pool is given
+//! by the frames and the records of its puddles by their ordinals, at most 16.
+
+ghost use Rattle.std.specs.Prelude.{◌≡◌, ◌≢◌, ◌<◌, ◌≤◌, Option, IfOk};
+ghost use Rattle.pm_model.specs.Words.{Image, reads};
+ghost use Rattle.pm_model.specs.Counts.{after_fault, fault_of};
+ghost use Rattle.pud_defs.specs.declared.space.TheConstants.{SLOT_SERIAL_WORD};
+ghost use Rattle.pud_defs.specs.Layout.{device_words};
+ghost use Rattle.pud_defs.specs.Stored.{IsOnDevice, stored_in, place_word};
+ghost use Rattle.puddle_header.specs.Places.{places_in, place_at, IsSlotOf};
+
+use crate::slot_serial;
+use pm_model::{Host, HostFault};
+use pud_defs::layout::MAX_FRAMES;
+use pud_defs::records::{Puddle, Slot};
+use pud_defs::space::FRAME_SLOTS;
+
+/// The slot at a place.
+pub fn slot_at_place(pool: &[(u32, Puddle)], place: u32) -> Slot
+    requires { place < places_in pool.now }
+    ensures place { place_at result ≡ place }
+    ensures within { IsSlotOf pool.now result }
+{
+    let ordinal = place / FRAME_SLOTS;
+    let (frame, _) = pool[ordinal as usize];
+    Slot {
+        frame,
+        ordinal,
+        slot: place % FRAME_SLOTS,
+    }
+}
+
+/// The serial at a place, 0 where the place is free. One word is read.
+pub fn serial_at<H: Host>(
+    h: &mut H,
+    frames: u32,
+    pool: &[(u32, Puddle)],
+    place: u32,
+) -> Result<u64, HostFault>
+    requires few { frames ≤ MAX_FRAMES }
+    requires room { device_words frames ≤ (H.counts h.old).size }
+    requires known { IsOnDevice frames pool.now }
+    requires within { place < places_in pool.now }
+    ensures serial { H.tells → (image : Image) → reads (H.state h.old).now.words ≡ image
+        → IfOk result (λ v. v ≡ place_word (stored_in frames pool.now image).word place SLOT_SERIAL_WORD) }
+    ensures stays { H.tells → H.state h.new ≡ H.state h.old }
+    ensures cause { H.counts h.new ≡ after_fault (fault_of result) (H.counts h.old) }
+    ensures never_cut { fault_of result ≢ Option.Some HostFault.Cut }
+{
+    let at = slot_at_place(pool, place);
+    slot_serial(h, frames, at.frame, at.slot)
+}
