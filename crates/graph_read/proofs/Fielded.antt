@@ -20,7 +20,7 @@ use Rattle.pud_defs.specs.Graph.{Content, target, at_place, pointee_at, content,
 use Rattle.pud_defs.specs.Graph.Content.{Number, Null, At, Nowhere}
 use Rattle.graph_read.specs.declared.fields.FieldRead.{FieldRead}
 use Rattle.graph_read.specs.declared.fields.FieldRead.TheVariants.{NoField, Value}
-use Rattle.puddle_header.specs.Places.{place_at}
+use Rattle.puddle_header.specs.Places.{place_of_slot}
 use Rattle.graph_read.specs.Reading.{table_in, pointee_of, read_value, read_by}
 use Rattle.puddle_header.proofs.Placed.{place_ordinal, place_slot}
 
@@ -50,7 +50,7 @@ named-at serial Nowhere o s is = absurd (none-some (pointees.At o s) is)
 
 -- the value of a field by its slot
 pub value_at-slot : (serial : ℕ → ℕ) (puddles : List Puddle) (m f v : ℕ) (s : Slot) → s.slot < FRAME_SLOTS
-    → value_of serial (content puddles m (place_at s) f v) ≡ cond (is_pointer m f) (Ref (named_by serial (pointee_at puddles s.ordinal (s.slot + 1) v))) (Num v)
+    → value_of serial (content puddles m (place_of_slot s) f v) ≡ cond (is_pointer m f) (Ref (named_by serial (pointee_at puddles s.ordinal (s.slot + 1) v))) (Num v)
 value_at-slot serial puddles m f v s below =
     ap₂ (λ (o i : ℕ). value_of serial (cond (is_pointer m f) (pointee_at puddles o (i + 1) v) (Number v))) (place_ordinal s.ordinal s.slot below) (place_slot s.ordinal s.slot below)
     ∙ elim (is_pointer m f) as (λ b. value_of serial (cond b (pointee_at puddles s.ordinal (s.slot + 1) v) (Number v)) ≡ cond b (Ref (named_by serial (pointee_at puddles s.ordinal (s.slot + 1) v))) (Num v)) [

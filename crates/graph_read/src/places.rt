@@ -10,7 +10,7 @@ ghost use Rattle.pud_defs.specs.Layout.{device_words};
 ghost use Rattle.pud_defs.specs.Types.{types_of};
 ghost use Rattle.pud_defs.specs.Stored.{IsOnDevice, stored_in};
 ghost use Rattle.pud_defs.specs.Graph.{Graph, table_of, place_of, graph_of, object_in};
-ghost use Rattle.puddle_header.specs.Places.{places_in, place_at, IsSlotOf};
+ghost use Rattle.puddle_header.specs.Places.{places_in, place_of_slot, IsSlotOf};
 ghost use Rattle.graph_read.specs.Reading.{table_in, place_in_pool};
 
 use pm_model::{Host, HostFault};
@@ -60,7 +60,7 @@ pub fn find_serial<H: Host>(
     requires room { device_words frames ≤ (H.counts h.old).size }
     requires known { IsOnDevice frames pool.now }
     ensures found { H.tells → (image : Image) → reads (H.state h.old).now.words ≡ image
-        → IfOk result (λ found. option_map place_at found ≡ place_in_pool frames pool.now image s) }
+        → IfOk result (λ found. option_map place_of_slot found ≡ place_in_pool frames pool.now image s) }
     ensures object { H.tells → (image : Image) → reads (H.state h.old).now.words ≡ image
         → (g : Graph) → graph_of (types_of image) (stored_in frames pool.now image) ≡ Option.Some g
         → IfOk result (λ found. is_none found ≡ is_none (object_in s g)) }

@@ -25,7 +25,7 @@ use Rattle.pud_defs.specs.GraphChanges.{with_field}
 use Rattle.pud_defs.specs.Laters.{Later}
 use Rattle.graph_laws.specs.Rewriting.{base_of}
 use Rattle.graph_laws.proofs.Words.{few_fields}
-use Rattle.puddle_header.specs.Places.{place_at, IsSlotOf}
+use Rattle.puddle_header.specs.Places.{place_of_slot, IsSlotOf}
 use Rattle.graph_read.specs.Reading.{place_in_pool}
 use Rattle.puddle_header.proofs.Placed.{place_ordinal, place_slot}
 use Rattle.log_store.specs.Store.{OpenLog}
@@ -44,7 +44,7 @@ use Rattle.hybrid_tx.proofs.InFrames.{no_wrap}
 
 -- the address of a slot, by its ordinal
 pub slot_address-read : (at : List (ℕ × Puddle)) (slot : Slot) (of : IsSlotOf at slot) (e : ℕ × Puddle) → (slot.frame, of.puddle) ≡ e → All (λ d. is_legal_base d.1.base ≡ true) at
-    → (e.1.base + WORD_BYTES * slot_at slot.slot) % 2 ^ 64 ≡ address_at at (place_at slot)
+    → (e.1.base + WORD_BYTES * slot_at slot.slot) % 2 ^ 64 ≡ address_at at (place_of_slot slot)
 slot_address-read at slot of e same legal =
     let its : is_legal_base of.puddle.base ≡ true = all_there (λ d. is_legal_base d.1.base ≡ true) at slot.ordinal (slot.frame, of.puddle) legal of.there in
     let ordinal = place_ordinal slot.ordinal slot.slot of.below in
@@ -56,7 +56,7 @@ slot_address-read at slot of e same legal =
     ∙ no_wrap of.puddle.base (slot_at slot.slot) its (omega arith)
     ∙ ap (λ (o : Option Puddle). base_of o + WORD_BYTES * slot_at slot.slot) (sym home)
     ∙ ap (λ (o : ℕ). base_of (slice_get (map (λ (d : ℕ × Puddle). d.1) at) o) + WORD_BYTES * slot_at slot.slot) (sym ordinal)
-    ∙ ap (λ (n : ℕ). base_of (slice_get (map (λ (d : ℕ × Puddle). d.1) at) (place_at slot / 62)) + WORD_BYTES * slot_at n) (sym number)
+    ∙ ap (λ (n : ℕ). base_of (slice_get (map (λ (d : ℕ × Puddle). d.1) at) (place_of_slot slot / 62)) + WORD_BYTES * slot_at n) (sym number)
 
 module _ (F : ℕ) (at : List (ℕ × Puddle)) (types : List (ℕ × ℕ)) (log behind : OpenLog) (before : Image) (undone now : Graph) (laters : List Later) where
   -- a call that failed before it did anything
@@ -81,7 +81,7 @@ module _ (F : ℕ) (at : List (ℕ × Puddle)) (types : List (ℕ × ℕ)) (log 
     no_value = word_if_held types F at (reads old.now.words) now is_open.is may.map f x may.holds
 
     pub RunsOn-set : (size word : ℕ) (slot : Slot) (v : ℕ) (fault : Option HostFault) (mid new : State) → IsPlaced F at → IsRewrittenFor F at (reads old.now.words) s → device_words F ≤ size → log.at + LOG_WORDS ≤ frames_at F
-        → behind.at ≡ log.at → mid ≡ old → IsSlotOf at slot → place_in_pool F at (reads old.now.words) s ≡ Some (place_at slot) → word_for F at (reads old.now.words) x ≡ Some v → word ≡ field_word slot.slot f
+        → behind.at ≡ log.at → mid ≡ old → IsSlotOf at slot → place_in_pool F at (reads old.now.words) s ≡ Some (place_of_slot slot) → word_for F at (reads old.now.words) x ≡ Some v → word ≡ field_word slot.slot f
         → ((e : ℕ × Puddle) → slice_get at slot.ordinal ≡ Some e → (b : Image) (redo : List Entry) → IsSaving F at log b redo mid.now.words
         → Saves F at behind b redo (placed (frame_at F e.0 + word) (v ∷ [])) fault mid new)
         → RunsOn F at types behind before undone (with_field s f x now) laters fault old new
@@ -100,7 +100,7 @@ module _ (F : ℕ) (at : List (ℕ × Puddle)) (types : List (ℕ × ℕ)) (log 
 
     -- the value asked for
     pub RunsOn-later : (size word : ℕ) (slot : Slot) (v : ℕ) (fault : Option HostFault) (mid new : State) → IsPlaced F at → device_words F ≤ size → log.at + LOG_WORDS ≤ frames_at F
-        → behind.at ≡ log.at → mid ≡ old → IsSlotOf at slot → place_in_pool F at (reads old.now.words) s ≡ Some (place_at slot) → word_for F at (reads old.now.words) x ≡ Some v → word ≡ field_word slot.slot f
+        → behind.at ≡ log.at → mid ≡ old → IsSlotOf at slot → place_in_pool F at (reads old.now.words) s ≡ Some (place_of_slot slot) → word_for F at (reads old.now.words) x ≡ Some v → word ≡ field_word slot.slot f
         → ((e : ℕ × Puddle) → slice_get at slot.ordinal ≡ Some e → (b : Image) (redo : List Entry) → IsSaving F at log b redo mid.now.words
         → Saves F at behind b (redo ++ redo_entry (e.1.base + WORD_BYTES * word) (v ∷ []) ∷ []) nothing fault mid new)
         → RunsOn F at types behind before undone now (laters ++ record { s = s; f = f; x = x } ∷ []) fault old new

@@ -26,7 +26,7 @@ use Rattle.graph_laws.proofs.Fields.{graph_of-number, graph_of-null, graph_of-re
 use Rattle.graph_laws.proofs.Places.{object_in-place}
 use Rattle.graph_laws.proofs.StoredImages.{stored_in-written}
 use Rattle.graph_laws.proofs.Words.{place_of-some, few_fields}
-use Rattle.puddle_header.specs.Places.{place_at, IsSlotOf}
+use Rattle.puddle_header.specs.Places.{place_of_slot, IsSlotOf}
 use Rattle.graph_read.specs.Reading.{place_in_pool}
 use Rattle.puddle_header.proofs.Placed.{place_ordinal, place_slot}
 use Rattle.hybrid_tx.specs.Grounds.{IsPlaced, IsRewrittenAt}
@@ -126,9 +126,9 @@ module _ (types : List (ℕ × ℕ)) (F : ℕ) (at : List (ℕ × Puddle)) (imag
 
   -- ---- the field
 
-  module _ (placed : IsPlaced F at) (s f : ℕ) (slot : Slot) (rewritten : IsRewrittenAt at slot.ordinal) (of : IsSlotOf at slot) (found : place_in_pool F at image s ≡ Some (place_at slot)) where
+  module _ (placed : IsPlaced F at) (s f : ℕ) (slot : Slot) (rewritten : IsRewrittenAt at slot.ordinal) (of : IsSlotOf at slot) (found : place_in_pool F at image s ≡ Some (place_of_slot slot)) where
     abbrev p : ℕ
-    p = place_at slot
+    p = place_of_slot slot
 
     module _ (m : ℕ) (object : Object) (live : object_in s g ≡ Some object) (defined : map_of object.type_id types ≡ Some m) (below : f < field_count m) where
       field : IsField types st s p m f

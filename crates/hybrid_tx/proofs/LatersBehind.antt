@@ -27,7 +27,7 @@ use Rattle.graph_laws.specs.Reads.{HasDistinctFrames}
 use Rattle.graph_laws.proofs.Places.{object_in-place}
 use Rattle.graph_laws.proofs.TableChanges.{under_other}
 use Rattle.graph_laws.proofs.Words.{with_word-other, place_of-some}
-use Rattle.puddle_header.specs.Places.{places_in, place_at, IsSlotOf}
+use Rattle.puddle_header.specs.Places.{places_in, place_of_slot, IsSlotOf}
 use Rattle.graph_read.specs.Reading.{place_in_pool}
 use Rattle.hybrid_tx.specs.Grounds.{IsPlaced}
 use Rattle.hybrid_tx.specs.Stores.{field_word, making}
@@ -157,15 +157,15 @@ module _ (F : ℕ) (at : List (ℕ × Puddle)) (image later : Image) (p : ℕ) (
 -- ---- places, when a free slot is filled
 
 module _ (types : List (ℕ × ℕ)) (F : ℕ) (at : List (ℕ × Puddle)) (image : Image) (is_placed : IsPlaced F at) (first : ℕ × Puddle) (head : slice_get at 0 ≡ Some first) (slot : Slot) (of : IsSlotOf at slot)
-    (serial type_id m : ℕ) (free : place_word (stored_in F at image).word (place_at slot) SLOT_SERIAL_WORD ≡ 0) (next : serial ≡ next_serial_of (stored_in F at image)) (defined : map_of type_id types ≡ Some m) where
+    (serial type_id m : ℕ) (free : place_word (stored_in F at image).word (place_of_slot slot) SLOT_SERIAL_WORD ≡ 0) (next : serial ≡ next_serial_of (stored_in F at image)) (defined : map_of type_id types ≡ Some m) where
   abbrev filled : Image
   filled = overwritten (making F first.0 slot serial type_id) image
 
   -- the slots beside it have their serials
-  other_serial : (q : ℕ) → (q ≡ place_at slot → ⊥) → serial_at_place F at filled q ≡ serial_at_place F at image q
+  other_serial : (q : ℕ) → (q ≡ place_of_slot slot → ⊥) → serial_at_place F at filled q ≡ serial_at_place F at image q
   other_serial q other =
       (made types F at image is_placed first head slot of serial type_id m free next defined).others (q / FRAME_SLOTS) (slot_at (q % FRAME_SLOTS) + SLOT_SERIAL_WORD)
-      (λ same above below. let here : q ≡ place_at slot = omega arith in other here) (λ front word. absurd (omega arith))
+      (λ same above below. let here : q ≡ place_of_slot slot = omega arith in other here) (λ front word. absurd (omega arith))
 
   pub KeepsPlaces-new : (now : Graph) → graph_of types (stored_in F at image) ≡ Some now → KeepsPlaces F at at image filled now
   KeepsPlaces-new now is =
@@ -173,8 +173,8 @@ module _ (types : List (ℕ × ℕ)) (F : ℕ) (at : List (ℕ × Puddle)) (imag
         each = λ s o live.
             let known = serial_of_live types (stored_in F at image) now is s o live in
             let last : next_serial_of (stored_in F at image) ≡ now.next_serial = ap (λ (k : Graph). k.next_serial) (graph_of-each types (stored_in F at image) now is).is in
-            let its : serial_at_place F at filled (place_at slot) ≡ next_serial_of (stored_in F at image) = (made types F at image is_placed first head slot of serial type_id m free next defined).serial_word in
-            place_beside F at image filled (place_at slot) other_serial s
+            let its : serial_at_place F at filled (place_of_slot slot) ≡ next_serial_of (stored_in F at image) = (made types F at image is_placed first head slot of serial type_id m free next defined).serial_word in
+            place_beside F at image filled (place_of_slot slot) other_serial s
             (λ same. known.used (sym same ∙ free))
             (λ same. let below = known.below in absurd (omega arith));
       }

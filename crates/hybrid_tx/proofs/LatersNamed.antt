@@ -24,7 +24,7 @@ use Rattle.log_entry.proofs.Left.{entries_left-start, taken, none_left}
 use Rattle.graph_laws.specs.Changes.{AreBases}
 use Rattle.graph_laws.proofs.Pointers.{target-there}
 use Rattle.graph_laws.proofs.Words.{few_fields, IsLive, place_of-some}
-use Rattle.puddle_header.specs.Places.{places_in, place_at, IsSlotOf}
+use Rattle.puddle_header.specs.Places.{places_in, place_of_slot, IsSlotOf}
 use Rattle.graph_read.specs.Reading.{place_in_pool, table_in}
 use Rattle.puddle_header.proofs.Placed.{slot_at_place}
 use Rattle.word_transaction.specs.Ground.{redo_entry, is_redo, asked}
@@ -118,17 +118,17 @@ module _ (F : ℕ) (at : List (ℕ × Puddle)) (types : List (ℕ × ℕ)) (imag
         ap (λ (x : Slot × ℕ). x.1) it,
         word
             ∙ slot_at_place F at image SLOT_SERIAL_WORD guess of (omega arith)
-            ∙ ap (λ (k : Slot). place_word (stored_in F at image).word (place_at k) SLOT_SERIAL_WORD) slot
-            ∙ (place_of-some (table_in F at image) (places_in at) l.s (place_at later.slot) later.place).is,
+            ∙ ap (λ (k : Slot). place_word (stored_in F at image).word (place_of_slot k) SLOT_SERIAL_WORD) slot
+            ∙ (place_of-some (table_in F at image) (places_in at) l.s (place_of_slot later.slot) later.place).is,
       )
 
   -- the type that stands there is that of its object
   pub map_of_later : (guess : Slot) (id : ℕ) → graph_of types (stored_in F at image) ≡ Some now → guess ≡ later.slot → IsSlotOf at guess → id ≡ slot_word F guess.frame guess.slot SLOT_TYPE_WORD image
       → map_of id types ≡ Some later.may.map
   map_of_later guess id is slot of word =
-      let there = object_at_place types F at image now is l.s (place_at later.slot) later.place in
+      let there = object_at_place types F at image now is l.s (place_of_slot later.slot) later.place in
       ap (λ (n : ℕ). map_of n types)
-      (word ∙ slot_at_place F at image SLOT_TYPE_WORD guess of (omega arith) ∙ ap (λ (k : Slot). place_word (stored_in F at image).word (place_at k) SLOT_TYPE_WORD) slot)
+      (word ∙ slot_at_place F at image SLOT_TYPE_WORD guess of (omega arith) ∙ ap (λ (k : Slot). place_word (stored_in F at image).word (place_of_slot k) SLOT_TYPE_WORD) slot)
       ∙ ap (λ (o : Object). map_of o.type_id types) (same_Some _ _ (sym there ∙ later.may.live))
       ∙ later.may.defined
 
@@ -280,5 +280,5 @@ module _ (F : ℕ) (at : List (ℕ × Puddle)) (types : List (ℕ × ℕ)) (imag
   none_named (l ∷ ls) [] are = absurd are
   none_named (l ∷ ls) (e ∷ es) are =
       let later = are.0 in
-      let object : eqb l.s s ≡ false = ne_eqb l.s s (λ same. none-some (place_at later.slot) (sym none ∙ sym (ap (place_in_pool F at image) same) ∙ later.place)) in
+      let object : eqb l.s s ≡ false = ne_eqb l.s s (λ same. none-some (place_of_slot later.slot) (sym none ∙ sym (ap (place_in_pool F at image) same) ∙ later.place)) in
       ap₂ (λ (a b : Bool). a || b) (ap₂ (λ (a b : Bool). a || b) object (value_of_none l.x later.value later.word)) (none_named ls es are.1)

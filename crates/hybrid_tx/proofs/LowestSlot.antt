@@ -7,7 +7,7 @@ use Rattle.pud_defs.specs.declared.records.Puddle.{Puddle}
 use Rattle.pud_defs.specs.declared.records.Slot.{Slot}
 use Rattle.pud_defs.specs.Stored.{Stored}
 use Rattle.graph_laws.specs.Slots.{AreAllLive, IsLowestFreeSlot}
-use Rattle.puddle_header.specs.Places.{place_at, IsSlotOf}
+use Rattle.puddle_header.specs.Places.{place_of_slot, IsSlotOf}
 
 -- no two places are that of the lowest free slot
 pub one_lowest : (st : Stored) (p q : ℕ) → IsLowestFreeSlot st p → IsLowestFreeSlot st q → p ≡ q
@@ -24,7 +24,7 @@ pub lowest_is_free : (st : Stored) (p : ℕ) → IsLowestFreeSlot st p → AreAl
 lowest_is_free st p lowest live = live.each p lowest.within lowest.free
 
 -- slots of a pool at one place are one
-pub one_slot : (at : List (ℕ × Puddle)) (s r : Slot) → IsSlotOf at s → IsSlotOf at r → place_at s ≡ place_at r → s ≡ r
+pub one_slot : (at : List (ℕ × Puddle)) (s r : Slot) → IsSlotOf at s → IsSlotOf at r → place_of_slot s ≡ place_of_slot r → s ≡ r
 one_slot at s r of by same =
     let below = of.below in
     let also = by.below in

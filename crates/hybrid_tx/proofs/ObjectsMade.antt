@@ -22,7 +22,7 @@ use Rattle.pud_defs.specs.GraphChanges.{blank_object, with_new}
 use Rattle.graph_laws.specs.Changes.{IsMade}
 use Rattle.graph_laws.proofs.NewObjects.{graph_of-new}
 use Rattle.graph_laws.proofs.Words.{few_fields}
-use Rattle.puddle_header.specs.Places.{place_at, IsSlotOf}
+use Rattle.puddle_header.specs.Places.{place_of_slot, IsSlotOf}
 use Rattle.puddle_header.proofs.Placed.{place_ordinal, place_slot, stored_word, stored_slot}
 use Rattle.hybrid_tx.specs.Grounds.{IsPlaced}
 use Rattle.hybrid_tx.specs.Stores.{new_words, making}
@@ -86,7 +86,7 @@ module _ (types : List (ℕ × ℕ)) (F : ℕ) (at : List (ℕ × Puddle)) (imag
   later = (stored_in F at after).word
 
   abbrev p : ℕ
-  p = place_at slot
+  p = place_of_slot slot
 
   -- no word of the slot is that of the next serial
   apart_from_next : (j : ℕ) → j < SLOT_WORDS → (frame_at F slot.frame + slot_at slot.slot + j ≡ frame_at F first.0 + NEXT_SERIAL_WORD → ⊥)

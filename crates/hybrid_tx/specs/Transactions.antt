@@ -18,7 +18,7 @@ use Rattle.pud_defs.specs.Replay.{overwritten, is_in_log}
 use Rattle.pud_defs.specs.Stored.{stored_in}
 use Rattle.pud_defs.specs.Graph.{Object, Graph, object_in, field_count, is_held, next_serial_of, graph_of}
 use Rattle.pud_defs.specs.Laters.{Later}
-use Rattle.puddle_header.specs.Places.{place_at, IsSlotOf}
+use Rattle.puddle_header.specs.Places.{place_of_slot, IsSlotOf}
 use Rattle.graph_read.specs.Reading.{place_in_pool}
 use Rattle.log_store.specs.Store.{OpenLog}
 use Rattle.word_transaction.specs.Ground.{redo_entry, asked}
@@ -48,7 +48,7 @@ pub record MaySet (types : List (ℕ × ℕ)) (g : Graph) (s f : ℕ) (x : Val) 
 
 -- Each pointer in the puddle in which, by this image of the pool, the object of a serial lies stands over the pool's bases.
 pub record IsRewrittenFor (F : ℕ) (at : List (ℕ × Puddle)) (image : Image) (s : ℕ) : Type 0 where
-  pub each : (slot : Slot) → IsSlotOf at slot → place_in_pool F at image s ≡ Some (place_at slot) → IsRewrittenAt at slot.ordinal
+  pub each : (slot : Slot) → IsSlotOf at slot → place_in_pool F at image s ≡ Some (place_of_slot slot) → IsRewrittenAt at slot.ordinal
 
 -- The object of a serial is live, and nothing holds it: neither the root nor a pointer field of an object, itself included, names it.
 pub record MayFree (g : Graph) (s : ℕ) : Type 0 where
@@ -63,7 +63,7 @@ pub record MayFree (g : Graph) (s : ℕ) : Type 0 where
 pub record IsLater (F : ℕ) (at : List (ℕ × Puddle)) (types : List (ℕ × ℕ)) (image : Image) (now : Graph) (l : Later) (e : Entry) : Type 0 where
   pub slot : Slot
   pub of : IsSlotOf at slot
-  pub place : place_in_pool F at image l.s ≡ Some (place_at slot)
+  pub place : place_in_pool F at image l.s ≡ Some (place_of_slot slot)
   pub value : ℕ
   pub word : word_for F at image l.x ≡ Some value
   pub may : MaySet types now l.s l.f l.x

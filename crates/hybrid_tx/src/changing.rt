@@ -17,7 +17,7 @@ ghost use Rattle.pud_defs.specs.Graph.{Graph, graph_of};
 ghost use Rattle.log_store.specs.Store.{longer};
 ghost use Rattle.pud_defs.specs.GraphChanges.{with_field, with_new, blank_object, without_object, with_root};
 ghost use Rattle.graph_laws.specs.Slots.{AreAllLive, IsLowestFreeSlot};
-ghost use Rattle.puddle_header.specs.Places.{place_at, IsSlotOf};
+ghost use Rattle.puddle_header.specs.Places.{place_of_slot, IsSlotOf};
 ghost use Rattle.graph_read.specs.Reading.{place_in_pool};
 ghost use Rattle.object_alloc.specs.Alloc.{serial_word_at};
 ghost use Rattle.word_transaction.specs.Running.{ByTransaction};
@@ -41,7 +41,7 @@ use puddle_header::next_serial;
 /// The address of a slot, over the pool's bases.
 pub(crate) fn slot_address(pool: &[(u32, Puddle)], at: &Slot) -> u64
     requires within { IsSlotOf pool.now at.now }
-    ensures address { All (λ e. is_legal_base e.1.base ≡ true) pool.now → result ≡ address_at pool.now (place_at at.now) }
+    ensures address { All (λ e. is_legal_base e.1.base ≡ true) pool.now → result ≡ address_at pool.now (place_of_slot at.now) }
 {
     let (_, puddle) = pool[at.ordinal as usize];
     word_address(puddle.base, slot_at(at.slot))
@@ -155,7 +155,7 @@ impl Tx {
         ensures changes { H.tells → Changes (ByTransaction (pool_ground frames pool.now) self.old.at) (fault_of result) (H.state h.old) (H.state h.new) }
         ensures runs { H.tells → (types : List (ℕ × ℕ)) (m : ℕ) (before : Image) (undone : Graph) (now : Graph) (laters : List Later) → IsPlaced frames pool.now
             → IsOpenOn frames pool.now types self.old before undone now laters (H.state h.old).now.words → map_of t types ≡ Option.Some m → now.next_serial < NUMBER_LIMIT
-            → place_word (stored_in frames pool.now (reads (H.state h.old).now.words)).word (place_at at.now) SLOT_SERIAL_WORD ≡ 0
+            → place_word (stored_in frames pool.now (reads (H.state h.old).now.words)).word (place_of_slot at.now) SLOT_SERIAL_WORD ≡ 0
             → RunsOn frames pool.now types self.new before undone (with_new (blank_object t m) now) laters (fault_of result) (H.state h.old) (H.state h.new) }
         ensures makes { H.tells → (types : List (ℕ × ℕ)) (before : Image) (undone : Graph) (now : Graph) (laters : List Later) → IsPlaced frames pool.now
             → IsOpenOn frames pool.now types self.old before undone now laters (H.state h.old).now.words → now.next_serial < NUMBER_LIMIT
@@ -207,7 +207,7 @@ impl Tx {
             → RunsOn frames pool.now types self.new before undone (with_new (blank_object t m) now) laters (fault_of result) (H.state h.old) (H.state h.new) }
         ensures makes { H.tells → (types : List (ℕ × ℕ)) (before : Image) (undone : Graph) (now : Graph) (laters : List Later) → IsPlaced frames pool.now
             → IsOpenOn frames pool.now types self.old before undone now laters (H.state h.old).now.words → now.next_serial < NUMBER_LIMIT
-            → (slot : Slot) → IsSlotOf pool.now slot → IsLowestFreeSlot (stored_in frames pool.now (reads (H.state h.old).now.words)) (place_at slot)
+            → (slot : Slot) → IsSlotOf pool.now slot → IsLowestFreeSlot (stored_in frames pool.now (reads (H.state h.old).now.words)) (place_of_slot slot)
             → MakesIn frames pool.now self.old.at slot t (fault_of result) (H.state h.old) (H.state h.new) }
         ensures serial { H.tells → (types : List (ℕ × ℕ)) (now : Graph) → graph_of types (stored_in frames pool.now (reads (H.state h.old).now.words)) ≡ Option.Some now
             → (AreAllLive (stored_in frames pool.now (reads (H.state h.old).now.words)) → ⊥) → IfOk result (λ serial. serial ≡ now.next_serial) }

@@ -11,7 +11,7 @@ ghost use Rattle.pm_model.specs.Changes.{only, Writes};
 ghost use Rattle.pud_defs.specs.Layout.{device_words};
 ghost use Rattle.pud_defs.specs.Stored.{IsOnDevice, stored_in};
 ghost use Rattle.graph_laws.specs.Slots.{AreAllLive, IsLowestFreeSlot};
-ghost use Rattle.puddle_header.specs.Places.{places_in, place_at, IsSlotOf};
+ghost use Rattle.puddle_header.specs.Places.{places_in, place_of_slot, IsSlotOf};
 ghost use Rattle.object_alloc.specs.Alloc.{alloc_fault, serial_word_at};
 
 use pm_model::{Host, HostFault};
@@ -82,7 +82,7 @@ pub fn alloc_slot<H: Host>(
     requires room { device_words frames ≤ (H.counts h.old).size }
     requires known { IsOnDevice frames pool.now }
     ensures free { H.tells → (image : Image) → reads (H.state h.old).now.words ≡ image
-        → IfOk result (λ slot. IsLowestFreeSlot (stored_in frames pool.now image) (place_at slot)) }
+        → IfOk result (λ slot. IsLowestFreeSlot (stored_in frames pool.now image) (place_of_slot slot)) }
     ensures full { H.tells → (image : Image) → reads (H.state h.old).now.words ≡ image → alloc_fault result ≡ Option.None
         → (result ≡ Result.Err AllocFault.Full) ↔ AreAllLive (stored_in frames pool.now image) }
     ensures within { IfOk result (IsSlotOf pool.now) }

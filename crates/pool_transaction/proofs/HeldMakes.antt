@@ -21,7 +21,7 @@ use Rattle.pud_defs.specs.Transactions.{charged}
 use Rattle.pud_defs.specs.Types.{map_of}
 use Rattle.pud_defs.specs.World.{Transaction, World}
 use Rattle.graph_laws.specs.Slots.{AreAllLive, IsLowestFreeSlot}
-use Rattle.puddle_header.specs.Places.{place_at, IsSlotOf}
+use Rattle.puddle_header.specs.Places.{place_of_slot, IsSlotOf}
 use Rattle.log_store.specs.Store.{OpenLog, longer}
 use Rattle.hybrid_tx.specs.Grounds.{IsPlaced}
 use Rattle.hybrid_tx.specs.Transactions.{IsOpenOn, RunsOn, MakesIn}
@@ -98,11 +98,11 @@ module _ (size : ℕ) (w : World) (memory : Memory) (held : Held) (old : State) 
     abbrev OwesMakes : (slot : Slot) (id : ℕ) → Option HostFault → State → List (ℕ × Puddle) → Type 0
     OwesMakes slot id fault new puddles =
         IsPlaced F puddles → IsOpenOn F puddles w.stored.types held.log is.before is.undone is.transaction.now is.transaction.laters old.now.words → is.transaction.now.next_serial < NUMBER_LIMIT
-        → IsSlotOf puddles slot → IsLowestFreeSlot (stored_in F puddles (reads old.now.words)) (place_at slot) → MakesIn F puddles held.log.at slot id fault old new
+        → IsSlotOf puddles slot → IsLowestFreeSlot (stored_in F puddles (reads old.now.words)) (place_of_slot slot) → MakesIn F puddles held.log.at slot id fault old new
 
     -- it makes it in the lowest free one
     pub made_lowest : (id : ℕ) → refusal_by_world w held id ≡ None → (fault : Option HostFault) (new : State) (slot : Slot) → OwesMakes slot id fault new at → IsSlotOf held.at slot
-        → IsLowestFreeSlot (stored_in F held.at (reads old.now.words)) (place_at slot) → MakesIn F held.at held.log.at slot id fault old new
+        → IsLowestFreeSlot (stored_in F held.at (reads old.now.words)) (place_of_slot slot) → MakesIn F held.at held.log.at slot id fault old new
     made_lowest id none fault new slot owes of lowest =
         let may = may_make (map_of id w.stored.types) held.log.used (next_in (graph_seen (w.transactions held.name) (pool_named held.name w.stored))) none in
         subst (λ (puddles : List (ℕ × Puddle)). OwesMakes slot id fault new puddles) listed owes

@@ -19,7 +19,7 @@ ghost use Rattle.pud_defs.specs.Step.{refusal_of, after, graph_seen, next_in, gr
 ghost use Rattle.pud_defs.specs.Step.Answer.{of_reply};
 ghost use Rattle.pud_defs.specs.World.{Transaction, World};
 ghost use Rattle.graph_laws.specs.Slots.{IsLowestFreeSlot};
-ghost use Rattle.puddle_header.specs.Places.{place_at, IsSlotOf};
+ghost use Rattle.puddle_header.specs.Places.{place_of_slot, IsSlotOf};
 ghost use Rattle.log_store.specs.Store.{longer};
 ghost use Rattle.word_transaction.specs.Running.{ByTransaction};
 ghost use Rattle.hybrid_tx.specs.Grounds.{pool_ground, IsPlaced, IsRewritten};
@@ -272,7 +272,7 @@ impl Opened {
             → IfOk result (λ serial. serial ≡ 0) × (H.state h.new ≡ H.state h.old) × (self.new ≡ self.old) }
         ensures lowest { H.tells → (size : ℕ) → (w : World) → (memory : Memory) → memory.frames ≡ frames → held_under memory.held (self.old).number ≡ Option.Some self.old
             → IsReady size w memory (H.state h.old) → refusal_by_world w self.old t ≡ Option.None
-            → (slot : Slot) → IsSlotOf (self.old).at slot → IsLowestFreeSlot (stored_in frames (self.old).at (reads (H.state h.old).now.words)) (place_at slot)
+            → (slot : Slot) → IsSlotOf (self.old).at slot → IsLowestFreeSlot (stored_in frames (self.old).at (reads (H.state h.old).now.words)) (place_of_slot slot)
             → MakesIn frames (self.old).at (self.old).log.at slot t (fault_of result) (H.state h.old) (H.state h.new) }
         ensures within { IsHeldWithin frames self.new }
         ensures stays { StaysOpen self.old self.new }

@@ -9,7 +9,7 @@ use Rattle.pud_defs.specs.Image.{Image}
 use Rattle.pud_defs.specs.Frames.{frame_word, slot_at}
 use Rattle.pud_defs.specs.Headers.{slot_word}
 use Rattle.pud_defs.specs.Stored.{stored_in, place_word, word_in_frame}
-use Rattle.puddle_header.specs.Places.{place_at, IsSlotOf}
+use Rattle.puddle_header.specs.Places.{place_of_slot, IsSlotOf}
 
 -- the ordinal and the slot of a place
 pub place_ordinal : (o s : ℕ) → s < FRAME_SLOTS → (FRAME_SLOTS * o + s) / FRAME_SLOTS ≡ o
@@ -32,5 +32,5 @@ stored_slot F at image o s k e there slot below =
 
 -- a word of a slot is that at its place
 pub slot_at_place : (F : ℕ) (at : List (ℕ × Puddle)) (image : Image) (k : ℕ) (s : Slot) → IsSlotOf at s → k < SLOT_WORDS
-    → slot_word F s.frame s.slot k image ≡ place_word (stored_in F at image).word (place_at s) k
+    → slot_word F s.frame s.slot k image ≡ place_word (stored_in F at image).word (place_of_slot s) k
 slot_at_place F at image k s of below = sym (stored_slot F at image s.ordinal s.slot k (s.frame, of.puddle) of.there of.below below)

@@ -9,8 +9,8 @@ abbrev pub places_in : List (ℕ × Puddle) → ℕ
 places_in at = FRAME_SLOTS * length at
 
 -- the place of a slot
-abbrev pub place_at : Slot → ℕ
-place_at s = FRAME_SLOTS * s.ordinal + s.slot
+abbrev pub place_of_slot : Slot → ℕ
+place_of_slot s = FRAME_SLOTS * s.ordinal + s.slot
 
 -- a slot of one of these puddles, in its frame
 pub record IsSlotOf (at : List (ℕ × Puddle)) (s : Slot) : Type 0 where

@@ -9,7 +9,7 @@ ghost use Rattle.pm_model.specs.Counts.{after_fault, fault_of};
 ghost use Rattle.pud_defs.specs.declared.space.TheConstants.{SLOT_SERIAL_WORD};
 ghost use Rattle.pud_defs.specs.Layout.{device_words};
 ghost use Rattle.pud_defs.specs.Stored.{IsOnDevice, stored_in, place_word};
-ghost use Rattle.puddle_header.specs.Places.{places_in, place_at, IsSlotOf};
+ghost use Rattle.puddle_header.specs.Places.{places_in, place_of_slot, IsSlotOf};
 
 use crate::slot_serial;
 use pm_model::{Host, HostFault};
@@ -20,7 +20,7 @@ use pud_defs::space::FRAME_SLOTS;
 /// The slot at a place.
 pub fn slot_at_place(pool: &[(u32, Puddle)], place: u32) -> Slot
     requires { place < places_in pool.now }
-    ensures place { place_at result ≡ place }
+    ensures place { place_of_slot result ≡ place }
     ensures within { IsSlotOf pool.now result }
 {
     let ordinal = place / FRAME_SLOTS;

@@ -10,7 +10,7 @@ use Rattle.object_alloc.specs.declared.AllocFault.{AllocFault}
 use Rattle.object_alloc.specs.Alloc.{alloc_fault}
 use Rattle.pm_model.specs.declared.host.HostFault.TheVariants.{Cut}
 use Rattle.pud_defs.specs.GraphChanges.{with_new, blank_object}
-use Rattle.puddle_header.specs.Places.{place_at}
+use Rattle.puddle_header.specs.Places.{place_of_slot}
 use Rattle.hybrid_tx.specs.Transactions.{IsOpenOn, RunsOn, MakesIn}
 use Rattle.hybrid_tx.proofs.FieldPut.{RunsOn-stopped}
 use Rattle.hybrid_tx.proofs.LowestSlot.{one_lowest, lowest_is_free, one_slot, first_there}
@@ -24,7 +24,7 @@ returns-in-Ok-clause-runs g c = λ t types m before undone now laters placed is_
     let fault = fault_of c.make.result in
     let new = g.H.Host.state c.make.new.h in
     let free = (c.in-Ok.ensures.free t (reads (g.H.Host.state c.args.h.now).now.words) refl).free in
-    subst (λ (s : State). IsOpenOn F pool types c.args.self.now before undone now laters s.now.words → place_word (stored_in F pool (reads s.now.words)).word (place_at c.in-Ok.at) SLOT_SERIAL_WORD ≡ 0
+    subst (λ (s : State). IsOpenOn F pool types c.args.self.now before undone now laters s.now.words → place_word (stored_in F pool (reads s.now.words)).word (place_of_slot c.in-Ok.at) SLOT_SERIAL_WORD ≡ 0
     → RunsOn F pool types c.make.new.self before undone (with_new (blank_object c.args.t m) now) laters fault s new)
     (c.in-Ok.ensures.stays t) (λ still it. c.make.ensures.runs t types m before undone now laters placed still defined room it) is_open free
 
@@ -49,7 +49,7 @@ returns-in-Ok-clause-makes g c = λ t types before undone now laters placed is_o
     let old = g.H.Host.state c.args.h.now in
     let new = g.H.Host.state c.make.new.h in
     let found = c.in-Ok.ensures.free t (reads old.now.words) refl in
-    let same = one_slot pool c.in-Ok.at slot c.in-Ok.ensures.within of (one_lowest (stored_in F pool (reads old.now.words)) (place_at c.in-Ok.at) (place_at slot) found lowest) in
+    let same = one_slot pool c.in-Ok.at slot c.in-Ok.ensures.within of (one_lowest (stored_in F pool (reads old.now.words)) (place_of_slot c.in-Ok.at) (place_of_slot slot) found lowest) in
     subst (λ (s : Slot). MakesIn F pool log.at s c.args.t fault old new) same
     (subst (λ (s : State). IsOpenOn F pool types log before undone now laters s.now.words → MakesIn F pool log.at c.in-Ok.at c.args.t fault s new) (c.in-Ok.ensures.stays t)
     (λ still. c.make.ensures.makes t types before undone now laters placed still room) is_open)
@@ -57,7 +57,7 @@ returns-in-Ok-clause-makes g c = λ t types before undone now laters placed is_o
 pub returns-in-Err-Full-clause-makes : goal.returns-in-Err-Full-clause-makes
 returns-in-Err-Full-clause-makes g c = λ t types before undone now laters placed is_open room slot of lowest.
     let image = reads (g.H.Host.state c.args.h.now).now.words in
-    absurd (lowest_is_free (stored_in c.args.frames c.args.pool.now image) (place_at slot) lowest ((c.in-Err-Full.ensures.full t image refl (ap (λ (e : AllocFault). alloc_fault {T = Slot} (Err e)) c.in-Err-Full.field-0-is)).0 (ap (λ (e : AllocFault). Err e) c.in-Err-Full.field-0-is)))
+    absurd (lowest_is_free (stored_in c.args.frames c.args.pool.now image) (place_of_slot slot) lowest ((c.in-Err-Full.ensures.full t image refl (ap (λ (e : AllocFault). alloc_fault {T = Slot} (Err e)) c.in-Err-Full.field-0-is)).0 (ap (λ (e : AllocFault). Err e) c.in-Err-Full.field-0-is)))
 
 pub returns-in-Err-Host-clause-makes : goal.returns-in-Err-Host-clause-makes
 returns-in-Err-Host-clause-makes g c = λ t types before undone now laters placed is_open room slot of lowest.

@@ -5,7 +5,7 @@ use Rattle.pm_model.specs.Words.{reads}
 use Rattle.pud_defs.specs.PoolChanges.{pool_named}
 use Rattle.pud_defs.specs.Stored.{stored_in}
 use Rattle.graph_laws.specs.Slots.{IsLowestFreeSlot}
-use Rattle.puddle_header.specs.Places.{place_at, IsSlotOf}
+use Rattle.puddle_header.specs.Places.{place_of_slot, IsSlotOf}
 use Rattle.hybrid_tx.specs.Transactions.{MakesIn}
 use Rattle.pud_defs.specs.Step.{graph_seen, next_in, grows}
 use Rattle.ready_daemon.specs.Memory.{Held, held_under, with_held}
@@ -70,7 +70,7 @@ returns-clause-lowest g c = λ t size w memory frames there ready none slot of l
     let new = g.H.Host.state c.new-made.new.h in
     let fault = fault_of c.new-made.result in
     subst (λ (o : Held).
-    held_under memory.held o.number ≡ Some o → refusal_by_world w o c.args.t ≡ None → IsSlotOf o.at slot → IsLowestFreeSlot (stored_in c.args.frames o.at (reads old.now.words)) (place_at slot)
+    held_under memory.held o.number ≡ Some o → refusal_by_world w o c.args.t ≡ None → IsSlotOf o.at slot → IsLowestFreeSlot (stored_in c.args.frames o.at (reads old.now.words)) (place_of_slot slot)
     → MakesIn c.args.frames o.at o.log.at slot c.args.t fault old new)
     c.self.view_is
     (λ there none.
