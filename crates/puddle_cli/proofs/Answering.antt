@@ -35,11 +35,11 @@ use Rattle.puddled.specs.Daemon.{KeepsLine, Answers}
 use Rattle.ready_daemon.specs.Ready.{IsReady, RefusesNone}
 use Rattle.puddle_cli.specs.Serving.{KeepsScript, IsUnsoundBehindLoss, Takes, TakesAtMost, TakesAll, CountsPending, AllowsLogs, AnswersLine, Serves, Answered}
 
-nothing_from_take : (line : List ℕ) → take 129 line ≡ [] → line ≡ []
+pub nothing_from_take : (line : List ℕ) → take 129 line ≡ [] → line ≡ []
 nothing_from_take [] e = refl
 nothing_from_take (b ∷ line) e = absurd (cc)
 
-nothing_long : (line : List ℕ) → length line ≡ 0 → line ≡ []
+pub nothing_long : (line : List ℕ) → length line ≡ 0 → line ≡ []
 nothing_long [] e = refl
 nothing_long (b ∷ line) e = absurd (omega arith)
 
@@ -49,7 +49,7 @@ kept_shorter (suc n) [] byte = refl
 kept_shorter (suc n) (x ∷ xs) byte = ap (λ (l : List ℕ). x ∷ l) (kept_shorter n xs byte)
 
 -- what is kept of a line with a byte more is what is kept of the part kept with that byte
-kept_more : (xs : List ℕ) (byte : ℕ) → take 129 (take 129 xs ++ byte ∷ []) ≡ take 129 (xs ++ byte ∷ [])
+pub kept_more : (xs : List ℕ) (byte : ℕ) → take 129 (take 129 xs ++ byte ∷ []) ≡ take 129 (xs ++ byte ∷ [])
 kept_more xs byte = kept_shorter 129 xs byte
 
 -- the line that was kept in part, by its whole

@@ -19,6 +19,7 @@ use Rattle.puddle_cli.specs.Status.{status_fault, IsStatusOfMode}
 use Rattle.puddle_cli.specs.Views.{text_of}
 use Rattle.puddle_cli.specs.Formatting.{is_refused, Formats}
 use Rattle.puddle_cli.specs.Serving.{IsUnsoundBehindLoss}
+use Rattle.puddle_cli.specs.Replying.{RunSays}
 use Rattle.puddle_cli.specs.Headline.{TakesScript, Headline}
 
 -- neither count of the host rose: no call failed, and power was not lost
@@ -36,11 +37,12 @@ pub record FormatsDevice (F id status : ℕ) (before after : Counts) (old new : 
   pub completes : is_refused before.size F (reads old.now.words) ≡ false → NoneRose before after → status ≡ DONE
 
 -- The mode `run`. On a device that was rested it is refused exactly where what the device reads is not sound, and the device then stays; where
--- it is sound and neither count rose the script was run. Whatever the device holds, it is refused only where that is not sound, or where power
+-- it is sound and neither count rose the script was run. Whatever the device holds, the start's text is said, and one answer for each line taken; and it is refused only where that is not sound, or where power
 -- was lost meanwhile and what the device then reads is not sound. From a rested device that stands for a world without clients there is one run of the
 -- machine that the headline speaks of.
 pub record RunsScript (status : ℕ) (before after : Counts) (old new : State) : Type 0 where
   pub takes : TakesScript status old new
+  pub says : RunSays status old new
   pub not_usable : IsRested old.now.words → status_fault status ≡ None → (status ≡ NOT_USABLE) ↔ (world_of before.size (reads old.now.words) ≡ None)
   pub not_sound : status ≡ NOT_USABLE → (world_of before.size (reads old.now.words) ≡ None) ⊎ IsUnsoundBehindLoss before after new
   pub stays : IsRested old.now.words → status ≡ NOT_USABLE → new ≡ old

@@ -10,6 +10,7 @@ ghost use Rattle.ready_daemon.specs.Ready.{IsReady};
 ghost use Rattle.puddle_cli.specs.declared.piece.TheConstants.{KEPT};
 ghost use Rattle.puddle_cli.specs.Status.{status_fault, IsStatusOfMode, Causes};
 ghost use Rattle.puddle_cli.specs.Serving.{KeepsScript, IsUnsoundBehindLoss, Takes, TakesOne, TakesBy, AnswersLine, Serves, Answered, AnsweredBy};
+ghost use Rattle.puddle_cli.specs.Replying.{HearsLine, Hears, Heard, HeardBy, RunSays};
 ghost use Rattle.puddle_cli.specs.Headline.{TakesScript, Headline};
 
 use crate::piece::Piece;
@@ -30,6 +31,8 @@ fn answer<H: Host>(
     ensures answers { H.tells → (size : ℕ) → size ≡ (H.counts h.old).size → (w : World) → IsReady size w daemon.old (H.state h.old)
         → (line : List ℕ) → piece.old ≡ take KEPT line
         → AnswersLine size w line (run_fault result) daemon.new (H.counts h.old) (H.counts h.new) (H.state h.old) (H.state h.new) }
+    // Whatever the device holds: one answer is said to a line that is not empty.
+    ensures hears { H.tells → (line : List ℕ) → piece.old ≡ take KEPT line → HearsLine line (run_fault result) (H.state h.old) (H.state h.new) }
     ensures piece { OnOk result (piece.new ≡ []) }
     ensures not_sound { H.tells → result ≡ Result.Err RunFault.NotSound → IsUnsoundBehindLoss (H.counts h.old) (H.counts h.new) (H.state h.new) }
     ensures room { device_words daemon.new.frames ≤ (H.counts h.old).size }
@@ -59,6 +62,8 @@ fn serve_byte<H: Host>(
     ensures answered { H.tells → (size : ℕ) → size ≡ (H.counts h.old).size → (w : World) → (before : Counts) → (start : State)
         → Serves size w before start (H.counts h.old) daemon.old (H.state h.old) piece.old
         → IfErr result (λ fault. Answered size w false (Option.Some fault) before (H.counts h.new) start (H.state h.new)) }
+    ensures hears { H.tells → (start : State) → Hears start (H.state h.old) piece.old → IfOk result (λ more. Hears start (H.state h.new) piece.new) }
+    ensures heard { H.tells → (start : State) → Hears start (H.state h.old) piece.old → IfErr result (λ fault. Heard false (Option.Some fault) start (H.state h.new)) }
     ensures takes { H.tells → (count : ℕ) → (start : State) → Takes count start (H.state h.old)
         → TakesOne result count start (H.state h.new) }
     ensures not_sound { H.tells → result ≡ Result.Err RunFault.NotSound → IsUnsoundBehindLoss (H.counts h.old) (H.counts h.new) (H.state h.new) }
@@ -83,6 +88,7 @@ fn serve_script<H: Host>(alloc: Global, daemon: &mut Daemon, h: &mut H) -> Resul
     requires { device_words daemon.old.frames ≤ (H.counts h.old).size }
     ensures answered { H.tells → (size : ℕ) → size ≡ (H.counts h.old).size → (w : World) → IsReady size w daemon.old (H.state h.old)
         → AnsweredBy size w result (H.counts h.old) (H.counts h.new) (H.state h.old) (H.state h.new) }
+    ensures heard { H.tells → HeardBy result (H.state h.old) (H.state h.new) }
     ensures takes { H.tells → TakesBy result (H.state h.old) (H.state h.new) }
     ensures not_sound { H.tells → result ≡ Result.Err RunFault.NotSound → IsUnsoundBehindLoss (H.counts h.old) (H.counts h.new) (H.state h.new) }
     ensures cause { Ends (run_fault result) (H.counts h.old) (H.counts h.new) }
@@ -102,6 +108,7 @@ fn serve<H: Host>(alloc: Global, daemon: Daemon, h: &mut H) -> Result<bool, RunF
     requires { device_words daemon.frames ≤ (H.counts h.old).size }
     ensures answered { H.tells → (size : ℕ) → size ≡ (H.counts h.old).size → (w : World) → IsReady size w daemon (H.state h.old)
         → AnsweredBy size w result (H.counts h.old) (H.counts h.new) (H.state h.old) (H.state h.new) }
+    ensures heard { H.tells → HeardBy result (H.state h.old) (H.state h.new) }
     ensures takes { H.tells → TakesBy result (H.state h.old) (H.state h.new) }
     ensures not_sound { H.tells → result ≡ Result.Err RunFault.NotSound → IsUnsoundBehindLoss (H.counts h.old) (H.counts h.new) (H.state h.new) }
     ensures cause { Ends (run_fault result) (H.counts h.old) (H.counts h.new) }
@@ -124,6 +131,8 @@ pub fn run<H: Host>(alloc: Global, h: &mut H) -> u8
         → (Rose (H.counts h.old).faults (H.counts h.new).faults → ⊥) → (Rose (H.counts h.old).cuts (H.counts h.new).cuts → ⊥)
         → (result ≡ DONE) ⊎ (result ≡ TOO_LONG) }
     ensures takes { H.tells → TakesScript result (H.state h.old) (H.state h.new) }
+    // Whatever the device holds: the start's text is said, and one answer for each line taken, in turn.
+    ensures speaks { H.tells → RunSays result (H.state h.old) (H.state h.new) }
     ensures headline { H.tells → (w : World) → w.clients ≡ no_clients → w.transactions ≡ nothing_open → IsRested (H.state h.old).now.words → (H.state h.old).shelf ≡ w.shelf
         → world_of (H.counts h.old).size (reads (H.state h.old).now.words) ≡ Option.Some (closed w)
         → Headline (H.counts h.old).size w result (H.counts h.old) (H.counts h.new) (H.state h.old) (H.state h.new) }

@@ -1,5 +1,5 @@
 -- One line, from what was done without a word to what was said of it.
-use Rattle.std.proofs.Common.{◌≡◌, ◌≢◌, inl, inr, ℕ, zero, suc, ◌≤◌, Bool, true, false, List, [], ◌∷◌, ◌++◌, take, drop, Option, Some, None, Result, Ok, Err, IfOk, refl, sym, ap, subst, ◌∙◌, arith, take-append-drop}
+use Rattle.std.proofs.Common.{◌≡◌, ◌≢◌, cond, inl, inr, ℕ, zero, suc, ◌≤◌, Bool, true, false, List, [], ◌∷◌, ◌++◌, take, drop, Option, Some, None, Result, Ok, Err, IfOk, refl, sym, ap, subst, ◌∙◌, arith, take-append-drop}
 use Rattle.std.proofs.lemmas.List.{append-nil, drop_all}
 use Rattle.pm_model.specs.declared.host.HostFault.{HostFault}
 use Rattle.pm_model.specs.Counts.{Counts}
@@ -33,7 +33,7 @@ use Rattle.ready_daemon.specs.Held.{Holds, HasDurableFrames, HasIdleLogs}
 use Rattle.ready_daemon.proofs.Beside.{ready_stands}
 use Rattle.ready_daemon.specs.Ready.{KeepsRest, KeepsInput, IsReady, IsClosedIfFree, ClosesFirst, ClosesLogs, RefusesNone}
 use Rattle.puddled.specs.Saying.{EndsIn, SaysPart}
-use Rattle.puddled.specs.Daemon.{KeepsAllBut, KeepsLine, Settles, spoken, SaysAnswer, Answers}
+use Rattle.puddled.specs.Daemon.{KeepsAllBut, KeepsLine, Settles, spoken, IsAnswerText, SaysAnswer, Answers}
 use Rattle.puddled.proofs.Listed.{said_when_ready}
 use Rattle.puddled.proofs.Settling.{Between}
 use Rattle.pud_defs.proofs.Changing.{KeepsFiles-still, KeepsFiles-then}
@@ -242,17 +242,33 @@ KeepsLine-unsaid file old new k = record { script = k.script; files = k.files }
 
 -- ---- what is said of a line, whatever the device holds
 
-pub SaysAnswer-aloud : (frames now : ℕ) (ok : Bool) (answered : Answered) (old mid new : State) → ((w : World) → ok ≡ begins_with_ok (answer_of w answered)) → mid.now.said ≡ old.now.said → frames ≡ now
-    → Says (said_text frames (reads mid.now.words) answered) None mid new → SaysAnswer now true ok old new
-SaysAnswer-aloud frames now ok answered old mid new is quiet same says =
-    let text : said_text frames (reads mid.now.words) answered ≡ said_text now (reads new.now.words) answered =
-    ap (λ (n : ℕ). said_text n (reads mid.now.words) answered) same ∙ ap (λ (x : Words). said_text now (reads x) answered) (sym (words_said _ None mid new says)) in
-    record {
-      answered = answered;
-      ok_of = is;
-      said = said_all (said_text frames (reads mid.now.words) answered) mid new says ∙ ap (λ (l : List ℕ). l ++ said_text frames (reads mid.now.words) answered) quiet
-          ∙ ap (λ (l : List ℕ). old.now.said ++ l) text;
-    }
+-- a part of a text is said behind a silent call
+SaysPart-behind : (text : List ℕ) (fault : Option HostFault) (old mid new : State) → mid.now.said ≡ old.now.said → Says text fault mid new → SaysPart text fault old new
+SaysPart-behind text fault old mid new quiet says =
+    let p = SaysPart-says text fault mid new says in
+    record { bytes = p.bytes; rest = p.rest; part = p.part; said = p.said ∙ ap (λ (l : List ℕ). l ++ p.bytes) quiet; whole = p.whole }
 
-pub SaysAnswer-unsaid : (now : ℕ) (ok : Bool) (answered : Answered) (old new : State) → ((w : World) → ok ≡ begins_with_ok (answer_of w answered)) → new.now.said ≡ old.now.said → SaysAnswer now false ok old new
-SaysAnswer-unsaid now ok answered old new is quiet = record { answered = answered; ok_of = is; said = quiet ∙ sym (append-nil old.now.said) }
+pub SaysAnswer-aloud : (frames now : ℕ) (result : Result Bool RunFault) (fault : Option HostFault) (answered : Answered) (old mid new : State) → IfOk result (λ ok. (w : World) → ok ≡ begins_with_ok (answer_of w answered))
+    → mid.now.said ≡ old.now.said → frames ≡ now → (run_fault result ≡ None → fault ≡ None) → Says (said_text frames (reads mid.now.words) answered) fault mid new → SaysAnswer now true result old new
+SaysAnswer-aloud frames now result fault answered old mid new is quiet same none says =
+    let text : said_text frames (reads mid.now.words) answered ≡ said_text now (reads new.now.words) answered =
+    ap (λ (n : ℕ). said_text n (reads mid.now.words) answered) same ∙ ap (λ (x : Words). said_text now (reads x) answered) (sym (words_said _ fault mid new says)) in
+    let p = subst (λ (l : List ℕ). SaysPart l fault old new) text (SaysPart-behind _ fault old mid new quiet says) in
+    record { answered = answered; ok = is; text = said_text now (reads new.now.words) answered; is = refl; says = record { bytes = p.bytes; rest = p.rest; part = p.part; said = p.said; whole = λ n. p.whole (none n) } }
+
+pub SaysAnswer-unsaid : (now : ℕ) (ok : Bool) (answered : Answered) (old new : State) → ((w : World) → ok ≡ begins_with_ok (answer_of w answered)) → new.now.said ≡ old.now.said → SaysAnswer now false (Ok ok) old new
+SaysAnswer-unsaid now ok answered old new is quiet = record { answered = answered; ok = is; text = said_text now (reads new.now.words) answered; is = refl; says = record { bytes = []; rest = []; part = refl; said = quiet ∙ sym (append-nil old.now.said); whole = λ none. refl } }
+
+-- what is said of a line is the text of an answer
+pub is_answer_text : (frames : ℕ) (aloud : Bool) (result : Result Bool RunFault) (old new : State) → (s : SaysAnswer frames aloud result old new) → IsAnswerText s.text
+is_answer_text frames aloud result old new s = record { frames = frames; image = reads new.now.words; answered = s.answered; is = s.is }
+
+-- nothing was said before the fault
+pub SaysAnswer-failed : (now : ℕ) (aloud : Bool) (fault : RunFault) (answered : Answered) (old new : State) → new.now.said ≡ old.now.said → SaysAnswer now aloud (Err fault) old new
+SaysAnswer-failed now aloud fault answered old new quiet = record {
+  answered = answered;
+  ok = tt;
+  text = said_text now (reads new.now.words) answered;
+  is = refl;
+  says = record { bytes = []; rest = cond aloud (said_text now (reads new.now.words) answered) []; part = refl; said = quiet ∙ sym (append-nil old.now.said); whole = λ none. absurd (cc) };
+}

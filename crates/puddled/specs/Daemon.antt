@@ -1,8 +1,8 @@
 -- What one line does, at every moment.
-use Rattle.std.specs.Prelude.{◌≡◌, ◌≢◌, ◌⊎◌, ℕ, Bool, cond, List, [], ◌∷◌, ◌++◌, Option, Some, None, Result, IfOk}
+use Rattle.std.specs.Prelude.{◌≡◌, ◌≢◌, ◌⊎◌, ℕ, Bool, cond, List, [], ◌∷◌, Option, Some, None, Result, IfOk}
 use Rattle.pm_model.specs.declared.host.HostFault.{HostFault}
 use Rattle.pm_model.specs.declared.host.HostFault.TheVariants as hosts
-use Rattle.pm_model.specs.Words.{reads}
+use Rattle.pm_model.specs.Words.{Image, reads}
 use Rattle.pm_model.specs.Counts.{Counts, fault_of}
 use Rattle.pm_model.specs.Moments.{State}
 use Rattle.pm_model.specs.Changes.{Leaves, Silently}
@@ -65,12 +65,21 @@ pub record Settles (size : ℕ) (w : World) (line : List ℕ) (result : Result A
 abbrev pub spoken : Bool → Answer → List ℕ
 spoken aloud answer = cond aloud (answer_text answer) []
 
--- Where it is to be said aloud one answer was said, and nothing else: its text, by what the device of so many frames then reads. The result is
--- whether it begins with `ok`.
-pub record SaysAnswer (frames : ℕ) (aloud ok : Bool) (old new : State) : Type 0 where
+-- the text of an answer, as a device of some frames that reads so has it
+pub record IsAnswerText (text : List ℕ) : Type 0 where
+  pub frames : ℕ
+  pub image : Image
   pub answered : Answered
-  pub ok_of : (w : World) → ok ≡ begins_with_ok (answer_of w answered)
-  pub said : new.now.said ≡ old.now.said ++ cond aloud (said_text frames (reads new.now.words) answered) []
+  pub is : text ≡ said_text frames image answered
+
+-- Where it is to be said aloud one answer was said, and nothing else: its text, by what the device of so many frames then reads; with a fault the
+-- front of it. The result is whether it begins with `ok`.
+pub record SaysAnswer (frames : ℕ) (aloud : Bool) (result : Result Bool RunFault) (old new : State) : Type 0 where
+  pub answered : Answered
+  pub ok : IfOk result (λ ok. (w : World) → ok ≡ begins_with_ok (answer_of w answered))
+  pub text : List ℕ
+  pub is : text ≡ said_text frames (reads new.now.words) answered
+  pub says : SaysPart (cond aloud text []) (run_fault result) old new
 
 -- One line is one turn of the machine: at every moment the images stand for the world before it or the one that it gives, with its reply said
 -- only once that one is durable; without a fault the reply is whole and the daemon, with this memory, ready for the next line. A client that

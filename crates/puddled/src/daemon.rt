@@ -387,8 +387,9 @@ impl Daemon {
         ensures rest { H.tells → KeepsLine (file_in (command_of line.now)) (H.state h.old) (H.state h.new) }
         // Whatever the device holds: where a cut was counted and no fault came, the reply that was said is `cut`.
         ensures told { H.tells → IsOk result → (H.counts h.new).cuts ≢ (H.counts h.old).cuts → EndsIn (spoken aloud (of_reply Reply.Cut)) (H.state h.new).now.said }
-        // Whatever the device holds: one answer is said where `aloud`, and nothing else, and the result is whether it begins with `ok`.
-        ensures speaks { H.tells → IfOk result (λ ok. SaysAnswer self.new.frames aloud ok (H.state h.old) (H.state h.new)) }
+        // Whatever the device holds: one answer is said where `aloud`, and nothing else, and the result is whether it begins with `ok`; with a fault
+        // the front of an answer is said, or nothing.
+        ensures speaks { H.tells → SaysAnswer self.new.frames aloud result (H.state h.old) (H.state h.new) }
         // What is counted, whatever the host tells. Without a fault it is nothing, or one cut where the reply does not begin with `ok`; but at a
         // line `cut N` that loss, and at a line `arm K N` that arming.
         ensures cause { CountsReply (command_of line.now) result false (H.counts h.old) (H.counts h.new) }

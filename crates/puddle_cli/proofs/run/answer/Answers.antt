@@ -2,6 +2,7 @@ use Rattle.std.proofs.Common.{◌≡◌, [], true, false, refl, sym, ◌∙◌}
 use Rattle.std.proofs.lemmas.Result.{err_from_is_err_and}
 use Rattle.puddled.proofs.Counted.{reply_ends}
 use Rattle.puddle_cli.proofs.Answering.{AnswersLine-turn, AnswersLine-nothing, KeepsScript-still, KeepsScript-line}
+use Rattle.puddle_cli.proofs.Replying.{HearsLine-turn, HearsLine-nothing}
 use Rattle.puddle_cli.proofs.run.answer.Goals as goal
 
 pub returns-then-is_empty-clause-answers : goal.returns-then-is_empty-clause-answers
@@ -37,3 +38,20 @@ returns-in_err-exec-clause-rest g c = λ t. KeepsScript-line _ _ _ (c.in_err-exe
 
 pub returns-clause-rest : goal.returns-clause-rest
 returns-clause-rest g c = λ t. KeepsScript-line _ _ _ (c.in_ok-exec.ensures.rest t)
+
+-- ---- whatever the device holds
+
+pub returns-then-is_empty-clause-hears : goal.returns-then-is_empty-clause-hears
+returns-then-is_empty-clause-hears g c = λ t line kept. HearsLine-nothing line _ _ (sym kept ∙ c.is_empty.ensures.0 c.if-is_empty.true) refl
+
+pub returns-in_err-exec-clause-hears : goal.returns-in_err-exec-clause-hears
+returns-in_err-exec-clause-hears g c =
+    let p = err_from_is_err_and c.from_residual.result c.from_residual.ensures.1 in
+    rw (p.1, p.2) (λ t line kept.
+    let some : c.args.piece.now ≡ [] → ⊥ = λ none. let no : true ≡ false = sym (c.is_empty.ensures.1 none) ∙ c.if-is_empty.false in cc in
+    HearsLine-turn _ c.args.piece.now line _ _ _ some kept (c.in_err-exec.ensures.speaks t) (c.in_err-exec.ensures.rest t).script)
+
+pub returns-clause-hears : goal.returns-clause-hears
+returns-clause-hears g c = λ t line kept.
+    let some : c.args.piece.now ≡ [] → ⊥ = λ none. let no : true ≡ false = sym (c.is_empty.ensures.1 none) ∙ c.if-is_empty.false in cc in
+    HearsLine-turn _ c.args.piece.now line _ _ _ some kept (c.in_ok-exec.ensures.speaks t) (c.in_ok-exec.ensures.rest t).script

@@ -1,12 +1,15 @@
 use Rattle.std.proofs.Common.{◌≡◌, ℕ, Bool, true, false, Ok, Err, Some, None, refl, sym, ap, subst, ◌∙◌}
 use Rattle.pm_model.specs.Counts.{Counts}
 use Rattle.pm_model.specs.Words.{reads}
+use Rattle.puddled.specs.declared.daemon.StartFault.TheVariants as starts
 use Rattle.puddled.specs.declared.daemon.RunFault.TheVariants as faults
 use Rattle.puddled.specs.Faults.{Ends}
 use Rattle.puddle_cli.specs.Serving.{TakesBy, AnsweredBy}
 use Rattle.puddle_cli.specs.Headline.{TakesScript}
 use Rattle.puddle_cli.proofs.Running.{TakesScript-unstarted, TakesScript-served, Headline-in_start, Headline-served, never_unsound}
-use Rattle.puddle_cli.proofs.Statuses.{goes_on, stays_sound, usable_by, not_whole_of}
+use Rattle.puddle_cli.proofs.Statuses.{fault_at_status, goes_on, stays_sound, usable_by, not_whole_of}
+use Rattle.puddle_cli.specs.Replying.{HeardBy, RunSays}
+use Rattle.puddle_cli.proofs.Replying.{RunSays-start, RunSays-refused, RunSays-heard}
 use Rattle.puddle_cli.proofs.run.run.Goals as goal
 
 pub returns-in-Ok-true-clause-headline : goal.returns-in-Ok-true-clause-headline
@@ -82,3 +85,28 @@ pub returns-in-Err-clause-takes : goal.returns-in-Err-clause-takes
 returns-in-Err-clause-takes g c = λ t.
     subst (λ (status : ℕ). TakesScript status (g.H.Host.state c.args.h.now) (g.H.Host.state c.serve.new.h)) (sym c.status_of_run.ensures.status)
     (TakesScript-served (Err c.in-Err.fault) _ _ _ (c.in-Ok.ensures.rest t) (c.in-Err.ensures.takes t))
+
+-- ---- what is said, whatever the device holds
+
+pub returns-in-Err-NotSound-clause-speaks : goal.returns-in-Err-NotSound-clause-speaks
+returns-in-Err-NotSound-clause-speaks g c = λ t. RunSays-refused _ _ _ (λ none. let no : Some faults.NotSound ≡ None = none in cc) (c.in-Err-NotSound.ensures.unchanged t (ap Err c.in-Err-NotSound.field-0-is))
+
+pub returns-in-Err-Host-clause-speaks : goal.returns-in-Err-Host-clause-speaks
+returns-in-Err-Host-clause-speaks g c = λ t. RunSays-start _ _ _ _ (not_whole_of _ _ c.status_of.ensures.status c.status_of.ensures.fault)
+    (c.in-Err-Host.ensures.says t (λ no. let it : Err (starts.Host c.in-Err-Host.fault) ≡ Err starts.NotSound = sym (ap Err c.in-Err-Host.field-0-is) ∙ no in absurd (cc)))
+
+pub returns-in-Ok-true-clause-speaks : goal.returns-in-Ok-true-clause-speaks
+returns-in-Ok-true-clause-speaks g c = λ t.
+    RunSays-heard _ _ _ _ (c.in-Ok.ensures.says t (λ no. cc)) (c.in-Ok.ensures.rest t).script true None refl
+    (subst (λ (b : Bool). HeardBy (Ok b) (g.H.Host.state c.start.new.h) (g.H.Host.state c.serve.new.h)) c.in-Ok-true.field-0-test (c.in-Ok-true.ensures.heard t))
+
+pub returns-in-Ok-false-clause-speaks : goal.returns-in-Ok-false-clause-speaks
+returns-in-Ok-false-clause-speaks g c = λ t.
+    RunSays-heard _ _ _ _ (c.in-Ok.ensures.says t (λ no. cc)) (c.in-Ok.ensures.rest t).script false None refl
+    (subst (λ (b : Bool). HeardBy (Ok b) (g.H.Host.state c.start.new.h) (g.H.Host.state c.serve.new.h)) c.in-Ok-false.field-0-test (c.in-Ok-false.ensures.heard t))
+
+pub returns-in-Err-clause-speaks : goal.returns-in-Err-clause-speaks
+returns-in-Err-clause-speaks g c = λ t.
+    let heard = c.in-Err.ensures.heard t in
+    subst (λ (status : ℕ). RunSays status (g.H.Host.state c.args.h.now) (g.H.Host.state c.serve.new.h)) (sym c.status_of_run.ensures.status)
+    (RunSays-heard _ _ _ _ (c.in-Ok.ensures.says t (λ no. cc)) (c.in-Ok.ensures.rest t).script heard.0 (Some c.in-Err.fault) (fault_at_status c.in-Err.fault) heard.1)

@@ -8,6 +8,8 @@ use Rattle.puddled.specs.Faults.{of_host}
 use Rattle.puddled.proofs.Counted.{Ends-host, host_is_sound}
 use Rattle.puddle_cli.specs.Serving.{Serves, TakesOne}
 use Rattle.puddle_cli.proofs.Answering.{counts_nothing_more, ready_read, Answered-newline, Answered-so_far, Serves-line, Serves-byte, Takes-more, TakesAtMost-takes, KeepsScript-still}
+use Rattle.puddle_cli.specs.Replying.{Hears}
+use Rattle.puddle_cli.proofs.Replying.{Hears-line, Hears-byte, Heard-newline, Heard-so_far}
 use Rattle.puddle_cli.proofs.run.serve_byte.Goals as goal
 
 pub returns-in_err-read-clause-answered : goal.returns-in_err-read-clause-answered
@@ -62,3 +64,28 @@ pub returns-in_err-read-clause-cause : goal.returns-in_err-read-clause-cause
 returns-in_err-read-clause-cause g c =
     let p = err_from_is_err_and c.from_residual.result c.from_residual.ensures.1 in
     rw (p.1, p.2) (Ends-host c.in_err-read.field-0.0 _ _ c.in_err-read.ensures.cause c.in_err-read.ensures.never_cut)
+
+-- ---- what is said, whatever the device holds
+
+pub returns-in_err-read-clause-heard : goal.returns-in_err-read-clause-heard
+returns-in_err-read-clause-heard g c =
+    let p = err_from_is_err_and c.from_residual.result c.from_residual.ensures.1 in
+    rw (p.1, p.2) (λ t start s. Heard-so_far start _ _ c.args.piece.now s (Some (of_host c.in_err-read.field-0.0)) (c.in_err-read.ensures.failed t))
+
+pub returns-in_err-answer-in-Some-eq10-clause-heard : goal.returns-in_err-answer-in-Some-eq10-clause-heard
+returns-in_err-answer-in-Some-eq10-clause-heard g c =
+    let p = err_from_is_err_and c.from_residual-in_err-answer-in-Some-eq10.result c.from_residual-in_err-answer-in-Some-eq10.ensures.1 in
+    rw (p.1, p.2) (λ t start s.
+    let took = rw c.in-Some-eq10.is at (c.in_ok-read.ensures.taken t) in
+    Heard-newline start _ _ c.args.piece.now s c.in-Some-eq10.field-0 _ _ c.in-Some-eq10.field-0-test took (c.in_err-answer-in-Some-eq10.ensures.hears t (open_rest s.taken) s.under_way))
+
+pub returns-in_ok-answer-in-Some-eq10-clause-hears : goal.returns-in_ok-answer-in-Some-eq10-clause-hears
+returns-in_ok-answer-in-Some-eq10-clause-hears g c = λ t start s.
+    let took = rw c.in-Some-eq10.is at (c.in_ok-read.ensures.taken t) in
+    subst (λ (l : List ℕ). Hears start (g.H.Host.state c.answer.new.h) l) (sym c.in_ok-answer-in-Some-eq10.ensures.piece)
+    (Hears-line start _ _ c.args.piece.now s c.in-Some-eq10.field-0 _ c.in-Some-eq10.field-0-test took (c.in_ok-answer-in-Some-eq10.ensures.hears t (open_rest s.taken) s.under_way))
+
+pub returns-in-Some-clause-hears : goal.returns-in-Some-clause-hears
+returns-in-Some-clause-hears g c = λ t start s.
+    let took = rw c.in-Some.is at (c.in_ok-read.ensures.taken t) in
+    subst (λ (l : List ℕ). Hears start (g.H.Host.state c.read.new.self) l) (sym c.push.ensures) (Hears-byte start _ _ c.args.piece.now s c.in-Some.byte c.in-Some.byte-test.1 took)

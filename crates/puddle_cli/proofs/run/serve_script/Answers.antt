@@ -5,6 +5,8 @@ use Rattle.puddled.specs.declared.daemon.RunFault.{RunFault}
 use Rattle.puddled.proofs.Counted.{none_is_sound, size_of_ends, Grows-still, Grows-then, Ends-none, Ends-then}
 use Rattle.puddle_cli.specs.Serving.{AnsweredBy}
 use Rattle.puddle_cli.proofs.Answering.{Takes-start, Serves-start, Answered-last, Answered-end, Answered-so_far}
+use Rattle.puddle_cli.specs.Replying.{HeardBy}
+use Rattle.puddle_cli.proofs.Replying.{Hears-start, Heard-last, Heard-end, Heard-so_far}
 use Rattle.puddle_cli.proofs.run.serve_script.Goals as goal
 
 pub loop-taken-init : goal.loop-taken-init
@@ -12,6 +14,7 @@ loop-taken-init g c = record {
   counts = Grows-still _ _ refl;
   takes = λ t. Takes-start _ _ refl;
   serves = λ t size e w ready. rw c.new-piece.ensures (Serves-start size w _ _ _ _ refl ready);
+  hears = λ t. rw c.new-piece.ensures (Hears-start _ _ refl);
   room = c.requires;
 }
 
@@ -46,3 +49,26 @@ pub returns-in_err-answer-clause-cause : goal.returns-in_err-answer-clause-cause
 returns-in_err-answer-clause-cause g c =
     let p = err_from_is_err_and c.from_residual-in_err-answer.result c.from_residual-in_err-answer.ensures.1 in
     rw (p.1, p.2) (Ends-then _ _ _ _ (Grows-then _ _ _ c.loop-taken.invariant.counts (Ends-none _ _ c.in_ok-serve_byte.ensures.cause)) c.in_err-answer.ensures.cause)
+
+-- ---- what is said, whatever the device holds
+
+pub returns-in_err-serve_byte-clause-heard : goal.returns-in_err-serve_byte-clause-heard
+returns-in_err-serve_byte-clause-heard g c = λ t.
+    let p = err_from_is_err_and c.from_residual.result c.from_residual.ensures.1 in
+    subst (λ (r : Result Bool RunFault). HeardBy r (g.H.Host.state c.args.h.now) (g.H.Host.state c.serve_byte.new.h)) (sym p.1)
+    (rw p.2 (false, c.in_err-serve_byte.ensures.heard t _ (c.loop-taken.invariant.hears t)))
+
+pub returns-in_err-answer-clause-heard : goal.returns-in_err-answer-clause-heard
+returns-in_err-answer-clause-heard g c = λ t.
+    let p = err_from_is_err_and c.from_residual-in_err-answer.result c.from_residual-in_err-answer.ensures.1 in
+    let s = c.in_ok-serve_byte.ensures.hears t _ (c.loop-taken.invariant.hears t) in
+    subst (λ (r : Result Bool RunFault). HeardBy r (g.H.Host.state c.args.h.now) (g.H.Host.state c.answer.new.h)) (sym p.1)
+    (rw p.2 (true, Heard-last _ _ _ _ s _ _ refl (c.in_err-answer.ensures.hears t (open_rest s.taken) s.under_way)))
+
+pub returns-then-not-branch-clause-heard : goal.returns-then-not-branch-clause-heard
+returns-then-not-branch-clause-heard g c = λ t.
+    let s = c.in_ok-serve_byte.ensures.hears t _ (c.loop-taken.invariant.hears t) in
+    Heard-end _ _ _ _ s _ refl (c.in_ok-answer.ensures.hears t (open_rest s.taken) s.under_way)
+
+pub returns-clause-heard : goal.returns-clause-heard
+returns-clause-heard g c = λ t. Heard-so_far _ _ _ _ (c.loop-taken.invariant.hears t) None refl

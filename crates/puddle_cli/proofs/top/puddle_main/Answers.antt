@@ -12,6 +12,7 @@ returns-in-Ok-Run-clause-does g c = λ t told.
     let runs = c.run.ensures in
     let does : RunsScript c.run.result (g.H.Host.counts c.args.host.now) (g.H.Host.counts c.run.new.h) (g.H.Host.state c.args.host.now) (g.H.Host.state c.run.new.h) = record {
       takes = runs.takes t;
+      says = runs.speaks t;
       not_usable = runs.not_usable t;
       not_sound = runs.not_sound t;
       stays = runs.unchanged t;

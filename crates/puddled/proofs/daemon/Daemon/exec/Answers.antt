@@ -14,7 +14,7 @@ use Rattle.puddled.specs.declared.answers.Answered.{Answered}
 use Rattle.puddled.specs.declared.answers.Answered.TheVariants as answers
 use Rattle.puddled.specs.Answered.{answer_of}
 use Rattle.puddled.proofs.Listed.{said_by}
-use Rattle.puddled.proofs.Lines.{answer_last, nothing_last, Answers-fault, Answers-unsaid, Answers-said, KeepsLine-says, KeepsLine-unsaid, SaysAnswer-aloud, SaysAnswer-unsaid, sound_said}
+use Rattle.puddled.proofs.Lines.{answer_last, nothing_last, Answers-fault, Answers-unsaid, Answers-said, KeepsLine-says, KeepsLine-unsaid, SaysAnswer-aloud, SaysAnswer-unsaid, SaysAnswer-failed, sound_said}
 use Rattle.puddled.proofs.daemon.Daemon.exec.Goals as goal
 use Rattle.puddled.proofs.daemon.Daemon.exec.Goals.{then-aloud+in_ok-say_answer, else-aloud}
 
@@ -101,7 +101,19 @@ returns-in_err-answered-clause-rest g c = λ t. KeepsLine-unsaid _ _ _ (c.in_err
 pub returns-clause-speaks : goal.returns-clause-speaks
 returns-clause-speaks g c = λ t. elim c.if-aloud.branch [
   | then-aloud+in_ok-say_answer b ↦
-      rw (b.if-aloud.true, b.h-is) (SaysAnswer-aloud _ _ c.is_ok.result c.in_ok-answered.answered _ _ _ c.is_ok.ensures (c.in_ok-answered.ensures.rest t).quiet (ap (λ (m : Memory). m.frames) c.self.view_is)
+      rw (b.if-aloud.true, b.h-is) (SaysAnswer-aloud _ _ (Ok c.is_ok.result) None c.in_ok-answered.answered _ _ _ c.is_ok.ensures (c.in_ok-answered.ensures.rest t).quiet (ap (λ (m : Memory). m.frames) c.self.view_is) (λ none. refl)
       (b.in_ok-say_answer.ensures.says t _ refl))
   | else-aloud b ↦ rw (b.if-aloud.false, b.h-is) (SaysAnswer-unsaid _ c.is_ok.result c.in_ok-answered.answered _ _ c.is_ok.ensures (c.in_ok-answered.ensures.rest t).quiet)
 ]
+
+pub returns-in_err-answered-clause-speaks : goal.returns-in_err-answered-clause-speaks
+returns-in_err-answered-clause-speaks g c =
+    let p = err_from_is_err_and c.from_residual.result c.from_residual.ensures.1 in
+    rw (p.1, p.2) (λ t. SaysAnswer-failed _ c.args.aloud _ answers.Pools _ _ (c.in_err-answered.ensures.rest t).quiet)
+
+pub returns-in_err-say_answer-clause-speaks : goal.returns-in_err-say_answer-clause-speaks
+returns-in_err-say_answer-clause-speaks g c =
+    let p = err_from_is_err_and c.from_residual-in_err-say_answer.result c.from_residual-in_err-say_answer.ensures.1 in
+    let fault = c.in_err-say_answer.field-0.0 in
+    rw (p.1, p.2, c.if-aloud.true) (λ t. SaysAnswer-aloud _ _ (Err (of_host fault)) (Some fault) c.in_ok-answered.answered _ _ _ tt (c.in_ok-answered.ensures.rest t).quiet (ap (λ (m : Memory). m.frames) c.self.view_is)
+    (λ none. absurd (not_none (of_host fault) none)) (c.in_err-say_answer.ensures.says t _ refl))
