@@ -30,3 +30,4 @@ pub mod OpenAlone
 pub mod OpenWorlds
 pub mod OpenIdle
 pub mod ManyIdle
+pub mod OpenKept
