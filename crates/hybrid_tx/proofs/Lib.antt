@@ -31,3 +31,4 @@ pub mod OpenWorlds
 pub mod OpenIdle
 pub mod ManyIdle
 pub mod OpenKept
+pub mod OpenApart

@@ -23,7 +23,8 @@ ghost use Rattle.pud_defs.specs.Graph.{Graph, graph_of};
 ghost use Rattle.pud_defs.specs.Laters.{Later};
 ghost use Rattle.pud_defs.specs.World.{StoredWorld, world_of, idle_world_of};
 ghost use Rattle.log_store.specs.Store.{OpenLog};
-ghost use Rattle.hybrid_tx.specs.Grounds.{pool_mine};
+ghost use Rattle.word_transaction.specs.Running.{ByTransaction};
+ghost use Rattle.hybrid_tx.specs.Grounds.{pool_mine, pool_ground};
 ghost use Rattle.hybrid_tx.specs.Masks.{OpenPool, is_open_record, open_mask, IsLeftOpen};
 ghost use Rattle.hybrid_tx.specs.ManyOpen.{OpenTransaction, Opens, open_masks, AreOpenPools, HasRecords, AreLeftOpen, IsOneMore, MasksAll};
 ghost use Rattle.hybrid_tx.specs.Transactions.{IsOpenOn};
@@ -36,6 +37,14 @@ pub fn transaction_stays_open_beside_calls()
         → ((id : ℕ) (m : ℕ) → map_of id types ≡ Option.Some m → map_of id more ≡ Option.Some m)
         → ((stored : Stored) (g : Graph) → graph_of types stored ≡ Option.Some g → graph_of more stored ≡ Option.Some g)
         → IsOpenOn frames at types log before undone now laters old.now.words → IsOpenOn frames at more log before undone now laters new.now.words }
+{}
+
+/// What one open transaction may write, the words of its log and of its pool's frames, is masked by no other: it is a word of no other's log, of no other's
+/// pool, and of no record that another rests on.
+pub fn words_of_one_are_masked_by_no_other()
+    ensures { (frames : ℕ) (opens : Opens) (image : Image) → AreOpenPools frames opens → HasRecords opens image → (n : ℕ) (m : ℕ) (o : OpenTransaction) (q : OpenTransaction)
+        → opens n ≡ Option.Some o → opens m ≡ Option.Some q → n ≢ m → (k : ℕ) (v : ℕ) → ByTransaction (pool_ground frames o.pool.at) (log_number_at frames o.pool.number) k v
+        → open_mask frames q.pool q.before k ≡ Option.None }
 {}
 
 /// An image that may be left while a transaction is open on a pool is left with it open: where each word of the records that it rests on has its value
