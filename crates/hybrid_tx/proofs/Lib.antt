@@ -30,3 +30,5 @@ pub mod OpenAlone
 pub mod OpenWorlds
 pub mod OpenIdle
 pub mod ManyIdle
+pub mod OpenKept
+pub mod OpenApart

@@ -13,6 +13,7 @@ mod changing;
 mod ending;
 mod later;
 pub mod laws;
+pub mod open_laws;
 mod running;
 
 ghost use Rattle.log_store.specs.Store.{OpenLog};

@@ -34,6 +34,8 @@ impl Daemon {
         requires room { device_words (self.old).frames ≤ (H.counts h.old).size }
         ensures carries { H.tells → (size : ℕ) → size ≡ (H.counts h.old).size → (w : World) → IsReady size w self.old (H.state h.old)
             → CarriesOut size w self.new (Option.Some (commands.Begin client name)) (as_answered result) (H.counts h.old) (H.counts h.new) (H.state h.old) (H.state h.new) }
+        // Where a transaction is open on the pool, nothing of the device changes: the client's own is begun once more, or the line is refused.
+        ensures nested { H.tells → (size : ℕ) → (w : World) → IsReady size w self.old (H.state h.old) → (t : Transaction) → w.transactions name ≡ Option.Some t → H.state h.new ≡ H.state h.old }
         ensures frames { (self.new).frames ≡ (self.old).frames }
         ensures rest { H.tells → KeepsRest (H.state h.old) (H.state h.new) }
         ensures rests { H.tells → fault_of result ≡ Option.Some HostFault.Cut → IsRested (H.state h.new).now.words }

@@ -2,6 +2,7 @@
 #![tactic(auto)]
 
 mod ending;
+pub mod laws;
 mod running;
 
 ghost use Rattle.log_store.specs.Store.{OpenLog};

@@ -1,5 +1,6 @@
 use Rattle.std.proofs.Common.{◌≡◌, ℕ, ◌+◌, ◌≤◌, ◌<◌, List, [], Option, Some, None, Result, Ok, Err, true, is_some, refl, sym, ap, subst, ◌∙◌, arith}
 use Rattle.std.specs.Prelude.{IfOk, unwrap_or}
+use Rattle.std.proofs.lemmas.Option.{none-some}
 use Rattle.std.proofs.lemmas.Result.{err_from_is_err_and}
 use Rattle.pm_model.specs.Counts.{Counts}
 use Rattle.pm_model.specs.Moments.{State}
@@ -127,3 +128,24 @@ returns-clause-carries g c = λ t size e w ready.
     (subst (λ (ss : List (Option Session)). count_of c.args.client ss < CLIENT_LOGS) (sym same) left) entered_is (writes none).0 may in
     CarriesOut-ok size w c.begin_on.new.self _ _ _ _ _ _ (Begin c.args.client c.args.name) (begin_is_plain c.args.client c.args.name) free (k.stays t) k.cause (c.begin_on.ensures.rest t) c.begin_on.result begins.0
     (sym (answer_is_ok w (Begin c.args.client c.args.name) refl refl free)) begins.1 c.begin_on.ensures.cause
+
+-- ---- a transaction is open on the pool
+
+pub returns-clause-nested : goal.returns-clause-nested
+returns-clause-nested g c = λ t size w ready running is.
+    let i = c.self.inside in
+    let slot = c.in-Ok.slot in
+    let k = c.in_ok-refusal.ensures in
+    let old = c.args.self.now in
+    let allowed = sym (k.refusal t size w ready) ∙ ap refusal_found c.in-Ok.is in
+    let own = subst (λ (r : Result ℕ Refusal). IfOk r (λ x. true ≡ is_some (session_in old.sessions x) → (number : ℕ) × IsOwnOn c.args.client c.args.name x number old.held)) c.in-Ok.is (k.own t size w ready) in
+    let writes = subst (λ (r : Result ℕ Refusal). IfOk r (λ x. session_in old.sessions x ≡ None
+    → (w.transactions c.args.name ≡ None) × MayBegin old.frames c.args.client c.args.name (reads (g.H.Host.state c.args.h.now).now.words) x (unwrap_or (known_in c.find_writable.new.self.judged x) []))) c.in-Ok.is (k.writes t size w ready) in
+    let are = subst (λ (r : Result ℕ Refusal). IfOk r (λ x. AreSessions old.sessions)) c.in-Ok.is k.within in
+    let below = subst (λ (r : Result ℕ Refusal). IfOk r (λ x. x < POOL_RECORDS)) c.in-Ok.is k.slot in
+    let same = ap (λ (m : Memory). m.sessions) c.self.view_is ∙ k.sessions in
+    let entered_is : c.enter.new.self ≡ entered c.args.client slot i.sessions = c.in_default.ensures.entered in
+    let deep : c.depth.result ≡ depth_in old.sessions slot + 1 = c.depth.ensures.depth ∙ ap (λ (ss : List (Option Session)). depth_in ss slot) (entered_is ∙ ap (entered c.args.client slot) same)
+    ∙ depth_entered c.args.client slot old.sessions (omega (arith, are.slots, below)) in
+    let none = not_begun size w old _ ready c.args.client c.args.name slot allowed own (λ none. (writes none).0) are (omega (arith, deep, c.if-depth-gt1.false)) in
+    absurd (none-some running (sym (writes none).0 ∙ is))

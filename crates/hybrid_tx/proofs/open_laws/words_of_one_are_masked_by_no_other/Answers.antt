@@ -1,0 +1,5 @@
+use Rattle.hybrid_tx.proofs.OpenApart.{unmasked_by_another}
+use Rattle.hybrid_tx.proofs.open_laws.words_of_one_are_masked_by_no_other.Goals as goal
+
+pub returns : goal.returns
+returns c = unmasked_by_another
