@@ -6,8 +6,8 @@ use Rattle.std.proofs.lemmas.Bool.{cases_eq, cond-true, cond-false}
 use Rattle.std.proofs.lemmas.Cmp.{nat_cmp_total}
 use Rattle.std.proofs.lemmas.List.{length-map}
 use Rattle.std.proofs.lemmas.Option.{cond_some}
-use Rattle.pud_defs.specs.declared.space.TheConstants.{FRAME_SLOTS}
 use Rattle.pud_defs.specs.declared.records.Puddle.{Puddle}
+use Rattle.pud_defs.specs.Geometry.{places_among}
 use Rattle.pud_defs.specs.Image.{Image}
 use Rattle.pud_defs.specs.Keyed.{first_from, under}
 use Rattle.pud_defs.specs.Types.{types_of}
@@ -95,7 +95,7 @@ object_in-place F at image g s is =
     ap (object_in s) (graph_is (types_of image) (stored_in F at image) g is)
     ∙ find-keyed nat_cmp nat_cmp_total s (live t) 0 n
     ∙ first_from-valued t.serial (object_at t) s 0 n
-    ∙ ap (λ n. option_map (object_at t) (place_of s t (FRAME_SLOTS * n))) (length-map at (λ (e : ℕ × Puddle). e.1))
+    ∙ ap (λ n. option_map (object_at t) (place_of s t (places_among n))) (length-map at (λ (e : ℕ × Puddle). e.1))
 
 is_none-map : {A B : Type 0} (f : A → B) (o : Option A) → is_none o ≡ is_none (option_map f o)
 is_none-map f None = refl

@@ -8,8 +8,9 @@ use Rattle.std.proofs.lemmas.List.{length-map}
 use Rattle.pud_defs.proofs.DistinctKeys.{some_or, none_by_some, some_under}
 use Rattle.graph_read.proofs.Placed.{stored_word}
 use Rattle.pud_defs.specs.declared.layout.TheConstants.{FRAME_WORDS}
-use Rattle.pud_defs.specs.declared.space.TheConstants.{FRAME_MAGIC_WORD, FRAME_NUMBER_WORD, FRAME_ORDINAL_WORD, ROOT_WORD, FRAME_SLOTS}
+use Rattle.pud_defs.specs.declared.space.TheConstants.{FRAME_MAGIC_WORD, FRAME_NUMBER_WORD, FRAME_ORDINAL_WORD, ROOT_WORD}
 use Rattle.pud_defs.specs.declared.records.Puddle.{Puddle}
+use Rattle.pud_defs.specs.Geometry.{places_among}
 use Rattle.pud_defs.specs.Image.{Image}
 use Rattle.pud_defs.specs.Frames.{frame_word}
 use Rattle.pud_defs.specs.Headers.{is_header}
@@ -138,8 +139,8 @@ pub root_read : (F : ℕ) (at : List (ℕ × Puddle)) (image : Image) (v : ℕ) 
     → content_of (pointee_of (pointee_at (map (λ e. e.1) at) 0 0 v)) ≡ root_of (stored_in F at image)
 root_read F at image v some is = pointee_read (map (λ e. e.1) at) 0 0 v ∙ ap (pointee_at (map (λ e. e.1) at) 0 0) (is ∙ first_word F at image ROOT_WORD some (omega arith))
 
-pub same_places : (F : ℕ) (at : List (ℕ × Puddle)) (image : Image) → FRAME_SLOTS * length at ≡ places_of (stored_in F at image)
-same_places F at image = ap (λ n. FRAME_SLOTS * n) (sym (length-map at (λ (e : ℕ × Puddle). e.1)))
+pub same_places : (F : ℕ) (at : List (ℕ × Puddle)) (image : Image) → places_among (length at) ≡ places_of (stored_in F at image)
+same_places F at image = ap (λ n. places_among n) (sym (length-map at (λ (e : ℕ × Puddle). e.1)))
 
 -- a pool without puddles stores none
 pub none_without_puddles : (types : List (ℕ × ℕ)) (F : ℕ) (at : List (ℕ × Puddle)) (image : Image) → eqb (length at) 0 ≡ true → graph_of types (stored_in F at image) ≡ None

@@ -1,11 +1,11 @@
 -- What is read of a pool: slots, pointers and fields, as its table and its graph have them.
 use Rattle.std.specs.Prelude.{◌≡◌, ℕ, ◌+◌, ◌*◌, ◌/◌, ◌%◌, ◌<◌, List, length, slice_get, Option, Some, None, option_map}
-use Rattle.pud_defs.specs.declared.space.TheConstants.{FRAME_SLOTS}
 use Rattle.pud_defs.specs.declared.records.Puddle.{Puddle}
 use Rattle.pud_defs.specs.declared.records.Slot.{Slot}
 use Rattle.pud_defs.specs.declared.objects.Val.{Val}
 use Rattle.pud_defs.specs.declared.objects.Pointee.{Pointee}
 use Rattle.pud_defs.specs.declared.objects.Pointee.TheVariants as pointees
+use Rattle.pud_defs.specs.Geometry.{puddle_slots, slots_of, ordinal_of, slot_of, place_at, places_among}
 use Rattle.pud_defs.specs.Image.{Image}
 use Rattle.pud_defs.specs.Types.{types_of}
 use Rattle.pud_defs.specs.Stored.{stored_in}
@@ -16,7 +16,7 @@ use Rattle.graph_read.specs.declared.fields.FieldRead.TheVariants.{NoObject, NoF
 
 -- how many places the puddles have
 abbrev pub places_in : List (ℕ × Puddle) → ℕ
-places_in at = FRAME_SLOTS * length at
+places_in at = places_among (length at)
 
 -- the slots of an image's puddles as a table, by the types that are defined
 abbrev pub table_in : (F : ℕ) → List (ℕ × Puddle) → Image → Table
@@ -27,14 +27,14 @@ abbrev pub place_in_pool : (F : ℕ) → List (ℕ × Puddle) → Image → ℕ 
 place_in_pool F at image s = place_of s (table_in F at image) (places_in at)
 
 -- the place of a slot
-abbrev pub place_at : Slot → ℕ
-place_at s = FRAME_SLOTS * s.ordinal + s.slot
+abbrev pub place_of_slot : Slot → ℕ
+place_of_slot s = place_at s.ordinal s.slot
 
 -- a slot of one of these puddles, in its frame
 pub record IsSlotOf (at : List (ℕ × Puddle)) (s : Slot) : Type 0 where
   pub puddle : Puddle
   pub there : slice_get at s.ordinal ≡ Some (s.frame, puddle)
-  pub below : s.slot < FRAME_SLOTS
+  pub below : s.slot < slots_of puddle
 
 -- ---- pointers
 
@@ -42,13 +42,13 @@ pub record IsSlotOf (at : List (ℕ × Puddle)) (s : Slot) : Type 0 where
 abbrev pub pointee_of : Content → Option Pointee
 pointee_of (Number v) = None
 pointee_of Null = Some pointees.Null
-pointee_of (At p) = Some (pointees.At (p / FRAME_SLOTS) (p % FRAME_SLOTS))
+pointee_of (At p) = Some (pointees.At (ordinal_of p) (slot_of p))
 pointee_of Nowhere = None
 
 -- a slot of so many puddles
 pub record IsSlotWithin (count ordinal slot : ℕ) : Type 0 where
   pub ordinal_below : ordinal < count
-  pub slot_below : slot < FRAME_SLOTS
+  pub slot_below : slot < puddle_slots
 
 -- a pointer leads to nothing, or to a slot of so many puddles
 abbrev pub LeadsWithin : ℕ → Pointee → Type 0

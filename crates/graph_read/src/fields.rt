@@ -8,7 +8,7 @@ ghost use Rattle.pud_defs.specs.Layout.{device_words};
 ghost use Rattle.pud_defs.specs.Types.{types_of};
 ghost use Rattle.pud_defs.specs.Stored.{IsOnDevice, stored_in, place_word};
 ghost use Rattle.pud_defs.specs.Graph.{Graph, pointee_at, content, named_by, value_of, object_at, graph_of, object_in};
-ghost use Rattle.graph_read.specs.Reading.{table_in, place_at, IsSlotOf, read_by, field_in};
+ghost use Rattle.graph_read.specs.Reading.{table_in, place_of_slot, IsSlotOf, read_by, field_in};
 
 use crate::places::find_serial;
 use crate::pointers::read_pointer;
@@ -77,7 +77,7 @@ fn value_at<H: Host>(
     requires field { f < MAX_FIELDS }
     ensures value { H.tells → (image : Image) → reads (H.state h.old).now.words ≡ image
         → IfOk result (λ v. v ≡ value_of (table_in frames pool.now image).serial
-        (content (map (λ e. e.1) pool.now) map_word (place_at at.now) f (place_word (stored_in frames pool.now image).word (place_at at.now) (SLOT_FIELDS_WORD + f)))) }
+        (content (map (λ e. e.1) pool.now) map_word (place_of_slot at.now) f (place_word (stored_in frames pool.now image) (place_of_slot at.now) (SLOT_FIELDS_WORD + f)))) }
     ensures stays { H.tells → H.state h.new ≡ H.state h.old }
     ensures cause { H.counts h.new ≡ after_fault (fault_of result) (H.counts h.old) }
     ensures never_cut { fault_of result ≢ Option.Some HostFault.Cut }
@@ -105,7 +105,7 @@ fn field_at<H: Host>(
     requires within { IsSlotOf pool.now at.now }
     requires field { f < MAX_FIELDS }
     ensures read { H.tells → (image : Image) → reads (H.state h.old).now.words ≡ image
-        → IfOk result (λ read. read ≡ read_by (Option.Some (object_at (table_in frames pool.now image) (place_at at.now))) f) }
+        → IfOk result (λ read. read ≡ read_by (Option.Some (object_at (table_in frames pool.now image) (place_of_slot at.now))) f) }
     ensures stays { H.tells → H.state h.new ≡ H.state h.old }
     ensures cause { H.counts h.new ≡ after_fault (fault_of result) (H.counts h.old) }
     ensures never_cut { fault_of result ≢ Option.Some HostFault.Cut }

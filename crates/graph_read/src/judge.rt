@@ -22,7 +22,7 @@ use pm_model::{Host, HostFault};
 use pud_defs::layout::{MAX_FRAMES, NUMBER_LIMIT};
 use pud_defs::records::Puddle;
 use pud_defs::space::{
-    FRAME_MAGIC, FRAME_MAGIC_WORD, FRAME_NUMBER_WORD, FRAME_ORDINAL_WORD, FRAME_SLOTS,
+    FRAME_MAGIC, FRAME_MAGIC_WORD, FRAME_NUMBER_WORD, FRAME_ORDINAL_WORD, places_among,
 };
 use puddle_header::{frame_magic, frame_number, frame_ordinal, next_serial, root_value};
 
@@ -170,7 +170,7 @@ pub fn objects_held<H: Host>(
     let serials = read_serials(h, frames, pool)?;
     let asked = Asked::IsSound(next);
     let slots = places_pass(h, frames, pool, &serials, asked)?;
-    let places = FRAME_SLOTS as usize * pool.len();
+    let places = places_among(pool.len() as u32) as usize;
     let sound = are_all(
         headers,
         is_next_serial(next),

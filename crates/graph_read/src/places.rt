@@ -1,6 +1,6 @@
 //! Where an object stands: the lowest place of a pool whose slot has a serial.
 //!
-//! A place is a slot of a puddle, counted over the puddles by their ordinals: 62 times the ordinal, and the slot.
+//! A place is a slot of a pool, counted over its puddles by their ordinals.
 
 ghost use Rattle.std.specs.Prelude.{◌≡◌, ◌≢◌, ◌*◌, ◌<◌, ◌≤◌, length, Option, IfOk, IfSome, is_none, option_map};
 ghost use Rattle.pm_model.specs.Words.{Image, reads};
@@ -10,26 +10,26 @@ ghost use Rattle.pud_defs.specs.Layout.{device_words};
 ghost use Rattle.pud_defs.specs.Types.{types_of};
 ghost use Rattle.pud_defs.specs.Stored.{IsOnDevice, stored_in};
 ghost use Rattle.pud_defs.specs.Graph.{Graph, table_of, place_of, graph_of, object_in};
-ghost use Rattle.graph_read.specs.Reading.{table_in, places_in, place_in_pool, place_at, IsSlotOf};
+ghost use Rattle.graph_read.specs.Reading.{table_in, places_in, place_in_pool, place_of_slot, IsSlotOf};
 
 use pm_model::{Host, HostFault};
 use pud_defs::layout::MAX_FRAMES;
 use pud_defs::records::{Puddle, Slot};
-use pud_defs::space::FRAME_SLOTS;
+use pud_defs::space::{ordinal_of, places_among, slot_of};
 use puddle_header::slot_serial;
 
 /// The slot at a place.
 pub fn slot_at_place(pool: &[(u32, Puddle)], place: u32) -> Slot
     requires { place < places_in pool.now }
-    ensures place { place_at result ≡ place }
+    ensures place { place_of_slot result ≡ place }
     ensures within { IsSlotOf pool.now result }
 {
-    let ordinal = place / FRAME_SLOTS;
+    let ordinal = ordinal_of(place);
     let (frame, _) = pool[ordinal as usize];
     Slot {
         frame,
         ordinal,
-        slot: place % FRAME_SLOTS,
+        slot: slot_of(place),
     }
 }
 
@@ -74,7 +74,7 @@ pub fn find_place<H: Host>(
     if s == 0 {
         return Ok(None);
     }
-    for place in 0..FRAME_SLOTS * pool.len() as u32 {
+    for place in 0..places_among(pool.len() as u32) {
         if serial_at(h, frames, pool, place)? == s {
             return Ok(Some(place));
         }
@@ -94,7 +94,7 @@ pub fn find_serial<H: Host>(
     requires room { device_words frames ≤ (H.counts h.old).size }
     requires known { IsOnDevice frames pool.now }
     ensures found { H.tells → (image : Image) → reads (H.state h.old).now.words ≡ image
-        → IfOk result (λ found. option_map place_at found ≡ place_in_pool frames pool.now image s) }
+        → IfOk result (λ found. option_map place_of_slot found ≡ place_in_pool frames pool.now image s) }
     ensures object { H.tells → (image : Image) → reads (H.state h.old).now.words ≡ image
         → (g : Graph) → graph_of (types_of image) (stored_in frames pool.now image) ≡ Option.Some g
         → IfOk result (λ found. is_none found ≡ is_none (object_in s g)) }

@@ -15,7 +15,8 @@ use Rattle.pud_defs.specs.declared.objects.Val.{Val}
 use Rattle.pud_defs.specs.Layout.{device_words, frames_at}
 use Rattle.pud_defs.specs.Image.{Image}
 use Rattle.pud_defs.specs.Bases.{is_legal_base}
-use Rattle.pud_defs.specs.Frames.{frame_at, slot_at}
+use Rattle.pud_defs.specs.Geometry.{slot_at, ordinal_of}
+use Rattle.pud_defs.specs.Frames.{frame_at}
 use Rattle.pud_defs.specs.Entries.{Entry}
 use Rattle.pud_defs.specs.Replay.{overwritten}
 use Rattle.pud_defs.proofs.Replay.{overwritten-nothing}
@@ -23,9 +24,9 @@ use Rattle.pud_defs.specs.Stored.{stored_in}
 use Rattle.pud_defs.specs.Graph.{Graph, graph_of}
 use Rattle.pud_defs.specs.GraphChanges.{with_field}
 use Rattle.pud_defs.specs.Laters.{Later}
-use Rattle.graph_laws.specs.Rewriting.{base_of}
+use Rattle.graph_laws.specs.Rewriting.{address_in}
 use Rattle.graph_laws.proofs.Words.{few_fields}
-use Rattle.graph_read.specs.Reading.{place_in_pool, place_at, IsSlotOf}
+use Rattle.graph_read.specs.Reading.{place_in_pool, place_of_slot, IsSlotOf}
 use Rattle.graph_read.proofs.Placed.{place_ordinal, place_slot}
 use Rattle.log_store.specs.Store.{OpenLog}
 use Rattle.word_transaction.specs.Ground.{redo_entry}
@@ -43,7 +44,7 @@ use Rattle.hybrid_tx.proofs.InFrames.{no_wrap}
 
 -- the address of a slot, by its ordinal
 pub slot_address-read : (at : List (ℕ × Puddle)) (slot : Slot) (of : IsSlotOf at slot) (e : ℕ × Puddle) → (slot.frame, of.puddle) ≡ e → All (λ d. is_legal_base d.1.base ≡ true) at
-    → (e.1.base + WORD_BYTES * slot_at slot.slot) % 2 ^ 64 ≡ address_at at (place_at slot)
+    → (e.1.base + WORD_BYTES * slot_at slot.slot) % 2 ^ 64 ≡ address_at at (place_of_slot slot)
 slot_address-read at slot of e same legal =
     let its : is_legal_base of.puddle.base ≡ true = all_there (λ d. is_legal_base d.1.base ≡ true) at slot.ordinal (slot.frame, of.puddle) legal of.there in
     let ordinal = place_ordinal slot.ordinal slot.slot of.below in
@@ -53,9 +54,9 @@ slot_address-read at slot of e same legal =
     slice_get-map (λ (d : ℕ × Puddle). d.1) at slot.ordinal ∙ ap (option_map (λ (d : ℕ × Puddle). d.1)) of.there in
     ap (λ (d : ℕ × Puddle). (d.1.base + WORD_BYTES * slot_at slot.slot) % 2 ^ 64) (sym same)
     ∙ no_wrap of.puddle.base (slot_at slot.slot) its (omega arith)
-    ∙ ap (λ (o : Option Puddle). base_of o + WORD_BYTES * slot_at slot.slot) (sym home)
-    ∙ ap (λ (o : ℕ). base_of (slice_get (map (λ (d : ℕ × Puddle). d.1) at) o) + WORD_BYTES * slot_at slot.slot) (sym ordinal)
-    ∙ ap (λ (n : ℕ). base_of (slice_get (map (λ (d : ℕ × Puddle). d.1) at) (place_at slot / 62)) + WORD_BYTES * slot_at n) (sym number)
+    ∙ ap (λ (o : Option Puddle). address_in o slot.slot) (sym home)
+    ∙ ap (λ (o : ℕ). address_in (slice_get (map (λ (d : ℕ × Puddle). d.1) at) o) slot.slot) (sym ordinal)
+    ∙ ap (λ (n : ℕ). address_in (slice_get (map (λ (d : ℕ × Puddle). d.1) at) (ordinal_of (place_of_slot slot))) n) (sym number)
 
 module _ (F : ℕ) (at : List (ℕ × Puddle)) (types : List (ℕ × ℕ)) (log behind : OpenLog) (before : Image) (undone now : Graph) (laters : List Later) where
   -- a call that failed before it did anything
@@ -80,7 +81,7 @@ module _ (F : ℕ) (at : List (ℕ × Puddle)) (types : List (ℕ × ℕ)) (log 
     no_value = word_if_held types F at (reads old.now.words) now is_open.is may.map f x may.holds
 
     pub RunsOn-set : (size word : ℕ) (slot : Slot) (v : ℕ) (fault : Option HostFault) (mid new : State) → IsPlaced F at → IsRewritten at → device_words F ≤ size → log.at + LOG_WORDS ≤ frames_at F
-        → behind.at ≡ log.at → mid ≡ old → IsSlotOf at slot → place_in_pool F at (reads old.now.words) s ≡ Some (place_at slot) → word_for F at (reads old.now.words) x ≡ Some v → word ≡ field_word slot.slot f
+        → behind.at ≡ log.at → mid ≡ old → IsSlotOf at slot → place_in_pool F at (reads old.now.words) s ≡ Some (place_of_slot slot) → word_for F at (reads old.now.words) x ≡ Some v → word ≡ field_word slot.slot f
         → ((e : ℕ × Puddle) → slice_get at slot.ordinal ≡ Some e → (b : Image) (redo : List Entry) → IsSaving F at log b redo mid.now.words
         → Saves F at behind b redo (placed (frame_at F e.0 + word) (v ∷ [])) fault mid new)
         → RunsOn F at types behind before undone (with_field s f x now) laters fault old new
@@ -99,7 +100,7 @@ module _ (F : ℕ) (at : List (ℕ × Puddle)) (types : List (ℕ × ℕ)) (log 
 
     -- the value asked for
     pub RunsOn-later : (size word : ℕ) (slot : Slot) (v : ℕ) (fault : Option HostFault) (mid new : State) → IsPlaced F at → device_words F ≤ size → log.at + LOG_WORDS ≤ frames_at F
-        → behind.at ≡ log.at → mid ≡ old → IsSlotOf at slot → place_in_pool F at (reads old.now.words) s ≡ Some (place_at slot) → word_for F at (reads old.now.words) x ≡ Some v → word ≡ field_word slot.slot f
+        → behind.at ≡ log.at → mid ≡ old → IsSlotOf at slot → place_in_pool F at (reads old.now.words) s ≡ Some (place_of_slot slot) → word_for F at (reads old.now.words) x ≡ Some v → word ≡ field_word slot.slot f
         → ((e : ℕ × Puddle) → slice_get at slot.ordinal ≡ Some e → (b : Image) (redo : List Entry) → IsSaving F at log b redo mid.now.words
         → Saves F at behind b (redo ++ redo_entry (e.1.base + WORD_BYTES * word) (v ∷ []) ∷ []) nothing fault mid new)
         → RunsOn F at types behind before undone now (laters ++ record { s = s; f = f; x = x } ∷ []) fault old new

@@ -7,27 +7,28 @@ use Rattle.std.proofs.lemmas.Cmp.{nat_cmp_total}
 use Rattle.std.proofs.lemmas.Option.{none-some, same_Some}
 use Rattle.pm_model.specs.Changes.{placed}
 use Rattle.pud_defs.specs.declared.layout.TheConstants.{FRAME_WORDS, MAX_FIELDS}
-use Rattle.pud_defs.specs.declared.space.TheConstants.{FRAME_SLOTS, SLOT_SERIAL_WORD, ROOT_WORD}
+use Rattle.pud_defs.specs.declared.space.TheConstants.{SLOT_SERIAL_WORD, ROOT_WORD}
 use Rattle.pud_defs.specs.declared.records.Puddle.{Puddle}
 use Rattle.pud_defs.specs.declared.records.Slot.{Slot}
 use Rattle.pud_defs.specs.declared.objects.Val.{Val}
+use Rattle.pud_defs.specs.Geometry.{puddle_slots, slot_at, ordinal_of, slot_of}
 use Rattle.pud_defs.specs.Image.{Image}
 use Rattle.pud_defs.specs.Keyed.{under, first_from}
 use Rattle.pud_defs.specs.Types.{map_of}
-use Rattle.pud_defs.specs.Frames.{frame_at, slot_at}
+use Rattle.pud_defs.specs.Frames.{frame_at}
 use Rattle.pud_defs.specs.Replay.{overwritten}
-use Rattle.pud_defs.specs.Stored.{Stored, stored_in, places_of, place_word}
+use Rattle.pud_defs.specs.Stored.{Stored, stored_in, places_of, place_word, slot_begins}
 use Rattle.pud_defs.specs.Graph.{under_serial, table_of, place_of, object_at, Object, Graph, object_in, next_serial_of, graph_of}
 use Rattle.pud_defs.specs.GraphChanges.{object_with, with_some_object, with_field, with_new, with_root}
 use Rattle.pud_defs.proofs.TypeLists.{same_test}
 use Rattle.pud_defs.proofs.Keyed.{first_from_same}
 use Rattle.pud_defs.proofs.Graphs.{graph_of-each}
-use Rattle.graph_laws.specs.Changes.{with_word}
+use Rattle.graph_laws.specs.Changes.{with_word, with_words}
 use Rattle.graph_laws.specs.Reads.{HasDistinctFrames}
 use Rattle.graph_laws.proofs.Places.{object_in-place}
 use Rattle.graph_laws.proofs.TableChanges.{under_other}
 use Rattle.graph_laws.proofs.Words.{with_word-other, place_of-some}
-use Rattle.graph_read.specs.Reading.{places_in, place_in_pool, place_at, IsSlotOf}
+use Rattle.graph_read.specs.Reading.{places_in, place_in_pool, place_of_slot, IsSlotOf}
 use Rattle.hybrid_tx.specs.Grounds.{IsPlaced}
 use Rattle.hybrid_tx.specs.Stores.{field_word, making}
 use Rattle.hybrid_tx.proofs.FieldsSet.{stored_in-one}
@@ -98,21 +99,21 @@ module _ (types : List (ℕ × ℕ)) (st : Stored) (g : Graph) (is : graph_of ty
 
 -- the word of a frame is that of no slot's serial
 abbrev IsNoSerial : (k : ℕ) → Type 0
-IsNoSerial k = (n : ℕ) → n < FRAME_SLOTS → slot_at n + SLOT_SERIAL_WORD ≡ k → ⊥
+IsNoSerial k = (n : ℕ) → n < puddle_slots → slot_at n + SLOT_SERIAL_WORD ≡ k → ⊥
 
 module _ (F : ℕ) (at : List (ℕ × Puddle)) (image : Image) (distinct : HasDistinctFrames at) (o k v : ℕ) (e : ℕ × Puddle) (there : slice_get at o ≡ Some e) (below : k < FRAME_WORDS) (other : IsNoSerial k) where
-  abbrev word_after : ℕ → ℕ → ℕ
-  word_after = with_word o k v (stored_in F at image).word
+  abbrev stored_after : Stored
+  stored_after = with_words (with_word o k v (stored_in F at image).word) (stored_in F at image)
 
-  serial_stays : (p : ℕ) → place_word word_after p SLOT_SERIAL_WORD ≡ place_word (stored_in F at image).word p SLOT_SERIAL_WORD
-  serial_stays p = with_word-other o k v (stored_in F at image).word (p / FRAME_SLOTS) (slot_at (p % FRAME_SLOTS) + SLOT_SERIAL_WORD) (λ same here. other (p % FRAME_SLOTS) (omega arith) here)
+  serial_stays : (p : ℕ) → place_word stored_after p SLOT_SERIAL_WORD ≡ place_word (stored_in F at image) p SLOT_SERIAL_WORD
+  serial_stays p = with_word-other o k v (stored_in F at image).word (ordinal_of p) (slot_begins (stored_in F at image) p + SLOT_SERIAL_WORD) (λ same here. other (slot_of p) (omega arith) here)
 
   KeepsPlaces-word : (now : Graph) → KeepsPlaces F at at image (overwritten (placed (frame_at F e.0 + k) (v ∷ [])) image) now
   KeepsPlaces-word now =
-      let same : (λ (p : ℕ). place_word word_after p SLOT_SERIAL_WORD) ≡ (λ (p : ℕ). place_word (stored_in F at image).word p SLOT_SERIAL_WORD) = λ i p. serial_stays p i in
+      let same : (λ (p : ℕ). place_word stored_after p SLOT_SERIAL_WORD) ≡ (λ (p : ℕ). place_word (stored_in F at image) p SLOT_SERIAL_WORD) = λ i p. serial_stays p i in
       record {
         each = λ s object live.
-            ap (λ (st : Stored). first_from nat_cmp s (under_serial (λ (p : ℕ). place_word st.word p SLOT_SERIAL_WORD) (λ (p : ℕ). p)) 0 (places_in at)) (stored_in-one F at image o k v e distinct there below)
+            ap (λ (st : Stored). first_from nat_cmp s (under_serial (λ (p : ℕ). place_word st p SLOT_SERIAL_WORD) (λ (p : ℕ). p)) 0 (places_in at)) (stored_in-one F at image o k v e distinct there below)
             ∙ ap (λ (serial : ℕ → ℕ). first_from nat_cmp s (under_serial serial (λ (p : ℕ). p)) 0 (places_in at)) same;
       }
 
@@ -132,7 +133,7 @@ KeepsPlaces-root F at image distinct first head v now = KeepsPlaces-word F at im
 
 -- the serial of the slot at a place
 abbrev pub serial_at_place : (F : ℕ) → List (ℕ × Puddle) → Image → ℕ → ℕ
-serial_at_place F at image p = place_word (stored_in F at image).word p SLOT_SERIAL_WORD
+serial_at_place F at image p = place_word (stored_in F at image) p SLOT_SERIAL_WORD
 
 module _ (F : ℕ) (at : List (ℕ × Puddle)) (image later : Image) (p : ℕ) (others : (q : ℕ) → (q ≡ p → ⊥) → serial_at_place F at later q ≡ serial_at_place F at image q) where
   abbrev before : ℕ → ℕ
@@ -156,15 +157,15 @@ module _ (F : ℕ) (at : List (ℕ × Puddle)) (image later : Image) (p : ℕ) (
 -- ---- places, when a free slot is filled
 
 module _ (types : List (ℕ × ℕ)) (F : ℕ) (at : List (ℕ × Puddle)) (image : Image) (is_placed : IsPlaced F at) (first : ℕ × Puddle) (head : slice_get at 0 ≡ Some first) (slot : Slot) (of : IsSlotOf at slot)
-    (serial type_id m : ℕ) (free : place_word (stored_in F at image).word (place_at slot) SLOT_SERIAL_WORD ≡ 0) (next : serial ≡ next_serial_of (stored_in F at image)) (defined : map_of type_id types ≡ Some m) where
+    (serial type_id m : ℕ) (free : place_word (stored_in F at image) (place_of_slot slot) SLOT_SERIAL_WORD ≡ 0) (next : serial ≡ next_serial_of (stored_in F at image)) (defined : map_of type_id types ≡ Some m) where
   abbrev filled : Image
   filled = overwritten (making F first.0 slot serial type_id) image
 
   -- the slots beside it have their serials
-  other_serial : (q : ℕ) → (q ≡ place_at slot → ⊥) → serial_at_place F at filled q ≡ serial_at_place F at image q
+  other_serial : (q : ℕ) → (q ≡ place_of_slot slot → ⊥) → serial_at_place F at filled q ≡ serial_at_place F at image q
   other_serial q other =
-      (made types F at image is_placed first head slot of serial type_id m free next defined).others (q / FRAME_SLOTS) (slot_at (q % FRAME_SLOTS) + SLOT_SERIAL_WORD)
-      (λ same above below. let here : q ≡ place_at slot = omega arith in other here) (λ front word. absurd (omega arith))
+      (made types F at image is_placed first head slot of serial type_id m free next defined).others (ordinal_of q) (slot_begins (stored_in F at image) q + SLOT_SERIAL_WORD)
+      (λ same above below. let here : q ≡ place_of_slot slot = omega arith in other here) (λ front word. absurd (omega arith))
 
   pub KeepsPlaces-new : (now : Graph) → graph_of types (stored_in F at image) ≡ Some now → KeepsPlaces F at at image filled now
   KeepsPlaces-new now is =
@@ -172,8 +173,8 @@ module _ (types : List (ℕ × ℕ)) (F : ℕ) (at : List (ℕ × Puddle)) (imag
         each = λ s o live.
             let known = serial_of_live types (stored_in F at image) now is s o live in
             let last : next_serial_of (stored_in F at image) ≡ now.next_serial = ap (λ (k : Graph). k.next_serial) (graph_of-each types (stored_in F at image) now is).is in
-            let its : serial_at_place F at filled (place_at slot) ≡ next_serial_of (stored_in F at image) = (made types F at image is_placed first head slot of serial type_id m free next defined).serial_word in
-            place_beside F at image filled (place_at slot) other_serial s
+            let its : serial_at_place F at filled (place_of_slot slot) ≡ next_serial_of (stored_in F at image) = (made types F at image is_placed first head slot of serial type_id m free next defined).serial_word in
+            place_beside F at image filled (place_of_slot slot) other_serial s
             (λ same. known.used (sym same ∙ free))
             (λ same. let below = known.below in absurd (omega arith));
       }

@@ -21,7 +21,7 @@ use Rattle.pud_defs.specs.Laters.{Later, later_names, laters_name}
 use Rattle.pud_defs.proofs.TypeLists.{same_test, same_number}
 use Rattle.graph_laws.specs.Changes.{with_serial_word}
 use Rattle.graph_laws.proofs.Words.{place_of-some, slot_word-there, slot_word-other}
-use Rattle.graph_read.specs.Reading.{places_in, place_in_pool, table_in, place_at, IsSlotOf}
+use Rattle.graph_read.specs.Reading.{places_in, place_in_pool, table_in, place_of_slot, IsSlotOf}
 use Rattle.object_alloc.specs.Alloc.{serial_word_at}
 use Rattle.hybrid_tx.specs.Grounds.{IsPlaced}
 use Rattle.hybrid_tx.specs.Transactions.{MayHold, IsLater, AreLaters}
@@ -88,28 +88,28 @@ module _ (F : ℕ) (at : List (ℕ × Puddle)) (types : List (ℕ × ℕ)) (imag
 -- ---- when the slot is freed
 
 module _ (types : List (ℕ × ℕ)) (F : ℕ) (at : List (ℕ × Puddle)) (image : Image) (now : Graph) (is : graph_of types (stored_in F at image) ≡ Some now) (is_placed : IsPlaced F at) (s : ℕ) (slot : Slot)
-    (of : IsSlotOf at slot) (found : place_in_pool F at image s ≡ Some (place_at slot)) where
+    (of : IsSlotOf at slot) (found : place_in_pool F at image s ≡ Some (place_of_slot slot)) where
   abbrev freed : Image
   freed = overwritten (placed (serial_word_at F slot) (0 ∷ [])) image
 
-  serial_after : (q v : ℕ) → place_word (with_serial_word (place_at slot) 0 (stored_in F at image)).word q SLOT_SERIAL_WORD ≡ v → serial_at_place F at freed q ≡ v
-  serial_after q v is_so = ap (λ (st : Stored). place_word st.word q SLOT_SERIAL_WORD) (stored_in-cleared F at image is_placed.frames slot of) ∙ is_so
+  serial_after : (q v : ℕ) → place_word (with_serial_word (place_of_slot slot) 0 (stored_in F at image)) q SLOT_SERIAL_WORD ≡ v → serial_at_place F at freed q ≡ v
+  serial_after q v is_so = ap (λ (st : Stored). place_word st q SLOT_SERIAL_WORD) (stored_in-cleared F at image is_placed.frames slot of) ∙ is_so
 
-  other_serial : (q : ℕ) → (q ≡ place_at slot → ⊥) → serial_at_place F at freed q ≡ serial_at_place F at image q
+  other_serial : (q : ℕ) → (q ≡ place_of_slot slot → ⊥) → serial_at_place F at freed q ≡ serial_at_place F at image q
   other_serial q other =
-      serial_after q (serial_at_place F at image q) (slot_word-other (place_at slot) SLOT_SERIAL_WORD 0 (stored_in F at image).word (omega arith) q SLOT_SERIAL_WORD (omega arith) (λ same word. other same))
+      serial_after q (serial_at_place F at image q) (slot_word-other (place_of_slot slot) SLOT_SERIAL_WORD 0 (stored_in F at image) (omega arith) q SLOT_SERIAL_WORD (omega arith) (λ same word. other same))
 
-  now_free : serial_at_place F at freed (place_at slot) ≡ 0
-  now_free = serial_after (place_at slot) 0 (slot_word-there (place_at slot) SLOT_SERIAL_WORD 0 (stored_in F at image).word (omega arith))
+  now_free : serial_at_place F at freed (place_of_slot slot) ≡ 0
+  now_free = serial_after (place_of_slot slot) 0 (slot_word-there (place_of_slot slot) SLOT_SERIAL_WORD 0 (stored_in F at image) (omega arith))
 
   KeepsPlaces-freed : KeepsPlaces F at at image freed (without_object s now)
   KeepsPlaces-freed =
-      let there = place_of-some (table_in F at image) (places_in at) s (place_at slot) found in
+      let there = place_of-some (table_in F at image) (places_in at) s (place_of_slot slot) found in
       record {
         each = λ r o live.
             let apart : r ≡ s → ⊥ = λ same. none-some o (sym (not_found s now) ∙ ap (λ (k : ℕ). object_in k (without_object s now)) (sym same) ∙ live) in
             let known = serial_of_live types (stored_in F at image) now is r o (sym (found_beside s now r apart) ∙ live) in
-            place_beside F at image freed (place_at slot) other_serial r (λ same. apart (sym same ∙ there.is)) (λ same. known.used (sym same ∙ now_free));
+            place_beside F at image freed (place_of_slot slot) other_serial r (λ same. apart (sym same ∙ there.is)) (λ same. known.used (sym same ∙ now_free));
       }
 
   pub AreLaters-freed : (laters : List Later) (redo : List Entry) → laters_name s laters ≡ false → AreLaters F at types image now laters redo → AreLaters F at types freed (without_object s now) laters redo

@@ -10,10 +10,11 @@ use Rattle.pud_defs.specs.declared.layout.TheConstants.{LOG_WORDS, NUMBER_LIMIT}
 use Rattle.pud_defs.specs.declared.space.TheConstants.{SLOT_SERIAL_WORD, NEXT_SERIAL_WORD}
 use Rattle.pud_defs.specs.declared.records.Puddle.{Puddle}
 use Rattle.pud_defs.specs.declared.records.Slot.{Slot}
+use Rattle.pud_defs.specs.Geometry.{slot_at}
 use Rattle.pud_defs.specs.Types.{map_of}
 use Rattle.pud_defs.specs.Layout.{device_words, frames_at}
 use Rattle.pud_defs.specs.Image.{Image}
-use Rattle.pud_defs.specs.Frames.{frame_at, frame_word, slot_at}
+use Rattle.pud_defs.specs.Frames.{frame_at, frame_word}
 use Rattle.pud_defs.specs.Entries.{Entry}
 use Rattle.pud_defs.specs.Replay.{over, overwritten}
 use Rattle.pud_defs.specs.Stored.{stored_in, place_word}
@@ -21,7 +22,7 @@ use Rattle.pud_defs.specs.Graph.{Graph, next_serial_of, graph_of}
 use Rattle.pud_defs.proofs.Graphs.{graph_of-each}
 use Rattle.pud_defs.specs.GraphChanges.{with_new, blank_object}
 use Rattle.pud_defs.specs.Laters.{Later}
-use Rattle.graph_read.specs.Reading.{place_at, IsSlotOf}
+use Rattle.graph_read.specs.Reading.{place_of_slot, IsSlotOf}
 use Rattle.graph_read.proofs.Placed.{stored_word}
 use Rattle.log_store.specs.Store.{OpenLog}
 use Rattle.word_transaction.specs.Ground.{Ground}
@@ -74,7 +75,7 @@ module _ (F : ℕ) (at : List (ℕ × Puddle)) (types : List (ℕ × ℕ)) (log 
 
   pub RunsOn-new : (size : ℕ) (between behind : OpenLog) (first : ℕ × Puddle) (slot : Slot) (serial bumped type_id m word : ℕ) (words : List ℕ) (fault : Option HostFault) (a b c : State)
       → IsPlaced F at → device_words F ≤ size → log.at + LOG_WORDS ≤ frames_at F → between.at ≡ log.at → behind.at ≡ between.at → a ≡ old → slice_get at 0 ≡ Some first → IsSlotOf at slot
-      → place_word (stored_in F at (reads old.now.words)).word (place_at slot) SLOT_SERIAL_WORD ≡ 0 → serial ≡ frame_word F first.0 NEXT_SERIAL_WORD (reads old.now.words)
+      → place_word (stored_in F at (reads old.now.words)) (place_of_slot slot) SLOT_SERIAL_WORD ≡ 0 → serial ≡ frame_word F first.0 NEXT_SERIAL_WORD (reads old.now.words)
       → map_of type_id types ≡ Some m → now.next_serial < NUMBER_LIMIT
       → word ≡ slot_at slot.slot → words ≡ new_words serial type_id → PutsAt F at slot.ordinal word words log between None a b
       → bumped ≡ (serial + 1) % 2 ^ 64 → PutsAt F at 0 NEXT_SERIAL_WORD (bumped ∷ []) between behind fault b c

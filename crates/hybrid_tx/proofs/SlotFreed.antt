@@ -9,13 +9,13 @@ use Rattle.pud_defs.specs.declared.space.TheConstants.{SLOT_SERIAL_WORD, WORD_BY
 use Rattle.pud_defs.specs.declared.records.Puddle.{Puddle}
 use Rattle.pud_defs.specs.declared.records.Slot.{Slot}
 use Rattle.pud_defs.specs.Layout.{device_words, frames_at}
+use Rattle.pud_defs.specs.Geometry.{slot_at}
 use Rattle.pud_defs.specs.Image.{Image}
-use Rattle.pud_defs.specs.Frames.{slot_at}
 use Rattle.pud_defs.specs.Entries.{Entry, words_from}
 use Rattle.pud_defs.specs.Graph.{Graph}
 use Rattle.pud_defs.specs.GraphChanges.{without_object}
 use Rattle.pud_defs.specs.Laters.{Later, laters_name}
-use Rattle.graph_read.specs.Reading.{place_in_pool, place_at, IsSlotOf}
+use Rattle.graph_read.specs.Reading.{place_in_pool, place_of_slot, IsSlotOf}
 use Rattle.log_store.specs.Store.{OpenLog, InLog, longer}
 use Rattle.object_alloc.specs.Alloc.{serial_word_at}
 use Rattle.object_alloc.proofs.Freed.{placed-single}
@@ -52,7 +52,7 @@ module _ (F : ℕ) (at : List (ℕ × Puddle)) (slot : Slot) (of : IsSlotOf at s
 -- ---- saved and cleared
 
 module _ (F size : ℕ) (at : List (ℕ × Puddle)) (slot : Slot) (of : IsSlotOf at slot) (log : OpenLog) (before : Image) (redo : List Entry) (address first : ℕ) (a : State)
-    (is_placed : IsPlaced F at) (device : device_words F ≤ size) (apart : log.at + LOG_WORDS ≤ frames_at F) (is_address : address ≡ address_at at (place_at slot)) (is_first : first ≡ serial_word_at F slot)
+    (is_placed : IsPlaced F at) (device : device_words F ≤ size) (apart : log.at + LOG_WORDS ≤ frames_at F) (is_address : address ≡ address_at at (place_of_slot slot)) (is_first : first ≡ serial_word_at F slot)
     (saving : IsSaving F at log before redo a.now.words) where
   abbrev long : OpenLog
   long = longer SET_UNITS log
@@ -92,7 +92,7 @@ module _ (F size : ℕ) (at : List (ℕ × Puddle)) (slot : Slot) (of : IsSlotOf
 module _ (F : ℕ) (at : List (ℕ × Puddle)) (types : List (ℕ × ℕ)) (log behind : OpenLog) (before : Image) (undone now : Graph) (laters : List Later) (old : State)
     (is_open : IsOpenOn F at types log before undone now laters old.now.words) where
   pub RunsOn-free : (size s : ℕ) (slot : Slot) (fault : Option HostFault) (mid new : State) → MayFree now s → laters_name s laters ≡ false → IsPlaced F at → device_words F ≤ size → log.at + LOG_WORDS ≤ frames_at F
-      → behind.at ≡ log.at → mid ≡ old → IsSlotOf at slot → place_in_pool F at (reads old.now.words) s ≡ Some (place_at slot)
+      → behind.at ≡ log.at → mid ≡ old → IsSlotOf at slot → place_in_pool F at (reads old.now.words) s ≡ Some (place_of_slot slot)
       → ((redo : List Entry) → IsSaving F at log before redo mid.now.words → Saves F at behind before redo (placed (serial_word_at F slot) (0 ∷ [])) fault mid new)
       → RunsOn F at types behind before undone (without_object s now) laters fault old new
   RunsOn-free size s slot fault mid new may unnamed is_placed device apart same stays of found saves =

@@ -1,13 +1,14 @@
 -- Which words are stored for what is set or made.
 use Rattle.std.specs.Prelude.{◌≡◌, ◌⊎◌, ℕ, ◌+◌, ◌-◌, ◌==◌, cond, List, [], ◌∷◌, map, replicate, Option, Some, option_map}
 use Rattle.pm_model.specs.Changes.{Footprint, Write, placed}
-use Rattle.pud_defs.specs.declared.space.TheConstants.{SLOT_WORDS, SLOT_FIELDS_WORD, NEXT_SERIAL_WORD}
+use Rattle.pud_defs.specs.declared.space.TheConstants.{SLOT_FIELDS_WORD, NEXT_SERIAL_WORD}
 use Rattle.pud_defs.specs.declared.records.Puddle.{Puddle}
 use Rattle.pud_defs.specs.declared.records.Slot.{Slot}
 use Rattle.pud_defs.specs.declared.objects.Val.{Val}
 use Rattle.pud_defs.specs.declared.objects.Val.TheVariants.{Num, Ref}
+use Rattle.pud_defs.specs.Geometry.{puddle_slot_words, slot_at}
 use Rattle.pud_defs.specs.Image.{Image}
-use Rattle.pud_defs.specs.Frames.{frame_at, slot_at}
+use Rattle.pud_defs.specs.Frames.{frame_at}
 use Rattle.pud_defs.specs.Replay.{over, IsInLog}
 use Rattle.pud_defs.specs.Graph.{At}
 use Rattle.graph_laws.specs.Rewriting.{address_of}
@@ -28,7 +29,7 @@ field_word slot f = slot_at slot + SLOT_FIELDS_WORD + f
 
 -- the words of a slot that holds a new object: its serial, its type, and 0 in each field
 unfoldable pub new_words : (serial type_id : ℕ) → List ℕ
-new_words serial type_id = serial ∷ type_id ∷ replicate (SLOT_WORDS - SLOT_FIELDS_WORD) 0
+new_words serial type_id = serial ∷ type_id ∷ replicate (puddle_slot_words - SLOT_FIELDS_WORD) 0
 
 -- what is written to make an object in a slot: the words of the slot, and the next serial, which stands in the frame of ordinal 0
 abbrev pub making : (F first : ℕ) → Slot → (serial type_id : ℕ) → Write

@@ -17,7 +17,7 @@ use Rattle.pud_defs.specs.Entries.{Entry}
 use Rattle.pud_defs.specs.Stored.{stored_in}
 use Rattle.pud_defs.specs.Graph.{Object, Graph, object_in, field_count, is_held, graph_of}
 use Rattle.pud_defs.specs.Laters.{Later}
-use Rattle.graph_read.specs.Reading.{place_in_pool, place_at, IsSlotOf}
+use Rattle.graph_read.specs.Reading.{place_in_pool, place_of_slot, IsSlotOf}
 use Rattle.log_store.specs.Store.{OpenLog}
 use Rattle.word_transaction.specs.Ground.{redo_entry, asked}
 use Rattle.word_transaction.specs.Running.{IsRunning, IsIdle, Runs, Closes, Ends}
@@ -57,7 +57,7 @@ pub record MayFree (g : Graph) (s : ℕ) : Type 0 where
 pub record IsLater (F : ℕ) (at : List (ℕ × Puddle)) (types : List (ℕ × ℕ)) (image : Image) (now : Graph) (l : Later) (e : Entry) : Type 0 where
   pub slot : Slot
   pub of : IsSlotOf at slot
-  pub place : place_in_pool F at image l.s ≡ Some (place_at slot)
+  pub place : place_in_pool F at image l.s ≡ Some (place_of_slot slot)
   pub value : ℕ
   pub word : word_for F at image l.x ≡ Some value
   pub may : MaySet types now l.s l.f l.x

@@ -17,7 +17,7 @@ ghost use Rattle.pud_defs.specs.Graph.{Graph, graph_of};
 ghost use Rattle.log_store.specs.Store.{longer};
 ghost use Rattle.pud_defs.specs.GraphChanges.{with_field, with_new, blank_object, without_object, with_root};
 ghost use Rattle.graph_laws.specs.Slots.{AreAllLive, IsLowestFreeSlot};
-ghost use Rattle.graph_read.specs.Reading.{place_at, place_in_pool, IsSlotOf};
+ghost use Rattle.graph_read.specs.Reading.{place_of_slot, place_in_pool, IsSlotOf};
 ghost use Rattle.object_alloc.specs.Alloc.{serial_word_at};
 ghost use Rattle.word_transaction.specs.Running.{ByTransaction};
 ghost use Rattle.hybrid_tx.specs.Grounds.{pool_ground, IsPlaced, IsRewritten};
@@ -32,15 +32,15 @@ use pm_model::{Host, HostFault};
 use pud_defs::objects::Val;
 use pud_defs::records::{Puddle, Slot};
 use pud_defs::space::{
-    NEXT_SERIAL_WORD, ROOT_WORD, SLOT_FIELDS_WORD, SLOT_SERIAL_WORD, SLOT_TYPE_WORD, SLOT_WORDS,
-    WORD_BYTES, frame_at, slot_at,
+    NEXT_SERIAL_WORD, ROOT_WORD, SLOT_FIELDS_WORD, SLOT_SERIAL_WORD, SLOT_TYPE_WORD,
+    MAX_SLOT_WORDS, WORD_BYTES, frame_at, slot_at,
 };
 use puddle_header::next_serial;
 
 /// The address of a slot, over the pool's bases.
 pub(crate) fn slot_address(pool: &[(u32, Puddle)], at: &Slot) -> u64
     requires within { IsSlotOf pool.now at.now }
-    ensures address { All (λ e. is_legal_base e.1.base ≡ true) pool.now → result ≡ address_at pool.now (place_at at.now) }
+    ensures address { All (λ e. is_legal_base e.1.base ≡ true) pool.now → result ≡ address_at pool.now (place_of_slot at.now) }
 {
     let (_, puddle) = pool[at.ordinal as usize];
     puddle
@@ -81,10 +81,10 @@ pub(crate) fn word_for<H: Host>(
 
 /// The words of a slot that holds a new object of type `t`: its serial, its type, and 0 in each field.
 #[tactic(auto, unfolding(crate::specs::Stores::new_words))]
-fn new_words(serial: u64, t: u32) -> [u64; SLOT_WORDS as usize]
+fn new_words(serial: u64, t: u32) -> [u64; MAX_SLOT_WORDS as usize]
     ensures { result ≡ new_words serial t }
 {
-    let mut words = [0u64; SLOT_WORDS as usize];
+    let mut words = [0u64; MAX_SLOT_WORDS as usize];
     words[SLOT_SERIAL_WORD as usize] = serial;
     words[SLOT_TYPE_WORD as usize] = t as u64;
     words
@@ -155,7 +155,7 @@ impl Tx {
         ensures changes { H.tells → Changes (ByTransaction (pool_ground frames pool.now) self.old.at) (fault_of result) (H.state h.old) (H.state h.new) }
         ensures runs { H.tells → (types : List (ℕ × ℕ)) (m : ℕ) (before : Image) (undone : Graph) (now : Graph) (laters : List Later) → IsPlaced frames pool.now
             → IsOpenOn frames pool.now types self.old before undone now laters (H.state h.old).now.words → map_of t types ≡ Option.Some m → now.next_serial < NUMBER_LIMIT
-            → place_word (stored_in frames pool.now (reads (H.state h.old).now.words)).word (place_at at.now) SLOT_SERIAL_WORD ≡ 0
+            → place_word (stored_in frames pool.now (reads (H.state h.old).now.words)) (place_of_slot at.now) SLOT_SERIAL_WORD ≡ 0
             → RunsOn frames pool.now types self.new before undone (with_new (blank_object t m) now) laters (fault_of result) (H.state h.old) (H.state h.new) }
         ensures serial { H.tells → (types : List (ℕ × ℕ)) (now : Graph) → graph_of types (stored_in frames pool.now (reads (H.state h.old).now.words)) ≡ Option.Some now
             → IfOk result (λ serial. serial ≡ now.next_serial) }

@@ -33,7 +33,7 @@ use pud_defs::log_words::REDO_ORDER;
 use pud_defs::objects::Val;
 use pud_defs::records::{MAX_PUDDLES, Puddle, Slot};
 use pud_defs::space::{
-    FRAME_HEADER_WORDS, FRAME_SLOTS, SLOT_FIELDS_WORD, SLOT_WORDS, WORD_BYTES, slot_at,
+    FRAME_HEADER_WORDS, SLOT_FIELDS_WORD, WORD_BYTES, slot_at, slot_words_of, slots_of,
 };
 use pud_defs::type_map::map_is_pointer;
 use puddle_header::{slot_serial, slot_type};
@@ -42,27 +42,26 @@ use type_maps::find;
 /// How many addresses of a puddle's range stand before its slots.
 const HEADER_BYTES: u64 = (WORD_BYTES * FRAME_HEADER_WORDS) as u64;
 
-/// How many addresses a slot has.
-const SLOT_BYTES: u64 = (WORD_BYTES * SLOT_WORDS) as u64;
-
 /// How many addresses a word has.
 const ONE_WORD: u64 = WORD_BYTES as u64;
 
 /// How many words of a slot stand before its fields.
 const BEFORE_FIELDS: u64 = SLOT_FIELDS_WORD as u64;
 
-/// The slot of the puddle with this base, and the field of it, whose word has the address.
-fn field_in(base: u64, address: u64) -> Option<(u32, u32)>
-    ensures found { (slot : ℕ) (f : ℕ) → IsFieldAddress base address slot f → result ≡ Option.Some (slot, f) }
-    ensures is { IfSome result (λ at. IsFieldAddress base address at.0 at.1) }
+/// The slot of the puddle, and the field of it, whose word has the address.
+fn field_in(puddle: &Puddle, address: u64) -> Option<(u32, u32)>
+    ensures found { (slot : ℕ) (f : ℕ) → IsFieldAddress puddle.now address slot f → result ≡ Option.Some (slot, f) }
+    ensures is { IfSome result (λ at. IsFieldAddress puddle.now address at.0 at.1) }
 {
+    let base = puddle.base;
     if address < base || address - base < HEADER_BYTES {
         return None;
     }
     let behind = address - base - HEADER_BYTES;
-    let slot = behind / SLOT_BYTES;
-    let word = behind % SLOT_BYTES / ONE_WORD;
-    if behind % ONE_WORD != 0 || slot >= u64::from(FRAME_SLOTS) || word < BEFORE_FIELDS {
+    let slot_bytes = (WORD_BYTES * slot_words_of(puddle)) as u64;
+    let slot = behind / slot_bytes;
+    let word = behind % slot_bytes / ONE_WORD;
+    if behind % ONE_WORD != 0 || slot >= u64::from(slots_of(puddle)) || word < BEFORE_FIELDS {
         return None;
     }
     Some((slot as u32, (word - BEFORE_FIELDS) as u32))
@@ -76,7 +75,7 @@ fn field_of(pool: &[(u32, Puddle)], address: u64) -> Option<(Slot, u32)>
 {
     for ordinal in 0..pool.len() {
         let (frame, puddle) = pool[ordinal];
-        if let Some((slot, f)) = field_in(puddle.base, address) {
+        if let Some((slot, f)) = field_in(&puddle, address) {
             let at = Slot {
                 frame,
                 ordinal: ordinal as u32,

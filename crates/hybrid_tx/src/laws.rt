@@ -19,7 +19,7 @@ ghost use Rattle.pud_defs.specs.Stored.{stored_in, place_word};
 ghost use Rattle.pud_defs.specs.Graph.{Graph, graph_of, is_held, next_serial_of};
 ghost use Rattle.pud_defs.specs.GraphChanges.{with_field, with_new, blank_object, without_object, with_root};
 ghost use Rattle.pud_defs.specs.Laters.{Later, with_laters};
-ghost use Rattle.graph_read.specs.Reading.{place_in_pool, place_at, IsSlotOf};
+ghost use Rattle.graph_read.specs.Reading.{place_in_pool, place_of_slot, IsSlotOf};
 ghost use Rattle.object_alloc.specs.Alloc.{serial_word_at};
 ghost use Rattle.log_store.specs.Store.{OpenLog};
 ghost use Rattle.word_transaction.specs.Ground.{IsGround, written_in_turn};
@@ -37,7 +37,7 @@ pub fn pools_are_grounds()
 /// A field in whose word is stored what stands for a value has this value.
 pub fn stored_word_sets_the_field()
     ensures { (types : List (ℕ × ℕ)) (frames : ℕ) (at : List (ℕ × Puddle)) (image : Image) (g : Graph) → graph_of types (stored_in frames at image) ≡ Option.Some g
-        → IsPlaced frames at → IsRewritten at → (s : ℕ) (f : ℕ) (slot : Slot) → IsSlotOf at slot → place_in_pool frames at image s ≡ Option.Some (place_at slot)
+        → IsPlaced frames at → IsRewritten at → (s : ℕ) (f : ℕ) (slot : Slot) → IsSlotOf at slot → place_in_pool frames at image s ≡ Option.Some (place_of_slot slot)
         → (x : Val) (v : ℕ) → MaySet types g s f x → word_for frames at image x ≡ Option.Some v
         → graph_of types (stored_in frames at (overwritten (placed (frame_at frames slot.frame + field_word slot.slot f) (v ∷ [])) image)) ≡ Option.Some (with_field s f x g) }
 {}
@@ -45,7 +45,7 @@ pub fn stored_word_sets_the_field()
 /// A free slot that is filled under the next serial, which then is one more, is a new object.
 pub fn stored_words_make_the_object()
     ensures { (types : List (ℕ × ℕ)) (frames : ℕ) (at : List (ℕ × Puddle)) (image : Image) → IsPlaced frames at → (first : ℕ × Puddle) → slice_get at 0 ≡ Option.Some first
-        → (slot : Slot) → IsSlotOf at slot → (serial : ℕ) (id : ℕ) (m : ℕ) → place_word (stored_in frames at image).word (place_at slot) SLOT_SERIAL_WORD ≡ 0
+        → (slot : Slot) → IsSlotOf at slot → (serial : ℕ) (id : ℕ) (m : ℕ) → place_word (stored_in frames at image) (place_of_slot slot) SLOT_SERIAL_WORD ≡ 0
         → serial ≡ next_serial_of (stored_in frames at image) → map_of id types ≡ Option.Some m
         → (g : Graph) → graph_of types (stored_in frames at image) ≡ Option.Some g → g.next_serial < NUMBER_LIMIT
         → graph_of types (stored_in frames at (overwritten (making frames first.0 slot serial id) image)) ≡ Option.Some (with_new (blank_object id m) g) }
@@ -61,7 +61,7 @@ pub fn stored_word_is_the_root()
 /// A slot whose serial is cleared is no object any more, where nothing held it.
 pub fn cleared_serial_frees_the_object()
     ensures { (types : List (ℕ × ℕ)) (frames : ℕ) (at : List (ℕ × Puddle)) (image : Image) (g : Graph) → graph_of types (stored_in frames at image) ≡ Option.Some g
-        → IsPlaced frames at → (s : ℕ) (slot : Slot) → IsSlotOf at slot → place_in_pool frames at image s ≡ Option.Some (place_at slot) → is_held s g ≡ false
+        → IsPlaced frames at → (s : ℕ) (slot : Slot) → IsSlotOf at slot → place_in_pool frames at image s ≡ Option.Some (place_of_slot slot) → is_held s g ≡ false
         → graph_of types (stored_in frames at (overwritten (placed (serial_word_at frames slot) (0 ∷ [])) image)) ≡ Option.Some (without_object s g) }
 {}
 

@@ -9,9 +9,10 @@ ghost use Rattle.pm_model.specs.Words.{Image, reads};
 ghost use Rattle.pm_model.specs.Counts.{after_fault, fault_of};
 ghost use Rattle.pm_model.specs.Changes.{only, Writes};
 ghost use Rattle.pud_defs.specs.Layout.{device_words};
+ghost use Rattle.pud_defs.specs.Geometry.{puddle_slots};
 ghost use Rattle.pud_defs.specs.Stored.{IsOnDevice, stored_in};
 ghost use Rattle.graph_laws.specs.Slots.{AreAllLive, IsLowestFreeSlot};
-ghost use Rattle.graph_read.specs.Reading.{places_in, place_at, IsSlotOf};
+ghost use Rattle.graph_read.specs.Reading.{places_in, place_of_slot, IsSlotOf};
 ghost use Rattle.object_alloc.specs.Alloc.{alloc_fault, serial_word_at};
 
 use graph_read::{serial_at, slot_at_place};
@@ -19,7 +20,7 @@ use pm_model::{Host, HostFault};
 use pm_persist::write_range;
 use pud_defs::layout::MAX_FRAMES;
 use pud_defs::records::{Puddle, Slot};
-use pud_defs::space::{FRAME_SLOTS, SLOT_SERIAL_WORD, frame_at, slot_at};
+use pud_defs::space::{SLOT_SERIAL_WORD, frame_at, places_among, slot_at};
 
 /// Why no slot was found. Nothing changed.
 #[derive(Clone, Copy, Debug, PartialEq, Eq, thiserror::Error)]
@@ -60,7 +61,7 @@ fn free_place<H: Host>(
     ensures cause { H.counts h.new ≡ after_fault (fault_of result) (H.counts h.old) }
     ensures never_cut { fault_of result ≢ Option.Some HostFault.Cut }
 {
-    for place in 0..FRAME_SLOTS * pool.len() as u32 {
+    for place in 0..places_among(pool.len() as u32) {
         if serial_at(h, frames, pool, place)? == 0 {
             return Ok(Some(place));
         }
@@ -82,7 +83,7 @@ pub fn alloc_slot<H: Host>(
     requires room { device_words frames ≤ (H.counts h.old).size }
     requires known { IsOnDevice frames pool.now }
     ensures free { H.tells → (image : Image) → reads (H.state h.old).now.words ≡ image
-        → IfOk result (λ slot. IsLowestFreeSlot (stored_in frames pool.now image) (place_at slot)) }
+        → IfOk result (λ slot. IsLowestFreeSlot (stored_in frames pool.now image) (place_of_slot slot)) }
     ensures full { H.tells → (image : Image) → reads (H.state h.old).now.words ≡ image → alloc_fault result ≡ Option.None
         → (result ≡ Result.Err AllocFault.Full) ↔ AreAllLive (stored_in frames pool.now image) }
     ensures within { IfOk result (IsSlotOf pool.now) }
@@ -104,7 +105,7 @@ pub fn free_slot<H: Host>(h: &mut H, frames: u32, slot: Slot) -> Result<(), Host
     requires few { frames ≤ MAX_FRAMES }
     requires room { device_words frames ≤ (H.counts h.old).size }
     requires known { slot.frame < frames }
-    requires within { slot.slot < FRAME_SLOTS }
+    requires within { slot.slot < puddle_slots }
     ensures writes { H.tells → Writes (only (serial_word_at frames slot) 0) (fault_of result) (H.state h.old) (H.state h.new) }
     ensures cause { H.counts h.new ≡ after_fault (fault_of result) (H.counts h.old) }
 {

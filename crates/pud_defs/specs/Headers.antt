@@ -1,8 +1,9 @@
 -- What a frame says of its puddle, and the words of the puddle's slots.
 use Rattle.std.specs.Prelude.{ℕ, ◌+◌, Bool, false, ◌&&◌, ◌==◌, Option, Some, None}
 use Rattle.pud_defs.specs.declared.space.TheConstants.{FRAME_MAGIC, FRAME_MAGIC_WORD, FRAME_NUMBER_WORD, FRAME_ORDINAL_WORD}
+use Rattle.pud_defs.specs.Geometry.{slot_at}
 use Rattle.pud_defs.specs.Image.{Image}
-use Rattle.pud_defs.specs.Frames.{frame_word, slot_at}
+use Rattle.pud_defs.specs.Frames.{frame_word}
 use Rattle.pud_defs.specs.Puddles.{Member, puddle_at}
 
 -- word k of a slot of the puddle that lies in a frame

@@ -1,11 +1,11 @@
 -- What is read of a pool: the records of its puddles, and the words of their frames.
-use Rattle.std.specs.Prelude.{ℕ, ◌+◌, ◌*◌, ◌/◌, ◌%◌, ◌<◌, ◌≤◌, nat_lt, cond, List, map, length, slice_get, Option, Some, None, All}
+use Rattle.std.specs.Prelude.{ℕ, ◌+◌, ◌<◌, ◌≤◌, nat_lt, cond, List, map, length, slice_get, Option, Some, None, All}
 use Rattle.pud_defs.specs.declared.layout.TheConstants.{FRAME_WORDS}
-use Rattle.pud_defs.specs.declared.space.TheConstants.{FRAME_SLOTS}
 use Rattle.pud_defs.specs.declared.records.TheConstants.{MAX_PUDDLES}
 use Rattle.pud_defs.specs.declared.records.Puddle.{Puddle}
+use Rattle.pud_defs.specs.Geometry.{puddle_slot_words, slot_at, ordinal_of, slot_of, places_among}
 use Rattle.pud_defs.specs.Image.{Image}
-use Rattle.pud_defs.specs.Frames.{frame_word, slot_at}
+use Rattle.pud_defs.specs.Frames.{frame_word}
 
 -- The records of the puddles by their ordinals, and word k of the frame of ordinal o. They stand apart, so that a store changes the words
 -- alone.
@@ -24,11 +24,19 @@ stored_in F at image = record { puddles = map (λ e. e.1) at; word = λ o k. wor
 
 -- how many places there are: a place is a slot of a puddle, counted over the puddles by their ordinals
 abbrev pub places_of : Stored → ℕ
-places_of st = FRAME_SLOTS * length st.puddles
+places_of st = places_among (length st.puddles)
 
--- word k of the slot at a place
-abbrev pub place_word : (ℕ → ℕ → ℕ) → ℕ → ℕ → ℕ
-place_word word p k = word (p / FRAME_SLOTS) (slot_at (p % FRAME_SLOTS) + k)
+-- the word of its frame at which the slot at a place begins
+abbrev pub slot_begins : Stored → ℕ → ℕ
+slot_begins st p = slot_at (slot_of p)
+
+-- how many words that slot has
+abbrev pub place_words : Stored → ℕ → ℕ
+place_words st p = puddle_slot_words
+
+-- word k of it
+abbrev pub place_word : Stored → ℕ → ℕ → ℕ
+place_word st p k = st.word (ordinal_of p) (slot_begins st p + k)
 
 -- Puddles by their ordinals, each with its frame, as they are read: no more than a pool may have, in frames of the device.
 pub record IsOnDevice (F : ℕ) (at : List (ℕ × Puddle)) : Type 0 where

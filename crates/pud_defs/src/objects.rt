@@ -18,7 +18,7 @@ pub enum Pointee {
     At {
         /// The place of the slot's puddle in its pool, 0 to 15.
         ordinal: u32,
-        /// The number of the slot in the puddle, 0 to 61.
+        /// The number of the slot in the puddle.
         slot: u32,
     },
 }

@@ -4,7 +4,7 @@ use Rattle.pm_model.specs.Moments.{State}
 use Rattle.pud_defs.specs.declared.space.TheConstants.{SLOT_TYPE_WORD}
 use Rattle.pud_defs.specs.Types.{types_of, map_of}
 use Rattle.graph_read.specs.declared.fields.FieldRead.TheVariants.{Value}
-use Rattle.graph_read.specs.Reading.{place_at}
+use Rattle.graph_read.specs.Reading.{place_of_slot}
 use Rattle.graph_read.proofs.Placed.{slot_at_place}
 use Rattle.graph_read.proofs.Fielded.{field-past, field-there}
 use Rattle.graph_read.proofs.fields.field_at.Goals as goal
@@ -19,7 +19,7 @@ returns-in_ok-value-in-Some-clause-read g c = λ t image same.
     let defined = ap (λ i. map_of i (types_of image)) (sym id) ∙ sym (c.in_ok-map.ensures.map t image first) ∙ c.in-Some.is in
     let more = c.if-f-map_fields.true in
     ap (λ v. Value v) (c.in_ok-value-in-Some.ensures.value t image second)
-    ∙ sym (field-there c.args.frames pool image (place_at at) c.args.f c.in-Some.map defined c.requires.field (omega (arith, c.map_fields.ensures, more)))
+    ∙ sym (field-there c.args.frames pool image (place_of_slot at) c.args.f c.in-Some.map defined c.requires.field (omega (arith, c.map_fields.ensures, more)))
 
 pub returns-in_default-clause-read : goal.returns-in_default-clause-read
 returns-in_default-clause-read g c = λ t image same.
@@ -29,4 +29,4 @@ returns-in_default-clause-read g c = λ t image same.
     let id = c.in_ok-id.ensures.word t image same ∙ slot_at_place c.args.frames pool image SLOT_TYPE_WORD at c.requires.within (omega arith) in
     let defined = ap (λ i. map_of i (types_of image)) (sym id) ∙ sym (c.in_ok-map.ensures.map t image first) ∙ c.in-Some.is in
     let past = c.if-f-map_fields.false in
-    sym (field-past c.args.frames pool image (place_at at) c.args.f c.in-Some.map defined c.requires.field (omega (arith, c.map_fields.ensures, past)))
+    sym (field-past c.args.frames pool image (place_of_slot at) c.args.f c.in-Some.map defined c.requires.field (omega (arith, c.map_fields.ensures, past)))

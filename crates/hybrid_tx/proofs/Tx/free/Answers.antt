@@ -5,7 +5,7 @@ use Rattle.pm_model.specs.Words.{reads}
 use Rattle.pm_model.specs.Counts.{fault_of}
 use Rattle.pm_model.proofs.Changes.{Changes-still}
 use Rattle.pud_defs.specs.declared.records.Slot.{Slot}
-use Rattle.graph_read.specs.Reading.{place_at, IsSlotOf}
+use Rattle.graph_read.specs.Reading.{place_of_slot, IsSlotOf}
 use Rattle.hybrid_tx.proofs.FieldsSet.{placed_if_live}
 use Rattle.hybrid_tx.proofs.FieldPut.{RunsOn-stopped}
 use Rattle.hybrid_tx.proofs.SlotFreed.{RunsOn-free}
@@ -28,13 +28,13 @@ returns-in-Some-clause-runs g c = λ t types before undone now laters placed is_
     let of = subst (λ (o : Option Slot). IfSome o (IsSlotOf c.args.pool.now)) c.in-Some.is c.in_ok-at.ensures.within in
     RunsOn-free c.args.frames c.args.pool.now types c.args.self.now _ before undone now laters old is_open _ c.args.s c.in-Some.at (fault_of c.free_at.result) _ _
     may unnamed placed c.requires.device c.requires.place c.free_at.ensures.at (c.in_ok-at.ensures.stays t) of
-    (sym (c.in_ok-at.ensures.found t (reads old.now.words) refl) ∙ ap (option_map place_at) c.in-Some.is)
+    (sym (c.in_ok-at.ensures.found t (reads old.now.words) refl) ∙ ap (option_map place_of_slot) c.in-Some.is)
     (c.free_at.ensures.saves t placed before)
 
 pub returns-in-Some-clause-nothing : goal.returns-in-Some-clause-nothing
 returns-in-Some-clause-nothing g c = λ t none.
     let image = reads (g.H.Host.state c.args.h.now).now.words in
-    absurd (none-some _ (sym none ∙ sym (c.in_ok-at.ensures.found t image refl) ∙ ap (option_map place_at) c.in-Some.is))
+    absurd (none-some _ (sym none ∙ sym (c.in_ok-at.ensures.found t image refl) ∙ ap (option_map place_of_slot) c.in-Some.is))
 
 pub returns-in-None-clause-changes : goal.returns-in-None-clause-changes
 returns-in-None-clause-changes g c = λ t. Changes-still _ None _ _ (λ cut. cc) (c.in_ok-at.ensures.stays t)
@@ -42,9 +42,9 @@ returns-in-None-clause-changes g c = λ t. Changes-still _ None _ _ (λ cut. cc)
 pub returns-in-None-clause-runs : goal.returns-in-None-clause-runs
 returns-in-None-clause-runs g c = λ t types before undone now laters placed is_open may unnamed.
     let image = reads (g.H.Host.state c.args.h.now).now.words in
-    absurd (placed_if_live types c.args.frames c.args.pool.now image now is_open.is c.args.s may.object may.live (sym (c.in_ok-at.ensures.found t image refl) ∙ ap (option_map place_at) c.in-None.is))
+    absurd (placed_if_live types c.args.frames c.args.pool.now image now is_open.is c.args.s may.object may.live (sym (c.in_ok-at.ensures.found t image refl) ∙ ap (option_map place_of_slot) c.in-None.is))
 
 pub returns-in-None-clause-counts : goal.returns-in-None-clause-counts
 returns-in-None-clause-counts g c = λ t types before undone now laters is_open may.
     let image = reads (g.H.Host.state c.args.h.now).now.words in
-    absurd (placed_if_live types c.args.frames c.args.pool.now image now is_open.is c.args.s may.object may.live (sym (c.in_ok-at.ensures.found t image refl) ∙ ap (option_map place_at) c.in-None.is))
+    absurd (placed_if_live types c.args.frames c.args.pool.now image now is_open.is c.args.s may.object may.live (sym (c.in_ok-at.ensures.found t image refl) ∙ ap (option_map place_of_slot) c.in-None.is))

@@ -7,14 +7,14 @@ use Rattle.pud_defs.specs.Entries.{Log, entries_of}
 use Rattle.pud_defs.specs.Stored.{stored_in}
 use Rattle.pud_defs.specs.Graph.{graph_of}
 use Rattle.log_entry.proofs.Left.{IsReading-start, IsReading-more}
-use Rattle.graph_read.specs.Reading.{place_at}
+use Rattle.graph_read.specs.Reading.{place_of_slot}
 use Rattle.hybrid_tx.specs.Transactions.{AreLaters}
 use Rattle.hybrid_tx.proofs.LatersNamed.{NamesRest-start, NamesRest-more, NamesRest-passed, NamesOne-decided, NamesRest-end, none_named}
 use Rattle.hybrid_tx.proofs.Tx.later_names.Goals as goal
 
 pub returns-in_default-clause-names : goal.returns-in_default-clause-names
 returns-in_default-clause-names g c = λ t image same before undone now laters placed is_open used.
-    let none = sym (c.in_ok-at.ensures.found t image same) ∙ ap (option_map place_at) c.in_default.is in
+    let none = sym (c.in_ok-at.ensures.found t image same) ∙ ap (option_map place_of_slot) c.in_default.is in
     let are = subst (λ (i : Image). AreLaters c.args.frames c.args.pool.now (types_of image) i now laters is_open.redo) same is_open.are in
     sym (none_named c.args.frames c.args.pool.now (types_of image) image now c.args.s used none laters is_open.redo are)
 
@@ -42,7 +42,7 @@ loop-entry-preserved g c =
           let here = ap (λ (s : State). reads s.now.words) (old.stays t) ∙ same in
           let behind = ap (λ (s : State). reads s.now.words) (c.in_ok-entry.ensures.stays t) ∙ here in
           let is = ap (λ (i : Image). graph_of (types_of image) (stored_in c.args.frames c.args.pool.now i)) (sym same) ∙ is_open.is in
-          let place = sym (c.in_ok-at.ensures.found t image same) ∙ ap (option_map place_at) c.in-Some.is in
+          let place = sym (c.in_ok-at.ensures.found t image same) ∙ ap (option_map place_of_slot) c.in-Some.is in
           elim (NamesRest-more c.args.frames c.args.pool.now (types_of image) image now c.args.s _ c.in-Some-2.entry _ _ _ (old.names t image same before undone now laters placed is_open used) c.in-Some-2.is
           (c.in_ok-entry.ensures.left t image here)) [
             | inl one ↦ NamesRest-passed c.args.frames c.args.pool.now (types_of image) image now c.args.s _ _ _ one
@@ -57,7 +57,7 @@ returns-then-branch-clause-names g c = λ t image same before undone now laters 
     let here = ap (λ (s : State). reads s.now.words) (old.stays t) ∙ same in
     let behind = ap (λ (s : State). reads s.now.words) (c.in_ok-entry.ensures.stays t) ∙ here in
     let is = ap (λ (i : Image). graph_of (types_of image) (stored_in c.args.frames c.args.pool.now i)) (sym same) ∙ is_open.is in
-    let place = sym (c.in_ok-at.ensures.found t image same) ∙ ap (option_map place_at) c.in-Some.is in
+    let place = sym (c.in_ok-at.ensures.found t image same) ∙ ap (option_map place_of_slot) c.in-Some.is in
     elim (NamesRest-more c.args.frames c.args.pool.now (types_of image) image now c.args.s _ c.in-Some-2.entry _ _ _ (old.names t image same before undone now laters placed is_open used) c.in-Some-2.is
     (c.in_ok-entry.ensures.left t image here)) [
       | inl one ↦ NamesOne-decided c.args.frames c.args.pool.now (types_of image) image now c.args.s _ _ _ one

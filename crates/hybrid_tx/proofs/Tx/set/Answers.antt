@@ -6,7 +6,7 @@ use Rattle.pm_model.specs.Counts.{fault_of}
 use Rattle.pm_model.specs.Moments.{State}
 use Rattle.pm_model.proofs.Changes.{Changes-still}
 use Rattle.pud_defs.specs.declared.records.Slot.{Slot}
-use Rattle.graph_read.specs.Reading.{place_at, IsSlotOf}
+use Rattle.graph_read.specs.Reading.{place_of_slot, IsSlotOf}
 use Rattle.hybrid_tx.proofs.FieldPut.{RunsOn-stopped, no_place, no_value, RunsOn-set}
 use Rattle.hybrid_tx.proofs.Tx.set.Goals as goal
 
@@ -46,7 +46,7 @@ returns-in-Some-Some-clause-runs g c = λ t types before undone now laters place
     RunsOn-set c.args.frames c.args.pool.now types c.args.self.now _ before undone now laters c.args.s c.args.f c.args.x old is_open may
     _ _ c.in-Some-Some.at c.in-Some-Some.v (fault_of c.put_in_frame.result) _ _ placed rewritten c.requires.device c.requires.place c.put_in_frame.ensures.at
     (c.in_ok-word.ensures.stays t ∙ c.in_ok-found.ensures.stays t) of
-    (sym (c.in_ok-found.ensures.found t image refl) ∙ ap (option_map place_at) c.in-Some-Some.is-0)
+    (sym (c.in_ok-found.ensures.found t image refl) ∙ ap (option_map place_of_slot) c.in-Some-Some.is-0)
     (sym (c.in_ok-word.ensures.word t placed.legal image kept) ∙ c.in-Some-Some.is-1)
     (ap (λ (k : ℕ). k + 2 + c.args.f) c.slot_at.ensures)
     (c.put_in_frame.ensures.saves t placed)
@@ -55,7 +55,7 @@ pub returns-in-Some-Some-clause-nothing : goal.returns-in-Some-Some-clause-nothi
 returns-in-Some-Some-clause-nothing g c = λ t legal which.
     let image = reads (g.H.Host.state c.args.h.now).now.words in
     let kept = ap (λ (s : State). reads s.now.words) (c.in_ok-found.ensures.stays t) in
-    let place = sym (c.in_ok-found.ensures.found t image refl) ∙ ap (option_map place_at) c.in-Some-Some.is-0 in
+    let place = sym (c.in_ok-found.ensures.found t image refl) ∙ ap (option_map place_of_slot) c.in-Some-Some.is-0 in
     let value = sym (c.in_ok-word.ensures.word t legal image kept) ∙ c.in-Some-Some.is-1 in
     absurd (elim which [ inl none ↦ none-some _ (sym none ∙ place) | inr none ↦ none-some _ (sym none ∙ value) ])
 
@@ -83,10 +83,10 @@ pub returns-in_default-2-clause-runs : goal.returns-in_default-2-clause-runs
 returns-in_default-2-clause-runs g c = λ t types before undone now laters placed rewritten is_open may.
     let old = g.H.Host.state c.args.h.now in
     absurd (no_place c.args.frames c.args.pool.now types c.args.self.now c.args.self.now before undone now laters c.args.s c.args.f c.args.x old is_open may
-    (sym (c.in_ok-found.ensures.found t (reads old.now.words) refl) ∙ ap (option_map place_at) c.in_default.is-0))
+    (sym (c.in_ok-found.ensures.found t (reads old.now.words) refl) ∙ ap (option_map place_of_slot) c.in_default.is-0))
 
 pub returns-in_default-2-clause-counts : goal.returns-in_default-2-clause-counts
 returns-in_default-2-clause-counts g c = λ t types before undone now laters placed is_open may.
     let old = g.H.Host.state c.args.h.now in
     absurd (no_place c.args.frames c.args.pool.now types c.args.self.now c.args.self.now before undone now laters c.args.s c.args.f c.args.x old is_open may
-    (sym (c.in_ok-found.ensures.found t (reads old.now.words) refl) ∙ ap (option_map place_at) c.in_default.is-0))
+    (sym (c.in_ok-found.ensures.found t (reads old.now.words) refl) ∙ ap (option_map place_of_slot) c.in_default.is-0))
