@@ -12,7 +12,7 @@ use Rattle.pud_defs.specs.declared.objects.Val.TheVariants.{Num, Ref}
 use Rattle.pud_defs.specs.TypeMap.{is_pointer}
 use Rattle.pud_defs.specs.Geometry.{ordinal_of, slot_of}
 use Rattle.pud_defs.specs.Types.{map_of}
-use Rattle.pud_defs.specs.Stored.{Stored, places_of, place_word, slot_begins, place_words}
+use Rattle.pud_defs.specs.Stored.{Stored, places_of, place_word, place_begins, place_words}
 use Rattle.pud_defs.specs.Graph.{Content, Number, Table, table_of, contents_by, contents_or_none, content, field_count, pointee_at, place_of, object_at, named_by, value_of, stands, all_stand, Object, Graph, next_serial_of, root_of, graph_stored, graph_of}
 use Rattle.pud_defs.proofs.Graphs.{HasGraph, graph_of-each}
 use Rattle.pud_defs.specs.GraphChanges.{object_with, with_some_object, with_field}
@@ -40,7 +40,7 @@ map-range_set f g n i same = same_lists _ _
 module _ (types : List (ℕ × ℕ)) (st : Stored) (p m f v : ℕ) (below : f < field_count m) where
   -- the words after the store
   abbrev later : ℕ → ℕ → ℕ
-  later = with_word (ordinal_of p) (slot_begins st p + (SLOT_FIELDS_WORD + f)) v st.word
+  later = with_word (ordinal_of p) (place_begins st p + (SLOT_FIELDS_WORD + f)) v st.word
 
   abbrev before : Table
   before = table_of types st
@@ -131,7 +131,7 @@ graph_of-field : (types : List (ℕ × ℕ)) (st : Stored) (g : Graph) (s p m f 
 graph_of-field types st g s p m f v x is field stand value =
     let t = table_of types st in
     let there = place_of-some t (places_of st) s p field.place in
-    let word : slot_begins st p + SLOT_FIELDS_WORD + f ≡ slot_begins st p + (SLOT_FIELDS_WORD + f) = omega arith in
+    let word : place_begins st p + SLOT_FIELDS_WORD + f ≡ place_begins st p + (SLOT_FIELDS_WORD + f) = omega arith in
     ap (λ k. graph_of types (with_words (with_word (ordinal_of p) k v st.word) st)) word
     ∙ field_after types st p m f v field.below field.defined (record { within = there.within; is = refl; used = there.used }) g x (graph_of-each types st g is) stand value
     ∙ ap (λ k. Some (with_field k f x g)) there.is

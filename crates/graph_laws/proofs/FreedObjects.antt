@@ -7,7 +7,7 @@ use Rattle.std.proofs.lemmas.Bool.{cases_Bool, cond-true, cond-false, or_parts}
 use Rattle.std.proofs.lemmas.Option.{none-some, same_Some}
 use Rattle.pud_defs.specs.declared.space.TheConstants.{FRAME_HEADER_WORDS, SLOT_SERIAL_WORD}
 use Rattle.pud_defs.specs.Geometry.{ordinal_of}
-use Rattle.pud_defs.specs.Stored.{Stored, places_of, slot_begins}
+use Rattle.pud_defs.specs.Stored.{Stored, places_of, place_begins}
 use Rattle.pud_defs.specs.Graph.{Table, table_of, contents_or_none, pointee_at, place_of, object_at, names_serial, Object, Graph, next_serial_of, root_of, graph_stored, graph_of, is_held}
 use Rattle.pud_defs.proofs.Graphs.{IsGraph, HasGraph, graph_of-each}
 use Rattle.pud_defs.specs.GraphChanges.{without_object}
@@ -42,7 +42,7 @@ unnamed_if_not_held types st p h apart =
 
 module _ (types : List (ℕ × ℕ)) (st : Stored) (p : ℕ) where
   abbrev later : ℕ → ℕ → ℕ
-  later = with_word (ordinal_of p) (slot_begins st p + SLOT_SERIAL_WORD) 0 st.word
+  later = with_word (ordinal_of p) (place_begins st p + SLOT_SERIAL_WORD) 0 st.word
 
   abbrev before : Table
   before = table_of types st

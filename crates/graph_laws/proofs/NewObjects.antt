@@ -8,7 +8,7 @@ use Rattle.pud_defs.specs.declared.records.Puddle.{Puddle}
 use Rattle.pud_defs.specs.TypeMap.{is_pointer}
 use Rattle.pud_defs.specs.Geometry.{ordinal_of, slot_of}
 use Rattle.pud_defs.specs.Types.{map_of}
-use Rattle.pud_defs.specs.Stored.{Stored, places_of, slot_begins}
+use Rattle.pud_defs.specs.Stored.{Stored, places_of, place_begins}
 use Rattle.pud_defs.specs.Graph.{Content, Table, table_of, contents_by, contents_or_none, content, field_count, pointee_at, object_at, value_of, stands, all_stand, is_next_serial, Object, Graph, next_serial_of, root_of, graph_stored, graph_of}
 use Rattle.pud_defs.proofs.Contents.{list_all-range}
 use Rattle.pud_defs.proofs.Graphs.{HasGraph, graph_of-each}
@@ -52,7 +52,7 @@ module _ (types : List (ℕ × ℕ)) (st : Stored) (word : ℕ → ℕ → ℕ) 
 
   others_kept : KeepsOthers st word p
   others_kept = record {
-    each = λ q k other low. made.others (ordinal_of q) (slot_begins st q + k)
+    each = λ q k other low. made.others (ordinal_of q) (place_begins st q + k)
         (λ same above below. let here : q ≡ p = omega arith in other here)
         (λ first at. absurd (omega arith));
   }

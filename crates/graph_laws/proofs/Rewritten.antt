@@ -10,7 +10,7 @@ use Rattle.pud_defs.specs.declared.records.Puddle.{Puddle}
 use Rattle.pud_defs.specs.TypeMap.{is_pointer}
 use Rattle.pud_defs.specs.Geometry.{ordinal_of, slot_of, places_among}
 use Rattle.pud_defs.specs.Types.{map_of}
-use Rattle.pud_defs.specs.Stored.{Stored, places_of, place_word, slot_begins}
+use Rattle.pud_defs.specs.Stored.{Stored, places_of, place_word, place_begins}
 use Rattle.pud_defs.specs.Graph.{Content, Number, Null, At, Table, table_of, contents_by, slot_in, place_in, at_place, target, over_old, puddles_by, pointee_at, content, field_count, stands, has_header, headers_fit, Graph, next_serial_of, root_of, graph_of}
 use Rattle.pud_defs.specs.Spaces.{all_below}
 use Rattle.pud_defs.proofs.Spaces.{all_below-same}
@@ -171,7 +171,7 @@ module _ (types : List (ℕ × ℕ)) (st : Stored) (o : ℕ) (home : Puddle) (he
   first_step : (word : ℕ → ℕ → ℕ) → ((k j : ℕ) → (k ≡ 0 → j ≡ ROOT_WORD → ⊥) → word k j ≡ st.word k j) → root_of (stepped o 0 word st) ≡ root_of st → StandsSame types st (stepped o 0 word st)
   first_step word same root =
       let later = stepped o 0 word st in
-      let slot = λ (p j : ℕ). same (ordinal_of p) (slot_begins st p + j) (λ first at. absurd (omega arith)) in
+      let slot = λ (p j : ℕ). same (ordinal_of p) (place_begins st p + j) (λ first at. absurd (omega arith)) in
       record {
         puddles = length-moved st.puddles o 1 home here;
         headers = headers-stepped st o 0 home here word (λ k j few. same k j (λ first at. absurd (omega arith)));

@@ -3,7 +3,7 @@ use Rattle.std.proofs.Common.{◌≡◌, ℕ, ◌+◌, ◌/◌, ◌%◌, true, n
 use Rattle.pud_defs.specs.declared.space.TheConstants.{ROOT_WORD}
 use Rattle.pud_defs.specs.Geometry.{ordinal_of}
 use Rattle.pud_defs.specs.Types.{map_of}
-use Rattle.pud_defs.specs.Stored.{Stored, places_of, place_word, slot_begins}
+use Rattle.pud_defs.specs.Stored.{Stored, places_of, place_word, place_begins}
 use Rattle.pud_defs.specs.Graph.{Content, table_of, contents_by, pointee_at, place_of, named_by, stands, Graph, next_serial_of, graph_stored, graph_of}
 use Rattle.pud_defs.proofs.Contents.{names_only, pointee_at_within, contents_by_within}
 use Rattle.pud_defs.proofs.Graphs.{IsGraph, HasGraph, IsSameTable, IsGraph-same, graph_by-same, graph_of-each}
@@ -21,11 +21,11 @@ module _ (types : List (ℕ × ℕ)) (st : Stored) (v : ℕ) where
 
   slots_kept : IsSameTable (table_of types st) (table_of types (with_words later st)) (places_of st)
   slots_kept = record {
-    serial = λ p below. kept (ordinal_of p) (slot_begins st p + 0) (λ at. absurd (omega arith));
-    type_id = λ p below used. kept (ordinal_of p) (slot_begins st p + 1) (λ at. absurd (omega arith));
+    serial = λ p below. kept (ordinal_of p) (place_begins st p + 0) (λ at. absurd (omega arith));
+    type_id = λ p below used. kept (ordinal_of p) (place_begins st p + 1) (λ at. absurd (omega arith));
     contents = λ p below used.
-        ap (λ k. contents_by (with_words later st) p (map_of k types)) (kept (ordinal_of p) (slot_begins st p + 1) (λ at. absurd (omega arith)))
-        ∙ contents_by-same st later p (map_of (place_word st p 1) types) (λ m f is low. kept (ordinal_of p) (slot_begins st p + (2 + f)) (λ at. absurd (omega arith)));
+        ap (λ k. contents_by (with_words later st) p (map_of k types)) (kept (ordinal_of p) (place_begins st p + 1) (λ at. absurd (omega arith)))
+        ∙ contents_by-same st later p (map_of (place_word st p 1) types) (λ m f is low. kept (ordinal_of p) (place_begins st p + (2 + f)) (λ at. absurd (omega arith)));
     within = λ p below used. contents_by_within st p (map_of (place_word st p 1) types);
   }
 

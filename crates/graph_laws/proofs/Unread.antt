@@ -4,7 +4,7 @@ use Rattle.std.proofs.lemmas.Option.{same_Some}
 use Rattle.pud_defs.specs.declared.space.TheConstants.{FRAME_HEADER_WORDS, FRAME_ORDINAL_WORD, ROOT_WORD, SLOT_SERIAL_WORD, SLOT_TYPE_WORD, SLOT_FIELDS_WORD}
 use Rattle.pud_defs.specs.Geometry.{ordinal_of}
 use Rattle.pud_defs.specs.Types.{map_of}
-use Rattle.pud_defs.specs.Stored.{Stored, places_of, place_word, slot_begins, place_words}
+use Rattle.pud_defs.specs.Stored.{Stored, places_of, place_word, place_begins, place_words}
 use Rattle.pud_defs.specs.Graph.{contents_by, field_count, pointee_at, graph_of}
 use Rattle.graph_laws.specs.Changes.{with_word, with_words, with_slot_word}
 use Rattle.graph_laws.specs.Reads.{ReadsSame}
@@ -32,7 +32,7 @@ graph_of-read types st word h = graph_of-same types st (with_words word st) (sta
 -- a word of a frame's header that is not read
 pub graph_of-header : (types : List (ℕ × ℕ)) (st : Stored) (o k v : ℕ) → FRAME_ORDINAL_WORD < k → k < FRAME_HEADER_WORDS → (o ≡ 0 → ROOT_WORD < k) → graph_of types (with_words (with_word o k v st.word) st) ≡ graph_of types st
 graph_of-header types st o k v low high behind =
-    let slot = λ (p j : ℕ). with_word-other o k v st.word (ordinal_of p) (slot_begins st p + j) (λ same at. absurd (omega arith)) in
+    let slot = λ (p j : ℕ). with_word-other o k v st.word (ordinal_of p) (place_begins st p + j) (λ same at. absurd (omega arith)) in
     graph_of-read types st (with_word o k v st.word) (record {
       headers = λ other j within few. with_word-other o k v st.word other j (λ same at. absurd (omega arith));
       next = with_word-other o k v st.word 0 3 (λ same at. let above = behind (sym same) in absurd (omega arith));
@@ -46,7 +46,7 @@ unread_slot : (types : List (ℕ × ℕ)) (st : Stored) (p j v : ℕ) → 0 < j 
     → ((m f : ℕ) → (place_word st p SLOT_SERIAL_WORD ≡ 0 → ⊥) → map_of (place_word st p SLOT_TYPE_WORD) types ≡ Some m → f < field_count m → j ≡ SLOT_FIELDS_WORD + f → ⊥)
     → graph_of types (with_slot_word p j v st) ≡ graph_of types st
 unread_slot types st p j v low high no_type no_field =
-    let word = with_word (ordinal_of p) (slot_begins st p + j) v st.word in
+    let word = with_word (ordinal_of p) (place_begins st p + j) v st.word in
     let header = slot_word-header p j v st high in
     let slot = slot_word-other p j v st high in
     graph_of-read types st word (record {

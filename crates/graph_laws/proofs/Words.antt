@@ -14,7 +14,7 @@ use Rattle.pud_defs.specs.Geometry.{ordinal_of}
 use Rattle.pud_defs.specs.Types.{map_of}
 use Rattle.pud_defs.specs.Keyed.{under}
 use Rattle.pud_defs.specs.Headers.{is_header}
-use Rattle.pud_defs.specs.Stored.{Stored, places_of, place_word, slot_begins, place_words}
+use Rattle.pud_defs.specs.Stored.{Stored, places_of, place_word, place_begins, place_words}
 use Rattle.pud_defs.specs.Graph.{Content, Table, table_of, contents_by, content, field_count, pointee_at, placed, place_of, has_header, headers_fit, Graph, graph_by, graph_of}
 use Rattle.pud_defs.proofs.Spaces.{all_below-same}
 use Rattle.pud_defs.proofs.TypeLists.{same_test}
@@ -45,11 +45,11 @@ module _ (p j v : ℕ) (st : Stored) (few : j < place_words st p) where
   slot_word-header o k low = with_word-other _ _ v st.word o k (λ same at. absurd (omega arith))
 
   pub slot_word-there : place_word slot_written p j ≡ v
-  slot_word-there = with_word-there (ordinal_of p) (slot_begins st p + j) v st.word
+  slot_word-there = with_word-there (ordinal_of p) (place_begins st p + j) v st.word
 
   pub slot_word-other : (q k : ℕ) → k < place_words st q → (q ≡ p → k ≡ j → ⊥) → place_word slot_written q k ≡ place_word st q k
   slot_word-other q k low apart =
-      with_word-other _ _ v st.word (ordinal_of q) (slot_begins st q + k)
+      with_word-other _ _ v st.word (ordinal_of q) (place_begins st q + k)
       (λ same at. let here : q ≡ p = omega arith in let there : k ≡ j = omega arith in apart here there)
 
 -- ---- headers
@@ -99,7 +99,7 @@ contents_by-same st later p type same = contents_by-each st (with_words later st
 pub record KeepsOthers (st : Stored) (later : ℕ → ℕ → ℕ) (p : ℕ) : Type 0 where
   pub each : (q k : ℕ) → (q ≡ p → ⊥) → k < place_words st q → place_word (with_words later st) q k ≡ place_word st q k
 
-pub slot_word-others : (p j v : ℕ) (st : Stored) → j < place_words st p → KeepsOthers st (with_word (ordinal_of p) (slot_begins st p + j) v st.word) p
+pub slot_word-others : (p j v : ℕ) (st : Stored) → j < place_words st p → KeepsOthers st (with_word (ordinal_of p) (place_begins st p + j) v st.word) p
 slot_word-others p j v st few = record { each = λ q k other low. slot_word-other p j v st few q k low (λ same at. other same) }
 
 pub same_but : (types : List (ℕ × ℕ)) (st : Stored) (later : ℕ → ℕ → ℕ) (p : ℕ) → p < places_of st → KeepsOthers st later p → IsSameBut (table_of types st) (table_of types (with_words later st)) (places_of st) p

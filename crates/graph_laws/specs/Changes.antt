@@ -4,7 +4,7 @@ use Rattle.pud_defs.specs.declared.space.TheConstants.{RANGE_BYTES, SLOT_SERIAL_
 use Rattle.pud_defs.specs.declared.records.Puddle.{Puddle}
 use Rattle.pud_defs.specs.Geometry.{ordinal_of, slot_of}
 use Rattle.pud_defs.specs.Types.{map_of}
-use Rattle.pud_defs.specs.Stored.{Stored, places_of, place_word, slot_begins, place_words}
+use Rattle.pud_defs.specs.Stored.{Stored, places_of, place_word, place_begins, place_words}
 use Rattle.pud_defs.specs.Graph.{slot_address, field_count, table_of, place_of, next_serial_of}
 
 -- ---- words
@@ -19,7 +19,7 @@ with_words word st = record { puddles = st.puddles; word = word }
 
 -- word j of the slot at a place
 abbrev pub with_slot_word : (p j v : ℕ) → Stored → Stored
-with_slot_word p j v st = with_words (with_word (ordinal_of p) (slot_begins st p + j) v st.word) st
+with_slot_word p j v st = with_words (with_word (ordinal_of p) (place_begins st p + j) v st.word) st
 
 -- its serial
 abbrev pub with_serial_word : (p v : ℕ) → Stored → Stored
@@ -27,7 +27,7 @@ with_serial_word p v st = with_slot_word p SLOT_SERIAL_WORD v st
 
 -- the word of field f of the slot at a place
 abbrev pub with_field_word : (p f v : ℕ) → Stored → Stored
-with_field_word p f v st = with_words (with_word (ordinal_of p) (slot_begins st p + SLOT_FIELDS_WORD + f) v st.word) st
+with_field_word p f v st = with_words (with_word (ordinal_of p) (place_begins st p + SLOT_FIELDS_WORD + f) v st.word) st
 
 -- the root pointer
 abbrev pub with_root_word : ℕ → Stored → Stored
@@ -65,4 +65,4 @@ pub record IsMade (types : List (ℕ × ℕ)) (st : Stored) (word : ℕ → ℕ 
   pub defined : map_of type_id types ≡ Some m
   pub fields : (f : ℕ) → f < field_count m → place_word (with_words word st) p (SLOT_FIELDS_WORD + f) ≡ 0
   pub next_word : word 0 NEXT_SERIAL_WORD ≡ next_serial_of st + 1
-  pub others : (o k : ℕ) → (o ≡ ordinal_of p → slot_begins st p ≤ k → k < slot_begins st p + place_words st p → ⊥) → (o ≡ 0 → k ≡ NEXT_SERIAL_WORD → ⊥) → word o k ≡ st.word o k
+  pub others : (o k : ℕ) → (o ≡ ordinal_of p → place_begins st p ≤ k → k < place_begins st p + place_words st p → ⊥) → (o ≡ 0 → k ≡ NEXT_SERIAL_WORD → ⊥) → word o k ≡ st.word o k

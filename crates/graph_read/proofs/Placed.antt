@@ -4,7 +4,7 @@ use Rattle.std.proofs.lemmas.Bool.{cond-true, lt-ltb}
 use Rattle.pud_defs.specs.declared.layout.TheConstants.{FRAME_WORDS}
 use Rattle.pud_defs.specs.declared.records.Puddle.{Puddle}
 use Rattle.pud_defs.specs.declared.records.Slot.{Slot}
-use Rattle.pud_defs.specs.Geometry.{puddle_slots, slots_of, slot_words_of, slot_at, ordinal_of, slot_of, place_at}
+use Rattle.pud_defs.specs.Geometry.{puddle_slots, slots_of, slot_words_of, puddle_slot_at, ordinal_of, slot_of, place_at}
 use Rattle.pud_defs.specs.Image.{Image}
 use Rattle.pud_defs.specs.Frames.{frame_word}
 use Rattle.pud_defs.specs.Headers.{slot_word}
@@ -27,8 +27,8 @@ stored_word F at image o k e there below = ap (word_in_frame F image k) there �
 pub stored_slot : (F : ℕ) (at : List (ℕ × Puddle)) (image : Image) (o s k : ℕ) (e : ℕ × Puddle) → slice_get at o ≡ Some e → s < slots_of e.1 → k < slot_words_of e.1
     → place_word (stored_in F at image) (place_at o s) k ≡ slot_word F e.0 s k image
 stored_slot F at image o s k e there slot below =
-    ap₂ (λ (i j : ℕ). (stored_in F at image).word i (slot_at j + k)) (place_ordinal o s slot) (place_slot o s slot)
-    ∙ stored_word F at image o (slot_at s + k) e there (omega arith)
+    ap₂ (λ (i j : ℕ). (stored_in F at image).word i (puddle_slot_at j + k)) (place_ordinal o s slot) (place_slot o s slot)
+    ∙ stored_word F at image o (puddle_slot_at s + k) e there (omega arith)
 
 -- a word of a slot is that at its place
 pub slot_at_place : (F : ℕ) (at : List (ℕ × Puddle)) (image : Image) (k : ℕ) (s : Slot) (of : IsSlotOf at s) → k < slot_words_of of.puddle

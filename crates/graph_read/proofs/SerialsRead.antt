@@ -9,7 +9,7 @@ use Rattle.pud_defs.specs.declared.space.TheConstants.{SLOT_SERIAL_WORD}
 use Rattle.pud_defs.specs.declared.records.Puddle.{Puddle}
 use Rattle.pud_defs.specs.Geometry.{ordinal_of, places_among}
 use Rattle.pud_defs.specs.Image.{Image}
-use Rattle.pud_defs.specs.Stored.{stored_in, word_in_frame, slot_begins}
+use Rattle.pud_defs.specs.Stored.{stored_in, word_in_frame, place_begins}
 use Rattle.graph_read.specs.Asking.{serials_in}
 
 -- the list has what f gives at the places below n, and 0 behind them
@@ -39,4 +39,4 @@ IsReadTo-end f n xs behind so_far =
     λ i k. each k i
 
 pub no_serial_behind : (F : ℕ) (at : List (ℕ × Puddle)) (image : Image) (k : ℕ) → places_among (length at) ≤ k → serials_in (stored_in F at image) k ≡ 0
-no_serial_behind F at image k behind = ap (word_in_frame F image (slot_begins (stored_in F at image) k + SLOT_SERIAL_WORD)) (slice_get_past at (ordinal_of k) (omega arith))
+no_serial_behind F at image k behind = ap (word_in_frame F image (place_begins (stored_in F at image) k + SLOT_SERIAL_WORD)) (slice_get_past at (ordinal_of k) (omega arith))

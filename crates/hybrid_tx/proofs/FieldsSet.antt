@@ -11,7 +11,7 @@ use Rattle.pud_defs.specs.declared.records.Puddle.{Puddle}
 use Rattle.pud_defs.specs.declared.records.Slot.{Slot}
 use Rattle.pud_defs.specs.declared.objects.Val.{Val}
 use Rattle.pud_defs.specs.declared.objects.Val.TheVariants.{Num, Ref}
-use Rattle.pud_defs.specs.Geometry.{steps_of, slot_at, ordinal_of, slot_of, places_among}
+use Rattle.pud_defs.specs.Geometry.{steps_of, puddle_slot_at, ordinal_of, slot_of, places_among}
 use Rattle.pud_defs.specs.Types.{map_of}
 use Rattle.pud_defs.specs.Image.{Image, written}
 use Rattle.pud_defs.specs.Frames.{frame_at}
@@ -155,14 +155,14 @@ module _ (types : List (ℕ × ℕ)) (F : ℕ) (at : List (ℕ × Puddle)) (imag
       ]
 
       field_set : (x : Val) (v : ℕ) → MayHold m f g x → word_for F at image x ≡ Some v
-          → graph_of types (stored_in F at (overwritten (put_from (frame_at F slot.frame + field_word slot.slot f) (v ∷ [])) image)) ≡ Some (with_field s f x g)
+          → graph_of types (stored_in F at (overwritten (put_from (frame_at F slot.frame + field_word slot f) (v ∷ [])) image)) ≡ Some (with_field s f x g)
       field_set x v holds word =
-          let few : field_word slot.slot f < FRAME_WORDS = (let most = few_fields m in let slots = of.below in omega arith) in
-          ap (graph_of types) (stored_in-one F at image slot.ordinal (field_word slot.slot f) v (slot.frame, of.puddle) placed.frames of.there few)
-          ∙ ap₂ (λ (i j : ℕ). graph_of types (with_words (with_word i (slot_at j + SLOT_FIELDS_WORD + f) v st.word) st))
+          let few : field_word slot f < FRAME_WORDS = (let most = few_fields m in let slots = of.below in omega arith) in
+          ap (graph_of types) (stored_in-one F at image slot.ordinal (field_word slot f) v (slot.frame, of.puddle) placed.frames of.there few)
+          ∙ ap₂ (λ (i j : ℕ). graph_of types (with_words (with_word i (puddle_slot_at j + SLOT_FIELDS_WORD + f) v st.word) st))
           (sym (place_ordinal slot.ordinal slot.slot of.below)) (sym (place_slot slot.ordinal slot.slot of.below))
           ∙ of_value x v holds word
 
     pub set_value : (x : Val) (v : ℕ) → MaySet types g s f x → word_for F at image x ≡ Some v
-        → graph_of types (stored_in F at (overwritten (put_from (frame_at F slot.frame + field_word slot.slot f) (v ∷ [])) image)) ≡ Some (with_field s f x g)
+        → graph_of types (stored_in F at (overwritten (put_from (frame_at F slot.frame + field_word slot f) (v ∷ [])) image)) ≡ Some (with_field s f x g)
     set_value x v may word = field_set may.map may.object may.live may.defined may.below x v may.holds word

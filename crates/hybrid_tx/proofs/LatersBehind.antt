@@ -11,13 +11,13 @@ use Rattle.pud_defs.specs.declared.space.TheConstants.{SLOT_SERIAL_WORD, ROOT_WO
 use Rattle.pud_defs.specs.declared.records.Puddle.{Puddle}
 use Rattle.pud_defs.specs.declared.records.Slot.{Slot}
 use Rattle.pud_defs.specs.declared.objects.Val.{Val}
-use Rattle.pud_defs.specs.Geometry.{puddle_slots, slot_at, ordinal_of, slot_of}
+use Rattle.pud_defs.specs.Geometry.{puddle_slots, puddle_slot_at, ordinal_of, slot_of}
 use Rattle.pud_defs.specs.Image.{Image}
 use Rattle.pud_defs.specs.Keyed.{under, first_from}
 use Rattle.pud_defs.specs.Types.{map_of}
 use Rattle.pud_defs.specs.Frames.{frame_at}
 use Rattle.pud_defs.specs.Replay.{overwritten}
-use Rattle.pud_defs.specs.Stored.{Stored, stored_in, places_of, place_word, slot_begins}
+use Rattle.pud_defs.specs.Stored.{Stored, stored_in, places_of, place_word, place_begins}
 use Rattle.pud_defs.specs.Graph.{under_serial, table_of, place_of, object_at, Object, Graph, object_in, next_serial_of, graph_of}
 use Rattle.pud_defs.specs.GraphChanges.{object_with, with_some_object, with_field, with_new, with_root}
 use Rattle.pud_defs.proofs.TypeLists.{same_test}
@@ -99,14 +99,14 @@ module _ (types : List (ℕ × ℕ)) (st : Stored) (g : Graph) (is : graph_of ty
 
 -- the word of a frame is that of no slot's serial
 abbrev IsNoSerial : (k : ℕ) → Type 0
-IsNoSerial k = (n : ℕ) → n < puddle_slots → slot_at n + SLOT_SERIAL_WORD ≡ k → ⊥
+IsNoSerial k = (n : ℕ) → n < puddle_slots → puddle_slot_at n + SLOT_SERIAL_WORD ≡ k → ⊥
 
 module _ (F : ℕ) (at : List (ℕ × Puddle)) (image : Image) (distinct : HasDistinctFrames at) (o k v : ℕ) (e : ℕ × Puddle) (there : slice_get at o ≡ Some e) (below : k < FRAME_WORDS) (other : IsNoSerial k) where
   abbrev stored_after : Stored
   stored_after = with_words (with_word o k v (stored_in F at image).word) (stored_in F at image)
 
   serial_stays : (p : ℕ) → place_word stored_after p SLOT_SERIAL_WORD ≡ place_word (stored_in F at image) p SLOT_SERIAL_WORD
-  serial_stays p = with_word-other o k v (stored_in F at image).word (ordinal_of p) (slot_begins (stored_in F at image) p + SLOT_SERIAL_WORD) (λ same here. other (slot_of p) (omega arith) here)
+  serial_stays p = with_word-other o k v (stored_in F at image).word (ordinal_of p) (place_begins (stored_in F at image) p + SLOT_SERIAL_WORD) (λ same here. other (slot_of p) (omega arith) here)
 
   KeepsPlaces-word : (now : Graph) → KeepsPlaces F at at image (overwritten (placed (frame_at F e.0 + k) (v ∷ [])) image) now
   KeepsPlaces-word now =
@@ -119,10 +119,10 @@ module _ (F : ℕ) (at : List (ℕ × Puddle)) (image : Image) (distinct : HasDi
 
 -- that of a field
 pub KeepsPlaces-field : (F : ℕ) (at : List (ℕ × Puddle)) (image : Image) → HasDistinctFrames at → (slot : Slot) (of : IsSlotOf at slot) (f v : ℕ) → f < MAX_FIELDS → (now : Graph)
-    → KeepsPlaces F at at image (overwritten (placed (frame_at F slot.frame + field_word slot.slot f) (v ∷ [])) image) now
+    → KeepsPlaces F at at image (overwritten (placed (frame_at F slot.frame + field_word slot f) (v ∷ [])) image) now
 KeepsPlaces-field F at image distinct slot of f v below now =
     let slots = of.below in
-    KeepsPlaces-word F at image distinct slot.ordinal (field_word slot.slot f) v (slot.frame, of.puddle) of.there (omega arith) (λ n within here. absurd (omega arith)) now
+    KeepsPlaces-word F at image distinct slot.ordinal (field_word slot f) v (slot.frame, of.puddle) of.there (omega arith) (λ n within here. absurd (omega arith)) now
 
 -- that of the root
 pub KeepsPlaces-root : (F : ℕ) (at : List (ℕ × Puddle)) (image : Image) → HasDistinctFrames at → (first : ℕ × Puddle) → slice_get at 0 ≡ Some first → (v : ℕ) (now : Graph)
@@ -164,7 +164,7 @@ module _ (types : List (ℕ × ℕ)) (F : ℕ) (at : List (ℕ × Puddle)) (imag
   -- the slots beside it have their serials
   other_serial : (q : ℕ) → (q ≡ place_of_slot slot → ⊥) → serial_at_place F at filled q ≡ serial_at_place F at image q
   other_serial q other =
-      (made types F at image is_placed first head slot of serial type_id m free next defined).others (ordinal_of q) (slot_begins (stored_in F at image) q + SLOT_SERIAL_WORD)
+      (made types F at image is_placed first head slot of serial type_id m free next defined).others (ordinal_of q) (place_begins (stored_in F at image) q + SLOT_SERIAL_WORD)
       (λ same above below. let here : q ≡ place_of_slot slot = omega arith in other here) (λ front word. absurd (omega arith))
 
   pub KeepsPlaces-new : (now : Graph) → graph_of types (stored_in F at image) ≡ Some now → KeepsPlaces F at at image filled now

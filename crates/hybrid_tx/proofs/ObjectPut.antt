@@ -10,7 +10,7 @@ use Rattle.pud_defs.specs.declared.layout.TheConstants.{LOG_WORDS, NUMBER_LIMIT}
 use Rattle.pud_defs.specs.declared.space.TheConstants.{SLOT_SERIAL_WORD, NEXT_SERIAL_WORD}
 use Rattle.pud_defs.specs.declared.records.Puddle.{Puddle}
 use Rattle.pud_defs.specs.declared.records.Slot.{Slot}
-use Rattle.pud_defs.specs.Geometry.{slot_at}
+use Rattle.pud_defs.specs.Geometry.{slot_begins}
 use Rattle.pud_defs.specs.Types.{map_of}
 use Rattle.pud_defs.specs.Layout.{device_words, frames_at}
 use Rattle.pud_defs.specs.Image.{Image}
@@ -77,19 +77,19 @@ module _ (F : ℕ) (at : List (ℕ × Puddle)) (types : List (ℕ × ℕ)) (log 
       → IsPlaced F at → device_words F ≤ size → log.at + LOG_WORDS ≤ frames_at F → between.at ≡ log.at → behind.at ≡ between.at → a ≡ old → slice_get at 0 ≡ Some first → IsSlotOf at slot
       → place_word (stored_in F at (reads old.now.words)) (place_of_slot slot) SLOT_SERIAL_WORD ≡ 0 → serial ≡ frame_word F first.0 NEXT_SERIAL_WORD (reads old.now.words)
       → map_of type_id types ≡ Some m → now.next_serial < NUMBER_LIMIT
-      → word ≡ slot_at slot.slot → words ≡ new_words serial type_id → PutsAt F at slot.ordinal word words log between None a b
+      → word ≡ slot_begins slot → words ≡ new_words serial type_id → PutsAt F at slot.ordinal word words log between None a b
       → bumped ≡ (serial + 1) % 2 ^ 64 → PutsAt F at 0 NEXT_SERIAL_WORD (bumped ∷ []) between behind fault b c
       → RunsOn F at types behind before undone (with_new (blank_object type_id m) now) laters fault old c
   RunsOn-new size between behind first slot serial bumped type_id m word words fault a b c is_placed device apart same_between same_behind stays head of free read defined room is_word are_words put is_bumped put_next =
       let image = reads old.now.words in
       let next : serial ≡ now.next_serial = serial_is_next F at types image first head serial read now is_open.is in
       let one_more : bumped ≡ serial + 1 = omega arith in
-      let slot_write = placed (frame_at F slot.frame + slot_at slot.slot) (new_words serial type_id) in
+      let slot_write = placed (frame_at F slot.frame + slot_begins slot) (new_words serial type_id) in
       let next_write = placed (frame_at F first.0 + NEXT_SERIAL_WORD) ((serial + 1) ∷ []) in
       let redo = is_open.redo in
       let in_slot = subst (λ (k : ℕ). (d : Image) (r : List Entry) → IsSaving F at log d r a.now.words → Saves F at between d r (placed (frame_at F slot.frame + k) words) None a b) is_word
       (put (slot.frame, of.puddle) of.there) in
-      let filled = subst (λ (vals : List ℕ). (d : Image) (r : List Entry) → IsSaving F at log d r a.now.words → Saves F at between d r (placed (frame_at F slot.frame + slot_at slot.slot) vals) None a b)
+      let filled = subst (λ (vals : List ℕ). (d : Image) (r : List Entry) → IsSaving F at log d r a.now.words → Saves F at between d r (placed (frame_at F slot.frame + slot_begins slot) vals) None a b)
       are_words in_slot in
       let saves = subst (λ (s : State). IsSaving F at log before redo s.now.words → Saves F at between before redo slot_write None s b) stays (filled before redo) is_open.saving in
       let later = subst (λ (k : ℕ). Saves F at behind before redo (placed (frame_at F first.0 + NEXT_SERIAL_WORD) (k ∷ [])) fault b c) one_more

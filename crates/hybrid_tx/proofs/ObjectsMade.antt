@@ -10,12 +10,12 @@ use Rattle.pud_defs.specs.declared.layout.TheConstants.{FRAME_WORDS, NUMBER_LIMI
 use Rattle.pud_defs.specs.declared.space.TheConstants.{SLOT_SERIAL_WORD, SLOT_TYPE_WORD, SLOT_FIELDS_WORD, NEXT_SERIAL_WORD}
 use Rattle.pud_defs.specs.declared.records.Puddle.{Puddle}
 use Rattle.pud_defs.specs.declared.records.Slot.{Slot}
-use Rattle.pud_defs.specs.Geometry.{puddle_slot_words, slot_at, ordinal_of}
+use Rattle.pud_defs.specs.Geometry.{puddle_slot_words, slot_begins, ordinal_of}
 use Rattle.pud_defs.specs.Types.{map_of}
 use Rattle.pud_defs.specs.Image.{Image}
 use Rattle.pud_defs.specs.Frames.{frame_at}
 use Rattle.pud_defs.specs.Replay.{overwritten}
-use Rattle.pud_defs.specs.Stored.{Stored, stored_in, word_in_frame, place_word, slot_begins, place_words}
+use Rattle.pud_defs.specs.Stored.{Stored, stored_in, word_in_frame, place_word, place_begins, place_words}
 use Rattle.pud_defs.specs.Graph.{Graph, next_serial_of, graph_of}
 use Rattle.pud_defs.proofs.Graphs.{graph_of-each}
 use Rattle.pud_defs.proofs.Replay.{overwritten-there, overwritten-stays, value_at-there, value_at-apart}
@@ -53,7 +53,7 @@ new_words-field serial type_id f below =
 
 module _ (F first serial type_id : ℕ) (slot : Slot) where
   abbrev its_slot : ℕ
-  its_slot = frame_at F slot.frame + slot_at slot.slot
+  its_slot = frame_at F slot.frame + slot_begins slot
 
   abbrev next_word : ℕ
   next_word = frame_at F first + NEXT_SERIAL_WORD
@@ -90,14 +90,14 @@ module _ (types : List (ℕ × ℕ)) (F : ℕ) (at : List (ℕ × Puddle)) (imag
   p = place_of_slot slot
 
   -- no word of the slot is that of the next serial
-  apart_from_next : (j : ℕ) → j < puddle_slot_words → (frame_at F slot.frame + slot_at slot.slot + j ≡ frame_at F first.0 + NEXT_SERIAL_WORD → ⊥)
+  apart_from_next : (j : ℕ) → j < puddle_slot_words → (frame_at F slot.frame + slot_begins slot + j ≡ frame_at F first.0 + NEXT_SERIAL_WORD → ⊥)
   apart_from_next j few same = let slots = of.below in absurd (omega arith)
 
   slot_after : (j v : ℕ) → j < puddle_slot_words → slice_get (new_words serial type_id) j ≡ Some v → place_word (stored_in F at after) p j ≡ v
   slot_after j v few is =
       stored_slot F at after slot.ordinal slot.slot j (slot.frame, of.puddle) of.there of.below few
-      ∙ ap after (let e : frame_at F slot.frame + (slot_at slot.slot + j) ≡ frame_at F slot.frame + slot_at slot.slot + j = omega arith in e)
-      ∙ overwritten-there (making F first.0 slot serial type_id) image (frame_at F slot.frame + slot_at slot.slot + j) v (making-slot F first.0 serial type_id slot j few (apart_from_next j few) ∙ is)
+      ∙ ap after (let e : frame_at F slot.frame + (slot_begins slot + j) ≡ frame_at F slot.frame + slot_begins slot + j = omega arith in e)
+      ∙ overwritten-there (making F first.0 slot serial type_id) image (frame_at F slot.frame + slot_begins slot + j) v (making-slot F first.0 serial type_id slot j few (apart_from_next j few) ∙ is)
 
   next_after : later 0 NEXT_SERIAL_WORD ≡ serial + 1
   next_after =
@@ -105,20 +105,20 @@ module _ (types : List (ℕ × ℕ)) (F : ℕ) (at : List (ℕ × Puddle)) (imag
       ∙ overwritten-there (making F first.0 slot serial type_id) image (frame_at F first.0 + NEXT_SERIAL_WORD) (serial + 1) (making-next F first.0 serial type_id slot)
 
   frame_after : (o k : ℕ) (e : ℕ × Puddle) → slice_get at o ≡ Some e → k < FRAME_WORDS
-      → (o ≡ ordinal_of p → slot_begins (stored_in F at image) p ≤ k → k < slot_begins (stored_in F at image) p + place_words (stored_in F at image) p → ⊥) → (o ≡ 0 → k ≡ NEXT_SERIAL_WORD → ⊥)
+      → (o ≡ ordinal_of p → place_begins (stored_in F at image) p ≤ k → k < place_begins (stored_in F at image) p + place_words (stored_in F at image) p → ⊥) → (o ≡ 0 → k ≡ NEXT_SERIAL_WORD → ⊥)
       → after (frame_at F e.0 + k) ≡ image (frame_at F e.0 + k)
   frame_after o k e there below other_slot other_next =
       let ordinal = place_ordinal slot.ordinal slot.slot of.below in
       let number = place_slot slot.ordinal slot.slot of.below in
       let slots = of.below in
-      let apart : (frame_at F e.0 + k < frame_at F slot.frame + slot_at slot.slot) ⊎ (frame_at F slot.frame + slot_at slot.slot + puddle_slot_words ≤ frame_at F e.0 + k) =
+      let apart : (frame_at F e.0 + k < frame_at F slot.frame + slot_begins slot) ⊎ (frame_at F slot.frame + slot_begins slot + puddle_slot_words ≤ frame_at F e.0 + k) =
       elim (cases_eq e.0 slot.frame) [
         | inr differs ↦ elim (cases_lt e.0 slot.frame) [ inl low ↦ inl (omega arith) | inr high ↦ inr (omega arith) ]
         | inl same ↦
             let here : o ≡ ordinal_of p = is_placed.frames.each o slot.ordinal e (slot.frame, of.puddle) there of.there same ∙ sym ordinal in
-            elim (cases_lt k (slot_at slot.slot)) [
+            elim (cases_lt k (slot_begins slot)) [
               | inl low ↦ inl (omega arith)
-              | inr from ↦ elim (cases_lt k (slot_at slot.slot + puddle_slot_words)) [
+              | inr from ↦ elim (cases_lt k (slot_begins slot + puddle_slot_words)) [
                 | inl within ↦ absurd (other_slot here (omega arith) (omega arith))
                 | inr high ↦ inr (omega arith)
               ]
@@ -132,7 +132,7 @@ module _ (types : List (ℕ × ℕ)) (F : ℕ) (at : List (ℕ × Puddle)) (imag
       other_next (is_placed.frames.each o 0 e first there head frame) word))
 
   others_by : (o k : ℕ) (x : Option (ℕ × Puddle)) → slice_get at o ≡ x
-      → (o ≡ ordinal_of p → slot_begins (stored_in F at image) p ≤ k → k < slot_begins (stored_in F at image) p + place_words (stored_in F at image) p → ⊥) → (o ≡ 0 → k ≡ NEXT_SERIAL_WORD → ⊥)
+      → (o ≡ ordinal_of p → place_begins (stored_in F at image) p ≤ k → k < place_begins (stored_in F at image) p + place_words (stored_in F at image) p → ⊥) → (o ≡ 0 → k ≡ NEXT_SERIAL_WORD → ⊥)
       → word_in_frame F after k x ≡ word_in_frame F image k x
   others_by o k None there other_slot other_next = refl
   others_by o k (Some e) there other_slot other_next = elim (cases_lt k FRAME_WORDS) [

@@ -6,7 +6,7 @@ use Rattle.pud_defs.specs.declared.records.Puddle.{Puddle}
 use Rattle.pud_defs.specs.declared.records.Slot.{Slot}
 use Rattle.pud_defs.specs.declared.objects.Val.{Val}
 use Rattle.pud_defs.specs.declared.objects.Val.TheVariants.{Num, Ref}
-use Rattle.pud_defs.specs.Geometry.{puddle_slot_words, slot_at}
+use Rattle.pud_defs.specs.Geometry.{puddle_slot_words, slot_begins}
 use Rattle.pud_defs.specs.Image.{Image}
 use Rattle.pud_defs.specs.Frames.{frame_at}
 use Rattle.pud_defs.specs.Replay.{over, IsInLog}
@@ -24,8 +24,8 @@ word_for F at image (Num v) = Some v
 word_for F at image (Ref r) = cond (r == 0) (Some 0) (option_map (address_at at) (place_in_pool F at image r))
 
 -- the word of a frame that holds field f of a slot
-abbrev pub field_word : (slot f : ℕ) → ℕ
-field_word slot f = slot_at slot + SLOT_FIELDS_WORD + f
+abbrev pub field_word : Slot → (f : ℕ) → ℕ
+field_word slot f = slot_begins slot + SLOT_FIELDS_WORD + f
 
 -- the words of a slot that holds a new object: its serial, its type, and 0 in each field
 unfoldable pub new_words : (serial type_id : ℕ) → List ℕ
@@ -34,7 +34,7 @@ new_words serial type_id = serial ∷ type_id ∷ replicate (puddle_slot_words -
 -- what is written to make an object in a slot: the words of the slot, and the next serial, which stands in the frame of ordinal 0
 abbrev pub making : (F first : ℕ) → Slot → (serial type_id : ℕ) → Write
 making F first slot serial type_id =
-    over (placed (frame_at F slot.frame + slot_at slot.slot) (new_words serial type_id)) (placed (frame_at F first + NEXT_SERIAL_WORD) ((serial + 1) ∷ []))
+    over (placed (frame_at F slot.frame + slot_begins slot) (new_words serial type_id)) (placed (frame_at F first + NEXT_SERIAL_WORD) ((serial + 1) ∷ []))
 
 -- any value may come to the words of the log whose gate is this word, and these values to the words from another on
 abbrev pub ByPut : (at first : ℕ) → List ℕ → Footprint

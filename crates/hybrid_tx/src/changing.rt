@@ -33,7 +33,7 @@ use pud_defs::objects::Val;
 use pud_defs::records::{Puddle, Slot};
 use pud_defs::space::{
     NEXT_SERIAL_WORD, ROOT_WORD, SLOT_FIELDS_WORD, SLOT_SERIAL_WORD, SLOT_TYPE_WORD,
-    MAX_SLOT_WORDS, WORD_BYTES, frame_at, slot_at,
+    MAX_SLOT_WORDS, WORD_BYTES, frame_at, slot_at, slot_begins,
 };
 use puddle_header::next_serial;
 
@@ -45,7 +45,7 @@ pub(crate) fn slot_address(pool: &[(u32, Puddle)], at: &Slot) -> u64
     let (_, puddle) = pool[at.ordinal as usize];
     puddle
         .base
-        .wrapping_add((WORD_BYTES * slot_at(at.slot)) as u64)
+        .wrapping_add((WORD_BYTES * slot_at(&puddle, at.slot)) as u64)
 }
 
 /// The word that stands for a value: the number, 0 for null, or the address of the serial's object, None exactly where there
@@ -129,7 +129,7 @@ impl Tx {
         let word = word_for(h, frames, pool, x)?;
         match (found, word) {
             (Some(at), Some(v)) => {
-                let field = slot_at(at.slot) + SLOT_FIELDS_WORD + f;
+                let field = slot_begins(&at) + SLOT_FIELDS_WORD + f;
                 self.put_in_frame(h, frames, pool, at.ordinal, field, &[v])
             }
             _ => Ok(()),
@@ -165,7 +165,7 @@ impl Tx {
         let (first, _) = pool[0];
         let serial = next_serial(h, frames, first)?;
         let words = new_words(serial, t);
-        self.put_in_frame(h, frames, pool, at.ordinal, slot_at(at.slot), &words)?;
+        self.put_in_frame(h, frames, pool, at.ordinal, slot_begins(&at), &words)?;
         self.put_in_frame(
             h,
             frames,
@@ -236,7 +236,7 @@ impl Tx {
             → Saves frames pool.now self.new before redo (placed (serial_word_at frames at) (0 ∷ [])) (fault_of result) (H.state h.old) (H.state h.new) }
         ensures cause { H.counts h.new ≡ after_fault (fault_of result) (H.counts h.old) }
     {
-        let serial = slot_at(at.slot) + SLOT_SERIAL_WORD;
+        let serial = slot_begins(&at) + SLOT_SERIAL_WORD;
         let first = frame_at(frames, at.frame) + serial;
         self.words.save(h, slot_address(pool, &at), first, 1)?;
         free_slot(h, frames, at)

@@ -33,7 +33,7 @@ use pud_defs::log_words::REDO_ORDER;
 use pud_defs::objects::Val;
 use pud_defs::records::{MAX_PUDDLES, Puddle, Slot};
 use pud_defs::space::{
-    FRAME_HEADER_WORDS, SLOT_FIELDS_WORD, WORD_BYTES, slot_at, slot_words_of, slots_of,
+    FRAME_HEADER_WORDS, SLOT_FIELDS_WORD, WORD_BYTES, slot_begins, slot_words_of, slots_of,
 };
 use pud_defs::type_map::map_is_pointer;
 use puddle_header::{slot_serial, slot_type};
@@ -170,7 +170,7 @@ impl Tx {
         let word = word_for(h, frames, pool, x)?;
         match (found, word) {
             (Some(at), Some(v)) => {
-                let field = slot_at(at.slot) + SLOT_FIELDS_WORD + f;
+                let field = slot_begins(&at) + SLOT_FIELDS_WORD + f;
                 self.ask_in_frame(h, pool, at.ordinal, field, v)
             }
             _ => Ok(()),

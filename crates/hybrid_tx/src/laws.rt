@@ -39,7 +39,7 @@ pub fn stored_word_sets_the_field()
     ensures { (types : List (ℕ × ℕ)) (frames : ℕ) (at : List (ℕ × Puddle)) (image : Image) (g : Graph) → graph_of types (stored_in frames at image) ≡ Option.Some g
         → IsPlaced frames at → IsRewritten at → (s : ℕ) (f : ℕ) (slot : Slot) → IsSlotOf at slot → place_in_pool frames at image s ≡ Option.Some (place_of_slot slot)
         → (x : Val) (v : ℕ) → MaySet types g s f x → word_for frames at image x ≡ Option.Some v
-        → graph_of types (stored_in frames at (overwritten (placed (frame_at frames slot.frame + field_word slot.slot f) (v ∷ [])) image)) ≡ Option.Some (with_field s f x g) }
+        → graph_of types (stored_in frames at (overwritten (placed (frame_at frames slot.frame + field_word slot f) (v ∷ [])) image)) ≡ Option.Some (with_field s f x g) }
 {}
 
 /// A free slot that is filled under the next serial, which then is one more, is a new object.

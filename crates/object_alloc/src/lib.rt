@@ -20,7 +20,7 @@ use pm_model::{Host, HostFault};
 use pm_persist::write_range;
 use pud_defs::layout::MAX_FRAMES;
 use pud_defs::records::{Puddle, Slot};
-use pud_defs::space::{SLOT_SERIAL_WORD, frame_at, places_among, slot_at};
+use pud_defs::space::{SLOT_SERIAL_WORD, frame_at, places_among, slot_begins};
 
 /// Why no slot was found. Nothing changed.
 #[derive(Clone, Copy, Debug, PartialEq, Eq, thiserror::Error)]
@@ -109,6 +109,6 @@ pub fn free_slot<H: Host>(h: &mut H, frames: u32, slot: Slot) -> Result<(), Host
     ensures writes { H.tells → Writes (only (serial_word_at frames slot) 0) (fault_of result) (H.state h.old) (H.state h.new) }
     ensures cause { H.counts h.new ≡ after_fault (fault_of result) (H.counts h.old) }
 {
-    let at = frame_at(frames, slot.frame) + slot_at(slot.slot) + SLOT_SERIAL_WORD;
+    let at = frame_at(frames, slot.frame) + slot_begins(&slot) + SLOT_SERIAL_WORD;
     write_range(h, at, &[0])
 }

@@ -5,7 +5,7 @@ use Rattle.pud_defs.specs.declared.objects.Val.TheVariants.{Num, Ref}
 use Rattle.pud_defs.specs.Image.{Image, written}
 use Rattle.pud_defs.specs.TypeMap.{map_fields, is_pointer}
 use Rattle.pud_defs.specs.Bases.{base_at}
-use Rattle.pud_defs.specs.Geometry.{slot_at}
+use Rattle.pud_defs.specs.Geometry.{puddle_slot_at}
 use Rattle.pud_defs.specs.Frames.{first_serial}
 use Rattle.pud_defs.specs.Stored.{Stored}
 use Rattle.pud_defs.specs.Graph.{Object, Graph, slot_address, graph_of, is_held, empty_graph}
@@ -27,7 +27,7 @@ fresh number ordinal = written FRAME_MAGIC_WORD FRAME_MAGIC (written FRAME_NUMBE
 
 -- the frame with an object of type 1 in a slot
 abbrev with_slot : (slot serial value pointer : ℕ) → Image → Image
-with_slot slot serial value pointer frame = written (slot_at slot) serial (written (slot_at slot + 1) 1 (written (slot_at slot + 2) value (written (slot_at slot + 3) pointer frame)))
+with_slot slot serial value pointer frame = written (puddle_slot_at slot) serial (written (puddle_slot_at slot + 1) 1 (written (puddle_slot_at slot + 2) value (written (puddle_slot_at slot + 3) pointer frame)))
 
 -- a pool of one puddle, of number 7 in range 2
 abbrev alone : Image → Stored

@@ -10,7 +10,7 @@ use Rattle.pud_defs.specs.declared.records.Puddle.{Puddle}
 use Rattle.pud_defs.specs.Geometry.{ordinal_of, places_among}
 use Rattle.pud_defs.specs.Spaces.{all_below}
 use Rattle.pud_defs.specs.Frames.{fresh_header, fresh_frame}
-use Rattle.pud_defs.specs.Stored.{Stored, place_word, slot_begins}
+use Rattle.pud_defs.specs.Stored.{Stored, place_word, place_begins}
 use Rattle.pud_defs.specs.Graph.{Null, table_of, object_at, live, named_by, stands, is_next_serial, headers_fit, root_of, graph_stored, graph_of, empty_graph}
 use Rattle.pud_defs.proofs.Keyed.{keyed-none}
 use Rattle.pud_defs.proofs.Contents.{target-null}
@@ -52,7 +52,7 @@ module _ (types : List (ℕ × ℕ)) (p : Puddle) (word : ℕ → ℕ → ℕ) (
   free_serial : (q : ℕ) → q < places_among 1 → place_word alone q 0 ≡ 0
   free_serial q below =
       let ordinal : ordinal_of q ≡ 0 = omega arith in
-      let k = slot_begins alone q + 0 in
+      let k = place_begins alone q + 0 in
       ap (λ o. word o k) ordinal ∙ fresh k (omega arith) ∙ fresh_word p.number 0 k (omega arith) (omega arith)
 
   free_place : (q : ℕ) → q < places_among 1 → live (table_of types alone) q ≡ None

@@ -2,16 +2,23 @@
 use Rattle.std.specs.Prelude.{ℕ, ◌+◌, ◌*◌, ◌/◌, ◌%◌, Bool, ◌==◌}
 use Rattle.pud_defs.specs.declared.space.TheConstants.{FRAME_HEADER_WORDS, FRAME_SLOTS, SLOT_WORDS, LAST_FRONTIER}
 use Rattle.pud_defs.specs.declared.records.Puddle.{Puddle}
+use Rattle.pud_defs.specs.declared.records.Slot.{Slot}
 
--- ---- one puddle
+-- ---- of whichever puddle, where a frame or a slot is given alone
 
--- how many slots a puddle has, whichever it is
+-- how many slots it has
 abbrev pub puddle_slots : ℕ
 puddle_slots = FRAME_SLOTS
 
--- how many words a slot has, in whichever puddle
+-- how many words each of its slots has
 abbrev pub puddle_slot_words : ℕ
 puddle_slot_words = SLOT_WORDS
+
+-- the word of its frame at which a slot begins
+abbrev pub puddle_slot_at : (slot : ℕ) → ℕ
+puddle_slot_at slot = FRAME_HEADER_WORDS + puddle_slot_words * slot
+
+-- ---- one puddle
 
 -- how many slots a puddle has
 abbrev pub slots_of : Puddle → ℕ
@@ -29,9 +36,13 @@ steps_of puddle = LAST_FRONTIER
 abbrev pub is_legal_frontier : Puddle → Bool
 is_legal_frontier puddle = puddle.frontier == steps_of puddle
 
--- the word of a frame at which a slot begins
-abbrev pub slot_at : ℕ → ℕ
-slot_at slot = FRAME_HEADER_WORDS + puddle_slot_words * slot
+-- the word of its frame at which a slot begins
+abbrev pub slot_at : Puddle → (slot : ℕ) → ℕ
+slot_at puddle slot = puddle_slot_at slot
+
+-- the same by the slot itself
+abbrev pub slot_begins : Slot → ℕ
+slot_begins s = puddle_slot_at s.slot
 
 -- ---- the places of a pool
 

@@ -29,7 +29,7 @@ pub data Content : Type 0 where
 
 -- the address of a slot of a puddle
 abbrev pub slot_address : Puddle → (slot : ℕ) → ℕ
-slot_address puddle slot = puddle.base + WORD_BYTES * slot_at slot
+slot_address puddle slot = puddle.base + WORD_BYTES * slot_at puddle slot
 
 -- the slot of a puddle whose address the value is
 abbrev pub slot_in : Puddle → (v : ℕ) → Option ℕ

@@ -3,7 +3,7 @@ use Rattle.std.specs.Prelude.{ℕ, ◌+◌, ◌<◌, ◌≤◌, nat_lt, cond, Li
 use Rattle.pud_defs.specs.declared.layout.TheConstants.{FRAME_WORDS}
 use Rattle.pud_defs.specs.declared.records.TheConstants.{MAX_PUDDLES}
 use Rattle.pud_defs.specs.declared.records.Puddle.{Puddle}
-use Rattle.pud_defs.specs.Geometry.{puddle_slot_words, slot_at, ordinal_of, slot_of, places_among}
+use Rattle.pud_defs.specs.Geometry.{puddle_slot_words, puddle_slot_at, ordinal_of, slot_of, places_among}
 use Rattle.pud_defs.specs.Image.{Image}
 use Rattle.pud_defs.specs.Frames.{frame_word}
 
@@ -27,8 +27,8 @@ abbrev pub places_of : Stored → ℕ
 places_of st = places_among (length st.puddles)
 
 -- the word of its frame at which the slot at a place begins
-abbrev pub slot_begins : Stored → ℕ → ℕ
-slot_begins st p = slot_at (slot_of p)
+abbrev pub place_begins : Stored → ℕ → ℕ
+place_begins st p = puddle_slot_at (slot_of p)
 
 -- how many words that slot has
 abbrev pub place_words : Stored → ℕ → ℕ
@@ -36,7 +36,7 @@ place_words st p = puddle_slot_words
 
 -- word k of it
 abbrev pub place_word : Stored → ℕ → ℕ → ℕ
-place_word st p k = st.word (ordinal_of p) (slot_begins st p + k)
+place_word st p k = st.word (ordinal_of p) (place_begins st p + k)
 
 -- Puddles by their ordinals, each with its frame, as they are read: no more than a pool may have, in frames of the device.
 pub record IsOnDevice (F : ℕ) (at : List (ℕ × Puddle)) : Type 0 where

@@ -9,11 +9,11 @@
 
 ghost use Rattle.std.specs.Prelude.{◌≡◌, ◌<◌, ◌≤◌};
 ghost use Rattle.pud_defs.specs.Bases.{is_legal_base, base_at};
-ghost use Rattle.pud_defs.specs.Geometry.{puddle_slots, slots_of, slot_words_of, steps_of, is_legal_frontier, slot_at, ordinal_of, slot_of, place_at, places_among, slots_among};
+ghost use Rattle.pud_defs.specs.Geometry.{puddle_slots, slots_of, slot_words_of, steps_of, is_legal_frontier, puddle_slot_at, slot_at, slot_begins, ordinal_of, slot_of, place_at, places_among, slots_among};
 ghost use Rattle.pud_defs.specs.Frames.{frame_at};
 
 use crate::layout::{FRAME_WORDS, MAX_FRAMES, frames_at};
-use crate::records::{MAX_PUDDLES, Puddle};
+use crate::records::{MAX_PUDDLES, Puddle, Slot};
 
 /// The first address of the space, 2^44.
 pub const SPACE_START: u64 = 0x1000_0000_0000;
@@ -149,12 +149,28 @@ pub const fn slots_among(puddles: u32) -> u64
     FRAME_SLOTS as u64 * puddles as u64
 }
 
-/// The word of a frame at which this slot begins.
-pub const fn slot_at(slot: u32) -> u32
+/// The word of its frame at which a slot begins, in whichever puddle.
+pub const fn puddle_slot_at(slot: u32) -> u32
     requires { slot < puddle_slots }
-    ensures { result ≡ slot_at slot }
+    ensures { result ≡ puddle_slot_at slot }
 {
     FRAME_HEADER_WORDS + SLOT_WORDS * slot
+}
+
+/// The word of its frame at which a slot of a puddle begins.
+pub const fn slot_at(puddle: &Puddle, slot: u32) -> u32
+    requires { slot < slots_of puddle.now }
+    ensures { result ≡ slot_at puddle.now slot }
+{
+    FRAME_HEADER_WORDS + slot_words_of(puddle) * slot
+}
+
+/// The word of its frame at which a slot begins, by the slot itself.
+pub const fn slot_begins(slot: &Slot) -> u32
+    requires { slot.now.slot < puddle_slots }
+    ensures { result ≡ slot_begins slot.now }
+{
+    puddle_slot_at(slot.slot)
 }
 
 /// Whether the value is the first address of a range of the space.

@@ -20,7 +20,7 @@ use pud_defs::records::{PUDDLE_NUMBER_WORD, member_ordinal};
 use pud_defs::space::{
     FRAME_MAGIC, FRAME_MAGIC_WORD, FRAME_NUMBER_WORD, FRAME_ORDINAL_WORD,
     NEXT_SERIAL_WORD, ROOT_WORD, SLOT_FIELDS_WORD, SLOT_SERIAL_WORD, SLOT_TYPE_WORD,
-    frame_at, slot_at,
+    frame_at, puddle_slot_at,
 };
 
 /// Word `k` of a frame.
@@ -55,7 +55,7 @@ fn slot_word<H: Host>(
     ensures cause { H.counts h.new ≡ after_fault (fault_of result) (H.counts h.old) }
     ensures never_cut { fault_of result ≢ Option.Some HostFault.Cut }
 {
-    frame_word(h, frames, frame, slot_at(slot) + k)
+    frame_word(h, frames, frame, puddle_slot_at(slot) + k)
 }
 
 /// The word in which the header of a frame has the frame magic.

@@ -10,7 +10,7 @@ use Rattle.pud_defs.specs.Graph.{under_serial, table_of, place_of, object_at, Ob
 use Rattle.pud_defs.specs.Holdings.{held_as, graph_held}
 use Rattle.pud_defs.specs.Image.{Image}
 use Rattle.pud_defs.specs.Keyed.{under}
-use Rattle.pud_defs.specs.Stored.{Stored, word_in_frame, stored_in, places_of, place_word, slot_begins}
+use Rattle.pud_defs.specs.Stored.{Stored, word_in_frame, stored_in, places_of, place_word, place_begins}
 use Rattle.pud_defs.proofs.Keyed.{first_from_at, first_from_some}
 use Rattle.graph_laws.proofs.Grown.{slice_get-front}
 use Rattle.graph_laws.proofs.Places.{object_in-place}
@@ -41,7 +41,7 @@ module _ (types : List (ℕ × ℕ)) (F : ℕ) (i : Image) (at : List (ℕ × Pu
   far p = place_word (stored_in F wide i) p SLOT_SERIAL_WORD
 
   serial_front : (q : ℕ) → q < places_in at → far q ≡ near q
-  serial_front q below = ap (word_in_frame F i (slot_begins (stored_in F at i) q + SLOT_SERIAL_WORD)) (slice_get-front at (e ∷ []) (ordinal_of q) (omega arith))
+  serial_front q below = ap (word_in_frame F i (place_begins (stored_in F at i) q + SLOT_SERIAL_WORD)) (slice_get-front at (e ∷ []) (ordinal_of q) (omega arith))
 
   under_front : (s q : ℕ) → q < places_in at → under nat_cmp s (under_serial far (λ (p : ℕ). p) q) ≡ under nat_cmp s (under_serial near (λ (p : ℕ). p) q)
   under_front s q below = ap (λ (k : ℕ). under nat_cmp s (cond (eqb k 0) None (Some (k, q)))) (serial_front q below)

@@ -20,7 +20,7 @@ use Rattle.pud_defs.specs.Frames.{fresh_header, fresh_frame, IsFreshFrame}
 use Rattle.pud_defs.specs.Puddles.{Member}
 use Rattle.pud_defs.specs.Places.{has_other_bases, IsLowestBase}
 use Rattle.pud_defs.specs.Spaces.{owner, all_below}
-use Rattle.pud_defs.specs.Stored.{Stored, word_in_frame, stored_in, slot_begins}
+use Rattle.pud_defs.specs.Stored.{Stored, word_in_frame, stored_in, place_begins}
 use Rattle.pud_defs.specs.Graph.{Graph, graph_of}
 use Rattle.pud_defs.specs.Holdings.{held_as, held_by, graph_held, holding_in}
 use Rattle.pud_defs.specs.Holdings.Holding.{Sound, Wild}
@@ -85,8 +85,8 @@ module _ (types : List (ℕ × ℕ)) (F : ℕ) (i : Image) (at : List (ℕ × Pu
         (and_from _ _ (and_from _ _ (eq-eqb _ FRAME_MAGIC (header_word 0 (omega arith))) (eq-eqb _ d.number (header_word 1 (omega arith)))) (eq-eqb _ (length at) (header_word 2 (omega arith))));
     free = λ p low high.
         let here : ordinal_of p ≡ length at = omega (arith, size) in
-        ap (λ (n : ℕ). word n (slot_begins st p + SLOT_SERIAL_WORD)) here ∙ new_word (slot_begins st p + SLOT_SERIAL_WORD) (omega arith)
-        ∙ fresh_word d.number (length at) (slot_begins st p + SLOT_SERIAL_WORD) (omega arith) (omega arith);
+        ap (λ (n : ℕ). word n (place_begins st p + SLOT_SERIAL_WORD)) here ∙ new_word (place_begins st p + SLOT_SERIAL_WORD) (omega arith)
+        ∙ fresh_word d.number (length at) (place_begins st p + SLOT_SERIAL_WORD) (omega arith) (omega arith);
   }
 
   pub still_holds : (g : Graph) → holding_in types F i at ≡ Sound g → holding_in types F i longer ≡ Sound g
