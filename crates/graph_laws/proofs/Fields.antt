@@ -1,5 +1,5 @@
 -- A word of a field is stored: the object of the place has another value in the field, and nothing else changes.
-use Rattle.std.proofs.Common.{◌≡◌, ℕ, ◌+◌, ◌/◌, ◌%◌, ◌<◌, true, false, List, map, set, length, Option, Some, get_or, not, ne_eqb, nat_cmp, option_map, refl, sym, ap, ap₂, ◌∙◌, ⊎_elim, arith}
+use Rattle.std.proofs.Common.{◌≡◌, ℕ, ◌+◌, ◌<◌, true, false, List, map, set, length, Option, Some, get_or, not, ne_eqb, nat_cmp, option_map, refl, sym, ap, ap₂, ◌∙◌, ⊎_elim, arith}
 use Rattle.std.specs.List.{range_with_len}
 use Rattle.std.specs.FinMap.Entries.{put}
 use Rattle.std.proofs.lemmas.Bool.{cases_eq, cond-true, cond-false}

@@ -1,5 +1,5 @@
 -- The root pointer is stored: the graph has another root.
-use Rattle.std.proofs.Common.{◌≡◌, ℕ, ◌+◌, ◌/◌, ◌%◌, true, not, ltb, List, Some, refl, sym, ap, ◌∙◌, arith, ne_eqb}
+use Rattle.std.proofs.Common.{◌≡◌, ℕ, ◌+◌, true, not, ltb, List, Some, refl, sym, ap, ◌∙◌, arith, ne_eqb}
 use Rattle.pud_defs.specs.declared.space.TheConstants.{ROOT_WORD}
 use Rattle.pud_defs.specs.Geometry.{ordinal_of}
 use Rattle.pud_defs.specs.Types.{map_of}

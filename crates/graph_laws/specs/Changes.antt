@@ -1,10 +1,10 @@
 -- Which words are stored of a graph, and how they change.
-use Rattle.std.specs.Prelude.{◌≡◌, ℕ, ◌+◌, ◌/◌, ◌%◌, ◌<◌, ◌≤◌, ◌&&◌, ◌==◌, cond, List, map, slice_get, Some}
+use Rattle.std.specs.Prelude.{◌≡◌, ℕ, ◌+◌, ◌%◌, ◌<◌, ◌≤◌, ◌&&◌, ◌==◌, cond, List, map, slice_get, Some}
 use Rattle.pud_defs.specs.declared.space.TheConstants.{RANGE_BYTES, SLOT_SERIAL_WORD, SLOT_TYPE_WORD, SLOT_FIELDS_WORD, NEXT_SERIAL_WORD, ROOT_WORD}
 use Rattle.pud_defs.specs.declared.records.Puddle.{Puddle}
 use Rattle.pud_defs.specs.Geometry.{ordinal_of, slot_of}
 use Rattle.pud_defs.specs.Types.{map_of}
-use Rattle.pud_defs.specs.Stored.{Stored, places_of, place_word, place_begins, place_words}
+use Rattle.pud_defs.specs.Stored.{Stored, places_of, place_word, place_begins, place_words, IsFreePlace}
 use Rattle.pud_defs.specs.Graph.{slot_address, field_count, table_of, place_of, next_serial_of}
 
 -- ---- words
@@ -59,7 +59,7 @@ pub record IsField (types : List (ℕ × ℕ)) (st : Stored) (s p m f : ℕ) : T
 -- By these words a free slot holds a new object under the next serial, each of whose fields is 0, and the next serial is one more; all else is as it was.
 pub record IsMade (types : List (ℕ × ℕ)) (st : Stored) (word : ℕ → ℕ → ℕ) (p type_id m : ℕ) : Type 0 where
   pub within : p < places_of st
-  pub free : place_word st p SLOT_SERIAL_WORD ≡ 0
+  pub free : IsFreePlace st p
   pub serial_word : place_word (with_words word st) p SLOT_SERIAL_WORD ≡ next_serial_of st
   pub type_word : place_word (with_words word st) p SLOT_TYPE_WORD ≡ type_id
   pub defined : map_of type_id types ≡ Some m

@@ -1,11 +1,11 @@
 -- A step of rewriting: the pointers at the frontier of a puddle are stored over the pool's bases, and the frontier is one more.
-use Rattle.std.specs.Prelude.{◌≡◌, ℕ, ◌+◌, ◌/◌, ◌%◌, ◌<◌, cond, List, map, set, slice_get, Option, Some, None, option_map}
+use Rattle.std.specs.Prelude.{◌≡◌, ℕ, ◌+◌, ◌<◌, cond, List, map, set, slice_get, Option, Some, None, option_map}
 use Rattle.pud_defs.specs.declared.space.TheConstants.{FRAME_HEADER_WORDS, SLOT_SERIAL_WORD, SLOT_TYPE_WORD, SLOT_FIELDS_WORD}
 use Rattle.pud_defs.specs.declared.records.Puddle.{Puddle}
 use Rattle.pud_defs.specs.TypeMap.{is_pointer}
 use Rattle.pud_defs.specs.Geometry.{ordinal_of, slot_of}
 use Rattle.pud_defs.specs.Types.{map_of}
-use Rattle.pud_defs.specs.Stored.{Stored, place_word, place_words}
+use Rattle.pud_defs.specs.Stored.{Stored, place_word, place_words, IsLivePlace}
 use Rattle.pud_defs.specs.Graph.{Content, Number, Null, At, Nowhere, slot_address, target, over_old, field_count}
 use Rattle.graph_laws.specs.Changes.{with_words}
 
@@ -53,6 +53,6 @@ pub record RewritesSlot (types : List (ℕ × ℕ)) (st : Stored) (word : ℕ �
   pub headers : (o k : ℕ) → k < FRAME_HEADER_WORDS → word o k ≡ st.word o k
   pub others : (q k : ℕ) → (q ≡ p → ⊥) → k < place_words st q → place_word (with_words word st) q k ≡ place_word st q k
   pub serial : place_word (with_words word st) p SLOT_SERIAL_WORD ≡ place_word st p SLOT_SERIAL_WORD
-  pub type_id : (place_word st p SLOT_SERIAL_WORD ≡ 0 → ⊥) → place_word (with_words word st) p SLOT_TYPE_WORD ≡ place_word st p SLOT_TYPE_WORD
-  pub fields : (m f : ℕ) → (place_word st p SLOT_SERIAL_WORD ≡ 0 → ⊥) → map_of (place_word st p SLOT_TYPE_WORD) types ≡ Some m → f < field_count m
+  pub type_id : IsLivePlace st p → place_word (with_words word st) p SLOT_TYPE_WORD ≡ place_word st p SLOT_TYPE_WORD
+  pub fields : (m f : ℕ) → IsLivePlace st p → map_of (place_word st p SLOT_TYPE_WORD) types ≡ Some m → f < field_count m
       → place_word (with_words word st) p (SLOT_FIELDS_WORD + f) ≡ rewritten_field st.puddles m f (place_word st p (SLOT_FIELDS_WORD + f))

@@ -10,7 +10,7 @@ ghost use Rattle.pud_defs.specs.Geometry.{ordinal_of, slot_of};
 ghost use Rattle.pud_defs.specs.Types.{map_of, with_type};
 ghost use Rattle.pud_defs.specs.Image.{Image, written};
 ghost use Rattle.pud_defs.specs.Frames.{frame_at, fresh_frame};
-ghost use Rattle.pud_defs.specs.Stored.{Stored, stored_in, places_of, place_word, place_words};
+ghost use Rattle.pud_defs.specs.Stored.{Stored, stored_in, places_of, place_word, place_words, IsFreePlace};
 ghost use Rattle.pud_defs.specs.Graph.{Graph, table_of, place_of, object_at, field_count, object_in, next_serial_of, is_held, graph_of, empty_graph};
 ghost use Rattle.pud_defs.specs.GraphChanges.{blank_object, with_field, with_new, without_object, with_root};
 ghost use Rattle.graph_laws.specs.Changes.{with_word, with_words, with_slot_word, with_field_word, with_serial_word, with_root_word, AreBases, IsAddress, IsField, IsMade};
@@ -103,7 +103,7 @@ pub fn other_header_words_are_not_read()
 
 /// Of a free slot the serial alone is read.
 pub fn other_words_of_a_free_slot_are_not_read()
-    ensures { (types : List (ℕ × ℕ)) (st : Stored) (p : ℕ) (j : ℕ) (v : ℕ) → place_word st p SLOT_SERIAL_WORD ≡ 0 → SLOT_SERIAL_WORD < j → j < place_words st p
+    ensures { (types : List (ℕ × ℕ)) (st : Stored) (p : ℕ) (j : ℕ) (v : ℕ) → IsFreePlace st p → SLOT_SERIAL_WORD < j → j < place_words st p
         → graph_of types (with_slot_word p j v st) ≡ graph_of types st }
 {}
 

@@ -1,12 +1,12 @@
 -- What is asked of the slots of a pool, over serials that were read before.
-use Rattle.std.specs.Prelude.{ℕ, ◌+◌, ◌*◌, Bool, true, false, not, ◌&&◌, ◌||◌, ◌==◌, nat_lt, List, Option, Some, None}
+use Rattle.std.specs.Prelude.{ℕ, Bool, true, false, not, ◌&&◌, ◌||◌, nat_lt, List, Option, Some, None}
 use Rattle.std.specs.List.{list_all}
 use Rattle.pud_defs.specs.declared.space.TheConstants.{SLOT_SERIAL_WORD}
 use Rattle.pud_defs.specs.declared.objects.Pointee.{Pointee}
 use Rattle.pud_defs.specs.declared.objects.Pointee.TheVariants as pointees
 use Rattle.pud_defs.specs.Geometry.{place_at}
 use Rattle.pud_defs.specs.Graph.{Content, Null, At, Nowhere, Table, value_of, stands, names_serial}
-use Rattle.pud_defs.specs.Stored.{Stored, place_word}
+use Rattle.pud_defs.specs.Stored.{Stored, place_word, slot_state}
 use Rattle.graph_read.specs.declared.asking.Asked.{Asked}
 use Rattle.graph_read.specs.declared.asking.Asked.TheVariants.{IsSound, Spares}
 
@@ -46,4 +46,4 @@ contents_pass asked serial (Some contents) = list_all (passes asked serial) cont
 
 -- the place is free, or its slot passes
 abbrev pub place_passes : Asked → Table → ℕ → Bool
-place_passes asked t p = t.serial p == 0 || (serial_passes asked (t.serial p) && contents_pass asked t.serial (t.contents p))
+place_passes asked t p = (slot_state (t.serial p)).is_free || (serial_passes asked (t.serial p) && contents_pass asked t.serial (t.contents p))

@@ -16,7 +16,7 @@ use crate::pointers::read_pointer;
 use crate::serials::{Serials, named};
 use pm_model::{Host, HostFault};
 use pud_defs::layout::{MAX_FIELDS, MAX_FRAMES};
-use pud_defs::objects::Pointee;
+use pud_defs::objects::{Pointee, is_free, is_live};
 use pud_defs::records::{MAX_PUDDLES, Puddle};
 use pud_defs::space::{SLOT_FIELDS_WORD, SLOT_TYPE_WORD, ordinal_of, places_among, slot_of};
 use pud_defs::type_map::{map_fields, map_is_pointer};
@@ -39,7 +39,7 @@ impl Asked {
     {
         let serial = named(serials, pointee);
         match self {
-            Asked::IsSound(_) => matches!(pointee, Some(Pointee::Null)) || serial != 0,
+            Asked::IsSound(_) => matches!(pointee, Some(Pointee::Null)) || is_live(serial),
             Asked::Spares(other) => serial != other,
         }
     }
@@ -175,7 +175,7 @@ fn place_passes<H: Host>(
     ensures never_cut { fault_of result ≢ Option.Some HostFault.Cut }
 {
     let serial = serials[place as usize];
-    if serial == 0 {
+    if is_free(serial) {
         return Ok(true);
     }
     if !asked.serial_passes(serial) {

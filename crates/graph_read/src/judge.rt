@@ -20,6 +20,7 @@ use crate::pointers::read_pointer;
 use crate::serials::{PLACES, Serials, read_serials};
 use pm_model::{Host, HostFault};
 use pud_defs::layout::{MAX_FRAMES, NUMBER_LIMIT};
+use pud_defs::objects::{is_free, is_live};
 use pud_defs::records::Puddle;
 use pud_defs::space::{
     FRAME_MAGIC, FRAME_MAGIC_WORD, FRAME_NUMBER_WORD, FRAME_ORDINAL_WORD, places_among,
@@ -93,7 +94,7 @@ fn is_last(serials: &Serials, count: usize, place: usize) -> bool
     ensures { result ≡ is_apart nat_cmp (under_serial (slice_index serials.now) (λ p. p) place) (under_serial (slice_index serials.now) (λ p. p)) (place + 1) (count - (place + 1)) }
 {
     let serial = serials[place];
-    serial == 0 || !is_among(serial, &serials[place + 1..count])
+    is_free(serial) || !is_among(serial, &serials[place + 1..count])
 }
 
 /// Whether no two live places of so many have one serial.
@@ -132,7 +133,7 @@ fn count_live(serials: &Serials, count: usize) -> u32
 {
     let mut live = 0;
     for place in 0..count {
-        if serials[place] != 0 {
+        if is_live(serials[place]) {
             live += 1;
         }
     }

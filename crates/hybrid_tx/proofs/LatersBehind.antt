@@ -1,5 +1,5 @@
 -- What is asked for later stays so when a field or the root is set and when an object is made.
-use Rattle.std.proofs.Common.{◌≡◌, inl, inr, ℕ, ◌+◌, ◌/◌, ◌%◌, ◌<◌, cond, eqb, List, [], ◌∷◌, Option, Some, None, option_map, nat_cmp, refl, sym, ap, ◌∙◌, arith, eq-eqb, ne_eqb}
+use Rattle.std.proofs.Common.{◌≡◌, inl, inr, ℕ, ◌+◌, ◌<◌, cond, eqb, List, [], ◌∷◌, Option, Some, None, option_map, nat_cmp, refl, sym, ap, ◌∙◌, arith, eq-eqb, ne_eqb}
 use Rattle.std.specs.Prelude.{slice_get}
 use Rattle.std.specs.FinMap.Entries.{find, put, find-put}
 use Rattle.std.proofs.lemmas.Bool.{cases_eq, cond-true, cond-false}
@@ -17,7 +17,7 @@ use Rattle.pud_defs.specs.Keyed.{under, first_from}
 use Rattle.pud_defs.specs.Types.{map_of}
 use Rattle.pud_defs.specs.Frames.{frame_at}
 use Rattle.pud_defs.specs.Replay.{overwritten}
-use Rattle.pud_defs.specs.Stored.{Stored, stored_in, places_of, place_word, place_begins}
+use Rattle.pud_defs.specs.Stored.{Stored, stored_in, places_of, place_word, place_begins, slot_state}
 use Rattle.pud_defs.specs.Graph.{under_serial, table_of, place_of, object_at, Object, Graph, object_in, next_serial_of, graph_of}
 use Rattle.pud_defs.specs.GraphChanges.{object_with, with_some_object, with_field, with_new, with_root}
 use Rattle.pud_defs.proofs.TypeLists.{same_test}
@@ -144,7 +144,7 @@ module _ (F : ℕ) (at : List (ℕ × Puddle)) (image later : Image) (p : ℕ) (
 
   under_same : (s : ℕ) → (before p ≡ s → ⊥) → (behind p ≡ s → ⊥) → (q : ℕ) → under nat_cmp s (under_serial behind (λ (r : ℕ). r) q) ≡ under nat_cmp s (under_serial before (λ (r : ℕ). r) q)
   under_same s was is q = elim (cases_eq q p) [
-    | inr apart ↦ ap (λ (k : ℕ). under nat_cmp s (cond (eqb k 0) None (Some (k, q)))) (others q apart)
+    | inr apart ↦ ap (λ (k : ℕ). under nat_cmp s (cond (slot_state k).is_live (Some (k, q)) None)) (others q apart)
     | inl here ↦
         under_other behind (λ (r : ℕ). r) s q (λ same. is (sym (ap behind here) ∙ same))
         ∙ sym (under_other before (λ (r : ℕ). r) s q (λ same. was (sym (ap before here) ∙ same)))

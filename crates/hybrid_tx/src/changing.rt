@@ -12,7 +12,7 @@ ghost use Rattle.pud_defs.specs.Layout.{device_words, frames_at};
 ghost use Rattle.pud_defs.specs.Bases.{is_legal_base};
 ghost use Rattle.pud_defs.specs.Types.{map_of};
 ghost use Rattle.pud_defs.specs.Entries.{Entry};
-ghost use Rattle.pud_defs.specs.Stored.{IsOnDevice, stored_in, place_word};
+ghost use Rattle.pud_defs.specs.Stored.{IsOnDevice, stored_in, place_word, IsFreePlace};
 ghost use Rattle.pud_defs.specs.Graph.{Graph, graph_of};
 ghost use Rattle.log_store.specs.Store.{longer};
 ghost use Rattle.pud_defs.specs.GraphChanges.{with_field, with_new, blank_object, without_object, with_root};
@@ -32,8 +32,8 @@ use pm_model::{Host, HostFault};
 use pud_defs::objects::Val;
 use pud_defs::records::{Puddle, Slot};
 use pud_defs::space::{
-    NEXT_SERIAL_WORD, ROOT_WORD, SLOT_FIELDS_WORD, SLOT_SERIAL_WORD, SLOT_TYPE_WORD,
-    MAX_SLOT_WORDS, WORD_BYTES, frame_at, slot_at, slot_begins,
+    MAX_SLOT_WORDS, NEXT_SERIAL_WORD, ROOT_WORD, SLOT_FIELDS_WORD, SLOT_SERIAL_WORD,
+    SLOT_TYPE_WORD, WORD_BYTES, frame_at, slot_at, slot_begins,
 };
 use puddle_header::next_serial;
 
@@ -155,7 +155,7 @@ impl Tx {
         ensures changes { H.tells → Changes (ByTransaction (pool_ground frames pool.now) self.old.at) (fault_of result) (H.state h.old) (H.state h.new) }
         ensures runs { H.tells → (types : List (ℕ × ℕ)) (m : ℕ) (before : Image) (undone : Graph) (now : Graph) (laters : List Later) → IsPlaced frames pool.now
             → IsOpenOn frames pool.now types self.old before undone now laters (H.state h.old).now.words → map_of t types ≡ Option.Some m → now.next_serial < NUMBER_LIMIT
-            → place_word (stored_in frames pool.now (reads (H.state h.old).now.words)) (place_of_slot at.now) SLOT_SERIAL_WORD ≡ 0
+            → IsFreePlace (stored_in frames pool.now (reads (H.state h.old).now.words)) (place_of_slot at.now)
             → RunsOn frames pool.now types self.new before undone (with_new (blank_object t m) now) laters (fault_of result) (H.state h.old) (H.state h.new) }
         ensures serial { H.tells → (types : List (ℕ × ℕ)) (now : Graph) → graph_of types (stored_in frames pool.now (reads (H.state h.old).now.words)) ≡ Option.Some now
             → IfOk result (λ serial. serial ≡ now.next_serial) }

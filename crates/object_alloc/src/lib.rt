@@ -19,6 +19,7 @@ use graph_read::{serial_at, slot_at_place};
 use pm_model::{Host, HostFault};
 use pm_persist::write_range;
 use pud_defs::layout::MAX_FRAMES;
+use pud_defs::objects::is_free;
 use pud_defs::records::{Puddle, Slot};
 use pud_defs::space::{SLOT_SERIAL_WORD, frame_at, places_among, slot_begins};
 
@@ -62,7 +63,7 @@ fn free_place<H: Host>(
     ensures never_cut { fault_of result ≢ Option.Some HostFault.Cut }
 {
     for place in 0..places_among(pool.len() as u32) {
-        if serial_at(h, frames, pool, place)? == 0 {
+        if is_free(serial_at(h, frames, pool, place)?) {
             return Ok(Some(place));
         }
     }

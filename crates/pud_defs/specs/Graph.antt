@@ -1,5 +1,5 @@
 -- The graph of a pool: what its bytes stand for, by the types that are defined.
-use Rattle.std.specs.Prelude.{ℕ, ◌+◌, ◌-◌, ◌*◌, ◌/◌, Bool, true, false, not, ◌&&◌, ◌||◌, nat_le, nat_lt, ◌==◌, cond, List, [], ◌∷◌, map, length, slice_get, Option, Some, None, option_map}
+use Rattle.std.specs.Prelude.{ℕ, ◌+◌, ◌-◌, ◌*◌, ◌/◌, Bool, true, false, ◌&&◌, ◌||◌, nat_le, nat_lt, ◌==◌, cond, List, [], ◌∷◌, map, length, slice_get, Option, Some, None, option_map}
 use Rattle.std.specs.Ordering.{nat_cmp}
 use Rattle.std.specs.List.{list_all, list_any, range_with_len}
 use Rattle.std.specs.Option.{option_or}
@@ -16,7 +16,7 @@ use Rattle.pud_defs.specs.Spaces.{all_below}
 use Rattle.pud_defs.specs.Keyed.{keyed, are_distinct, first_from}
 use Rattle.pud_defs.specs.Identifiers.{is_number}
 use Rattle.pud_defs.specs.Headers.{is_header}
-use Rattle.pud_defs.specs.Stored.{Stored, places_of, place_word}
+use Rattle.pud_defs.specs.Stored.{Stored, places_of, place_word, slot_state}
 
 -- ---- what a stored word stands for
 
@@ -97,7 +97,7 @@ table_of types st = record {
 
 -- what stands at a place, under its serial, where the place is live
 abbrev pub under_serial : {A : Type 0} → (ℕ → ℕ) → (ℕ → A) → ℕ → Option (ℕ × A)
-under_serial serial value p = cond (serial p == 0) None (Some (serial p, value p))
+under_serial serial value p = cond (slot_state (serial p)).is_live (Some (serial p, value p)) None
 
 -- the live places, each under its serial
 abbrev pub placed : Table → ℕ → Option (ℕ × ℕ)
@@ -153,7 +153,7 @@ graph_by next top t n = record { next_serial = next; root = named_by t.serial to
 abbrev pub stands : (ℕ → ℕ) → Content → Bool
 stands serial (Number v) = true
 stands serial Null = true
-stands serial (At p) = not (serial p == 0)
+stands serial (At p) = (slot_state (serial p)).is_live
 stands serial Nowhere = false
 
 -- the type is defined, and each field stands for something
@@ -163,7 +163,7 @@ all_stand serial (Some contents) = list_all (stands serial) contents
 
 -- the place is free, or its serial is below the next, its type is defined and each of its fields stands for something
 abbrev pub is_sound_place : (next : ℕ) → Table → ℕ → Bool
-is_sound_place next t p = t.serial p == 0 || (nat_lt (t.serial p) next && all_stand t.serial (t.contents p))
+is_sound_place next t p = (slot_state (t.serial p)).is_free || (nat_lt (t.serial p) next && all_stand t.serial (t.contents p))
 
 -- the next serial is from 1 to 2^63
 abbrev pub is_next_serial : ℕ → Bool

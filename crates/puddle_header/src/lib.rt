@@ -18,9 +18,8 @@ use pm_model::{Host, HostFault};
 use pud_defs::layout::{FRAME_WORDS, MAX_FIELDS, MAX_FRAMES, PUDDLE_RECORD_WORDS, PUDDLE_TABLE};
 use pud_defs::records::{PUDDLE_NUMBER_WORD, member_ordinal};
 use pud_defs::space::{
-    FRAME_MAGIC, FRAME_MAGIC_WORD, FRAME_NUMBER_WORD, FRAME_ORDINAL_WORD,
-    NEXT_SERIAL_WORD, ROOT_WORD, SLOT_FIELDS_WORD, SLOT_SERIAL_WORD, SLOT_TYPE_WORD,
-    frame_at, puddle_slot_at,
+    FRAME_MAGIC, FRAME_MAGIC_WORD, FRAME_NUMBER_WORD, FRAME_ORDINAL_WORD, NEXT_SERIAL_WORD,
+    ROOT_WORD, SLOT_FIELDS_WORD, SLOT_SERIAL_WORD, SLOT_TYPE_WORD, frame_at, puddle_slot_at,
 };
 
 /// Word `k` of a frame.

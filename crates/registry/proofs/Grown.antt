@@ -1,5 +1,5 @@
 -- A pool that grows: what the batch makes of the tables and of the pools, and the frame that is filled before it.
-use Rattle.std.proofs.Common.{◌≡◌, inl, inr, ℕ, ◌+◌, ◌/◌, ◌%◌, ◌<◌, true, false, not, ltb, eqb, List, [], ◌∷◌, ◌++◌, length, Option, Some, None, option_map, nat_cmp, refl, sym, ap, ap₂, ◌∙◌, subst, arith, lt-ltb, eq-eqb, ne_eqb}
+use Rattle.std.proofs.Common.{◌≡◌, inl, inr, ℕ, ◌+◌, ◌<◌, true, false, not, ltb, eqb, List, [], ◌∷◌, ◌++◌, length, Option, Some, None, option_map, nat_cmp, refl, sym, ap, ap₂, ◌∙◌, subst, arith, lt-ltb, eq-eqb, ne_eqb}
 use Rattle.std.specs.Prelude.{slice_get, slice_index}
 use Rattle.std.specs.Cmp.{unsigned_tied}
 use Rattle.std.specs.FinMap.Entries.{put, find}

@@ -21,7 +21,8 @@ use pud_defs::layout::{MAX_OWNER_ID, POOL_TABLE, PUDDLE_RECORD_WORDS, PUDDLE_TAB
 use pud_defs::records::{
     MAX_PUDDLES, POOL_MODE_WORD, POOL_NUMBER_WORD, POOL_OWNER_WORD, POOL_RECORD_WORDS,
     POOL_RECORDS, PUDDLE_BASE_WORD, PUDDLE_FRONTIER_WORD, PUDDLE_NUMBER_WORD, PUDDLE_OLD_BASE_WORD,
-    Puddle, RECORD_WORDS_READ, is_legal_mode, member_ordinal, member_pool, name_by, owner_gid, owner_uid,
+    Puddle, RECORD_WORDS_READ, is_legal_mode, member_ordinal, member_pool, name_by, owner_gid,
+    owner_uid,
 };
 use pud_defs::space::{is_legal_base, is_legal_frontier};
 

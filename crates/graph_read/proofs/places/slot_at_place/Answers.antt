@@ -1,5 +1,4 @@
-use Rattle.std.proofs.Common.{◌/◌, ◌<◌, length, arith}
-use Rattle.pud_defs.specs.Geometry.{ordinal_of}
+use Rattle.std.proofs.Common.{◌<◌, length, arith}
 use Rattle.std.proofs.lemmas.Option.{slice_get-get_or}
 use Rattle.graph_read.proofs.places.slot_at_place.Goals as goal
 
