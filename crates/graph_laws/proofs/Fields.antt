@@ -1,18 +1,18 @@
 -- A word of a field is stored: the object of the place has another value in the field, and nothing else changes.
-use Rattle.std.proofs.Common.{◌≡◌, ℕ, ◌+◌, ◌/◌, ◌%◌, ◌<◌, true, false, List, map, set, length, Option, Some, get_or, not, ne_eqb, nat_cmp, option_map, refl, sym, ap, ap₂, ◌∙◌, ⊎_elim, arith}
+use Rattle.std.proofs.Common.{◌≡◌, ℕ, ◌+◌, ◌<◌, true, false, List, map, set, length, Option, Some, get_or, not, ne_eqb, nat_cmp, option_map, refl, sym, ap, ap₂, ◌∙◌, ⊎_elim, arith}
 use Rattle.std.specs.List.{range_with_len}
 use Rattle.std.specs.FinMap.Entries.{put}
 use Rattle.std.proofs.lemmas.Bool.{cases_eq, cond-true, cond-false}
 use Rattle.std.proofs.lemmas.List.{same_lists, length-set, get_or-set_same, get_or-set_other, map-set}
 use Rattle.std.proofs.lemmas.List.FromFn.{get_or-map-range_with_len, length-map-range_with_len}
-use Rattle.pud_defs.specs.declared.space.TheConstants.{FRAME_SLOTS, FRAME_HEADER_WORDS, SLOT_WORDS, SLOT_TYPE_WORD, SLOT_FIELDS_WORD}
+use Rattle.pud_defs.specs.declared.space.TheConstants.{FRAME_HEADER_WORDS, SLOT_TYPE_WORD, SLOT_FIELDS_WORD}
 use Rattle.pud_defs.specs.declared.records.Puddle.{Puddle}
 use Rattle.pud_defs.specs.declared.objects.Val.{Val}
 use Rattle.pud_defs.specs.declared.objects.Val.TheVariants.{Num, Ref}
 use Rattle.pud_defs.specs.TypeMap.{is_pointer}
+use Rattle.pud_defs.specs.Geometry.{ordinal_of, slot_of}
 use Rattle.pud_defs.specs.Types.{map_of}
-use Rattle.pud_defs.specs.Frames.{slot_at}
-use Rattle.pud_defs.specs.Stored.{Stored, places_of, place_word}
+use Rattle.pud_defs.specs.Stored.{Stored, places_of, place_word, place_begins, place_words}
 use Rattle.pud_defs.specs.Graph.{Content, Number, Table, table_of, contents_by, contents_or_none, content, field_count, pointee_at, place_of, object_at, named_by, value_of, stands, all_stand, Object, Graph, next_serial_of, root_of, graph_stored, graph_of}
 use Rattle.pud_defs.proofs.Graphs.{HasGraph, graph_of-each}
 use Rattle.pud_defs.specs.GraphChanges.{object_with, with_some_object, with_field}
@@ -40,7 +40,7 @@ map-range_set f g n i same = same_lists _ _
 module _ (types : List (ℕ × ℕ)) (st : Stored) (p m f v : ℕ) (below : f < field_count m) where
   -- the words after the store
   abbrev later : ℕ → ℕ → ℕ
-  later = with_word (p / FRAME_SLOTS) (slot_at (p % FRAME_SLOTS) + (SLOT_FIELDS_WORD + f)) v st.word
+  later = with_word (ordinal_of p) (place_begins st p + (SLOT_FIELDS_WORD + f)) v st.word
 
   abbrev before : Table
   before = table_of types st
@@ -48,14 +48,14 @@ module _ (types : List (ℕ × ℕ)) (st : Stored) (p m f v : ℕ) (below : f < 
   abbrev after : Table
   after = table_of types (with_words later st)
 
-  few : SLOT_FIELDS_WORD + f < SLOT_WORDS
+  few : SLOT_FIELDS_WORD + f < place_words st p
   few = let most = few_fields m in omega arith
 
   header_kept : (o k : ℕ) → k < FRAME_HEADER_WORDS → later o k ≡ st.word o k
-  header_kept o k low = slot_word-header p (SLOT_FIELDS_WORD + f) v st.word few o k low
+  header_kept o k low = slot_word-header p (SLOT_FIELDS_WORD + f) v st few o k low
 
-  word_kept : (k : ℕ) → k < SLOT_WORDS → (k ≡ SLOT_FIELDS_WORD + f → ⊥) → place_word later p k ≡ place_word st.word p k
-  word_kept k low other = slot_word-other p (SLOT_FIELDS_WORD + f) v st.word few p k low (λ same at. other at)
+  word_kept : (k : ℕ) → k < place_words st p → (k ≡ SLOT_FIELDS_WORD + f → ⊥) → place_word (with_words later st) p k ≡ place_word st p k
+  word_kept k low other = slot_word-other p (SLOT_FIELDS_WORD + f) v st few p k low (λ same at. other at)
 
   serial_kept : after.serial p ≡ before.serial p
   serial_kept = word_kept 0 (omega arith) (λ at. absurd (omega arith))
@@ -65,22 +65,22 @@ module _ (types : List (ℕ × ℕ)) (st : Stored) (p m f v : ℕ) (below : f < 
 
   -- what the fields stood for
   abbrev contents : List Content
-  contents = map (λ k. content st.puddles m p k (place_word st.word p (SLOT_FIELDS_WORD + k))) (range_with_len 0 (field_count m))
+  contents = map (λ k. content st.puddles m p k (place_word st p (SLOT_FIELDS_WORD + k))) (range_with_len 0 (field_count m))
 
-  module _ (defined : map_of (place_word st.word p SLOT_TYPE_WORD) types ≡ Some m) where
+  module _ (defined : map_of (place_word st p SLOT_TYPE_WORD) types ≡ Some m) where
     contents_before : before.contents p ≡ Some contents
     contents_before = ap (contents_by st p) defined
 
     contents_after : after.contents p ≡ Some (set contents f (content st.puddles m p f v))
     contents_after =
-        let now = λ (k : ℕ). content st.puddles m p k (place_word later p (SLOT_FIELDS_WORD + k)) in
-        let was = λ (k : ℕ). content st.puddles m p k (place_word st.word p (SLOT_FIELDS_WORD + k)) in
+        let now = λ (k : ℕ). content st.puddles m p k (place_word (with_words later st) p (SLOT_FIELDS_WORD + k)) in
+        let was = λ (k : ℕ). content st.puddles m p k (place_word st p (SLOT_FIELDS_WORD + k)) in
         let most = few_fields m in
         ap (λ t. contents_by (with_words later st) p (map_of t types)) type_kept
         ∙ ap (contents_by (with_words later st) p) defined
         ∙ ap (λ (cs : List Content). Some cs)
         (map-range_set now was (field_count m) f (λ k low other. ap (content st.puddles m p k) (word_kept (SLOT_FIELDS_WORD + k) (omega arith) (λ at. other (omega arith))))
-        ∙ ap (set contents f) (ap (content st.puddles m p f) (slot_word-there p (SLOT_FIELDS_WORD + f) v st.word few)))
+        ∙ ap (set contents f) (ap (content st.puddles m p f) (slot_word-there p (SLOT_FIELDS_WORD + f) v st few)))
 
     -- the object of the place has another value in the field
     object_after : (x : Val) → after.serial ≡ before.serial → value_of before.serial (content st.puddles m p f v) ≡ x → object_at after p ≡ object_with f x (object_at before p)
@@ -96,7 +96,7 @@ module _ (types : List (ℕ × ℕ)) (st : Stored) (p m f v : ℕ) (below : f < 
 
     module _ (is_live : IsLive before (places_of st) (before.serial p) p) where
       same : IsSameBut before after (places_of st) p
-      same = same_but types st later p is_live.within (slot_word-others p (SLOT_FIELDS_WORD + f) v st.word few)
+      same = same_but types st later p is_live.within (slot_word-others p (SLOT_FIELDS_WORD + f) v st few)
 
       -- what the field stands for now, and the value that it is
       module _ (g : Graph) (x : Val) (h : HasGraph types st g) (stand : stands before.serial (content st.puddles m p f v) ≡ true) (value : value_of before.serial (content st.puddles m p f v) ≡ x) where
@@ -131,8 +131,8 @@ graph_of-field : (types : List (ℕ × ℕ)) (st : Stored) (g : Graph) (s p m f 
 graph_of-field types st g s p m f v x is field stand value =
     let t = table_of types st in
     let there = place_of-some t (places_of st) s p field.place in
-    let word : slot_at (p % FRAME_SLOTS) + SLOT_FIELDS_WORD + f ≡ slot_at (p % FRAME_SLOTS) + (SLOT_FIELDS_WORD + f) = omega arith in
-    ap (λ k. graph_of types (with_words (with_word (p / FRAME_SLOTS) k v st.word) st)) word
+    let word : place_begins st p + SLOT_FIELDS_WORD + f ≡ place_begins st p + (SLOT_FIELDS_WORD + f) = omega arith in
+    ap (λ k. graph_of types (with_words (with_word (ordinal_of p) k v st.word) st)) word
     ∙ field_after types st p m f v field.below field.defined (record { within = there.within; is = refl; used = there.used }) g x (graph_of-each types st g is) stand value
     ∙ ap (λ k. Some (with_field k f x g)) there.is
 
@@ -141,7 +141,7 @@ graph_of-field types st g s p m f v x is field stand value =
 content_number : (puddles : List Puddle) (m p f v : ℕ) → is_pointer m f ≡ false → content puddles m p f v ≡ Number v
 content_number puddles m p f v number = cond-false _ _ _ number
 
-content_pointer : (puddles : List Puddle) (m p f v : ℕ) → is_pointer m f ≡ true → content puddles m p f v ≡ pointee_at puddles (p / FRAME_SLOTS) (p % FRAME_SLOTS + 1) v
+content_pointer : (puddles : List Puddle) (m p f v : ℕ) → is_pointer m f ≡ true → content puddles m p f v ≡ pointee_at puddles (ordinal_of p) (slot_of p + 1) v
 content_pointer puddles m p f v pointer = cond-true _ _ _ pointer
 
 pub graph_of-number : (types : List (ℕ × ℕ)) (st : Stored) (g : Graph) (s p m f v : ℕ) → graph_of types st ≡ Some g → IsField types st s p m f → is_pointer m f ≡ false
@@ -155,16 +155,16 @@ pub graph_of-null : (types : List (ℕ × ℕ)) (st : Stored) (g : Graph) (s p m
     → graph_of types (with_field_word p f 0 st) ≡ Some (with_field s f (Ref 0) g)
 graph_of-null types st g s p m f is field pointer =
     let serial = (table_of types st).serial in
-    let content = content_pointer st.puddles m p f 0 pointer ∙ pointee_at-null st.puddles (p / FRAME_SLOTS) (p % FRAME_SLOTS + 1) 0 refl in
+    let content = content_pointer st.puddles m p f 0 pointer ∙ pointee_at-null st.puddles (ordinal_of p) (slot_of p + 1) 0 refl in
     graph_of-field types st g s p m f 0 (Ref 0) is field (ap (stands serial) content) (ap (value_of serial) content)
 
 pub graph_of-reference : (types : List (ℕ × ℕ)) (st : Stored) (g : Graph) (s p m f v r q : ℕ) → graph_of types st ≡ Some g → IsField types st s p m f → is_pointer m f ≡ true
-    → place_of r (table_of types st) (places_of st) ≡ Some q → IsAddress st.puddles (p / FRAME_SLOTS) (p % FRAME_SLOTS + 1) q v
+    → place_of r (table_of types st) (places_of st) ≡ Some q → IsAddress st.puddles (ordinal_of p) (slot_of p + 1) q v
     → graph_of types (with_field_word p f v st) ≡ Some (with_field s f (Ref r) g)
 graph_of-reference types st g s p m f v r q is field pointer named address =
     let t = table_of types st in
     let target = place_of-some t (places_of st) r q named in
-    let content = content_pointer st.puddles m p f v pointer ∙ pointee_at-address st.puddles (p / FRAME_SLOTS) (p % FRAME_SLOTS + 1) q v address in
+    let content = content_pointer st.puddles m p f v pointer ∙ pointee_at-address st.puddles (ordinal_of p) (slot_of p + 1) q v address in
     graph_of-field types st g s p m f v (Ref r) is field
     (ap (stands t.serial) content ∙ ap not (ne_eqb (t.serial q) 0 target.used))
     (ap (value_of t.serial) content ∙ ap (λ k. Ref k) target.is)

@@ -1,13 +1,13 @@
 -- The serial of an object that nothing names is cleared: the graph is without the object.
-use Rattle.std.proofs.Common.{◌≡◌, ℕ, ◌+◌, ◌/◌, ◌%◌, ◌<◌, Bool, false, eqb, List, [], ◌∷◌, Some, nat_cmp, refl, sym, ap, ap₂, ◌∙◌, ⊎_elim, arith}
+use Rattle.std.proofs.Common.{◌≡◌, ℕ, ◌+◌, ◌<◌, Bool, false, eqb, List, [], ◌∷◌, Some, nat_cmp, refl, sym, ap, ap₂, ◌∙◌, ⊎_elim, arith}
 use Rattle.std.specs.Ordering.{eq_by_cmp}
 use Rattle.std.specs.List.{list_any}
 use Rattle.std.specs.FinMap.Entries.{find}
 use Rattle.std.proofs.lemmas.Bool.{cases_Bool, cond-true, cond-false, or_parts}
 use Rattle.std.proofs.lemmas.Option.{none-some, same_Some}
-use Rattle.pud_defs.specs.declared.space.TheConstants.{FRAME_SLOTS, FRAME_HEADER_WORDS, SLOT_SERIAL_WORD}
-use Rattle.pud_defs.specs.Frames.{slot_at}
-use Rattle.pud_defs.specs.Stored.{Stored, places_of}
+use Rattle.pud_defs.specs.declared.space.TheConstants.{FRAME_HEADER_WORDS, SLOT_SERIAL_WORD}
+use Rattle.pud_defs.specs.Geometry.{ordinal_of}
+use Rattle.pud_defs.specs.Stored.{Stored, places_of, place_begins}
 use Rattle.pud_defs.specs.Graph.{Table, table_of, contents_or_none, pointee_at, place_of, object_at, names_serial, Object, Graph, next_serial_of, root_of, graph_stored, graph_of, is_held}
 use Rattle.pud_defs.proofs.Graphs.{IsGraph, HasGraph, graph_of-each}
 use Rattle.pud_defs.specs.GraphChanges.{without_object}
@@ -42,7 +42,7 @@ unnamed_if_not_held types st p h apart =
 
 module _ (types : List (ℕ × ℕ)) (st : Stored) (p : ℕ) where
   abbrev later : ℕ → ℕ → ℕ
-  later = with_word (p / FRAME_SLOTS) (slot_at (p % FRAME_SLOTS) + SLOT_SERIAL_WORD) 0 st.word
+  later = with_word (ordinal_of p) (place_begins st p + SLOT_SERIAL_WORD) 0 st.word
 
   abbrev before : Table
   before = table_of types st
@@ -51,17 +51,17 @@ module _ (types : List (ℕ × ℕ)) (st : Stored) (p : ℕ) where
   after = table_of types (with_words later st)
 
   now_free : after.serial p ≡ 0
-  now_free = slot_word-there p SLOT_SERIAL_WORD 0 st.word (omega arith)
+  now_free = slot_word-there p SLOT_SERIAL_WORD 0 st (omega arith)
 
   header_kept : (o k : ℕ) → k < FRAME_HEADER_WORDS → later o k ≡ st.word o k
-  header_kept o k low = slot_word-header p SLOT_SERIAL_WORD 0 st.word (omega arith) o k low
+  header_kept o k low = slot_word-header p SLOT_SERIAL_WORD 0 st (omega arith) o k low
 
   graph_after : (g : Graph) → HasGraph types st g → IsLive before (places_of st) (before.serial p) p → is_held (before.serial p) (graph_stored types st) ≡ false → graph_of types (with_words later st) ≡ Some (without_object (before.serial p) g)
   graph_after g h is_live apart =
       let n = places_of st in
       let next = next_serial_of st in
       let top = root_of st in
-      let same = same_but types st later p is_live.within (slot_word-others p SLOT_SERIAL_WORD 0 st.word (omega arith)) in
+      let same = same_but types st later p is_live.within (slot_word-others p SLOT_SERIAL_WORD 0 st (omega arith)) in
       let unnamed = unnamed_if_not_held types st p h.graph apart in
       let root = root-unnamed before after n p same next top h.graph unnamed in
       let objects = objects-freed before after n p same next top h.graph unnamed is_live.used now_free in

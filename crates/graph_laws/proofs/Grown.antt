@@ -1,22 +1,24 @@
 -- A fresh puddle behind the others: each pointer leads where it led, and the graph is the same.
-use Rattle.std.proofs.Common.{◌≡◌, ℕ, zero, suc, ◌+◌, ◌/◌, ◌%◌, ◌<◌, ◌≤◌, true, eqb, ltb, List, [], ◌∷◌, ◌++◌, length, Option, Some, None, nat_cmp, option_map, refl, sym, ap, subst, ◌∙◌, ⊎_elim, arith}
+use Rattle.std.proofs.Common.{◌≡◌, ℕ, zero, suc, ◌+◌, ◌<◌, ◌≤◌, true, eqb, ltb, List, [], ◌∷◌, ◌++◌, length, Option, Some, None, nat_cmp, option_map, refl, sym, ap, subst, ◌∙◌, ⊎_elim, arith}
 use Rattle.std.specs.Prelude.{slice_get}
 use Rattle.std.specs.Option.{option_or}
 use Rattle.std.proofs.lemmas.Bool.{cases_lt, cases_Bool, cond-true, cond-false}
 use Rattle.std.proofs.lemmas.List.{length_push, map-append}
 use Rattle.std.proofs.lemmas.Option.{none-some}
-use Rattle.pud_defs.specs.declared.space.TheConstants.{FRAME_SLOTS, SLOT_TYPE_WORD, SLOT_FIELDS_WORD, NEXT_SERIAL_WORD, ROOT_WORD}
+use Rattle.pud_defs.specs.declared.space.TheConstants.{SLOT_TYPE_WORD, SLOT_FIELDS_WORD, NEXT_SERIAL_WORD, ROOT_WORD}
 use Rattle.pud_defs.specs.declared.records.Puddle.{Puddle}
 use Rattle.pud_defs.specs.TypeMap.{is_pointer}
+use Rattle.pud_defs.specs.Geometry.{ordinal_of, slot_of, places_among}
 use Rattle.pud_defs.specs.Types.{map_of}
 use Rattle.pud_defs.specs.Keyed.{put_entry, keyed, under}
 use Rattle.pud_defs.specs.Stored.{Stored, places_of, place_word}
-use Rattle.pud_defs.specs.Graph.{Content, Number, Null, Table, table_of, contents_by, slot_in, place_in, at_place, target, bases_by, pointee_at, content, live, object_at, named_by, stands, has_header, headers_fit, Graph, next_serial_of, root_of, graph_by, graph_of}
+use Rattle.pud_defs.specs.Graph.{Content, Number, Null, Table, table_of, contents_by, slot_in, place_in, at_place, target, over_old, puddles_by, pointee_at, content, live, object_at, named_by, stands, has_header, headers_fit, Graph, next_serial_of, root_of, graph_by, graph_of}
 use Rattle.pud_defs.proofs.Spaces.{all_below-each, all_below-from}
 use Rattle.pud_defs.proofs.Keyed.{keyed-none}
 use Rattle.pud_defs.proofs.Contents.{pointee_at_within, contents_by_within}
 use Rattle.pud_defs.proofs.Graphs.{under_serial-free, IsGraph, IsSameTable, IsGraph-same, graph_by-same, graph_of-each, graph_of-from}
 use Rattle.graph_laws.specs.Reads.{with_puddle, IsGrown}
+use Rattle.graph_laws.specs.Changes.{with_words}
 use Rattle.graph_laws.proofs.Words.{has_header-same}
 use Rattle.graph_laws.proofs.Same.{contents_by-stands}
 
@@ -37,50 +39,50 @@ or_longer : (o later longer : Option ℕ) (p : ℕ) → (later ≡ Some p → lo
 or_longer None later longer p more is = more is
 or_longer (Some q) later longer p more is = is
 
-place_in-longer : (first : ℕ) (bases more : List ℕ) (v p : ℕ) → place_in first bases v ≡ Some p → place_in first (bases ++ more) v ≡ Some p
+place_in-longer : (first : ℕ) (puddles more : List Puddle) (v p : ℕ) → place_in first puddles v ≡ Some p → place_in first (puddles ++ more) v ≡ Some p
 unfolding place_in
 place_in-longer first [] more v p is = absurd (none-some p is)
-place_in-longer first (base ∷ bases) more v p is =
-    or_longer (option_map (λ k. first + k) (slot_in base v)) (place_in (first + FRAME_SLOTS) bases v) (place_in (first + FRAME_SLOTS) (bases ++ more) v) p (place_in-longer (first + FRAME_SLOTS) bases more v p) is
+place_in-longer first (puddle ∷ puddles) more v p is =
+    or_longer (option_map (λ k. first + k) (slot_in puddle v)) (place_in (first + places_among 1) puddles v) (place_in (first + places_among 1) (puddles ++ more) v) p (place_in-longer (first + places_among 1) puddles more v p) is
 
 at_place-longer : (serial : ℕ → ℕ) (o longer : Option ℕ) → stands serial (at_place o) ≡ true → ((p : ℕ) → o ≡ Some p → longer ≡ Some p) → at_place longer ≡ at_place o
 at_place-longer serial None longer stand more = cc
 at_place-longer serial (Some p) longer stand more = ap at_place (more p refl)
 
-target-longer : (serial : ℕ → ℕ) (bases more : List ℕ) (v : ℕ) → stands serial (target bases v) ≡ true → target (bases ++ more) v ≡ target bases v
+target-longer : (serial : ℕ → ℕ) (puddles more : List Puddle) (v : ℕ) → stands serial (target puddles v) ≡ true → target (puddles ++ more) v ≡ target puddles v
 unfolding target
-target-longer serial bases more v stand =
+target-longer serial puddles more v stand =
     ⊎_elim
     (λ null. cond-true _ _ _ null ∙ sym (cond-true _ _ _ null))
     (λ used.
-    let was = cond-false (eqb v 0) Null (at_place (place_in 0 bases v)) used in
-    cond-false (eqb v 0) Null (at_place (place_in 0 (bases ++ more) v)) used
-    ∙ at_place-longer serial (place_in 0 bases v) (place_in 0 (bases ++ more) v) (sym (ap (stands serial) was) ∙ stand) (λ p is. place_in-longer 0 bases more v p is)
+    let was = cond-false (eqb v 0) Null (at_place (place_in 0 puddles v)) used in
+    cond-false (eqb v 0) Null (at_place (place_in 0 (puddles ++ more) v)) used
+    ∙ at_place-longer serial (place_in 0 puddles v) (place_in 0 (puddles ++ more) v) (sym (ap (stands serial) was) ∙ stand) (λ p is. place_in-longer 0 puddles more v p is)
     ∙ sym was)
     (cases_Bool (eqb v 0))
 
--- the bases by which a puddle's pointers are read are those before, and then more
-bases_by-longer : (puddles : List Puddle) (d : Puddle) (o : Option Puddle) (step : ℕ) → (more : List ℕ) × (bases_by (puddles ++ d ∷ []) o step ≡ bases_by puddles o step ++ more)
-bases_by-longer puddles d None step = ([], refl)
-bases_by-longer puddles d (Some p) step =
+-- the puddles over which a puddle's pointers are read are those before, and then more
+puddles_by-longer : (puddles : List Puddle) (d : Puddle) (o : Option Puddle) (step : ℕ) → (more : List Puddle) × (puddles_by (puddles ++ d ∷ []) o step ≡ puddles_by puddles o step ++ more)
+puddles_by-longer puddles d None step = ([], refl)
+puddles_by-longer puddles d (Some p) step =
     ⊎_elim
-    (λ rewritten. (d.base ∷ [], cond-true _ _ _ rewritten ∙ map-append (λ (e : Puddle). e.base) puddles (d ∷ []) ∙ ap (λ bases. bases ++ d.base ∷ []) (sym (cond-true _ _ _ rewritten))))
-    (λ old. (d.old_base ∷ [], cond-false _ _ _ old ∙ map-append (λ (e : Puddle). e.old_base) puddles (d ∷ []) ∙ ap (λ bases. bases ++ d.old_base ∷ []) (sym (cond-false _ _ _ old))))
+    (λ rewritten. (d ∷ [], cond-true _ _ _ rewritten ∙ ap (λ read. read ++ d ∷ []) (sym (cond-true _ _ _ rewritten))))
+    (λ old. (over_old d ∷ [], cond-false _ _ _ old ∙ map-append over_old puddles (d ∷ []) ∙ ap (λ read. read ++ over_old d ∷ []) (sym (cond-false _ _ _ old))))
     (cases_Bool (ltb step p.frontier))
 
 pointee_at-longer : (serial : ℕ → ℕ) (puddles : List Puddle) (d : Puddle) (o step v : ℕ) → o < length puddles → stands serial (pointee_at puddles o step v) ≡ true → pointee_at (puddles ++ d ∷ []) o step v ≡ pointee_at puddles o step v
 pointee_at-longer serial puddles d o step v below stand =
-    let more = bases_by-longer puddles d (slice_get puddles o) step in
-    ap (λ p. target (bases_by (puddles ++ d ∷ []) p step) v) (slice_get-front puddles (d ∷ []) o below)
-    ∙ ap (λ bases. target bases v) more.1
-    ∙ target-longer serial (bases_by puddles (slice_get puddles o) step) more.0 v stand
+    let more = puddles_by-longer puddles d (slice_get puddles o) step in
+    ap (λ p. target (puddles_by (puddles ++ d ∷ []) p step) v) (slice_get-front puddles (d ∷ []) o below)
+    ∙ ap (λ read. target read v) more.1
+    ∙ target-longer serial (puddles_by puddles (slice_get puddles o) step) more.0 v stand
 
-content-longer : (serial : ℕ → ℕ) (puddles : List Puddle) (d : Puddle) (m p f v : ℕ) → p / FRAME_SLOTS < length puddles → stands serial (content puddles m p f v) ≡ true → content (puddles ++ d ∷ []) m p f v ≡ content puddles m p f v
+content-longer : (serial : ℕ → ℕ) (puddles : List Puddle) (d : Puddle) (m p f v : ℕ) → ordinal_of p < length puddles → stands serial (content puddles m p f v) ≡ true → content (puddles ++ d ∷ []) m p f v ≡ content puddles m p f v
 content-longer serial puddles d m p f v below stand =
     ⊎_elim
     (λ pointer.
-    let was = cond-true (is_pointer m f) (pointee_at puddles (p / FRAME_SLOTS) (p % FRAME_SLOTS + 1) v) (Number v) pointer in
-    cond-true _ _ _ pointer ∙ pointee_at-longer serial puddles d (p / FRAME_SLOTS) (p % FRAME_SLOTS + 1) v below (sym (ap (stands serial) was) ∙ stand) ∙ sym was)
+    let was = cond-true (is_pointer m f) (pointee_at puddles (ordinal_of p) (slot_of p + 1) v) (Number v) pointer in
+    cond-true _ _ _ pointer ∙ pointee_at-longer serial puddles d (ordinal_of p) (slot_of p + 1) v below (sym (ap (stands serial) was) ∙ stand) ∙ sym was)
     (λ number. cond-false _ _ _ number ∙ sym (cond-false _ _ _ number))
     (cases_Bool (is_pointer m f))
 
@@ -138,8 +140,8 @@ module _ (types : List (ℕ × ℕ)) (st : Stored) (d : Puddle) (word : ℕ → 
       ap (λ k. has_header k (word k) (slice_get later.puddles k)) last ∙ ap (has_header count (word count)) (slice_get-push st.puddles d) ∙ grown.header)
       (cases_lt o count))
 
-  kept : (p k : ℕ) → p < places_of st → place_word word p k ≡ place_word st.word p k
-  kept p k below = grown.others (p / FRAME_SLOTS) _ (omega arith)
+  kept : (p k : ℕ) → p < places_of st → place_word (with_words word st) p k ≡ place_word st p k
+  kept p k below = grown.others (ordinal_of p) _ (omega arith)
 
   same_table : (next : ℕ) → IsGraph next (root_of st) before (places_of st) → IsSameTable before after (places_of st)
   same_table next h = record {
@@ -147,9 +149,9 @@ module _ (types : List (ℕ × ℕ)) (st : Stored) (d : Puddle) (word : ℕ → 
     type_id = λ p below used. kept p 1 below;
     contents = λ p below used.
         ap (λ k. contents_by later p (map_of k types)) (kept p 1 below)
-        ∙ contents_by-stands st later p before.serial (map_of (place_word st.word p SLOT_TYPE_WORD) types) (h.sound p below used).stand
-        (λ m f is low stand. ap (content later.puddles m p f) (kept p (SLOT_FIELDS_WORD + f) below) ∙ content-longer before.serial st.puddles d m p f (place_word st.word p (SLOT_FIELDS_WORD + f)) (omega arith) stand);
-    within = λ p below used. contents_by_within st p (map_of (place_word st.word p SLOT_TYPE_WORD) types);
+        ∙ contents_by-stands st later p before.serial (map_of (place_word st p SLOT_TYPE_WORD) types) (h.sound p below used).stand
+        (λ m f is low stand. ap (content later.puddles m p f) (kept p (SLOT_FIELDS_WORD + f) below) ∙ content-longer before.serial st.puddles d m p f (place_word st p (SLOT_FIELDS_WORD + f)) (omega arith) stand);
+    within = λ p below used. contents_by_within st p (map_of (place_word st p SLOT_TYPE_WORD) types);
   }
 
   pub graph_of-grown : (g : Graph) → graph_of types st ≡ Some g → graph_of types later ≡ Some g
@@ -158,7 +160,7 @@ module _ (types : List (ℕ × ℕ)) (st : Stored) (d : Puddle) (word : ℕ → 
       let n = places_of st in
       let next = next_serial_of st in
       let top = root_of st in
-      let places : places_of later ≡ n + FRAME_SLOTS = omega (arith, length_push st.puddles d) in
+      let places : places_of later ≡ n + places_among 1 = omega (arith, length_push st.puddles d) in
       let slots = same_table next h.graph in
       let within = pointee_at_within st.puddles 0 0 (st.word 0 ROOT_WORD) in
       let first : word 0 NEXT_SERIAL_WORD ≡ next = grown.others 0 NEXT_SERIAL_WORD grown.some in
@@ -167,8 +169,8 @@ module _ (types : List (ℕ × ℕ)) (st : Stored) (d : Puddle) (word : ℕ → 
         headers = headers_after h.headers;
         graph =
             subst (λ (k : ℕ). IsGraph (next_serial_of later) (root_of later) after k) (sym places)
-            (subst (λ (k : ℕ). IsGraph k (root_of later) after (n + FRAME_SLOTS)) (sym first)
-            (subst (λ (c : Content). IsGraph next c after (n + FRAME_SLOTS)) (sym root)
-            (IsGraph-longer after n FRAME_SLOTS grown.free next top (IsGraph-same before after n slots next top within h.graph))));
-        is = (λ i. graph_by (first i) (root i) after (places i)) ∙ graph_by-longer after n FRAME_SLOTS grown.free next top ∙ graph_by-same before after n slots next top within ∙ h.is;
+            (subst (λ (k : ℕ). IsGraph k (root_of later) after (n + places_among 1)) (sym first)
+            (subst (λ (c : Content). IsGraph next c after (n + places_among 1)) (sym root)
+            (IsGraph-longer after n (places_among 1) grown.free next top (IsGraph-same before after n slots next top within h.graph))));
+        is = (λ i. graph_by (first i) (root i) after (places i)) ∙ graph_by-longer after n (places_among 1) grown.free next top ∙ graph_by-same before after n slots next top within ∙ h.is;
       })

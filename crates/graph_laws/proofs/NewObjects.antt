@@ -1,15 +1,14 @@
 -- A free slot is filled under the next serial: the graph has one object more, each of whose fields is 0 or null.
-use Rattle.std.proofs.Common.{◌≡◌, ℕ, ◌+◌, ◌/◌, ◌%◌, ◌<◌, ◌≤◌, true, List, [], ◌∷◌, map, Some, nat_cmp, refl, sym, ap, ap₂, ◌∙◌, ⊎_elim, arith}
+use Rattle.std.proofs.Common.{◌≡◌, ℕ, ◌+◌, ◌<◌, ◌≤◌, true, List, [], ◌∷◌, map, Some, nat_cmp, refl, sym, ap, ap₂, ◌∙◌, ⊎_elim, arith}
 use Rattle.std.specs.List.{range_with_len}
 use Rattle.std.specs.FinMap.Entries.{put}
 use Rattle.std.proofs.lemmas.Bool.{cases_Bool, cond-true, cond-false, and_parts, and_from, leb-true, le-leb}
 use Rattle.pud_defs.specs.declared.layout.TheConstants.{NUMBER_LIMIT}
-use Rattle.pud_defs.specs.declared.space.TheConstants.{FRAME_SLOTS}
 use Rattle.pud_defs.specs.declared.records.Puddle.{Puddle}
 use Rattle.pud_defs.specs.TypeMap.{is_pointer}
+use Rattle.pud_defs.specs.Geometry.{ordinal_of, slot_of}
 use Rattle.pud_defs.specs.Types.{map_of}
-use Rattle.pud_defs.specs.Frames.{slot_at}
-use Rattle.pud_defs.specs.Stored.{Stored, places_of}
+use Rattle.pud_defs.specs.Stored.{Stored, places_of, place_begins}
 use Rattle.pud_defs.specs.Graph.{Content, Table, table_of, contents_by, contents_or_none, content, field_count, pointee_at, object_at, value_of, stands, all_stand, is_next_serial, Object, Graph, next_serial_of, root_of, graph_stored, graph_of}
 use Rattle.pud_defs.proofs.Contents.{list_all-range}
 use Rattle.pud_defs.proofs.Graphs.{HasGraph, graph_of-each}
@@ -29,13 +28,13 @@ map-map_each f h g each (k ∷ ks) = ap₂ (λ x xs. x ∷ xs) (each k) (map-map
 module _ (puddles : List Puddle) (m p : ℕ) (serial : ℕ → ℕ) where
   blank_stands : (f : ℕ) → stands serial (content puddles m p f 0) ≡ true
   blank_stands f = ⊎_elim
-      (λ pointer. ap (stands serial) (cond-true _ _ _ pointer ∙ pointee_at-null puddles (p / FRAME_SLOTS) (p % FRAME_SLOTS + 1) 0 refl))
+      (λ pointer. ap (stands serial) (cond-true _ _ _ pointer ∙ pointee_at-null puddles (ordinal_of p) (slot_of p + 1) 0 refl))
       (λ number. ap (stands serial) (cond-false _ _ _ number))
       (cases_Bool (is_pointer m f))
 
   value_of-blank : (f : ℕ) → value_of serial (content puddles m p f 0) ≡ blank_value m f
   value_of-blank f = ⊎_elim
-      (λ pointer. ap (value_of serial) (cond-true _ _ _ pointer ∙ pointee_at-null puddles (p / FRAME_SLOTS) (p % FRAME_SLOTS + 1) 0 refl) ∙ sym (cond-true _ _ _ pointer))
+      (λ pointer. ap (value_of serial) (cond-true _ _ _ pointer ∙ pointee_at-null puddles (ordinal_of p) (slot_of p + 1) 0 refl) ∙ sym (cond-true _ _ _ pointer))
       (λ number. ap (value_of serial) (cond-false _ _ _ number) ∙ sym (cond-false _ _ _ number))
       (cases_Bool (is_pointer m f))
 
@@ -51,9 +50,9 @@ module _ (types : List (ℕ × ℕ)) (st : Stored) (word : ℕ → ℕ → ℕ) 
   header_kept : (o k : ℕ) → k < 64 → (o ≡ 0 → k ≡ 3 → ⊥) → word o k ≡ st.word o k
   header_kept o k low apart = made.others o k (λ same above below. absurd (omega arith)) apart
 
-  others_kept : KeepsOthers st.word word p
+  others_kept : KeepsOthers st word p
   others_kept = record {
-    each = λ q k other low. made.others (q / FRAME_SLOTS) (slot_at (q % FRAME_SLOTS) + k)
+    each = λ q k other low. made.others (ordinal_of q) (place_begins st q + k)
         (λ same above below. let here : q ≡ p = omega arith in other here)
         (λ first at. absurd (omega arith));
   }

@@ -1,22 +1,23 @@
 -- A step of rewriting keeps the graph: what was read over the old bases is read over the pool's bases as the same.
-use Rattle.std.proofs.Common.{◌≡◌, ℕ, zero, suc, ◌+◌, ◌*◌, ◌/◌, ◌%◌, ◌<◌, ◌≤◌, true, false, cond, eqb, ltb, List, [], ◌∷◌, map, set, length, Option, Some, None, option_map, get_or, subst, refl, sym, ap, ap₂, ◌∙◌, ⊎_elim, arith}
+use Rattle.std.proofs.Common.{◌≡◌, ℕ, zero, suc, ◌+◌, ◌<◌, ◌≤◌, true, false, cond, eqb, ltb, List, [], ◌∷◌, map, set, length, Option, Some, None, option_map, get_or, subst, refl, sym, ap, ◌∙◌, ⊎_elim, arith}
 use Rattle.std.specs.Prelude.{slice_get}
 use Rattle.std.proofs.lemmas.Bool.{cases_eq, cases_lt, cases_Bool, cond-true, cond-false, lt-ltb, le-ltb}
 use Rattle.std.proofs.lemmas.List.{length-map, length-set}
-use Rattle.std.proofs.lemmas.Option.{same_Some, slice_get-map, slice_get_within, slice_get-get_or}
-use Rattle.pud_defs.specs.declared.space.TheConstants.{FRAME_SLOTS, SLOT_TYPE_WORD, SLOT_FIELDS_WORD, NEXT_SERIAL_WORD, ROOT_WORD}
+use Rattle.std.specs.Option.{option_or}
+use Rattle.std.proofs.lemmas.Option.{none-some, same_Some, slice_get-map, slice_get_within, slice_get-get_or}
+use Rattle.pud_defs.specs.declared.space.TheConstants.{SLOT_TYPE_WORD, SLOT_FIELDS_WORD, NEXT_SERIAL_WORD, ROOT_WORD}
 use Rattle.pud_defs.specs.declared.records.Puddle.{Puddle}
 use Rattle.pud_defs.specs.TypeMap.{is_pointer}
+use Rattle.pud_defs.specs.Geometry.{ordinal_of, slot_of, places_among}
 use Rattle.pud_defs.specs.Types.{map_of}
-use Rattle.pud_defs.specs.Stored.{Stored, places_of, place_word}
-use Rattle.pud_defs.specs.Graph.{Content, Number, Null, At, Table, table_of, contents_by, slot_address, place_in, at_place, target, bases_by, pointee_at, content, field_count, stands, has_header, headers_fit, Graph, next_serial_of, root_of, graph_of}
-use Rattle.pud_defs.specs.Frames.{slot_at}
+use Rattle.pud_defs.specs.Stored.{Stored, places_of, place_word, place_begins}
+use Rattle.pud_defs.specs.Graph.{Content, Number, Null, At, Table, table_of, contents_by, slot_in, place_in, at_place, target, over_old, puddles_by, pointee_at, content, field_count, stands, has_header, headers_fit, Graph, next_serial_of, root_of, graph_of}
 use Rattle.pud_defs.specs.Spaces.{all_below}
 use Rattle.pud_defs.proofs.Spaces.{all_below-same}
 use Rattle.pud_defs.proofs.Contents.{place_in_within}
 use Rattle.pud_defs.proofs.Graphs.{IsGraph, graph_of-each}
-use Rattle.graph_laws.specs.Changes.{AreBases, with_word}
-use Rattle.graph_laws.specs.Rewriting.{base_of, address_of, rewritten, rewritten_field, moved_to, with_some_puddle, with_frontier, stepped, RewritesSlot}
+use Rattle.graph_laws.specs.Changes.{AreBases, with_word, with_words}
+use Rattle.graph_laws.specs.Rewriting.{address_in, address_of, rewritten, rewritten_field, moved_to, with_some_puddle, with_frontier, stepped, RewritesSlot}
 use Rattle.graph_laws.proofs.Words.{few_fields, contents_by-each, has_header-same, with_word-there, with_word-other}
 use Rattle.graph_laws.proofs.Pointers.{target-there}
 use Rattle.graph_laws.proofs.Same.{StandsSame, graph_of-kept, graph_of-same, contents_by-stands}
@@ -35,10 +36,19 @@ slice_get-set_other (y ∷ xs) zero (suc j) x other = refl
 slice_get-set_other (y ∷ xs) (suc i) zero x other = refl
 slice_get-set_other (y ∷ xs) (suc i) (suc j) x other = slice_get-set_other xs i j x (λ e. other (ap (λ k. suc k) e))
 
-map-set_alike : {A B : Type 0} (f : A → B) (xs : List A) (i : ℕ) (x y : A) → slice_get xs i ≡ Some y → f x ≡ f y → map f (set xs i x) ≡ map f xs
-map-set_alike f [] i x y there alike = refl
-map-set_alike f (z ∷ xs) zero x y there alike = ap (λ b. b ∷ map f xs) (alike ∙ ap f (sym (same_Some z y there)))
-map-set_alike f (z ∷ xs) (suc i) x y there alike = ap (λ bs. f z ∷ bs) (map-set_alike f xs i x y there alike)
+map-set : {A B : Type 0} (f : A → B) (xs : List A) (i : ℕ) (x : A) → map f (set xs i x) ≡ set (map f xs) i (f x)
+map-set f [] i x = refl
+map-set f (y ∷ xs) zero x = refl
+map-set f (y ∷ xs) (suc i) x = ap (λ ys. f y ∷ ys) (map-set f xs i x)
+
+-- no place is told by a frontier
+place_in-moved : (first : ℕ) (puddles : List Puddle) (o n : ℕ) (home : Puddle) (v : ℕ) → slice_get puddles o ≡ Some home → place_in first (set puddles o (moved_to n home)) v ≡ place_in first puddles v
+unfolding place_in
+place_in-moved first [] o n home v here = absurd (none-some home here)
+place_in-moved first (d ∷ puddles) zero n home v here =
+    ap (λ (e : Puddle). option_or (option_map (λ k. first + k) (slot_in e v)) (place_in (first + places_among 1) puddles v)) (sym (same_Some d home here))
+place_in-moved first (d ∷ puddles) (suc o) n home v here =
+    ap (λ (later : Option ℕ). option_or (option_map (λ k. first + k) (slot_in d v)) later) (place_in-moved (first + places_among 1) puddles o n home v here)
 
 -- ---- a puddle with another frontier
 
@@ -58,26 +68,35 @@ module _ (puddles : List Puddle) (o n : ℕ) (home : Puddle) (here : slice_get p
   moved_other : (i : ℕ) → (i ≡ o → ⊥) → slice_get moved i ≡ slice_get puddles i
   moved_other i other = ap (λ ds. slice_get ds i) moved_is ∙ slice_get-set_other puddles o i (moved_to n home) other
 
-  same_bases : map (λ (d : Puddle). d.base) moved ≡ map (λ (d : Puddle). d.base) puddles
-  same_bases = ap (map (λ (d : Puddle). d.base)) moved_is ∙ map-set_alike (λ (d : Puddle). d.base) puddles o (moved_to n home) home here refl
+  target-moved : (v : ℕ) → target moved v ≡ target puddles v
+  unfolding target
+  target-moved v = ap (λ (place : Option ℕ). cond (eqb v 0) Null (at_place place)) (ap (λ (ds : List Puddle). place_in 0 ds v) moved_is ∙ place_in-moved 0 puddles o n home v here)
 
-  same_old_bases : map (λ (d : Puddle). d.old_base) moved ≡ map (λ (d : Puddle). d.old_base) puddles
-  same_old_bases = ap (map (λ (d : Puddle). d.old_base)) moved_is ∙ map-set_alike (λ (d : Puddle). d.old_base) puddles o (moved_to n home) home here refl
+  target-old_moved : (v : ℕ) → target (map over_old moved) v ≡ target (map over_old puddles) v
+  unfolding target
+  target-old_moved v =
+      ap (λ (place : Option ℕ). cond (eqb v 0) Null (at_place place))
+      (ap (λ (ds : List Puddle). place_in 0 ds v) (ap (map over_old) moved_is ∙ map-set over_old puddles o (moved_to n home))
+      ∙ place_in-moved 0 (map over_old puddles) o n (over_old home) v (slice_get-map over_old puddles o ∙ ap (option_map over_old) here))
 
-  bases_by-moved : (p : Option Puddle) (step : ℕ) → bases_by moved p step ≡ bases_by puddles p step
-  bases_by-moved None step = refl
-  bases_by-moved (Some p) step = ap₂ (λ (now old : List ℕ). cond (ltb step p.frontier) now old) same_bases same_old_bases
+  target-by_moved : (p : Option Puddle) (step v : ℕ) → target (puddles_by moved p step) v ≡ target (puddles_by puddles p step) v
+  target-by_moved None step v = refl
+  target-by_moved (Some p) step v =
+      ⊎_elim
+      (λ now. ap (λ (ds : List Puddle). target ds v) (cond-true _ _ _ now) ∙ target-moved v ∙ sym (ap (λ (ds : List Puddle). target ds v) (cond-true _ _ _ now)))
+      (λ old. ap (λ (ds : List Puddle). target ds v) (cond-false _ _ _ old) ∙ target-old_moved v ∙ sym (ap (λ (ds : List Puddle). target ds v) (cond-false _ _ _ old)))
+      (cases_Bool (ltb step p.frontier))
 
   -- a pointer of another puddle, or of a step that is on the same side of the frontier
   pointee_at-kept : (i step v : ℕ) → (i ≡ o → ltb step n ≡ ltb step home.frontier) → pointee_at moved i step v ≡ pointee_at puddles i step v
   pointee_at-kept i step v side =
       ⊎_elim
       (λ e.
-      ap (λ p. target (bases_by moved p step) v) (ap (slice_get moved) e ∙ moved_there)
-      ∙ ap (λ bases. target bases v) (bases_by-moved (Some (moved_to n home)) step)
-      ∙ ap (λ b. target (cond b (map (λ (d : Puddle). d.base) puddles) (map (λ (d : Puddle). d.old_base) puddles)) v) (side e)
-      ∙ sym (ap (λ p. target (bases_by puddles p step) v) (ap (slice_get puddles) e ∙ here)))
-      (λ other. ap (λ p. target (bases_by moved p step) v) (moved_other i other) ∙ ap (λ bases. target bases v) (bases_by-moved (slice_get puddles i) step))
+      ap (λ p. target (puddles_by moved p step) v) (ap (slice_get moved) e ∙ moved_there)
+      ∙ target-by_moved (Some (moved_to n home)) step v
+      ∙ ap (λ b. target (cond b puddles (map over_old puddles)) v) (side e)
+      ∙ sym (ap (λ p. target (puddles_by puddles p step) v) (ap (slice_get puddles) e ∙ here)))
+      (λ other. ap (λ p. target (puddles_by moved p step) v) (moved_other i other) ∙ target-by_moved (slice_get puddles i) step v)
       (cases_eq i o)
 
   -- the header is that of the puddle still
@@ -91,35 +110,34 @@ module _ (puddles : List Puddle) (o n : ℕ) (home : Puddle) (here : slice_get p
   -- ---- a pointer that is rewritten
 
   module _ (serial : ℕ → ℕ) (bases : AreBases (map (λ d. d.base) puddles)) where
-    address_read : (q : ℕ) → q < FRAME_SLOTS * length puddles → target (map (λ d. d.base) puddles) (address_of puddles (At q)) ≡ At q
+    address_read : (q : ℕ) → q < places_among (length puddles) → target puddles (address_of puddles (At q)) ≡ At q
     address_read q within =
-        let d = get_or puddles (q / FRAME_SLOTS) home in
-        let there : slice_get puddles (q / FRAME_SLOTS) ≡ Some d = slice_get-get_or puddles (q / FRAME_SLOTS) home (omega arith) in
-        ap (λ e. target (map (λ (c : Puddle). c.base) puddles) (slot_address (base_of e) (q % FRAME_SLOTS))) there
-        ∙ target-there (map (λ (c : Puddle). c.base) puddles) q d.base bases (slice_get-map (λ (c : Puddle). c.base) puddles (q / FRAME_SLOTS) ∙ ap (option_map (λ (c : Puddle). c.base)) there)
+        let d = get_or puddles (ordinal_of q) home in
+        let there : slice_get puddles (ordinal_of q) ≡ Some d = slice_get-get_or puddles (ordinal_of q) home (omega arith) in
+        ap (λ e. target puddles (address_in e (slot_of q))) there ∙ target-there puddles q d bases there
 
-    place_read : (c : Content) (p : Option ℕ) → c ≡ at_place p → ((q : ℕ) → p ≡ Some q → q < FRAME_SLOTS * length puddles) → stands serial c ≡ true → target (map (λ d. d.base) puddles) (address_of puddles c) ≡ c
+    place_read : (c : Content) (p : Option ℕ) → c ≡ at_place p → ((q : ℕ) → p ≡ Some q → q < places_among (length puddles)) → stands serial c ≡ true → target puddles (address_of puddles c) ≡ c
     place_read c None is within stand = absurd (let it : false ≡ true = sym (ap (stands serial) is) ∙ stand in cc)
-    place_read c (Some q) is within stand = ap (λ k. target (map (λ (d : Puddle). d.base) puddles) (address_of puddles k)) is ∙ address_read q (within q refl) ∙ sym is
+    place_read c (Some q) is within stand = ap (λ k. target puddles (address_of puddles k)) is ∙ address_read q (within q refl) ∙ sym is
 
-    target-rewritten : (v : ℕ) → stands serial (target (map (λ d. d.old_base) puddles) v) ≡ true → target (map (λ d. d.base) puddles) (rewritten puddles v) ≡ target (map (λ d. d.old_base) puddles) v
+    target-rewritten : (v : ℕ) → stands serial (target (map over_old puddles) v) ≡ true → target puddles (rewritten puddles v) ≡ target (map over_old puddles) v
     unfolding target
     target-rewritten v stand =
-        let old = map (λ (d : Puddle). d.old_base) puddles in
+        let old = map over_old puddles in
         ⊎_elim
         (λ null.
         let is : target old v ≡ Null = cond-true _ _ _ null in
-        ap (λ c. target (map (λ (d : Puddle). d.base) puddles) (address_of puddles c)) is ∙ sym is)
+        ap (λ c. target puddles (address_of puddles c)) is ∙ sym is)
         (λ used. place_read (target old v) (place_in 0 old v) (cond-false _ _ _ used)
-        (λ q is. let within = place_in_within 0 old v q is in let size = length-map puddles (λ (d : Puddle). d.old_base) in omega arith) stand)
+        (λ q is. let within = place_in_within 0 old v q is in let size = length-map puddles over_old in omega arith) stand)
         (cases_Bool (eqb v 0))
 
     -- at a step that the frontier passes
     pointee_at-rewritten : (step v : ℕ) → home.frontier ≤ step → step < n → stands serial (pointee_at puddles o step v) ≡ true → pointee_at moved o step (rewritten puddles v) ≡ pointee_at puddles o step v
     pointee_at-rewritten step v old now stand =
-        let was = ap (λ p. target (bases_by puddles p step) v) here ∙ ap (λ ds. target ds v) (cond-false _ _ _ (le-ltb step home.frontier old)) in
-        ap (λ p. target (bases_by moved p step) (rewritten puddles v)) moved_there
-        ∙ ap (λ ds. target ds (rewritten puddles v)) (bases_by-moved (Some (moved_to n home)) step)
+        let was = ap (λ p. target (puddles_by puddles p step) v) here ∙ ap (λ ds. target ds v) (cond-false _ _ _ (le-ltb step home.frontier old)) in
+        ap (λ p. target (puddles_by moved p step) (rewritten puddles v)) moved_there
+        ∙ target-by_moved (Some (moved_to n home)) step (rewritten puddles v)
         ∙ ap (λ ds. target ds (rewritten puddles v)) (cond-true _ _ _ (lt-ltb step n now))
         ∙ target-rewritten v (sym (ap (stands serial) was) ∙ stand)
         ∙ sym was
@@ -147,13 +165,13 @@ module _ (types : List (ℕ × ℕ)) (st : Stored) (o : ℕ) (home : Puddle) (he
   -- the first step of a puddle passes no slot
   content-first : (m p f v : ℕ) → content (with_frontier o 1 st.puddles) m p f v ≡ content st.puddles m p f v
   content-first m p f v = ap (λ (c : Content). cond (is_pointer m f) c (Number v))
-      (pointee_at-kept st.puddles o 1 home here (p / FRAME_SLOTS) (p % FRAME_SLOTS + 1) v
-      (λ same. le-ltb (p % FRAME_SLOTS + 1) 1 (omega arith) ∙ sym (le-ltb (p % FRAME_SLOTS + 1) home.frontier (omega arith))))
+      (pointee_at-kept st.puddles o 1 home here (ordinal_of p) (slot_of p + 1) v
+      (λ same. le-ltb (slot_of p + 1) 1 (omega arith) ∙ sym (le-ltb (slot_of p + 1) home.frontier (omega arith))))
 
   first_step : (word : ℕ → ℕ → ℕ) → ((k j : ℕ) → (k ≡ 0 → j ≡ ROOT_WORD → ⊥) → word k j ≡ st.word k j) → root_of (stepped o 0 word st) ≡ root_of st → StandsSame types st (stepped o 0 word st)
   first_step word same root =
       let later = stepped o 0 word st in
-      let slot = λ (p j : ℕ). same (p / FRAME_SLOTS) (slot_at (p % FRAME_SLOTS) + j) (λ first at. absurd (omega arith)) in
+      let slot = λ (p j : ℕ). same (ordinal_of p) (place_begins st p + j) (λ first at. absurd (omega arith)) in
       record {
         puddles = length-moved st.puddles o 1 home here;
         headers = headers-stepped st o 0 home here word (λ k j few. same k j (λ first at. absurd (omega arith)));
@@ -163,8 +181,8 @@ module _ (types : List (ℕ × ℕ)) (st : Stored) (o : ℕ) (home : Puddle) (he
         type_ids = λ p below used. slot p 1;
         contents = λ p below used.
             ap (λ k. contents_by later p (map_of k types)) (slot p 1)
-            ∙ contents_by-each st later p (map_of (place_word st.word p SLOT_TYPE_WORD) types)
-            (λ m f is low. ap (content later.puddles m p f) (slot p (SLOT_FIELDS_WORD + f)) ∙ content-first m p f (place_word st.word p (SLOT_FIELDS_WORD + f)));
+            ∙ contents_by-each st later p (map_of (place_word st p SLOT_TYPE_WORD) types)
+            (λ m f is low. ap (content later.puddles m p f) (slot p (SLOT_FIELDS_WORD + f)) ∙ content-first m p f (place_word st p (SLOT_FIELDS_WORD + f)));
       }
 
 -- a puddle behind the first has no root
@@ -188,22 +206,22 @@ graph_of-root_step types st g home is bases here start =
 
 -- ---- the step of a slot
 
-module _ (types : List (ℕ × ℕ)) (st : Stored) (word : ℕ → ℕ → ℕ) (p : ℕ) (home : Puddle) (here : slice_get st.puddles (p / FRAME_SLOTS) ≡ Some home) (at : home.frontier ≡ p % FRAME_SLOTS + 1) (rewrites : RewritesSlot types st word p) where
+module _ (types : List (ℕ × ℕ)) (st : Stored) (word : ℕ → ℕ → ℕ) (p : ℕ) (home : Puddle) (here : slice_get st.puddles (ordinal_of p) ≡ Some home) (at : home.frontier ≡ slot_of p + 1) (rewrites : RewritesSlot types st word p) where
   abbrev after_step : Stored
-  after_step = stepped (p / FRAME_SLOTS) (p % FRAME_SLOTS + 1) word st
+  after_step = stepped (ordinal_of p) (slot_of p + 1) word st
 
-  pointee_at-other : (o step v : ℕ) → (o ≡ p / FRAME_SLOTS → step ≡ p % FRAME_SLOTS + 1 → ⊥) → pointee_at after_step.puddles o step v ≡ pointee_at st.puddles o step v
+  pointee_at-other : (o step v : ℕ) → (o ≡ ordinal_of p → step ≡ slot_of p + 1 → ⊥) → pointee_at after_step.puddles o step v ≡ pointee_at st.puddles o step v
   pointee_at-other o step v other =
-      pointee_at-kept st.puddles (p / FRAME_SLOTS) (p % FRAME_SLOTS + 1 + 1) home here o step v
-      (λ same. same_side step (p % FRAME_SLOTS + 1) (other same) ∙ ap (ltb step) (sym at))
+      pointee_at-kept st.puddles (ordinal_of p) (slot_of p + 1 + 1) home here o step v
+      (λ same. same_side step (slot_of p + 1) (other same) ∙ ap (ltb step) (sym at))
 
   content-other : (m q f v : ℕ) → (q ≡ p → ⊥) → content after_step.puddles m q f v ≡ content st.puddles m q f v
-  content-other m q f v other = ap (λ (c : Content). cond (is_pointer m f) c (Number v)) (pointee_at-other (q / FRAME_SLOTS) (q % FRAME_SLOTS + 1) v (λ same step. let one : q ≡ p = omega arith in other one))
+  content-other m q f v other = ap (λ (c : Content). cond (is_pointer m f) c (Number v)) (pointee_at-other (ordinal_of q) (slot_of q + 1) v (λ same step. let one : q ≡ p = omega arith in other one))
 
   content-stepped : (serial : ℕ → ℕ) (m f v : ℕ) → AreBases (map (λ d. d.base) st.puddles) → stands serial (content st.puddles m p f v) ≡ true → content after_step.puddles m p f (rewritten_field st.puddles m f v) ≡ content st.puddles m p f v
   content-stepped serial m f v bases stand =
-      let step = p % FRAME_SLOTS + 1 in
-      let o = p / FRAME_SLOTS in
+      let step = slot_of p + 1 in
+      let o = ordinal_of p in
       ⊎_elim
       (λ pointer.
       let was = cond-true (is_pointer m f) (pointee_at st.puddles o step v) (Number v) pointer in
@@ -214,12 +232,12 @@ module _ (types : List (ℕ × ℕ)) (st : Stored) (word : ℕ → ℕ → ℕ) 
       (λ number. cond-false _ _ _ number ∙ ap (λ (k : ℕ). Number k) (cond-false (is_pointer m f) (rewritten st.puddles v) v number) ∙ sym (cond-false _ _ _ number))
       (cases_Bool (is_pointer m f))
 
-  serial_kept : (q : ℕ) → place_word word q 0 ≡ place_word st.word q 0
-  serial_kept q = ⊎_elim (λ e. ap (λ k. place_word word k 0) e ∙ rewrites.serial ∙ ap (λ k. place_word st.word k 0) (sym e)) (λ other. rewrites.others q 0 other (omega arith)) (cases_eq q p)
+  serial_kept : (q : ℕ) → place_word (with_words word st) q 0 ≡ place_word st q 0
+  serial_kept q = ⊎_elim (λ e. ap (λ k. place_word (with_words word st) k 0) e ∙ rewrites.serial ∙ ap (λ k. place_word st k 0) (sym e)) (λ other. rewrites.others q 0 other (omega arith)) (cases_eq q p)
 
-  type_kept : (q : ℕ) → (place_word st.word q 0 ≡ 0 → ⊥) → place_word word q 1 ≡ place_word st.word q 1
+  type_kept : (q : ℕ) → (place_word st q 0 ≡ 0 → ⊥) → place_word (with_words word st) q 1 ≡ place_word st q 1
   type_kept q used = ⊎_elim
-      (λ e. ap (λ k. place_word word k 1) e ∙ rewrites.type_id (λ free. used (ap (λ k. place_word st.word k 0) e ∙ free)) ∙ ap (λ k. place_word st.word k 1) (sym e))
+      (λ e. ap (λ k. place_word (with_words word st) k 1) e ∙ rewrites.type_id (λ free. used (ap (λ k. place_word st k 0) e ∙ free)) ∙ ap (λ k. place_word st k 1) (sym e))
       (λ other. rewrites.others q 1 other (omega arith))
       (cases_eq q p)
 
@@ -227,10 +245,10 @@ module _ (types : List (ℕ × ℕ)) (st : Stored) (word : ℕ → ℕ → ℕ) 
     abbrev t : Table
     t = table_of types st
 
-    field_other : (q m f : ℕ) → (q ≡ p → ⊥) → f < field_count m → content after_step.puddles m q f (place_word word q (SLOT_FIELDS_WORD + f)) ≡ content st.puddles m q f (place_word st.word q (SLOT_FIELDS_WORD + f))
+    field_other : (q m f : ℕ) → (q ≡ p → ⊥) → f < field_count m → content after_step.puddles m q f (place_word (with_words word st) q (SLOT_FIELDS_WORD + f)) ≡ content st.puddles m q f (place_word st q (SLOT_FIELDS_WORD + f))
     field_other q m f other low =
         let most = few_fields m in
-        ap (content after_step.puddles m q f) (rewrites.others q (SLOT_FIELDS_WORD + f) other (omega arith)) ∙ content-other m q f (place_word st.word q (SLOT_FIELDS_WORD + f)) other
+        ap (content after_step.puddles m q f) (rewrites.others q (SLOT_FIELDS_WORD + f) other (omega arith)) ∙ content-other m q f (place_word st q (SLOT_FIELDS_WORD + f)) other
 
     contents_other : (q : ℕ) → q < places_of st → (t.serial q ≡ 0 → ⊥) → (q ≡ p → ⊥) → contents_by after_step q (map_of (t.type_id q) types) ≡ t.contents q
     contents_other q below used other = contents_by-stands st after_step q t.serial (map_of (t.type_id q) types) (h.sound q below used).stand (λ m f is low stand. field_other q m f other low)
@@ -238,12 +256,12 @@ module _ (types : List (ℕ × ℕ)) (st : Stored) (word : ℕ → ℕ → ℕ) 
     contents_there : p < places_of st → (t.serial p ≡ 0 → ⊥) → contents_by after_step p (map_of (t.type_id p) types) ≡ t.contents p
     contents_there below used =
         contents_by-stands st after_step p t.serial (map_of (t.type_id p) types) (h.sound p below used).stand
-        (λ m f is low stand. ap (content after_step.puddles m p f) (rewrites.fields m f used is low) ∙ content-stepped t.serial m f (place_word st.word p (SLOT_FIELDS_WORD + f)) bases stand)
+        (λ m f is low stand. ap (content after_step.puddles m p f) (rewrites.fields m f used is low) ∙ content-stepped t.serial m f (place_word st p (SLOT_FIELDS_WORD + f)) bases stand)
 
     slot_step : StandsSame types st after_step
     slot_step = record {
-      puddles = length-moved st.puddles (p / FRAME_SLOTS) (p % FRAME_SLOTS + 1 + 1) home here;
-      headers = headers-stepped st (p / FRAME_SLOTS) (p % FRAME_SLOTS + 1) home here word (λ k j few. rewrites.headers k j (omega arith));
+      puddles = length-moved st.puddles (ordinal_of p) (slot_of p + 1 + 1) home here;
+      headers = headers-stepped st (ordinal_of p) (slot_of p + 1) home here word (λ k j few. rewrites.headers k j (omega arith));
       next = rewrites.headers 0 NEXT_SERIAL_WORD (omega arith);
       root = ap (pointee_at after_step.puddles 0 0) (rewrites.headers 0 ROOT_WORD (omega arith)) ∙ pointee_at-other 0 0 (st.word 0 ROOT_WORD) (λ same step. absurd (omega arith));
       serials = λ q below. serial_kept q;
@@ -256,7 +274,7 @@ module _ (types : List (ℕ × ℕ)) (st : Stored) (word : ℕ → ℕ → ℕ) 
     }
 
 pub graph_of-slot_step : (types : List (ℕ × ℕ)) (st : Stored) (g : Graph) (word : ℕ → ℕ → ℕ) (p : ℕ) (home : Puddle) → graph_of types st ≡ Some g → AreBases (map (λ d. d.base) st.puddles)
-    → slice_get st.puddles (p / FRAME_SLOTS) ≡ Some home → home.frontier ≡ p % FRAME_SLOTS + 1 → RewritesSlot types st word p
-    → graph_of types (stepped (p / FRAME_SLOTS) (p % FRAME_SLOTS + 1) word st) ≡ Some g
+    → slice_get st.puddles (ordinal_of p) ≡ Some home → home.frontier ≡ slot_of p + 1 → RewritesSlot types st word p
+    → graph_of types (stepped (ordinal_of p) (slot_of p + 1) word st) ≡ Some g
 graph_of-slot_step types st g word p home is bases here at rewrites =
-    graph_of-kept types st (stepped (p / FRAME_SLOTS) (p % FRAME_SLOTS + 1) word st) g (slot_step types st word p home here at rewrites bases (graph_of-each types st g is).graph) is
+    graph_of-kept types st (stepped (ordinal_of p) (slot_of p + 1) word st) g (slot_step types st word p home here at rewrites bases (graph_of-each types st g is).graph) is

@@ -1,9 +1,9 @@
 -- The root pointer is stored: the graph has another root.
-use Rattle.std.proofs.Common.{◌≡◌, ℕ, ◌+◌, ◌/◌, ◌%◌, true, not, ltb, List, Some, refl, sym, ap, ◌∙◌, arith, ne_eqb}
-use Rattle.pud_defs.specs.declared.space.TheConstants.{FRAME_SLOTS, ROOT_WORD}
+use Rattle.std.proofs.Common.{◌≡◌, ℕ, ◌+◌, true, not, ltb, List, Some, refl, sym, ap, ◌∙◌, arith, ne_eqb}
+use Rattle.pud_defs.specs.declared.space.TheConstants.{ROOT_WORD}
+use Rattle.pud_defs.specs.Geometry.{ordinal_of}
 use Rattle.pud_defs.specs.Types.{map_of}
-use Rattle.pud_defs.specs.Frames.{slot_at}
-use Rattle.pud_defs.specs.Stored.{Stored, places_of, place_word}
+use Rattle.pud_defs.specs.Stored.{Stored, places_of, place_word, place_begins}
 use Rattle.pud_defs.specs.Graph.{Content, table_of, contents_by, pointee_at, place_of, named_by, stands, Graph, next_serial_of, graph_stored, graph_of}
 use Rattle.pud_defs.proofs.Contents.{names_only, pointee_at_within, contents_by_within}
 use Rattle.pud_defs.proofs.Graphs.{IsGraph, HasGraph, IsSameTable, IsGraph-same, graph_by-same, graph_of-each}
@@ -21,12 +21,12 @@ module _ (types : List (ℕ × ℕ)) (st : Stored) (v : ℕ) where
 
   slots_kept : IsSameTable (table_of types st) (table_of types (with_words later st)) (places_of st)
   slots_kept = record {
-    serial = λ p below. kept (p / FRAME_SLOTS) (slot_at (p % FRAME_SLOTS) + 0) (λ at. absurd (omega arith));
-    type_id = λ p below used. kept (p / FRAME_SLOTS) (slot_at (p % FRAME_SLOTS) + 1) (λ at. absurd (omega arith));
+    serial = λ p below. kept (ordinal_of p) (place_begins st p + 0) (λ at. absurd (omega arith));
+    type_id = λ p below used. kept (ordinal_of p) (place_begins st p + 1) (λ at. absurd (omega arith));
     contents = λ p below used.
-        ap (λ k. contents_by (with_words later st) p (map_of k types)) (kept (p / FRAME_SLOTS) (slot_at (p % FRAME_SLOTS) + 1) (λ at. absurd (omega arith)))
-        ∙ contents_by-same st later p (map_of (place_word st.word p 1) types) (λ m f is low. kept (p / FRAME_SLOTS) (slot_at (p % FRAME_SLOTS) + (2 + f)) (λ at. absurd (omega arith)));
-    within = λ p below used. contents_by_within st p (map_of (place_word st.word p 1) types);
+        ap (λ k. contents_by (with_words later st) p (map_of k types)) (kept (ordinal_of p) (place_begins st p + 1) (λ at. absurd (omega arith)))
+        ∙ contents_by-same st later p (map_of (place_word st p 1) types) (λ m f is low. kept (ordinal_of p) (place_begins st p + (2 + f)) (λ at. absurd (omega arith)));
+    within = λ p below used. contents_by_within st p (map_of (place_word st p 1) types);
   }
 
   graph_after : (g : Graph) (s : ℕ) (top : Content) → HasGraph types st g → pointee_at st.puddles 0 0 v ≡ top → stands (table_of types st).serial top ≡ true → named_by (table_of types st).serial top ≡ s

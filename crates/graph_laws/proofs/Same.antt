@@ -1,8 +1,9 @@
 -- Two pools of which the same is read have the same graph.
-use Rattle.std.proofs.Common.{◌≡◌, ℕ, zero, suc, ◌+◌, ◌*◌, ◌<◌, ◌≤◌, Bool, true, List, map, length, Option, Some, None, refl, sym, ap, subst, ◌∙◌, ⊎_elim, arith}
+use Rattle.std.proofs.Common.{◌≡◌, ℕ, zero, suc, ◌+◌, ◌<◌, ◌≤◌, Bool, true, List, map, length, Option, Some, None, refl, sym, ap, subst, ◌∙◌, ⊎_elim, arith}
 use Rattle.std.specs.List.{range_with_len, list_all}
 use Rattle.std.proofs.lemmas.Bool.{cases_eq, and_parts}
-use Rattle.pud_defs.specs.declared.space.TheConstants.{FRAME_SLOTS, SLOT_TYPE_WORD, SLOT_FIELDS_WORD, ROOT_WORD}
+use Rattle.pud_defs.specs.declared.space.TheConstants.{SLOT_TYPE_WORD, SLOT_FIELDS_WORD, ROOT_WORD}
+use Rattle.pud_defs.specs.Geometry.{places_among}
 use Rattle.pud_defs.specs.Types.{map_of}
 use Rattle.pud_defs.specs.Stored.{Stored, places_of, place_word}
 use Rattle.pud_defs.specs.Graph.{Content, table_of, contents_by, content, field_count, stands, all_stand, headers_fit, Graph, next_serial_of, root_of, graph_by, graph_of}
@@ -23,14 +24,14 @@ list_all-range_each test f from (suc count) all k low high =
 
 -- fields of which each stands for the same as one that stands
 pub contents_by-stands : (st later : Stored) (p : ℕ) (serial : ℕ → ℕ) (type : Option ℕ) → all_stand serial (contents_by st p type) ≡ true
-    → ((m f : ℕ) → type ≡ Some m → f < field_count m → stands serial (content st.puddles m p f (place_word st.word p (SLOT_FIELDS_WORD + f))) ≡ true
-    → content later.puddles m p f (place_word later.word p (SLOT_FIELDS_WORD + f)) ≡ content st.puddles m p f (place_word st.word p (SLOT_FIELDS_WORD + f)))
+    → ((m f : ℕ) → type ≡ Some m → f < field_count m → stands serial (content st.puddles m p f (place_word st p (SLOT_FIELDS_WORD + f))) ≡ true
+    → content later.puddles m p f (place_word later p (SLOT_FIELDS_WORD + f)) ≡ content st.puddles m p f (place_word st p (SLOT_FIELDS_WORD + f)))
     → contents_by later p type ≡ contents_by st p type
 contents_by-stands st later p serial None stand same = refl
 contents_by-stands st later p serial (Some m) stand same =
-    let was = λ (f : ℕ). content st.puddles m p f (place_word st.word p (SLOT_FIELDS_WORD + f)) in
+    let was = λ (f : ℕ). content st.puddles m p f (place_word st p (SLOT_FIELDS_WORD + f)) in
     ap (λ (cs : List Content). Some cs)
-    (map-range_same (λ f. content later.puddles m p f (place_word later.word p (SLOT_FIELDS_WORD + f))) was (field_count m)
+    (map-range_same (λ f. content later.puddles m p f (place_word later p (SLOT_FIELDS_WORD + f))) was (field_count m)
     (λ f below. same m f refl below (list_all-range_each (stands serial) was 0 (field_count m) stand f (omega arith) (omega arith))))
 
 -- ---- what is read
@@ -50,7 +51,7 @@ same_table types st later same = record {
   serial = same.serials;
   type_id = same.type_ids;
   contents = same.contents;
-  within = λ p below used. contents_by_within st p (map_of (place_word st.word p SLOT_TYPE_WORD) types);
+  within = λ p below used. contents_by_within st p (map_of (place_word st p SLOT_TYPE_WORD) types);
 }
 
 pub graph_of-kept : (types : List (ℕ × ℕ)) (st later : Stored) (g : Graph) → StandsSame types st later → graph_of types st ≡ Some g → graph_of types later ≡ Some g
@@ -58,7 +59,7 @@ graph_of-kept types st later g same is =
     let h = graph_of-each types st g is in
     let t = table_of types st in
     let u = table_of types later in
-    let places : places_of later ≡ places_of st = ap (λ n. FRAME_SLOTS * n) same.puddles in
+    let places : places_of later ≡ places_of st = ap (λ n. places_among n) same.puddles in
     let slots = same_table types st later same in
     let within = pointee_at_within st.puddles 0 0 (st.word 0 ROOT_WORD) in
     graph_of-from types later g (record {

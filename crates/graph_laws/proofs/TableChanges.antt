@@ -9,6 +9,7 @@ use Rattle.pud_defs.proofs.TypeLists.{same_test, same_number}
 use Rattle.pud_defs.proofs.Keyed.{HasDistinctKeys, IsSetAt, is_free_for, under_apart, under_none, alone_there, keyed-same, keyed-put, keyed-without, HasDistinctKeys-set, find-keyed_place}
 use Rattle.pud_defs.proofs.Graphs.{IsSoundPlace, IsGraph, under_serial-free, under_serial-used, distinct_live, live-alike}
 use Rattle.pud_defs.proofs.Contents.{names_only, name_only, stands-same, named_by-same, all_stand-same, values-same}
+use Rattle.pud_defs.specs.Stored.{slot_state}
 use Rattle.graph_laws.proofs.ContentLists.{is_other}
 
 -- ---- a keyed list of which one record is changed, by what stands below its end
@@ -167,7 +168,7 @@ module _ (t u : Table) (n p : ℕ) (same : IsSameBut t u n p) where
       distinct-new = HasDistinctKeys-set nat_cmp nat_cmp_total (placed t) (placed u) 0 n p (u.serial p) (Some p) (let within = same.within in record {
         low = zero-le;
         high = omega arith;
-        others = λ q other. ap (λ k. cond (eqb k 0) None (Some (k, q))) (same.serial q other);
+        others = λ q other. ap (λ k. cond (slot_state k).is_live (Some (k, q)) None) (same.serial q other);
         is = under_serial-used u.serial (λ q. q) p used;
         was = ap (is_free_for nat_cmp (u.serial p)) (under_serial-free t.serial (λ (q : ℕ). q) p free);
         alone = λ q low high other. under_other t.serial (λ q. q) (u.serial p) q (apart_now q (omega arith) other);
@@ -188,7 +189,7 @@ module _ (t u : Table) (n p : ℕ) (same : IsSameBut t u n p) where
       distinct-freed = HasDistinctKeys-set nat_cmp nat_cmp_total (placed t) (placed u) 0 n p (t.serial p) None (let within = same.within in record {
         low = zero-le;
         high = omega arith;
-        others = λ q other. ap (λ k. cond (eqb k 0) None (Some (k, q))) (same.serial q other);
+        others = λ q other. ap (λ k. cond (slot_state k).is_live (Some (k, q)) None) (same.serial q other);
         is = under_serial-free u.serial (λ q. q) p free;
         was = ap (is_free_for nat_cmp (t.serial p)) (under_serial-used t.serial (λ (q : ℕ). q) p used) ∙ same_test (t.serial p) (t.serial p) ∙ eq-eqb (t.serial p) (t.serial p) refl;
         alone = λ q low high other. under_other t.serial (λ q. q) (t.serial p) q (serials_apart t.serial n p h.distinct same.within used q (omega arith) other);

@@ -1,10 +1,10 @@
 -- Words that are the same wherever they are read stand for the same, and one that is not read changes nothing.
-use Rattle.std.proofs.Common.{◌≡◌, ℕ, ◌+◌, ◌/◌, ◌%◌, ◌<◌, ◌≤◌, List, Some, refl, sym, ap, ◌∙◌, arith}
+use Rattle.std.proofs.Common.{◌≡◌, ℕ, ◌+◌, ◌<◌, ◌≤◌, List, Some, refl, sym, ap, ◌∙◌, arith}
 use Rattle.std.proofs.lemmas.Option.{same_Some}
-use Rattle.pud_defs.specs.declared.space.TheConstants.{FRAME_SLOTS, FRAME_HEADER_WORDS, FRAME_ORDINAL_WORD, ROOT_WORD, SLOT_WORDS, SLOT_SERIAL_WORD, SLOT_TYPE_WORD, SLOT_FIELDS_WORD}
+use Rattle.pud_defs.specs.declared.space.TheConstants.{FRAME_HEADER_WORDS, FRAME_ORDINAL_WORD, ROOT_WORD, SLOT_SERIAL_WORD, SLOT_TYPE_WORD, SLOT_FIELDS_WORD}
+use Rattle.pud_defs.specs.Geometry.{ordinal_of}
 use Rattle.pud_defs.specs.Types.{map_of}
-use Rattle.pud_defs.specs.Frames.{slot_at}
-use Rattle.pud_defs.specs.Stored.{Stored, places_of, place_word}
+use Rattle.pud_defs.specs.Stored.{Stored, places_of, place_word, place_begins, place_words}
 use Rattle.pud_defs.specs.Graph.{contents_by, field_count, pointee_at, graph_of}
 use Rattle.graph_laws.specs.Changes.{with_word, with_words, with_slot_word}
 use Rattle.graph_laws.specs.Reads.{ReadsSame}
@@ -21,7 +21,7 @@ stands_same types st word h = record {
   type_ids = h.slots.type_ids;
   contents = λ p below used.
       ap (λ k. contents_by (with_words word st) p (map_of k types)) (h.slots.type_ids p below used)
-      ∙ contents_by-same st word p (map_of (place_word st.word p SLOT_TYPE_WORD) types) (λ m f is low. h.slots.fields p m f below used is low);
+      ∙ contents_by-same st word p (map_of (place_word st p SLOT_TYPE_WORD) types) (λ m f is low. h.slots.fields p m f below used is low);
 }
 
 pub graph_of-read : (types : List (ℕ × ℕ)) (st : Stored) (word : ℕ → ℕ → ℕ) → ReadsSame types st word → graph_of types (with_words word st) ≡ graph_of types st
@@ -32,7 +32,7 @@ graph_of-read types st word h = graph_of-same types st (with_words word st) (sta
 -- a word of a frame's header that is not read
 pub graph_of-header : (types : List (ℕ × ℕ)) (st : Stored) (o k v : ℕ) → FRAME_ORDINAL_WORD < k → k < FRAME_HEADER_WORDS → (o ≡ 0 → ROOT_WORD < k) → graph_of types (with_words (with_word o k v st.word) st) ≡ graph_of types st
 graph_of-header types st o k v low high behind =
-    let slot = λ (p j : ℕ). with_word-other o k v st.word (p / FRAME_SLOTS) (slot_at (p % FRAME_SLOTS) + j) (λ same at. absurd (omega arith)) in
+    let slot = λ (p j : ℕ). with_word-other o k v st.word (ordinal_of p) (place_begins st p + j) (λ same at. absurd (omega arith)) in
     graph_of-read types st (with_word o k v st.word) (record {
       headers = λ other j within few. with_word-other o k v st.word other j (λ same at. absurd (omega arith));
       next = with_word-other o k v st.word 0 3 (λ same at. let above = behind (sym same) in absurd (omega arith));
@@ -41,33 +41,33 @@ graph_of-header types st o k v low high behind =
     })
 
 -- a word of a slot: one that is read for nothing, since the place is free or the word lies behind the fields
-unread_slot : (types : List (ℕ × ℕ)) (st : Stored) (p j v : ℕ) → 0 < j → j < SLOT_WORDS
-    → (p < places_of st → (place_word st.word p SLOT_SERIAL_WORD ≡ 0 → ⊥) → j ≡ SLOT_TYPE_WORD → ⊥)
-    → ((m f : ℕ) → (place_word st.word p SLOT_SERIAL_WORD ≡ 0 → ⊥) → map_of (place_word st.word p SLOT_TYPE_WORD) types ≡ Some m → f < field_count m → j ≡ SLOT_FIELDS_WORD + f → ⊥)
+unread_slot : (types : List (ℕ × ℕ)) (st : Stored) (p j v : ℕ) → 0 < j → j < place_words st p
+    → (p < places_of st → (place_word st p SLOT_SERIAL_WORD ≡ 0 → ⊥) → j ≡ SLOT_TYPE_WORD → ⊥)
+    → ((m f : ℕ) → (place_word st p SLOT_SERIAL_WORD ≡ 0 → ⊥) → map_of (place_word st p SLOT_TYPE_WORD) types ≡ Some m → f < field_count m → j ≡ SLOT_FIELDS_WORD + f → ⊥)
     → graph_of types (with_slot_word p j v st) ≡ graph_of types st
 unread_slot types st p j v low high no_type no_field =
-    let word = with_word (p / FRAME_SLOTS) (slot_at (p % FRAME_SLOTS) + j) v st.word in
-    let header = slot_word-header p j v st.word high in
-    let slot = slot_word-other p j v st.word high in
+    let word = with_word (ordinal_of p) (place_begins st p + j) v st.word in
+    let header = slot_word-header p j v st high in
+    let slot = slot_word-other p j v st high in
     graph_of-read types st word (record {
       headers = λ o k within few. header o k (omega arith);
       next = header 0 3 (omega arith);
       root = header 0 4 (omega arith);
       slots = record {
         serials = λ q below. slot q 0 (omega arith) (λ here at. absurd (omega arith));
-        type_ids = λ q below used. slot q 1 (omega arith) (λ here at. no_type (omega arith) (λ free. used (ap (λ k. place_word st.word k SLOT_SERIAL_WORD) here ∙ free)) (sym at));
+        type_ids = λ q below used. slot q 1 (omega arith) (λ here at. no_type (omega arith) (λ free. used (ap (λ k. place_word st k SLOT_SERIAL_WORD) here ∙ free)) (sym at));
         fields = λ q m f below used is few.
             let most = few_fields m in
-            slot q (2 + f) (omega arith) (λ here at. no_field m f (λ free. used (ap (λ k. place_word st.word k SLOT_SERIAL_WORD) here ∙ free)) (ap (λ k. map_of (place_word st.word k SLOT_TYPE_WORD) types) (sym here) ∙ is) few (sym at));
+            slot q (2 + f) (omega arith) (λ here at. no_field m f (λ free. used (ap (λ k. place_word st k SLOT_SERIAL_WORD) here ∙ free)) (ap (λ k. map_of (place_word st k SLOT_TYPE_WORD) types) (sym here) ∙ is) few (sym at));
       };
     })
 
 -- a word of a free slot, but for the serial
-pub graph_of-free_word : (types : List (ℕ × ℕ)) (st : Stored) (p j v : ℕ) → place_word st.word p SLOT_SERIAL_WORD ≡ 0 → SLOT_SERIAL_WORD < j → j < SLOT_WORDS → graph_of types (with_slot_word p j v st) ≡ graph_of types st
+pub graph_of-free_word : (types : List (ℕ × ℕ)) (st : Stored) (p j v : ℕ) → place_word st p SLOT_SERIAL_WORD ≡ 0 → SLOT_SERIAL_WORD < j → j < place_words st p → graph_of types (with_slot_word p j v st) ≡ graph_of types st
 graph_of-free_word types st p j v free low high = unread_slot types st p j v low high (λ within used at. used free) (λ m f used is few at. used free)
 
 -- a word of a slot behind its fields
-pub graph_of-behind : (types : List (ℕ × ℕ)) (st : Stored) (p m j v : ℕ) → map_of (place_word st.word p SLOT_TYPE_WORD) types ≡ Some m → SLOT_FIELDS_WORD + field_count m ≤ j → j < SLOT_WORDS → graph_of types (with_slot_word p j v st) ≡ graph_of types st
+pub graph_of-behind : (types : List (ℕ × ℕ)) (st : Stored) (p m j v : ℕ) → map_of (place_word st p SLOT_TYPE_WORD) types ≡ Some m → SLOT_FIELDS_WORD + field_count m ≤ j → j < place_words st p → graph_of types (with_slot_word p j v st) ≡ graph_of types st
 graph_of-behind types st p m j v defined behind high =
     unread_slot types st p j v (omega arith) high (λ within used at. absurd (omega arith))
     (λ other f used is few at. let same : field_count other ≡ field_count m = ap field_count (same_Some other m (sym is ∙ defined)) in absurd (omega arith))

@@ -1,5 +1,5 @@
 -- What is read of a pool over other words: its headers, its table of slots, and its graph.
-use Rattle.std.proofs.Common.{◌≡◌, ℕ, ◌+◌, ◌/◌, ◌%◌, ◌<◌, ◌≤◌, true, leb, List, map, length, Option, Some, None, nat_cmp, refl, sym, ap, ap₂, subst, ◌∙◌, ⊎_elim, arith, eq-eqb, ne_eqb}
+use Rattle.std.proofs.Common.{◌≡◌, ℕ, ◌+◌, ◌<◌, ◌≤◌, true, leb, List, map, length, Option, Some, None, nat_cmp, refl, sym, ap, ap₂, subst, ◌∙◌, ⊎_elim, arith, eq-eqb, ne_eqb}
 use Rattle.std.specs.Prelude.{slice_get}
 use Rattle.std.specs.List.{range_with_len}
 use Rattle.std.proofs.lemmas.Bool.{cases_eq, cond-true, cond-false, cond_both, and_left, and_right, and_from, leb-true, eqb-true}
@@ -7,20 +7,20 @@ use Rattle.std.proofs.lemmas.List.{same_lists}
 use Rattle.std.proofs.lemmas.List.FromFn.{get_or-map-range_with_len, length-map-range_with_len}
 use Rattle.std.proofs.lemmas.Option.{none-some, cond_some}
 use Rattle.pud_defs.specs.declared.layout.TheConstants.{MAX_FIELDS}
-use Rattle.pud_defs.specs.declared.space.TheConstants.{FRAME_SLOTS, FRAME_HEADER_WORDS, SLOT_WORDS, SLOT_FIELDS_WORD, NEXT_SERIAL_WORD, ROOT_WORD}
+use Rattle.pud_defs.specs.declared.space.TheConstants.{FRAME_HEADER_WORDS, SLOT_FIELDS_WORD, NEXT_SERIAL_WORD, ROOT_WORD}
 use Rattle.pud_defs.specs.declared.records.Puddle.{Puddle}
 use Rattle.pud_defs.specs.TypeMap.{map_fields}
+use Rattle.pud_defs.specs.Geometry.{ordinal_of}
 use Rattle.pud_defs.specs.Types.{map_of}
 use Rattle.pud_defs.specs.Keyed.{under}
-use Rattle.pud_defs.specs.Frames.{slot_at}
 use Rattle.pud_defs.specs.Headers.{is_header}
-use Rattle.pud_defs.specs.Stored.{Stored, places_of, place_word}
+use Rattle.pud_defs.specs.Stored.{Stored, places_of, place_word, place_begins, place_words}
 use Rattle.pud_defs.specs.Graph.{Content, Table, table_of, contents_by, content, field_count, pointee_at, placed, place_of, has_header, headers_fit, Graph, graph_by, graph_of}
 use Rattle.pud_defs.proofs.Spaces.{all_below-same}
 use Rattle.pud_defs.proofs.TypeLists.{same_test}
 use Rattle.pud_defs.proofs.Keyed.{first_from_some}
 use Rattle.pud_defs.proofs.Graphs.{under_serial-free, under_serial-used, IsGraph, graph_of-from}
-use Rattle.graph_laws.specs.Changes.{with_word, with_words}
+use Rattle.graph_laws.specs.Changes.{with_word, with_words, with_slot_word}
 use Rattle.graph_laws.proofs.TableChanges.{IsSameBut}
 
 -- ---- one word
@@ -36,20 +36,20 @@ with_word-other o k v word other at apart = ⊎_elim
 
 -- ---- one word of a slot
 
-module _ (p j v : ℕ) (word : ℕ → ℕ → ℕ) (few : j < SLOT_WORDS) where
-  abbrev slot_written : ℕ → ℕ → ℕ
-  slot_written = with_word (p / FRAME_SLOTS) (slot_at (p % FRAME_SLOTS) + j) v word
+module _ (p j v : ℕ) (st : Stored) (few : j < place_words st p) where
+  abbrev slot_written : Stored
+  slot_written = with_slot_word p j v st
 
   -- no word of a header changes
-  pub slot_word-header : (o k : ℕ) → k < FRAME_HEADER_WORDS → slot_written o k ≡ word o k
-  slot_word-header o k low = with_word-other _ _ v word o k (λ same at. absurd (omega arith))
+  pub slot_word-header : (o k : ℕ) → k < FRAME_HEADER_WORDS → slot_written.word o k ≡ st.word o k
+  slot_word-header o k low = with_word-other _ _ v st.word o k (λ same at. absurd (omega arith))
 
   pub slot_word-there : place_word slot_written p j ≡ v
-  slot_word-there = with_word-there (p / FRAME_SLOTS) (slot_at (p % FRAME_SLOTS) + j) v word
+  slot_word-there = with_word-there (ordinal_of p) (place_begins st p + j) v st.word
 
-  pub slot_word-other : (q k : ℕ) → k < SLOT_WORDS → (q ≡ p → k ≡ j → ⊥) → place_word slot_written q k ≡ place_word word q k
+  pub slot_word-other : (q k : ℕ) → k < place_words st q → (q ≡ p → k ≡ j → ⊥) → place_word slot_written q k ≡ place_word st q k
   slot_word-other q k low apart =
-      with_word-other _ _ v word (q / FRAME_SLOTS) (slot_at (q % FRAME_SLOTS) + k)
+      with_word-other _ _ v st.word (ordinal_of q) (place_begins st q + k)
       (λ same at. let here : q ≡ p = omega arith in let there : k ≡ j = omega arith in apart here there)
 
 -- ---- headers
@@ -79,37 +79,37 @@ map-range_same f g n same = same_lists _ _
 -- fields of which each stands for the same
 pub contents_by-each : (st later : Stored) (p : ℕ) (type : Option ℕ)
     → ((m f : ℕ) → type ≡ Some m → f < field_count m
-    → content later.puddles m p f (place_word later.word p (SLOT_FIELDS_WORD + f)) ≡ content st.puddles m p f (place_word st.word p (SLOT_FIELDS_WORD + f)))
+    → content later.puddles m p f (place_word later p (SLOT_FIELDS_WORD + f)) ≡ content st.puddles m p f (place_word st p (SLOT_FIELDS_WORD + f)))
     → contents_by later p type ≡ contents_by st p type
 contents_by-each st later p None same = refl
 contents_by-each st later p (Some m) same =
     ap (λ (cs : List Content). Some cs)
-    (map-range_same (λ f. content later.puddles m p f (place_word later.word p (SLOT_FIELDS_WORD + f))) (λ f. content st.puddles m p f (place_word st.word p (SLOT_FIELDS_WORD + f))) (field_count m)
+    (map-range_same (λ f. content later.puddles m p f (place_word later p (SLOT_FIELDS_WORD + f))) (λ f. content st.puddles m p f (place_word st p (SLOT_FIELDS_WORD + f))) (field_count m)
     (λ f below. same m f refl below))
 
 -- as they do over the same words
 pub contents_by-same : (st : Stored) (later : ℕ → ℕ → ℕ) (p : ℕ) (type : Option ℕ)
-    → ((m f : ℕ) → type ≡ Some m → f < field_count m → place_word later p (SLOT_FIELDS_WORD + f) ≡ place_word st.word p (SLOT_FIELDS_WORD + f))
+    → ((m f : ℕ) → type ≡ Some m → f < field_count m → place_word (with_words later st) p (SLOT_FIELDS_WORD + f) ≡ place_word st p (SLOT_FIELDS_WORD + f))
     → contents_by (with_words later st) p type ≡ contents_by st p type
 contents_by-same st later p type same = contents_by-each st (with_words later st) p type (λ m f is below. ap (content st.puddles m p f) (same m f is below))
 
 -- ---- the table
 
 -- one place may hold other words
-pub record KeepsOthers (word later : ℕ → ℕ → ℕ) (p : ℕ) : Type 0 where
-  pub each : (q k : ℕ) → (q ≡ p → ⊥) → k < SLOT_WORDS → place_word later q k ≡ place_word word q k
+pub record KeepsOthers (st : Stored) (later : ℕ → ℕ → ℕ) (p : ℕ) : Type 0 where
+  pub each : (q k : ℕ) → (q ≡ p → ⊥) → k < place_words st q → place_word (with_words later st) q k ≡ place_word st q k
 
-pub slot_word-others : (p j v : ℕ) (word : ℕ → ℕ → ℕ) → j < SLOT_WORDS → KeepsOthers word (with_word (p / FRAME_SLOTS) (slot_at (p % FRAME_SLOTS) + j) v word) p
-slot_word-others p j v word few = record { each = λ q k other low. slot_word-other p j v word few q k low (λ same at. other same) }
+pub slot_word-others : (p j v : ℕ) (st : Stored) → j < place_words st p → KeepsOthers st (with_word (ordinal_of p) (place_begins st p + j) v st.word) p
+slot_word-others p j v st few = record { each = λ q k other low. slot_word-other p j v st few q k low (λ same at. other same) }
 
-pub same_but : (types : List (ℕ × ℕ)) (st : Stored) (later : ℕ → ℕ → ℕ) (p : ℕ) → p < places_of st → KeepsOthers st.word later p → IsSameBut (table_of types st) (table_of types (with_words later st)) (places_of st) p
+pub same_but : (types : List (ℕ × ℕ)) (st : Stored) (later : ℕ → ℕ → ℕ) (p : ℕ) → p < places_of st → KeepsOthers st later p → IsSameBut (table_of types st) (table_of types (with_words later st)) (places_of st) p
 same_but types st later p within h = record {
   within = within;
   serial = λ q other. h.each q 0 other (omega arith);
   type_id = λ q below other used. h.each q 1 other (omega arith);
   contents = λ q below other used.
       ap (λ k. contents_by (with_words later st) q (map_of k types)) (h.each q 1 other (omega arith))
-      ∙ contents_by-same st later q (map_of (place_word st.word q 1) types) (λ m f is few. let most = few_fields m in h.each q (SLOT_FIELDS_WORD + f) other (omega arith));
+      ∙ contents_by-same st later q (map_of (place_word st q 1) types) (λ m f is few. let most = few_fields m in h.each q (SLOT_FIELDS_WORD + f) other (omega arith));
 }
 
 -- ---- a live place

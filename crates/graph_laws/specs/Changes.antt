@@ -1,10 +1,10 @@
 -- Which words are stored of a graph, and how they change.
-use Rattle.std.specs.Prelude.{◌≡◌, ℕ, ◌+◌, ◌/◌, ◌%◌, ◌<◌, ◌≤◌, ◌&&◌, ◌==◌, cond, List, map, slice_get, Some}
-use Rattle.pud_defs.specs.declared.space.TheConstants.{RANGE_BYTES, FRAME_SLOTS, SLOT_WORDS, SLOT_SERIAL_WORD, SLOT_TYPE_WORD, SLOT_FIELDS_WORD, NEXT_SERIAL_WORD, ROOT_WORD}
+use Rattle.std.specs.Prelude.{◌≡◌, ℕ, ◌+◌, ◌%◌, ◌<◌, ◌≤◌, ◌&&◌, ◌==◌, cond, List, map, slice_get, Some}
+use Rattle.pud_defs.specs.declared.space.TheConstants.{RANGE_BYTES, SLOT_SERIAL_WORD, SLOT_TYPE_WORD, SLOT_FIELDS_WORD, NEXT_SERIAL_WORD, ROOT_WORD}
 use Rattle.pud_defs.specs.declared.records.Puddle.{Puddle}
+use Rattle.pud_defs.specs.Geometry.{ordinal_of, slot_of}
 use Rattle.pud_defs.specs.Types.{map_of}
-use Rattle.pud_defs.specs.Frames.{slot_at}
-use Rattle.pud_defs.specs.Stored.{Stored, places_of, place_word}
+use Rattle.pud_defs.specs.Stored.{Stored, places_of, place_word, place_begins, place_words, IsFreePlace}
 use Rattle.pud_defs.specs.Graph.{slot_address, field_count, table_of, place_of, next_serial_of}
 
 -- ---- words
@@ -19,7 +19,7 @@ with_words word st = record { puddles = st.puddles; word = word }
 
 -- word j of the slot at a place
 abbrev pub with_slot_word : (p j v : ℕ) → Stored → Stored
-with_slot_word p j v st = with_words (with_word (p / FRAME_SLOTS) (slot_at (p % FRAME_SLOTS) + j) v st.word) st
+with_slot_word p j v st = with_words (with_word (ordinal_of p) (place_begins st p + j) v st.word) st
 
 -- its serial
 abbrev pub with_serial_word : (p v : ℕ) → Stored → Stored
@@ -27,7 +27,7 @@ with_serial_word p v st = with_slot_word p SLOT_SERIAL_WORD v st
 
 -- the word of field f of the slot at a place
 abbrev pub with_field_word : (p f v : ℕ) → Stored → Stored
-with_field_word p f v st = with_words (with_word (p / FRAME_SLOTS) (slot_at (p % FRAME_SLOTS) + SLOT_FIELDS_WORD + f) v st.word) st
+with_field_word p f v st = with_words (with_word (ordinal_of p) (place_begins st p + SLOT_FIELDS_WORD + f) v st.word) st
 
 -- the root pointer
 abbrev pub with_root_word : ℕ → Stored → Stored
@@ -45,24 +45,24 @@ pub record IsAddress (puddles : List Puddle) (ordinal step q v : ℕ) : Type 0 w
   pub here : slice_get puddles ordinal ≡ Some home
   pub rewritten : step < home.frontier
   pub away : Puddle
-  pub there : slice_get puddles (q / FRAME_SLOTS) ≡ Some away
-  pub address : v ≡ slot_address away.base (q % FRAME_SLOTS)
+  pub there : slice_get puddles (ordinal_of q) ≡ Some away
+  pub address : v ≡ slot_address away (slot_of q)
 
 -- ---- where words are stored
 
 -- The place is that of the object of serial s, whose type has map m, and that has a field f.
 pub record IsField (types : List (ℕ × ℕ)) (st : Stored) (s p m f : ℕ) : Type 0 where
   pub place : place_of s (table_of types st) (places_of st) ≡ Some p
-  pub defined : map_of (place_word st.word p SLOT_TYPE_WORD) types ≡ Some m
+  pub defined : map_of (place_word st p SLOT_TYPE_WORD) types ≡ Some m
   pub below : f < field_count m
 
 -- By these words a free slot holds a new object under the next serial, each of whose fields is 0, and the next serial is one more; all else is as it was.
 pub record IsMade (types : List (ℕ × ℕ)) (st : Stored) (word : ℕ → ℕ → ℕ) (p type_id m : ℕ) : Type 0 where
   pub within : p < places_of st
-  pub free : place_word st.word p SLOT_SERIAL_WORD ≡ 0
-  pub serial_word : place_word word p SLOT_SERIAL_WORD ≡ next_serial_of st
-  pub type_word : place_word word p SLOT_TYPE_WORD ≡ type_id
+  pub free : IsFreePlace st p
+  pub serial_word : place_word (with_words word st) p SLOT_SERIAL_WORD ≡ next_serial_of st
+  pub type_word : place_word (with_words word st) p SLOT_TYPE_WORD ≡ type_id
   pub defined : map_of type_id types ≡ Some m
-  pub fields : (f : ℕ) → f < field_count m → place_word word p (SLOT_FIELDS_WORD + f) ≡ 0
+  pub fields : (f : ℕ) → f < field_count m → place_word (with_words word st) p (SLOT_FIELDS_WORD + f) ≡ 0
   pub next_word : word 0 NEXT_SERIAL_WORD ≡ next_serial_of st + 1
-  pub others : (o k : ℕ) → (o ≡ p / FRAME_SLOTS → slot_at (p % FRAME_SLOTS) ≤ k → k < slot_at (p % FRAME_SLOTS) + SLOT_WORDS → ⊥) → (o ≡ 0 → k ≡ NEXT_SERIAL_WORD → ⊥) → word o k ≡ st.word o k
+  pub others : (o k : ℕ) → (o ≡ ordinal_of p → place_begins st p ≤ k → k < place_begins st p + place_words st p → ⊥) → (o ≡ 0 → k ≡ NEXT_SERIAL_WORD → ⊥) → word o k ≡ st.word o k

@@ -1,21 +1,23 @@
 -- What is read of a pool for its graph.
 use Rattle.std.specs.Prelude.{◌≡◌, ℕ, ◌+◌, ◌<◌, ◌≤◌, true, List, [], ◌∷◌, ◌++◌, length, slice_get, Some}
 use Rattle.pud_defs.specs.declared.layout.TheConstants.{FRAME_WORDS}
-use Rattle.pud_defs.specs.declared.space.TheConstants.{FRAME_SLOTS, FRAME_MAGIC_WORD, FRAME_NUMBER_WORD, FRAME_ORDINAL_WORD, NEXT_SERIAL_WORD, ROOT_WORD, SLOT_SERIAL_WORD, SLOT_TYPE_WORD, SLOT_FIELDS_WORD}
+use Rattle.pud_defs.specs.declared.space.TheConstants.{FRAME_MAGIC_WORD, FRAME_NUMBER_WORD, FRAME_ORDINAL_WORD, NEXT_SERIAL_WORD, ROOT_WORD, SLOT_SERIAL_WORD, SLOT_TYPE_WORD, SLOT_FIELDS_WORD}
 use Rattle.pud_defs.specs.declared.records.Puddle.{Puddle}
+use Rattle.pud_defs.specs.Geometry.{places_among}
 use Rattle.pud_defs.specs.Image.{Image}
 use Rattle.pud_defs.specs.Frames.{frame_word}
 use Rattle.pud_defs.specs.Types.{map_of}
 use Rattle.pud_defs.specs.Headers.{is_header}
-use Rattle.pud_defs.specs.Stored.{Stored, places_of, place_word}
+use Rattle.pud_defs.specs.Stored.{Stored, places_of, place_word, IsFreePlace, IsLivePlace}
 use Rattle.pud_defs.specs.Graph.{field_count}
+use Rattle.graph_laws.specs.Changes.{with_words}
 
 -- These words are as those that are stored wherever a place says what stands there: its serial, and where it is live its type and its fields.
 pub record KeepsSlots (types : List (ℕ × ℕ)) (st : Stored) (word : ℕ → ℕ → ℕ) : Type 0 where
-  pub serials : (p : ℕ) → p < places_of st → place_word word p SLOT_SERIAL_WORD ≡ place_word st.word p SLOT_SERIAL_WORD
-  pub type_ids : (p : ℕ) → p < places_of st → (place_word st.word p SLOT_SERIAL_WORD ≡ 0 → ⊥) → place_word word p SLOT_TYPE_WORD ≡ place_word st.word p SLOT_TYPE_WORD
-  pub fields : (p m f : ℕ) → p < places_of st → (place_word st.word p SLOT_SERIAL_WORD ≡ 0 → ⊥) → map_of (place_word st.word p SLOT_TYPE_WORD) types ≡ Some m → f < field_count m
-      → place_word word p (SLOT_FIELDS_WORD + f) ≡ place_word st.word p (SLOT_FIELDS_WORD + f)
+  pub serials : (p : ℕ) → p < places_of st → place_word (with_words word st) p SLOT_SERIAL_WORD ≡ place_word st p SLOT_SERIAL_WORD
+  pub type_ids : (p : ℕ) → p < places_of st → IsLivePlace st p → place_word (with_words word st) p SLOT_TYPE_WORD ≡ place_word st p SLOT_TYPE_WORD
+  pub fields : (p m f : ℕ) → p < places_of st → IsLivePlace st p → map_of (place_word st p SLOT_TYPE_WORD) types ≡ Some m → f < field_count m
+      → place_word (with_words word st) p (SLOT_FIELDS_WORD + f) ≡ place_word st p (SLOT_FIELDS_WORD + f)
 
 -- They are as those that are stored wherever they are read.
 pub record ReadsSame (types : List (ℕ × ℕ)) (st : Stored) (word : ℕ → ℕ → ℕ) : Type 0 where
@@ -37,7 +39,7 @@ pub record IsGrown (st : Stored) (d : Puddle) (word : ℕ → ℕ → ℕ) : Typ
   pub some : 0 < length st.puddles
   pub others : (o k : ℕ) → o < length st.puddles → word o k ≡ st.word o k
   pub header : is_header d.number (length st.puddles) (word (length st.puddles) FRAME_MAGIC_WORD) (word (length st.puddles) FRAME_NUMBER_WORD) (word (length st.puddles) FRAME_ORDINAL_WORD) ≡ true
-  pub free : (p : ℕ) → places_of st ≤ p → p < places_of st + FRAME_SLOTS → place_word word p SLOT_SERIAL_WORD ≡ 0
+  pub free : (p : ℕ) → places_of st ≤ p → p < places_of st + places_among 1 → IsFreePlace (with_puddle d word st) p
 
 -- ---- images
 

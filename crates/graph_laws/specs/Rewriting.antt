@@ -1,28 +1,31 @@
 -- A step of rewriting: the pointers at the frontier of a puddle are stored over the pool's bases, and the frontier is one more.
-use Rattle.std.specs.Prelude.{◌≡◌, ℕ, ◌+◌, ◌/◌, ◌%◌, ◌<◌, cond, List, map, set, slice_get, Option, Some, None, option_map}
-use Rattle.pud_defs.specs.declared.space.TheConstants.{FRAME_SLOTS, FRAME_HEADER_WORDS, SLOT_WORDS, SLOT_SERIAL_WORD, SLOT_TYPE_WORD, SLOT_FIELDS_WORD}
+use Rattle.std.specs.Prelude.{◌≡◌, ℕ, ◌+◌, ◌<◌, cond, List, map, set, slice_get, Option, Some, None, option_map}
+use Rattle.pud_defs.specs.declared.space.TheConstants.{FRAME_HEADER_WORDS, SLOT_SERIAL_WORD, SLOT_TYPE_WORD, SLOT_FIELDS_WORD}
 use Rattle.pud_defs.specs.declared.records.Puddle.{Puddle}
 use Rattle.pud_defs.specs.TypeMap.{is_pointer}
+use Rattle.pud_defs.specs.Geometry.{ordinal_of, slot_of}
 use Rattle.pud_defs.specs.Types.{map_of}
-use Rattle.pud_defs.specs.Stored.{Stored, place_word}
-use Rattle.pud_defs.specs.Graph.{Content, Number, Null, At, Nowhere, slot_address, target, field_count}
+use Rattle.pud_defs.specs.Stored.{Stored, place_word, place_words, IsLivePlace}
+use Rattle.pud_defs.specs.Graph.{Content, Number, Null, At, Nowhere, slot_address, target, over_old, field_count}
+use Rattle.graph_laws.specs.Changes.{with_words}
 
 -- ---- pointers
 
-abbrev pub base_of : Option Puddle → ℕ
-base_of None = 0
-base_of (Some d) = d.base
+-- the address of a slot of a puddle, where there is the puddle
+abbrev pub address_in : Option Puddle → (slot : ℕ) → ℕ
+address_in None slot = 0
+address_in (Some d) slot = slot_address d slot
 
 -- the word that stands for this over the pool's bases
 abbrev pub address_of : List Puddle → Content → ℕ
 address_of puddles (Number v) = 0
 address_of puddles Null = 0
-address_of puddles (At q) = slot_address (base_of (slice_get puddles (q / FRAME_SLOTS))) (q % FRAME_SLOTS)
+address_of puddles (At q) = address_in (slice_get puddles (ordinal_of q)) (slot_of q)
 address_of puddles Nowhere = 0
 
 -- a pointer over the old bases as it is over the pool's bases
 abbrev pub rewritten : List Puddle → ℕ → ℕ
-rewritten puddles v = address_of puddles (target (map (λ d. d.old_base) puddles) v)
+rewritten puddles v = address_of puddles (target (map over_old puddles) v)
 
 -- the word of a field as it is over the pool's bases
 abbrev pub rewritten_field : List Puddle → (map field v : ℕ) → ℕ
@@ -48,8 +51,8 @@ stepped o n word st = record { puddles = with_frontier o (n + 1) st.puddles; wor
 -- By these words the pointers of the slot at a place are over the pool's bases, and all else is as it was.
 pub record RewritesSlot (types : List (ℕ × ℕ)) (st : Stored) (word : ℕ → ℕ → ℕ) (p : ℕ) : Type 0 where
   pub headers : (o k : ℕ) → k < FRAME_HEADER_WORDS → word o k ≡ st.word o k
-  pub others : (q k : ℕ) → (q ≡ p → ⊥) → k < SLOT_WORDS → place_word word q k ≡ place_word st.word q k
-  pub serial : place_word word p SLOT_SERIAL_WORD ≡ place_word st.word p SLOT_SERIAL_WORD
-  pub type_id : (place_word st.word p SLOT_SERIAL_WORD ≡ 0 → ⊥) → place_word word p SLOT_TYPE_WORD ≡ place_word st.word p SLOT_TYPE_WORD
-  pub fields : (m f : ℕ) → (place_word st.word p SLOT_SERIAL_WORD ≡ 0 → ⊥) → map_of (place_word st.word p SLOT_TYPE_WORD) types ≡ Some m → f < field_count m
-      → place_word word p (SLOT_FIELDS_WORD + f) ≡ rewritten_field st.puddles m f (place_word st.word p (SLOT_FIELDS_WORD + f))
+  pub others : (q k : ℕ) → (q ≡ p → ⊥) → k < place_words st q → place_word (with_words word st) q k ≡ place_word st q k
+  pub serial : place_word (with_words word st) p SLOT_SERIAL_WORD ≡ place_word st p SLOT_SERIAL_WORD
+  pub type_id : IsLivePlace st p → place_word (with_words word st) p SLOT_TYPE_WORD ≡ place_word st p SLOT_TYPE_WORD
+  pub fields : (m f : ℕ) → IsLivePlace st p → map_of (place_word st p SLOT_TYPE_WORD) types ≡ Some m → f < field_count m
+      → place_word (with_words word st) p (SLOT_FIELDS_WORD + f) ≡ rewritten_field st.puddles m f (place_word st p (SLOT_FIELDS_WORD + f))

@@ -2,14 +2,15 @@
 
 ghost use Rattle.std.specs.Prelude.{◌≡◌, ◌↔◌, ◌+◌, ◌*◌, ◌/◌, ◌%◌, ◌<◌, ◌≤◌, ℕ, true, false, List, length, map, slice_get, slice_index, Option, option_map};
 ghost use Rattle.pud_defs.specs.declared.layout.TheConstants.{FRAME_WORDS, NUMBER_LIMIT};
-ghost use Rattle.pud_defs.specs.declared.space.TheConstants.{FRAME_SLOTS, FRAME_HEADER_WORDS, FRAME_ORDINAL_WORD, ROOT_WORD, SLOT_WORDS, SLOT_SERIAL_WORD, SLOT_TYPE_WORD, SLOT_FIELDS_WORD};
+ghost use Rattle.pud_defs.specs.declared.space.TheConstants.{FRAME_HEADER_WORDS, FRAME_ORDINAL_WORD, ROOT_WORD, SLOT_SERIAL_WORD, SLOT_TYPE_WORD, SLOT_FIELDS_WORD};
 ghost use Rattle.pud_defs.specs.declared.records.Puddle.{Puddle};
 ghost use Rattle.pud_defs.specs.declared.objects.Val.TheVariants.{Num, Ref};
 ghost use Rattle.pud_defs.specs.TypeMap.{is_pointer};
+ghost use Rattle.pud_defs.specs.Geometry.{ordinal_of, slot_of};
 ghost use Rattle.pud_defs.specs.Types.{map_of, with_type};
 ghost use Rattle.pud_defs.specs.Image.{Image, written};
 ghost use Rattle.pud_defs.specs.Frames.{frame_at, fresh_frame};
-ghost use Rattle.pud_defs.specs.Stored.{Stored, stored_in, places_of, place_word};
+ghost use Rattle.pud_defs.specs.Stored.{Stored, stored_in, places_of, place_word, place_words, IsFreePlace};
 ghost use Rattle.pud_defs.specs.Graph.{Graph, table_of, place_of, object_at, field_count, object_in, next_serial_of, is_held, graph_of, empty_graph};
 ghost use Rattle.pud_defs.specs.GraphChanges.{blank_object, with_field, with_new, without_object, with_root};
 ghost use Rattle.graph_laws.specs.Changes.{with_word, with_words, with_slot_word, with_field_word, with_serial_word, with_root_word, AreBases, IsAddress, IsField, IsMade};
@@ -49,7 +50,7 @@ pub fn stored_zero_is_null()
 /// frontier is past the field's slot.
 pub fn stored_address_names_the_object()
     ensures { (types : List (ℕ × ℕ)) (st : Stored) (g : Graph) (s : ℕ) (p : ℕ) (m : ℕ) (f : ℕ) (v : ℕ) (r : ℕ) (q : ℕ) → graph_of types st ≡ Option.Some g → IsField types st s p m f → is_pointer m f ≡ true
-        → place_of r (table_of types st) (places_of st) ≡ Option.Some q → IsAddress st.puddles (p / FRAME_SLOTS) (p % FRAME_SLOTS + 1) q v
+        → place_of r (table_of types st) (places_of st) ≡ Option.Some q → IsAddress st.puddles (ordinal_of p) (slot_of p + 1) q v
         → graph_of types (with_field_word p f v st) ≡ Option.Some (with_field s f (Ref r) g) }
 {}
 
@@ -102,13 +103,13 @@ pub fn other_header_words_are_not_read()
 
 /// Of a free slot the serial alone is read.
 pub fn other_words_of_a_free_slot_are_not_read()
-    ensures { (types : List (ℕ × ℕ)) (st : Stored) (p : ℕ) (j : ℕ) (v : ℕ) → place_word st.word p SLOT_SERIAL_WORD ≡ 0 → SLOT_SERIAL_WORD < j → j < SLOT_WORDS
+    ensures { (types : List (ℕ × ℕ)) (st : Stored) (p : ℕ) (j : ℕ) (v : ℕ) → IsFreePlace st p → SLOT_SERIAL_WORD < j → j < place_words st p
         → graph_of types (with_slot_word p j v st) ≡ graph_of types st }
 {}
 
 /// Behind the fields of its type no word of a slot is read.
 pub fn words_behind_the_fields_are_not_read()
-    ensures { (types : List (ℕ × ℕ)) (st : Stored) (p : ℕ) (m : ℕ) (j : ℕ) (v : ℕ) → map_of (place_word st.word p SLOT_TYPE_WORD) types ≡ Option.Some m → SLOT_FIELDS_WORD + field_count m ≤ j → j < SLOT_WORDS
+    ensures { (types : List (ℕ × ℕ)) (st : Stored) (p : ℕ) (m : ℕ) (j : ℕ) (v : ℕ) → map_of (place_word st p SLOT_TYPE_WORD) types ≡ Option.Some m → SLOT_FIELDS_WORD + field_count m ≤ j → j < place_words st p
         → graph_of types (with_slot_word p j v st) ≡ graph_of types st }
 {}
 
@@ -133,8 +134,8 @@ pub fn fresh_puddle_behind_others_makes_no_graph()
 /// A slot whose pointers are rewritten as the frontier passes it holds the same object.
 pub fn rewritten_slot_keeps_the_graph()
     ensures { (types : List (ℕ × ℕ)) (st : Stored) (g : Graph) (word : ℕ → ℕ → ℕ) (p : ℕ) (home : Puddle) → graph_of types st ≡ Option.Some g → AreBases (map (λ d. d.base) st.puddles)
-        → slice_get st.puddles (p / FRAME_SLOTS) ≡ Option.Some home → home.frontier ≡ p % FRAME_SLOTS + 1 → RewritesSlot types st word p
-        → graph_of types (stepped (p / FRAME_SLOTS) (p % FRAME_SLOTS + 1) word st) ≡ Option.Some g }
+        → slice_get st.puddles (ordinal_of p) ≡ Option.Some home → home.frontier ≡ slot_of p + 1 → RewritesSlot types st word p
+        → graph_of types (stepped (ordinal_of p) (slot_of p + 1) word st) ≡ Option.Some g }
 {}
 
 /// A root that is rewritten as the frontier passes it is the same root.

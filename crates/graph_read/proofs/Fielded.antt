@@ -1,5 +1,5 @@
 -- What the fields of a slot are, word by word.
-use Rattle.std.proofs.Common.{◌≡◌, ℕ, ◌+◌, ◌*◌, ◌/◌, ◌%◌, ◌<◌, ◌≤◌, Bool, true, false, eqb, leb, cond, List, [], map, zero-le, Option, Some, None, option_map, refl, ap, ap₂, ◌∙◌, arith}
+use Rattle.std.proofs.Common.{◌≡◌, ℕ, ◌+◌, ◌<◌, ◌≤◌, Bool, true, false, eqb, leb, cond, List, [], map, zero-le, Option, Some, None, option_map, refl, ap, ap₂, ◌∙◌, arith}
 use Rattle.std.specs.Prelude.{slice_get}
 use Rattle.std.specs.List.{range_with_len}
 use Rattle.std.proofs.lemmas.Bool.{cond-true, le-leb}
@@ -7,11 +7,12 @@ use Rattle.std.proofs.lemmas.Option.{slice_get-map, slice_get-get_or, slice_get_
 use Rattle.std.proofs.lemmas.List.FromFn.{get_or-range_with_len, length-range_with_len}
 use Rattle.std.proofs.lemmas.List.{length-map}
 use Rattle.pud_defs.specs.declared.layout.TheConstants.{MAX_FIELDS}
-use Rattle.pud_defs.specs.declared.space.TheConstants.{FRAME_SLOTS, SLOT_TYPE_WORD, SLOT_FIELDS_WORD}
+use Rattle.pud_defs.specs.declared.space.TheConstants.{SLOT_TYPE_WORD, SLOT_FIELDS_WORD}
 use Rattle.pud_defs.specs.declared.objects.Val.TheVariants.{Num, Ref}
 use Rattle.pud_defs.specs.declared.objects.Pointee.TheVariants as pointees
 use Rattle.pud_defs.specs.declared.records.Puddle.{Puddle}
 use Rattle.pud_defs.specs.declared.records.Slot.{Slot}
+use Rattle.pud_defs.specs.Geometry.{puddle_slots, ordinal_of, slot_of, place_at}
 use Rattle.pud_defs.specs.Image.{Image}
 use Rattle.pud_defs.specs.TypeMap.{map_fields, is_pointer}
 use Rattle.pud_defs.specs.Types.{types_of, map_of}
@@ -37,19 +38,19 @@ unfolding target
 pointer_value serial puddles ordinal step v = place_named serial (eqb v 0) _
 
 -- what a pointer names by the slot to which it leads
-pub named-at : (serial : ℕ → ℕ) (c : Content) (o s : ℕ) → pointee_of c ≡ Some (pointees.At o s) → named_by serial c ≡ serial (FRAME_SLOTS * o + s)
+pub named-at : (serial : ℕ → ℕ) (c : Content) (o s : ℕ) → pointee_of c ≡ Some (pointees.At o s) → named_by serial c ≡ serial (place_at o s)
 named-at serial (Number v) o s is = absurd (none-some (pointees.At o s) is)
 named-at serial Null o s is = absurd (let no : Some pointees.Null ≡ Some (pointees.At o s) = is in cc)
 named-at serial (At p) o s is =
-    let same : Some (pointees.At (p / FRAME_SLOTS) (p % FRAME_SLOTS)) ≡ Some (pointees.At o s) = is in
-    let ordinal : p / FRAME_SLOTS ≡ o = cc in
-    let slot : p % FRAME_SLOTS ≡ s = cc in
-    let place : p ≡ FRAME_SLOTS * o + s = omega arith in
+    let same : Some (pointees.At (ordinal_of p) (slot_of p)) ≡ Some (pointees.At o s) = is in
+    let ordinal : ordinal_of p ≡ o = cc in
+    let slot : slot_of p ≡ s = cc in
+    let place : p ≡ place_at o s = omega arith in
     ap serial place
 named-at serial Nowhere o s is = absurd (none-some (pointees.At o s) is)
 
 -- the value of a field by its slot
-pub value_at-slot : (serial : ℕ → ℕ) (puddles : List Puddle) (m f v : ℕ) (s : Slot) → s.slot < FRAME_SLOTS
+pub value_at-slot : (serial : ℕ → ℕ) (puddles : List Puddle) (m f v : ℕ) (s : Slot) → s.slot < puddle_slots
     → value_of serial (content puddles m (place_of_slot s) f v) ≡ cond (is_pointer m f) (Ref (named_by serial (pointee_at puddles s.ordinal (s.slot + 1) v))) (Num v)
 value_at-slot serial puddles m f v s below =
     ap₂ (λ (o i : ℕ). value_of serial (cond (is_pointer m f) (pointee_at puddles o (i + 1) v) (Number v))) (place_ordinal s.ordinal s.slot below) (place_slot s.ordinal s.slot below)
@@ -81,7 +82,7 @@ module _ (F : ℕ) (at : List (ℕ × Puddle)) (image : Image) (p f : ℕ) where
   stored = stored_in F at image
 
   abbrev type_map : Option ℕ
-  type_map = map_of (place_word stored.word p SLOT_TYPE_WORD) (types_of image)
+  type_map = map_of (place_word stored p SLOT_TYPE_WORD) (types_of image)
 
   abbrev read_at : FieldRead
   read_at = read_by (Some (object_at (table_in F at image) p)) f
@@ -98,5 +99,5 @@ module _ (F : ℕ) (at : List (ℕ × Puddle)) (image : Image) (p f : ℕ) where
   field-past m is below past = ap read_with is ∙ ap read_value (not_listed _ _ (field_count m) f (no_more m f below past))
 
   pub field-there : (m : ℕ) → type_map ≡ Some m → f < MAX_FIELDS → f < map_fields m
-      → read_at ≡ Value (value_of (table_in F at image).serial (content (map (λ e. e.1) at) m p f (place_word stored.word p (SLOT_FIELDS_WORD + f))))
+      → read_at ≡ Value (value_of (table_in F at image).serial (content (map (λ e. e.1) at) m p f (place_word stored p (SLOT_FIELDS_WORD + f))))
   field-there m is below within = ap read_with is ∙ ap read_value (listed _ _ (field_count m) f (one_of m f below within))

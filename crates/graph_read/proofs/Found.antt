@@ -1,13 +1,13 @@
 -- The search for a serial, place by place, and what a graph has under it.
-use Rattle.std.proofs.Common.{◌≡◌, ℕ, zero, suc, ◌+◌, ◌-◌, ◌*◌, ◌<◌, ◌≤◌, eqb, nat_cmp, cond, List, Option, Some, None, is_none, option_map, true, false, refl, sym, ap, ap₂, ◌∙◌, arith, ⊎_elim, eq-eqb, ne_eqb}
+use Rattle.std.proofs.Common.{◌≡◌, ℕ, zero, suc, ◌+◌, ◌-◌, ◌<◌, ◌≤◌, eqb, nat_cmp, cond, List, Option, Some, None, is_none, option_map, true, false, refl, sym, ap, ap₂, ◌∙◌, arith, ⊎_elim, eq-eqb, ne_eqb, not}
 use Rattle.std.specs.Ordering.{eq_by_cmp}
 use Rattle.std.specs.Option.{option_or}
 use Rattle.std.proofs.lemmas.Bool.{cases_eq, cond-true, cond-false}
 use Rattle.std.proofs.lemmas.Cmp.{nat_cmp_total}
 use Rattle.std.proofs.lemmas.List.{length-map}
 use Rattle.std.proofs.lemmas.Option.{cond_some}
-use Rattle.pud_defs.specs.declared.space.TheConstants.{FRAME_SLOTS}
 use Rattle.pud_defs.specs.declared.records.Puddle.{Puddle}
+use Rattle.pud_defs.specs.Geometry.{places_among}
 use Rattle.pud_defs.specs.Image.{Image}
 use Rattle.pud_defs.specs.Keyed.{first_from, under}
 use Rattle.pud_defs.specs.Types.{types_of}
@@ -15,6 +15,7 @@ use Rattle.pud_defs.specs.Stored.{Stored, stored_in, places_of}
 use Rattle.pud_defs.specs.Graph.{Table, under_serial, placed, place_of, object_at, live, Graph, has_graph, graph_stored, graph_of, object_in}
 use Rattle.pud_defs.proofs.Keyed.{find-keyed, first_from_here, first_from_other, first_from_end, first_from_none}
 use Rattle.pud_defs.proofs.TypeLists.{same_test}
+use Rattle.pud_defs.proofs.Graphs.{under_serial-free, under_serial-used}
 use Rattle.graph_read.specs.Reading.{table_in, place_in_pool}
 
 -- ---- place by place
@@ -30,13 +31,13 @@ place_from-start t n s = ap (first_from nat_cmp s (placed t) 0) (let e : n ≡ n
 under_other : {A : Type 0} (serial : ℕ → ℕ) (value : ℕ → A) (s p : ℕ) → (serial p ≡ s → ⊥) → under nat_cmp s (under_serial serial value p) ≡ None
 under_other {A} serial value s p other =
     ⊎_elim
-    (λ free. ap (under nat_cmp s) (cond-true _ _ _ (eq-eqb (serial p) 0 free)))
-    (λ used. ap (under nat_cmp s) (cond-false _ _ _ (ne_eqb (serial p) 0 used)) ∙ cond-false _ _ _ (same_test s (serial p) ∙ ne_eqb _ _ (λ e. other (sym e))))
+    (λ free. ap (under nat_cmp s) (under_serial-free serial value p free))
+    (λ used. ap (under nat_cmp s) (under_serial-used serial value p used) ∙ cond-false _ _ _ (same_test s (serial p) ∙ ne_eqb _ _ (λ e. other (sym e))))
     (cases_eq (serial p) 0)
 
 under_here : {A : Type 0} (serial : ℕ → ℕ) (value : ℕ → A) (s p : ℕ) → 0 < s → serial p ≡ s → under nat_cmp s (under_serial serial value p) ≡ Some (value p)
 under_here {A} serial value s p above here =
-    ap (under nat_cmp s) (cond-false _ _ _ (ne_eqb (serial p) 0 (λ free. absurd (omega arith))))
+    ap (under nat_cmp s) (under_serial-used serial value p (λ free. absurd (omega arith)))
     ∙ cond-true _ _ _ (same_test s (serial p) ∙ eq-eqb _ _ (sym here))
 
 pub place_from-here : (t : Table) (n s i : ℕ) → 0 < s → i < n → t.serial i ≡ s → place_from t n s i ≡ Some i
@@ -54,7 +55,7 @@ place_from-end t n s i past = first_from_end nat_cmp s (placed t) i n past
 free_under : {A : Type 0} (serial : ℕ → ℕ) (value : ℕ → A) (p : ℕ) → under nat_cmp 0 (under_serial serial value p) ≡ None
 free_under {A} serial value p =
     ⊎_elim
-    (λ free. ap (under nat_cmp 0) (cond-true _ _ _ (eq-eqb (serial p) 0 free)))
+    (λ free. ap (under nat_cmp 0) (under_serial-free serial value p free))
     (λ used. under_other serial value 0 p used)
     (cases_eq (serial p) 0)
 
@@ -68,7 +69,7 @@ under-valued : {A : Type 0} (serial : ℕ → ℕ) (value : ℕ → A) (s p : �
 under-valued {A} serial value s p =
     let at : (v : ℕ) → under nat_cmp s (Some (v, value p)) ≡ option_map value (under nat_cmp s (Some (v, p))) = λ v.
     elim (eq_by_cmp nat_cmp s v) as (λ b. cond b (Some (value p)) None ≡ option_map value (cond b (Some p) None)) [ true ↦ refl | false ↦ refl ] in
-    elim (eqb (serial p) 0) as (λ b. under nat_cmp s (cond b None (Some (serial p, value p))) ≡ option_map value (under nat_cmp s (cond b None (Some (serial p, p))))) [ true ↦ refl | false ↦ at (serial p) ]
+    elim (eqb (serial p) 0) as (λ b. under nat_cmp s (cond (not b) (Some (serial p, value p)) None) ≡ option_map value (under nat_cmp s (cond (not b) (Some (serial p, p)) None))) [ true ↦ refl | false ↦ at (serial p) ]
 
 map_either : {A B : Type 0} (f : A → B) (o later : Option A) → option_or (option_map f o) (option_map f later) ≡ option_map f (option_or o later)
 map_either f None later = refl
@@ -95,7 +96,7 @@ object_in-place F at image g s is =
     ap (object_in s) (graph_is (types_of image) (stored_in F at image) g is)
     ∙ find-keyed nat_cmp nat_cmp_total s (live t) 0 n
     ∙ first_from-valued t.serial (object_at t) s 0 n
-    ∙ ap (λ n. option_map (object_at t) (place_of s t (FRAME_SLOTS * n))) (length-map at (λ (e : ℕ × Puddle). e.1))
+    ∙ ap (λ n. option_map (object_at t) (place_of s t (places_among n))) (length-map at (λ (e : ℕ × Puddle). e.1))
 
 is_none-map : {A B : Type 0} (f : A → B) (o : Option A) → is_none o ≡ is_none (option_map f o)
 is_none-map f None = refl

@@ -88,12 +88,12 @@ spared_contents s serial (Some contents) = spared_fields s serial contents
 spared_place : (s : ℕ) (t : Table) (p : ℕ) → not (passes_there (names s) (live t p)) ≡ place_passes (Spares s) t p
 spared_place s t p =
     elim (eqb (t.serial p) 0)
-    as (λ b. not (passes_there (names s) (cond b None (Some (t.serial p, object_at t p)))) ≡ (b || contents_pass (Spares s) t.serial (t.contents p))) [ true ↦ refl | false ↦ spared_contents s t.serial (t.contents p) ]
+    as (λ b. not (passes_there (names s) (cond (not b) (Some (t.serial p, object_at t p)) None)) ≡ (b || contents_pass (Spares s) t.serial (t.contents p))) [ true ↦ refl | false ↦ spared_contents s t.serial (t.contents p) ]
 
 same_keys : (t : Table) (p : ℕ) → option_map (λ (e : ℕ × ℕ). e.0) (placed t p) ≡ option_map (λ (e : ℕ × Object). e.0) (live t p)
 same_keys t p =
     elim (eqb (t.serial p) 0)
-    as (λ b. option_map (λ (e : ℕ × ℕ). e.0) (cond b None (Some (t.serial p, p))) ≡ option_map (λ (e : ℕ × Object). e.0) (cond b None (Some (t.serial p, object_at t p)))) [ true ↦ refl | false ↦ refl ]
+    as (λ b. option_map (λ (e : ℕ × ℕ). e.0) (cond (not b) (Some (t.serial p, p)) None) ≡ option_map (λ (e : ℕ × Object). e.0) (cond (not b) (Some (t.serial p, object_at t p)) None)) [ true ↦ refl | false ↦ refl ]
 
 -- an object names the serial where a slot does
 any_names : (s : ℕ) (t : Table) (n : ℕ) → are_distinct nat_cmp (placed t) 0 n ≡ true → not (all_below n (place_passes (Spares s) t)) ≡ list_any (names s) (keyed nat_cmp (live t) 0 n)

@@ -1,5 +1,5 @@
 -- What a pool stores is judged: its headers, its serials, and all of it together.
-use Rattle.std.proofs.Common.{◌≡◌, ◌≢◌, ℕ, zero, suc, ◌+◌, ◌-◌, ◌*◌, ◌<◌, ◌≤◌, Bool, true, false, not, ◌&&◌, ◌||◌, cond, eqb, ltb, nat_cmp, List, [], ◌∷◌, map, length, get_or, take, drop, slice_get, slice_index, Option, Some, None, is_some, option_map, eq-eqb, eqb-true, ne_eqb, inl, inr, refl, sym, ap, ap₂, ◌∙◌, arith, add-one, drop-cons}
+use Rattle.std.proofs.Common.{◌≡◌, ◌≢◌, ℕ, zero, suc, ◌+◌, ◌-◌, ◌<◌, ◌≤◌, Bool, true, false, not, ◌&&◌, ◌||◌, cond, eqb, ltb, nat_cmp, List, [], ◌∷◌, map, length, get_or, take, drop, slice_get, slice_index, Option, Some, None, is_some, option_map, eq-eqb, eqb-true, ne_eqb, inl, inr, refl, sym, ap, ap₂, ◌∙◌, arith, add-one, drop-cons}
 use Rattle.std.specs.List.{list_any}
 use Rattle.std.proofs.lemmas.Bool.{cases_eq}
 use Rattle.std.proofs.lemmas.Bool.Decides.{nat_tests}
@@ -9,8 +9,9 @@ use Rattle.pud_defs.proofs.DistinctKeys.{some_or, none_by_some, some_under}
 use Rattle.puddle_header.proofs.Fits.{is_header-words}
 use Rattle.puddle_header.proofs.Placed.{stored_word}
 use Rattle.pud_defs.specs.declared.layout.TheConstants.{FRAME_WORDS}
-use Rattle.pud_defs.specs.declared.space.TheConstants.{FRAME_MAGIC_WORD, FRAME_NUMBER_WORD, FRAME_ORDINAL_WORD, ROOT_WORD, FRAME_SLOTS}
+use Rattle.pud_defs.specs.declared.space.TheConstants.{FRAME_MAGIC_WORD, FRAME_NUMBER_WORD, FRAME_ORDINAL_WORD, ROOT_WORD}
 use Rattle.pud_defs.specs.declared.records.Puddle.{Puddle}
+use Rattle.pud_defs.specs.Geometry.{places_among}
 use Rattle.pud_defs.specs.Image.{Image}
 use Rattle.pud_defs.specs.Frames.{frame_word}
 use Rattle.pud_defs.specs.Headers.{is_header}
@@ -59,8 +60,8 @@ turned a b = grind (arith, nat_tests)
 -- whether a place has this serial
 under_here : (f : ℕ → ℕ) (s p : ℕ) → s ≢ 0 → is_some (under nat_cmp s (under_serial f (λ q. q) p)) ≡ eqb (f p) s
 under_here f s p live = elim (cases_eq (f p) 0) [
-  | inl free ↦ ap (λ b. is_some (under nat_cmp s (cond b None (Some (f p, p))))) (eq-eqb _ _ free) ∙ sym (ne_eqb (f p) s (λ e. live (sym e ∙ free)))
-  | inr used ↦ ap (λ b. is_some (under nat_cmp s (cond b None (Some (f p, p))))) (ne_eqb _ _ used) ∙ some_under s (f p) p ∙ turned s (f p)
+  | inl free ↦ ap (λ b. is_some (under nat_cmp s (cond (not b) (Some (f p, p)) None))) (eq-eqb _ _ free) ∙ sym (ne_eqb (f p) s (λ e. live (sym e ∙ free)))
+  | inr used ↦ ap (λ b. is_some (under nat_cmp s (cond (not b) (Some (f p, p)) None))) (ne_eqb _ _ used) ∙ some_under s (f p) p ∙ turned s (f p)
 ]
 
 -- the serial stands in a part of the list where it stands at a place of that part
@@ -83,7 +84,7 @@ pub is_apart-live : (xs : List ℕ) (place n : ℕ) → slice_index xs place ≢
 is_apart-live xs place n live within =
     ap not (listed xs (slice_index xs place) (place + 1) n live within)
     ∙ sym (none_by_some (first_from nat_cmp (slice_index xs place) (under_serial (slice_index xs) (λ p. p)) (place + 1) n))
-    ∙ sym (ap (λ b. is_apart nat_cmp (cond b None (Some (slice_index xs place, place))) (under_serial (slice_index xs) (λ p. p)) (place + 1) n) (ne_eqb _ _ live))
+    ∙ sym (ap (λ b. is_apart nat_cmp (cond (not b) (Some (slice_index xs place, place)) None) (under_serial (slice_index xs) (λ p. p)) (place + 1) n) (ne_eqb _ _ live))
 
 pub are_distinct-step : (f : ℕ → Option (ℕ × ℕ)) (from end : ℕ) → from < end
     → are_distinct nat_cmp f from (end - from) ≡ (is_apart nat_cmp (f from) f (from + 1) (end - (from + 1)) && are_distinct nat_cmp f (from + 1) (end - (from + 1)))
@@ -136,8 +137,8 @@ pub root_read : (F : ℕ) (at : List (ℕ × Puddle)) (image : Image) (v : ℕ) 
     → content_of (pointee_of (pointee_at (map (λ e. e.1) at) 0 0 v)) ≡ root_of (stored_in F at image)
 root_read F at image v some is = pointee_read (map (λ e. e.1) at) 0 0 v ∙ ap (pointee_at (map (λ e. e.1) at) 0 0) (is ∙ first_word F at image ROOT_WORD some (omega arith))
 
-pub same_places : (F : ℕ) (at : List (ℕ × Puddle)) (image : Image) → FRAME_SLOTS * length at ≡ places_of (stored_in F at image)
-same_places F at image = ap (λ n. FRAME_SLOTS * n) (sym (length-map at (λ (e : ℕ × Puddle). e.1)))
+pub same_places : (F : ℕ) (at : List (ℕ × Puddle)) (image : Image) → places_among (length at) ≡ places_of (stored_in F at image)
+same_places F at image = ap (λ n. places_among n) (sym (length-map at (λ (e : ℕ × Puddle). e.1)))
 
 -- a pool without puddles stores none
 pub none_without_puddles : (types : List (ℕ × ℕ)) (F : ℕ) (at : List (ℕ × Puddle)) (image : Image) → eqb (length at) 0 ≡ true → graph_of types (stored_in F at image) ≡ None

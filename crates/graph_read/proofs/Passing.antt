@@ -1,11 +1,12 @@
 -- What is asked of a slot, field by field.
-use Rattle.std.proofs.Common.{◌≡◌, ◌≢◌, ℕ, zero, suc, ◌+◌, ◌*◌, ◌/◌, ◌%◌, Bool, true, false, ◌&&◌, ◌||◌, List, [], ◌∷◌, map, Option, Some, None, cond, eqb, min, slice_get, refl, sym, ap, ap₂, ◌∙◌, arith, add-one, eq-eqb, ne_eqb}
+use Rattle.std.proofs.Common.{◌≡◌, ◌≢◌, ℕ, zero, suc, ◌+◌, Bool, true, false, ◌&&◌, ◌||◌, List, [], ◌∷◌, map, Option, Some, None, cond, eqb, min, slice_get, refl, sym, ap, ap₂, ◌∙◌, arith, add-one, eq-eqb, ne_eqb}
 use Rattle.std.specs.List.{list_all, range_with_len}
 use Rattle.std.proofs.lemmas.List.Folds.{list_all-append}
 use Rattle.std.proofs.lemmas.List.FromFn.{map-range_with_len_more}
-use Rattle.pud_defs.specs.declared.space.TheConstants.{FRAME_SLOTS, SLOT_FIELDS_WORD}
+use Rattle.pud_defs.specs.declared.space.TheConstants.{SLOT_FIELDS_WORD}
 use Rattle.pud_defs.specs.declared.records.Puddle.{Puddle}
-use Rattle.pud_defs.specs.Graph.{Null, At, Nowhere, Table, content, contents_by, field_count, target, place_in, at_place, bases_by, pointee_at}
+use Rattle.pud_defs.specs.Geometry.{ordinal_of, slot_of, place_at}
+use Rattle.pud_defs.specs.Graph.{Null, At, Nowhere, Table, content, contents_by, field_count, target, place_in, at_place, puddles_by, pointee_at}
 use Rattle.pud_defs.specs.TypeMap.{map_fields}
 use Rattle.std.proofs.lemmas.Bool.Decides.{nat_tests}
 use Rattle.pud_defs.specs.declared.layout.TheConstants.{MAX_FIELDS}
@@ -17,10 +18,10 @@ use Rattle.graph_read.specs.Asking.{content_of, passes, serial_passes, contents_
 
 -- a field of the slot at a place passes
 abbrev pub field_passes : Asked → (ℕ → ℕ) → Stored → (place type_map f : ℕ) → Bool
-field_passes asked serial st place type_map f = passes asked serial (content st.puddles type_map place f (place_word st.word place (SLOT_FIELDS_WORD + f)))
+field_passes asked serial st place type_map f = passes asked serial (content st.puddles type_map place f (place_word st place (SLOT_FIELDS_WORD + f)))
 
 -- the same by the word that was read
-pub field_passes-read : (asked : Asked) (serial : ℕ → ℕ) (st : Stored) (place type_map f v : ℕ) (pass : Bool) → v ≡ place_word st.word place (SLOT_FIELDS_WORD + f)
+pub field_passes-read : (asked : Asked) (serial : ℕ → ℕ) (st : Stored) (place type_map f v : ℕ) (pass : Bool) → v ≡ place_word st place (SLOT_FIELDS_WORD + f)
     → pass ≡ passes asked serial (content st.puddles type_map place f v) → pass ≡ field_passes asked serial st place type_map f
 field_passes-read asked serial st place type_map f v pass word is = is ∙ ap (λ (x : ℕ). passes asked serial (content st.puddles type_map place f x)) word
 
@@ -45,7 +46,7 @@ list_all-below test f (suc n) =
 pub fields_pass-each : (asked : Asked) (serial : ℕ → ℕ) (st : Stored) (place type_map : ℕ)
     → contents_pass asked serial (contents_by st place (Some type_map)) ≡ all_below (field_count type_map) (field_passes asked serial st place type_map)
 fields_pass-each asked serial st place type_map =
-    list_all-below (passes asked serial) (λ f. content st.puddles type_map place f (place_word st.word place (SLOT_FIELDS_WORD + f))) (field_count type_map)
+    list_all-below (passes asked serial) (λ f. content st.puddles type_map place f (place_word st place (SLOT_FIELDS_WORD + f))) (field_count type_map)
 
 pub place_passes-free : (asked : Asked) (t : Table) (p : ℕ) → t.serial p ≡ 0 → place_passes asked t p ≡ true
 place_passes-free asked t p free = ap (λ b. b || (serial_passes asked (t.serial p) && contents_pass asked t.serial (t.contents p))) (eq-eqb _ _ free)
@@ -59,13 +60,13 @@ place_passes-live asked t p live taken = ap₂ (λ (a b : Bool). a || (b && cont
 content_read : (v : ℕ) (found : Option ℕ) → content_of (pointee_of (cond (eqb v 0) Null (at_place found))) ≡ cond (eqb v 0) Null (at_place found)
 content_read v None = elim (eqb v 0) as (λ b. content_of (pointee_of (cond b Null Nowhere)) ≡ cond b Null Nowhere) [ true ↦ refl | false ↦ refl ]
 content_read v (Some p) =
-    let place : FRAME_SLOTS * (p / FRAME_SLOTS) + p % FRAME_SLOTS ≡ p = omega arith in
+    let place : place_at (ordinal_of p) (slot_of p) ≡ p = omega arith in
     elim (eqb v 0) as (λ b. content_of (pointee_of (cond b Null (At p))) ≡ cond b Null (At p)) [ true ↦ refl | false ↦ ap At place ]
 
 -- what was read of a pointer tells what it stands for
 pub pointee_read : (puddles : List Puddle) (ordinal step v : ℕ) → content_of (pointee_of (pointee_at puddles ordinal step v)) ≡ pointee_at puddles ordinal step v
 unfolding target
-pointee_read puddles ordinal step v = content_read v (place_in 0 (bases_by puddles (slice_get puddles ordinal) step) v)
+pointee_read puddles ordinal step v = content_read v (place_in 0 (puddles_by puddles (slice_get puddles ordinal) step) v)
 
 pub all_below-none : (test : ℕ → Bool) → all_below 0 test ≡ true
 unfolding all_below

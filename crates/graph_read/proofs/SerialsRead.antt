@@ -1,15 +1,15 @@
 -- The serials of a pool, read place by place, and what is behind its last place.
-use Rattle.std.proofs.Common.{◌≡◌, ℕ, ◌+◌, ◌*◌, ◌/◌, ◌%◌, ◌<◌, ◌≤◌, ltb, cond, List, length, get_or, set, replicate, sym, ap, ◌∙◌, arith, inl, inr}
+use Rattle.std.proofs.Common.{◌≡◌, ℕ, ◌+◌, ◌<◌, ◌≤◌, ltb, cond, List, length, get_or, set, replicate, sym, ap, ◌∙◌, arith, inl, inr}
 use Rattle.std.proofs.lemmas.Bool.{cond-true, cond-false, cases_eq, cases_lt, lt-ltb, le-ltb}
 use Rattle.std.proofs.lemmas.Bool.Decides.{nat_tests}
 use Rattle.std.proofs.lemmas.Grind.{get_or-set_at}
 use Rattle.std.proofs.lemmas.List.{get_or-replicate, get_or-set_other, get_or_past, length-replicate}
 use Rattle.std.proofs.lemmas.Option.{slice_get_past}
-use Rattle.pud_defs.specs.declared.space.TheConstants.{FRAME_SLOTS, SLOT_SERIAL_WORD}
+use Rattle.pud_defs.specs.declared.space.TheConstants.{SLOT_SERIAL_WORD}
 use Rattle.pud_defs.specs.declared.records.Puddle.{Puddle}
+use Rattle.pud_defs.specs.Geometry.{ordinal_of, places_among}
 use Rattle.pud_defs.specs.Image.{Image}
-use Rattle.pud_defs.specs.Frames.{slot_at}
-use Rattle.pud_defs.specs.Stored.{stored_in, word_in_frame}
+use Rattle.pud_defs.specs.Stored.{stored_in, word_in_frame, place_begins}
 use Rattle.graph_read.specs.Asking.{serials_in}
 
 -- the list has what f gives at the places below n, and 0 behind them
@@ -38,5 +38,5 @@ IsReadTo-end f n xs behind so_far =
     ] in
     λ i k. each k i
 
-pub no_serial_behind : (F : ℕ) (at : List (ℕ × Puddle)) (image : Image) (k : ℕ) → FRAME_SLOTS * length at ≤ k → serials_in (stored_in F at image) k ≡ 0
-no_serial_behind F at image k behind = ap (word_in_frame F image (slot_at (k % FRAME_SLOTS) + SLOT_SERIAL_WORD)) (slice_get_past at (k / FRAME_SLOTS) (omega arith))
+pub no_serial_behind : (F : ℕ) (at : List (ℕ × Puddle)) (image : Image) (k : ℕ) → places_among (length at) ≤ k → serials_in (stored_in F at image) k ≡ 0
+no_serial_behind F at image k behind = ap (word_in_frame F image (place_begins (stored_in F at image) k + SLOT_SERIAL_WORD)) (slice_get_past at (ordinal_of k) (omega arith))

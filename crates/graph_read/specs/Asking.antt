@@ -1,17 +1,18 @@
 -- What is asked of the slots of a pool, over serials that were read before.
-use Rattle.std.specs.Prelude.{ℕ, ◌+◌, ◌*◌, Bool, true, false, not, ◌&&◌, ◌||◌, ◌==◌, nat_lt, List, Option, Some, None}
+use Rattle.std.specs.Prelude.{ℕ, Bool, true, false, not, ◌&&◌, ◌||◌, nat_lt, List, Option, Some, None}
 use Rattle.std.specs.List.{list_all}
-use Rattle.pud_defs.specs.declared.space.TheConstants.{FRAME_SLOTS, SLOT_SERIAL_WORD}
+use Rattle.pud_defs.specs.declared.space.TheConstants.{SLOT_SERIAL_WORD}
 use Rattle.pud_defs.specs.declared.objects.Pointee.{Pointee}
 use Rattle.pud_defs.specs.declared.objects.Pointee.TheVariants as pointees
+use Rattle.pud_defs.specs.Geometry.{place_at}
 use Rattle.pud_defs.specs.Graph.{Content, Null, At, Nowhere, Table, value_of, stands, names_serial}
-use Rattle.pud_defs.specs.Stored.{Stored, place_word}
+use Rattle.pud_defs.specs.Stored.{Stored, place_word, slot_state}
 use Rattle.graph_read.specs.declared.asking.Asked.{Asked}
 use Rattle.graph_read.specs.declared.asking.Asked.TheVariants.{IsSound, Spares}
 
 -- the serial at each place
 abbrev pub serials_in : Stored → ℕ → ℕ
-serials_in st p = place_word st.word p SLOT_SERIAL_WORD
+serials_in st p = place_word st p SLOT_SERIAL_WORD
 
 -- the table with these serials
 abbrev pub with_serials : (ℕ → ℕ) → Table → Table
@@ -21,7 +22,7 @@ with_serials known t = record { serial = known; type_id = t.type_id; contents = 
 abbrev pub content_of : Option Pointee → Content
 content_of None = Nowhere
 content_of (Some pointees.Null) = Null
-content_of (Some (pointees.At ordinal slot)) = At (FRAME_SLOTS * ordinal + slot)
+content_of (Some (pointees.At ordinal slot)) = At (place_at ordinal slot)
 
 -- what a field holds passes
 abbrev pub passes : Asked → (ℕ → ℕ) → Content → Bool
@@ -45,4 +46,4 @@ contents_pass asked serial (Some contents) = list_all (passes asked serial) cont
 
 -- the place is free, or its slot passes
 abbrev pub place_passes : Asked → Table → ℕ → Bool
-place_passes asked t p = t.serial p == 0 || (serial_passes asked (t.serial p) && contents_pass asked t.serial (t.contents p))
+place_passes asked t p = (slot_state (t.serial p)).is_free || (serial_passes asked (t.serial p) && contents_pass asked t.serial (t.contents p))

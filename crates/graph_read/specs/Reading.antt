@@ -1,10 +1,10 @@
 -- What is read of a pool: slots, pointers and fields, as its table and its graph have them.
-use Rattle.std.specs.Prelude.{ℕ, ◌/◌, ◌%◌, ◌<◌, List, slice_get, Option, Some, None, option_map}
-use Rattle.pud_defs.specs.declared.space.TheConstants.{FRAME_SLOTS}
+use Rattle.std.specs.Prelude.{ℕ, ◌<◌, List, slice_get, Option, Some, None, option_map}
 use Rattle.pud_defs.specs.declared.records.Puddle.{Puddle}
 use Rattle.pud_defs.specs.declared.objects.Val.{Val}
 use Rattle.pud_defs.specs.declared.objects.Pointee.{Pointee}
 use Rattle.pud_defs.specs.declared.objects.Pointee.TheVariants as pointees
+use Rattle.pud_defs.specs.Geometry.{puddle_slots, ordinal_of, slot_of}
 use Rattle.pud_defs.specs.Image.{Image}
 use Rattle.pud_defs.specs.Types.{types_of}
 use Rattle.pud_defs.specs.Stored.{stored_in}
@@ -28,13 +28,13 @@ place_in_pool F at image s = place_of s (table_in F at image) (places_in at)
 abbrev pub pointee_of : Content → Option Pointee
 pointee_of (Number v) = None
 pointee_of Null = Some pointees.Null
-pointee_of (At p) = Some (pointees.At (p / FRAME_SLOTS) (p % FRAME_SLOTS))
+pointee_of (At p) = Some (pointees.At (ordinal_of p) (slot_of p))
 pointee_of Nowhere = None
 
 -- a slot of so many puddles
 pub record IsSlotWithin (count ordinal slot : ℕ) : Type 0 where
   pub ordinal_below : ordinal < count
-  pub slot_below : slot < FRAME_SLOTS
+  pub slot_below : slot < puddle_slots
 
 -- a pointer leads to nothing, or to a slot of so many puddles
 abbrev pub LeadsWithin : ℕ → Pointee → Type 0

@@ -16,9 +16,9 @@ use crate::pointers::read_pointer;
 use crate::serials::{Serials, named};
 use pm_model::{Host, HostFault};
 use pud_defs::layout::{MAX_FIELDS, MAX_FRAMES};
-use pud_defs::objects::Pointee;
+use pud_defs::objects::{Pointee, is_free, is_live};
 use pud_defs::records::{MAX_PUDDLES, Puddle};
-use pud_defs::space::{FRAME_SLOTS, SLOT_FIELDS_WORD, SLOT_TYPE_WORD};
+use pud_defs::space::{SLOT_FIELDS_WORD, SLOT_TYPE_WORD, ordinal_of, places_among, slot_of};
 use pud_defs::type_map::{map_fields, map_is_pointer};
 use puddle_header::{slot_at_place, slot_field, slot_type};
 use type_maps::find;
@@ -39,7 +39,7 @@ impl Asked {
     {
         let serial = named(serials, pointee);
         match self {
-            Asked::IsSound(_) => matches!(pointee, Some(Pointee::Null)) || serial != 0,
+            Asked::IsSound(_) => matches!(pointee, Some(Pointee::Null)) || is_live(serial),
             Asked::Spares(other) => serial != other,
         }
     }
@@ -79,7 +79,7 @@ fn value_passes(
     !map_is_pointer(type_map, f)
         || asked.passes(
             serials,
-            read_pointer(pool, place / FRAME_SLOTS, place % FRAME_SLOTS + 1, v),
+            read_pointer(pool, ordinal_of(place), slot_of(place) + 1, v),
         )
 }
 
@@ -94,7 +94,7 @@ fn type_at<H: Host>(
     requires room { device_words frames ≤ (H.counts h.old).size }
     requires known { IsOnDevice frames pool.now }
     requires within { place < places_in pool.now }
-    ensures id { H.tells → (image : Image) → reads (H.state h.old).now.words ≡ image → IfOk result (λ v. v ≡ place_word (stored_in frames pool.now image).word place SLOT_TYPE_WORD) }
+    ensures id { H.tells → (image : Image) → reads (H.state h.old).now.words ≡ image → IfOk result (λ v. v ≡ place_word (stored_in frames pool.now image) place SLOT_TYPE_WORD) }
     ensures stays { H.tells → H.state h.new ≡ H.state h.old }
     ensures cause { H.counts h.new ≡ after_fault (fault_of result) (H.counts h.old) }
     ensures never_cut { fault_of result ≢ Option.Some HostFault.Cut }
@@ -117,7 +117,7 @@ fn field_word<H: Host>(
     requires within { place < places_in pool.now }
     requires field { f < MAX_FIELDS }
     ensures word { H.tells → (image : Image) → reads (H.state h.old).now.words ≡ image
-        → IfOk result (λ v. v ≡ place_word (stored_in frames pool.now image).word place (SLOT_FIELDS_WORD + f)) }
+        → IfOk result (λ v. v ≡ place_word (stored_in frames pool.now image) place (SLOT_FIELDS_WORD + f)) }
     ensures stays { H.tells → H.state h.new ≡ H.state h.old }
     ensures cause { H.counts h.new ≡ after_fault (fault_of result) (H.counts h.old) }
     ensures never_cut { fault_of result ≢ Option.Some HostFault.Cut }
@@ -175,7 +175,7 @@ fn place_passes<H: Host>(
     ensures never_cut { fault_of result ≢ Option.Some HostFault.Cut }
 {
     let serial = serials[place as usize];
-    if serial == 0 {
+    if is_free(serial) {
         return Ok(true);
     }
     if !asked.serial_passes(serial) {
@@ -205,7 +205,7 @@ pub(crate) fn places_pass<H: Host>(
     ensures cause { H.counts h.new ≡ after_fault (fault_of result) (H.counts h.old) }
     ensures never_cut { fault_of result ≢ Option.Some HostFault.Cut }
 {
-    for place in 0..FRAME_SLOTS * pool.len() as u32 {
+    for place in 0..places_among(pool.len() as u32) {
         if !place_passes(h, frames, pool, serials, asked, place)? {
             return Ok(false);
         }

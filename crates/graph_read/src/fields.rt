@@ -78,7 +78,7 @@ fn value_at<H: Host>(
     requires field { f < MAX_FIELDS }
     ensures value { H.tells → (image : Image) → reads (H.state h.old).now.words ≡ image
         → IfOk result (λ v. v ≡ value_of (table_in frames pool.now image).serial
-        (content (map (λ e. e.1) pool.now) map_word (place_of_slot at.now) f (place_word (stored_in frames pool.now image).word (place_of_slot at.now) (SLOT_FIELDS_WORD + f)))) }
+        (content (map (λ e. e.1) pool.now) map_word (place_of_slot at.now) f (place_word (stored_in frames pool.now image) (place_of_slot at.now) (SLOT_FIELDS_WORD + f)))) }
     ensures stays { H.tells → H.state h.new ≡ H.state h.old }
     ensures cause { H.counts h.new ≡ after_fault (fault_of result) (H.counts h.old) }
     ensures never_cut { fault_of result ≢ Option.Some HostFault.Cut }

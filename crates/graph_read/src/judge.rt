@@ -18,8 +18,9 @@ use crate::pointers::read_pointer;
 use crate::serials::{PLACES, Serials, read_serials};
 use pm_model::{Host, HostFault};
 use pud_defs::layout::{MAX_FRAMES, NUMBER_LIMIT};
+use pud_defs::objects::{is_free, is_live};
 use pud_defs::records::Puddle;
-use pud_defs::space::FRAME_SLOTS;
+use pud_defs::space::places_among;
 use puddle_header::{has_header, next_serial, root_value};
 
 /// Whether each frame of a pool has the header of its puddle.
@@ -59,7 +60,7 @@ fn is_last(serials: &Serials, count: usize, place: usize) -> bool
     ensures { result ≡ is_apart nat_cmp (under_serial (slice_index serials.now) (λ p. p) place) (under_serial (slice_index serials.now) (λ p. p)) (place + 1) (count - (place + 1)) }
 {
     let serial = serials[place];
-    serial == 0 || !is_among(serial, &serials[place + 1..count])
+    is_free(serial) || !is_among(serial, &serials[place + 1..count])
 }
 
 /// Whether no two live places of so many have one serial.
@@ -98,7 +99,7 @@ fn count_live(serials: &Serials, count: usize) -> u32
 {
     let mut live = 0;
     for place in 0..count {
-        if serials[place] != 0 {
+        if is_live(serials[place]) {
             live += 1;
         }
     }
@@ -136,7 +137,7 @@ pub fn objects_held<H: Host>(
     let serials = read_serials(h, frames, pool)?;
     let asked = Asked::IsSound(next);
     let slots = places_pass(h, frames, pool, &serials, asked)?;
-    let places = FRAME_SLOTS as usize * pool.len();
+    let places = places_among(pool.len() as u32) as usize;
     let sound = are_all(
         headers,
         is_next_serial(next),

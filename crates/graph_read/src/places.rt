@@ -1,6 +1,6 @@
 //! Where an object stands: the lowest place of a pool whose slot has a serial.
 //!
-//! A place is a slot of a puddle, counted over the puddles by their ordinals: 62 times the ordinal, and the slot.
+//! A place is a slot of a pool, counted over its puddles by their ordinals.
 
 ghost use Rattle.std.specs.Prelude.{◌≡◌, ◌≢◌, ◌*◌, ◌<◌, ◌≤◌, length, Option, IfOk, IfSome, is_none, option_map};
 ghost use Rattle.pm_model.specs.Words.{Image, reads};
@@ -16,7 +16,7 @@ ghost use Rattle.graph_read.specs.Reading.{table_in, place_in_pool};
 use pm_model::{Host, HostFault};
 use pud_defs::layout::MAX_FRAMES;
 use pud_defs::records::{Puddle, Slot};
-use pud_defs::space::FRAME_SLOTS;
+use pud_defs::space::places_among;
 use puddle_header::{serial_at, slot_at_place};
 
 /// The lowest place of the pool whose slot has serial `s`, or None exactly where none has, or `s` is 0. Each place is read
@@ -40,7 +40,7 @@ pub fn find_place<H: Host>(
     if s == 0 {
         return Ok(None);
     }
-    for place in 0..FRAME_SLOTS * pool.len() as u32 {
+    for place in 0..places_among(pool.len() as u32) {
         if serial_at(h, frames, pool, place)? == s {
             return Ok(Some(place));
         }

@@ -1,37 +1,45 @@
 //! Where a stored pointer leads: to nothing, to a slot of its pool, or nowhere.
 
 ghost use Rattle.std.specs.Prelude.{◌≡◌, ◌<◌, ◌≤◌, cond, length, map, IfSome};
-ghost use Rattle.pud_defs.specs.Graph.{slot_in, pointee_at};
+ghost use Rattle.pud_defs.specs.Geometry.{slots_of};
+ghost use Rattle.pud_defs.specs.Graph.{slot_in, over_old, pointee_at};
 ghost use Rattle.graph_read.specs.Reading.{pointee_of, LeadsWithin};
 
 use pud_defs::objects::Pointee;
 use pud_defs::records::{MAX_PUDDLES, Puddle};
-use pud_defs::space::{FRAME_SLOTS, HEADER_BYTES, SLOT_BYTES};
+use pud_defs::space::{HEADER_BYTES, slot_bytes_of, slots_of};
 
-/// The slot of the puddle with this base at whose first address the value is.
-fn slot_in(base: u64, value: u64) -> Option<u32>
-    ensures slot { result ≡ slot_in base value }
-    ensures within { IfSome result (λ slot. slot < FRAME_SLOTS) }
+/// The slot of the puddle at whose first address the value is.
+fn slot_in(puddle: &Puddle, value: u64) -> Option<u32>
+    ensures slot { result ≡ slot_in puddle.now value }
+    ensures within { IfSome result (λ slot. slot < slots_of puddle.now) }
 {
+    let base = puddle.base;
     if value < base || value - base < HEADER_BYTES {
         return None;
     }
     let behind = value - base - HEADER_BYTES;
-    let slot = behind / SLOT_BYTES;
-    if behind % SLOT_BYTES != 0 || slot >= u64::from(FRAME_SLOTS) {
+    let slot_bytes = slot_bytes_of(puddle);
+    let slot = behind / slot_bytes;
+    if behind % slot_bytes != 0 || slot >= u64::from(slots_of(puddle)) {
         return None;
     }
     Some(slot as u32)
 }
 
-/// The base over which the pointers of a puddle's steps are read: the puddle's own where they are rewritten, else the old one.
-fn base_for(puddle: &Puddle, rewritten: bool) -> u64
-    ensures { result ≡ cond rewritten puddle.now.base puddle.now.old_base }
+/// The puddle over the base by which pointers are read: its own where they are rewritten, else the old one.
+fn read_over(puddle: &Puddle, rewritten: bool) -> Puddle
+    ensures { result ≡ cond rewritten puddle.now (over_old puddle.now) }
 {
     if rewritten {
-        puddle.base
+        *puddle
     } else {
-        puddle.old_base
+        Puddle {
+            number: puddle.number,
+            base: puddle.old_base,
+            old_base: puddle.old_base,
+            frontier: puddle.frontier,
+        }
     }
 }
 
@@ -51,7 +59,7 @@ pub fn read_pointer(pool: &[(u32, Puddle)], ordinal: u32, step: u32, value: u64)
     let rewritten = u64::from(step) < holder.frontier;
     for other in 0..pool.len() {
         let (_, puddle) = pool[other];
-        if let Some(slot) = slot_in(base_for(&puddle, rewritten), value) {
+        if let Some(slot) = slot_in(&read_over(&puddle, rewritten), value) {
             return Some(Pointee::At {
                 ordinal: other as u32,
                 slot,

@@ -12,12 +12,12 @@ ghost use Rattle.graph_read.specs.Asking.{content_of, serials_in};
 use pm_model::{Host, HostFault};
 use pud_defs::layout::MAX_FRAMES;
 use pud_defs::objects::Pointee;
-use pud_defs::records::{MAX_PUDDLES, Puddle};
-use pud_defs::space::FRAME_SLOTS;
+use pud_defs::records::Puddle;
+use pud_defs::space::{MAX_PLACES, place_at, places_among};
 use puddle_header::serial_at;
 
-/// How many places a pool has at most. A place is a slot of a puddle, counted over the puddles by their ordinals.
-pub(crate) const PLACES: usize = (MAX_PUDDLES * FRAME_SLOTS) as usize;
+/// How many places a pool has at most.
+pub(crate) const PLACES: usize = MAX_PLACES as usize;
 
 /// The serials of a pool by place, 0 where a place is free, and behind the last place.
 pub(crate) type Serials = [u64; PLACES];
@@ -38,7 +38,7 @@ pub(crate) fn read_serials<H: Host>(
     ensures never_cut { fault_of result ≢ Option.Some HostFault.Cut }
 {
     let mut serials = [0; PLACES];
-    for place in 0..FRAME_SLOTS * pool.len() as u32 {
+    for place in 0..places_among(pool.len() as u32) {
         serials[place as usize] = serial_at(h, frames, pool, place)?;
     }
     Ok(serials)
@@ -50,7 +50,7 @@ pub(crate) fn named(serials: &Serials, pointee: Option<Pointee>) -> u64
 {
     match pointee {
         Some(Pointee::At { ordinal, slot }) => {
-            let place = FRAME_SLOTS as usize * ordinal as usize + slot as usize;
+            let place = place_at(ordinal, slot) as usize;
             serials.get(place).copied().unwrap_or(0)
         }
         Some(Pointee::Null) | None => 0,

@@ -5,6 +5,7 @@ use crate::pools::{
 use graph_read::read_pointer;
 use pud_defs::objects::Pointee;
 use pud_defs::records::Puddle;
+use pud_defs::space::place_at;
 use std::process::Abort;
 
 /// The first slots of three ranges: the old one of the first puddle alone, the base of the first and the old one of the second, and
@@ -89,22 +90,22 @@ fn the_frontier_decides(rt: HostRuntime) {
 }
 
 /// What stands for an answer that is no place.
-const NULL: u32 = 1_000;
+const NULL: u64 = 1_000;
 
-const NOWHERE: u32 = 1_001;
+const NOWHERE: u64 = 1_001;
 
 /// The place to which a pointer leads that stands at a step of one of these two puddles.
-fn leads(rt: &impl Abort, pool: &[Placed; 2], ordinal: u32, step: u32, value: u64) -> u32 {
+fn leads(rt: &impl Abort, pool: &[Placed; 2], ordinal: u32, step: u32, value: u64) -> u64 {
     assert!(rt; ordinal < 2);
     match read_pointer(pool, ordinal, step, value) {
-        Some(Pointee::At { ordinal, slot }) => ordinal.wrapping_mul(62).wrapping_add(slot),
+        Some(Pointee::At { ordinal, slot }) => place_at(ordinal, slot),
         Some(Pointee::Null) => NULL,
         None => NOWHERE,
     }
 }
 
 /// Asserts where each pointer leads, by its ordinal, its step and its value.
-fn each_leads(rt: &impl Abort, pool: &[Placed; 2], rows: &[(u32, u32, u64, u32)]) {
+fn each_leads(rt: &impl Abort, pool: &[Placed; 2], rows: &[(u32, u32, u64, u64)]) {
     for (ordinal, step, value, want) in rows {
         assert!(rt;
             leads(rt, pool, *ordinal, *step, *value) == *want,

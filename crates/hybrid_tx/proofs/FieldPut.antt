@@ -1,5 +1,5 @@
 -- A field is set within a transaction, or its value is asked for.
-use Rattle.std.proofs.Common.{◌≡◌, ℕ, ◌+◌, ◌*◌, ◌/◌, ◌%◌, ◌^◌, ◌≤◌, true, List, [], ◌∷◌, ◌++◌, All, map, Option, Some, None, option_map, refl, sym, ap, subst, ◌∙◌, arith}
+use Rattle.std.proofs.Common.{◌≡◌, ℕ, ◌+◌, ◌*◌, ◌%◌, ◌^◌, ◌≤◌, true, List, [], ◌∷◌, ◌++◌, All, map, Option, Some, None, option_map, refl, sym, ap, subst, ◌∙◌, arith}
 use Rattle.std.specs.Prelude.{slice_get}
 use Rattle.std.proofs.lemmas.Option.{slice_get-map}
 use Rattle.pm_model.specs.declared.host.HostFault.{HostFault}
@@ -15,7 +15,8 @@ use Rattle.pud_defs.specs.declared.objects.Val.{Val}
 use Rattle.pud_defs.specs.Layout.{device_words, frames_at}
 use Rattle.pud_defs.specs.Image.{Image}
 use Rattle.pud_defs.specs.Bases.{is_legal_base}
-use Rattle.pud_defs.specs.Frames.{frame_at, slot_at}
+use Rattle.pud_defs.specs.Geometry.{slot_begins, ordinal_of}
+use Rattle.pud_defs.specs.Frames.{frame_at}
 use Rattle.pud_defs.specs.Entries.{Entry}
 use Rattle.pud_defs.specs.Replay.{overwritten}
 use Rattle.pud_defs.proofs.Replay.{overwritten-nothing}
@@ -23,7 +24,7 @@ use Rattle.pud_defs.specs.Stored.{stored_in}
 use Rattle.pud_defs.specs.Graph.{Graph, graph_of}
 use Rattle.pud_defs.specs.GraphChanges.{with_field}
 use Rattle.pud_defs.specs.Laters.{Later}
-use Rattle.graph_laws.specs.Rewriting.{base_of}
+use Rattle.graph_laws.specs.Rewriting.{address_in}
 use Rattle.graph_laws.proofs.Words.{few_fields}
 use Rattle.puddle_header.specs.Places.{place_of_slot, IsSlotOf}
 use Rattle.graph_read.specs.Reading.{place_in_pool}
@@ -44,7 +45,7 @@ use Rattle.hybrid_tx.proofs.InFrames.{no_wrap}
 
 -- the address of a slot, by its ordinal
 pub slot_address-read : (at : List (ℕ × Puddle)) (slot : Slot) (of : IsSlotOf at slot) (e : ℕ × Puddle) → (slot.frame, of.puddle) ≡ e → All (λ d. is_legal_base d.1.base ≡ true) at
-    → (e.1.base + WORD_BYTES * slot_at slot.slot) % 2 ^ 64 ≡ address_at at (place_of_slot slot)
+    → (e.1.base + WORD_BYTES * slot_begins slot) % 2 ^ 64 ≡ address_at at (place_of_slot slot)
 slot_address-read at slot of e same legal =
     let its : is_legal_base of.puddle.base ≡ true = all_there (λ d. is_legal_base d.1.base ≡ true) at slot.ordinal (slot.frame, of.puddle) legal of.there in
     let ordinal = place_ordinal slot.ordinal slot.slot of.below in
@@ -52,11 +53,11 @@ slot_address-read at slot of e same legal =
     let below = of.below in
     let home : slice_get (map (λ (d : ℕ × Puddle). d.1) at) slot.ordinal ≡ Some of.puddle =
     slice_get-map (λ (d : ℕ × Puddle). d.1) at slot.ordinal ∙ ap (option_map (λ (d : ℕ × Puddle). d.1)) of.there in
-    ap (λ (d : ℕ × Puddle). (d.1.base + WORD_BYTES * slot_at slot.slot) % 2 ^ 64) (sym same)
-    ∙ no_wrap of.puddle.base (slot_at slot.slot) its (omega arith)
-    ∙ ap (λ (o : Option Puddle). base_of o + WORD_BYTES * slot_at slot.slot) (sym home)
-    ∙ ap (λ (o : ℕ). base_of (slice_get (map (λ (d : ℕ × Puddle). d.1) at) o) + WORD_BYTES * slot_at slot.slot) (sym ordinal)
-    ∙ ap (λ (n : ℕ). base_of (slice_get (map (λ (d : ℕ × Puddle). d.1) at) (place_of_slot slot / 62)) + WORD_BYTES * slot_at n) (sym number)
+    ap (λ (d : ℕ × Puddle). (d.1.base + WORD_BYTES * slot_begins slot) % 2 ^ 64) (sym same)
+    ∙ no_wrap of.puddle.base (slot_begins slot) its (omega arith)
+    ∙ ap (λ (o : Option Puddle). address_in o slot.slot) (sym home)
+    ∙ ap (λ (o : ℕ). address_in (slice_get (map (λ (d : ℕ × Puddle). d.1) at) o) slot.slot) (sym ordinal)
+    ∙ ap (λ (n : ℕ). address_in (slice_get (map (λ (d : ℕ × Puddle). d.1) at) (ordinal_of (place_of_slot slot))) n) (sym number)
 
 module _ (F : ℕ) (at : List (ℕ × Puddle)) (types : List (ℕ × ℕ)) (log behind : OpenLog) (before : Image) (undone now : Graph) (laters : List Later) where
   -- a call that failed before it did anything
@@ -81,13 +82,13 @@ module _ (F : ℕ) (at : List (ℕ × Puddle)) (types : List (ℕ × ℕ)) (log 
     no_value = word_if_held types F at (reads old.now.words) now is_open.is may.map f x may.holds
 
     pub RunsOn-set : (size word : ℕ) (slot : Slot) (v : ℕ) (fault : Option HostFault) (mid new : State) → IsPlaced F at → IsRewrittenFor F at (reads old.now.words) s → device_words F ≤ size → log.at + LOG_WORDS ≤ frames_at F
-        → behind.at ≡ log.at → mid ≡ old → IsSlotOf at slot → place_in_pool F at (reads old.now.words) s ≡ Some (place_of_slot slot) → word_for F at (reads old.now.words) x ≡ Some v → word ≡ field_word slot.slot f
+        → behind.at ≡ log.at → mid ≡ old → IsSlotOf at slot → place_in_pool F at (reads old.now.words) s ≡ Some (place_of_slot slot) → word_for F at (reads old.now.words) x ≡ Some v → word ≡ field_word slot f
         → ((e : ℕ × Puddle) → slice_get at slot.ordinal ≡ Some e → (b : Image) (redo : List Entry) → IsSaving F at log b redo mid.now.words
         → Saves F at behind b redo (placed (frame_at F e.0 + word) (v ∷ [])) fault mid new)
         → RunsOn F at types behind before undone (with_field s f x now) laters fault old new
     RunsOn-set size word slot v fault mid new is_placed rewritten device apart same stays of found value is_word put =
         let image = reads old.now.words in
-        let write = placed (frame_at F slot.frame + field_word slot.slot f) (v ∷ []) in
+        let write = placed (frame_at F slot.frame + field_word slot f) (v ∷ []) in
         let redo = is_open.redo in
         let few = few_fields may.map in
         let below = may.below in
@@ -100,14 +101,14 @@ module _ (F : ℕ) (at : List (ℕ × Puddle)) (types : List (ℕ × ℕ)) (log 
 
     -- the value asked for
     pub RunsOn-later : (size word : ℕ) (slot : Slot) (v : ℕ) (fault : Option HostFault) (mid new : State) → IsPlaced F at → device_words F ≤ size → log.at + LOG_WORDS ≤ frames_at F
-        → behind.at ≡ log.at → mid ≡ old → IsSlotOf at slot → place_in_pool F at (reads old.now.words) s ≡ Some (place_of_slot slot) → word_for F at (reads old.now.words) x ≡ Some v → word ≡ field_word slot.slot f
+        → behind.at ≡ log.at → mid ≡ old → IsSlotOf at slot → place_in_pool F at (reads old.now.words) s ≡ Some (place_of_slot slot) → word_for F at (reads old.now.words) x ≡ Some v → word ≡ field_word slot f
         → ((e : ℕ × Puddle) → slice_get at slot.ordinal ≡ Some e → (b : Image) (redo : List Entry) → IsSaving F at log b redo mid.now.words
         → Saves F at behind b (redo ++ redo_entry (e.1.base + WORD_BYTES * word) (v ∷ []) ∷ []) nothing fault mid new)
         → RunsOn F at types behind before undone now (laters ++ record { s = s; f = f; x = x } ∷ []) fault old new
     RunsOn-later size word slot v fault mid new is_placed device apart same stays of found value is_word ask =
         let image = reads old.now.words in
         let redo = is_open.redo in
-        let entry = redo_entry (of.puddle.base + WORD_BYTES * field_word slot.slot f) (v ∷ []) in
+        let entry = redo_entry (of.puddle.base + WORD_BYTES * field_word slot f) (v ∷ []) in
         let later : IsLater F at types image now (record { s = s; f = f; x = x }) entry = record { slot = slot; of = of; place = found; value = v; word = value; may = may; is = refl } in
         let ask_here = subst (λ (k : ℕ). IsSaving F at log before redo mid.now.words → Saves F at behind before (redo ++ redo_entry (of.puddle.base + WORD_BYTES * k) (v ∷ []) ∷ []) nothing fault mid new)
         is_word (ask (slot.frame, of.puddle) of.there before redo) in

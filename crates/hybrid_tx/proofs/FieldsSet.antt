@@ -1,27 +1,28 @@
 -- A field's word is stored in an image of a pool: its graph has the value in the field.
-use Rattle.std.proofs.Common.{◌≡◌, ◌⊎◌, inl, inr, ℕ, ◌+◌, ◌*◌, ◌/◌, ◌%◌, ◌<◌, cond, List, [], ◌∷◌, Option, Some, None, get_or, option_map, refl, sym, ap, ap₂, subst, ◌∙◌, arith, eqb, eq-eqb, ne_eqb}
+use Rattle.std.proofs.Common.{◌≡◌, ◌⊎◌, inl, inr, ℕ, ◌+◌, ◌<◌, cond, List, [], ◌∷◌, Option, Some, None, get_or, option_map, refl, sym, ap, ap₂, subst, ◌∙◌, arith, eqb, eq-eqb, ne_eqb}
 use Rattle.std.specs.Prelude.{slice_get}
 use Rattle.std.proofs.lemmas.Bool.{cases_eq, cases_lt, cond-true, cond-false}
 use Rattle.std.proofs.lemmas.Option.{none-some, same_Some, slice_get-map, slice_get-get_or}
 use Rattle.std.proofs.lemmas.List.{length-map}
 use Rattle.pm_model.specs.Changes.{placed as put_from}
 use Rattle.pud_defs.specs.declared.layout.TheConstants.{FRAME_WORDS}
-use Rattle.pud_defs.specs.declared.space.TheConstants.{FRAME_SLOTS, SLOT_FIELDS_WORD, LAST_FRONTIER}
+use Rattle.pud_defs.specs.declared.space.TheConstants.{SLOT_FIELDS_WORD}
 use Rattle.pud_defs.specs.declared.records.Puddle.{Puddle}
 use Rattle.pud_defs.specs.declared.records.Slot.{Slot}
 use Rattle.pud_defs.specs.declared.objects.Val.{Val}
 use Rattle.pud_defs.specs.declared.objects.Val.TheVariants.{Num, Ref}
+use Rattle.pud_defs.specs.Geometry.{steps_of, puddle_slot_at, ordinal_of, slot_of, places_among}
 use Rattle.pud_defs.specs.Types.{map_of}
 use Rattle.pud_defs.specs.Image.{Image, written}
-use Rattle.pud_defs.specs.Frames.{frame_at, slot_at}
+use Rattle.pud_defs.specs.Frames.{frame_at}
 use Rattle.pud_defs.specs.Replay.{overwritten}
 use Rattle.pud_defs.specs.Stored.{Stored, stored_in, places_of}
-use Rattle.pud_defs.specs.Graph.{slot_address, table_of, place_of, object_at, Object, field_count, Graph, object_in, graph_of}
+use Rattle.pud_defs.specs.Graph.{table_of, place_of, object_at, Object, field_count, Graph, object_in, graph_of}
 use Rattle.pud_defs.proofs.Replay.{overwritten-there, overwritten-stays, value_at-there, value_at-apart}
 use Rattle.pud_defs.specs.GraphChanges.{with_field}
 use Rattle.graph_laws.specs.Changes.{with_word, with_words, with_field_word, IsAddress, IsField}
 use Rattle.graph_laws.specs.Reads.{HasDistinctFrames}
-use Rattle.graph_laws.specs.Rewriting.{base_of}
+use Rattle.graph_laws.specs.Rewriting.{address_in}
 use Rattle.graph_laws.proofs.Fields.{graph_of-number, graph_of-null, graph_of-reference}
 use Rattle.graph_laws.proofs.Places.{object_in-place}
 use Rattle.graph_laws.proofs.StoredImages.{stored_in-written}
@@ -79,7 +80,7 @@ module _ (types : List (ℕ × ℕ)) (F : ℕ) (at : List (ℕ × Puddle)) (imag
 
   -- where a serial stands in the table of what is stored
   pub place_is : (s : ℕ) → place_of s (table_of types st) (places_of st) ≡ place_in_pool F at image s
-  place_is s = ap (λ n. place_of s (table_of types st) (FRAME_SLOTS * n)) (length-map at (λ (e : ℕ × Puddle). e.1))
+  place_is s = ap (λ n. place_of s (table_of types st) (places_among n)) (length-map at (λ (e : ℕ × Puddle). e.1))
 
   pub object_at_place : (s p : ℕ) → place_in_pool F at image s ≡ Some p → object_in s g ≡ Some (object_at (table_of types st) p)
   object_at_place s p found = object_in-place types st g s is ∙ ap (option_map (object_at (table_of types st))) (place_is s ∙ found)
@@ -110,18 +111,18 @@ module _ (types : List (ℕ × ℕ)) (F : ℕ) (at : List (ℕ × Puddle)) (imag
   -- ---- addresses
 
   -- the address of a place is one for a pointer at any step of any puddle
-  pub address_of_place : IsPlaced F at → (o step : ℕ) (e : ℕ × Puddle) → IsRewrittenAt at o → slice_get at o ≡ Some e → step < LAST_FRONTIER → (q v : ℕ) → q < places_of st → address_at at q ≡ v → IsAddress st.puddles o step q v
+  pub address_of_place : IsPlaced F at → (o step : ℕ) (e : ℕ × Puddle) → IsRewrittenAt at o → slice_get at o ≡ Some e → step < steps_of e.1 → (q v : ℕ) → q < places_of st → address_at at q ≡ v → IsAddress st.puddles o step q v
   address_of_place placed o step e rewritten here below q v within is =
-      let last : e.1.frontier ≡ LAST_FRONTIER = rewritten.each e here in
-      let there = slice_get-get_or st.puddles (q / FRAME_SLOTS) e.1 (omega arith) in
+      let last : e.1.frontier ≡ steps_of e.1 = rewritten.each e here in
+      let there = slice_get-get_or st.puddles (ordinal_of q) e.1 (omega arith) in
       record {
         bases = placed.bases;
         home = e.1;
         here = slice_get-map (λ (d : ℕ × Puddle). d.1) at o ∙ ap (option_map (λ (d : ℕ × Puddle). d.1)) here;
         rewritten = omega arith;
-        away = get_or st.puddles (q / FRAME_SLOTS) e.1;
+        away = get_or st.puddles (ordinal_of q) e.1;
         there = there;
-        address = sym is ∙ ap (λ (d : Option Puddle). slot_address (base_of d) (q % FRAME_SLOTS)) there;
+        address = sym is ∙ ap (λ (d : Option Puddle). address_in d (slot_of q)) there;
       }
 
   -- ---- the field
@@ -136,11 +137,11 @@ module _ (types : List (ℕ × ℕ)) (F : ℕ) (at : List (ℕ × Puddle)) (imag
           let same : object_at (table_of types st) p ≡ object = same_Some _ _ (sym (object_at_place s p found) ∙ live) in
           record { place = place_is s ∙ found; defined = ap (λ (o : Object). map_of o.type_id types) same ∙ defined; below = below }
 
-      address : (r v : ℕ) (named : IsAddressOf F at image r v) → IsAddress st.puddles (p / FRAME_SLOTS) (p % FRAME_SLOTS + 1) named.place v
+      address : (r v : ℕ) (named : IsAddressOf F at image r v) → IsAddress st.puddles (ordinal_of p) (slot_of p + 1) named.place v
       address r v named =
           let within = (place_of-some (table_of types st) (places_of st) r named.place (place_is r ∙ named.found)).within in
           let slots = of.below in
-          address_of_place placed (p / FRAME_SLOTS) (p % FRAME_SLOTS + 1) (slot.frame, of.puddle)
+          address_of_place placed (ordinal_of p) (slot_of p + 1) (slot.frame, of.puddle)
           (subst (λ (o : ℕ). IsRewrittenAt at o) (sym (place_ordinal slot.ordinal slot.slot of.below)) rewritten) (ap (slice_get at) (place_ordinal slot.ordinal slot.slot of.below) ∙ of.there) (omega arith) named.place v within named.is
 
       of_value : (x : Val) (v : ℕ) → MayHold m f g x → word_for F at image x ≡ Some v → graph_of types (with_field_word p f v st) ≡ Some (with_field s f x g)
@@ -154,14 +155,14 @@ module _ (types : List (ℕ × ℕ)) (F : ℕ) (at : List (ℕ × Puddle)) (imag
       ]
 
       field_set : (x : Val) (v : ℕ) → MayHold m f g x → word_for F at image x ≡ Some v
-          → graph_of types (stored_in F at (overwritten (put_from (frame_at F slot.frame + field_word slot.slot f) (v ∷ [])) image)) ≡ Some (with_field s f x g)
+          → graph_of types (stored_in F at (overwritten (put_from (frame_at F slot.frame + field_word slot f) (v ∷ [])) image)) ≡ Some (with_field s f x g)
       field_set x v holds word =
-          let few : field_word slot.slot f < FRAME_WORDS = (let most = few_fields m in let slots = of.below in omega arith) in
-          ap (graph_of types) (stored_in-one F at image slot.ordinal (field_word slot.slot f) v (slot.frame, of.puddle) placed.frames of.there few)
-          ∙ ap₂ (λ (i j : ℕ). graph_of types (with_words (with_word i (slot_at j + SLOT_FIELDS_WORD + f) v st.word) st))
+          let few : field_word slot f < FRAME_WORDS = (let most = few_fields m in let slots = of.below in omega arith) in
+          ap (graph_of types) (stored_in-one F at image slot.ordinal (field_word slot f) v (slot.frame, of.puddle) placed.frames of.there few)
+          ∙ ap₂ (λ (i j : ℕ). graph_of types (with_words (with_word i (puddle_slot_at j + SLOT_FIELDS_WORD + f) v st.word) st))
           (sym (place_ordinal slot.ordinal slot.slot of.below)) (sym (place_slot slot.ordinal slot.slot of.below))
           ∙ of_value x v holds word
 
     pub set_value : (x : Val) (v : ℕ) → MaySet types g s f x → word_for F at image x ≡ Some v
-        → graph_of types (stored_in F at (overwritten (put_from (frame_at F slot.frame + field_word slot.slot f) (v ∷ [])) image)) ≡ Some (with_field s f x g)
+        → graph_of types (stored_in F at (overwritten (put_from (frame_at F slot.frame + field_word slot f) (v ∷ [])) image)) ≡ Some (with_field s f x g)
     set_value x v may word = field_set may.map may.object may.live may.defined may.below x v may.holds word

@@ -24,7 +24,7 @@ use Rattle.hybrid_tx.proofs.LatersBehind.{KeepsObjects-field, KeepsPlaces-field}
 module _ (F : ℕ) (at : List (ℕ × Puddle)) (types : List (ℕ × ℕ)) (is_placed : IsPlaced F at) where
   module _ (image : Image) (now : Graph) (l : Later) (e : Entry) (later : IsLater F at types image now l e) where
     abbrev word : ℕ
-    word = frame_at F later.slot.frame + field_word later.slot.slot l.f
+    word = frame_at F later.slot.frame + field_word later.slot l.f
 
     -- the entry writes the word of the field
     entry_writes : (k : ℕ) → value_in (pool_place F at) e k ≡ placed word (later.value ∷ []) k
@@ -34,7 +34,7 @@ module _ (F : ℕ) (at : List (ℕ × Puddle)) (types : List (ℕ × ℕ)) (is_p
         let slots = later.of.below in
         ap (λ (d : Entry). value_in (pool_place F at) d k) later.is
         ∙ ap (λ (o : Option ℕ). value_from o (later.value ∷ []) k)
-        (place_of_word F at is_placed later.slot.ordinal (field_word later.slot.slot l.f) (later.slot.frame, later.of.puddle) later.of.there (omega arith))
+        (place_of_word F at is_placed later.slot.ordinal (field_word later.slot l.f) (later.slot.frame, later.of.puddle) later.of.there (omega arith))
 
     abbrev behind : Image
     behind = overwritten (placed word (later.value ∷ [])) image

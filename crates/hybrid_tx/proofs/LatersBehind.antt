@@ -1,5 +1,5 @@
 -- What is asked for later stays so when a field or the root is set and when an object is made.
-use Rattle.std.proofs.Common.{◌≡◌, inl, inr, ℕ, ◌+◌, ◌/◌, ◌%◌, ◌<◌, cond, eqb, List, [], ◌∷◌, Option, Some, None, option_map, nat_cmp, refl, sym, ap, ◌∙◌, arith, eq-eqb, ne_eqb}
+use Rattle.std.proofs.Common.{◌≡◌, inl, inr, ℕ, ◌+◌, ◌<◌, cond, eqb, List, [], ◌∷◌, Option, Some, None, option_map, nat_cmp, refl, sym, ap, ◌∙◌, arith, eq-eqb, ne_eqb}
 use Rattle.std.specs.Prelude.{slice_get}
 use Rattle.std.specs.FinMap.Entries.{find, put, find-put}
 use Rattle.std.proofs.lemmas.Bool.{cases_eq, cond-true, cond-false}
@@ -7,22 +7,23 @@ use Rattle.std.proofs.lemmas.Cmp.{nat_cmp_total}
 use Rattle.std.proofs.lemmas.Option.{none-some, same_Some}
 use Rattle.pm_model.specs.Changes.{placed}
 use Rattle.pud_defs.specs.declared.layout.TheConstants.{FRAME_WORDS, MAX_FIELDS}
-use Rattle.pud_defs.specs.declared.space.TheConstants.{FRAME_SLOTS, SLOT_SERIAL_WORD, ROOT_WORD}
+use Rattle.pud_defs.specs.declared.space.TheConstants.{SLOT_SERIAL_WORD, ROOT_WORD}
 use Rattle.pud_defs.specs.declared.records.Puddle.{Puddle}
 use Rattle.pud_defs.specs.declared.records.Slot.{Slot}
 use Rattle.pud_defs.specs.declared.objects.Val.{Val}
+use Rattle.pud_defs.specs.Geometry.{puddle_slots, puddle_slot_at, ordinal_of, slot_of}
 use Rattle.pud_defs.specs.Image.{Image}
 use Rattle.pud_defs.specs.Keyed.{under, first_from}
 use Rattle.pud_defs.specs.Types.{map_of}
-use Rattle.pud_defs.specs.Frames.{frame_at, slot_at}
+use Rattle.pud_defs.specs.Frames.{frame_at}
 use Rattle.pud_defs.specs.Replay.{overwritten}
-use Rattle.pud_defs.specs.Stored.{Stored, stored_in, places_of, place_word}
+use Rattle.pud_defs.specs.Stored.{Stored, stored_in, places_of, place_word, place_begins, slot_state}
 use Rattle.pud_defs.specs.Graph.{under_serial, table_of, place_of, object_at, Object, Graph, object_in, next_serial_of, graph_of}
 use Rattle.pud_defs.specs.GraphChanges.{object_with, with_some_object, with_field, with_new, with_root}
 use Rattle.pud_defs.proofs.TypeLists.{same_test}
 use Rattle.pud_defs.proofs.Keyed.{first_from_same}
 use Rattle.pud_defs.proofs.Graphs.{graph_of-each}
-use Rattle.graph_laws.specs.Changes.{with_word}
+use Rattle.graph_laws.specs.Changes.{with_word, with_words}
 use Rattle.graph_laws.specs.Reads.{HasDistinctFrames}
 use Rattle.graph_laws.proofs.Places.{object_in-place}
 use Rattle.graph_laws.proofs.TableChanges.{under_other}
@@ -99,30 +100,30 @@ module _ (types : List (ℕ × ℕ)) (st : Stored) (g : Graph) (is : graph_of ty
 
 -- the word of a frame is that of no slot's serial
 abbrev IsNoSerial : (k : ℕ) → Type 0
-IsNoSerial k = (n : ℕ) → n < FRAME_SLOTS → slot_at n + SLOT_SERIAL_WORD ≡ k → ⊥
+IsNoSerial k = (n : ℕ) → n < puddle_slots → puddle_slot_at n + SLOT_SERIAL_WORD ≡ k → ⊥
 
 module _ (F : ℕ) (at : List (ℕ × Puddle)) (image : Image) (distinct : HasDistinctFrames at) (o k v : ℕ) (e : ℕ × Puddle) (there : slice_get at o ≡ Some e) (below : k < FRAME_WORDS) (other : IsNoSerial k) where
-  abbrev word_after : ℕ → ℕ → ℕ
-  word_after = with_word o k v (stored_in F at image).word
+  abbrev stored_after : Stored
+  stored_after = with_words (with_word o k v (stored_in F at image).word) (stored_in F at image)
 
-  serial_stays : (p : ℕ) → place_word word_after p SLOT_SERIAL_WORD ≡ place_word (stored_in F at image).word p SLOT_SERIAL_WORD
-  serial_stays p = with_word-other o k v (stored_in F at image).word (p / FRAME_SLOTS) (slot_at (p % FRAME_SLOTS) + SLOT_SERIAL_WORD) (λ same here. other (p % FRAME_SLOTS) (omega arith) here)
+  serial_stays : (p : ℕ) → place_word stored_after p SLOT_SERIAL_WORD ≡ place_word (stored_in F at image) p SLOT_SERIAL_WORD
+  serial_stays p = with_word-other o k v (stored_in F at image).word (ordinal_of p) (place_begins (stored_in F at image) p + SLOT_SERIAL_WORD) (λ same here. other (slot_of p) (omega arith) here)
 
   KeepsPlaces-word : (now : Graph) → KeepsPlaces F at at image (overwritten (placed (frame_at F e.0 + k) (v ∷ [])) image) now
   KeepsPlaces-word now =
-      let same : (λ (p : ℕ). place_word word_after p SLOT_SERIAL_WORD) ≡ (λ (p : ℕ). place_word (stored_in F at image).word p SLOT_SERIAL_WORD) = λ i p. serial_stays p i in
+      let same : (λ (p : ℕ). place_word stored_after p SLOT_SERIAL_WORD) ≡ (λ (p : ℕ). place_word (stored_in F at image) p SLOT_SERIAL_WORD) = λ i p. serial_stays p i in
       record {
         each = λ s object live.
-            ap (λ (st : Stored). first_from nat_cmp s (under_serial (λ (p : ℕ). place_word st.word p SLOT_SERIAL_WORD) (λ (p : ℕ). p)) 0 (places_in at)) (stored_in-one F at image o k v e distinct there below)
+            ap (λ (st : Stored). first_from nat_cmp s (under_serial (λ (p : ℕ). place_word st p SLOT_SERIAL_WORD) (λ (p : ℕ). p)) 0 (places_in at)) (stored_in-one F at image o k v e distinct there below)
             ∙ ap (λ (serial : ℕ → ℕ). first_from nat_cmp s (under_serial serial (λ (p : ℕ). p)) 0 (places_in at)) same;
       }
 
 -- that of a field
 pub KeepsPlaces-field : (F : ℕ) (at : List (ℕ × Puddle)) (image : Image) → HasDistinctFrames at → (slot : Slot) (of : IsSlotOf at slot) (f v : ℕ) → f < MAX_FIELDS → (now : Graph)
-    → KeepsPlaces F at at image (overwritten (placed (frame_at F slot.frame + field_word slot.slot f) (v ∷ [])) image) now
+    → KeepsPlaces F at at image (overwritten (placed (frame_at F slot.frame + field_word slot f) (v ∷ [])) image) now
 KeepsPlaces-field F at image distinct slot of f v below now =
     let slots = of.below in
-    KeepsPlaces-word F at image distinct slot.ordinal (field_word slot.slot f) v (slot.frame, of.puddle) of.there (omega arith) (λ n within here. absurd (omega arith)) now
+    KeepsPlaces-word F at image distinct slot.ordinal (field_word slot f) v (slot.frame, of.puddle) of.there (omega arith) (λ n within here. absurd (omega arith)) now
 
 -- that of the root
 pub KeepsPlaces-root : (F : ℕ) (at : List (ℕ × Puddle)) (image : Image) → HasDistinctFrames at → (first : ℕ × Puddle) → slice_get at 0 ≡ Some first → (v : ℕ) (now : Graph)
@@ -133,7 +134,7 @@ KeepsPlaces-root F at image distinct first head v now = KeepsPlaces-word F at im
 
 -- the serial of the slot at a place
 abbrev pub serial_at_place : (F : ℕ) → List (ℕ × Puddle) → Image → ℕ → ℕ
-serial_at_place F at image p = place_word (stored_in F at image).word p SLOT_SERIAL_WORD
+serial_at_place F at image p = place_word (stored_in F at image) p SLOT_SERIAL_WORD
 
 module _ (F : ℕ) (at : List (ℕ × Puddle)) (image later : Image) (p : ℕ) (others : (q : ℕ) → (q ≡ p → ⊥) → serial_at_place F at later q ≡ serial_at_place F at image q) where
   abbrev before : ℕ → ℕ
@@ -144,7 +145,7 @@ module _ (F : ℕ) (at : List (ℕ × Puddle)) (image later : Image) (p : ℕ) (
 
   under_same : (s : ℕ) → (before p ≡ s → ⊥) → (behind p ≡ s → ⊥) → (q : ℕ) → under nat_cmp s (under_serial behind (λ (r : ℕ). r) q) ≡ under nat_cmp s (under_serial before (λ (r : ℕ). r) q)
   under_same s was is q = elim (cases_eq q p) [
-    | inr apart ↦ ap (λ (k : ℕ). under nat_cmp s (cond (eqb k 0) None (Some (k, q)))) (others q apart)
+    | inr apart ↦ ap (λ (k : ℕ). under nat_cmp s (cond (slot_state k).is_live (Some (k, q)) None)) (others q apart)
     | inl here ↦
         under_other behind (λ (r : ℕ). r) s q (λ same. is (sym (ap behind here) ∙ same))
         ∙ sym (under_other before (λ (r : ℕ). r) s q (λ same. was (sym (ap before here) ∙ same)))
@@ -157,14 +158,14 @@ module _ (F : ℕ) (at : List (ℕ × Puddle)) (image later : Image) (p : ℕ) (
 -- ---- places, when a free slot is filled
 
 module _ (types : List (ℕ × ℕ)) (F : ℕ) (at : List (ℕ × Puddle)) (image : Image) (is_placed : IsPlaced F at) (first : ℕ × Puddle) (head : slice_get at 0 ≡ Some first) (slot : Slot) (of : IsSlotOf at slot)
-    (serial type_id m : ℕ) (free : place_word (stored_in F at image).word (place_of_slot slot) SLOT_SERIAL_WORD ≡ 0) (next : serial ≡ next_serial_of (stored_in F at image)) (defined : map_of type_id types ≡ Some m) where
+    (serial type_id m : ℕ) (free : place_word (stored_in F at image) (place_of_slot slot) SLOT_SERIAL_WORD ≡ 0) (next : serial ≡ next_serial_of (stored_in F at image)) (defined : map_of type_id types ≡ Some m) where
   abbrev filled : Image
   filled = overwritten (making F first.0 slot serial type_id) image
 
   -- the slots beside it have their serials
   other_serial : (q : ℕ) → (q ≡ place_of_slot slot → ⊥) → serial_at_place F at filled q ≡ serial_at_place F at image q
   other_serial q other =
-      (made types F at image is_placed first head slot of serial type_id m free next defined).others (q / FRAME_SLOTS) (slot_at (q % FRAME_SLOTS) + SLOT_SERIAL_WORD)
+      (made types F at image is_placed first head slot of serial type_id m free next defined).others (ordinal_of q) (place_begins (stored_in F at image) q + SLOT_SERIAL_WORD)
       (λ same above below. let here : q ≡ place_of_slot slot = omega arith in other here) (λ front word. absurd (omega arith))
 
   pub KeepsPlaces-new : (now : Graph) → graph_of types (stored_in F at image) ≡ Some now → KeepsPlaces F at at image filled now

@@ -1,12 +1,13 @@
 -- What is asked for later stays so while the pool's objects stay where they are, of their types.
-use Rattle.std.proofs.Common.{◌≡◌, inl, inr, ℕ, zero, suc, ◌/◌, ◌%◌, ◌<◌, true, false, cond, eqb, List, [], ◌∷◌, ◌++◌, length, Option, Some, None, is_some, option_map, nat_cmp, refl, sym, ap, ◌∙◌, arith, eq-eqb, ne_eqb}
+use Rattle.std.proofs.Common.{◌≡◌, inl, inr, ℕ, zero, suc, ◌<◌, true, false, cond, eqb, List, [], ◌∷◌, ◌++◌, length, Option, Some, None, is_some, option_map, nat_cmp, refl, sym, ap, ◌∙◌, arith, eq-eqb, ne_eqb}
 use Rattle.std.specs.Prelude.{slice_get}
 use Rattle.std.proofs.lemmas.Bool.{cases_eq, cond-true, cond-false}
 use Rattle.std.proofs.lemmas.Option.{none-some, slice_get-map}
-use Rattle.pud_defs.specs.declared.space.TheConstants.{FRAME_SLOTS, SLOT_SERIAL_WORD}
+use Rattle.pud_defs.specs.declared.space.TheConstants.{SLOT_SERIAL_WORD}
 use Rattle.pud_defs.specs.declared.records.Puddle.{Puddle}
 use Rattle.pud_defs.specs.declared.objects.Val.{Val}
 use Rattle.pud_defs.specs.declared.objects.Val.TheVariants.{Num, Ref}
+use Rattle.pud_defs.specs.Geometry.{ordinal_of, slot_of}
 use Rattle.pud_defs.specs.Image.{Image}
 use Rattle.pud_defs.specs.Types.{map_of}
 use Rattle.pud_defs.specs.Keyed.{first_from}
@@ -14,7 +15,7 @@ use Rattle.pud_defs.specs.Entries.{Entry}
 use Rattle.pud_defs.specs.Stored.{Stored, stored_in, place_word}
 use Rattle.pud_defs.specs.Graph.{slot_address, under_serial, Object, Graph, object_in}
 use Rattle.pud_defs.specs.Laters.{Later}
-use Rattle.graph_laws.specs.Rewriting.{base_of}
+use Rattle.graph_laws.specs.Rewriting.{address_in}
 use Rattle.graph_laws.proofs.Words.{place_of-some}
 use Rattle.puddle_header.specs.Places.{places_in}
 use Rattle.graph_read.specs.Reading.{place_in_pool, table_in}
@@ -81,7 +82,7 @@ pub record KeepsPlaces (F : ℕ) (at wide : List (ℕ × Puddle)) (i j : Image) 
 -- where one stands is told by what is stored
 pub place_in_pool-stored : (F : ℕ) (at : List (ℕ × Puddle)) (i j : Image) → stored_in F at j ≡ stored_in F at i → (s : ℕ) → place_in_pool F at j s ≡ place_in_pool F at i s
 place_in_pool-stored F at i j same s =
-    ap (λ (st : Stored). first_from nat_cmp s (under_serial (λ (p : ℕ). place_word st.word p SLOT_SERIAL_WORD) (λ (p : ℕ). p)) 0 (places_in at)) same
+    ap (λ (st : Stored). first_from nat_cmp s (under_serial (λ (p : ℕ). place_word st p SLOT_SERIAL_WORD) (λ (p : ℕ). p)) 0 (places_in at)) same
 
 pub some_element : {X : Type 0} (xs : List X) (i : ℕ) → i < length xs → (x : X) × (slice_get xs i ≡ Some x)
 some_element [] i below = absurd (omega arith)
@@ -89,10 +90,10 @@ some_element (x ∷ xs) zero below = (x, refl)
 some_element (x ∷ xs) (suc i) below = some_element xs i (omega arith)
 
 -- an address by the puddle of the place
-pub address_by : (at : List (ℕ × Puddle)) (q : ℕ) (e : ℕ × Puddle) → slice_get at (q / FRAME_SLOTS) ≡ Some e → address_at at q ≡ slot_address e.1.base (q % FRAME_SLOTS)
+pub address_by : (at : List (ℕ × Puddle)) (q : ℕ) (e : ℕ × Puddle) → slice_get at (ordinal_of q) ≡ Some e → address_at at q ≡ slot_address e.1 (slot_of q)
 address_by at q e there =
-    ap (λ (o : Option Puddle). slot_address (base_of o) (q % FRAME_SLOTS))
-    (slice_get-map (λ (d : ℕ × Puddle). d.1) at (q / FRAME_SLOTS) ∙ ap (option_map (λ (d : ℕ × Puddle). d.1)) there)
+    ap (λ (o : Option Puddle). address_in o (slot_of q))
+    (slice_get-map (λ (d : ℕ × Puddle). d.1) at (ordinal_of q) ∙ ap (option_map (λ (d : ℕ × Puddle). d.1)) there)
 
 -- ---- what is asked for
 
@@ -100,9 +101,9 @@ module _ (F : ℕ) (at wide : List (ℕ × Puddle)) (types more : List (ℕ × �
     (places : KeepsPlaces F at wide i j now) (objects : KeepsObjects now next) where
   address_kept : (q : ℕ) → q < places_in at → address_at wide q ≡ address_at at q
   address_kept q below =
-      let within : q / FRAME_SLOTS < length at = omega arith in
-      let e = some_element at (q / FRAME_SLOTS) within in
-      address_by wide q e.0 (front.each (q / FRAME_SLOTS) e.0 e.1) ∙ sym (address_by at q e.0 e.1)
+      let within : ordinal_of q < length at = omega arith in
+      let e = some_element at (ordinal_of q) within in
+      address_by wide q e.0 (front.each (ordinal_of q) e.0 e.1) ∙ sym (address_by at q e.0 e.1)
 
   reference_kept : (r v : ℕ) (place : Option ℕ) → (r ≡ 0 → ⊥) → place_in_pool F at i r ≡ place → place_in_pool F wide j r ≡ place_in_pool F at i r
       → cond (eqb r 0) (Some 0) (option_map (address_at at) place) ≡ Some v → word_for F wide j (Ref r) ≡ Some v

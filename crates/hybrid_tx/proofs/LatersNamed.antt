@@ -1,21 +1,22 @@
 -- Whether a redo entry of what is asked for later names an object, by its address and its value; and all of them in turn.
-use Rattle.std.proofs.Common.{◌≡◌, ◌⊎◌, inl, inr, ℕ, ◌+◌, ◌/◌, ◌%◌, ◌<◌, Bool, true, false, ◌||◌, cond, eqb, List, [], ◌∷◌, length, Option, Some, None, option_map, refl, sym, ap, ap₂, subst, ◌∙◌, arith, eq-eqb, ne_eqb}
+use Rattle.std.proofs.Common.{◌≡◌, ◌⊎◌, inl, inr, ℕ, ◌+◌, ◌%◌, ◌<◌, Bool, true, false, ◌||◌, cond, eqb, List, [], ◌∷◌, map, length, Option, Some, None, option_map, refl, sym, ap, ap₂, subst, ◌∙◌, arith, eq-eqb, ne_eqb}
 use Rattle.std.specs.Prelude.{slice_get}
 use Rattle.std.proofs.lemmas.Bool.{cases_eq, cond-true, cond-false}
-use Rattle.std.proofs.lemmas.Option.{none-some, same_Some}
+use Rattle.std.proofs.lemmas.Option.{none-some, same_Some, slice_get-map}
 use Rattle.pud_defs.specs.declared.log_words.TheConstants.{REDO_ORDER}
-use Rattle.pud_defs.specs.declared.space.TheConstants.{FRAME_SLOTS, RANGE_BYTES, SLOT_SERIAL_WORD, SLOT_TYPE_WORD}
+use Rattle.pud_defs.specs.declared.space.TheConstants.{RANGE_BYTES, SLOT_SERIAL_WORD, SLOT_TYPE_WORD}
 use Rattle.pud_defs.specs.declared.records.Puddle.{Puddle}
 use Rattle.pud_defs.specs.declared.records.Slot.{Slot}
 use Rattle.pud_defs.specs.declared.objects.Val.{Val}
 use Rattle.pud_defs.specs.declared.objects.Val.TheVariants.{Num, Ref}
+use Rattle.pud_defs.specs.Geometry.{ordinal_of, slot_of}
 use Rattle.pud_defs.specs.Image.{Image}
 use Rattle.pud_defs.specs.TypeMap.{is_pointer}
 use Rattle.pud_defs.specs.Types.{map_of}
 use Rattle.pud_defs.specs.Headers.{slot_word}
 use Rattle.pud_defs.specs.Entries.{Entry, entries_of, words_from}
 use Rattle.pud_defs.specs.Stored.{stored_in, place_word}
-use Rattle.pud_defs.specs.Graph.{At, target, Object, Graph, names_serial, graph_of}
+use Rattle.pud_defs.specs.Graph.{slot_address, At, target, Object, Graph, names_serial, graph_of}
 use Rattle.pud_defs.specs.Laters.{Later, later_names, laters_name}
 use Rattle.pud_defs.proofs.Entries.{words_from-length, words_from-step}
 use Rattle.log_entry.specs.declared.Entry.{Entry as Found}
@@ -38,8 +39,8 @@ use Rattle.hybrid_tx.proofs.LatersKept.{some_element, address_by}
 
 -- ---- which field has an address
 
-one_base : (base other address slot f guess g : ℕ) → base % RANGE_BYTES ≡ 0 → other % RANGE_BYTES ≡ 0 → IsFieldAddress base address slot f → IsFieldAddress other address guess g → base ≡ other
-one_base base other address slot f guess g multiple others one another =
+one_base : (puddle other : Puddle) (address slot f guess g : ℕ) → puddle.base % RANGE_BYTES ≡ 0 → other.base % RANGE_BYTES ≡ 0 → IsFieldAddress puddle address slot f → IsFieldAddress other address guess g → puddle.base ≡ other.base
+one_base puddle other address slot f guess g multiple others one another =
     let a = one.slot_below in
     let b = one.field_below in
     let c = another.slot_below in
@@ -49,16 +50,16 @@ one_base base other address slot f guess g multiple others one another =
     omega arith
 
 -- in one range it is that of one field
-one_slot : (base address slot f guess g : ℕ) → IsFieldAddress base address slot f → IsFieldAddress base address guess g → slot ≡ guess
-one_slot base address slot f guess g one another =
+one_slot : (puddle : Puddle) (address slot f guess g : ℕ) → IsFieldAddress puddle address slot f → IsFieldAddress puddle address guess g → slot ≡ guess
+one_slot puddle address slot f guess g one another =
     let b = one.field_below in
     let d = another.field_below in
     let here = one.is in
     let there = another.is in
     omega arith
 
-one_field : (base address slot f guess g : ℕ) → IsFieldAddress base address slot f → IsFieldAddress base address guess g → f ≡ g
-one_field base address slot f guess g one another =
+one_field : (puddle : Puddle) (address slot f guess g : ℕ) → IsFieldAddress puddle address slot f → IsFieldAddress puddle address guess g → f ≡ g
+one_field puddle address slot f guess g one another =
     let b = one.field_below in
     let d = another.field_below in
     let here = one.is in
@@ -72,27 +73,31 @@ field_unique at address slot guess f g bases one another =
     let there = base_there at slot.ordinal (slot.frame, one.of.puddle) one.of.there in
     let also = base_there at guess.ordinal (guess.frame, another.of.puddle) another.of.there in
     let same : base ≡ another.of.puddle.base =
-    one_base base another.of.puddle.base address slot.slot f guess.slot g (bases.multiples slot.ordinal base there) (bases.multiples guess.ordinal another.of.puddle.base also) one.address_is another.address_is in
+    one_base one.of.puddle another.of.puddle address slot.slot f guess.slot g (bases.multiples slot.ordinal base there) (bases.multiples guess.ordinal another.of.puddle.base also) one.address_is another.address_is in
     let ordinal : slot.ordinal ≡ guess.ordinal = bases.distinct slot.ordinal guess.ordinal base there (also ∙ ap (λ (b : ℕ). Some b) (sym same)) in
     let puddle : (slot.frame, one.of.puddle) ≡ (guess.frame, another.of.puddle) =
     same_Some _ _ (sym one.of.there ∙ ap (λ (o : ℕ). slice_get at o) ordinal ∙ another.of.there) in
     let frame : slot.frame ≡ guess.frame = ap (λ (e : ℕ × Puddle). e.0) puddle in
-    let here = subst (λ (b : ℕ). IsFieldAddress b address guess.slot g) (sym same) another.address_is in
-    let number = one_slot base address slot.slot f guess.slot g one.address_is here in
-    (λ i. record { frame = frame i; ordinal = ordinal i; slot = number i }, one_field base address slot.slot f guess.slot g one.address_is here)
+    let here = subst (λ (e : ℕ × Puddle). IsFieldAddress e.1 address guess.slot g) (sym puddle) another.address_is in
+    let number = one_slot one.of.puddle address slot.slot f guess.slot g one.address_is here in
+    (λ i. record { frame = frame i; ordinal = ordinal i; slot = number i }, one_field one.of.puddle address slot.slot f guess.slot g one.address_is here)
 
 -- ---- addresses of slots
 
 module _ (at : List (ℕ × Puddle)) (bases : AreBases (bases_of at)) where
-  place_read : (p : ℕ) → p < places_in at → target (bases_of at) (address_at at p) ≡ At p
+  abbrev puddles : List Puddle
+  puddles = map (λ (e : ℕ × Puddle). e.1) at
+
+  place_read : (p : ℕ) → p < places_in at → target puddles (address_at at p) ≡ At p
   place_read p below =
-      let within : p / FRAME_SLOTS < length at = omega arith in
-      let e = some_element at (p / FRAME_SLOTS) within in
-      ap (target (bases_of at)) (address_by at p e.0 e.1) ∙ target-there (bases_of at) p e.0.1.base bases (base_there at (p / FRAME_SLOTS) e.0 e.1)
+      let within : ordinal_of p < length at = omega arith in
+      let e = some_element at (ordinal_of p) within in
+      ap (target puddles) (address_by at p e.0 e.1)
+      ∙ target-there puddles p e.0.1 bases (slice_get-map (λ (d : ℕ × Puddle). d.1) at (ordinal_of p) ∙ ap (option_map (λ (d : ℕ × Puddle). d.1)) e.1)
 
   -- two places have two addresses
   place_unique : (p q : ℕ) → p < places_in at → q < places_in at → address_at at p ≡ address_at at q → p ≡ q
-  place_unique p q low high same = let it : At p ≡ At q = sym (place_read p low) ∙ ap (target (bases_of at)) same ∙ place_read q high in cc
+  place_unique p q low high same = let it : At p ≡ At q = sym (place_read p low) ∙ ap (target puddles) same ∙ place_read q high in cc
 
 -- ---- one entry
 
@@ -118,7 +123,7 @@ module _ (F : ℕ) (at : List (ℕ × Puddle)) (types : List (ℕ × ℕ)) (imag
         ap (λ (x : Slot × ℕ). x.1) it,
         word
             ∙ slot_at_place F at image SLOT_SERIAL_WORD guess of (omega arith)
-            ∙ ap (λ (k : Slot). place_word (stored_in F at image).word (place_of_slot k) SLOT_SERIAL_WORD) slot
+            ∙ ap (λ (k : Slot). place_word (stored_in F at image) (place_of_slot k) SLOT_SERIAL_WORD) slot
             ∙ (place_of-some (table_in F at image) (places_in at) l.s (place_of_slot later.slot) later.place).is,
       )
 
@@ -128,7 +133,7 @@ module _ (F : ℕ) (at : List (ℕ × Puddle)) (types : List (ℕ × ℕ)) (imag
   map_of_later guess id is slot of word =
       let there = object_at_place types F at image now is l.s (place_of_slot later.slot) later.place in
       ap (λ (n : ℕ). map_of n types)
-      (word ∙ slot_at_place F at image SLOT_TYPE_WORD guess of (omega arith) ∙ ap (λ (k : Slot). place_word (stored_in F at image).word (place_of_slot k) SLOT_TYPE_WORD) slot)
+      (word ∙ slot_at_place F at image SLOT_TYPE_WORD guess of (omega arith) ∙ ap (λ (k : Slot). place_word (stored_in F at image) (place_of_slot k) SLOT_TYPE_WORD) slot)
       ∙ ap (λ (o : Object). map_of o.type_id types) (same_Some _ _ (sym there ∙ later.may.live))
       ∙ later.may.defined
 
@@ -138,14 +143,19 @@ module _ (F : ℕ) (at : List (ℕ × Puddle)) (types : List (ℕ × ℕ)) (imag
     named = place_of-some (table_in F at image) (places_in at) s p place
 
     null_apart : 0 ≡ address_at at p → ⊥
-    null_apart same = absurd (omega arith)
+    null_apart same =
+        let below = named.within in
+        let within : ordinal_of p < length at = omega arith in
+        let e = some_element at (ordinal_of p) within in
+        let is : 0 ≡ slot_address e.0.1 (slot_of p) = same ∙ address_by at p e.0 e.1 in
+        absurd (omega arith)
 
     -- a reference names the object where its word is the object's address
     same_address : (r q v : ℕ) → place_in_pool F at image r ≡ Some q → address_at at q ≡ v → v ≡ address_at at p → r ≡ s
     same_address r q v there is same =
         let live = place_of-some (table_in F at image) (places_in at) r q there in
         let one = place_unique at is_placed.bases q p live.within named.within (is ∙ same) in
-        sym live.is ∙ ap (λ (k : ℕ). place_word (stored_in F at image).word k SLOT_SERIAL_WORD) one ∙ named.is
+        sym live.is ∙ ap (λ (k : ℕ). place_word (stored_in F at image) k SLOT_SERIAL_WORD) one ∙ named.is
 
     reference_by : (r v : ℕ) (o : Option ℕ) → (r ≡ 0 → ⊥) → place_in_pool F at image r ≡ o → cond (eqb r 0) (Some 0) (option_map (address_at at) o) ≡ Some v → v ≡ address_at at p → r ≡ s
     reference_by r v None other there word same = absurd (none-some v (sym (cond-false _ _ _ (ne_eqb r 0 other)) ∙ word))

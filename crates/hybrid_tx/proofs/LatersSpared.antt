@@ -93,15 +93,15 @@ module _ (types : List (ℕ × ℕ)) (F : ℕ) (at : List (ℕ × Puddle)) (imag
   abbrev freed : Image
   freed = overwritten (placed (serial_word_at F slot) (0 ∷ [])) image
 
-  serial_after : (q v : ℕ) → place_word (with_serial_word (place_of_slot slot) 0 (stored_in F at image)).word q SLOT_SERIAL_WORD ≡ v → serial_at_place F at freed q ≡ v
-  serial_after q v is_so = ap (λ (st : Stored). place_word st.word q SLOT_SERIAL_WORD) (stored_in-cleared F at image is_placed.frames slot of) ∙ is_so
+  serial_after : (q v : ℕ) → place_word (with_serial_word (place_of_slot slot) 0 (stored_in F at image)) q SLOT_SERIAL_WORD ≡ v → serial_at_place F at freed q ≡ v
+  serial_after q v is_so = ap (λ (st : Stored). place_word st q SLOT_SERIAL_WORD) (stored_in-cleared F at image is_placed.frames slot of) ∙ is_so
 
   other_serial : (q : ℕ) → (q ≡ place_of_slot slot → ⊥) → serial_at_place F at freed q ≡ serial_at_place F at image q
   other_serial q other =
-      serial_after q (serial_at_place F at image q) (slot_word-other (place_of_slot slot) SLOT_SERIAL_WORD 0 (stored_in F at image).word (omega arith) q SLOT_SERIAL_WORD (omega arith) (λ same word. other same))
+      serial_after q (serial_at_place F at image q) (slot_word-other (place_of_slot slot) SLOT_SERIAL_WORD 0 (stored_in F at image) (omega arith) q SLOT_SERIAL_WORD (omega arith) (λ same word. other same))
 
   now_free : serial_at_place F at freed (place_of_slot slot) ≡ 0
-  now_free = serial_after (place_of_slot slot) 0 (slot_word-there (place_of_slot slot) SLOT_SERIAL_WORD 0 (stored_in F at image).word (omega arith))
+  now_free = serial_after (place_of_slot slot) 0 (slot_word-there (place_of_slot slot) SLOT_SERIAL_WORD 0 (stored_in F at image) (omega arith))
 
   KeepsPlaces-freed : KeepsPlaces F at at image freed (without_object s now)
   KeepsPlaces-freed =

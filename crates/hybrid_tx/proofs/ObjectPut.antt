@@ -11,10 +11,11 @@ use Rattle.pud_defs.specs.declared.layout.TheConstants.{LOG_WORDS, NUMBER_LIMIT}
 use Rattle.pud_defs.specs.declared.space.TheConstants.{SLOT_SERIAL_WORD, NEXT_SERIAL_WORD}
 use Rattle.pud_defs.specs.declared.records.Puddle.{Puddle}
 use Rattle.pud_defs.specs.declared.records.Slot.{Slot}
+use Rattle.pud_defs.specs.Geometry.{slot_begins}
 use Rattle.pud_defs.specs.Types.{map_of}
 use Rattle.pud_defs.specs.Layout.{device_words, frames_at}
 use Rattle.pud_defs.specs.Image.{Image}
-use Rattle.pud_defs.specs.Frames.{frame_at, frame_word, slot_at}
+use Rattle.pud_defs.specs.Frames.{frame_at, frame_word}
 use Rattle.pud_defs.specs.Entries.{Entry}
 use Rattle.pud_defs.specs.Replay.{over, overwritten, is_in_log}
 use Rattle.pud_defs.specs.Stored.{stored_in, place_word}
@@ -76,7 +77,7 @@ module _ (F : ℕ) (at : List (ℕ × Puddle)) (log_at : ℕ) (slot : Slot) (of 
       record { first = first; head = head; changes = Changes-still by_making (Some fault) old new kept stays; now = λ none. absurd (some_fault fault none) }
 
   -- the words of the slot
-  slot_put : (serial word : ℕ) (words : List ℕ) (fault : Option HostFault) (a b : State) → a ≡ old → serial ≡ serial_now → word ≡ slot_at slot.slot → words ≡ new_words serial type_id
+  slot_put : (serial word : ℕ) (words : List ℕ) (fault : Option HostFault) (a b : State) → a ≡ old → serial ≡ serial_now → word ≡ slot_begins slot → words ≡ new_words serial type_id
       → PutsIn F at slot.ordinal word words log_at fault a b → Changes by_making fault old b
   slot_put serial word words fault a b stays is_next is_word are_words puts =
       let same : words ≡ new_words serial_now type_id = are_words ∙ ap (λ (n : ℕ). new_words n type_id) is_next in
@@ -88,7 +89,7 @@ module _ (F : ℕ) (at : List (ℕ × Puddle)) (log_at : ℕ) (slot : Slot) (of 
       ]) here
 
   pub MakesIn-unput : (serial word : ℕ) (words : List ℕ) (fault : HostFault) (a b : State) → slice_get at 0 ≡ Some first → a ≡ old → serial ≡ frame_word F first.0 NEXT_SERIAL_WORD (reads old.now.words)
-      → word ≡ slot_at slot.slot → words ≡ new_words serial type_id → PutsIn F at slot.ordinal word words log_at (Some fault) a b → MakesIn F at log_at slot type_id (Some fault) old b
+      → word ≡ slot_begins slot → words ≡ new_words serial type_id → PutsIn F at slot.ordinal word words log_at (Some fault) a b → MakesIn F at log_at slot type_id (Some fault) old b
   MakesIn-unput serial word words fault a b head stays read is_word are_words puts =
       record {
         first = first;
@@ -130,18 +131,18 @@ module _ (F : ℕ) (at : List (ℕ × Puddle)) (types : List (ℕ × ℕ)) (log 
   -- both were put: the words of the slot, and the next serial
   Saves-new : (between behind : OpenLog) (first : ℕ × Puddle) (slot : Slot) (serial bumped type_id word : ℕ) (words : List ℕ) (fault : Option HostFault) (a b c : State) → behind.at ≡ between.at → a ≡ old
       → slice_get at 0 ≡ Some first → IsSlotOf at slot → serial ≡ frame_word F first.0 NEXT_SERIAL_WORD (reads old.now.words) → now.next_serial < NUMBER_LIMIT
-      → word ≡ slot_at slot.slot → words ≡ new_words serial type_id → PutsAt F at slot.ordinal word words log between None a b
+      → word ≡ slot_begins slot → words ≡ new_words serial type_id → PutsAt F at slot.ordinal word words log between None a b
       → bumped ≡ (serial + 1) % 2 ^ 64 → PutsAt F at 0 NEXT_SERIAL_WORD (bumped ∷ []) between behind fault b c
       → Saves F at behind before is_open.redo (making F first.0 slot serial type_id) fault old c
   Saves-new between behind first slot serial bumped type_id word words fault a b c same_behind stays head of read room is_word are_words put is_bumped put_next =
       let next : serial ≡ now.next_serial = serial_is_next F at types (reads old.now.words) first head serial read now is_open.is in
       let one_more : bumped ≡ serial + 1 = omega arith in
-      let slot_write = placed (frame_at F slot.frame + slot_at slot.slot) (new_words serial type_id) in
+      let slot_write = placed (frame_at F slot.frame + slot_begins slot) (new_words serial type_id) in
       let next_write = placed (frame_at F first.0 + NEXT_SERIAL_WORD) ((serial + 1) ∷ []) in
       let redo = is_open.redo in
       let in_slot = subst (λ (k : ℕ). (d : Image) (r : List Entry) → IsSaving F at log d r a.now.words → Saves F at between d r (placed (frame_at F slot.frame + k) words) None a b) is_word
       (put (slot.frame, of.puddle) of.there) in
-      let filled = subst (λ (vals : List ℕ). (d : Image) (r : List Entry) → IsSaving F at log d r a.now.words → Saves F at between d r (placed (frame_at F slot.frame + slot_at slot.slot) vals) None a b)
+      let filled = subst (λ (vals : List ℕ). (d : Image) (r : List Entry) → IsSaving F at log d r a.now.words → Saves F at between d r (placed (frame_at F slot.frame + slot_begins slot) vals) None a b)
       are_words in_slot in
       let saves = subst (λ (s : State). IsSaving F at log before redo s.now.words → Saves F at between before redo slot_write None s b) stays (filled before redo) is_open.saving in
       let later = subst (λ (k : ℕ). Saves F at behind before redo (placed (frame_at F first.0 + NEXT_SERIAL_WORD) (k ∷ [])) fault b c) one_more
@@ -151,7 +152,7 @@ module _ (F : ℕ) (at : List (ℕ × Puddle)) (types : List (ℕ × ℕ)) (log 
   -- only they were
   pub MakesIn-new : (between behind : OpenLog) (first : ℕ × Puddle) (slot : Slot) (serial bumped type_id word : ℕ) (words : List ℕ) (fault : Option HostFault) (a b c : State) → between.at ≡ log.at
       → behind.at ≡ between.at → a ≡ old → slice_get at 0 ≡ Some first → IsSlotOf at slot → serial ≡ frame_word F first.0 NEXT_SERIAL_WORD (reads old.now.words) → now.next_serial < NUMBER_LIMIT
-      → word ≡ slot_at slot.slot → words ≡ new_words serial type_id → PutsAt F at slot.ordinal word words log between None a b → PutsIn F at slot.ordinal word words log.at None a b
+      → word ≡ slot_begins slot → words ≡ new_words serial type_id → PutsAt F at slot.ordinal word words log between None a b → PutsIn F at slot.ordinal word words log.at None a b
       → bumped ≡ (serial + 1) % 2 ^ 64 → PutsAt F at 0 NEXT_SERIAL_WORD (bumped ∷ []) between behind fault b c → PutsIn F at 0 NEXT_SERIAL_WORD (bumped ∷ []) between.at fault b c
       → MakesIn F at log.at slot type_id fault old c
   MakesIn-new between behind first slot serial bumped type_id word words fault a b c same_between same_behind stays head of read room is_word are_words put put_in is_bumped put_next next_in =
@@ -173,15 +174,15 @@ module _ (F : ℕ) (at : List (ℕ × Puddle)) (types : List (ℕ × ℕ)) (log 
 
   pub RunsOn-new : (size : ℕ) (between behind : OpenLog) (first : ℕ × Puddle) (slot : Slot) (serial bumped type_id m word : ℕ) (words : List ℕ) (fault : Option HostFault) (a b c : State)
       → IsPlaced F at → device_words F ≤ size → log.at + LOG_WORDS ≤ frames_at F → between.at ≡ log.at → behind.at ≡ between.at → a ≡ old → slice_get at 0 ≡ Some first → IsSlotOf at slot
-      → place_word (stored_in F at (reads old.now.words)).word (place_of_slot slot) SLOT_SERIAL_WORD ≡ 0 → serial ≡ frame_word F first.0 NEXT_SERIAL_WORD (reads old.now.words)
+      → place_word (stored_in F at (reads old.now.words)) (place_of_slot slot) SLOT_SERIAL_WORD ≡ 0 → serial ≡ frame_word F first.0 NEXT_SERIAL_WORD (reads old.now.words)
       → map_of type_id types ≡ Some m → now.next_serial < NUMBER_LIMIT
-      → word ≡ slot_at slot.slot → words ≡ new_words serial type_id → PutsAt F at slot.ordinal word words log between None a b
+      → word ≡ slot_begins slot → words ≡ new_words serial type_id → PutsAt F at slot.ordinal word words log between None a b
       → bumped ≡ (serial + 1) % 2 ^ 64 → PutsAt F at 0 NEXT_SERIAL_WORD (bumped ∷ []) between behind fault b c
       → RunsOn F at types behind before undone (with_new (blank_object type_id m) now) laters fault old c
   RunsOn-new size between behind first slot serial bumped type_id m word words fault a b c is_placed device apart same_between same_behind stays head of free read defined room is_word are_words put is_bumped put_next =
       let image = reads old.now.words in
       let next : serial ≡ now.next_serial = serial_is_next F at types image first head serial read now is_open.is in
-      let slot_write = placed (frame_at F slot.frame + slot_at slot.slot) (new_words serial type_id) in
+      let slot_write = placed (frame_at F slot.frame + slot_begins slot) (new_words serial type_id) in
       let next_write = placed (frame_at F first.0 + NEXT_SERIAL_WORD) ((serial + 1) ∷ []) in
       let redo = is_open.redo in
       let next_read = next_is F at types image first head serial read in

@@ -5,8 +5,8 @@ use Rattle.pud_defs.specs.declared.layout.TheConstants.{FRAME_WORDS}
 use Rattle.pud_defs.specs.declared.space.TheConstants.{SLOT_SERIAL_WORD}
 use Rattle.pud_defs.specs.declared.records.Puddle.{Puddle}
 use Rattle.pud_defs.specs.declared.records.Slot.{Slot}
+use Rattle.pud_defs.specs.Geometry.{puddle_slot_at, slot_begins}
 use Rattle.pud_defs.specs.Image.{Image}
-use Rattle.pud_defs.specs.Frames.{slot_at}
 use Rattle.pud_defs.specs.Replay.{overwritten}
 use Rattle.pud_defs.specs.Stored.{Stored, stored_in}
 use Rattle.pud_defs.specs.Graph.{Graph, graph_of, is_held}
@@ -26,10 +26,10 @@ pub stored_in-cleared : (F : ℕ) (at : List (ℕ × Puddle)) (image : Image) �
     → stored_in F at (overwritten (placed (serial_word_at F slot) (0 ∷ [])) image) ≡ with_serial_word (place_of_slot slot) 0 (stored_in F at image)
 stored_in-cleared F at image distinct slot of =
     let slots = of.below in
-    let few : slot_at slot.slot + SLOT_SERIAL_WORD < FRAME_WORDS = omega arith in
+    let few : slot_begins slot + SLOT_SERIAL_WORD < FRAME_WORDS = omega arith in
     let st : Stored = stored_in F at image in
-    stored_in-one F at image slot.ordinal (slot_at slot.slot + SLOT_SERIAL_WORD) 0 (slot.frame, of.puddle) distinct of.there few
-    ∙ ap₂ (λ (i j : ℕ). with_words (with_word i (slot_at j + SLOT_SERIAL_WORD) 0 st.word) st) (sym (place_ordinal slot.ordinal slot.slot of.below)) (sym (place_slot slot.ordinal slot.slot of.below))
+    stored_in-one F at image slot.ordinal (slot_begins slot + SLOT_SERIAL_WORD) 0 (slot.frame, of.puddle) distinct of.there few
+    ∙ ap₂ (λ (i j : ℕ). with_words (with_word i (puddle_slot_at j + SLOT_SERIAL_WORD) 0 st.word) st) (sym (place_ordinal slot.ordinal slot.slot of.below)) (sym (place_slot slot.ordinal slot.slot of.below))
 
 module _ (types : List (ℕ × ℕ)) (F : ℕ) (at : List (ℕ × Puddle)) (image : Image) (g : Graph) (is : graph_of types (stored_in F at image) ≡ Some g) where
   pub free_stored : IsPlaced F at → (s : ℕ) (slot : Slot) → IsSlotOf at slot → place_in_pool F at image s ≡ Some (place_of_slot slot) → is_held s g ≡ false

@@ -9,8 +9,8 @@ use Rattle.pud_defs.specs.declared.space.TheConstants.{SLOT_SERIAL_WORD, WORD_BY
 use Rattle.pud_defs.specs.declared.records.Puddle.{Puddle}
 use Rattle.pud_defs.specs.declared.records.Slot.{Slot}
 use Rattle.pud_defs.specs.Layout.{device_words, frames_at}
+use Rattle.pud_defs.specs.Geometry.{slot_begins}
 use Rattle.pud_defs.specs.Image.{Image}
-use Rattle.pud_defs.specs.Frames.{slot_at}
 use Rattle.pud_defs.specs.Entries.{Entry, words_from}
 use Rattle.pud_defs.specs.Graph.{Graph}
 use Rattle.pud_defs.specs.GraphChanges.{without_object}
@@ -39,7 +39,7 @@ cleared F slot first fault b c is_first w =
     subst (λ (write : Write). Writes write fault b c) (sym (placed-single (serial_word_at F slot) 0) ∙ ap (λ (k : ℕ). placed k (0 ∷ [])) (sym is_first)) w
 
 -- the word of the serial is one of the frame
-in_frame : (at : List (ℕ × Puddle)) (slot : Slot) → IsSlotOf at slot → slot_at slot.slot + SLOT_SERIAL_WORD + 1 ≤ FRAME_WORDS
+in_frame : (at : List (ℕ × Puddle)) (slot : Slot) → IsSlotOf at slot → slot_begins slot + SLOT_SERIAL_WORD + 1 ≤ FRAME_WORDS
 in_frame at slot of = let slots = of.below in omega arith
 
 -- ---- on any content
@@ -47,7 +47,7 @@ in_frame at slot of = let slots = of.below in omega arith
 module _ (F : ℕ) (at : List (ℕ × Puddle)) (slot : Slot) (of : IsSlotOf at slot) (log : ℕ) where
   pub Changes-freed : (fault : Option HostFault) (a b c : State) → Changes (InLog log) None a b → Writes (only (serial_word_at F slot) 0) fault b c → Changes (ByTransaction (pool_ground F at) log) fault a c
   Changes-freed fault a b c p q =
-      ByPut-in_frame F at slot.ordinal (slot_at slot.slot + SLOT_SERIAL_WORD) log (slot.frame, of.puddle) (0 ∷ []) fault a c of.there (in_frame at slot of)
+      ByPut-in_frame F at slot.ordinal (slot_begins slot + SLOT_SERIAL_WORD) log (slot.frame, of.puddle) (0 ∷ []) fault a c of.there (in_frame at slot of)
       (ByPut-written log (serial_word_at F slot) (0 ∷ []) fault a b c p (cleared F slot (serial_word_at F slot) fault b c refl q))
 
 -- ---- saved and cleared
@@ -70,8 +70,8 @@ module _ (F size : ℕ) (at : List (ℕ × Puddle)) (slot : Slot) (of : IsSlotOf
   saves : (fault : Option HostFault) (c : State) → IsRun (placed first (0 ∷ [])) fault c → Saves F at long before redo (placed (serial_word_at F slot) (0 ∷ [])) fault a c
   saves fault c runs =
       let some : 1 ≤ 1 = omega arith in
-      let word : slot_at slot.slot ≡ slot_at slot.slot + SLOT_SERIAL_WORD = omega arith in
-      Saves-put F size at slot.ordinal (slot_at slot.slot + SLOT_SERIAL_WORD) (slot.frame, of.puddle) log long before redo address first (0 ∷ []) held fault a c is_placed device apart of.there some (in_frame at slot of)
+      let word : slot_begins slot ≡ slot_begins slot + SLOT_SERIAL_WORD = omega arith in
+      Saves-put F size at slot.ordinal (slot_begins slot + SLOT_SERIAL_WORD) (slot.frame, of.puddle) log long before redo address first (0 ∷ []) held fault a c is_placed device apart of.there some (in_frame at slot of)
       (is_address ∙ sym (slot_address-read at slot of (slot.frame, of.puddle) refl is_placed.legal) ∙ ap (λ (k : ℕ). (of.puddle.base + WORD_BYTES * k) % 2 ^ 64) word) is_first saving runs
 
   -- it could not be saved

@@ -3,9 +3,10 @@ use Rattle.std.specs.Prelude.{◌≡◌, ℕ, ◌+◌, ◌*◌, ◌%◌, Bool, t
 use Rattle.std.specs.List.{list_any}
 use Rattle.std.specs.Option.{option_or}
 use Rattle.pud_defs.specs.declared.layout.TheConstants.{FRAME_WORDS}
-use Rattle.pud_defs.specs.declared.space.TheConstants.{RANGE_BYTES, WORD_BYTES, LAST_FRONTIER}
+use Rattle.pud_defs.specs.declared.space.TheConstants.{RANGE_BYTES, WORD_BYTES}
 use Rattle.pud_defs.specs.declared.records.Puddle.{Puddle}
 use Rattle.pud_defs.specs.Bases.{is_legal_base}
+use Rattle.pud_defs.specs.Geometry.{steps_of}
 use Rattle.pud_defs.specs.Frames.{frame_at}
 use Rattle.pud_defs.specs.Places.{word_in}
 use Rattle.pud_defs.specs.Replay.{Place}
@@ -58,8 +59,8 @@ pub record IsPlaced (F : ℕ) (at : List (ℕ × Puddle)) : Type 0 where
 
 -- each pointer in the puddle of this ordinal stands over the pool's bases
 pub record IsRewrittenAt (at : List (ℕ × Puddle)) (ordinal : ℕ) : Type 0 where
-  pub each : (e : ℕ × Puddle) → slice_get at ordinal ≡ Some e → e.1.frontier ≡ LAST_FRONTIER
+  pub each : (e : ℕ × Puddle) → slice_get at ordinal ≡ Some e → e.1.frontier ≡ steps_of e.1
 
 -- each pointer in these puddles does
 pub record IsRewritten (at : List (ℕ × Puddle)) : Type 0 where
-  pub each : All (λ e. e.1.frontier ≡ LAST_FRONTIER) at
+  pub each : All (λ e. e.1.frontier ≡ steps_of e.1) at

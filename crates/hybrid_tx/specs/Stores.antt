@@ -1,13 +1,14 @@
 -- Which words are stored for what is set or made.
 use Rattle.std.specs.Prelude.{◌≡◌, ◌⊎◌, ℕ, ◌+◌, ◌-◌, ◌==◌, cond, List, [], ◌∷◌, map, replicate, Option, Some, option_map}
 use Rattle.pm_model.specs.Changes.{Footprint, Write, placed}
-use Rattle.pud_defs.specs.declared.space.TheConstants.{SLOT_WORDS, SLOT_FIELDS_WORD, NEXT_SERIAL_WORD}
+use Rattle.pud_defs.specs.declared.space.TheConstants.{SLOT_FIELDS_WORD, NEXT_SERIAL_WORD}
 use Rattle.pud_defs.specs.declared.records.Puddle.{Puddle}
 use Rattle.pud_defs.specs.declared.records.Slot.{Slot}
 use Rattle.pud_defs.specs.declared.objects.Val.{Val}
 use Rattle.pud_defs.specs.declared.objects.Val.TheVariants.{Num, Ref}
+use Rattle.pud_defs.specs.Geometry.{puddle_slot_words, slot_begins}
 use Rattle.pud_defs.specs.Image.{Image}
-use Rattle.pud_defs.specs.Frames.{frame_at, slot_at}
+use Rattle.pud_defs.specs.Frames.{frame_at}
 use Rattle.pud_defs.specs.Replay.{over, IsInLog}
 use Rattle.pud_defs.specs.Graph.{At}
 use Rattle.graph_laws.specs.Rewriting.{address_of}
@@ -23,17 +24,17 @@ word_for F at image (Num v) = Some v
 word_for F at image (Ref r) = cond (r == 0) (Some 0) (option_map (address_at at) (place_in_pool F at image r))
 
 -- the word of a frame that holds field f of a slot
-abbrev pub field_word : (slot f : ℕ) → ℕ
-field_word slot f = slot_at slot + SLOT_FIELDS_WORD + f
+abbrev pub field_word : Slot → (f : ℕ) → ℕ
+field_word slot f = slot_begins slot + SLOT_FIELDS_WORD + f
 
 -- the words of a slot that holds a new object: its serial, its type, and 0 in each field
 unfoldable pub new_words : (serial type_id : ℕ) → List ℕ
-new_words serial type_id = serial ∷ type_id ∷ replicate (SLOT_WORDS - SLOT_FIELDS_WORD) 0
+new_words serial type_id = serial ∷ type_id ∷ replicate (puddle_slot_words - SLOT_FIELDS_WORD) 0
 
 -- what is written to make an object in a slot: the words of the slot, and the next serial, which stands in the frame of ordinal 0
 abbrev pub making : (F first : ℕ) → Slot → (serial type_id : ℕ) → Write
 making F first slot serial type_id =
-    over (placed (frame_at F slot.frame + slot_at slot.slot) (new_words serial type_id)) (placed (frame_at F first + NEXT_SERIAL_WORD) ((serial + 1) ∷ []))
+    over (placed (frame_at F slot.frame + slot_begins slot) (new_words serial type_id)) (placed (frame_at F first + NEXT_SERIAL_WORD) ((serial + 1) ∷ []))
 
 -- any value may come to the words of the log whose gate is this word, and these values to the words from another on
 abbrev pub ByPut : (at first : ℕ) → List ℕ → Footprint
@@ -43,4 +44,4 @@ ByPut at first vals k v = IsInLog at k ⊎ (placed first vals k ≡ Some v)
 -- the word of the next serial
 abbrev pub ByMaking : (F at first : ℕ) → Slot → (serial type_id : ℕ) → Footprint
 ByMaking F at first slot serial type_id k v =
-    IsInLog at k ⊎ (placed (frame_at F slot.frame + slot_at slot.slot) (new_words serial type_id) k ≡ Some v) ⊎ (placed (frame_at F first + NEXT_SERIAL_WORD) ((serial + 1) ∷ []) k ≡ Some v)
+    IsInLog at k ⊎ (placed (frame_at F slot.frame + slot_begins slot) (new_words serial type_id) k ≡ Some v) ⊎ (placed (frame_at F first + NEXT_SERIAL_WORD) ((serial + 1) ∷ []) k ≡ Some v)

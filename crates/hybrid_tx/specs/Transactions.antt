@@ -67,7 +67,7 @@ pub record IsLater (F : ℕ) (at : List (ℕ × Puddle)) (types : List (ℕ × �
   pub value : ℕ
   pub word : word_for F at image l.x ≡ Some value
   pub may : MaySet types now l.s l.f l.x
-  pub is : e ≡ redo_entry (of.puddle.base + WORD_BYTES * field_word slot.slot l.f) (value ∷ [])
+  pub is : e ≡ redo_entry (of.puddle.base + WORD_BYTES * field_word slot l.f) (value ∷ [])
 
 -- each of the entries is that of what is asked for in its place
 abbrev pub AreLaters : (F : ℕ) → List (ℕ × Puddle) → List (ℕ × ℕ) → Image → Graph → List Later → List Entry → Type 0

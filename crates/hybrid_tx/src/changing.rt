@@ -12,7 +12,7 @@ ghost use Rattle.pud_defs.specs.Layout.{device_words, frames_at};
 ghost use Rattle.pud_defs.specs.Bases.{is_legal_base};
 ghost use Rattle.pud_defs.specs.Types.{map_of};
 ghost use Rattle.pud_defs.specs.Entries.{Entry};
-ghost use Rattle.pud_defs.specs.Stored.{IsOnDevice, stored_in, place_word};
+ghost use Rattle.pud_defs.specs.Stored.{IsOnDevice, stored_in, place_word, IsFreePlace};
 ghost use Rattle.pud_defs.specs.Graph.{Graph, graph_of};
 ghost use Rattle.log_store.specs.Store.{longer};
 ghost use Rattle.pud_defs.specs.GraphChanges.{with_field, with_new, blank_object, without_object, with_root};
@@ -33,8 +33,8 @@ use pm_model::{Host, HostFault};
 use pud_defs::objects::Val;
 use pud_defs::records::{Puddle, Slot};
 use pud_defs::space::{
-    NEXT_SERIAL_WORD, ROOT_WORD, SLOT_FIELDS_WORD, SLOT_SERIAL_WORD, SLOT_TYPE_WORD, SLOT_WORDS,
-    frame_at, slot_at, word_address,
+    MAX_SLOT_WORDS, NEXT_SERIAL_WORD, ROOT_WORD, SLOT_FIELDS_WORD, SLOT_SERIAL_WORD,
+    SLOT_TYPE_WORD, frame_at, slot_at, slot_begins, word_address,
 };
 use puddle_header::next_serial;
 
@@ -44,7 +44,7 @@ pub(crate) fn slot_address(pool: &[(u32, Puddle)], at: &Slot) -> u64
     ensures address { All (λ e. is_legal_base e.1.base ≡ true) pool.now → result ≡ address_at pool.now (place_of_slot at.now) }
 {
     let (_, puddle) = pool[at.ordinal as usize];
-    word_address(puddle.base, slot_at(at.slot))
+    word_address(puddle.base, slot_at(&puddle, at.slot))
 }
 
 /// The word that stands for a value: the number, 0 for null, or the address of the serial's object, None exactly where there
@@ -80,10 +80,10 @@ pub(crate) fn word_for<H: Host>(
 
 /// The words of a slot that holds a new object of type `t`: its serial, its type, and 0 in each field.
 #[tactic(auto, unfolding(crate::specs::Stores::new_words))]
-fn new_words(serial: u64, t: u32) -> [u64; SLOT_WORDS as usize]
+fn new_words(serial: u64, t: u32) -> [u64; MAX_SLOT_WORDS as usize]
     ensures { result ≡ new_words serial t }
 {
-    let mut words = [0u64; SLOT_WORDS as usize];
+    let mut words = [0u64; MAX_SLOT_WORDS as usize];
     words[SLOT_SERIAL_WORD as usize] = serial;
     words[SLOT_TYPE_WORD as usize] = t as u64;
     words
@@ -129,7 +129,7 @@ impl Tx {
         let word = word_for(h, frames, pool, x)?;
         match (found, word) {
             (Some(at), Some(v)) => {
-                let field = slot_at(at.slot) + SLOT_FIELDS_WORD + f;
+                let field = slot_begins(&at) + SLOT_FIELDS_WORD + f;
                 self.put_in_frame(h, frames, pool, at.ordinal, field, &[v])
             }
             _ => Ok(()),
@@ -155,7 +155,7 @@ impl Tx {
         ensures changes { H.tells → Changes (ByTransaction (pool_ground frames pool.now) self.old.at) (fault_of result) (H.state h.old) (H.state h.new) }
         ensures runs { H.tells → (types : List (ℕ × ℕ)) (m : ℕ) (before : Image) (undone : Graph) (now : Graph) (laters : List Later) → IsPlaced frames pool.now
             → IsOpenOn frames pool.now types self.old before undone now laters (H.state h.old).now.words → map_of t types ≡ Option.Some m → now.next_serial < NUMBER_LIMIT
-            → place_word (stored_in frames pool.now (reads (H.state h.old).now.words)).word (place_of_slot at.now) SLOT_SERIAL_WORD ≡ 0
+            → IsFreePlace (stored_in frames pool.now (reads (H.state h.old).now.words)) (place_of_slot at.now)
             → RunsOn frames pool.now types self.new before undone (with_new (blank_object t m) now) laters (fault_of result) (H.state h.old) (H.state h.new) }
         ensures makes { H.tells → (types : List (ℕ × ℕ)) (before : Image) (undone : Graph) (now : Graph) (laters : List Later) → IsPlaced frames pool.now
             → IsOpenOn frames pool.now types self.old before undone now laters (H.state h.old).now.words → now.next_serial < NUMBER_LIMIT
@@ -168,7 +168,7 @@ impl Tx {
         let (first, _) = pool[0];
         let serial = next_serial(h, frames, first)?;
         let words = new_words(serial, t);
-        self.put_in_frame(h, frames, pool, at.ordinal, slot_at(at.slot), &words)?;
+        self.put_in_frame(h, frames, pool, at.ordinal, slot_begins(&at), &words)?;
         self.put_in_frame(
             h,
             frames,
@@ -244,7 +244,7 @@ impl Tx {
             → Saves frames pool.now self.new before redo (placed (serial_word_at frames at) (0 ∷ [])) (fault_of result) (H.state h.old) (H.state h.new) }
         ensures cause { H.counts h.new ≡ after_fault (fault_of result) (H.counts h.old) }
     {
-        let serial = slot_at(at.slot) + SLOT_SERIAL_WORD;
+        let serial = slot_begins(&at) + SLOT_SERIAL_WORD;
         let first = frame_at(frames, at.frame) + serial;
         self.words.save(h, slot_address(pool, &at), first, 1)?;
         free_slot(h, frames, at)

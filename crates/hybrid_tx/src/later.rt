@@ -34,7 +34,7 @@ use pud_defs::log_words::REDO_ORDER;
 use pud_defs::objects::Val;
 use pud_defs::records::{MAX_PUDDLES, Puddle, Slot};
 use pud_defs::space::{
-    FRAME_SLOTS, HEADER_BYTES, SLOT_BYTES, SLOT_FIELDS_WORD, WORD_BYTES, slot_at,
+    HEADER_BYTES, SLOT_FIELDS_WORD, WORD_BYTES, slot_begins, slot_bytes_of, slots_of,
 };
 use pud_defs::type_map::map_is_pointer;
 use puddle_header::{slot_serial, slot_type};
@@ -46,18 +46,20 @@ const ONE_WORD: u64 = WORD_BYTES as u64;
 /// How many words of a slot stand before its fields.
 const BEFORE_FIELDS: u64 = SLOT_FIELDS_WORD as u64;
 
-/// The slot of the puddle with this base, and the field of it, whose word has the address.
-fn field_in(base: u64, address: u64) -> Option<(u32, u32)>
-    ensures found { (slot : ℕ) (f : ℕ) → IsFieldAddress base address slot f → result ≡ Option.Some (slot, f) }
-    ensures is { IfSome result (λ at. IsFieldAddress base address at.0 at.1) }
+/// The slot of the puddle, and the field of it, whose word has the address.
+fn field_in(puddle: &Puddle, address: u64) -> Option<(u32, u32)>
+    ensures found { (slot : ℕ) (f : ℕ) → IsFieldAddress puddle.now address slot f → result ≡ Option.Some (slot, f) }
+    ensures is { IfSome result (λ at. IsFieldAddress puddle.now address at.0 at.1) }
 {
+    let base = puddle.base;
     if address < base || address - base < HEADER_BYTES {
         return None;
     }
     let behind = address - base - HEADER_BYTES;
-    let slot = behind / SLOT_BYTES;
-    let word = behind % SLOT_BYTES / ONE_WORD;
-    if behind % ONE_WORD != 0 || slot >= u64::from(FRAME_SLOTS) || word < BEFORE_FIELDS {
+    let slot_bytes = slot_bytes_of(puddle);
+    let slot = behind / slot_bytes;
+    let word = behind % slot_bytes / ONE_WORD;
+    if behind % ONE_WORD != 0 || slot >= u64::from(slots_of(puddle)) || word < BEFORE_FIELDS {
         return None;
     }
     Some((slot as u32, (word - BEFORE_FIELDS) as u32))
@@ -71,7 +73,7 @@ fn field_of(pool: &[(u32, Puddle)], address: u64) -> Option<(Slot, u32)>
 {
     for ordinal in 0..pool.len() {
         let (frame, puddle) = pool[ordinal];
-        if let Some((slot, f)) = field_in(puddle.base, address) {
+        if let Some((slot, f)) = field_in(&puddle, address) {
             let at = Slot {
                 frame,
                 ordinal: ordinal as u32,
@@ -166,7 +168,7 @@ impl Tx {
         let word = word_for(h, frames, pool, x)?;
         match (found, word) {
             (Some(at), Some(v)) => {
-                let field = slot_at(at.slot) + SLOT_FIELDS_WORD + f;
+                let field = slot_begins(&at) + SLOT_FIELDS_WORD + f;
                 self.ask_in_frame(h, pool, at.ordinal, field, v)
             }
             _ => Ok(()),

@@ -15,7 +15,7 @@ ghost use Rattle.pud_defs.specs.Image.{Image};
 ghost use Rattle.pud_defs.specs.Entries.{Entry, log_of};
 ghost use Rattle.pud_defs.specs.Frames.{frame_at};
 ghost use Rattle.pud_defs.specs.Replay.{overwritten, replayed};
-ghost use Rattle.pud_defs.specs.Stored.{stored_in, place_word};
+ghost use Rattle.pud_defs.specs.Stored.{stored_in, place_word, IsFreePlace};
 ghost use Rattle.pud_defs.specs.Graph.{Graph, graph_of, is_held, next_serial_of};
 ghost use Rattle.pud_defs.specs.GraphChanges.{with_field, with_new, blank_object, without_object, with_root};
 ghost use Rattle.pud_defs.specs.Laters.{Later, with_laters};
@@ -40,13 +40,13 @@ pub fn stored_word_sets_the_field()
     ensures { (types : List (ℕ × ℕ)) (frames : ℕ) (at : List (ℕ × Puddle)) (image : Image) (g : Graph) → graph_of types (stored_in frames at image) ≡ Option.Some g
         → IsPlaced frames at → (s : ℕ) (f : ℕ) (slot : Slot) → IsRewrittenAt at slot.ordinal → IsSlotOf at slot → place_in_pool frames at image s ≡ Option.Some (place_of_slot slot)
         → (x : Val) (v : ℕ) → MaySet types g s f x → word_for frames at image x ≡ Option.Some v
-        → graph_of types (stored_in frames at (overwritten (placed (frame_at frames slot.frame + field_word slot.slot f) (v ∷ [])) image)) ≡ Option.Some (with_field s f x g) }
+        → graph_of types (stored_in frames at (overwritten (placed (frame_at frames slot.frame + field_word slot f) (v ∷ [])) image)) ≡ Option.Some (with_field s f x g) }
 {}
 
 /// A free slot that is filled under the next serial, which then is one more, is a new object.
 pub fn stored_words_make_the_object()
     ensures { (types : List (ℕ × ℕ)) (frames : ℕ) (at : List (ℕ × Puddle)) (image : Image) → IsPlaced frames at → (first : ℕ × Puddle) → slice_get at 0 ≡ Option.Some first
-        → (slot : Slot) → IsSlotOf at slot → (serial : ℕ) (id : ℕ) (m : ℕ) → place_word (stored_in frames at image).word (place_of_slot slot) SLOT_SERIAL_WORD ≡ 0
+        → (slot : Slot) → IsSlotOf at slot → (serial : ℕ) (id : ℕ) (m : ℕ) → IsFreePlace (stored_in frames at image) (place_of_slot slot)
         → serial ≡ next_serial_of (stored_in frames at image) → map_of id types ≡ Option.Some m
         → (g : Graph) → graph_of types (stored_in frames at image) ≡ Option.Some g → g.next_serial < NUMBER_LIMIT
         → graph_of types (stored_in frames at (overwritten (making frames first.0 slot serial id) image)) ≡ Option.Some (with_new (blank_object id m) g) }

@@ -1,35 +1,35 @@
 -- The search for a free slot, place by place.
-use Rattle.std.proofs.Common.{◌≡◌, inl, inr, ℕ, ◌+◌, ◌*◌, ◌<◌, ◌≤◌, List, ap, ◌∙◌, arith}
-use Rattle.std.specs.Prelude.{◌≢◌}
+use Rattle.std.proofs.Common.{◌≡◌, inl, inr, ℕ, ◌+◌, ◌<◌, ◌≤◌, List, ap, ◌∙◌, arith}
 use Rattle.std.proofs.lemmas.Bool.{cases_eq}
 use Rattle.std.proofs.lemmas.List.{length-map}
-use Rattle.pud_defs.specs.declared.space.TheConstants.{FRAME_SLOTS, SLOT_SERIAL_WORD}
+use Rattle.pud_defs.specs.declared.space.TheConstants.{SLOT_SERIAL_WORD}
 use Rattle.pud_defs.specs.declared.records.Puddle.{Puddle}
+use Rattle.pud_defs.specs.Geometry.{places_among}
 use Rattle.pud_defs.specs.Image.{Image}
-use Rattle.pud_defs.specs.Stored.{Stored, stored_in, places_of, place_word}
+use Rattle.pud_defs.specs.Stored.{Stored, stored_in, places_of, place_word, IsFreePlace, IsLivePlace}
 use Rattle.puddle_header.specs.Places.{places_in}
 use Rattle.graph_laws.specs.Slots.{AreAllLive, IsLowestFreeSlot}
 
 -- each place before this one is live
 pub record AreLiveBefore (st : Stored) (end : ℕ) : Type 0 where
-  pub each : (q : ℕ) → q < end → place_word st.word q SLOT_SERIAL_WORD ≢ 0
+  pub each : (q : ℕ) → q < end → IsLivePlace st q
 
 pub AreLiveBefore-start : (st : Stored) → AreLiveBefore st 0
 AreLiveBefore-start st = record { each = λ q below. absurd (omega arith) }
 
-pub AreLiveBefore-more : (st : Stored) (p : ℕ) → AreLiveBefore st p → place_word st.word p SLOT_SERIAL_WORD ≢ 0 → AreLiveBefore st (p + 1)
+pub AreLiveBefore-more : (st : Stored) (p : ℕ) → AreLiveBefore st p → IsLivePlace st p → AreLiveBefore st (p + 1)
 AreLiveBefore-more st p before live = record {
   each = λ q below. elim (cases_eq q p) [
-    | inl here ↦ λ free. live (ap (λ k. place_word st.word k SLOT_SERIAL_WORD) (let e : p ≡ q = omega arith in e) ∙ free)
+    | inl here ↦ λ free. live (ap (λ k. place_word st k SLOT_SERIAL_WORD) (let e : p ≡ q = omega arith in e) ∙ free)
     | inr other ↦ before.each q (omega arith)
   ];
 }
 
 module _ (F : ℕ) (at : List (ℕ × Puddle)) (image : Image) where
   same_places : places_of (stored_in F at image) ≡ places_in at
-  same_places = ap (λ n. FRAME_SLOTS * n) (length-map at (λ (e : ℕ × Puddle). e.1))
+  same_places = ap (λ n. places_among n) (length-map at (λ (e : ℕ × Puddle). e.1))
 
-  pub found_free : (p : ℕ) → p < places_in at → AreLiveBefore (stored_in F at image) p → place_word (stored_in F at image).word p SLOT_SERIAL_WORD ≡ 0 → IsLowestFreeSlot (stored_in F at image) p
+  pub found_free : (p : ℕ) → p < places_in at → AreLiveBefore (stored_in F at image) p → IsFreePlace (stored_in F at image) p → IsLowestFreeSlot (stored_in F at image) p
   found_free p below before free = record { within = omega (arith, same_places); free = free; live_before = before.each }
 
   pub none_found : (p : ℕ) → places_in at ≤ p → AreLiveBefore (stored_in F at image) p → AreAllLive (stored_in F at image)

@@ -3,7 +3,8 @@ use Rattle.std.specs.Prelude.{ℕ, ◌+◌, Option, Some, None, Result, Ok, Err}
 use Rattle.pm_model.specs.declared.host.HostFault.{HostFault}
 use Rattle.pud_defs.specs.declared.space.TheConstants.{SLOT_SERIAL_WORD}
 use Rattle.pud_defs.specs.declared.records.Slot.{Slot}
-use Rattle.pud_defs.specs.Frames.{frame_at, slot_at}
+use Rattle.pud_defs.specs.Geometry.{slot_begins}
+use Rattle.pud_defs.specs.Frames.{frame_at}
 use Rattle.object_alloc.specs.declared.AllocFault.{AllocFault}
 use Rattle.object_alloc.specs.declared.AllocFault.TheVariants as faults
 
@@ -15,4 +16,4 @@ alloc_fault (Err (faults.Host fault)) = Some fault
 
 -- the word of the device that holds the serial of a slot
 abbrev pub serial_word_at : (F : ℕ) → Slot → ℕ
-serial_word_at F s = frame_at F s.frame + (slot_at s.slot + SLOT_SERIAL_WORD)
+serial_word_at F s = frame_at F s.frame + (slot_begins s + SLOT_SERIAL_WORD)

@@ -9,6 +9,7 @@ ghost use Rattle.pm_model.specs.Words.{Image, reads};
 ghost use Rattle.pm_model.specs.Counts.{after_fault, fault_of};
 ghost use Rattle.pm_model.specs.Changes.{only, Writes};
 ghost use Rattle.pud_defs.specs.Layout.{device_words};
+ghost use Rattle.pud_defs.specs.Geometry.{puddle_slots};
 ghost use Rattle.pud_defs.specs.Stored.{IsOnDevice, stored_in};
 ghost use Rattle.graph_laws.specs.Slots.{AreAllLive, IsLowestFreeSlot};
 ghost use Rattle.puddle_header.specs.Places.{places_in, place_of_slot, IsSlotOf};
@@ -17,8 +18,9 @@ ghost use Rattle.object_alloc.specs.Alloc.{alloc_fault, serial_word_at};
 use pm_model::{Host, HostFault};
 use pm_persist::write_range;
 use pud_defs::layout::MAX_FRAMES;
+use pud_defs::objects::is_free;
 use pud_defs::records::{Puddle, Slot};
-use pud_defs::space::{FRAME_SLOTS, SLOT_SERIAL_WORD, frame_at, slot_at};
+use pud_defs::space::{SLOT_SERIAL_WORD, frame_at, places_among, slot_begins};
 use puddle_header::{serial_at, slot_at_place};
 
 /// Why no slot was found. Nothing changed.
@@ -60,8 +62,8 @@ fn free_place<H: Host>(
     ensures cause { H.counts h.new ≡ after_fault (fault_of result) (H.counts h.old) }
     ensures never_cut { fault_of result ≢ Option.Some HostFault.Cut }
 {
-    for place in 0..FRAME_SLOTS * pool.len() as u32 {
-        if serial_at(h, frames, pool, place)? == 0 {
+    for place in 0..places_among(pool.len() as u32) {
+        if is_free(serial_at(h, frames, pool, place)?) {
             return Ok(Some(place));
         }
     }
@@ -104,10 +106,10 @@ pub fn free_slot<H: Host>(h: &mut H, frames: u32, slot: Slot) -> Result<(), Host
     requires few { frames ≤ MAX_FRAMES }
     requires room { device_words frames ≤ (H.counts h.old).size }
     requires known { slot.frame < frames }
-    requires within { slot.slot < FRAME_SLOTS }
+    requires within { slot.slot < puddle_slots }
     ensures writes { H.tells → Writes (only (serial_word_at frames slot) 0) (fault_of result) (H.state h.old) (H.state h.new) }
     ensures cause { H.counts h.new ≡ after_fault (fault_of result) (H.counts h.old) }
 {
-    let at = frame_at(frames, slot.frame) + slot_at(slot.slot) + SLOT_SERIAL_WORD;
+    let at = frame_at(frames, slot.frame) + slot_begins(&slot) + SLOT_SERIAL_WORD;
     write_range(h, at, &[0])
 }

@@ -1,5 +1,5 @@
 -- Fields of a graph's objects: they are those of a type that is defined, and of its kinds; and what may then be changed.
-use Rattle.std.proofs.Common.{◌≡◌, ◌⊎◌, inl, inr, ℕ, ◌+◌, ◌/◌, ◌%◌, ◌<◌, ◌≤◌, Bool, true, false, not, cond, ◌&&◌, ◌||◌, eqb, List, map, nat_cmp, Option, Some, None, option_map, is_none, is_some, refl, sym, ap, subst, ◌∙◌, arith, ne_eqb}
+use Rattle.std.proofs.Common.{◌≡◌, ◌⊎◌, inl, inr, ℕ, ◌+◌, ◌<◌, ◌≤◌, Bool, true, false, not, cond, ◌&&◌, ◌||◌, eqb, List, map, nat_cmp, Option, Some, None, option_map, is_none, is_some, refl, sym, ap, subst, ◌∙◌, arith, ne_eqb}
 use Rattle.std.specs.Prelude.{slice_get}
 use Rattle.std.specs.List.{range_with_len}
 use Rattle.std.specs.Ordering.{eq_by_cmp}
@@ -9,16 +9,17 @@ use Rattle.std.proofs.lemmas.Cmp.{nat_cmp_total}
 use Rattle.std.proofs.lemmas.List.{length-map}
 use Rattle.std.proofs.lemmas.List.FromFn.{get_or-range_with_len, length-range_with_len}
 use Rattle.std.proofs.lemmas.Option.{none-some, same_Some, cond_some, slice_get-map, slice_get-get_or, slice_get_past}
-use Rattle.pud_defs.specs.declared.space.TheConstants.{FRAME_SLOTS, SLOT_FIELDS_WORD}
+use Rattle.pud_defs.specs.declared.space.TheConstants.{SLOT_FIELDS_WORD}
 use Rattle.pud_defs.specs.declared.objects.Val.{Val}
 use Rattle.pud_defs.specs.declared.objects.Val.TheVariants.{Num, Ref}
 use Rattle.pud_defs.specs.declared.records.Puddle.{Puddle}
 use Rattle.pud_defs.specs.declared.machine.Refusal.TheVariants as refusals
 use Rattle.pud_defs.specs.TypeMap.{is_pointer}
+use Rattle.pud_defs.specs.Geometry.{ordinal_of, slot_of}
 use Rattle.pud_defs.specs.Types.{map_of}
 use Rattle.pud_defs.specs.Keyed.{keyed, under}
 use Rattle.pud_defs.specs.Stored.{Stored, places_of, place_word}
-use Rattle.pud_defs.specs.Graph.{Content, Number, Null, at_place, place_in, target, bases_by, content, field_count, Table, table_of, contents_by, contents_or_none, value_of, object_at, live, all_stand, Graph, Object, object_in, is_held, graph_of}
+use Rattle.pud_defs.specs.Graph.{Content, Number, Null, at_place, place_in, target, puddles_by, content, field_count, Table, table_of, contents_by, contents_or_none, value_of, object_at, live, all_stand, Graph, Object, object_in, is_held, graph_of}
 use Rattle.pud_defs.specs.Laters.{laters_name}
 use Rattle.pud_defs.specs.Step.{misses, are_of_two_kinds, refusal_of}
 use Rattle.pud_defs.specs.World.{Transaction, World}
@@ -42,15 +43,15 @@ refers serial true place = refl
 refers serial false None = refl
 refers serial false (Some p) = refl
 
-target_refers : (serial : ℕ → ℕ) (bases : List ℕ) (v : ℕ) → is_reference (value_of serial (target bases v)) ≡ true
+target_refers : (serial : ℕ → ℕ) (puddles : List Puddle) (v : ℕ) → is_reference (value_of serial (target puddles v)) ≡ true
 unfolding target
-target_refers serial bases v = refers serial (eqb v 0) (place_in 0 bases v)
+target_refers serial puddles v = refers serial (eqb v 0) (place_in 0 puddles v)
 
 kind_of_content : (serial : ℕ → ℕ) (puddles : List Puddle) (m p f v : ℕ) → is_reference (value_of serial (content puddles m p f v)) ≡ is_pointer m f
 kind_of_content serial puddles m p f v =
-    let bases : List ℕ = bases_by puddles (slice_get puddles (p / FRAME_SLOTS)) (p % FRAME_SLOTS + 1) in
-    elim (is_pointer m f) as (λ b. is_reference (value_of serial (cond b (target bases v) (Number v))) ≡ b) [
-      | true ↦ target_refers serial bases v
+    let read : List Puddle = puddles_by puddles (slice_get puddles (ordinal_of p)) (slot_of p + 1) in
+    elim (is_pointer m f) as (λ b. is_reference (value_of serial (cond b (target read v) (Number v))) ≡ b) [
+      | true ↦ target_refers serial read v
       | false ↦ refl
     ]
 
@@ -82,7 +83,7 @@ module _ (types : List (ℕ × ℕ)) (st : Stored) where
       → slice_get (map (value_of t.serial) (contents_or_none (contents_by st p found))) f ≡ Some v → IsTypedField types (object_at t p) f v
   typed_by p f v None is stand there = absurd (let no : false ≡ true = stand in cc)
   typed_by p f v (Some m) is stand there =
-      let at : ℕ → Content = λ k. content st.puddles m p k (place_word st.word p (SLOT_FIELDS_WORD + k)) in
+      let at : ℕ → Content = λ k. content st.puddles m p k (place_word st p (SLOT_FIELDS_WORD + k)) in
       elim (cases_lt f (field_count m)) [
         | inl below ↦
             let same : value_of t.serial (at f) ≡ v = same_Some _ v (sym (nth (value_of t.serial) at (field_count m) f below) ∙ there) in
@@ -90,7 +91,7 @@ module _ (types : List (ℕ × ℕ)) (st : Stored) where
               type_map = m;
               defined = is;
               below = below;
-              kind = ap is_reference (sym same) ∙ kind_of_content t.serial st.puddles m p f (place_word st.word p (SLOT_FIELDS_WORD + f));
+              kind = ap is_reference (sym same) ∙ kind_of_content t.serial st.puddles m p f (place_word st p (SLOT_FIELDS_WORD + f));
             }
         | inr beyond ↦ absurd (none-some v (sym (past (value_of t.serial) at (field_count m) f beyond) ∙ there))
       ]

@@ -1,5 +1,5 @@
 -- The line that makes an object in a transaction that is held: why it is refused, by what is read, and the world that it gives.
-use Rattle.std.proofs.Common.{◌≡◌, inl, inr, ℕ, ◌+◌, ◌*◌, ◌≤◌, Bool, true, false, not, ◌&&◌, ◌||◌, leb, ltb, ◌==◌, cond, List, length, Option, Some, None, is_none, is_some, sum_by, refl, sym, ap, ap₂, ◌∙◌, arith, eqb-true, eq-eqb, ne_eqb}
+use Rattle.std.proofs.Common.{◌≡◌, inl, inr, ℕ, ◌+◌, ◌≤◌, Bool, true, false, not, ◌&&◌, ◌||◌, leb, ltb, ◌==◌, cond, List, length, Option, Some, None, is_none, is_some, sum_by, refl, sym, ap, ap₂, ◌∙◌, arith, eqb-true, eq-eqb, ne_eqb}
 use Rattle.std.specs.Option.{option_or}
 use Rattle.std.proofs.lemmas.Bool.{cases_lt, and_parts, leb-true, le-leb, lt-leb, lt-ltb, le-ltb}
 use Rattle.pm_model.specs.Words.{reads}
@@ -7,12 +7,12 @@ use Rattle.pm_model.specs.Moments.{State}
 use Rattle.pm_model.specs.Masks.{masked}
 use Rattle.pud_defs.specs.declared.layout.TheConstants.{LOG_ENTRY_WORDS, NEW_UNITS, NUMBER_LIMIT, NEXT_NUMBER_WORD}
 use Rattle.pud_defs.specs.declared.records.TheConstants.{MAX_PUDDLES}
-use Rattle.pud_defs.specs.declared.space.TheConstants.{FRAME_SLOTS}
 use Rattle.pud_defs.specs.declared.machine.Command.{Command}
 use Rattle.pud_defs.specs.declared.machine.Command.TheVariants.{Commit, New}
 use Rattle.pud_defs.specs.declared.machine.Reply.TheVariants as replies
 use Rattle.pud_defs.specs.declared.machine.Refusal.{Refusal}
 use Rattle.pud_defs.specs.declared.machine.Refusal.TheVariants as refusals
+use Rattle.pud_defs.specs.Geometry.{slots_among}
 use Rattle.pud_defs.specs.Graph.{Graph, next_serial_of}
 use Rattle.pud_defs.specs.Holdings.{holding_in}
 use Rattle.pud_defs.specs.Image.{Image}
@@ -47,24 +47,24 @@ use Rattle.pool_transaction.proofs.HeldMakes.{next_serial}
 -- ---- numbers
 
 -- as many objects as the most puddles have slots
-most_objects : (objects puddles : ℕ) → objects ≤ FRAME_SLOTS * puddles → puddles ≤ MAX_PUDDLES → (objects == FRAME_SLOTS * puddles) ≡ false → leb (MAX_PUDDLES * FRAME_SLOTS) objects ≡ false
-most_objects objects puddles fit few less = elim (cases_lt objects (MAX_PUDDLES * FRAME_SLOTS)) [
-  | inl below ↦ lt-leb (MAX_PUDDLES * FRAME_SLOTS) objects below
-  | inr many ↦ absurd (let no : true ≡ false = sym (eq-eqb objects (FRAME_SLOTS * puddles) (omega arith)) ∙ less in cc)
+most_objects : (objects puddles : ℕ) → objects ≤ slots_among puddles → puddles ≤ MAX_PUDDLES → (objects == slots_among puddles) ≡ false → leb (slots_among MAX_PUDDLES) objects ≡ false
+most_objects objects puddles fit few less = elim (cases_lt objects (slots_among MAX_PUDDLES)) [
+  | inl below ↦ lt-leb (slots_among MAX_PUDDLES) objects below
+  | inr many ↦ absurd (let no : true ≡ false = sym (eq-eqb objects (slots_among puddles) (omega arith)) ∙ less in cc)
 ]
 
-full_or_room : (objects puddles number : ℕ) → objects ≡ FRAME_SLOTS * puddles → (leb (MAX_PUDDLES * FRAME_SLOTS) objects || lacks_a_number number) ≡ not (has_room puddles number)
+full_or_room : (objects puddles number : ℕ) → objects ≡ slots_among puddles → (leb (slots_among MAX_PUDDLES) objects || lacks_a_number number) ≡ not (has_room puddles number)
 full_or_room objects puddles number all = elim (cases_lt puddles MAX_PUDDLES) [
   | inl below ↦ elim (cases_lt number NUMBER_LIMIT) [
     | inl left ↦
-        ap₂ (λ a b. a || b) (lt-leb (MAX_PUDDLES * FRAME_SLOTS) objects (omega arith)) (le-ltb NUMBER_LIMIT (number + 1) (omega arith))
+        ap₂ (λ a b. a || b) (lt-leb (slots_among MAX_PUDDLES) objects (omega arith)) (le-ltb NUMBER_LIMIT (number + 1) (omega arith))
         ∙ sym (ap₂ (λ a b. not (a && b)) (lt-ltb puddles MAX_PUDDLES below) (lt-ltb number NUMBER_LIMIT left))
     | inr out ↦
-        ap₂ (λ a b. a || b) (lt-leb (MAX_PUDDLES * FRAME_SLOTS) objects (omega arith)) (lt-ltb NUMBER_LIMIT (number + 1) (omega arith))
+        ap₂ (λ a b. a || b) (lt-leb (slots_among MAX_PUDDLES) objects (omega arith)) (lt-ltb NUMBER_LIMIT (number + 1) (omega arith))
         ∙ sym (ap₂ (λ a b. not (a && b)) (lt-ltb puddles MAX_PUDDLES below) (le-ltb number NUMBER_LIMIT out))
   ]
   | inr many ↦
-      ap (λ a. a || lacks_a_number number) (le-leb (MAX_PUDDLES * FRAME_SLOTS) objects (omega arith))
+      ap (λ a. a || lacks_a_number number) (le-leb (slots_among MAX_PUDDLES) objects (omega arith))
       ∙ sym (ap (λ a. not (a && ltb number NUMBER_LIMIT)) (le-ltb puddles MAX_PUDDLES many))
 ]
 
@@ -122,14 +122,14 @@ module _ (size : ℕ) (w : World) (memory : Memory) (held : Held) (s : State) (n
   opened = is.is
 
   abbrev many : Bool
-  many = leb (MAX_PUDDLES * FRAME_SLOTS) (length is.transaction.now.objects)
+  many = leb (slots_among MAX_PUDDLES) (length is.transaction.now.objects)
 
   less_by : grows w held.name ≡ false → many ≡ false
   less_by less =
       most_objects (length is.transaction.now.objects) (length held.at) (objects_fit size w memory held s number there ready) few_held (sym (grows_by size w memory held s number there ready) ∙ less)
 
-  all_by : grows w held.name ≡ true → length is.transaction.now.objects ≡ FRAME_SLOTS * length held.at
-  all_by more = eqb-true (length is.transaction.now.objects) (FRAME_SLOTS * length held.at) (sym (grows_by size w memory held s number there ready) ∙ more)
+  all_by : grows w held.name ≡ true → length is.transaction.now.objects ≡ slots_among (length held.at)
+  all_by more = eqb-true (length is.transaction.now.objects) (slots_among (length held.at)) (sym (grows_by size w memory held s number there ready) ∙ more)
 
   more_by : grows w held.name ≡ true → (many || lacks_a_number w.stored.next_number) ≡ not (has_room (length held.at) (image NEXT_NUMBER_WORD))
   more_by more =
@@ -220,7 +220,7 @@ module _ (size : ℕ) (w : World) (memory : Memory) (held : Held) (s : State) (n
       let counted = puddles_counted size w memory held s number there ready in
       let all = all_by more in
       ap₂ (λ (o : Option Transaction) (found : Option Pool). is_all_live (graph_seen o found) found) opened (found_more held.name w.stored p.pool p.there)
-      ∙ ne_eqb (length is.transaction.now.objects) (FRAME_SLOTS * (p.pool.puddles + 1)) (λ same. absurd (omega (arith, same, counted, all)))
+      ∙ ne_eqb (length is.transaction.now.objects) (slots_among (p.pool.puddles + 1)) (λ same. absurd (omega (arith, same, counted, all)))
 
   -- and the same is refused whatever slots there are
   pub grown_refusal : (now : Held) → now.name ≡ held.name → now.log ≡ held.log → refusal_by_world w held id ≡ None → refusal_by_world (with_more held.name w) now id ≡ None

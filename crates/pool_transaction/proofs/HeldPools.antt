@@ -1,11 +1,11 @@
 -- The pool of a transaction that is held: what the world has of it, and whether it has a free slot.
-use Rattle.std.proofs.Common.{◌≡◌, ℕ, ◌*◌, ◌≤◌, true, false, ◌==◌, List, length, Option, Some, None, refl, sym, ap, ap₂, ◌∙◌, arith, eqb-true, eq-eqb}
+use Rattle.std.proofs.Common.{◌≡◌, ℕ, ◌≤◌, true, false, ◌==◌, List, length, Option, Some, None, refl, sym, ap, ap₂, ◌∙◌, arith, eqb-true, eq-eqb}
 use Rattle.std.proofs.lemmas.List.{length-map}
 use Rattle.std.proofs.lemmas.Option.{none-some, same_Some}
 use Rattle.pm_model.specs.Words.{reads}
 use Rattle.pm_model.specs.Moments.{State}
-use Rattle.pud_defs.specs.declared.space.TheConstants.{FRAME_SLOTS}
 use Rattle.pud_defs.specs.declared.records.Puddle.{Puddle}
+use Rattle.pud_defs.specs.Geometry.{places_among, slots_among}
 use Rattle.pud_defs.specs.Graph.{Graph}
 use Rattle.pud_defs.specs.Holdings.{Holding, graph_held}
 use Rattle.pud_defs.specs.Holdings.Holding.{Sound, Wild}
@@ -85,26 +85,26 @@ module _ (size : ℕ) (w : World) (memory : Memory) (held : Held) (s : State) (n
       let counted = length_puddles w.stored.next_number t sound held.slot is.pool.slot in
       omega (arith, counted, count_held, some)
 
-  places : places_of st ≡ FRAME_SLOTS * length held.at
-  places = ap (λ n. FRAME_SLOTS * n) (length-map held.at (λ (e : ℕ × Puddle). e.1))
+  places : places_of st ≡ places_among (length held.at)
+  places = ap (λ n. places_among n) (length-map held.at (λ (e : ℕ × Puddle). e.1))
 
   -- a pool that grows has as many objects as slots
-  pub grows_by : grows w held.name ≡ (length is.transaction.now.objects == FRAME_SLOTS * length held.at)
+  pub grows_by : grows w held.name ≡ (length is.transaction.now.objects == slots_among (length held.at))
   grows_by =
       ap₂ (λ (o : Option Transaction) (found : Option Pool). is_all_live (graph_seen o found) found) is.is its_pool.there
-      ∙ ap (λ n. length is.transaction.now.objects == FRAME_SLOTS * n) puddles_counted
+      ∙ ap (λ n. length is.transaction.now.objects == slots_among n) puddles_counted
 
   -- and no free slot
   pub grows_live : grows w held.name ≡ true → AreAllLive st
   grows_live more =
-      let many = eqb-true (length is.transaction.now.objects) (FRAME_SLOTS * length held.at) (sym grows_by ∙ more) in
+      let many = eqb-true (length is.transaction.now.objects) (slots_among (length held.at)) (sym grows_by ∙ more) in
       (objects-live w.stored.types st is.transaction.now is.running.is).1 (many ∙ sym places)
 
   pub grows_not : grows w held.name ≡ false → AreAllLive st → ⊥
   grows_not less all =
       let many = (objects-live w.stored.types st is.transaction.now is.running.is).0 all in
-      let no : true ≡ false = sym (eq-eqb (length is.transaction.now.objects) (FRAME_SLOTS * length held.at) (many ∙ places)) ∙ sym grows_by ∙ less in
+      let no : true ≡ false = sym (eq-eqb (length is.transaction.now.objects) (slots_among (length held.at)) (many ∙ places)) ∙ sym grows_by ∙ less in
       cc
 
-  pub objects_fit : length is.transaction.now.objects ≤ FRAME_SLOTS * length held.at
+  pub objects_fit : length is.transaction.now.objects ≤ slots_among (length held.at)
   objects_fit = let most = objects-most w.stored.types st is.transaction.now is.running.is in omega (arith, most, places)

@@ -8,7 +8,8 @@ use Rattle.std.proofs.lemmas.Option.{none-some}
 use Rattle.pud_defs.specs.declared.records.TheConstants.{POOL_RECORDS, MAX_PUDDLES}
 use Rattle.pud_defs.specs.declared.records.PoolRec.{PoolRec}
 use Rattle.pud_defs.specs.declared.records.Puddle.{Puddle}
-use Rattle.pud_defs.specs.Bases.{is_legal_base, is_legal_frontier}
+use Rattle.pud_defs.specs.Bases.{is_legal_base}
+use Rattle.pud_defs.specs.Geometry.{steps_of, is_legal_frontier}
 use Rattle.pud_defs.specs.Keyed.{count_used}
 use Rattle.pud_defs.specs.LayoutText.{frames_line, pool_line, puddle_line, pool_lines, tables_text}
 use Rattle.pud_defs.specs.Pools.{is_given, pool_read}
@@ -56,8 +57,8 @@ module _ {X A : Type 0} (text : ℕ → Option X → List A) where
 
 frontier_read : (next : ℕ) (p : Puddle) → is_legal_puddle next p ≡ true → p.frontier % 2 ^ 32 ≡ p.frontier
 frontier_read next p legal =
-    let last = and_parts (is_given next p.number && is_legal_base p.base && is_legal_base p.old_base) (is_legal_frontier p.frontier) legal in
-    let all = eqb-true p.frontier 63 last.1 in
+    let last = and_parts (is_given next p.number && is_legal_base p.base && is_legal_base p.old_base) (is_legal_frontier p) legal in
+    let all = eqb-true p.frontier (steps_of p) last.1 in
     omega (arith, all)
 
 module _ (next : ℕ) (t : Tables) (sound : HasSoundTables next t) (id : ℕ) where

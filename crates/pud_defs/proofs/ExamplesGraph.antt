@@ -5,7 +5,8 @@ use Rattle.pud_defs.specs.declared.objects.Val.TheVariants.{Num, Ref}
 use Rattle.pud_defs.specs.Image.{Image, written}
 use Rattle.pud_defs.specs.TypeMap.{map_fields, is_pointer}
 use Rattle.pud_defs.specs.Bases.{base_at}
-use Rattle.pud_defs.specs.Frames.{slot_at, first_serial}
+use Rattle.pud_defs.specs.Geometry.{puddle_slot_at}
+use Rattle.pud_defs.specs.Frames.{first_serial}
 use Rattle.pud_defs.specs.Stored.{Stored}
 use Rattle.pud_defs.specs.Graph.{Object, Graph, slot_address, graph_of, is_held, empty_graph}
 use Rattle.pud_defs.specs.Holdings.{Sound, Wild, held_by, read_anew}
@@ -26,15 +27,19 @@ fresh number ordinal = written FRAME_MAGIC_WORD FRAME_MAGIC (written FRAME_NUMBE
 
 -- the frame with an object of type 1 in a slot
 abbrev with_slot : (slot serial value pointer : ℕ) → Image → Image
-with_slot slot serial value pointer frame = written (slot_at slot) serial (written (slot_at slot + 1) 1 (written (slot_at slot + 2) value (written (slot_at slot + 3) pointer frame)))
+with_slot slot serial value pointer frame = written (puddle_slot_at slot) serial (written (puddle_slot_at slot + 1) 1 (written (puddle_slot_at slot + 2) value (written (puddle_slot_at slot + 3) pointer frame)))
 
 -- a pool of one puddle, of number 7 in range 2
 abbrev alone : Image → Stored
 alone frame = record { puddles = record { number = 7; base = base_at 2; old_base = base_at 2; frontier = 63 } ∷ []; word = λ o. frame }
 
+-- the address of a slot of a puddle in a range
+abbrev address_in_range : (range slot : ℕ) → ℕ
+address_in_range range slot = slot_address (record { number = 0; base = base_at range; old_base = base_at range; frontier = 0 }) slot
+
 -- the address of a slot of that puddle
 abbrev address : (slot : ℕ) → ℕ
-address slot = slot_address (base_at 2) slot
+address slot = address_in_range 2 slot
 
 -- an object of type 1
 abbrev object : (value serial : ℕ) → Object
@@ -94,7 +99,7 @@ behind_the_last_slot : graph_of types (one 2 (address 62)) ≡ None
 unfolding opened
 behind_the_last_slot = refl
 
-into_another_pool : graph_of types (one 2 (slot_address (base_at 3) 0)) ≡ None
+into_another_pool : graph_of types (one 2 (address_in_range 3 0)) ≡ None
 unfolding opened
 into_another_pool = refl
 
@@ -149,7 +154,7 @@ moved_graph root first second third = record { next_serial = 4; root = root; obj
 
 -- slot 0 of the first puddle by its base, and of the second by its old base
 abbrev of_both : ℕ
-of_both = slot_address (base_at 1) 0
+of_both = address_in_range 1 0
 
 -- no pointer is rewritten: all stand over the old bases
 not_rewritten : graph_of types (moved 0 of_both of_both of_both of_both) ≡ Some (moved_graph 3 3 3 3)
@@ -157,7 +162,7 @@ unfolding opened
 not_rewritten = refl
 
 -- the root and the pointer of object 1 are rewritten, and the graph is the same
-two_steps_rewritten : graph_of types (moved 2 (slot_address (base_at 2) 0) (slot_address (base_at 2) 0) of_both of_both) ≡ Some (moved_graph 3 3 3 3)
+two_steps_rewritten : graph_of types (moved 2 (address_in_range 2 0) (address_in_range 2 0) of_both of_both) ≡ Some (moved_graph 3 3 3 3)
 unfolding opened
 two_steps_rewritten = refl
 
@@ -167,6 +172,6 @@ unfolding opened
 frontier_decides = refl
 
 -- an old address below the frontier, and a new one from there on
-over_the_wrong_bases : (graph_of types (moved 2 (slot_address (base_at 0) 0) 0 0 0) ≡ None) × (graph_of types (moved 2 0 0 (slot_address (base_at 2) 0) 0) ≡ None)
+over_the_wrong_bases : (graph_of types (moved 2 (address_in_range 0 0) 0 0 0) ≡ None) × (graph_of types (moved 2 0 0 (address_in_range 2 0) 0) ≡ None)
 unfolding opened
 over_the_wrong_bases = (refl, refl)

@@ -1,15 +1,16 @@
 -- A pool of one fresh puddle has the graph in which nothing was made yet.
-use Rattle.std.proofs.Common.{◌≡◌, ℕ, ◌+◌, ◌-◌, ◌/◌, ◌%◌, ◌<◌, ◌≤◌, true, List, [], ◌∷◌, Some, None, nat_cmp, replicate, refl, sym, ap, ◌∙◌, arith, eq-eqb}
+use Rattle.std.proofs.Common.{◌≡◌, ℕ, ◌+◌, ◌-◌, ◌<◌, ◌≤◌, true, List, [], ◌∷◌, Some, None, nat_cmp, replicate, refl, sym, ap, ◌∙◌, arith, eq-eqb}
 use Rattle.std.specs.Prelude.{slice_index}
 use Rattle.std.proofs.lemmas.Bool.{and_from}
 use Rattle.std.proofs.lemmas.List.{get_or_append_left, get_or-append_right, get_or-replicate}
 use Rattle.std.proofs.lemmas.Option.{none-some}
 use Rattle.pud_defs.specs.declared.layout.TheConstants.{FRAME_WORDS}
-use Rattle.pud_defs.specs.declared.space.TheConstants.{FRAME_SLOTS, NEXT_SERIAL_WORD, ROOT_WORD}
+use Rattle.pud_defs.specs.declared.space.TheConstants.{NEXT_SERIAL_WORD, ROOT_WORD}
 use Rattle.pud_defs.specs.declared.records.Puddle.{Puddle}
+use Rattle.pud_defs.specs.Geometry.{ordinal_of, places_among}
 use Rattle.pud_defs.specs.Spaces.{all_below}
-use Rattle.pud_defs.specs.Frames.{slot_at, fresh_header, fresh_frame}
-use Rattle.pud_defs.specs.Stored.{Stored, place_word}
+use Rattle.pud_defs.specs.Frames.{fresh_header, fresh_frame}
+use Rattle.pud_defs.specs.Stored.{Stored, place_word, place_begins}
 use Rattle.pud_defs.specs.Graph.{Null, table_of, object_at, live, named_by, stands, is_next_serial, headers_fit, root_of, graph_stored, graph_of, empty_graph}
 use Rattle.pud_defs.proofs.Keyed.{keyed-none}
 use Rattle.pud_defs.proofs.Contents.{target-null}
@@ -48,16 +49,16 @@ module _ (types : List (ℕ × ℕ)) (p : Puddle) (word : ℕ → ℕ → ℕ) (
   no_root : root_of alone ≡ Null
   no_root = target-null _ _ (fresh ROOT_WORD (omega arith) ∙ fresh_word p.number 0 ROOT_WORD (omega arith) (omega arith))
 
-  free_serial : (q : ℕ) → q < FRAME_SLOTS → place_word word q 0 ≡ 0
+  free_serial : (q : ℕ) → q < places_among 1 → place_word alone q 0 ≡ 0
   free_serial q below =
-      let ordinal : q / FRAME_SLOTS ≡ 0 = omega arith in
-      let k = slot_at (q % FRAME_SLOTS) + 0 in
+      let ordinal : ordinal_of q ≡ 0 = omega arith in
+      let k = place_begins alone q + 0 in
       ap (λ o. word o k) ordinal ∙ fresh k (omega arith) ∙ fresh_word p.number 0 k (omega arith) (omega arith)
 
-  free_place : (q : ℕ) → q < FRAME_SLOTS → live (table_of types alone) q ≡ None
+  free_place : (q : ℕ) → q < places_among 1 → live (table_of types alone) q ≡ None
   free_place q below = let t = table_of types alone in under_serial-free t.serial (object_at t) q (free_serial q below)
 
-  is_graph : IsGraph (word 0 NEXT_SERIAL_WORD) (root_of alone) (table_of types alone) FRAME_SLOTS
+  is_graph : IsGraph (word 0 NEXT_SERIAL_WORD) (root_of alone) (table_of types alone) (places_among 1)
   is_graph = record {
     legal = ap is_next_serial first_next;
     top_stands = ap (stands (table_of types alone).serial) no_root;
@@ -68,7 +69,7 @@ module _ (types : List (ℕ × ℕ)) (p : Puddle) (word : ℕ → ℕ → ℕ) (
   nothing_made : graph_stored types alone ≡ empty_graph
   nothing_made =
       let root = ap (named_by (table_of types alone).serial) no_root in
-      let none = keyed-none nat_cmp (live (table_of types alone)) 0 FRAME_SLOTS (λ q low high. free_place q (omega arith)) in
+      let none = keyed-none nat_cmp (live (table_of types alone)) 0 (places_among 1) (λ q low high. free_place q (omega arith)) in
       λ i. record { next_serial = first_next i; root = root i; objects = none i }
 
   pub graph_of-fresh : graph_of types alone ≡ Some empty_graph

@@ -1,9 +1,9 @@
 -- When slots are a graph, and when what is stored has one, fact by fact; and tables that are read the same.
-use Rattle.std.proofs.Common.{◌≡◌, inl, ℕ, ◌+◌, ◌<◌, ◌≤◌, Bool, true, false, cond, ltb, eqb, List, map, length, Some, None, is_none, option_map, nat_cmp, refl, sym, ap, ap₂, ◌∙◌, ⊎_elim, arith, eq-eqb, ne_eqb}
+use Rattle.std.proofs.Common.{◌≡◌, inl, ℕ, ◌+◌, ◌<◌, ◌≤◌, Bool, true, false, cond, ltb, eqb, List, map, length, Some, None, is_none, option_map, nat_cmp, refl, sym, ap, ap₂, ◌∙◌, ⊎_elim, arith, eq-eqb, ne_eqb, not}
 use Rattle.std.proofs.lemmas.Cmp.{nat_cmp_total}
 use Rattle.std.proofs.lemmas.Bool.{cases_eq, cond-true, cond-false, and_parts, and_from, or_left, or_right, or_cases, eqb-true, ltb-true, lt-ltb}
 use Rattle.std.proofs.lemmas.Option.{cond_some}
-use Rattle.pud_defs.specs.Stored.{Stored, places_of}
+use Rattle.pud_defs.specs.Stored.{Stored, places_of, slot_state}
 use Rattle.pud_defs.specs.Graph.{Content, Table, table_of, Graph, under_serial, placed, object_at, live, graph_by, stands, all_stand, is_sound_place, is_next_serial, is_graph, headers_fit, value_of, contents_or_none, next_serial_of, root_of, graph_stored, graph_of}
 use Rattle.pud_defs.proofs.Contents.{names_only, name_only, stands-same, named_by-same, all_stand-same, values-same}
 use Rattle.pud_defs.specs.Keyed.{keyed, count_used}
@@ -76,16 +76,16 @@ graph_of-from types st g h = cond-true _ _ _ (and_from _ _ h.headers (is_graph-f
 
 -- ---- what stands under a serial
 
-none_alike : {A B : Type 0} (b : Bool) (x : A) (y : B) → is_none (cond b None (Some x)) ≡ is_none (cond b None (Some y))
+none_alike : {A B : Type 0} (b : Bool) (x : A) (y : B) → is_none (cond b (Some x) None) ≡ is_none (cond b (Some y) None)
 none_alike true x y = refl
 none_alike false x y = refl
 
 module _ {A : Type 0} (serial : ℕ → ℕ) (value : ℕ → A) where
   pub under_serial-free : (p : ℕ) → serial p ≡ 0 → under_serial serial value p ≡ None
-  under_serial-free p free = cond-true _ _ _ (eq-eqb _ 0 free)
+  under_serial-free p free = cond-false _ _ _ (ap not (eq-eqb _ 0 free))
 
   pub under_serial-used : (p : ℕ) → (serial p ≡ 0 → ⊥) → under_serial serial value p ≡ Some (serial p, value p)
-  under_serial-used p used = cond-false _ _ _ (ne_eqb _ 0 used)
+  under_serial-used p used = cond-true _ _ _ (ap not (ne_eqb _ 0 used))
 
   pub key_of_serial : (p : ℕ) → option_map (λ (e : ℕ × A). e.0) (under_serial serial value p) ≡ cond (eqb (serial p) 0) None (Some (serial p))
   key_of_serial p = ⊎_elim
@@ -101,7 +101,7 @@ distinct_live t n h = HasDistinctKeys-keys nat_cmp (placed t) (live t) 0 n (λ j
 pub length-live : (t : Table) (n : ℕ) → HasDistinctKeys nat_cmp (placed t) 0 n → length (keyed nat_cmp (live t) 0 n) ≡ count_used (placed t) 0 n
 length-live t n h =
     length-keyed nat_cmp nat_cmp_total (live t) 0 n (distinct_live t n h)
-    ∙ count_used-same (live t) (placed t) 0 n (λ j low high. none_alike (eqb (t.serial j) 0) (t.serial j, object_at t j) (t.serial j, j))
+    ∙ count_used-same (live t) (placed t) 0 n (λ j low high. none_alike (slot_state (t.serial j)).is_live (t.serial j, object_at t j) (t.serial j, j))
 
 -- it is the same where the serial is, and where the values are if there is one
 pub under_serial-same : {A : Type 0} (s r : ℕ → ℕ) (f g : ℕ → A) (p : ℕ) → r p ≡ s p → ((s p ≡ 0 → ⊥) → g p ≡ f p) → under_serial r g p ≡ under_serial s f p

@@ -35,7 +35,7 @@ module _ (id map : ℕ) (types : List (ℕ × ℕ)) (st : Stored) where
         let t = table_of types st in
         let found = defined_there t.serial st p (map_of (t.type_id p) types) (h.sound p below live).stand in
         ap (contents_by st p) (map_of-more id map (t.type_id p) found.0 types none found.1);
-    within = λ p below live. contents_by_within st p (map_of (place_word st.word p SLOT_TYPE_WORD) types);
+    within = λ p below live. contents_by_within st p (map_of (place_word st p SLOT_TYPE_WORD) types);
   }
 
   pub graph_of-more : (g : Graph) → map_of id types ≡ None → graph_of types st ≡ Some g → graph_of more st ≡ Some g

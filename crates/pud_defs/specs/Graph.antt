@@ -1,22 +1,22 @@
 -- The graph of a pool: what its bytes stand for, by the types that are defined.
-use Rattle.std.specs.Prelude.{ℕ, ◌+◌, ◌-◌, ◌*◌, ◌/◌, ◌%◌, Bool, true, false, not, ◌&&◌, ◌||◌, nat_le, nat_lt, ◌==◌, cond, List, [], ◌∷◌, map, length, slice_get, Option, Some, None, option_map}
+use Rattle.std.specs.Prelude.{ℕ, ◌+◌, ◌-◌, ◌*◌, ◌/◌, Bool, true, false, ◌&&◌, ◌||◌, nat_le, nat_lt, ◌==◌, cond, List, [], ◌∷◌, map, length, slice_get, Option, Some, None, option_map}
 use Rattle.std.specs.Ordering.{nat_cmp}
 use Rattle.std.specs.List.{list_all, list_any, range_with_len}
 use Rattle.std.specs.Option.{option_or}
 use Rattle.std.specs.FinMap.Entries.{find}
 use Rattle.pud_defs.specs.declared.layout.TheConstants.{MAX_FIELDS}
-use Rattle.pud_defs.specs.declared.space.TheConstants.{WORD_BYTES, SLOT_WORDS, FRAME_SLOTS, SLOT_SERIAL_WORD, SLOT_TYPE_WORD, SLOT_FIELDS_WORD, NEXT_SERIAL_WORD, ROOT_WORD, FRAME_MAGIC_WORD, FRAME_NUMBER_WORD, FRAME_ORDINAL_WORD}
+use Rattle.pud_defs.specs.declared.space.TheConstants.{WORD_BYTES, SLOT_SERIAL_WORD, SLOT_TYPE_WORD, SLOT_FIELDS_WORD, NEXT_SERIAL_WORD, ROOT_WORD, FRAME_MAGIC_WORD, FRAME_NUMBER_WORD, FRAME_ORDINAL_WORD}
 use Rattle.pud_defs.specs.declared.records.Puddle.{Puddle}
 use Rattle.pud_defs.specs.declared.objects.Val.{Val}
 use Rattle.pud_defs.specs.declared.objects.Val.TheVariants.{Num, Ref}
 use Rattle.pud_defs.specs.TypeMap.{map_fields, is_pointer}
+use Rattle.pud_defs.specs.Geometry.{slots_of, slot_words_of, slot_at, ordinal_of, slot_of, places_among}
 use Rattle.pud_defs.specs.Types.{map_of}
 use Rattle.pud_defs.specs.Spaces.{all_below}
 use Rattle.pud_defs.specs.Keyed.{keyed, are_distinct, first_from}
-use Rattle.pud_defs.specs.Frames.{slot_at}
 use Rattle.pud_defs.specs.Identifiers.{is_number}
 use Rattle.pud_defs.specs.Headers.{is_header}
-use Rattle.pud_defs.specs.Stored.{Stored, places_of, place_word}
+use Rattle.pud_defs.specs.Stored.{Stored, places_of, place_word, slot_state}
 
 -- ---- what a stored word stands for
 
@@ -27,43 +27,49 @@ pub data Content : Type 0 where
   At : ℕ → Content
   Nowhere : Content
 
--- the address of a slot of the puddle with this base
-abbrev pub slot_address : (base slot : ℕ) → ℕ
-slot_address base slot = base + WORD_BYTES * slot_at slot
+-- the address of a slot of a puddle
+abbrev pub slot_address : Puddle → (slot : ℕ) → ℕ
+slot_address puddle slot = puddle.base + WORD_BYTES * slot_at puddle slot
 
--- the slot of the puddle with this base whose address the value is
-abbrev pub slot_in : (base v : ℕ) → Option ℕ
-slot_in base v = let slot = (v - slot_address base 0) / (WORD_BYTES * SLOT_WORDS) in cond (nat_lt slot FRAME_SLOTS && slot_address base slot == v) (Some slot) None
+-- the slot of a puddle whose address the value is
+abbrev pub slot_in : Puddle → (v : ℕ) → Option ℕ
+slot_in puddle v =
+    let slot = (v - slot_address puddle 0) / (WORD_BYTES * slot_words_of puddle) in
+    cond (nat_lt slot (slots_of puddle) && slot_address puddle slot == v) (Some slot) None
 
--- the place of the slot whose address the value is, among puddles with these bases, whose first place is this
-unfoldable pub place_in : ℕ → List ℕ → ℕ → Option ℕ
+-- the place of the slot whose address the value is, among these puddles, whose first place is this
+unfoldable pub place_in : ℕ → List Puddle → ℕ → Option ℕ
 place_in first [] v = None
-place_in first (base ∷ bases) v = let later = place_in (first + FRAME_SLOTS) bases v in option_or (option_map (λ slot. first + slot) (slot_in base v)) later
+place_in first (puddle ∷ puddles) v = let later = place_in (first + places_among 1) puddles v in option_or (option_map (λ slot. first + slot) (slot_in puddle v)) later
 
 abbrev pub at_place : Option ℕ → Content
 at_place None = Nowhere
 at_place (Some p) = At p
 
--- what a pointer stands for that is read over these bases
-unfoldable pub target : List ℕ → ℕ → Content
-target bases v = cond (v == 0) Null (at_place (place_in 0 bases v))
+-- what a pointer stands for that is read over the bases of these puddles
+unfoldable pub target : List Puddle → ℕ → Content
+target puddles v = cond (v == 0) Null (at_place (place_in 0 puddles v))
 
--- the bases over which the pointers of a step are read: below the puddle's frontier those of the pool, else the old ones
-abbrev pub bases_for : List Puddle → (frontier step : ℕ) → List ℕ
-bases_for puddles frontier step = cond (nat_lt step frontier) (map (λ p. p.base) puddles) (map (λ p. p.old_base) puddles)
+-- a puddle over its old base
+abbrev pub over_old : Puddle → Puddle
+over_old p = record { number = p.number; base = p.old_base; old_base = p.old_base; frontier = p.frontier }
+
+-- the puddles as the pointers of a step are read: below the frontier over their bases, else over the old ones
+abbrev pub puddles_for : List Puddle → (frontier step : ℕ) → List Puddle
+puddles_for puddles frontier step = cond (nat_lt step frontier) puddles (map over_old puddles)
 
 -- the same by the puddle that holds the pointer; with no such puddle there are none
-abbrev pub bases_by : List Puddle → Option Puddle → ℕ → List ℕ
-bases_by puddles None step = []
-bases_by puddles (Some p) step = bases_for puddles p.frontier step
+abbrev pub puddles_by : List Puddle → Option Puddle → ℕ → List Puddle
+puddles_by puddles None step = []
+puddles_by puddles (Some p) step = puddles_for puddles p.frontier step
 
 -- what a pointer stands for at a step of the puddle of an ordinal; step 0 is the header, and step s + 1 is slot s
 abbrev pub pointee_at : List Puddle → (ordinal step v : ℕ) → Content
-pointee_at puddles ordinal step v = target (bases_by puddles (slice_get puddles ordinal) step) v
+pointee_at puddles ordinal step v = target (puddles_by puddles (slice_get puddles ordinal) step) v
 
 -- what a field of a slot stands for, by the slot's place, the map of its type and the field's word
 abbrev pub content : List Puddle → (map place field v : ℕ) → Content
-content puddles map place field v = cond (is_pointer map field) (pointee_at puddles (place / FRAME_SLOTS) (place % FRAME_SLOTS + 1) v) (Number v)
+content puddles map place field v = cond (is_pointer map field) (pointee_at puddles (ordinal_of place) (slot_of place + 1) v) (Number v)
 
 -- how many fields an object of a type has; the word of a map that is not legal may count more than a slot has
 abbrev pub field_count : ℕ → ℕ
@@ -80,18 +86,18 @@ pub record Table : Type 0 where
 -- what the fields at a place stand for, by the map of the type
 abbrev pub contents_by : Stored → ℕ → Option ℕ → Option (List Content)
 contents_by st p None = None
-contents_by st p (Some m) = Some (map (λ f. content st.puddles m p f (place_word st.word p (SLOT_FIELDS_WORD + f))) (range_with_len 0 (field_count m)))
+contents_by st p (Some m) = Some (map (λ f. content st.puddles m p f (place_word st p (SLOT_FIELDS_WORD + f))) (range_with_len 0 (field_count m)))
 
 abbrev pub table_of : List (ℕ × ℕ) → Stored → Table
 table_of types st = record {
-  serial = λ p. place_word st.word p SLOT_SERIAL_WORD;
-  type_id = λ p. place_word st.word p SLOT_TYPE_WORD;
-  contents = λ p. contents_by st p (map_of (place_word st.word p SLOT_TYPE_WORD) types);
+  serial = λ p. place_word st p SLOT_SERIAL_WORD;
+  type_id = λ p. place_word st p SLOT_TYPE_WORD;
+  contents = λ p. contents_by st p (map_of (place_word st p SLOT_TYPE_WORD) types);
 }
 
 -- what stands at a place, under its serial, where the place is live
 abbrev pub under_serial : {A : Type 0} → (ℕ → ℕ) → (ℕ → A) → ℕ → Option (ℕ × A)
-under_serial serial value p = cond (serial p == 0) None (Some (serial p, value p))
+under_serial serial value p = cond (slot_state (serial p)).is_live (Some (serial p, value p)) None
 
 -- the live places, each under its serial
 abbrev pub placed : Table → ℕ → Option (ℕ × ℕ)
@@ -147,7 +153,7 @@ graph_by next top t n = record { next_serial = next; root = named_by t.serial to
 abbrev pub stands : (ℕ → ℕ) → Content → Bool
 stands serial (Number v) = true
 stands serial Null = true
-stands serial (At p) = not (serial p == 0)
+stands serial (At p) = (slot_state (serial p)).is_live
 stands serial Nowhere = false
 
 -- the type is defined, and each field stands for something
@@ -157,7 +163,7 @@ all_stand serial (Some contents) = list_all (stands serial) contents
 
 -- the place is free, or its serial is below the next, its type is defined and each of its fields stands for something
 abbrev pub is_sound_place : (next : ℕ) → Table → ℕ → Bool
-is_sound_place next t p = t.serial p == 0 || (nat_lt (t.serial p) next && all_stand t.serial (t.contents p))
+is_sound_place next t p = (slot_state (t.serial p)).is_free || (nat_lt (t.serial p) next && all_stand t.serial (t.contents p))
 
 -- the next serial is from 1 to 2^63
 abbrev pub is_next_serial : ℕ → Bool

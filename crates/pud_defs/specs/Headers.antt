@@ -1,13 +1,14 @@
 -- What a frame says of its puddle, and the words of the puddle's slots.
 use Rattle.std.specs.Prelude.{ℕ, ◌+◌, Bool, false, ◌&&◌, ◌==◌, Option, Some, None}
 use Rattle.pud_defs.specs.declared.space.TheConstants.{FRAME_MAGIC, FRAME_MAGIC_WORD, FRAME_NUMBER_WORD, FRAME_ORDINAL_WORD}
+use Rattle.pud_defs.specs.Geometry.{puddle_slot_at}
 use Rattle.pud_defs.specs.Image.{Image}
-use Rattle.pud_defs.specs.Frames.{frame_word, slot_at}
+use Rattle.pud_defs.specs.Frames.{frame_word}
 use Rattle.pud_defs.specs.Puddles.{Member, puddle_at}
 
 -- word k of a slot of the puddle that lies in a frame
 abbrev pub slot_word : (F frame slot k : ℕ) → Image → ℕ
-slot_word F frame slot k image = frame_word F frame (slot_at slot + k) image
+slot_word F frame slot k image = frame_word F frame (puddle_slot_at slot + k) image
 
 -- a header of these words is that of a puddle: the frame magic, the puddle's UUID number and its place in its pool
 abbrev pub is_header : (given place magic number ordinal : ℕ) → Bool

@@ -7,6 +7,7 @@ pub mod Replay
 pub mod Spaces
 pub mod Keyed
 pub mod Bases
+pub mod Geometry
 pub mod Frames
 pub mod Modes
 pub mod Names

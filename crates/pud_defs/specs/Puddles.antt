@@ -5,7 +5,8 @@ use Rattle.pud_defs.specs.declared.records.TheConstants.{PUDDLE_NUMBER_WORD, PUD
 use Rattle.pud_defs.specs.declared.records.Puddle.{Puddle}
 use Rattle.pud_defs.specs.declared.records.PuddleRec.{PuddleRec}
 use Rattle.pud_defs.specs.Image.{Image}
-use Rattle.pud_defs.specs.Bases.{is_legal_base, is_legal_frontier}
+use Rattle.pud_defs.specs.Bases.{is_legal_base}
+use Rattle.pud_defs.specs.Geometry.{is_legal_frontier}
 use Rattle.pud_defs.specs.Pools.{is_given}
 
 -- the parts of a member word: the pool's slot plus 1, and the ordinal
@@ -47,7 +48,7 @@ puddle_words r = member_word (r.pool + 1) r.ordinal ∷ r.number ∷ r.base ∷ 
 
 -- the puddle of a legal record, beside whose it is
 abbrev pub is_legal_puddle : ℕ → Puddle → Bool
-is_legal_puddle next p = is_given next p.number && is_legal_base p.base && is_legal_base p.old_base && is_legal_frontier p.frontier
+is_legal_puddle next p = is_given next p.number && is_legal_base p.base && is_legal_base p.old_base && is_legal_frontier p
 
 -- the record of a pool's puddle, as it is read into numbers of 32 bits; a legal one is read as it is
 abbrev pub puddle_read : (slot ordinal : ℕ) → Puddle → PuddleRec

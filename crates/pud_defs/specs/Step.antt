@@ -1,8 +1,7 @@
 -- What a line does to the world, and what is answered.
-use Rattle.std.specs.Prelude.{◌≡◌, ℕ, ◌+◌, ◌*◌, Bool, true, false, not, ◌&&◌, ◌||◌, nat_le, nat_lt, ◌==◌, cond, List, [], ◌∷◌, length, find, count_by, slice_get, bytes_eq, Option, Some, None, is_none, is_some, unwrap_or}
+use Rattle.std.specs.Prelude.{◌≡◌, ℕ, ◌+◌, Bool, true, false, not, ◌&&◌, ◌||◌, nat_le, nat_lt, ◌==◌, cond, List, [], ◌∷◌, length, find, count_by, slice_get, bytes_eq, Option, Some, None, is_none, is_some, unwrap_or}
 use Rattle.pud_defs.specs.declared.layout.TheConstants.{TYPE_RECORDS, CLIENT_LOGS, LOG_ENTRY_WORDS, MAX_DEPTH, SET_UNITS, NEW_UNITS, NUMBER_LIMIT}
 use Rattle.pud_defs.specs.declared.records.TheConstants.{MAX_PUDDLES}
-use Rattle.pud_defs.specs.declared.space.TheConstants.{FRAME_SLOTS}
 use Rattle.pud_defs.specs.declared.machine.Command.{Command}
 use Rattle.pud_defs.specs.declared.machine.Command.TheVariants.{Client, Leave, Define, Cut, Arm, Chmod, Begin, Commit, Abort, New, Set, Later, Root, Free, Pools, Get}
 use Rattle.pud_defs.specs.declared.machine.Command.TheVariants as commands
@@ -10,6 +9,7 @@ use Rattle.pud_defs.specs.declared.machine.Reply.{Reply}
 use Rattle.pud_defs.specs.declared.machine.Reply.TheVariants as replies
 use Rattle.pud_defs.specs.declared.machine.Refusal.{Refusal}
 use Rattle.pud_defs.specs.declared.machine.Refusal.TheVariants as refusals
+use Rattle.pud_defs.specs.Geometry.{slots_among}
 use Rattle.pud_defs.specs.Types.{map_of}
 use Rattle.pud_defs.specs.Spaces.{Owner, owner, with_owner}
 use Rattle.pud_defs.specs.declared.objects.Val.{Val}
@@ -268,12 +268,12 @@ charge c = 0
 abbrev pub is_all_live : Option Graph → Option Pool → Bool
 is_all_live None pool = false
 is_all_live (Some g) None = false
-is_all_live (Some g) (Some pool) = length g.objects == FRAME_SLOTS * pool.puddles
+is_all_live (Some g) (Some pool) = length g.objects == slots_among pool.puddles
 
 -- no serial is left, or no pool has more objects
 abbrev pub is_full_graph : Option Graph → Bool
 is_full_graph None = false
-is_full_graph (Some g) = nat_le NUMBER_LIMIT g.next_serial || nat_le (MAX_PUDDLES * FRAME_SLOTS) (length g.objects)
+is_full_graph (Some g) = nat_le NUMBER_LIMIT g.next_serial || nat_le (slots_among MAX_PUDDLES) (length g.objects)
 
 -- what makes an object adds a puddle to the pool of the name
 abbrev pub grows : World → List ℕ → Bool

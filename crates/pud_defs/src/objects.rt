@@ -1,4 +1,7 @@
-//! The objects of a pool: what a field holds, and where a stored pointer leads.
+//! The objects of a pool: what a field holds, where a stored pointer leads, and whether a slot is free.
+
+ghost use Rattle.std.specs.Prelude.{◌≡◌};
+ghost use Rattle.pud_defs.specs.Stored.{slot_state};
 
 /// The value of a field, as lines name it.
 #[derive(Clone, Copy, Debug, PartialEq, Eq)]
@@ -18,7 +21,21 @@ pub enum Pointee {
     At {
         /// The place of the slot's puddle in its pool, 0 to 15.
         ordinal: u32,
-        /// The number of the slot in the puddle, 0 to 61.
+        /// The number of the slot in the puddle.
         slot: u32,
     },
+}
+
+/// Whether a slot is free, by the word of its serial.
+pub const fn is_free(serial: u64) -> bool
+    ensures { result ≡ (slot_state serial).is_free }
+{
+    serial == 0
+}
+
+/// Whether an object lives in a slot, by the word of its serial.
+pub const fn is_live(serial: u64) -> bool
+    ensures { result ≡ (slot_state serial).is_live }
+{
+    serial != 0
 }

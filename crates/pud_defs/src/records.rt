@@ -90,7 +90,7 @@ pub struct Puddle {
     pub base: u64,
     /// The base over which those pointers stand that are not rewritten yet.
     pub old_base: u64,
-    /// How many steps of the puddle are rewritten, 63 in a legal record.
+    /// How many steps of the puddle are rewritten, all of them in a legal record.
     pub frontier: u64,
 }
 
@@ -107,7 +107,7 @@ pub struct PuddleRec {
     pub base: u64,
     /// The base over which those pointers stand that are not rewritten yet.
     pub old_base: u64,
-    /// How many steps of the puddle are rewritten, 63 in a legal record.
+    /// How many steps of the puddle are rewritten, all of them in a legal record.
     pub frontier: u32,
 }
 
@@ -118,7 +118,7 @@ pub struct Slot {
     pub frame: u32,
     /// The place of the puddle in its pool, 0 to 15.
     pub ordinal: u32,
-    /// The number of the slot in the puddle, 0 to 61.
+    /// The number of the slot in the puddle.
     pub slot: u32,
 }
 

@@ -2,12 +2,18 @@
 //!
 //! Each puddle has a range of 16,384 addresses of the space and a frame of 2,048 words on the device. Word k of the frame
 //! has the eight addresses from `base + 8 * k` on.
+//!
+//! How many slots a puddle has, of how many words, and how many steps, is asked of this file alone. A place is a slot of a
+//! pool, counted over its puddles by their ordinals, each with as many places as the largest puddle has slots: so a place
+//! says the ordinal and the slot, whichever puddles the pool has.
 
 ghost use Rattle.std.specs.Prelude.{◌≡◌, ◌+◌, ◌*◌, ◌%◌, ◌^◌, ◌<◌, ◌≤◌};
 ghost use Rattle.pud_defs.specs.Bases.{is_legal_base, base_at};
-ghost use Rattle.pud_defs.specs.Frames.{frame_at, slot_at};
+ghost use Rattle.pud_defs.specs.Geometry.{puddle_slots, slots_of, slot_words_of, steps_of, is_legal_frontier, puddle_slot_at, slot_at, slot_begins, ordinal_of, slot_of, place_at, places_among, slots_among};
+ghost use Rattle.pud_defs.specs.Frames.{frame_at};
 
 use crate::layout::{FRAME_WORDS, MAX_FRAMES, frames_at};
+use crate::records::{MAX_PUDDLES, Puddle, Slot};
 
 /// The first address of the space, 2^44.
 pub const SPACE_START: u64 = 0x1000_0000_0000;
@@ -54,8 +60,11 @@ pub const FRAME_SLOTS: u32 = 62;
 /// How many addresses of a puddle's range stand before its slots.
 pub const HEADER_BYTES: u64 = (WORD_BYTES * FRAME_HEADER_WORDS) as u64;
 
-/// How many addresses a slot has.
-pub const SLOT_BYTES: u64 = (WORD_BYTES * SLOT_WORDS) as u64;
+/// How many words a slot has at most.
+pub const MAX_SLOT_WORDS: u32 = SLOT_WORDS;
+
+/// How many places a pool has at most.
+pub const MAX_PLACES: u32 = MAX_PUDDLES * FRAME_SLOTS;
 
 /// The word of a slot that holds the serial of its object, 0 where the slot is free.
 pub const SLOT_SERIAL_WORD: u32 = 0;
@@ -79,12 +88,99 @@ pub const fn frame_at(frames: u32, frame: u32) -> u32
     frames_at(frames) + FRAME_WORDS * frame
 }
 
-/// The word of a frame at which this slot begins.
-pub const fn slot_at(slot: u32) -> u32
-    requires { slot < FRAME_SLOTS }
-    ensures { result ≡ slot_at slot }
+/// How many slots a puddle has.
+pub const fn slots_of(_puddle: &Puddle) -> u32
+    ensures { result ≡ slots_of _puddle.now }
+{
+    FRAME_SLOTS
+}
+
+/// How many words each slot of a puddle has.
+pub const fn slot_words_of(_puddle: &Puddle) -> u32
+    ensures { result ≡ slot_words_of _puddle.now }
+{
+    SLOT_WORDS
+}
+
+/// How many addresses each slot of a puddle has.
+pub const fn slot_bytes_of(puddle: &Puddle) -> u64
+    ensures { result ≡ WORD_BYTES * slot_words_of puddle.now }
+{
+    (WORD_BYTES * slot_words_of(puddle)) as u64
+}
+
+/// How many steps a puddle has: its header, and each of its slots.
+pub const fn steps_of(_puddle: &Puddle) -> u32
+    ensures { result ≡ steps_of _puddle.now }
+{
+    LAST_FRONTIER
+}
+
+/// Whether all steps of a puddle are rewritten: no other frontier is sound as long as nothing rewrites on demand.
+pub fn is_legal_frontier(puddle: &Puddle) -> bool
+    ensures { result ≡ is_legal_frontier puddle.now }
+{
+    puddle.frontier == steps_of(puddle) as u64
+}
+
+/// The ordinal of the puddle that a place lies in.
+pub const fn ordinal_of(place: u32) -> u32
+    ensures { result ≡ ordinal_of place }
+{
+    place / FRAME_SLOTS
+}
+
+/// The slot of its puddle that a place is.
+pub const fn slot_of(place: u32) -> u32
+    ensures { result ≡ slot_of place }
+{
+    place % FRAME_SLOTS
+}
+
+/// The place of a slot of the puddle of an ordinal.
+pub const fn place_at(ordinal: u32, slot: u32) -> u64
+    ensures { result ≡ place_at ordinal slot }
+{
+    FRAME_SLOTS as u64 * ordinal as u64 + slot as u64
+}
+
+/// How many places so many puddles have.
+pub const fn places_among(puddles: u32) -> u32
+    requires { puddles ≤ MAX_PUDDLES }
+    ensures { result ≡ places_among puddles }
+{
+    FRAME_SLOTS * puddles
+}
+
+/// How many slots so many puddles have.
+pub const fn slots_among(puddles: u32) -> u64
+    ensures { result ≡ slots_among puddles }
+{
+    FRAME_SLOTS as u64 * puddles as u64
+}
+
+/// The word of its frame at which a slot begins, in whichever puddle.
+pub const fn puddle_slot_at(slot: u32) -> u32
+    requires { slot < puddle_slots }
+    ensures { result ≡ puddle_slot_at slot }
 {
     FRAME_HEADER_WORDS + SLOT_WORDS * slot
+}
+
+/// The word of its frame at which a slot of a puddle begins.
+pub const fn slot_at(puddle: &Puddle, slot: u32) -> u32
+    requires { slot < slots_of puddle.now }
+    ensures { result ≡ slot_at puddle.now slot }
+{
+    FRAME_HEADER_WORDS + slot_words_of(puddle) * slot
+}
+
+/// The word of its frame at which a slot begins, by the slot itself.
+pub const fn slot_begins(slot: &Slot) -> u32
+    requires { slot.now.slot < puddle_slots }
+    ensures { result ≡ slot_begins slot.now }
+{
+    puddle_slot_at(slot.slot)
 }
 
 /// Whether the value is the first address of a range of the space.

@@ -1,19 +1,19 @@
 -- The places of a pool: its slots, counted over its puddles by their ordinals.
-use Rattle.std.specs.Prelude.{◌≡◌, ℕ, ◌+◌, ◌*◌, ◌<◌, List, length, slice_get, Some}
-use Rattle.pud_defs.specs.declared.space.TheConstants.{FRAME_SLOTS}
+use Rattle.std.specs.Prelude.{◌≡◌, ℕ, ◌<◌, List, length, slice_get, Some}
 use Rattle.pud_defs.specs.declared.records.Puddle.{Puddle}
 use Rattle.pud_defs.specs.declared.records.Slot.{Slot}
+use Rattle.pud_defs.specs.Geometry.{slots_of, place_at, places_among}
 
 -- how many places the puddles have
 abbrev pub places_in : List (ℕ × Puddle) → ℕ
-places_in at = FRAME_SLOTS * length at
+places_in at = places_among (length at)
 
 -- the place of a slot
 abbrev pub place_of_slot : Slot → ℕ
-place_of_slot s = FRAME_SLOTS * s.ordinal + s.slot
+place_of_slot s = place_at s.ordinal s.slot
 
 -- a slot of one of these puddles, in its frame
 pub record IsSlotOf (at : List (ℕ × Puddle)) (s : Slot) : Type 0 where
   pub puddle : Puddle
   pub there : slice_get at s.ordinal ≡ Some (s.frame, puddle)
-  pub below : s.slot < FRAME_SLOTS
+  pub below : s.slot < slots_of puddle

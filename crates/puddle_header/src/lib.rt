@@ -10,6 +10,7 @@ ghost use Rattle.std.specs.Prelude.{◌≡◌, ◌≢◌, ◌+◌, ◌<◌, ◌�
 ghost use Rattle.pm_model.specs.Words.{Image, reads};
 ghost use Rattle.pm_model.specs.Counts.{after_fault, fault_of};
 ghost use Rattle.pud_defs.specs.Layout.{device_words};
+ghost use Rattle.pud_defs.specs.Geometry.{puddle_slots, puddle_slot_words};
 ghost use Rattle.pud_defs.specs.Frames.{frame_word};
 ghost use Rattle.pud_defs.specs.Headers.{slot_word, is_header, header_fits};
 
@@ -20,9 +21,8 @@ use pm_model::{Host, HostFault};
 use pud_defs::layout::{FRAME_WORDS, MAX_FIELDS, MAX_FRAMES, PUDDLE_RECORD_WORDS, PUDDLE_TABLE};
 use pud_defs::records::{PUDDLE_NUMBER_WORD, member_ordinal};
 use pud_defs::space::{
-    FRAME_MAGIC, FRAME_MAGIC_WORD, FRAME_NUMBER_WORD, FRAME_ORDINAL_WORD, FRAME_SLOTS,
-    NEXT_SERIAL_WORD, ROOT_WORD, SLOT_FIELDS_WORD, SLOT_SERIAL_WORD, SLOT_TYPE_WORD, SLOT_WORDS,
-    frame_at, slot_at,
+    FRAME_MAGIC, FRAME_MAGIC_WORD, FRAME_NUMBER_WORD, FRAME_ORDINAL_WORD, NEXT_SERIAL_WORD,
+    ROOT_WORD, SLOT_FIELDS_WORD, SLOT_SERIAL_WORD, SLOT_TYPE_WORD, frame_at, puddle_slot_at,
 };
 
 /// Word `k` of a frame.
@@ -50,14 +50,14 @@ fn slot_word<H: Host>(
     requires few { frames ≤ MAX_FRAMES }
     requires room { device_words frames ≤ (H.counts h.old).size }
     requires known { frame < frames }
-    requires slot { slot < FRAME_SLOTS }
-    requires within { k < SLOT_WORDS }
+    requires slot { slot < puddle_slots }
+    requires within { k < puddle_slot_words }
     ensures word { H.tells → (image : Image) → reads (H.state h.old).now.words ≡ image → IfOk result (λ v. v ≡ slot_word frames frame slot k image) }
     ensures stays { H.tells → H.state h.new ≡ H.state h.old }
     ensures cause { H.counts h.new ≡ after_fault (fault_of result) (H.counts h.old) }
     ensures never_cut { fault_of result ≢ Option.Some HostFault.Cut }
 {
-    frame_word(h, frames, frame, slot_at(slot) + k)
+    frame_word(h, frames, frame, puddle_slot_at(slot) + k)
 }
 
 /// The word in which the header of a frame has the frame magic.
@@ -130,7 +130,7 @@ pub fn slot_serial<H: Host>(h: &mut H, frames: u32, frame: u32, slot: u32) -> Re
     requires few { frames ≤ MAX_FRAMES }
     requires room { device_words frames ≤ (H.counts h.old).size }
     requires known { frame < frames }
-    requires slot { slot < FRAME_SLOTS }
+    requires slot { slot < puddle_slots }
     ensures word { H.tells → (image : Image) → reads (H.state h.old).now.words ≡ image → IfOk result (λ v. v ≡ slot_word frames frame slot SLOT_SERIAL_WORD image) }
     ensures stays { H.tells → H.state h.new ≡ H.state h.old }
     ensures cause { H.counts h.new ≡ after_fault (fault_of result) (H.counts h.old) }
@@ -144,7 +144,7 @@ pub fn slot_type<H: Host>(h: &mut H, frames: u32, frame: u32, slot: u32) -> Resu
     requires few { frames ≤ MAX_FRAMES }
     requires room { device_words frames ≤ (H.counts h.old).size }
     requires known { frame < frames }
-    requires slot { slot < FRAME_SLOTS }
+    requires slot { slot < puddle_slots }
     ensures word { H.tells → (image : Image) → reads (H.state h.old).now.words ≡ image → IfOk result (λ v. v ≡ slot_word frames frame slot SLOT_TYPE_WORD image) }
     ensures stays { H.tells → H.state h.new ≡ H.state h.old }
     ensures cause { H.counts h.new ≡ after_fault (fault_of result) (H.counts h.old) }
@@ -164,7 +164,7 @@ pub fn slot_field<H: Host>(
     requires few { frames ≤ MAX_FRAMES }
     requires room { device_words frames ≤ (H.counts h.old).size }
     requires known { frame < frames }
-    requires slot { slot < FRAME_SLOTS }
+    requires slot { slot < puddle_slots }
     requires field { f < MAX_FIELDS }
     ensures word { H.tells → (image : Image) → reads (H.state h.old).now.words ≡ image → IfOk result (λ v. v ≡ slot_word frames frame slot (SLOT_FIELDS_WORD + f) image) }
     ensures stays { H.tells → H.state h.new ≡ H.state h.old }

@@ -1,7 +1,7 @@
 //! The slots of a pool by their places.
 //!
-//! A place is a slot of a puddle, counted over the puddles by their ordinals: 62 times the ordinal, and the slot. A pool is given
-//! by the frames and the records of its puddles by their ordinals, at most 16.
+//! A place is a slot of a puddle, counted over the puddles by their ordinals. A pool is given by the frames and the records of
+//! its puddles by their ordinals, at most 16.
 
 ghost use Rattle.std.specs.Prelude.{◌≡◌, ◌≢◌, ◌<◌, ◌≤◌, Option, IfOk};
 ghost use Rattle.pm_model.specs.Words.{Image, reads};
@@ -15,7 +15,7 @@ use crate::slot_serial;
 use pm_model::{Host, HostFault};
 use pud_defs::layout::MAX_FRAMES;
 use pud_defs::records::{Puddle, Slot};
-use pud_defs::space::FRAME_SLOTS;
+use pud_defs::space::{ordinal_of, slot_of};
 
 /// The slot at a place.
 pub fn slot_at_place(pool: &[(u32, Puddle)], place: u32) -> Slot
@@ -23,12 +23,12 @@ pub fn slot_at_place(pool: &[(u32, Puddle)], place: u32) -> Slot
     ensures place { place_of_slot result ≡ place }
     ensures within { IsSlotOf pool.now result }
 {
-    let ordinal = place / FRAME_SLOTS;
+    let ordinal = ordinal_of(place);
     let (frame, _) = pool[ordinal as usize];
     Slot {
         frame,
         ordinal,
-        slot: place % FRAME_SLOTS,
+        slot: slot_of(place),
     }
 }
 
@@ -44,7 +44,7 @@ pub fn serial_at<H: Host>(
     requires known { IsOnDevice frames pool.now }
     requires within { place < places_in pool.now }
     ensures serial { H.tells → (image : Image) → reads (H.state h.old).now.words ≡ image
-        → IfOk result (λ v. v ≡ place_word (stored_in frames pool.now image).word place SLOT_SERIAL_WORD) }
+        → IfOk result (λ v. v ≡ place_word (stored_in frames pool.now image) place SLOT_SERIAL_WORD) }
     ensures stays { H.tells → H.state h.new ≡ H.state h.old }
     ensures cause { H.counts h.new ≡ after_fault (fault_of result) (H.counts h.old) }
     ensures never_cut { fault_of result ≢ Option.Some HostFault.Cut }

@@ -29,7 +29,12 @@ impl Daemon {
     ///
     /// The only errors are the host's own: `Failed` where a call of it failed, `Cut` where power was lost. At either the device stands for what it
     /// stood for before the call or for what the line gives, and the daemon is to be stopped, and to start anew.
-    pub(crate) fn begin<H: Host>(&mut self, h: &mut H, client: u8, name: Name) -> Result<Reply, HostFault>
+    pub(crate) fn begin<H: Host>(
+        &mut self,
+        h: &mut H,
+        client: u8,
+        name: Name,
+    ) -> Result<Reply, HostFault>
         requires known { client < CLIENTS }
         requires room { device_words (self.old).frames ≤ (H.counts h.old).size }
         ensures carries { H.tells → (size : ℕ) → size ≡ (H.counts h.old).size → (w : World) → IsReady size w self.old (H.state h.old)
@@ -61,7 +66,12 @@ impl Daemon {
     ///
     /// The only errors are the host's own: `Failed` where a call of it failed, `Cut` where power was lost. At either the device stands for what it
     /// stood for before the call or for what the line gives, and the daemon is to be stopped, and to start anew.
-    pub(crate) fn commit<H: Host>(&mut self, h: &mut H, client: u8, name: Name) -> Result<Reply, HostFault>
+    pub(crate) fn commit<H: Host>(
+        &mut self,
+        h: &mut H,
+        client: u8,
+        name: Name,
+    ) -> Result<Reply, HostFault>
         requires known { client < CLIENTS }
         requires room { device_words (self.old).frames ≤ (H.counts h.old).size }
         ensures carries { H.tells → (size : ℕ) → size ≡ (H.counts h.old).size → (w : World) → IsReady size w self.old (H.state h.old)
@@ -88,7 +98,12 @@ impl Daemon {
     ///
     /// The only errors are the host's own: `Failed` where a call of it failed, `Cut` where power was lost. At either the device stands for what it
     /// stood for before the call or for what the line gives, and the daemon is to be stopped, and to start anew.
-    pub(crate) fn abort<H: Host>(&mut self, h: &mut H, client: u8, name: Name) -> Result<Reply, HostFault>
+    pub(crate) fn abort<H: Host>(
+        &mut self,
+        h: &mut H,
+        client: u8,
+        name: Name,
+    ) -> Result<Reply, HostFault>
         requires known { client < CLIENTS }
         requires room { device_words (self.old).frames ≤ (H.counts h.old).size }
         ensures carries { H.tells → (size : ℕ) → size ≡ (H.counts h.old).size → (w : World) → IsReady size w self.old (H.state h.old)

@@ -1,15 +1,16 @@
 -- A pool with a fresh puddle behind the others keeps its graph, and each object of it its place.
-use Rattle.std.proofs.Common.{◌≡◌, ℕ, ◌+◌, ◌/◌, ◌%◌, ◌<◌, ◌≤◌, cond, eqb, List, [], ◌∷◌, ◌++◌, length, Option, Some, None, option_map, nat_cmp, refl, sym, ap, ◌∙◌, arith}
+use Rattle.std.proofs.Common.{◌≡◌, ℕ, ◌+◌, ◌<◌, ◌≤◌, cond, List, [], ◌∷◌, ◌++◌, length, Option, Some, None, option_map, nat_cmp, refl, sym, ap, ◌∙◌, arith}
 use Rattle.std.proofs.lemmas.List.{length-map, length_push}
 use Rattle.std.proofs.lemmas.Option.{none-some}
 use Rattle.pud_defs.specs.declared.records.Puddle.{Puddle}
-use Rattle.pud_defs.specs.declared.space.TheConstants.{FRAME_SLOTS, SLOT_SERIAL_WORD}
-use Rattle.pud_defs.specs.Frames.{slot_at, IsFreshFrame}
+use Rattle.pud_defs.specs.declared.space.TheConstants.{SLOT_SERIAL_WORD}
+use Rattle.pud_defs.specs.Geometry.{ordinal_of}
+use Rattle.pud_defs.specs.Frames.{IsFreshFrame}
 use Rattle.pud_defs.specs.Graph.{under_serial, table_of, place_of, object_at, Object, Graph, graph_of}
 use Rattle.pud_defs.specs.Holdings.{held_as, graph_held}
 use Rattle.pud_defs.specs.Image.{Image}
 use Rattle.pud_defs.specs.Keyed.{under}
-use Rattle.pud_defs.specs.Stored.{Stored, word_in_frame, stored_in, places_of, place_word}
+use Rattle.pud_defs.specs.Stored.{Stored, word_in_frame, stored_in, places_of, place_word, place_begins, slot_state}
 use Rattle.pud_defs.proofs.Keyed.{first_from_at, first_from_some}
 use Rattle.graph_laws.proofs.Grown.{slice_get-front}
 use Rattle.graph_laws.proofs.Places.{object_in-place}
@@ -35,16 +36,16 @@ module _ (types : List (ℕ × ℕ)) (F : ℕ) (i : Image) (at : List (ℕ × Pu
   wide = at ++ e ∷ []
 
   abbrev near : ℕ → ℕ
-  near p = place_word (stored_in F at i).word p SLOT_SERIAL_WORD
+  near p = place_word (stored_in F at i) p SLOT_SERIAL_WORD
 
   abbrev far : ℕ → ℕ
-  far p = place_word (stored_in F wide i).word p SLOT_SERIAL_WORD
+  far p = place_word (stored_in F wide i) p SLOT_SERIAL_WORD
 
   serial_front : (q : ℕ) → q < places_in at → far q ≡ near q
-  serial_front q below = ap (word_in_frame F i (slot_at (q % FRAME_SLOTS) + SLOT_SERIAL_WORD)) (slice_get-front at (e ∷ []) (q / FRAME_SLOTS) (omega arith))
+  serial_front q below = ap (word_in_frame F i (place_begins (stored_in F at i) q + SLOT_SERIAL_WORD)) (slice_get-front at (e ∷ []) (ordinal_of q) (omega arith))
 
   under_front : (s q : ℕ) → q < places_in at → under nat_cmp s (under_serial far (λ (p : ℕ). p) q) ≡ under nat_cmp s (under_serial near (λ (p : ℕ). p) q)
-  under_front s q below = ap (λ (k : ℕ). under nat_cmp s (cond (eqb k 0) None (Some (k, q)))) (serial_front q below)
+  under_front s q below = ap (λ (k : ℕ). under nat_cmp s (cond (slot_state k).is_live (Some (k, q)) None)) (serial_front q below)
 
   place_found : (s p : ℕ) → place_of s (table_of types (stored_in F at i)) (places_of (stored_in F at i)) ≡ Some p → place_in_pool F wide i s ≡ place_in_pool F at i s
   place_found s p found =

@@ -4,9 +4,8 @@ use Rattle.std.proofs.lemmas.Bool.{and_parts}
 use Rattle.std.proofs.lemmas.Option.{slice_get-get_or}
 use Rattle.pm_model.specs.Words.{reads}
 use Rattle.pm_model.specs.Moments.{State}
-use Rattle.pud_defs.specs.declared.space.TheConstants.{LAST_FRONTIER}
 use Rattle.pud_defs.specs.declared.records.Puddle.{Puddle}
-use Rattle.pud_defs.specs.Bases.{is_legal_frontier}
+use Rattle.pud_defs.specs.Geometry.{steps_of, is_legal_frontier}
 use Rattle.pud_defs.specs.Puddles.{Member, is_legal_puddle}
 use Rattle.pud_defs.specs.SoundTables.{is_sound_puddle, is_legal_member, HasSoundTables}
 use Rattle.pud_defs.specs.Tables.{Tables, tables_of}
@@ -20,13 +19,13 @@ use Rattle.ready_daemon.proofs.Beside.{held_is}
 use Rattle.ready_daemon.proofs.PoolsBeside.{members_still}
 use Rattle.ready_daemon.proofs.TablesBeside.{sound_read}
 
-last_by_member : (next : ℕ) (t : Tables) (m : Member) → is_legal_member next t m ≡ true → m.puddle.frontier ≡ LAST_FRONTIER
+last_by_member : (next : ℕ) (t : Tables) (m : Member) → is_legal_member next t m ≡ true → m.puddle.frontier ≡ steps_of m.puddle
 last_by_member next t m legal =
     let puddle = (and_parts _ (is_legal_puddle next m.puddle) legal).1 in
-    eqb-true m.puddle.frontier LAST_FRONTIER (and_parts _ (is_legal_frontier m.puddle.frontier) puddle).1
+    eqb-true m.puddle.frontier (steps_of m.puddle) (and_parts _ (is_legal_frontier m.puddle) puddle).1
 
 module _ (next : ℕ) (t : Tables) (sound : HasSoundTables next t) (slot : ℕ) (at : List (ℕ × Puddle)) (has : HasMembers t slot at) where
-  last_of_member : (o : ℕ) (e : ℕ × Puddle) → IsMemberOf t slot o e → e.1.frontier ≡ LAST_FRONTIER
+  last_of_member : (o : ℕ) (e : ℕ × Puddle) → IsMemberOf t slot o e → e.1.frontier ≡ steps_of e.1
   last_of_member o e is =
       sym (ap (λ (d : Puddle). d.frontier) is.puddle) ∙ last_by_member next t is.member (sym (ap (is_sound_puddle next t) is.used) ∙ legal_puddle next t sound e.0 is.below)
 

@@ -1,5 +1,5 @@
 -- A pool that grows: what the batch makes of the tables and of the pools, and the frame that is filled before it.
-use Rattle.std.proofs.Common.{◌≡◌, inl, inr, ℕ, ◌+◌, ◌-◌, ◌/◌, ◌%◌, ◌<◌, ◌≤◌, true, false, not, ltb, eqb, List, [], ◌∷◌, ◌++◌, length, Option, Some, None, option_map, nat_cmp, refl, sym, ap, ap₂, ◌∙◌, subst, arith, lt-ltb, le-ltb, eq-eqb, ne_eqb, replicate, cond, length-append}
+use Rattle.std.proofs.Common.{◌≡◌, inl, inr, ℕ, ◌+◌, ◌-◌, ◌<◌, ◌≤◌, true, false, not, ltb, eqb, List, [], ◌∷◌, ◌++◌, length, Option, Some, None, option_map, nat_cmp, refl, sym, ap, ap₂, ◌∙◌, subst, arith, lt-ltb, le-ltb, eq-eqb, ne_eqb, replicate, cond, length-append}
 use Rattle.std.specs.Prelude.{slice_get, slice_index}
 use Rattle.std.specs.Cmp.{unsigned_tied}
 use Rattle.std.specs.FinMap.Entries.{put, find}
@@ -7,19 +7,20 @@ use Rattle.std.proofs.lemmas.Bool.{cases_eq, cases_lt, cases_Bool, cond-true, co
 use Rattle.std.proofs.lemmas.List.{map-append, length-map, length_push, length-replicate, get_or_past}
 use Rattle.std.proofs.lemmas.Option.{same_Some, slice_get_past}
 use Rattle.pud_defs.specs.declared.layout.TheConstants.{NEXT_NUMBER_WORD, FRAME_WORDS}
-use Rattle.pud_defs.specs.declared.space.TheConstants.{FRAME_SLOTS, FRAME_MAGIC, FRAME_MAGIC_WORD, FRAME_NUMBER_WORD, FRAME_ORDINAL_WORD, SLOT_SERIAL_WORD}
+use Rattle.pud_defs.specs.declared.space.TheConstants.{FRAME_MAGIC, FRAME_MAGIC_WORD, FRAME_NUMBER_WORD, FRAME_ORDINAL_WORD, SLOT_SERIAL_WORD}
 use Rattle.pud_defs.specs.declared.records.TheConstants.{POOL_RECORDS}
 use Rattle.pud_defs.specs.declared.records.PoolRec.{PoolRec}
 use Rattle.pud_defs.specs.declared.records.Puddle.{Puddle}
+use Rattle.pud_defs.specs.Geometry.{ordinal_of}
 use Rattle.pud_defs.specs.Image.{Image}
 use Rattle.pud_defs.specs.Names.{name_cmp}
 use Rattle.pud_defs.specs.Keyed.{under}
 use Rattle.pud_defs.specs.Headers.{is_header}
-use Rattle.pud_defs.specs.Frames.{slot_at, fresh_header, fresh_frame, IsFreshFrame}
+use Rattle.pud_defs.specs.Frames.{fresh_header, fresh_frame, IsFreshFrame}
 use Rattle.pud_defs.specs.Puddles.{Member}
 use Rattle.pud_defs.specs.Places.{has_other_bases, IsLowestBase}
 use Rattle.pud_defs.specs.Spaces.{owner, all_below}
-use Rattle.pud_defs.specs.Stored.{Stored, word_in_frame, stored_in}
+use Rattle.pud_defs.specs.Stored.{Stored, word_in_frame, stored_in, place_begins}
 use Rattle.pud_defs.specs.Graph.{Graph, graph_of}
 use Rattle.pud_defs.specs.Holdings.{Holding, held_as, held_by, graph_held, holding_in}
 use Rattle.pud_defs.specs.Holdings.Holding.{Sound, Wild}
@@ -100,9 +101,9 @@ module _ (types : List (ℕ × ℕ)) (F : ℕ) (i : Image) (at : List (ℕ × Pu
         subst (λ (n : ℕ). is_header d.number n (word n FRAME_MAGIC_WORD) (word n FRAME_NUMBER_WORD) (word n FRAME_ORDINAL_WORD) ≡ true) (sym size)
         (and_from _ _ (and_from _ _ (eq-eqb _ FRAME_MAGIC (header_word 0 (omega arith))) (eq-eqb _ d.number (header_word 1 (omega arith)))) (eq-eqb _ (length at) (header_word 2 (omega arith))));
     free = λ p low high.
-        let here : p / FRAME_SLOTS ≡ length at = omega (arith, size) in
-        ap (λ (n : ℕ). word n (slot_at (p % FRAME_SLOTS) + SLOT_SERIAL_WORD)) here ∙ new_word (slot_at (p % FRAME_SLOTS) + SLOT_SERIAL_WORD) (omega arith)
-        ∙ fresh_word d.number (length at) (slot_at (p % FRAME_SLOTS) + SLOT_SERIAL_WORD) (omega arith) (omega arith);
+        let here : ordinal_of p ≡ length at = omega (arith, size) in
+        ap (λ (n : ℕ). word n (place_begins st p + SLOT_SERIAL_WORD)) here ∙ new_word (place_begins st p + SLOT_SERIAL_WORD) (omega arith)
+        ∙ fresh_word d.number (length at) (place_begins st p + SLOT_SERIAL_WORD) (omega arith) (omega arith);
   }
 
   -- what is kept is what was, and the fresh puddle

@@ -153,7 +153,7 @@ fn has_distinct_numbers<H: Host>(
 }
 
 /// The place of the puddle of a frame, by its pool and ordinal, where its record is used.
-fn place_of_slot<H: Host>(h: &mut H, overlay: &Overlay, frame: u32) -> Result<Option<usize>, HostFault>
+fn place_at<H: Host>(h: &mut H, overlay: &Overlay, frame: u32) -> Result<Option<usize>, HostFault>
     requires few { frame < MAX_FRAMES }
     requires room { device_words (frame + 1) ≤ (H.counts h.old).size }
     ensures place { H.tells → (image : Image) → reads (H.state h.old).now.words ≡ image → IsOverlay overlay.now image → (frames : ℕ) → frame < frames
@@ -207,7 +207,7 @@ fn marked_places<H: Host>(
 {
     let mut marks = [false; PLACES];
     for done in 0..frames {
-        let place = place_of_slot(h, overlay, frames - 1 - done)?;
+        let place = place_at(h, overlay, frames - 1 - done)?;
         if !mark(&mut marks, place) {
             return Ok(None);
         }

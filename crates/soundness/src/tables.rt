@@ -21,10 +21,10 @@ use pud_defs::layout::{MAX_OWNER_ID, POOL_TABLE, PUDDLE_RECORD_WORDS, PUDDLE_TAB
 use pud_defs::records::{
     MAX_PUDDLES, POOL_MODE_WORD, POOL_NUMBER_WORD, POOL_OWNER_WORD, POOL_RECORD_WORDS,
     POOL_RECORDS, PUDDLE_BASE_WORD, PUDDLE_FRONTIER_WORD, PUDDLE_NUMBER_WORD, PUDDLE_OLD_BASE_WORD,
-    RECORD_WORDS_READ, is_legal_mode, is_name_byte, member_ordinal, member_pool, name_by,
+    Puddle, RECORD_WORDS_READ, is_legal_mode, is_name_byte, member_ordinal, member_pool, name_by,
     owner_gid, owner_uid,
 };
-use pud_defs::space::{LAST_FRONTIER, is_legal_base};
+use pud_defs::space::{is_legal_base, is_legal_frontier};
 
 /// Whether all bytes are zeros.
 fn are_zero(bytes: &[u8]) -> bool
@@ -144,11 +144,17 @@ pub fn has_legal_pools<H: Host>(h: &mut H, overlay: &Overlay, next: u64) -> Resu
 fn is_legal_puddle(next: u64, words: &RecordWords) -> bool
     ensures { result ≡ is_legal_but_pool next (member_of_words words.now) }
 {
+    let puddle = Puddle {
+        number: words[PUDDLE_NUMBER_WORD as usize],
+        base: words[PUDDLE_BASE_WORD as usize],
+        old_base: words[PUDDLE_OLD_BASE_WORD as usize],
+        frontier: words[PUDDLE_FRONTIER_WORD as usize],
+    };
     member_ordinal(words[0]) < MAX_PUDDLES
-        && is_given(next, words[PUDDLE_NUMBER_WORD as usize])
-        && is_legal_base(words[PUDDLE_BASE_WORD as usize])
-        && is_legal_base(words[PUDDLE_OLD_BASE_WORD as usize])
-        && words[PUDDLE_FRONTIER_WORD as usize] == u64::from(LAST_FRONTIER)
+        && is_given(next, puddle.number)
+        && is_legal_base(puddle.base)
+        && is_legal_base(puddle.old_base)
+        && is_legal_frontier(&puddle)
 }
 
 /// Whether the record of this pool, given by its slot plus 1, is used.

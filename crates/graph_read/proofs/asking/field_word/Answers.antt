@@ -9,7 +9,7 @@ returns-clause-word g c = λ t image same.
     let at = c.slot_at_place-at in
     let field = c.requires.field in
     let k = SLOT_FIELDS_WORD + c.args.f in
-    let word = (stored_in c.args.frames c.args.pool.now image).word in
+    let stored = stored_in c.args.frames c.args.pool.now image in
     subst (λ (v : ℕ). IfOk c.slot_field.result (λ r. r ≡ v))
-    (slot_at_place c.args.frames c.args.pool.now image k at.result at.ensures.within (omega arith) ∙ ap (λ (p : ℕ). place_word word p k) at.ensures.place)
+    (slot_at_place c.args.frames c.args.pool.now image k at.result at.ensures.within (omega arith) ∙ ap (λ (p : ℕ). place_word stored p k) at.ensures.place)
     (c.slot_field.ensures.word t image same)

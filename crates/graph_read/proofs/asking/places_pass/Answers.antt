@@ -1,9 +1,9 @@
-use Rattle.std.proofs.Common.{◌*◌, length, slice_index, refl, sym, ap, ◌∙◌, arith}
+use Rattle.std.proofs.Common.{length, slice_index, refl, sym, ap, ◌∙◌, arith}
 use Rattle.pm_model.specs.Words.{reads}
 use Rattle.pm_model.specs.Moments.{State}
 use Rattle.pm_model.specs.Counts.{after_fault, fault_of}
+use Rattle.pud_defs.specs.Geometry.{places_among}
 use Rattle.pud_defs.specs.Graph.{table_of}
-use Rattle.pud_defs.specs.declared.space.TheConstants.{FRAME_SLOTS}
 use Rattle.pud_defs.specs.Stored.{stored_in}
 use Rattle.pud_defs.specs.Types.{types_of}
 use Rattle.pud_defs.proofs.Spaces.{all_below-more, all_below-fails}
@@ -22,7 +22,7 @@ pub returns-then-not-branch-clause-pass : goal.returns-then-not-branch-clause-pa
 returns-then-not-branch-clause-pass g c = λ t image same.
     let test = place_passes c.args.asked (with_serials (slice_index c.args.serials.now) (table_of (types_of image) (stored_in c.args.frames c.args.pool.now image))) in
     let before = ap (λ (s : State). reads s.now.words) (c.loop-place.invariant.stays t) ∙ same in
-    sym (all_below-fails (FRAME_SLOTS * length c.args.pool.now) c.loop-place.place test (omega arith) (sym (c.in_ok-place_passes.ensures.pass t image before) ∙ c.if-not-branch.true))
+    sym (all_below-fails (places_among (length c.args.pool.now)) c.loop-place.place test (omega arith) (sym (c.in_ok-place_passes.ensures.pass t image before) ∙ c.if-not-branch.true))
 
 pub loop-place-preserved : goal.loop-place-preserved
 loop-place-preserved g c = record {

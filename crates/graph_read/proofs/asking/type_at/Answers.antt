@@ -7,7 +7,7 @@ use Rattle.graph_read.proofs.asking.type_at.Goals as goal
 pub returns-clause-id : goal.returns-clause-id
 returns-clause-id g c = λ t image same.
     let at = c.slot_at_place-at in
-    let word = (stored_in c.args.frames c.args.pool.now image).word in
+    let stored = stored_in c.args.frames c.args.pool.now image in
     subst (λ (v : ℕ). IfOk c.slot_type.result (λ r. r ≡ v))
-    (slot_at_place c.args.frames c.args.pool.now image SLOT_TYPE_WORD at.result at.ensures.within (omega arith) ∙ ap (λ (p : ℕ). place_word word p SLOT_TYPE_WORD) at.ensures.place)
+    (slot_at_place c.args.frames c.args.pool.now image SLOT_TYPE_WORD at.result at.ensures.within (omega arith) ∙ ap (λ (p : ℕ). place_word stored p SLOT_TYPE_WORD) at.ensures.place)
     (c.slot_type.ensures.word t image same)

@@ -1,13 +1,18 @@
-use Rattle.std.proofs.Common.{◌+◌, ◌/◌, ◌%◌, map, slice_index, sym, ap, ◌∙◌}
+use Rattle.std.proofs.Common.{ℕ, ◌+◌, List, map, slice_index, sym, ap, ap₂, ◌∙◌}
+use Rattle.pud_defs.specs.declared.records.Puddle.{Puddle}
+use Rattle.pud_defs.specs.Geometry.{ordinal_of, slot_of}
+use Rattle.pud_defs.specs.Graph.{pointee_at}
 use Rattle.std.proofs.lemmas.Bool.{cond-true}
-use Rattle.pud_defs.specs.declared.space.TheConstants.{FRAME_SLOTS}
 use Rattle.graph_read.specs.Asking.{content_of, passes}
+use Rattle.graph_read.specs.Reading.{pointee_of}
 use Rattle.graph_read.proofs.Passing.{pointee_read}
 use Rattle.graph_read.proofs.asking.value_passes.Goals as goal
 
 pub returns-else-not-map_is_pointer : goal.returns-else-not-map_is_pointer
 returns-else-not-map_is_pointer c =
+    let puddles : List Puddle = map (λ (e : ℕ × Puddle). e.1) c.args.pool.now in
     c.passes.ensures
     ∙ ap (λ p. passes c.args.asked (slice_index c.args.serials.now) (content_of p)) c.read_pointer.ensures.pointee
-    ∙ ap (passes c.args.asked (slice_index c.args.serials.now)) (pointee_read (map (λ e. e.1) c.args.pool.now) (c.args.place / FRAME_SLOTS) (c.args.place % FRAME_SLOTS + 1) c.args.v
+    ∙ ap₂ (λ o s. passes c.args.asked (slice_index c.args.serials.now) (content_of (pointee_of (pointee_at puddles o (s + 1) c.args.v)))) c.ordinal_of.ensures c.slot_of.ensures
+    ∙ ap (passes c.args.asked (slice_index c.args.serials.now)) (pointee_read puddles (ordinal_of c.args.place) (slot_of c.args.place + 1) c.args.v
     ∙ sym (cond-true _ _ _ (sym c.map_is_pointer.ensures ∙ c.if-not-map_is_pointer.false)))

@@ -28,6 +28,7 @@ returns-clause-held g c = λ t image same.
     let fourth = ap (λ (s : State). reads s.now.words) (c.root_value.ensures.stays t) ∙ third in
     let fifth = ap (λ (s : State). reads s.now.words) (c.read_serials.ensures.stays t) ∙ fourth in
     let places = same_places c.args.frames at image in
+    let counted = c.places_among-places.ensures ∙ places in
     let sound = c.are_all-sound.ensures
     ∙ ap (λ b. c.in_ok-headers.headers && (b && c.passes.result && c.are_distinct.result && c.in_ok-slots.slots)) c.is_next_serial.ensures
     ∙ judged (types_of image) st serial c.in_ok-next.next c.in_ok-headers.headers c.passes.result c.are_distinct.result c.in_ok-slots.slots
@@ -35,6 +36,6 @@ returns-clause-held g c = λ t image same.
     (c.in_ok-next.ensures.word t image second ∙ first_word c.args.frames at image NEXT_SERIAL_WORD some (omega arith))
     (c.in_ok-headers.ensures.fit t image same)
     (c.passes.ensures ∙ ap (λ p. stands serial (content_of p)) c.read_pointer.ensures.pointee ∙ ap (stands serial) (root_read c.args.frames at image c.in_ok-root.root some (c.in_ok-root.ensures.word t image third)))
-    (c.are_distinct.ensures ∙ ap (are_distinct nat_cmp (under_serial serial (λ p. p)) 0) places)
+    (c.are_distinct.ensures ∙ ap (are_distinct nat_cmp (under_serial serial (λ p. p)) 0) counted)
     (c.in_ok-slots.ensures.pass t image fifth ∙ ap (λ n. all_below n (place_passes (IsSound c.in_ok-next.next) (with_serials serial (table_of (types_of image) st)))) places) in
-    c.then_some.ensures ∙ objects_counted (types_of image) st serial c.are_all-sound.result c.count_live.result (c.in_ok-serials.ensures.serials t image fourth) sound (c.count_live.ensures.live ∙ ap (count_used (under_serial serial (λ p. p)) 0) places)
+    c.then_some.ensures ∙ objects_counted (types_of image) st serial c.are_all-sound.result c.count_live.result (c.in_ok-serials.ensures.serials t image fourth) sound (c.count_live.ensures.live ∙ ap (count_used (under_serial serial (λ p. p)) 0) counted)

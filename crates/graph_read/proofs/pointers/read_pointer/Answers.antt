@@ -1,5 +1,6 @@
 use Rattle.std.proofs.Common.{sym, ap, ◌∙◌, ltb, arith}
 use Rattle.std.specs.Prelude.{slice_index_or}
+use Rattle.pud_defs.specs.declared.records.Puddle.{Puddle}
 use Rattle.pud_defs.specs.Graph.{slot_in}
 use Rattle.graph_read.specs.Reading.{pointee_of}
 use Rattle.graph_read.proofs.Pointed.{no_puddle, pointer-null, pointer_from-start, pointer_from-here, pointer_from-other, pointer_from-end, pointee_of-slot}
@@ -15,14 +16,14 @@ loop-other-init c = record {
 
 pub returns-in-Some-clause-pointee : goal.returns-in-Some-clause-pointee
 returns-in-Some-clause-pointee c =
-    let is = sym (ap (λ b. slot_in b c.args.value) c.base_for.ensures) ∙ sym c.slot_in.ensures.slot ∙ c.in-Some.is in
+    let is = sym (ap (λ (d : Puddle). slot_in d c.args.value) c.read_over.ensures) ∙ sym c.slot_in.ensures.slot ∙ c.in-Some.is in
     sym (ap pointee_of (c.loop-other.invariant.pointee ∙ pointer_from-here c.args.pool.now _ c.args.value c.loop-other.other c.in-Some.slot (omega arith) is)
     ∙ pointee_of-slot c.loop-other.other c.in-Some.slot c.in-Some.ensures.within)
 
 pub loop-other-preserved : goal.loop-other-preserved
 loop-other-preserved c = record {
   pointee =
-      let is = sym (ap (λ b. slot_in b c.args.value) c.base_for.ensures) ∙ sym c.slot_in.ensures.slot ∙ c.in_default.is in
+      let is = sym (ap (λ (d : Puddle). slot_in d c.args.value) c.read_over.ensures) ∙ sym c.slot_in.ensures.slot ∙ c.in_default.is in
       c.loop-other.invariant.pointee ∙ pointer_from-other c.args.pool.now _ c.args.value c.loop-other.other (omega arith) is;
 }
 

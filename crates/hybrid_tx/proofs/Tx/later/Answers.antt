@@ -50,7 +50,7 @@ returns-in-Some-Some-clause-runs g c = λ t types before undone now laters place
     (c.in_ok-word.ensures.stays t ∙ c.in_ok-found.ensures.stays t) of
     (sym (c.in_ok-found.ensures.found t image refl) ∙ ap (option_map place_of_slot) c.in-Some-Some.is-0)
     (sym (c.in_ok-word.ensures.word t placed.legal image kept) ∙ c.in-Some-Some.is-1)
-    (ap (λ (k : ℕ). k + 2 + c.args.f) c.slot_at.ensures)
+    (ap (λ (k : ℕ). k + 2 + c.args.f) c.slot_begins.ensures)
     (c.ask_in_frame.ensures.asks t c.args.frames placed (subst (λ (n : ℕ). device_words c.args.frames ≤ n) (sym size) c.requires.device) c.requires.place)
 
 pub returns-in-Some-Some-clause-nothing : goal.returns-in-Some-Some-clause-nothing

@@ -42,7 +42,7 @@ returns-in_err-put_in_frame-2-clause-runs g c =
     RunsOn-new c.args.frames c.args.pool.now types c.args.self.now before undone now laters (g.H.Host.state c.args.h.now) is_open _ _ _ _ c.args.at.now c.in_ok-serial.serial _ c.args.t m _ _ _ _ _ _
     placed c.requires.device c.requires.place c.in_ok-put_in_frame.ensures.at c.in_err-put_in_frame-2.ensures.at (c.in_ok-serial.ensures.stays t)
     (slice_get-get_or c.args.pool.now 0 _ (omega (arith, some))) c.requires.within free (c.in_ok-serial.ensures.word t (reads (g.H.Host.state c.args.h.now).now.words) refl) defined room
-    c.slot_at.ensures c.new_words-words.ensures (c.in_ok-put_in_frame.ensures.saves t placed) refl (c.in_err-put_in_frame-2.ensures.saves t placed))
+    c.slot_begins.ensures c.new_words-words.ensures (c.in_ok-put_in_frame.ensures.saves t placed) refl (c.in_err-put_in_frame-2.ensures.saves t placed))
 
 pub returns-clause-changes : goal.returns-clause-changes
 returns-clause-changes g c = λ t.
@@ -54,7 +54,7 @@ returns-clause-runs g c = λ t types m before undone now laters placed is_open d
     RunsOn-new c.args.frames c.args.pool.now types c.args.self.now before undone now laters (g.H.Host.state c.args.h.now) is_open _ _ _ _ c.args.at.now c.in_ok-serial.serial _ c.args.t m _ _ None _ _ _
     placed c.requires.device c.requires.place c.in_ok-put_in_frame.ensures.at c.in_ok-put_in_frame-2.ensures.at (c.in_ok-serial.ensures.stays t)
     (slice_get-get_or c.args.pool.now 0 _ (omega (arith, some))) c.requires.within free (c.in_ok-serial.ensures.word t (reads (g.H.Host.state c.args.h.now).now.words) refl) defined room
-    c.slot_at.ensures c.new_words-words.ensures (c.in_ok-put_in_frame.ensures.saves t placed) refl (c.in_ok-put_in_frame-2.ensures.saves t placed)
+    c.slot_begins.ensures c.new_words-words.ensures (c.in_ok-put_in_frame.ensures.saves t placed) refl (c.in_ok-put_in_frame-2.ensures.saves t placed)
 
 pub returns-clause-serial : goal.returns-clause-serial
 returns-clause-serial g c = λ t types now is.
@@ -79,7 +79,7 @@ returns-in_err-put_in_frame-clause-makes g c =
     let some = slice_get_within c.args.pool.now c.args.at.now.ordinal (c.args.at.now.frame, c.requires.within.puddle) c.requires.within.there in
     rw (p.1, p.2) (λ t types before undone now laters placed is_open room.
     MakesIn-unput c.args.frames c.args.pool.now _ c.args.at.now c.requires.within _ c.args.t (g.H.Host.state c.args.h.now) c.in_ok-serial.serial _ _ _ _ _ (slice_get-get_or c.args.pool.now 0 _ (omega (arith, some)))
-    (c.in_ok-serial.ensures.stays t) (c.in_ok-serial.ensures.word t (reads (g.H.Host.state c.args.h.now).now.words) refl) c.slot_at.ensures c.new_words-words.ensures (c.in_err-put_in_frame.ensures.puts t))
+    (c.in_ok-serial.ensures.stays t) (c.in_ok-serial.ensures.word t (reads (g.H.Host.state c.args.h.now).now.words) refl) c.slot_begins.ensures c.new_words-words.ensures (c.in_err-put_in_frame.ensures.puts t))
 
 pub returns-in_err-put_in_frame-2-clause-makes : goal.returns-in_err-put_in_frame-2-clause-makes
 returns-in_err-put_in_frame-2-clause-makes g c =
@@ -89,7 +89,7 @@ returns-in_err-put_in_frame-2-clause-makes g c =
     MakesIn-new c.args.frames c.args.pool.now types c.args.self.now before undone now laters (g.H.Host.state c.args.h.now) is_open _ _ _ c.args.at.now c.in_ok-serial.serial _ c.args.t _ _ _ _ _ _
     c.in_ok-put_in_frame.ensures.at c.in_err-put_in_frame-2.ensures.at (c.in_ok-serial.ensures.stays t)
     (slice_get-get_or c.args.pool.now 0 _ (omega (arith, some))) c.requires.within (c.in_ok-serial.ensures.word t (reads (g.H.Host.state c.args.h.now).now.words) refl) room
-    c.slot_at.ensures c.new_words-words.ensures (c.in_ok-put_in_frame.ensures.saves t placed) (c.in_ok-put_in_frame.ensures.puts t) refl
+    c.slot_begins.ensures c.new_words-words.ensures (c.in_ok-put_in_frame.ensures.saves t placed) (c.in_ok-put_in_frame.ensures.puts t) refl
     (c.in_err-put_in_frame-2.ensures.saves t placed) (c.in_err-put_in_frame-2.ensures.puts t))
 
 pub returns-clause-makes : goal.returns-clause-makes
@@ -98,5 +98,5 @@ returns-clause-makes g c = λ t types before undone now laters placed is_open ro
     MakesIn-new c.args.frames c.args.pool.now types c.args.self.now before undone now laters (g.H.Host.state c.args.h.now) is_open _ _ _ c.args.at.now c.in_ok-serial.serial _ c.args.t _ _ None _ _ _
     c.in_ok-put_in_frame.ensures.at c.in_ok-put_in_frame-2.ensures.at (c.in_ok-serial.ensures.stays t)
     (slice_get-get_or c.args.pool.now 0 _ (omega (arith, some))) c.requires.within (c.in_ok-serial.ensures.word t (reads (g.H.Host.state c.args.h.now).now.words) refl) room
-    c.slot_at.ensures c.new_words-words.ensures (c.in_ok-put_in_frame.ensures.saves t placed) (c.in_ok-put_in_frame.ensures.puts t) refl
+    c.slot_begins.ensures c.new_words-words.ensures (c.in_ok-put_in_frame.ensures.saves t placed) (c.in_ok-put_in_frame.ensures.puts t) refl
     (c.in_ok-put_in_frame-2.ensures.saves t placed) (c.in_ok-put_in_frame-2.ensures.puts t)

@@ -24,7 +24,7 @@ returns-in-Ok-clause-runs g c = λ t types m before undone now laters placed is_
     let fault = fault_of c.make.result in
     let new = g.H.Host.state c.make.new.h in
     let free = (c.in-Ok.ensures.free t (reads (g.H.Host.state c.args.h.now).now.words) refl).free in
-    subst (λ (s : State). IsOpenOn F pool types c.args.self.now before undone now laters s.now.words → place_word (stored_in F pool (reads s.now.words)).word (place_of_slot c.in-Ok.at) SLOT_SERIAL_WORD ≡ 0
+    subst (λ (s : State). IsOpenOn F pool types c.args.self.now before undone now laters s.now.words → place_word (stored_in F pool (reads s.now.words)) (place_of_slot c.in-Ok.at) SLOT_SERIAL_WORD ≡ 0
     → RunsOn F pool types c.make.new.self before undone (with_new (blank_object c.args.t m) now) laters fault s new)
     (c.in-Ok.ensures.stays t) (λ still it. c.make.ensures.runs t types m before undone now laters placed still defined room it) is_open free
 

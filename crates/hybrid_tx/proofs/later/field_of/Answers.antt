@@ -23,7 +23,7 @@ loop-ordinal-preserved c =
     below_more _ _ c.loop-ordinal.invariant
     (λ e slot f there is.
     let same = get_or_from_slice_get c.args.pool.now c.loop-ordinal.ordinal e _ there in
-    c.in_default.not-Some _ (c.field_in.ensures.found slot f (subst (λ (d : ℕ × Puddle). IsFieldAddress d.1.base c.args.address slot f) (sym same) is)))
+    c.in_default.not-Some _ (c.field_in.ensures.found slot f (subst (λ (d : ℕ × Puddle). IsFieldAddress d.1 c.args.address slot f) (sym same) is)))
 
 pub returns-clause-found : goal.returns-clause-found
 returns-clause-found c = λ bases slot f is.

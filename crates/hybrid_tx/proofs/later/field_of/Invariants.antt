@@ -5,4 +5,4 @@ use Rattle.hybrid_tx.specs.Laters.{IsFieldAddress}
 use Rattle.hybrid_tx.proofs.later.field_of.Given as goal
 
 abbrev pub invariant-loop-ordinal : goal.invariant-loop-ordinal
-invariant-loop-ordinal l = (o : ℕ) → o < l.ordinal → (e : ℕ × Puddle) (slot f : ℕ) → slice_get l.pool o ≡ Some e → IsFieldAddress e.1.base l.address slot f → ⊥
+invariant-loop-ordinal l = (o : ℕ) → o < l.ordinal → (e : ℕ × Puddle) (slot f : ℕ) → slice_get l.pool o ≡ Some e → IsFieldAddress e.1 l.address slot f → ⊥

@@ -21,7 +21,7 @@ pub loop-done-preserved : goal.loop-done-preserved
 loop-done-preserved g c = record {
   size = omega arith;
   counts = c.in_ok-place.ensures.cause ∙ c.loop-done.invariant.counts;
-  stays = λ t. c.place_of_slot.ensures.stays t ∙ c.loop-done.invariant.stays t;
+  stays = λ t. c.place_at.ensures.stays t ∙ c.loop-done.invariant.stays t;
   marked = λ t image same over.
       let before = ap (λ (s : State). reads s.now.words) (c.loop-done.invariant.stays t) ∙ same in
       let place = c.in_ok-place.ensures.place t image before over c.args.frames (omega arith) in

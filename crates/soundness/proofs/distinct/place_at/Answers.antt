@@ -7,7 +7,7 @@ use Rattle.pud_defs.specs.Puddles.{puddle_record_at}
 use Rattle.pud_defs.proofs.Replay.{outside_log}
 use Rattle.soundness.specs.Distinct.{joined, place_of}
 use Rattle.soundness.proofs.Marks.{free_record, place_used}
-use Rattle.soundness.proofs.distinct.place_of_slot.Goals as goal
+use Rattle.soundness.proofs.distinct.place_at.Goals as goal
 
 pub returns-then-member-eq0-clause-place : goal.returns-then-member-eq0-clause-place
 returns-then-member-eq0-clause-place g c = λ t image same over frames below.

@@ -1,0 +1,70 @@
+-- The geometry of a puddle: its slots and their words, its steps, and the places of a pool, which are its slots in a row.
+use Rattle.std.specs.Prelude.{ℕ, ◌+◌, ◌*◌, ◌/◌, ◌%◌, Bool, ◌==◌}
+use Rattle.pud_defs.specs.declared.space.TheConstants.{FRAME_HEADER_WORDS, FRAME_SLOTS, SLOT_WORDS, LAST_FRONTIER}
+use Rattle.pud_defs.specs.declared.records.Puddle.{Puddle}
+use Rattle.pud_defs.specs.declared.records.Slot.{Slot}
+
+-- ---- of whichever puddle, where a frame or a slot is given alone
+
+-- how many slots it has
+abbrev pub puddle_slots : ℕ
+puddle_slots = FRAME_SLOTS
+
+-- how many words each of its slots has
+abbrev pub puddle_slot_words : ℕ
+puddle_slot_words = SLOT_WORDS
+
+-- the word of its frame at which a slot begins
+abbrev pub puddle_slot_at : (slot : ℕ) → ℕ
+puddle_slot_at slot = FRAME_HEADER_WORDS + puddle_slot_words * slot
+
+-- ---- one puddle
+
+-- how many slots a puddle has
+abbrev pub slots_of : Puddle → ℕ
+slots_of puddle = puddle_slots
+
+-- how many words each of its slots has
+abbrev pub slot_words_of : Puddle → ℕ
+slot_words_of puddle = puddle_slot_words
+
+-- how many steps it has: its header, and each of its slots
+abbrev pub steps_of : Puddle → ℕ
+steps_of puddle = LAST_FRONTIER
+
+-- all of its steps are rewritten: no other frontier is sound as long as nothing rewrites on demand
+abbrev pub is_legal_frontier : Puddle → Bool
+is_legal_frontier puddle = puddle.frontier == steps_of puddle
+
+-- the word of its frame at which a slot begins
+abbrev pub slot_at : Puddle → (slot : ℕ) → ℕ
+slot_at puddle slot = puddle_slot_at slot
+
+-- the same by the slot itself
+abbrev pub slot_begins : Slot → ℕ
+slot_begins s = puddle_slot_at s.slot
+
+-- ---- the places of a pool
+
+-- A place is a slot of a pool, counted over its puddles by their ordinals, each with as many places as the largest puddle has slots. So
+-- a place says the ordinal and the slot, whichever puddles the pool has.
+
+-- the ordinal of the puddle that a place lies in
+abbrev pub ordinal_of : ℕ → ℕ
+ordinal_of place = place / FRAME_SLOTS
+
+-- the slot of that puddle
+abbrev pub slot_of : ℕ → ℕ
+slot_of place = place % FRAME_SLOTS
+
+-- the place of a slot of the puddle of an ordinal
+abbrev pub place_at : (ordinal slot : ℕ) → ℕ
+place_at ordinal slot = FRAME_SLOTS * ordinal + slot
+
+-- how many places so many puddles have
+abbrev pub places_among : ℕ → ℕ
+places_among puddles = FRAME_SLOTS * puddles
+
+-- how many slots so many puddles have
+abbrev pub slots_among : ℕ → ℕ
+slots_among puddles = FRAME_SLOTS * puddles
