@@ -4,7 +4,7 @@ use Rattle.std.proofs.lemmas.Option.{same_Some}
 use Rattle.pud_defs.specs.declared.space.TheConstants.{FRAME_HEADER_WORDS, FRAME_ORDINAL_WORD, ROOT_WORD, SLOT_SERIAL_WORD, SLOT_TYPE_WORD, SLOT_FIELDS_WORD}
 use Rattle.pud_defs.specs.Geometry.{ordinal_of}
 use Rattle.pud_defs.specs.Types.{map_of}
-use Rattle.pud_defs.specs.Stored.{Stored, places_of, place_word, place_begins, place_words}
+use Rattle.pud_defs.specs.Stored.{Stored, places_of, place_word, place_begins, place_words, IsFreePlace, IsLivePlace}
 use Rattle.pud_defs.specs.Graph.{contents_by, field_count, pointee_at, graph_of}
 use Rattle.graph_laws.specs.Changes.{with_word, with_words, with_slot_word}
 use Rattle.graph_laws.specs.Reads.{ReadsSame}
@@ -42,8 +42,8 @@ graph_of-header types st o k v low high behind =
 
 -- a word of a slot: one that is read for nothing, since the place is free or the word lies behind the fields
 unread_slot : (types : List (ℕ × ℕ)) (st : Stored) (p j v : ℕ) → 0 < j → j < place_words st p
-    → (p < places_of st → (place_word st p SLOT_SERIAL_WORD ≡ 0 → ⊥) → j ≡ SLOT_TYPE_WORD → ⊥)
-    → ((m f : ℕ) → (place_word st p SLOT_SERIAL_WORD ≡ 0 → ⊥) → map_of (place_word st p SLOT_TYPE_WORD) types ≡ Some m → f < field_count m → j ≡ SLOT_FIELDS_WORD + f → ⊥)
+    → (p < places_of st → IsLivePlace st p → j ≡ SLOT_TYPE_WORD → ⊥)
+    → ((m f : ℕ) → IsLivePlace st p → map_of (place_word st p SLOT_TYPE_WORD) types ≡ Some m → f < field_count m → j ≡ SLOT_FIELDS_WORD + f → ⊥)
     → graph_of types (with_slot_word p j v st) ≡ graph_of types st
 unread_slot types st p j v low high no_type no_field =
     let word = with_word (ordinal_of p) (place_begins st p + j) v st.word in
@@ -63,7 +63,7 @@ unread_slot types st p j v low high no_type no_field =
     })
 
 -- a word of a free slot, but for the serial
-pub graph_of-free_word : (types : List (ℕ × ℕ)) (st : Stored) (p j v : ℕ) → place_word st p SLOT_SERIAL_WORD ≡ 0 → SLOT_SERIAL_WORD < j → j < place_words st p → graph_of types (with_slot_word p j v st) ≡ graph_of types st
+pub graph_of-free_word : (types : List (ℕ × ℕ)) (st : Stored) (p j v : ℕ) → IsFreePlace st p → SLOT_SERIAL_WORD < j → j < place_words st p → graph_of types (with_slot_word p j v st) ≡ graph_of types st
 graph_of-free_word types st p j v free low high = unread_slot types st p j v low high (λ within used at. used free) (λ m f used is few at. used free)
 
 -- a word of a slot behind its fields

@@ -17,7 +17,7 @@ use Rattle.pud_defs.specs.Keyed.{under, first_from}
 use Rattle.pud_defs.specs.Types.{map_of}
 use Rattle.pud_defs.specs.Frames.{frame_at}
 use Rattle.pud_defs.specs.Replay.{overwritten}
-use Rattle.pud_defs.specs.Stored.{Stored, stored_in, places_of, place_word, place_begins, slot_state}
+use Rattle.pud_defs.specs.Stored.{Stored, stored_in, places_of, place_word, place_begins, slot_state, IsFreePlace}
 use Rattle.pud_defs.specs.Graph.{under_serial, table_of, place_of, object_at, Object, Graph, object_in, next_serial_of, graph_of}
 use Rattle.pud_defs.specs.GraphChanges.{object_with, with_some_object, with_field, with_new, with_root}
 use Rattle.pud_defs.proofs.TypeLists.{same_test}
@@ -158,7 +158,7 @@ module _ (F : ℕ) (at : List (ℕ × Puddle)) (image later : Image) (p : ℕ) (
 -- ---- places, when a free slot is filled
 
 module _ (types : List (ℕ × ℕ)) (F : ℕ) (at : List (ℕ × Puddle)) (image : Image) (is_placed : IsPlaced F at) (first : ℕ × Puddle) (head : slice_get at 0 ≡ Some first) (slot : Slot) (of : IsSlotOf at slot)
-    (serial type_id m : ℕ) (free : place_word (stored_in F at image) (place_of_slot slot) SLOT_SERIAL_WORD ≡ 0) (next : serial ≡ next_serial_of (stored_in F at image)) (defined : map_of type_id types ≡ Some m) where
+    (serial type_id m : ℕ) (free : IsFreePlace (stored_in F at image) (place_of_slot slot)) (next : serial ≡ next_serial_of (stored_in F at image)) (defined : map_of type_id types ≡ Some m) where
   abbrev filled : Image
   filled = overwritten (making F first.0 slot serial type_id) image
 

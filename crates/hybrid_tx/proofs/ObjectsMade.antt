@@ -15,7 +15,7 @@ use Rattle.pud_defs.specs.Types.{map_of}
 use Rattle.pud_defs.specs.Image.{Image}
 use Rattle.pud_defs.specs.Frames.{frame_at}
 use Rattle.pud_defs.specs.Replay.{overwritten}
-use Rattle.pud_defs.specs.Stored.{Stored, stored_in, word_in_frame, place_word, place_begins, place_words}
+use Rattle.pud_defs.specs.Stored.{Stored, stored_in, word_in_frame, place_word, place_begins, place_words, IsFreePlace}
 use Rattle.pud_defs.specs.Graph.{Graph, next_serial_of, graph_of}
 use Rattle.pud_defs.proofs.Graphs.{graph_of-each}
 use Rattle.pud_defs.proofs.Replay.{overwritten-there, overwritten-stays, value_at-there, value_at-apart}
@@ -140,7 +140,7 @@ module _ (types : List (ℕ × ℕ)) (F : ℕ) (at : List (ℕ × Puddle)) (imag
     | inr behind ↦ cond-false _ _ _ (le-ltb k FRAME_WORDS behind) ∙ sym (cond-false _ _ _ (le-ltb k FRAME_WORDS behind))
   ]
 
-  module _ (free : place_word st p SLOT_SERIAL_WORD ≡ 0) (next : serial ≡ next_serial_of st) (defined : map_of type_id types ≡ Some m) where
+  module _ (free : IsFreePlace st p) (next : serial ≡ next_serial_of st) (defined : map_of type_id types ≡ Some m) where
     pub made : IsMade types st later p type_id m
     made =
         let low = slice_get_within at slot.ordinal (slot.frame, of.puddle) of.there in

@@ -3,8 +3,7 @@ use Rattle.pm_model.specs.Words.{reads}
 use Rattle.pm_model.specs.Counts.{fault_of}
 use Rattle.pm_model.specs.Moments.{State}
 use Rattle.pm_model.proofs.Changes.{Changes-still}
-use Rattle.pud_defs.specs.declared.space.TheConstants.{SLOT_SERIAL_WORD}
-use Rattle.pud_defs.specs.Stored.{stored_in, place_word}
+use Rattle.pud_defs.specs.Stored.{stored_in, IsFreePlace}
 use Rattle.pud_defs.specs.declared.records.Slot.{Slot}
 use Rattle.object_alloc.specs.declared.AllocFault.{AllocFault}
 use Rattle.object_alloc.specs.Alloc.{alloc_fault}
@@ -24,7 +23,7 @@ returns-in-Ok-clause-runs g c = λ t types m before undone now laters placed is_
     let fault = fault_of c.make.result in
     let new = g.H.Host.state c.make.new.h in
     let free = (c.in-Ok.ensures.free t (reads (g.H.Host.state c.args.h.now).now.words) refl).free in
-    subst (λ (s : State). IsOpenOn F pool types c.args.self.now before undone now laters s.now.words → place_word (stored_in F pool (reads s.now.words)) (place_of_slot c.in-Ok.at) SLOT_SERIAL_WORD ≡ 0
+    subst (λ (s : State). IsOpenOn F pool types c.args.self.now before undone now laters s.now.words → IsFreePlace (stored_in F pool (reads s.now.words)) (place_of_slot c.in-Ok.at)
     → RunsOn F pool types c.make.new.self before undone (with_new (blank_object c.args.t m) now) laters fault s new)
     (c.in-Ok.ensures.stays t) (λ still it. c.make.ensures.runs t types m before undone now laters placed still defined room it) is_open free
 
