@@ -15,6 +15,8 @@ use Rattle.pud_defs.specs.Settled.{is_in_logs, settled}
 use Rattle.pud_defs.specs.Registry.{frames_of}
 use Rattle.pud_defs.specs.Types.{type_record_at, type_at, types_of}
 use Rattle.pud_defs.specs.Tables.{Tables, tables_of}
+use Rattle.pud_defs.specs.Run.{newlines}
+use Rattle.pud_defs.specs.StartText.{start_text}
 use Rattle.pud_defs.specs.CheckText.{check_text}
 use Rattle.pud_defs.specs.SoundTables.{are_sound_tables, HasSoundTables}
 use Rattle.pud_defs.specs.LayoutText.{tables_text, layout_text}
@@ -31,6 +33,7 @@ use Rattle.ready_daemon.proofs.Beside.{ready_stands}
 use Rattle.puddled.specs.declared.daemon.StartFault.{StartFault}
 use Rattle.puddled.specs.declared.daemon.StartFault.TheVariants as starts
 use Rattle.ready_daemon.specs.Memory.{Memory}
+use Rattle.ready_daemon.specs.Ready.{RefusesNone}
 use Rattle.puddled.specs.Saying.{SaysPart}
 use Rattle.puddled.specs.Starting.{IsReplayed, Starts}
 use Rattle.puddled.proofs.Lines.{SaysPart-says}
@@ -153,3 +156,16 @@ module _ (size : ℕ) (s : StoredWorld) (old : State) where
       let P : List ℕ → Image → Type 0 = λ bytes image. world_of size image ≡ Some s in
       Leaves-then P P P p.says.bytes old mid new p.says.said (λ front image m. m) (λ more image m. m) (Leaves-start (Ok memory) mid p)
       (Leaves-says text fault P mid new (λ front image prefix picked. (ready_stands size _ _ _ p.ready image picked).0) says)
+
+  -- once `ready` is said no registered log is refused
+  abbrev Allowed : List ℕ → Image → Type 0
+  Allowed bytes image = newlines (start_text (reads old.now.words)) ≤ newlines bytes → RefusesNone image
+
+  pub Allows-start : (result : Result Memory StartFault) (new : State) → Starts size (world_at old) result old new → Leaves Allowed old new
+  Allows-start result new p = Leaves-weaker _ Allowed old new (λ bytes image m. m.allowed) p.moments
+
+  pub Allows-shown : (memory : Memory) (mid new : State) (text : List ℕ) (fault : Option HostFault) → Starts size (world_at old) (Ok memory) old mid → Says text fault mid new → Leaves Allowed old new
+  Allows-shown memory mid new text fault p says =
+      let Q : List ℕ → Image → Type 0 = λ bytes image. RefusesNone image in
+      Leaves-then Allowed Q Allowed p.says.bytes old mid new p.says.said (λ front image m. m) (λ more image m. λ whole. m) (Allows-start (Ok memory) mid p)
+      (Leaves-says text fault Q mid new (λ front image prefix picked. (ready_stands size _ _ _ p.ready image picked).1) says)

@@ -1,5 +1,5 @@
 -- What the program does, by the mode that its words ask for.
-use Rattle.std.specs.Prelude.{◌≡◌, ◌≢◌, ◌⊎◌, ◌↔◌, ℕ, IsTrue, false, List, ◌++◌, Option, Some, None}
+use Rattle.std.specs.Prelude.{◌≡◌, ◌≢◌, ◌≤◌, ◌⊎◌, ◌↔◌, ℕ, IsTrue, false, List, ◌++◌, Option, Some, None}
 use Rattle.pm_model.specs.Words.{IsRested, reads}
 use Rattle.pm_model.specs.Moments.{State}
 use Rattle.pm_model.specs.Counts.{Counts, Rose, after_fault}
@@ -7,9 +7,10 @@ use Rattle.pm_model.specs.Changes.{Leaves}
 use Rattle.pud_defs.specs.Image.{Image}
 use Rattle.pud_defs.specs.Settled.{settled}
 use Rattle.pud_defs.specs.Registry.{frames_of}
+use Rattle.pud_defs.specs.Run.{newlines}
 use Rattle.pud_defs.specs.StartText.{start_text}
 use Rattle.pud_defs.specs.World.{StoredWorld, World, no_clients, nothing_open, world_of, closed}
-use Rattle.ready_daemon.specs.Ready.{KeepsInput}
+use Rattle.ready_daemon.specs.Ready.{KeepsInput, RefusesNone}
 use Rattle.puddled.specs.Saying.{SaysPart}
 use Rattle.command_line.specs.declared.modes.Mode.{Mode}
 use Rattle.command_line.specs.declared.modes.Mode.TheVariants.{Format, Run, Layout, Check}
@@ -53,7 +54,7 @@ pub record RunsScript (status : ℕ) (before after : Counts) (old new : State) :
 -- A mode that starts and then says what the device holds, as a text of an image. Whatever the device holds, it is refused exactly where that is
 -- not sound, and the device then stays; where it is sound and neither count rose, the mode is done. On a device that is rested, but where it is
 -- refused, the start text is said and then the text of the settled image of what the device read, with a fault a part of both; that is the text of
--- what it reads in the end, and each image left at any moment stands for what it stood for.
+-- what it reads in the end, each image left at any moment stands for what it stood for, and from `ready` on no registered log is refused in one.
 pub record Shows (text : Image → List ℕ) (status : ℕ) (before after : Counts) (old new : State) : Type 0 where
   pub not_usable : status_fault status ≡ None → (status ≡ NOT_USABLE) ↔ (world_of before.size (reads old.now.words) ≡ None)
   pub stays : status ≡ NOT_USABLE → new ≡ old
@@ -61,6 +62,8 @@ pub record Shows (text : Image → List ℕ) (status : ℕ) (before after : Coun
   pub says : IsRested old.now.words → status ≢ NOT_USABLE → SaysPart (start_text (reads old.now.words) ++ text (settled (frames_of (reads old.now.words)) (reads old.now.words))) (status_fault status) old new
   pub in_the_end : IsRested old.now.words → status ≡ DONE → text (reads new.now.words) ≡ text (settled (frames_of (reads old.now.words)) (reads old.now.words))
   pub moments : IsRested old.now.words → (s : StoredWorld) → world_of before.size (reads old.now.words) ≡ Some s → Leaves (λ bytes image. world_of before.size image ≡ Some s) old new
+  pub allowed : IsRested old.now.words → (s : StoredWorld) → world_of before.size (reads old.now.words) ≡ Some s
+      → Leaves (λ bytes image. newlines (start_text (reads old.now.words)) ≤ newlines bytes → RefusesNone image) old new
   pub rest : KeepsInput old new
 
 -- The statuses of each mode, and what a mode without lines counts: over words that are no mode nothing, and else the host's one fault.

@@ -3,7 +3,7 @@ use Rattle.std.proofs.lemmas.Result.{err_from_is_err_and}
 use Rattle.pm_model.specs.Words.{reads}
 use Rattle.puddle_cli.specs.Views.{text_of}
 use Rattle.puddled.proofs.Lines.{KeepsInput-says, words_said}
-use Rattle.puddle_cli.proofs.Showing.{not_refused, shown, shown_in_the_end, SaysPart-started, world_at, Leaves-start, Leaves-shown}
+use Rattle.puddle_cli.proofs.Showing.{not_refused, shown, shown_in_the_end, SaysPart-started, world_at, Leaves-start, Leaves-shown, Allows-start, Allows-shown}
 use Rattle.puddle_cli.proofs.show.start_and_say.Goals as goal
 
 -- ---- the start failed
@@ -12,6 +12,11 @@ pub returns-in_err-daemon-clause-moments : goal.returns-in_err-daemon-clause-mom
 returns-in_err-daemon-clause-moments g c = λ t size same rested s world.
     let old = g.H.Host.state c.args.h.now in
     Leaves-start size s old _ (g.H.Host.state c.start.new.h) (c.in_err-daemon.ensures.starts t size same (world_at size s old old) rested world refl)
+
+pub returns-in_err-daemon-clause-allowed : goal.returns-in_err-daemon-clause-allowed
+returns-in_err-daemon-clause-allowed g c = λ t size same rested s world.
+    let old = g.H.Host.state c.args.h.now in
+    Allows-start size s old _ (g.H.Host.state c.start.new.h) (c.in_err-daemon.ensures.starts t size same (world_at size s old old) rested world refl)
 
 -- ---- the layout was said in part
 
@@ -28,6 +33,11 @@ pub returns-in_err-say_view-clause-moments : goal.returns-in_err-say_view-clause
 returns-in_err-say_view-clause-moments g c = λ t size same rested s world.
     let old = g.H.Host.state c.args.h.now in
     Leaves-shown size s old _ _ _ _ _ (c.in_ok-daemon.ensures.starts t size same (world_at size s old old) rested world refl) (c.in_err-say_view.ensures.says t).says
+
+pub returns-in_err-say_view-clause-allowed : goal.returns-in_err-say_view-clause-allowed
+returns-in_err-say_view-clause-allowed g c = λ t size same rested s world.
+    let old = g.H.Host.state c.args.h.now in
+    Allows-shown size s old _ _ _ _ _ (c.in_ok-daemon.ensures.starts t size same (world_at size s old old) rested world refl) (c.in_err-say_view.ensures.says t).says
 
 pub returns-in_err-say_view-clause-rest : goal.returns-in_err-say_view-clause-rest
 returns-in_err-say_view-clause-rest g c = λ t. KeepsInput-says _ _ _ _ _ (c.in_ok-daemon.ensures.rest t) (c.in_err-say_view.ensures.says t).says
@@ -53,3 +63,8 @@ returns-clause-moments g c = λ t size same rested s world.
 
 pub returns-clause-rest : goal.returns-clause-rest
 returns-clause-rest g c = λ t. KeepsInput-says _ _ _ _ _ (c.in_ok-daemon.ensures.rest t) (c.in_ok-say_view.ensures.says t).says
+
+pub returns-clause-allowed : goal.returns-clause-allowed
+returns-clause-allowed g c = λ t size same rested s world.
+    let old = g.H.Host.state c.args.h.now in
+    Allows-shown size s old _ _ _ _ _ (c.in_ok-daemon.ensures.starts t size same (world_at size s old old) rested world refl) (c.in_ok-say_view.ensures.says t).says

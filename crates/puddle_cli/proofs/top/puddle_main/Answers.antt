@@ -32,6 +32,7 @@ returns-in-Ok-Layout-clause-does g c = λ t told.
       says = shows.says t;
       in_the_end = shows.in_the_end t;
       moments = λ rested s world. shows.moments t _ refl rested s world;
+      allowed = λ rested s world. shows.allowed t _ refl rested s world;
       rest = shows.rest t;
     } in
     subst (λ (m : Option Mode). DoesBy m c.show.result (g.H.Host.counts c.args.host.now) (g.H.Host.counts c.show.new.h) (g.H.Host.state c.args.host.now) (g.H.Host.state c.show.new.h))
@@ -47,6 +48,7 @@ returns-in-Ok-Check-clause-does g c = λ t told.
       says = shows.says t;
       in_the_end = shows.in_the_end t;
       moments = λ rested s world. shows.moments t _ refl rested s world;
+      allowed = λ rested s world. shows.allowed t _ refl rested s world;
       rest = shows.rest t;
     } in
     subst (λ (m : Option Mode). DoesBy m c.show-in-Ok-Check.result (g.H.Host.counts c.args.host.now) (g.H.Host.counts c.show-in-Ok-Check.new.h) (g.H.Host.state c.args.host.now) (g.H.Host.state c.show-in-Ok-Check.new.h))
