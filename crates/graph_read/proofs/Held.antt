@@ -1,20 +1,16 @@
 -- Who holds an object, by what was read of each slot.
-use Rattle.std.proofs.Common.{◌≡◌, ℕ, zero, suc, ◌+◌, Bool, true, false, not, ◌&&◌, ◌||◌, cond, eqb, nat_cmp, List, [], ◌∷◌, map, length, Option, Some, None, option_map, refl, sym, ap, ap₂, ◌∙◌, arith}
+use Rattle.std.proofs.Common.{◌≡◌, ℕ, Bool, true, false, not, ◌&&◌, ◌||◌, cond, eqb, nat_cmp, List, [], ◌∷◌, map, length, Option, Some, None, option_map, refl, sym, ap, ap₂, ◌∙◌}
 use Rattle.std.specs.List.{list_any, list_all, range_with_len}
-use Rattle.std.specs.declared.cmp.Ordering.{Ordering}
-use Rattle.std.specs.declared.cmp.Ordering.TheVariants.{Less, Equal, Greater}
-use Rattle.std.specs.Ordering.{is_eq}
-use Rattle.std.specs.Cmp.{IsTotalOrder}
-use Rattle.std.specs.FinMap.Entries.{put, find, by_order}
 use Rattle.std.proofs.lemmas.Bool.{and_parts}
 use Rattle.std.proofs.lemmas.Cmp.{nat_cmp_total}
 use Rattle.std.proofs.lemmas.List.Folds.{list_all-map}
 use Rattle.std.proofs.lemmas.Option.{cond_some, none-some}
 use Rattle.pud_defs.specs.Graph.{Content, Table, Object, Graph, stands, names_serial, named_by, value_of, contents_or_none, object_at, live, placed, headers_fit, is_graph, is_next_serial, is_sound_place, graph_of, graph_stored, has_graph, is_held, table_of, next_serial_of, root_of}
-use Rattle.pud_defs.specs.Keyed.{keyed, put_entry, are_distinct}
+use Rattle.pud_defs.specs.Keyed.{keyed, are_distinct}
 use Rattle.pud_defs.specs.Spaces.{all_below}
 use Rattle.pud_defs.specs.Stored.{Stored, stored_in, places_of}
-use Rattle.pud_defs.proofs.Keyed.{HasDistinctKeys, HasDistinctKeys-keys, distinct_keys, find-keyed, first_from_none}
+use Rattle.pud_defs.proofs.Keyed.{HasDistinctKeys-keys, distinct_keys}
+use Rattle.pud_defs.proofs.KeyedEach.{passes_there, any-keyed}
 use Rattle.pud_defs.proofs.Spaces.{all_below-same}
 use Rattle.graph_read.specs.declared.asking.Asked.TheVariants.{Spares}
 use Rattle.graph_read.specs.Asking.{contents_pass, place_passes, serials_in, with_serials}
@@ -23,48 +19,13 @@ use Rattle.graph_read.proofs.Judging.{none_without_puddles}
 use Rattle.pud_defs.specs.declared.records.Puddle.{Puddle}
 use Rattle.pud_defs.specs.Image.{Image}
 
--- ---- an entry of a table that is read by its keys
-
-turned : (a b c : Bool) → (a || (b || c)) ≡ (b || (a || c))
-turned true true c = refl
-turned true false c = refl
-turned false true c = refl
-turned false false c = refl
-
--- what stands there passes the test
-abbrev passes_there : {K X : Type 0} → (K × X → Bool) → Option (K × X) → Bool
-passes_there test None = false
-passes_there test (Some e) = test e
-
-module _ {K X : Type 0} (R : K → K → Ordering) (test : K × X → Bool) where
-  any-ordered : (o : Ordering) (e : K × X) (k : K) (v : X) (es : List (K × X)) → cond (is_eq o) (Some e.1) (find R k es) ≡ None
-      → (find R k es ≡ None → list_any test (put R k v es) ≡ (test (k, v) || list_any test es))
-      → list_any test (by_order o ((k, v) ∷ e ∷ es) ((e.0, v) ∷ es) (e ∷ put R k v es)) ≡ (test (k, v) || (test e || list_any test es))
-  any-ordered Less e k v es none later = refl
-  any-ordered Equal e k v es none later = absurd (none-some e.1 (sym none))
-  any-ordered Greater e k v es none later = ap (λ b. test e || b) (later none) ∙ turned (test e) (test (k, v)) (list_any test es)
-
-  any-put : (k : K) (v : X) (es : List (K × X)) → find R k es ≡ None → list_any test (put R k v es) ≡ (test (k, v) || list_any test es)
-  any-put k v [] none = refl
-  any-put k v (e ∷ es) none = any-ordered (R k e.0) e k v es none (any-put k v es)
-
-  any-put_entry : (e : Option (K × X)) (es : List (K × X)) → ((d : K × X) → e ≡ Some d → find R d.0 es ≡ None) → list_any test (put_entry R e es) ≡ (passes_there test e || list_any test es)
-  any-put_entry None es none = refl
-  any-put_entry (Some e) es none = any-put e.0 e.1 es (none e refl)
-
-  any-keyed : (o : IsTotalOrder R) (f : ℕ → Option (K × X)) (from count : ℕ) → HasDistinctKeys R f from count → list_any test (keyed R f from count) ≡ list_any (λ j. passes_there test (f j)) (range_with_len from count)
-  unfolding keyed
-  any-keyed o f from zero h = refl
-  any-keyed o f from (suc count) h =
-      any-put_entry (f from) (keyed R f (from + 1) count)
-      (λ d is. find-keyed R o d.0 f (from + 1) count ∙ first_from_none R d.0 f (from + 1) count (λ j low high. h.apart from j (omega arith) (omega arith) (omega arith) d is))
-      ∙ ap (λ b. passes_there test (f from) || b) (any-keyed o f (from + 1) count (record { apart = λ i j low less high. h.apart i j (omega arith) less (omega arith) }))
+-- ---- a test of each number of a range
 
 any_by_all : {X : Type 0} (test : X → Bool) (xs : List X) → list_any test xs ≡ not (list_all (λ x. not (test x)) xs)
 any_by_all test [] = refl
 any_by_all test (x ∷ xs) = elim (test x) as (λ b. (b || list_any test xs) ≡ not (not b && list_all (λ y. not (test y)) xs)) [ true ↦ refl | false ↦ any_by_all test xs ]
 
-any-range : (test : ℕ → Bool) (n : ℕ) → list_any test (range_with_len 0 n) ≡ not (all_below n (λ k. not (test k)))
+pub any-range : (test : ℕ → Bool) (n : ℕ) → list_any test (range_with_len 0 n) ≡ not (all_below n (λ k. not (test k)))
 any-range test n =
     any_by_all test (range_with_len 0 n)
     ∙ ap not (sym (list_all-map (λ x. not (test x)) (λ (x : ℕ). x) (range_with_len 0 n)) ∙ list_all-below (λ x. not (test x)) (λ x. x) n)

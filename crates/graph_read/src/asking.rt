@@ -14,7 +14,7 @@ ghost use Rattle.graph_read.specs.Reading.{table_in};
 
 use crate::pointers::read_pointer;
 use crate::serials::{Serials, named};
-use pm_model::{Host, HostFault};
+use pm_model::{HostFault, Loads};
 use pud_defs::layout::{MAX_FIELDS, MAX_FRAMES};
 use pud_defs::objects::{Pointee, is_free, is_live};
 use pud_defs::records::{MAX_PUDDLES, Puddle};
@@ -83,8 +83,8 @@ fn value_passes(
         )
 }
 
-/// The type id of the slot at a place.
-fn type_at<H: Host>(
+/// The type id in the slot at a place, whatever the slot holds. One word is read.
+pub fn type_at<H: Loads>(
     h: &mut H,
     frames: u32,
     pool: &[(u32, Puddle)],
@@ -103,8 +103,8 @@ fn type_at<H: Host>(
     slot_type(h, frames, at.frame, at.slot)
 }
 
-/// The word of field `f` of the slot at a place.
-fn field_word<H: Host>(
+/// The word of field `f`, 0 to 29, of the slot at a place, whatever the slot holds. One word is read.
+pub fn field_word<H: Loads>(
     h: &mut H,
     frames: u32,
     pool: &[(u32, Puddle)],
@@ -127,7 +127,7 @@ fn field_word<H: Host>(
 }
 
 /// Whether each field of the slot at a place passes, by the map of its type. At most 30 fields are read.
-fn fields_pass<H: Host>(
+fn fields_pass<H: Loads>(
     h: &mut H,
     frames: u32,
     pool: &[(u32, Puddle)],
@@ -156,7 +156,7 @@ fn fields_pass<H: Host>(
 }
 
 /// Whether the slot at a place is free or passes.
-fn place_passes<H: Host>(
+fn place_passes<H: Loads>(
     h: &mut H,
     frames: u32,
     pool: &[(u32, Puddle)],
@@ -189,7 +189,7 @@ fn place_passes<H: Host>(
 }
 
 /// Whether each slot of a pool is free or passes.
-pub(crate) fn places_pass<H: Host>(
+pub(crate) fn places_pass<H: Loads>(
     h: &mut H,
     frames: u32,
     pool: &[(u32, Puddle)],

@@ -13,7 +13,7 @@ ghost use Rattle.graph_read.specs.Reading.{table_in, read_by, field_in};
 
 use crate::places::find_serial;
 use crate::pointers::read_pointer;
-use pm_model::{Host, HostFault};
+use pm_model::{HostFault, Loads};
 use pud_defs::layout::{MAX_FIELDS, MAX_FRAMES};
 use pud_defs::objects::{Pointee, Val};
 use pud_defs::records::{Puddle, Slot};
@@ -33,8 +33,8 @@ pub enum FieldRead {
 }
 
 /// The serial of the slot to which a pointer leads that stands at a step of the puddle of an ordinal, 0 where it leads to
-/// none.
-fn serial_behind<H: Host>(
+/// none. Step 0 is the puddle's header, and step s + 1 its slot s. One word is read at most, and nothing is searched.
+pub fn serial_behind<H: Loads>(
     h: &mut H,
     frames: u32,
     pool: &[(u32, Puddle)],
@@ -61,9 +61,9 @@ fn serial_behind<H: Host>(
     }
 }
 
-/// What field `f` of a slot holds by the map word of its type: a number, or the serial that a pointer names, 0 where it
-/// names none.
-fn value_at<H: Host>(
+/// What field `f`, 0 to 29, of a slot holds by the map word of its type: a number, or the serial that a pointer names, 0 where
+/// it names none. The field's word is read once, and of a pointer the serial of its slot; nothing is searched.
+pub fn value_at<H: Loads>(
     h: &mut H,
     frames: u32,
     pool: &[(u32, Puddle)],
@@ -93,7 +93,7 @@ fn value_at<H: Host>(
 }
 
 /// What is read of field `f` of the object in a slot.
-fn field_at<H: Host>(
+fn field_at<H: Loads>(
     h: &mut H,
     frames: u32,
     pool: &[(u32, Puddle)],
@@ -127,7 +127,7 @@ fn field_at<H: Host>(
 /// Where the pool has a graph, the answer is `NoObject` exactly where the graph has no object of that serial, `NoField` exactly
 /// where the object has no such field, and else the field's value. Where it has none, a type that is not defined has no fields,
 /// and a pointer to no slot names serial 0.
-pub fn read_field<H: Host>(
+pub fn read_field<H: Loads>(
     h: &mut H,
     frames: u32,
     pool: &[(u32, Puddle)],

@@ -12,7 +12,7 @@ ghost use Rattle.pud_defs.specs.Types.{types_of};
 use crate::asking::{Asked, places_pass};
 use crate::pointers::read_pointer;
 use crate::serials::{named, read_serials};
-use pm_model::{Host, HostFault};
+use pm_model::{HostFault, Loads};
 use pud_defs::layout::MAX_FRAMES;
 use pud_defs::records::Puddle;
 use puddle_header::root_value;
@@ -27,7 +27,7 @@ fn holds(root: u64, s: u64, spared: bool) -> bool
 /// Whether the root or a pointer of a live slot leads to the object with serial `s`, where the pool stores a graph: with 0 for
 /// `s`, whether one of them is null. Where the pool stores none the answer says nothing. Each serial and each field is read
 /// once.
-pub fn is_held<H: Host>(
+pub fn is_held<H: Loads>(
     h: &mut H,
     frames: u32,
     pool: &[(u32, Puddle)],

@@ -16,7 +16,7 @@ ghost use Rattle.puddle_header.specs.Places.{places_in};
 use crate::asking::{Asked, places_pass};
 use crate::pointers::read_pointer;
 use crate::serials::{PLACES, Serials, read_serials};
-use pm_model::{Host, HostFault};
+use pm_model::{HostFault, Loads};
 use pud_defs::layout::{MAX_FRAMES, NUMBER_LIMIT};
 use pud_defs::objects::{is_free, is_live};
 use pud_defs::records::Puddle;
@@ -24,7 +24,7 @@ use pud_defs::space::places_among;
 use puddle_header::{has_header, next_serial, root_value};
 
 /// Whether each frame of a pool has the header of its puddle.
-fn headers_fit<H: Host>(h: &mut H, frames: u32, pool: &[(u32, Puddle)]) -> Result<bool, HostFault>
+fn headers_fit<H: Loads>(h: &mut H, frames: u32, pool: &[(u32, Puddle)]) -> Result<bool, HostFault>
     requires few { frames ≤ MAX_FRAMES }
     requires room { device_words frames ≤ (H.counts h.old).size }
     requires known { IsOnDevice frames pool.now }
@@ -112,7 +112,7 @@ fn count_live(serials: &Serials, count: usize) -> u32
 /// to a live slot, no two live slots have one serial, and each live slot has a serial below the next one, a type that is
 /// defined, and no pointer but to live slots and null. A pool without puddles stores none. Each serial and each field is read
 /// once.
-pub fn objects_held<H: Host>(
+pub fn objects_held<H: Loads>(
     h: &mut H,
     frames: u32,
     pool: &[(u32, Puddle)],
@@ -149,7 +149,7 @@ pub fn objects_held<H: Host>(
 }
 
 /// Whether what a pool stores is a graph, as `objects_held` says.
-pub fn pool_is_sound<H: Host>(
+pub fn pool_is_sound<H: Loads>(
     h: &mut H,
     frames: u32,
     pool: &[(u32, Puddle)],

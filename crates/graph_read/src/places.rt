@@ -13,7 +13,7 @@ ghost use Rattle.pud_defs.specs.Graph.{Graph, table_of, place_of, graph_of, obje
 ghost use Rattle.puddle_header.specs.Places.{places_in, place_of_slot, IsSlotOf};
 ghost use Rattle.graph_read.specs.Reading.{table_in, place_in_pool};
 
-use pm_model::{Host, HostFault};
+use pm_model::{HostFault, Loads};
 use pud_defs::layout::MAX_FRAMES;
 use pud_defs::records::{Puddle, Slot};
 use pud_defs::space::places_among;
@@ -21,7 +21,7 @@ use puddle_header::{serial_at, slot_at_place};
 
 /// The lowest place of the pool whose slot has serial `s`, or None exactly where none has, or `s` is 0. Each place is read
 /// once at most.
-pub fn find_place<H: Host>(
+pub fn find_place<H: Loads>(
     h: &mut H,
     frames: u32,
     pool: &[(u32, Puddle)],
@@ -50,7 +50,7 @@ pub fn find_place<H: Host>(
 
 /// The slot of the live object of serial `s`, or None exactly where no live object has it. Of several slots with the serial
 /// it is that of the lowest place.
-pub fn find_serial<H: Host>(
+pub fn find_serial<H: Loads>(
     h: &mut H,
     frames: u32,
     pool: &[(u32, Puddle)],

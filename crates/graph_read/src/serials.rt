@@ -9,7 +9,7 @@ ghost use Rattle.pud_defs.specs.Layout.{device_words};
 ghost use Rattle.pud_defs.specs.Stored.{IsOnDevice, stored_in};
 ghost use Rattle.graph_read.specs.Asking.{content_of, serials_in};
 
-use pm_model::{Host, HostFault};
+use pm_model::{HostFault, Loads};
 use pud_defs::layout::MAX_FRAMES;
 use pud_defs::objects::Pointee;
 use pud_defs::records::Puddle;
@@ -23,7 +23,7 @@ pub(crate) const PLACES: usize = MAX_PLACES as usize;
 pub(crate) type Serials = [u64; PLACES];
 
 /// The serials of a pool.
-pub(crate) fn read_serials<H: Host>(
+pub(crate) fn read_serials<H: Loads>(
     h: &mut H,
     frames: u32,
     pool: &[(u32, Puddle)],

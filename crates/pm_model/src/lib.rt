@@ -4,6 +4,7 @@
 
 mod host;
 mod laws;
+mod loads;
 mod losses;
 mod tally;
 
@@ -12,5 +13,6 @@ pub use laws::{
     a_rested_device_leaves_what_is_read, moments_of_calls_join,
     what_is_left_is_left_at_each_moment, what_is_read_may_be_left,
 };
+pub use loads::Loads;
 pub use losses::{Armed, counted_down, keeps_newest};
 pub use tally::Tally;

@@ -17,7 +17,7 @@ ghost use Rattle.pud_defs.specs.Headers.{slot_word, is_header, header_fits};
 mod places;
 
 pub use places::{serial_at, slot_at_place};
-use pm_model::{Host, HostFault};
+use pm_model::{HostFault, Loads};
 use pud_defs::layout::{FRAME_WORDS, MAX_FIELDS, MAX_FRAMES, PUDDLE_RECORD_WORDS, PUDDLE_TABLE};
 use pud_defs::records::{PUDDLE_NUMBER_WORD, member_ordinal};
 use pud_defs::space::{
@@ -26,7 +26,7 @@ use pud_defs::space::{
 };
 
 /// Word `k` of a frame.
-fn frame_word<H: Host>(h: &mut H, frames: u32, frame: u32, k: u32) -> Result<u64, HostFault>
+fn frame_word<H: Loads>(h: &mut H, frames: u32, frame: u32, k: u32) -> Result<u64, HostFault>
     requires few { frames ≤ MAX_FRAMES }
     requires room { device_words frames ≤ (H.counts h.old).size }
     requires known { frame < frames }
@@ -36,11 +36,11 @@ fn frame_word<H: Host>(h: &mut H, frames: u32, frame: u32, k: u32) -> Result<u64
     ensures cause { H.counts h.new ≡ after_fault (fault_of result) (H.counts h.old) }
     ensures never_cut { fault_of result ≢ Option.Some HostFault.Cut }
 {
-    h.load(frame_at(frames, frame) + k)
+    h.load_word(frame_at(frames, frame) + k)
 }
 
 /// Word `k` of a slot of the puddle in a frame.
-fn slot_word<H: Host>(
+fn slot_word<H: Loads>(
     h: &mut H,
     frames: u32,
     frame: u32,
@@ -61,7 +61,7 @@ fn slot_word<H: Host>(
 }
 
 /// The word in which the header of a frame has the frame magic.
-pub fn frame_magic<H: Host>(h: &mut H, frames: u32, frame: u32) -> Result<u64, HostFault>
+pub fn frame_magic<H: Loads>(h: &mut H, frames: u32, frame: u32) -> Result<u64, HostFault>
     requires few { frames ≤ MAX_FRAMES }
     requires room { device_words frames ≤ (H.counts h.old).size }
     requires known { frame < frames }
@@ -74,7 +74,7 @@ pub fn frame_magic<H: Host>(h: &mut H, frames: u32, frame: u32) -> Result<u64, H
 }
 
 /// The UUID number in the header of a frame.
-pub fn frame_number<H: Host>(h: &mut H, frames: u32, frame: u32) -> Result<u64, HostFault>
+pub fn frame_number<H: Loads>(h: &mut H, frames: u32, frame: u32) -> Result<u64, HostFault>
     requires few { frames ≤ MAX_FRAMES }
     requires room { device_words frames ≤ (H.counts h.old).size }
     requires known { frame < frames }
@@ -87,7 +87,7 @@ pub fn frame_number<H: Host>(h: &mut H, frames: u32, frame: u32) -> Result<u64, 
 }
 
 /// The ordinal in the header of a frame.
-pub fn frame_ordinal<H: Host>(h: &mut H, frames: u32, frame: u32) -> Result<u64, HostFault>
+pub fn frame_ordinal<H: Loads>(h: &mut H, frames: u32, frame: u32) -> Result<u64, HostFault>
     requires few { frames ≤ MAX_FRAMES }
     requires room { device_words frames ≤ (H.counts h.old).size }
     requires known { frame < frames }
@@ -100,7 +100,7 @@ pub fn frame_ordinal<H: Host>(h: &mut H, frames: u32, frame: u32) -> Result<u64,
 }
 
 /// The next serial in the header of a frame, which counts in that of ordinal 0.
-pub fn next_serial<H: Host>(h: &mut H, frames: u32, frame: u32) -> Result<u64, HostFault>
+pub fn next_serial<H: Loads>(h: &mut H, frames: u32, frame: u32) -> Result<u64, HostFault>
     requires few { frames ≤ MAX_FRAMES }
     requires room { device_words frames ≤ (H.counts h.old).size }
     requires known { frame < frames }
@@ -113,7 +113,7 @@ pub fn next_serial<H: Host>(h: &mut H, frames: u32, frame: u32) -> Result<u64, H
 }
 
 /// The root pointer in the header of a frame, which counts in that of ordinal 0.
-pub fn root_value<H: Host>(h: &mut H, frames: u32, frame: u32) -> Result<u64, HostFault>
+pub fn root_value<H: Loads>(h: &mut H, frames: u32, frame: u32) -> Result<u64, HostFault>
     requires few { frames ≤ MAX_FRAMES }
     requires room { device_words frames ≤ (H.counts h.old).size }
     requires known { frame < frames }
@@ -126,7 +126,12 @@ pub fn root_value<H: Host>(h: &mut H, frames: u32, frame: u32) -> Result<u64, Ho
 }
 
 /// The serial of the object in a slot, 0 where the slot is free.
-pub fn slot_serial<H: Host>(h: &mut H, frames: u32, frame: u32, slot: u32) -> Result<u64, HostFault>
+pub fn slot_serial<H: Loads>(
+    h: &mut H,
+    frames: u32,
+    frame: u32,
+    slot: u32,
+) -> Result<u64, HostFault>
     requires few { frames ≤ MAX_FRAMES }
     requires room { device_words frames ≤ (H.counts h.old).size }
     requires known { frame < frames }
@@ -140,7 +145,7 @@ pub fn slot_serial<H: Host>(h: &mut H, frames: u32, frame: u32, slot: u32) -> Re
 }
 
 /// The type id of the object in a slot.
-pub fn slot_type<H: Host>(h: &mut H, frames: u32, frame: u32, slot: u32) -> Result<u64, HostFault>
+pub fn slot_type<H: Loads>(h: &mut H, frames: u32, frame: u32, slot: u32) -> Result<u64, HostFault>
     requires few { frames ≤ MAX_FRAMES }
     requires room { device_words frames ≤ (H.counts h.old).size }
     requires known { frame < frames }
@@ -154,7 +159,7 @@ pub fn slot_type<H: Host>(h: &mut H, frames: u32, frame: u32, slot: u32) -> Resu
 }
 
 /// Field `f`, 0 to 29, of the object in a slot.
-pub fn slot_field<H: Host>(
+pub fn slot_field<H: Loads>(
     h: &mut H,
     frames: u32,
     frame: u32,
@@ -182,7 +187,7 @@ fn is_header(given: u64, place: u32, magic: u64, number: u64, ordinal: u64) -> b
 }
 
 /// Whether the frame has the header of the puddle with this UUID number and ordinal: the frame magic and both of them.
-pub fn has_header<H: Host>(
+pub fn has_header<H: Loads>(
     h: &mut H,
     frames: u32,
     frame: u32,
@@ -205,7 +210,7 @@ pub fn has_header<H: Host>(
 }
 
 /// Whether the frame has the header of the puddle that its record says it has. A frame whose record is free has none.
-pub fn header_fits<H: Host>(h: &mut H, frames: u32, frame: u32) -> Result<bool, HostFault>
+pub fn header_fits<H: Loads>(h: &mut H, frames: u32, frame: u32) -> Result<bool, HostFault>
     requires few { frames ≤ MAX_FRAMES }
     requires room { device_words frames ≤ (H.counts h.old).size }
     requires known { frame < frames }
@@ -215,10 +220,10 @@ pub fn header_fits<H: Host>(h: &mut H, frames: u32, frame: u32) -> Result<bool, 
     ensures never_cut { fault_of result ≢ Option.Some HostFault.Cut }
 {
     let record = PUDDLE_TABLE + PUDDLE_RECORD_WORDS * frame;
-    let member = h.load(record)?;
+    let member = h.load_word(record)?;
     if member == 0 {
         return Ok(false);
     }
-    let number = h.load(record + PUDDLE_NUMBER_WORD)?;
+    let number = h.load_word(record + PUDDLE_NUMBER_WORD)?;
     has_header(h, frames, frame, number, member_ordinal(member))
 }

@@ -12,7 +12,7 @@ ghost use Rattle.pud_defs.specs.Stored.{IsOnDevice, stored_in, place_word};
 ghost use Rattle.puddle_header.specs.Places.{places_in, place_of_slot, IsSlotOf};
 
 use crate::slot_serial;
-use pm_model::{Host, HostFault};
+use pm_model::{HostFault, Loads};
 use pud_defs::layout::MAX_FRAMES;
 use pud_defs::records::{Puddle, Slot};
 use pud_defs::space::{ordinal_of, slot_of};
@@ -33,7 +33,7 @@ pub fn slot_at_place(pool: &[(u32, Puddle)], place: u32) -> Slot
 }
 
 /// The serial at a place, 0 where the place is free. One word is read.
-pub fn serial_at<H: Host>(
+pub fn serial_at<H: Loads>(
     h: &mut H,
     frames: u32,
     pool: &[(u32, Puddle)],

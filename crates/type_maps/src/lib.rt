@@ -8,7 +8,7 @@ ghost use Rattle.pud_defs.specs.Image.{Image};
 ghost use Rattle.pud_defs.specs.Types.{map_of, types_of};
 ghost use Rattle.type_maps.specs.Define.{fault_in, refusal_in, table_refusal, place_for, place_of, IsInTable, Defines};
 
-use pm_model::{Host, HostFault};
+use pm_model::{Host, HostFault, Loads};
 use pm_persist::persist_word;
 use pud_defs::layout::{POOL_TABLE, TYPE_RECORD_WORDS, TYPE_RECORDS, TYPE_TABLE};
 
@@ -48,7 +48,7 @@ enum Place {
 }
 
 /// Looks the type up, record by record.
-fn look_up<H: Host>(h: &mut H, id: u64) -> Result<Place, HostFault>
+fn look_up<H: Loads>(h: &mut H, id: u64) -> Result<Place, HostFault>
     requires { POOL_TABLE ≤ (H.counts h.old).size }
     ensures place { H.tells → IfOk result (λ place. place ≡ place_of (reads (H.state h.old).now.words) id) }
     ensures within { IfOk result IsInTable }
@@ -59,11 +59,11 @@ fn look_up<H: Host>(h: &mut H, id: u64) -> Result<Place, HostFault>
     let mut free = None;
     for record in 0..TYPE_RECORDS {
         let at = TYPE_TABLE + TYPE_RECORD_WORDS * record;
-        let used_by = h.load(at)?;
+        let used_by = h.load_word(at)?;
         if used_by == 0 {
             free = free.or(Some(record));
         } else if used_by == id {
-            return Ok(Place::Defined(h.load(at + 1)?));
+            return Ok(Place::Defined(h.load_word(at + 1)?));
         }
     }
     match free {
@@ -75,7 +75,7 @@ fn look_up<H: Host>(h: &mut H, id: u64) -> Result<Place, HostFault>
 /// The map of the type with this id, which may be any value, or None exactly where no used record of the table has the id.
 ///
 /// The device reaches beyond the type table. The only errors are the host's own.
-pub fn find<H: Host>(h: &mut H, id: u64) -> Result<Option<u64>, HostFault>
+pub fn find<H: Loads>(h: &mut H, id: u64) -> Result<Option<u64>, HostFault>
     requires { POOL_TABLE ≤ (H.counts h.old).size }
     ensures map { H.tells → (image : Image) → reads (H.state h.old).now.words ≡ image → IfOk result (λ map. map ≡ map_of id (types_of image)) }
     ensures stays { H.tells → H.state h.new ≡ H.state h.old }

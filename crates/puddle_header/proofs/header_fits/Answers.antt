@@ -16,8 +16,8 @@ returns-then-member-eq0-clause-fits g c = λ t image same.
 
 pub returns-clause-fits : goal.returns-clause-fits
 returns-clause-fits g c = λ t image same.
-    let first : reads (g.H.Host.state c.load.new.self).now.words ≡ image = ap (λ (s : State). reads s.now.words) (c.load.ensures.state t) ∙ same in
-    let second : reads (g.H.Host.state c.load-2.new.self).now.words ≡ image = ap (λ (s : State). reads s.now.words) (c.load-2.ensures.state t) ∙ first in
+    let first : reads (g.H.Loads.state c.load_word.new.self).now.words ≡ image = ap (λ (s : State). reads s.now.words) (c.load_word.ensures.state t) ∙ same in
+    let second : reads (g.H.Loads.state c.load_word-2.new.self).now.words ≡ image = ap (λ (s : State). reads s.now.words) (c.load_word-2.ensures.state t) ∙ first in
     let is = c.in_ok-member.ensures.value t ∙ ap (λ (i : Image). i (puddle_record_at c.args.frame)) same in
     let is_number = c.in_ok-number.ensures.value t ∙ ap (λ (i : Image). i (puddle_record_at c.args.frame + 1)) first in
     let asked =

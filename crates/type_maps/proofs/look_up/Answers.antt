@@ -14,9 +14,9 @@ pub returns-then-used_by-id-clause-place : goal.returns-then-used_by-id-clause-p
 returns-then-used_by-id-clause-place g c = λ t.
     let i = c.loop-record.record in
     let stays = c.loop-record.invariant.stays t in
-    let image = reads (g.H.Host.state c.args.h.now).now.words in
+    let image = reads (g.H.Loads.state c.args.h.now).now.words in
     let word : c.in_ok-used_by.used_by ≡ image (type_record_at i) = c.in_ok-used_by.ensures.value t ∙ ap (λ (s : State). reads s.now.words (type_record_at i)) stays in
-    let map : c.in_ok-load.field-0 ≡ image (type_record_at i + 1) = c.in_ok-load.ensures.value t ∙ ap (λ (s : State). reads s.now.words (type_record_at i + 1)) (c.load.ensures.state t ∙ stays) in
+    let map : c.in_ok-load_word.field-0 ≡ image (type_record_at i + 1) = c.in_ok-load_word.ensures.value t ∙ ap (λ (s : State). reads s.now.words (type_record_at i + 1)) (c.load_word.ensures.state t ∙ stays) in
     let here : image (type_record_at i) ≡ c.args.id = omega arith in
     ap (λ n. Defined n) map
     ∙ sym (c.loop-record.invariant.place t ∙ place_from-here image c.args.id c.loop-record.free i (omega arith) (λ zero. absurd (omega arith)) here)
@@ -26,7 +26,7 @@ loop-record-init g c = record {
   within = tt;
   counts = refl;
   stays = λ t. refl;
-  place = λ t. place_from-start (reads (g.H.Host.state c.args.h.now).now.words) c.args.id;
+  place = λ t. place_from-start (reads (g.H.Loads.state c.args.h.now).now.words) c.args.id;
 }
 
 pub loop-record-preserved : goal.loop-record-preserved
@@ -35,11 +35,11 @@ loop-record-preserved g c = record {
     | then-used_by-eq0 w ↦ subst (λ (f : Option ℕ). IfSome f (λ r. r < TYPE_RECORDS)) (sym (w.free-is ∙ w.or-free.ensures)) (either_within c.loop-record.free c.loop-record.record c.loop-record.invariant.within (omega arith))
     | else-used_by-eq0+else-used_by-id w ↦ subst (λ (f : Option ℕ). IfSome f (λ r. r < TYPE_RECORDS)) (sym w.free-is) c.loop-record.invariant.within
   ];
-  counts = c.load.ensures.cause ∙ ap (λ r. after_fault (fault_of r) (g.H.Host.counts c.loop-record.h)) c.in_ok-used_by.was ∙ c.loop-record.invariant.counts;
-  stays = λ t. c.load.ensures.state t ∙ c.loop-record.invariant.stays t;
+  counts = c.load_word.ensures.cause ∙ ap (λ r. after_fault (fault_of r) (g.H.Loads.counts c.loop-record.h)) c.in_ok-used_by.was ∙ c.loop-record.invariant.counts;
+  stays = λ t. c.load_word.ensures.state t ∙ c.loop-record.invariant.stays t;
   place = λ t.
       let i = c.loop-record.record in
-      let image = reads (g.H.Host.state c.args.h.now).now.words in
+      let image = reads (g.H.Loads.state c.args.h.now).now.words in
       let word : c.in_ok-used_by.used_by ≡ image (type_record_at i) = c.in_ok-used_by.ensures.value t ∙ ap (λ (s : State). reads s.now.words (type_record_at i)) (c.loop-record.invariant.stays t) in
       c.loop-record.invariant.place t ∙ elim c.if-used_by-eq0.branch [
         | then-used_by-eq0 w ↦
@@ -53,10 +53,10 @@ loop-record-preserved g c = record {
 
 pub returns-in-Some-clause-place : goal.returns-in-Some-clause-place
 returns-in-Some-clause-place g c = λ t.
-    let image = reads (g.H.Host.state c.args.h.now).now.words in
+    let image = reads (g.H.Loads.state c.args.h.now).now.words in
     sym (c.loop-record.invariant.place t ∙ place_from-end image c.args.id c.loop-record.free c.loop-record.record (omega arith) ∙ ap (λ (f : Option ℕ). place_by None f) c.in-Some.is)
 
 pub returns-in-None-clause-place : goal.returns-in-None-clause-place
 returns-in-None-clause-place g c = λ t.
-    let image = reads (g.H.Host.state c.args.h.now).now.words in
+    let image = reads (g.H.Loads.state c.args.h.now).now.words in
     sym (c.loop-record.invariant.place t ∙ place_from-end image c.args.id c.loop-record.free c.loop-record.record (omega arith) ∙ ap (λ (f : Option ℕ). place_by None f) c.in-None.is)

@@ -8,7 +8,7 @@ use Rattle.type_maps.proofs.look_up.Given as goal
 abbrev pub invariant-loop-record : goal.invariant-loop-record
 invariant-loop-record g l = record {
   within : IfSome l.free (λ r. r < TYPE_RECORDS);
-  counts : g.H.Host.counts l.h ≡ g.H.Host.counts l.initial.h;
-  stays : g.H.Host.tells → g.H.Host.state l.h ≡ g.H.Host.state l.initial.h;
-  place : g.H.Host.tells → place_of (reads (g.H.Host.state l.initial.h).now.words) l.id ≡ place_from (reads (g.H.Host.state l.initial.h).now.words) l.id l.free l.record;
+  counts : g.H.Loads.counts l.h ≡ g.H.Loads.counts l.initial.h;
+  stays : g.H.Loads.tells → g.H.Loads.state l.h ≡ g.H.Loads.state l.initial.h;
+  place : g.H.Loads.tells → place_of (reads (g.H.Loads.state l.initial.h).now.words) l.id ≡ place_from (reads (g.H.Loads.state l.initial.h).now.words) l.id l.free l.record;
 }

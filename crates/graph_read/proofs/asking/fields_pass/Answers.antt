@@ -29,7 +29,7 @@ returns-then-not-value_passes-clause-pass g c = λ t image same.
 
 pub loop-f-preserved : goal.loop-f-preserved
 loop-f-preserved g c = record {
-  counts = c.field_word.ensures.cause ∙ ap (λ r. after_fault (fault_of r) (g.H.Host.counts c.loop-f.h)) c.in_ok-v.was ∙ c.loop-f.invariant.counts;
+  counts = c.field_word.ensures.cause ∙ ap (λ r. after_fault (fault_of r) (g.H.Loads.counts c.loop-f.h)) c.in_ok-v.was ∙ c.loop-f.invariant.counts;
   stays = λ t. c.field_word.ensures.stays t ∙ c.loop-f.invariant.stays t;
   passed = λ t image same.
       let st = stored_in c.args.frames c.args.pool.now image in

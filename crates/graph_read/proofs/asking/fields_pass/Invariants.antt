@@ -8,8 +8,8 @@ use Rattle.graph_read.proofs.asking.fields_pass.Given as goal
 
 abbrev pub invariant-loop-f : goal.invariant-loop-f
 invariant-loop-f g l = record {
-  counts : g.H.Host.counts l.h ≡ g.H.Host.counts l.initial.h;
-  stays : g.H.Host.tells → g.H.Host.state l.h ≡ g.H.Host.state l.initial.h;
-  passed : g.H.Host.tells → (image : Image) → reads (g.H.Host.state l.initial.h).now.words ≡ image
+  counts : g.H.Loads.counts l.h ≡ g.H.Loads.counts l.initial.h;
+  stays : g.H.Loads.tells → g.H.Loads.state l.h ≡ g.H.Loads.state l.initial.h;
+  passed : g.H.Loads.tells → (image : Image) → reads (g.H.Loads.state l.initial.h).now.words ≡ image
       → all_below l.f (field_passes l.asked (slice_index l.serials) (stored_in l.frames l.pool image) l.place l.type_map) ≡ true;
 }

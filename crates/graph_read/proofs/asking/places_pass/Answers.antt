@@ -26,7 +26,7 @@ returns-then-not-branch-clause-pass g c = λ t image same.
 
 pub loop-place-preserved : goal.loop-place-preserved
 loop-place-preserved g c = record {
-  counts = c.place_passes.ensures.cause ∙ ap (λ r. after_fault (fault_of r) (g.H.Host.counts c.loop-place.h)) c.in_ok-place_passes.was ∙ c.loop-place.invariant.counts;
+  counts = c.place_passes.ensures.cause ∙ ap (λ r. after_fault (fault_of r) (g.H.Loads.counts c.loop-place.h)) c.in_ok-place_passes.was ∙ c.loop-place.invariant.counts;
   stays = λ t. c.place_passes.ensures.stays t ∙ c.loop-place.invariant.stays t;
   passed = λ t image same.
       let test = place_passes c.args.asked (with_serials (slice_index c.args.serials.now) (table_of (types_of image) (stored_in c.args.frames c.args.pool.now image))) in

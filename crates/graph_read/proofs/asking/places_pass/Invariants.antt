@@ -10,8 +10,8 @@ use Rattle.graph_read.proofs.asking.places_pass.Given as goal
 
 abbrev pub invariant-loop-place : goal.invariant-loop-place
 invariant-loop-place g l = record {
-  counts : g.H.Host.counts l.h ≡ g.H.Host.counts l.initial.h;
-  stays : g.H.Host.tells → g.H.Host.state l.h ≡ g.H.Host.state l.initial.h;
-  passed : g.H.Host.tells → (image : Image) → reads (g.H.Host.state l.initial.h).now.words ≡ image
+  counts : g.H.Loads.counts l.h ≡ g.H.Loads.counts l.initial.h;
+  stays : g.H.Loads.tells → g.H.Loads.state l.h ≡ g.H.Loads.state l.initial.h;
+  passed : g.H.Loads.tells → (image : Image) → reads (g.H.Loads.state l.initial.h).now.words ≡ image
       → all_below l.place (place_passes l.asked (with_serials (slice_index l.serials) (table_of (types_of image) (stored_in l.frames l.pool image)))) ≡ true;
 }

@@ -13,8 +13,8 @@ pub returns-in_ok-value-in-Some-clause-read : goal.returns-in_ok-value-in-Some-c
 returns-in_ok-value-in-Some-clause-read g c = λ t image same.
     let at = c.args.at.now in
     let pool = c.args.pool.now in
-    let first : reads (g.H.Host.state c.slot_type.new.h).now.words ≡ image = ap (λ (s : State). reads s.now.words) (c.slot_type.ensures.stays t) ∙ same in
-    let second : reads (g.H.Host.state c.find.new.h).now.words ≡ image = ap (λ (s : State). reads s.now.words) (c.find.ensures.stays t) ∙ first in
+    let first : reads (g.H.Loads.state c.slot_type.new.h).now.words ≡ image = ap (λ (s : State). reads s.now.words) (c.slot_type.ensures.stays t) ∙ same in
+    let second : reads (g.H.Loads.state c.find.new.h).now.words ≡ image = ap (λ (s : State). reads s.now.words) (c.find.ensures.stays t) ∙ first in
     let id = c.in_ok-id.ensures.word t image same ∙ slot_at_place c.args.frames pool image SLOT_TYPE_WORD at c.requires.within (omega arith) in
     let defined = ap (λ i. map_of i (types_of image)) (sym id) ∙ sym (c.in_ok-map.ensures.map t image first) ∙ c.in-Some.is in
     let more = c.if-f-map_fields.true in
@@ -25,7 +25,7 @@ pub returns-in_default-clause-read : goal.returns-in_default-clause-read
 returns-in_default-clause-read g c = λ t image same.
     let at = c.args.at.now in
     let pool = c.args.pool.now in
-    let first : reads (g.H.Host.state c.slot_type.new.h).now.words ≡ image = ap (λ (s : State). reads s.now.words) (c.slot_type.ensures.stays t) ∙ same in
+    let first : reads (g.H.Loads.state c.slot_type.new.h).now.words ≡ image = ap (λ (s : State). reads s.now.words) (c.slot_type.ensures.stays t) ∙ same in
     let id = c.in_ok-id.ensures.word t image same ∙ slot_at_place c.args.frames pool image SLOT_TYPE_WORD at c.requires.within (omega arith) in
     let defined = ap (λ i. map_of i (types_of image)) (sym id) ∙ sym (c.in_ok-map.ensures.map t image first) ∙ c.in-Some.is in
     let past = c.if-f-map_fields.false in

@@ -20,7 +20,7 @@ returns-in_ok-serial-clause-value g c = λ t image same.
     let puddles = map (λ e. e.1) pool in
     let serial = (table_in c.args.frames pool image).serial in
     let word = place_word (stored_in c.args.frames pool image) (place_of_slot at) (SLOT_FIELDS_WORD + c.args.f) in
-    let read : reads (g.H.Host.state c.slot_field.new.h).now.words ≡ image = ap (λ (s : State). reads s.now.words) (c.slot_field.ensures.stays t) ∙ same in
+    let read : reads (g.H.Loads.state c.slot_field.new.h).now.words ≡ image = ap (λ (s : State). reads s.now.words) (c.slot_field.ensures.stays t) ∙ same in
     let value : c.in_ok-value.value ≡ word = c.in_ok-value.ensures.word t image same ∙ slot_at_place c.args.frames pool image (SLOT_FIELDS_WORD + c.args.f) at c.requires.within (omega arith) in
     ap (λ s. Ref s) (c.in_ok-serial.ensures.serial t image read)
     ∙ ap (λ v. Ref (named_by serial (pointee_at puddles at.ordinal (at.slot + 1) v))) value

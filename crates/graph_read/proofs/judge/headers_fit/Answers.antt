@@ -25,7 +25,7 @@ returns-then-not-branch-clause-fit g c = λ t image same.
 
 pub loop-ordinal-preserved : goal.loop-ordinal-preserved
 loop-ordinal-preserved g c = record {
-  counts = c.has_header.ensures.cause ∙ ap (λ r. after_fault (fault_of r) (g.H.Host.counts c.loop-ordinal.h)) c.in_ok-has_header.was ∙ c.loop-ordinal.invariant.counts;
+  counts = c.has_header.ensures.cause ∙ ap (λ r. after_fault (fault_of r) (g.H.Loads.counts c.loop-ordinal.h)) c.in_ok-has_header.was ∙ c.loop-ordinal.invariant.counts;
   stays = λ t. c.has_header.ensures.stays t ∙ c.loop-ordinal.invariant.stays t;
   passed = λ t image same.
       let before = ap (λ (s : State). reads s.now.words) (c.loop-ordinal.invariant.stays t) ∙ same in

@@ -8,7 +8,7 @@ use Rattle.graph_read.proofs.judge.headers_fit.Given as goal
 
 abbrev pub invariant-loop-ordinal : goal.invariant-loop-ordinal
 invariant-loop-ordinal g l = record {
-  counts : g.H.Host.counts l.h ≡ g.H.Host.counts l.initial.h;
-  stays : g.H.Host.tells → g.H.Host.state l.h ≡ g.H.Host.state l.initial.h;
-  passed : g.H.Host.tells → (image : Image) → reads (g.H.Host.state l.initial.h).now.words ≡ image → all_below l.ordinal (header_at (stored_in l.frames l.pool image)) ≡ true;
+  counts : g.H.Loads.counts l.h ≡ g.H.Loads.counts l.initial.h;
+  stays : g.H.Loads.tells → g.H.Loads.state l.h ≡ g.H.Loads.state l.initial.h;
+  passed : g.H.Loads.tells → (image : Image) → reads (g.H.Loads.state l.initial.h).now.words ≡ image → all_below l.ordinal (header_at (stored_in l.frames l.pool image)) ≡ true;
 }

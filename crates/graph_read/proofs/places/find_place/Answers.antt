@@ -13,7 +13,7 @@ returns-then-s-eq0-clause-found g c = λ t image same.
 pub returns-then-branch-s-clause-found : goal.returns-then-branch-s-clause-found
 returns-then-branch-s-clause-found g c = λ t image same.
     let table = table_in c.args.frames c.args.pool.now image in
-    let before : reads (g.H.Host.state c.loop-place.h).now.words ≡ image = ap (λ (s : State). reads s.now.words) (c.loop-place.invariant.stays t) ∙ same in
+    let before : reads (g.H.Loads.state c.loop-place.h).now.words ≡ image = ap (λ (s : State). reads s.now.words) (c.loop-place.invariant.stays t) ∙ same in
     let here : table.serial c.loop-place.place ≡ c.args.s = sym (c.in_ok-serial_at.ensures.serial t image before) ∙ c.if-branch-s.true in
     sym (c.loop-place.invariant.found t image same ∙ place_from-here table (places_in c.args.pool.now) c.args.s c.loop-place.place (omega arith) (omega arith) here)
 
@@ -30,7 +30,7 @@ loop-place-preserved g c = record {
   stays = λ t. c.serial_at.ensures.stays t ∙ c.loop-place.invariant.stays t;
   found = λ t image same.
       let table = table_in c.args.frames c.args.pool.now image in
-      let before : reads (g.H.Host.state c.loop-place.h).now.words ≡ image = ap (λ (s : State). reads s.now.words) (c.loop-place.invariant.stays t) ∙ same in
+      let before : reads (g.H.Loads.state c.loop-place.h).now.words ≡ image = ap (λ (s : State). reads s.now.words) (c.loop-place.invariant.stays t) ∙ same in
       c.loop-place.invariant.found t image same
       ∙ place_from-other table (places_in c.args.pool.now) c.args.s c.loop-place.place (omega arith) (λ here. c.if-branch-s.false (c.in_ok-serial_at.ensures.serial t image before ∙ here));
 }

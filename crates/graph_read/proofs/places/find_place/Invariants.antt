@@ -8,8 +8,8 @@ use Rattle.graph_read.proofs.places.find_place.Given as goal
 
 abbrev pub invariant-loop-place : goal.invariant-loop-place
 invariant-loop-place g l = record {
-  counts : g.H.Host.counts l.h ≡ g.H.Host.counts l.initial.h;
-  stays : g.H.Host.tells → g.H.Host.state l.h ≡ g.H.Host.state l.initial.h;
-  found : g.H.Host.tells → (image : Image) → reads (g.H.Host.state l.initial.h).now.words ≡ image
+  counts : g.H.Loads.counts l.h ≡ g.H.Loads.counts l.initial.h;
+  stays : g.H.Loads.tells → g.H.Loads.state l.h ≡ g.H.Loads.state l.initial.h;
+  found : g.H.Loads.tells → (image : Image) → reads (g.H.Loads.state l.initial.h).now.words ≡ image
       → place_in_pool l.frames l.pool image l.s ≡ place_from (table_in l.frames l.pool image) (places_in l.pool) l.s l.place;
 }

@@ -18,7 +18,7 @@ loop-place-init g c = record {
 
 pub loop-place-preserved : goal.loop-place-preserved
 loop-place-preserved g c = record {
-  counts = c.serial_at.ensures.cause ∙ ap (λ r. after_fault (fault_of r) (g.H.Host.counts c.loop-place.h)) c.in_ok-serials.was ∙ c.loop-place.invariant.counts;
+  counts = c.serial_at.ensures.cause ∙ ap (λ r. after_fault (fault_of r) (g.H.Loads.counts c.loop-place.h)) c.in_ok-serials.was ∙ c.loop-place.invariant.counts;
   stays = λ t. c.serial_at.ensures.stays t ∙ c.loop-place.invariant.stays t;
   whole = length-set c.loop-place.serials c.loop-place.place c.in_ok-serials.field-0 ∙ c.loop-place.invariant.whole;
   read = λ t image same.

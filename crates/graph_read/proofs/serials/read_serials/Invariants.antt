@@ -9,8 +9,8 @@ use Rattle.graph_read.proofs.serials.read_serials.Given as goal
 
 abbrev pub invariant-loop-place : goal.invariant-loop-place
 invariant-loop-place g l = record {
-  counts : g.H.Host.counts l.h ≡ g.H.Host.counts l.initial.h;
-  stays : g.H.Host.tells → g.H.Host.state l.h ≡ g.H.Host.state l.initial.h;
+  counts : g.H.Loads.counts l.h ≡ g.H.Loads.counts l.initial.h;
+  stays : g.H.Loads.tells → g.H.Loads.state l.h ≡ g.H.Loads.state l.initial.h;
   whole : length l.serials ≡ PLACES;
-  read : g.H.Host.tells → (image : Image) → reads (g.H.Host.state l.initial.h).now.words ≡ image → IsReadTo (serials_in (stored_in l.frames l.pool image)) l.place l.serials;
+  read : g.H.Loads.tells → (image : Image) → reads (g.H.Loads.state l.initial.h).now.words ≡ image → IsReadTo (serials_in (stored_in l.frames l.pool image)) l.place l.serials;
 }
