@@ -77,6 +77,14 @@ fn get(client: u8, name: Name, s: u64, f: u32) -> Command {
     Command::Get { client, name, s, f }
 }
 
+fn dump(client: u8, name: Name) -> Command {
+    Command::Dump { client, name }
+}
+
+fn export(client: u8, name: Name, file: Name) -> Command {
+    Command::Export { client, name, file }
+}
+
 fn cut(pick: u64) -> Command {
     Command::Cut { pick }
 }
@@ -153,6 +161,14 @@ fn lines_of_pools(rt: HostRuntime) {
             ("drop 1 7", drop_pool(1, seven)),
             ("drop 2 _", drop_pool(2, low_line)),
             ("pools", Command::Pools),
+            ("dump 0 p", dump(0, p)),
+            ("dump 7 abcdefghijklmnop", dump(7, sixteen)),
+            ("export 0 p p", export(0, p, p)),
+            ("export 1 7 _", export(1, seven, low_line)),
+            (
+                "export 7 abcdefghijklmnop 0123456789_az",
+                export(7, sixteen, digits),
+            ),
             ("get 0 p 1.0", get(0, p, 1, 0)),
             ("get 1 7 10.10", get(1, seven, 10, 10)),
             ("get 2 _ 4294967296.1", get(2, low_line, 4_294_967_296, 1)),
@@ -566,6 +582,16 @@ fn names_of_pools_that_are_none(rt: HostRuntime) {
             "drop 0 Z",
             "pool 0 a-b 600",
             "drop 0 -",
+            "dump 0 ",
+            "dump 0 P",
+            "dump 0 p p",
+            "export 0 p",
+            "export 0 p ",
+            "export 0 p P",
+            "export 0 P p",
+            "export 0 p p.",
+            "export 0 p abcdefghijklmnopq",
+            "export 0 p p p",
             "drop 0 p\0",
             "drop 0 /",
             "drop 0 :",

@@ -39,6 +39,7 @@ fn texts_of_replies(rt: HostRuntime) {
             (Reply::No(Refusal::Deep), "no deep\n"),
             (Reply::No(Refusal::Logs), "no logs\n"),
             (Reply::No(Refusal::TooBig), "no toobig\n"),
+            (Reply::No(Refusal::Memory), "no memory\n"),
             (Reply::No(Refusal::Clash), "no clash\n"),
             (Reply::No(Refusal::Full), "no full\n"),
             (Reply::No(Refusal::Space), "no space\n"),

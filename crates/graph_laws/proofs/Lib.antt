@@ -8,6 +8,7 @@ pub mod FreedObjects
 pub mod Roots
 pub mod Same
 pub mod Unread
+pub mod Within
 pub mod Grown
 pub mod StaysWild
 pub mod Rewritten
@@ -15,3 +16,10 @@ pub mod Places
 pub mod LiveSlots
 pub mod ExamplesGraphs
 pub mod StoredImages
+pub mod UsedTypes
+pub mod Chunks
+pub mod Pieces
+pub mod BasesApart
+pub mod Moved
+pub mod Plain
+pub mod Law

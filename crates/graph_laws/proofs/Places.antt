@@ -1,5 +1,5 @@
--- The object of a serial stands at the serial's place.
-use Rattle.std.proofs.Common.{◌≡◌, ℕ, List, Some, nat_cmp, option_map, sym, ap, ◌∙◌, ⊎_elim}
+-- The objects stand at the places of their serials.
+use Rattle.std.proofs.Common.{◌≡◌, ℕ, List, map, Some, nat_cmp, option_map, sym, ap, ◌∙◌, ⊎_elim}
 use Rattle.std.specs.FinMap.Entries.{find}
 use Rattle.std.proofs.lemmas.Bool.{cases_eq}
 use Rattle.std.proofs.lemmas.Cmp.{nat_cmp_total}
@@ -19,10 +19,15 @@ module _ (t : Table) where
       (λ used. under_serial-used t.serial (object_at t) p used ∙ sym (ap (option_map (of_entry nat_cmp (object_at t))) (under_serial-used t.serial own p used)))
       (cases_eq (t.serial p) 0)
 
+  -- the objects by their serials are those at the places by their serials
+  pub objects-placed : (n : ℕ) → keyed nat_cmp (live t) 0 n ≡ map (of_entry nat_cmp (object_at t)) (keyed nat_cmp (placed t) 0 n)
+  objects-placed n =
+      keyed-same nat_cmp (live t) (λ p. option_map (of_entry nat_cmp (object_at t)) (placed t p)) 0 n (λ p low high. live-placed p) ∙ keyed-mapped nat_cmp (object_at t) (placed t) 0 n
+
   -- what is found under a serial is the object at its place
   find-place : (n s : ℕ) → find nat_cmp s (keyed nat_cmp (live t) 0 n) ≡ option_map (object_at t) (place_of s t n)
   find-place n s =
-      ap (find nat_cmp s) (keyed-same nat_cmp (live t) (λ p. option_map (of_entry nat_cmp (object_at t)) (placed t p)) 0 n (λ p low high. live-placed p) ∙ keyed-mapped nat_cmp (object_at t) (placed t) 0 n)
+      ap (find nat_cmp s) (objects-placed n)
       ∙ find-mapped nat_cmp (object_at t) s (keyed nat_cmp (placed t) 0 n)
       ∙ ap (option_map (object_at t)) (find-keyed nat_cmp nat_cmp_total s (placed t) 0 n)
 

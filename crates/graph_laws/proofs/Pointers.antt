@@ -1,5 +1,5 @@
 -- Where a stored pointer leads: the address of a slot is read as the slot's place.
-use Rattle.std.proofs.Common.{◌≡◌, ℕ, zero, suc, ◌+◌, ◌-◌, ◌*◌, ◌/◌, ◌%◌, ◌<◌, ◌&&◌, cond, eqb, ltb, List, [], ◌∷◌, map, Option, Some, None, option_map, refl, ap, ◌∙◌, ⊎_elim, arith, eq-eqb, ne_eqb}
+use Rattle.std.proofs.Common.{◌≡◌, ℕ, zero, suc, ◌+◌, ◌-◌, ◌*◌, ◌/◌, ◌%◌, ◌<◌, ◌≤◌, ◌&&◌, true, false, cond, eqb, ltb, List, [], ◌∷◌, map, length, Option, Some, None, option_map, refl, sym, ap, ◌∙◌, ⊎_elim, arith, eq-eqb, ne_eqb}
 use Rattle.std.specs.Prelude.{slice_get}
 use Rattle.std.specs.Option.{option_or}
 use Rattle.std.proofs.lemmas.Bool.{cond-true, cond-false, cases_Bool, and_parts, and_from, ltb-true, lt-ltb, eqb-true}
@@ -7,8 +7,9 @@ use Rattle.std.proofs.lemmas.Option.{none-some, same_Some, slice_get-map}
 use Rattle.pud_defs.specs.declared.space.TheConstants.{RANGE_BYTES, WORD_BYTES}
 use Rattle.pud_defs.specs.declared.records.Puddle.{Puddle}
 use Rattle.pud_defs.specs.Geometry.{slots_of, slot_words_of, ordinal_of, slot_of, place_at, places_among}
-use Rattle.pud_defs.specs.Graph.{Null, At, slot_address, slot_in, place_in, at_place, target, puddles_by, pointee_at}
-use Rattle.pud_defs.proofs.Contents.{target-null}
+use Rattle.pud_defs.specs.Graph.{Content, Null, At, slot_address, slot_in, place_in, at_place, target, puddles_by, pointee_at, stands}
+use Rattle.pud_defs.specs.Exported.{address_in, address_of}
+use Rattle.pud_defs.proofs.Contents.{target-null, place_in_within}
 use Rattle.graph_laws.specs.Changes.{AreBases, IsAddress}
 
 -- ---- one puddle
@@ -82,6 +83,35 @@ target-there puddles q puddle h is =
     cond-false _ _ _ (ne_eqb _ 0 used)
     ∙ ap at_place (place_in-there 0 puddles (ordinal_of q) puddle (slot_of q) h is (omega arith))
     ∙ ap At place
+
+-- ---- over other bases
+
+pub there_is_puddle : (puddles : List Puddle) (o : ℕ) → o < length puddles → (d : Puddle) × (slice_get puddles o ≡ Some d)
+there_is_puddle [] o below = absurd (omega arith)
+there_is_puddle (d ∷ puddles) zero below = (d, refl)
+there_is_puddle (d ∷ puddles) (suc o) below = there_is_puddle puddles o (omega arith)
+
+module _ (puddles : List Puddle) (serial : ℕ → ℕ) (bases : AreBases (map (λ d. d.base) puddles)) where
+  address_read : (q : ℕ) → q < places_among (length puddles) → target puddles (address_of puddles (At q)) ≡ At q
+  address_read q within =
+      let d = there_is_puddle puddles (ordinal_of q) (omega arith) in
+      ap (λ e. target puddles (address_in e (slot_of q))) d.1 ∙ target-there puddles q d.0 bases d.1
+
+  place_read : (c : Content) (p : Option ℕ) → c ≡ at_place p → ((q : ℕ) → p ≡ Some q → q < places_among (length puddles)) → stands serial c ≡ true → target puddles (address_of puddles c) ≡ c
+  place_read c None is within stand = absurd (let it : false ≡ true = sym (ap (stands serial) is) ∙ stand in cc)
+  place_read c (Some q) is within stand = ap (λ k. target puddles (address_of puddles k)) is ∙ address_read q (within q refl) ∙ sym is
+
+-- a pointer that stands for something over any puddles, as many at most, stands for it over these by the address that it leads to
+pub target-address : (puddles over : List Puddle) (serial : ℕ → ℕ) (v : ℕ) → AreBases (map (λ d. d.base) puddles) → length over ≤ length puddles → stands serial (target over v) ≡ true
+    → target puddles (address_of puddles (target over v)) ≡ target over v
+unfolding target
+target-address puddles over serial v bases few stand = ⊎_elim
+    (λ null.
+    let is : target over v ≡ Null = cond-true _ _ _ null in
+    ap (λ c. target puddles (address_of puddles c)) is ∙ sym is)
+    (λ used. place_read puddles serial bases (target over v) (place_in 0 over v) (cond-false _ _ _ used)
+    (λ q is. let within = place_in_within 0 over v q is in omega arith) stand)
+    (cases_Bool (eqb v 0))
 
 -- ---- the pointer of a step
 

@@ -1,25 +1,24 @@
 -- A step of rewriting keeps the graph: what was read over the old bases is read over the pool's bases as the same.
-use Rattle.std.proofs.Common.{◌≡◌, ℕ, zero, suc, ◌+◌, ◌<◌, ◌≤◌, true, false, cond, eqb, ltb, List, [], ◌∷◌, map, set, length, Option, Some, None, option_map, get_or, subst, refl, sym, ap, ◌∙◌, ⊎_elim, arith}
+use Rattle.std.proofs.Common.{◌≡◌, ℕ, zero, suc, ◌+◌, ◌<◌, ◌≤◌, true, cond, eqb, ltb, List, [], ◌∷◌, map, set, length, Option, Some, None, option_map, subst, refl, sym, ap, ◌∙◌, ⊎_elim, arith}
 use Rattle.std.specs.Prelude.{slice_get}
 use Rattle.std.proofs.lemmas.Bool.{cases_eq, cases_lt, cases_Bool, cond-true, cond-false, lt-ltb, le-ltb}
 use Rattle.std.proofs.lemmas.List.{length-map, length-set}
 use Rattle.std.specs.Option.{option_or}
-use Rattle.std.proofs.lemmas.Option.{none-some, same_Some, slice_get-map, slice_get_within, slice_get-get_or}
+use Rattle.std.proofs.lemmas.Option.{none-some, same_Some, slice_get-map, slice_get_within}
 use Rattle.pud_defs.specs.declared.space.TheConstants.{SLOT_TYPE_WORD, SLOT_FIELDS_WORD, NEXT_SERIAL_WORD, ROOT_WORD}
 use Rattle.pud_defs.specs.declared.records.Puddle.{Puddle}
 use Rattle.pud_defs.specs.TypeMap.{is_pointer}
 use Rattle.pud_defs.specs.Geometry.{ordinal_of, slot_of, places_among}
 use Rattle.pud_defs.specs.Types.{map_of}
 use Rattle.pud_defs.specs.Stored.{Stored, places_of, place_word, place_begins}
-use Rattle.pud_defs.specs.Graph.{Content, Number, Null, At, Table, table_of, contents_by, slot_in, place_in, at_place, target, over_old, puddles_by, pointee_at, content, field_count, stands, has_header, headers_fit, Graph, next_serial_of, root_of, graph_of}
+use Rattle.pud_defs.specs.Graph.{Content, Number, Null, Table, table_of, contents_by, slot_in, place_in, at_place, target, over_old, puddles_by, pointee_at, content, field_count, stands, has_header, headers_fit, Graph, next_serial_of, root_of, graph_of}
 use Rattle.pud_defs.specs.Spaces.{all_below}
 use Rattle.pud_defs.proofs.Spaces.{all_below-same}
-use Rattle.pud_defs.proofs.Contents.{place_in_within}
 use Rattle.pud_defs.proofs.Graphs.{IsGraph, graph_of-each}
 use Rattle.graph_laws.specs.Changes.{AreBases, with_word, with_words}
-use Rattle.graph_laws.specs.Rewriting.{address_in, address_of, rewritten, rewritten_field, moved_to, with_some_puddle, with_frontier, stepped, RewritesSlot}
+use Rattle.graph_laws.specs.Rewriting.{rewritten, rewritten_field, moved_to, with_some_puddle, with_frontier, stepped, RewritesSlot}
 use Rattle.graph_laws.proofs.Words.{few_fields, contents_by-each, has_header-same, with_word-there, with_word-other}
-use Rattle.graph_laws.proofs.Pointers.{target-there}
+use Rattle.graph_laws.proofs.Pointers.{target-address}
 use Rattle.graph_laws.proofs.Same.{StandsSame, graph_of-kept, graph_of-same, contents_by-stands}
 
 -- ---- a list of which one is set
@@ -110,27 +109,8 @@ module _ (puddles : List Puddle) (o n : ℕ) (home : Puddle) (here : slice_get p
   -- ---- a pointer that is rewritten
 
   module _ (serial : ℕ → ℕ) (bases : AreBases (map (λ d. d.base) puddles)) where
-    address_read : (q : ℕ) → q < places_among (length puddles) → target puddles (address_of puddles (At q)) ≡ At q
-    address_read q within =
-        let d = get_or puddles (ordinal_of q) home in
-        let there : slice_get puddles (ordinal_of q) ≡ Some d = slice_get-get_or puddles (ordinal_of q) home (omega arith) in
-        ap (λ e. target puddles (address_in e (slot_of q))) there ∙ target-there puddles q d bases there
-
-    place_read : (c : Content) (p : Option ℕ) → c ≡ at_place p → ((q : ℕ) → p ≡ Some q → q < places_among (length puddles)) → stands serial c ≡ true → target puddles (address_of puddles c) ≡ c
-    place_read c None is within stand = absurd (let it : false ≡ true = sym (ap (stands serial) is) ∙ stand in cc)
-    place_read c (Some q) is within stand = ap (λ k. target puddles (address_of puddles k)) is ∙ address_read q (within q refl) ∙ sym is
-
     target-rewritten : (v : ℕ) → stands serial (target (map over_old puddles) v) ≡ true → target puddles (rewritten puddles v) ≡ target (map over_old puddles) v
-    unfolding target
-    target-rewritten v stand =
-        let old = map over_old puddles in
-        ⊎_elim
-        (λ null.
-        let is : target old v ≡ Null = cond-true _ _ _ null in
-        ap (λ c. target puddles (address_of puddles c)) is ∙ sym is)
-        (λ used. place_read (target old v) (place_in 0 old v) (cond-false _ _ _ used)
-        (λ q is. let within = place_in_within 0 old v q is in let size = length-map puddles over_old in omega arith) stand)
-        (cases_Bool (eqb v 0))
+    target-rewritten v stand = target-address puddles (map over_old puddles) serial v bases (omega (arith, length-map puddles over_old)) stand
 
     -- at a step that the frontier passes
     pointee_at-rewritten : (step v : ℕ) → home.frontier ≤ step → step < n → stands serial (pointee_at puddles o step v) ≡ true → pointee_at moved o step (rewritten puddles v) ≡ pointee_at puddles o step v

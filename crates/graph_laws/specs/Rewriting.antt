@@ -3,25 +3,13 @@ use Rattle.std.specs.Prelude.{◌≡◌, ℕ, ◌+◌, ◌<◌, cond, List, map,
 use Rattle.pud_defs.specs.declared.space.TheConstants.{FRAME_HEADER_WORDS, SLOT_SERIAL_WORD, SLOT_TYPE_WORD, SLOT_FIELDS_WORD}
 use Rattle.pud_defs.specs.declared.records.Puddle.{Puddle}
 use Rattle.pud_defs.specs.TypeMap.{is_pointer}
-use Rattle.pud_defs.specs.Geometry.{ordinal_of, slot_of}
 use Rattle.pud_defs.specs.Types.{map_of}
 use Rattle.pud_defs.specs.Stored.{Stored, place_word, place_words, IsLivePlace}
-use Rattle.pud_defs.specs.Graph.{Content, Number, Null, At, Nowhere, slot_address, target, over_old, field_count}
+use Rattle.pud_defs.specs.Graph.{target, over_old, field_count}
+use Rattle.pud_defs.specs.Exported.{address_of}
 use Rattle.graph_laws.specs.Changes.{with_words}
 
 -- ---- pointers
-
--- the address of a slot of a puddle, where there is the puddle
-abbrev pub address_in : Option Puddle → (slot : ℕ) → ℕ
-address_in None slot = 0
-address_in (Some d) slot = slot_address d slot
-
--- the word that stands for this over the pool's bases
-abbrev pub address_of : List Puddle → Content → ℕ
-address_of puddles (Number v) = 0
-address_of puddles Null = 0
-address_of puddles (At q) = address_in (slice_get puddles (ordinal_of q)) (slot_of q)
-address_of puddles Nowhere = 0
 
 -- a pointer over the old bases as it is over the pool's bases
 abbrev pub rewritten : List Puddle → ℕ → ℕ

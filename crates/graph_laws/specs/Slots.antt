@@ -1,6 +1,7 @@
--- Which slots of a pool are free.
-use Rattle.std.specs.Prelude.{ℕ, ◌<◌}
-use Rattle.pud_defs.specs.Stored.{Stored, places_of, IsFreePlace, IsLivePlace}
+-- Which slots of a pool are free, and which hold objects of a type.
+use Rattle.std.specs.Prelude.{ℕ, ◌<◌, Bool, ◌&&◌, ◌==◌}
+use Rattle.pud_defs.specs.declared.space.TheConstants.{SLOT_SERIAL_WORD, SLOT_TYPE_WORD}
+use Rattle.pud_defs.specs.Stored.{Stored, places_of, place_word, slot_state, IsFreePlace, IsLivePlace}
 
 -- each slot is live
 pub record AreAllLive (st : Stored) : Type 0 where
@@ -11,3 +12,7 @@ pub record IsLowestFreeSlot (st : Stored) (p : ℕ) : Type 0 where
   pub within : p < places_of st
   pub free : IsFreePlace st p
   pub live_before : (q : ℕ) → q < p → IsLivePlace st q
+
+-- an object of the type lives in the slot at the place
+abbrev pub is_of_type : Stored → (id place : ℕ) → Bool
+is_of_type st id p = (slot_state (place_word st p SLOT_SERIAL_WORD)).is_live && place_word st p SLOT_TYPE_WORD == id

@@ -3,19 +3,26 @@
 ghost use Rattle.std.specs.Prelude.{◌≡◌, ◌↔◌, ◌+◌, ◌*◌, ◌/◌, ◌%◌, ◌<◌, ◌≤◌, ℕ, true, false, List, length, map, slice_get, slice_index, Option, option_map};
 ghost use Rattle.pud_defs.specs.declared.layout.TheConstants.{FRAME_WORDS, NUMBER_LIMIT};
 ghost use Rattle.pud_defs.specs.declared.space.TheConstants.{FRAME_HEADER_WORDS, FRAME_ORDINAL_WORD, ROOT_WORD, SLOT_SERIAL_WORD, SLOT_TYPE_WORD, SLOT_FIELDS_WORD};
+ghost use Rattle.pud_defs.specs.declared.records.TheConstants.{POOL_RECORDS};
+ghost use Rattle.pud_defs.specs.declared.records.PoolRec.{PoolRec};
 ghost use Rattle.pud_defs.specs.declared.records.Puddle.{Puddle};
 ghost use Rattle.pud_defs.specs.declared.objects.Val.TheVariants.{Num, Ref};
 ghost use Rattle.pud_defs.specs.TypeMap.{is_pointer};
 ghost use Rattle.pud_defs.specs.Geometry.{ordinal_of, slot_of};
-ghost use Rattle.pud_defs.specs.Types.{map_of, with_type};
+ghost use Rattle.pud_defs.specs.Types.{map_of, types_of, with_type};
+ghost use Rattle.pud_defs.specs.Registry.{frames_of, is_registry};
+ghost use Rattle.pud_defs.specs.Tables.{tables_of, puddles_in_turn};
 ghost use Rattle.pud_defs.specs.Image.{Image, written};
 ghost use Rattle.pud_defs.specs.Frames.{frame_at, fresh_frame};
 ghost use Rattle.pud_defs.specs.Stored.{Stored, stored_in, places_of, place_word, place_words, IsFreePlace};
 ghost use Rattle.pud_defs.specs.Graph.{Graph, table_of, place_of, object_at, field_count, object_in, next_serial_of, is_held, graph_of, empty_graph};
 ghost use Rattle.pud_defs.specs.GraphChanges.{blank_object, with_field, with_new, without_object, with_root};
+ghost use Rattle.std.specs.List.{list_any, range_with_len};
+ghost use Rattle.pud_defs.specs.ExportFile.{words_in, is_type_used, types_used, contents_of, file_graph};
+ghost use Rattle.pud_defs.specs.Exported.{exported_words, IsExportable};
 ghost use Rattle.graph_laws.specs.Changes.{with_word, with_words, with_slot_word, with_field_word, with_serial_word, with_root_word, AreBases, IsAddress, IsField, IsMade};
 ghost use Rattle.graph_laws.specs.Reads.{ReadsSame, with_puddle, alone, IsGrown, AgreeOnFrames, HasDistinctFrames};
-ghost use Rattle.graph_laws.specs.Slots.{AreAllLive};
+ghost use Rattle.graph_laws.specs.Slots.{AreAllLive, is_of_type};
 ghost use Rattle.graph_laws.specs.Rewriting.{rewritten, stepped, RewritesSlot};
 
 /// The object of a serial is what stands at the place of the serial.
@@ -155,4 +162,31 @@ pub fn empty_step_keeps_the_graph()
 pub fn graph_stays_under_one_type_more()
     ensures { (id : ℕ) (map : ℕ) (types : List (ℕ × ℕ)) (st : Stored) (g : Graph) → map_of id types ≡ Option.None → graph_of types st ≡ Option.Some g
         → graph_of (with_type id map types) st ≡ Option.Some g }
+{}
+
+/// A type that objects of a graph have is one that the objects of live slots have.
+pub fn used_type_is_that_of_a_live_slot()
+    ensures { (types : List (ℕ × ℕ)) (st : Stored) (g : Graph) (id : ℕ) → graph_of types st ≡ Option.Some g
+        → is_type_used id g ≡ list_any (is_of_type st id) (range_with_len 0 (places_of st)) }
+{}
+
+/// The words that are exported of a pool hold its graph and the types that its objects have, whatever its old bases are
+/// and wherever its frontiers stand.
+pub fn exported_words_hold_the_graph()
+    ensures { (machine : ℕ) (number : ℕ) (types : List (ℕ × ℕ)) (st : Stored) (g : Graph) → IsExportable types st → graph_of types st ≡ Option.Some g
+        → contents_of (exported_words machine number types (types_used types g) st) ≡ Option.Some (record { types = types_used types g; puddles = length st.puddles; graph = g }) }
+{}
+
+/// Bytes that spell these words, and no more, are a file of the same.
+pub fn bytes_of_exported_words_are_a_file()
+    ensures { (machine : ℕ) (number : ℕ) (types : List (ℕ × ℕ)) (st : Stored) (g : Graph) → IsExportable types st → graph_of types st ≡ Option.Some g
+        → (bytes : List ℕ) → words_in bytes ≡ exported_words machine number types (types_used types g) st → length bytes ≡ 8 * length (words_in bytes)
+        → file_graph bytes ≡ Option.Some (record { types = types_used types g; puddles = length st.puddles; graph = g }) }
+{}
+
+/// A pool of a sound registry can be exported: its types and the bases of its puddles are legal in a file, and are no more
+/// than it may have.
+pub fn pool_of_a_sound_registry_can_be_exported()
+    ensures { (size : ℕ) (image : Image) (frames : ℕ) (slot : ℕ) (rec : PoolRec) → is_registry size image ≡ true → frames ≡ frames_of image
+        → slot < POOL_RECORDS → (tables_of frames image).pools slot ≡ Option.Some rec → IsExportable (types_of image) (stored_in frames (puddles_in_turn (tables_of frames image) slot) image) }
 {}

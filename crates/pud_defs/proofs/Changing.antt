@@ -1,16 +1,16 @@
 -- What is no part of what a command may change stays.
-use Rattle.std.proofs.Common.{◌≡◌, inl, inr, ℕ, T, List, [], ◌∷◌, ◌++◌, Option, Some, None, nat_cmp, refl, sym, ap, ◌∙◌}
+use Rattle.std.proofs.Common.{◌≡◌, ℕ, T, List, Option, Some, None, nat_cmp, refl, sym, ap, subst, ◌∙◌}
 use Rattle.std.specs.FinMap.Entries.{is_sorted}
 use Rattle.pud_defs.specs.declared.machine.Command.{Command}
-use Rattle.pud_defs.specs.declared.machine.Command.TheVariants.{Client, Leave, Define, Cut, Arm, Chmod, Begin, Commit, Abort, New, Set, Later, Root, Free, Pools, Get}
+use Rattle.pud_defs.specs.declared.machine.Command.TheVariants.{Client, Leave, Define, Cut, Arm, Chmod, Begin, Commit, Abort, New, Set, Later, Root, Free, Dump, Export, Pools, Get}
 use Rattle.pud_defs.specs.declared.machine.Command.TheVariants as commands
 use Rattle.pud_defs.specs.declared.machine.Refusal.{Refusal}
 use Rattle.pud_defs.specs.World.{World}
 use Rattle.pud_defs.specs.PoolChanges.{with_new_pool, with_pool_mode, without_pool, with_type_defined}
 use Rattle.pud_defs.specs.Grammar.{command_of}
-use Rattle.pud_defs.specs.Step.{refusal_of, after, unless_refused, world_by, step_world}
-use Rattle.pud_defs.specs.Changing.{Part, part_of, with_part, file_in, KeepsFiles, KeepsUnwritable}
-use Rattle.pud_defs.specs.Run.{Turn, IsTurn, IsRun, last_world}
+use Rattle.pud_defs.specs.Step.{refusal_of, after, unless_refused, world_by}
+use Rattle.pud_defs.specs.Gives.{Shelf, GivesShelf, GivesUnless, GivesShelfBy, Gives}
+use Rattle.pud_defs.specs.Changing.{Part, part_of, with_part, file_of, file_in, KeepsFiles, KeepsUnwritable}
 use Rattle.pud_defs.proofs.TypeLists.{is_sorted-with_type}
 use Rattle.pud_defs.specs.Changing.Part.{types, pools, clients, transactions, nothing}
 
@@ -32,6 +32,8 @@ after-part w (Set client name s f x) = refl
 after-part w (Later client name s f x) = refl
 after-part w (Root client name s) = refl
 after-part w (Free client name s) = refl
+after-part w (Dump client name) = refl
+after-part w (Export client name file) = refl
 after-part w Pools = refl
 after-part w (Cut pick) = refl
 after-part w (Arm step pick) = refl
@@ -59,31 +61,46 @@ shelf_unless : (r : Option Refusal) (before later : World) → later.shelf ≡ b
 shelf_unless None before later same = same
 shelf_unless (Some r) before later same = refl
 
--- a command that writes no file leaves the shelf
-pub shelf_by : (w : World) (c : Option Command) → file_in c ≡ None → (world_by w c).shelf ≡ w.shelf
-shelf_by w None none = refl
-shelf_by w (Some c) none = shelf_unless (refusal_of w c) w (after w c) (shelf_after w c)
+-- what a command gives but for the shelf has the shelf that was
+pub shelf_by : (w : World) (c : Option Command) → (world_by w c).shelf ≡ w.shelf
+shelf_by w None = refl
+shelf_by w (Some c) = shelf_unless (refusal_of w c) w (after w c) (shelf_after w c)
 
--- no line of today writes one
-pub no_file_in : (c : Option Command) → file_in c ≡ None
-no_file_in None = refl
-no_file_in (Some c) = refl
+-- a command that writes no file gives the shelf that was, and that one alone
+leaves_shelf : (w : World) (c : Command) → file_of c ≡ None → GivesShelf w c w.shelf
+leaves_shelf w (Export client name file) none = absurd (cc)
+leaves_shelf w c none = refl
 
--- the shelf stays
-pub shelf_of_step : (w : World) (line : List ℕ) → (step_world w line).shelf ≡ w.shelf
-shelf_of_step w line = shelf_by w (command_of line) (no_file_in (command_of line))
+leaves_unless : (r : Option Refusal) (w : World) (c : Command) → file_of c ≡ None → GivesUnless r w c w.shelf
+leaves_unless None w c none = leaves_shelf w c none
+leaves_unless (Some r) w c none = refl
 
--- nor does a run change it
-shelf_of_turn : (w : World) (t : Turn) → IsTurn w t → t.next.shelf ≡ w.shelf
-shelf_of_turn w t (inl turn) = ap (λ (x : World). x.shelf) (turn.goes_on ∙ turn.step.given) ∙ shelf_of_step w t.line
-shelf_of_turn w t (inr turn) = elim turn.goes_on [
-  | inl before ↦ ap (λ (x : World). x.shelf) before
-  | inr later ↦ ap (λ (x : World). x.shelf) later ∙ ap (λ (x : World). x.shelf) turn.given ∙ shelf_of_step w t.line
-]
+leaves_shelf_by : (w : World) (c : Option Command) → file_in c ≡ None → GivesShelfBy w c w.shelf
+leaves_shelf_by w None none = refl
+leaves_shelf_by w (Some c) none = leaves_unless (refusal_of w c) w c none
 
-pub shelf_of_turns : (w : World) (turns more : List Turn) → IsRun w (turns ++ more) → (last_world w turns).shelf ≡ w.shelf
-shelf_of_turns w [] more is = refl
-shelf_of_turns w (t ∷ turns) more is = shelf_of_turns t.next turns more is.1 ∙ shelf_of_turn w t is.0
+-- it gives the world that is given but for the shelf
+pub Gives-plain : (w : World) (c : Option Command) → file_in c ≡ None → Gives w c (world_by w c)
+Gives-plain w c none = record { shelf = subst (λ (s : Shelf). GivesShelfBy w c s) (sym (shelf_by w c)) (leaves_shelf_by w c none); rest = refl }
+
+given_shelf : (w : World) (c : Command) (shelf : Shelf) → file_of c ≡ None → GivesShelf w c shelf → shelf ≡ w.shelf
+given_shelf w (Export client name file) shelf none given = absurd (cc)
+given_shelf w c shelf none given = given
+
+given_unless : (r : Option Refusal) (w : World) (c : Command) (shelf : Shelf) → file_of c ≡ None → GivesUnless r w c shelf → shelf ≡ w.shelf
+given_unless None w c shelf none given = given_shelf w c shelf none given
+given_unless (Some r) w c shelf none given = given
+
+given_by : (w : World) (c : Option Command) (shelf : Shelf) → file_in c ≡ None → GivesShelfBy w c shelf → shelf ≡ w.shelf
+given_by w None shelf none given = given
+given_by w (Some c) shelf none given = given_unless (refusal_of w c) w c shelf none given
+
+pub shelf_of_gives : (w : World) (c : Option Command) (next : World) → file_in c ≡ None → Gives w c next → next.shelf ≡ w.shelf
+shelf_of_gives w c next none gives = given_by w c next.shelf none gives.shelf
+
+-- so it gives one world alone
+pub Gives-plain_is : (w : World) (c : Option Command) (next : World) → file_in c ≡ None → Gives w c next → next ≡ world_by w c
+Gives-plain_is w c next none gives = gives.rest ∙ ap (λ (s : Shelf). record (world_by w c) { shelf = s }) (shelf_of_gives w c next none gives ∙ sym (shelf_by w c))
 
 pub KeepsFiles-still : (file : Option (List ℕ)) (old new : List ℕ → Option (List ℕ)) → new ≡ old → KeepsFiles file old new
 KeepsFiles-still file old new same = record { others = λ name other. ap (λ (s : List ℕ → Option (List ℕ)). s name) same }
@@ -104,7 +121,3 @@ KeepsUnwritable-then a b c p q = record { others = λ name other. q.others name 
 -- a line writes its own file alone
 pub KeepsUnwritable-line : (line : List ℕ) (old new : List ℕ → Option (List ℕ)) → KeepsFiles (file_in (command_of line)) old new → KeepsUnwritable old new
 KeepsUnwritable-line line old new k = record { others = λ name other. k.others name (λ named. other (record { line = line; names = named })) }
-
--- where no line writes a file the shelf stays
-pub KeepsUnwritable-none : (old new : List ℕ → Option (List ℕ)) → KeepsUnwritable old new → new ≡ old
-KeepsUnwritable-none old new k = λ i name. k.others name (λ w. absurd (let it : None ≡ Some name = sym (no_file_in (command_of w.line)) ∙ w.names in cc)) i

@@ -107,7 +107,7 @@ target_within puddles v n few =
     cond_both (eqb v 0) Null (at_place (place_in 0 puddles v)) (λ c. names_only (λ p. ltb p n) c ≡ true) (λ null. refl)
     (λ used. at_place_within n (place_in 0 puddles v) (λ p is. let within = place_in_within 0 puddles v p is in omega arith))
 
-few_puddles : (puddles : List Puddle) (o : Option Puddle) (step : ℕ) → length (puddles_by puddles o step) ≤ length puddles
+pub few_puddles : (puddles : List Puddle) (o : Option Puddle) (step : ℕ) → length (puddles_by puddles o step) ≤ length puddles
 few_puddles puddles None step = zero-le
 few_puddles puddles (Some p) step =
     cond_both (ltb step p.frontier) puddles (map over_old puddles) (λ (read : List Puddle). length read ≤ length puddles)

@@ -15,26 +15,26 @@ use Rattle.pud_defs.proofs.Opened.{opened}
 -- ---- small pools
 
 -- type 1 has two fields, of which the second is a pointer
-abbrev types : List (ℕ × ℕ)
+abbrev pub types : List (ℕ × ℕ)
 types = (1, 8589934594) ∷ []
 
 map_of_type_1 : (map_fields 8589934594 ≡ 2) × (is_pointer 8589934594 0 ≡ false) × (is_pointer 8589934594 1 ≡ true)
 map_of_type_1 = (refl, refl, refl)
 
 -- the words of the frame of a new puddle
-abbrev fresh : (number ordinal : ℕ) → Image
+abbrev pub fresh : (number ordinal : ℕ) → Image
 fresh number ordinal = written FRAME_MAGIC_WORD FRAME_MAGIC (written FRAME_NUMBER_WORD number (written FRAME_ORDINAL_WORD ordinal (written NEXT_SERIAL_WORD (first_serial ordinal) (λ _. 0))))
 
 -- the frame with an object of type 1 in a slot
-abbrev with_slot : (slot serial value pointer : ℕ) → Image → Image
+abbrev pub with_slot : (slot serial value pointer : ℕ) → Image → Image
 with_slot slot serial value pointer frame = written (puddle_slot_at slot) serial (written (puddle_slot_at slot + 1) 1 (written (puddle_slot_at slot + 2) value (written (puddle_slot_at slot + 3) pointer frame)))
 
 -- a pool of one puddle, of number 7 in range 2
-abbrev alone : Image → Stored
+abbrev pub alone : Image → Stored
 alone frame = record { puddles = record { number = 7; base = base_at 2; old_base = base_at 2; frontier = 63 } ∷ []; word = λ o. frame }
 
 -- the address of a slot of a puddle in a range
-abbrev address_in_range : (range slot : ℕ) → ℕ
+abbrev pub address_in_range : (range slot : ℕ) → ℕ
 address_in_range range slot = slot_address (record { number = 0; base = base_at range; old_base = base_at range; frontier = 0 }) slot
 
 -- the address of a slot of that puddle
@@ -42,7 +42,7 @@ abbrev address : (slot : ℕ) → ℕ
 address slot = address_in_range 2 slot
 
 -- an object of type 1
-abbrev object : (value serial : ℕ) → Object
+abbrev pub object : (value serial : ℕ) → Object
 object value serial = record { type_id = 1; fields = Num value ∷ Ref serial ∷ [] }
 
 -- ---- graphs
@@ -141,7 +141,7 @@ another_type_defined = refl
 
 -- Two puddles that moved by one range up, so that the base of the first is the old one of the second. The first holds the objects 1 and 2 in
 -- its slots 0 and 1, the second object 3 in slot 0. The root and the pointers of 1, 2 and 3 are these.
-abbrev moved : (frontier root first second third : ℕ) → Stored
+abbrev pub moved : (frontier root first second third : ℕ) → Stored
 moved frontier root first second third = record {
   puddles =
       record { number = 7; base = base_at 1; old_base = base_at 0; frontier = frontier }
@@ -153,7 +153,7 @@ abbrev moved_graph : (root first second third : ℕ) → Graph
 moved_graph root first second third = record { next_serial = 4; root = root; objects = (1, object 10 first) ∷ (2, object 20 second) ∷ (3, object 30 third) ∷ [] }
 
 -- slot 0 of the first puddle by its base, and of the second by its old base
-abbrev of_both : ℕ
+abbrev pub of_both : ℕ
 of_both = address_in_range 1 0
 
 -- no pointer is rewritten: all stand over the old bases

@@ -7,19 +7,19 @@ use Rattle.std.proofs.lemmas.Option.{cond_some}
 use Rattle.pud_defs.specs.declared.layout.TheConstants.{FRAMES_WORD, DAEMON_LOG, LOG_WORDS, TYPE_TABLE, TYPE_RECORDS}
 use Rattle.pud_defs.specs.Layout.{tables_end, frames_at, device_words}
 use Rattle.pud_defs.specs.Image.{Image, IsSameBelow}
-use Rattle.pud_defs.specs.Keyed.{are_distinct}
-use Rattle.pud_defs.specs.Types.{type_at, types_of, free_type, used_types, map_of, is_sound_type}
+use Rattle.pud_defs.specs.Types.{type_at, types_of, free_type, used_types, map_of}
 use Rattle.pud_defs.specs.Registry.{frames_of, has_closed_logs, is_registry, is_idle_registry, has_legal_log, are_allowed}
 use Rattle.pud_defs.specs.World.{StoredWorld, stored_by, idle_registry, idle_world_of}
 use Rattle.pud_defs.specs.PoolChanges.{pools_read}
 use Rattle.pud_defs.proofs.Held.{pools_in-anew}
 use Rattle.pud_defs.specs.Entries.{is_idle_gate, log_of}
 use Rattle.pud_defs.specs.Replay.{settled_by, beside_log}
-use Rattle.pud_defs.specs.Spaces.{all_below, are_closed_logs}
+use Rattle.pud_defs.specs.Spaces.{are_closed_logs}
 use Rattle.pud_defs.proofs.Replay.{entries_of-idle, settled_by-beside, beside_log-outside, outside_log}
 use Rattle.pud_defs.proofs.Spaces.{are_legal_spaces-same}
+use Rattle.pud_defs.proofs.TypeTable.{length-types_of}
 use Rattle.pud_defs.proofs.Logged.{settled_by-unlogged}
-use Rattle.pud_defs.proofs.Keyed.{distinct_keys, is_sorted-keyed, length-keyed, first_free_some, count_used_most, count_used_full, count_used_room}
+use Rattle.pud_defs.proofs.Keyed.{is_sorted-keyed, first_free_some, count_used_most, count_used_full, count_used_room}
 use Rattle.pud_defs.proofs.Parts.{StandsFor, holds_standing, standing_closed, standing_same, standing_with_spaces}
 use Rattle.pud_defs.proofs.Parts.Part.{Header, Types, Pools, Spaces}
 use Rattle.pud_defs.proofs.Worlds.{holds_sound, holds_stored, holding_by}
@@ -125,10 +125,7 @@ pools_settled size image s h = let is = (h.holds Pools).pools in ap (pools_read 
 
 -- as many records are used as types are defined
 pub length_of_world : (size : ℕ) (image : Image) (s : StoredWorld) → StandsFor size image s → used_types image ≡ length s.types
-length_of_world size image s h =
-    let types = h.holds Types in
-    let distinct = and_parts (all_below TYPE_RECORDS (λ i. is_sound_type (type_at image i))) (are_distinct nat_cmp (type_at image) 0 TYPE_RECORDS) types.legal in
-    sym (length-keyed nat_cmp nat_cmp_total (type_at image) 0 TYPE_RECORDS (distinct_keys nat_cmp (type_at image) 0 TYPE_RECORDS distinct.1)) ∙ ap length types.types
+length_of_world size image s h = let types = h.holds Types in sym (length-types_of image types.legal) ∙ ap length types.types
 
 -- all records are used exactly where as many types are defined
 pub full_of_world : (size : ℕ) (image : Image) (s : StoredWorld) → StandsFor size image s → free_type image ≡ None → length s.types ≡ TYPE_RECORDS

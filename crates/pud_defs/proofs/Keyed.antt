@@ -16,6 +16,16 @@ pub none_when : {A : Type 0} (o : Option A) → is_none o ≡ true → o ≡ Non
 none_when None e = refl
 none_when (Some x) e = cc
 
+-- what is mapped to a value
+pub record IsMapped {A B : Type 0} (g : A → B) (o : Option A) (y : B) : Type 0 where
+  pub value : A
+  pub is : o ≡ Some value
+  pub gives : g value ≡ y
+
+pub option_map_parts : {A B : Type 0} (g : A → B) (o : Option A) (y : B) → option_map g o ≡ Some y → IsMapped g o y
+option_map_parts g None y e = absurd (none-some y e)
+option_map_parts g (Some x) y e = record { value = x; is = refl; gives = same_Some (g x) y e }
+
 tied_or_apart : (r : Ordering) → (r ≡ Equal) ⊎ (is_eq r ≡ false)
 tied_or_apart Less = inr refl
 tied_or_apart Equal = inl refl

@@ -1,10 +1,14 @@
--- What holds of each used place of a table holds of each entry of its list.
-use Rattle.std.proofs.Common.{◌≡◌, ℕ, zero, suc, ◌+◌, ◌<◌, ◌≤◌, List, [], ◌∷◌, Option, Some, None, refl, ap₂, ◌++◌, subst, arith}
+-- What holds of each used place of a table holds of each entry of its list, and what of some of some.
+use Rattle.std.proofs.Common.{◌≡◌, ℕ, zero, suc, ◌+◌, ◌<◌, ◌≤◌, Bool, true, false, ◌||◌, cond, List, [], ◌∷◌, Option, Some, None, refl, sym, ap, ap₂, ◌∙◌, ◌++◌, subst, arith}
 use Rattle.std.specs.declared.cmp.Ordering.{Ordering}
 use Rattle.std.specs.declared.cmp.Ordering.TheVariants.{Less, Equal, Greater}
-use Rattle.std.specs.List.{AllByRecursion, flat_map}
-use Rattle.std.specs.FinMap.Entries.{by_order, put}
+use Rattle.std.specs.List.{AllByRecursion, flat_map, list_any, range_with_len}
+use Rattle.std.specs.Ordering.{is_eq}
+use Rattle.std.specs.Cmp.{IsTotalOrder}
+use Rattle.std.specs.FinMap.Entries.{by_order, put, find}
+use Rattle.std.proofs.lemmas.Option.{none-some}
 use Rattle.pud_defs.specs.Keyed.{put_entry, keyed}
+use Rattle.pud_defs.proofs.Keyed.{HasDistinctKeys, find-keyed, first_from_none}
 
 module _ {K X : Type 0} (R : K → K → Ordering) (same : (k q : K) → R k q ≡ Equal → k ≡ q) (P : K × X → Type 0) where
   each-put : (k : K) (v : X) (es : List (K × X)) → P (k, v) → AllByRecursion P es → AllByRecursion P (put R k v es)
@@ -34,3 +38,41 @@ flat_map-each f g (x ∷ xs) each = ap₂ (λ front rest. front ++ rest) each.0 
 pub each-weaker : {X : Type 0} (P Q : X → Type 0) (xs : List X) → ((x : X) → P x → Q x) → AllByRecursion P xs → AllByRecursion Q xs
 each-weaker P Q [] weaker each = tt
 each-weaker P Q (x ∷ xs) weaker each = (weaker x each.0, each-weaker P Q xs weaker each.1)
+
+-- ---- a test that some entry passes
+
+turned : (a b c : Bool) → (a || (b || c)) ≡ (b || (a || c))
+turned true true c = refl
+turned true false c = refl
+turned false true c = refl
+turned false false c = refl
+
+-- what stands there passes the test
+abbrev pub passes_there : {K X : Type 0} → (K × X → Bool) → Option (K × X) → Bool
+passes_there test None = false
+passes_there test (Some e) = test e
+
+module _ {K X : Type 0} (R : K → K → Ordering) (test : K × X → Bool) where
+  any-ordered : (o : Ordering) (e : K × X) (k : K) (v : X) (es : List (K × X)) → cond (is_eq o) (Some e.1) (find R k es) ≡ None
+      → (find R k es ≡ None → list_any test (put R k v es) ≡ (test (k, v) || list_any test es))
+      → list_any test (by_order o ((k, v) ∷ e ∷ es) ((e.0, v) ∷ es) (e ∷ put R k v es)) ≡ (test (k, v) || (test e || list_any test es))
+  any-ordered Less e k v es none later = refl
+  any-ordered Equal e k v es none later = absurd (none-some e.1 (sym none))
+  any-ordered Greater e k v es none later = ap (λ b. test e || b) (later none) ∙ turned (test e) (test (k, v)) (list_any test es)
+
+  any-put : (k : K) (v : X) (es : List (K × X)) → find R k es ≡ None → list_any test (put R k v es) ≡ (test (k, v) || list_any test es)
+  any-put k v [] none = refl
+  any-put k v (e ∷ es) none = any-ordered (R k e.0) e k v es none (any-put k v es)
+
+  any-put_entry : (e : Option (K × X)) (es : List (K × X)) → ((d : K × X) → e ≡ Some d → find R d.0 es ≡ None) → list_any test (put_entry R e es) ≡ (passes_there test e || list_any test es)
+  any-put_entry None es none = refl
+  any-put_entry (Some e) es none = any-put e.0 e.1 es (none e refl)
+
+  -- where no two are under one key, some entry passes exactly where some used place does
+  pub any-keyed : (o : IsTotalOrder R) (f : ℕ → Option (K × X)) (from count : ℕ) → HasDistinctKeys R f from count → list_any test (keyed R f from count) ≡ list_any (λ j. passes_there test (f j)) (range_with_len from count)
+  unfolding keyed
+  any-keyed o f from zero h = refl
+  any-keyed o f from (suc count) h =
+      any-put_entry (f from) (keyed R f (from + 1) count)
+      (λ d is. find-keyed R o d.0 f (from + 1) count ∙ first_from_none R d.0 f (from + 1) count (λ j low high. h.apart from j (omega arith) (omega arith) (omega arith) d is))
+      ∙ ap (λ b. passes_there test (f from) || b) (any-keyed o f (from + 1) count (record { apart = λ i j low less high. h.apart i j (omega arith) less (omega arith) }))

@@ -11,7 +11,7 @@ module _ {K X Y : Type 0} (R : K → K → Ordering) (g : X → Y) where
   abbrev pub of_entry : K × X → K × Y
   of_entry e = (e.0, g e.1)
 
-  put-mapped : (k : K) (v : X) (es : List (K × X)) → put R k (g v) (map of_entry es) ≡ map of_entry (put R k v es)
+  pub put-mapped : (k : K) (v : X) (es : List (K × X)) → put R k (g v) (map of_entry es) ≡ map of_entry (put R k v es)
   put-mapped k v [] = refl
   put-mapped k v (e ∷ es) =
       let rest = put-mapped k v es in

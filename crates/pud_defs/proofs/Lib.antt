@@ -14,6 +14,7 @@ pub mod PoolsChanged
 pub mod SoundChanged
 pub mod PuddleMore
 pub mod PoolMembers
+pub mod Exportable
 pub mod RecordsPlaced
 pub mod PoolsCounted
 pub mod PuddlesListed
@@ -46,9 +47,11 @@ pub mod NamesRead
 pub mod Commands
 pub mod Said
 pub mod StartText
+pub mod DumpText
 pub mod Listing
 pub mod Opened
 pub mod ExamplesGrammar
+pub mod ExamplesFileLines
 pub mod ExamplesImage
 pub mod ExamplesRun
 pub mod ExamplesPools
@@ -62,6 +65,8 @@ pub mod ExamplesLayout
 pub mod ExamplesIdentifiers
 pub mod ExamplesPlaces
 pub mod ExamplesGraph
+pub mod ExamplesFiles
+pub mod ExamplesDump
 pub mod ExamplesRights
 pub mod ExamplesOpenLogs
 pub mod Stands

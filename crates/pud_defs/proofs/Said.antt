@@ -74,6 +74,7 @@ newlines-reply_text (replies.No refusals.Held) = refl
 newlines-reply_text (replies.No refusals.Deep) = refl
 newlines-reply_text (replies.No refusals.Logs) = refl
 newlines-reply_text (replies.No refusals.TooBig) = refl
+newlines-reply_text (replies.No refusals.Memory) = refl
 newlines-reply_text (replies.No refusals.Clash) = refl
 newlines-reply_text (replies.No refusals.Full) = refl
 newlines-reply_text (replies.No refusals.Space) = refl

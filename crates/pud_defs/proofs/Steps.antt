@@ -1,5 +1,5 @@
 -- Which refusal a definition meets, and what a step leaves.
-use Rattle.std.proofs.Common.{◌≡◌, ℕ, ◌<◌, ◌≤◌, Bool, true, false, not, cond, T, ◌&&◌, leb, is_some, is_none, List, length, Option, Some, None, nat_cmp, refl, sym, ap, ap₂, ◌∙◌, ne_eqb, eq-eqb, le-leb}
+use Rattle.std.proofs.Common.{◌≡◌, inl, inr, ℕ, ◌<◌, ◌≤◌, Bool, true, false, not, cond, T, ◌&&◌, leb, is_some, is_none, List, length, Option, Some, None, nat_cmp, refl, ap, ap₂, ◌∙◌, ne_eqb, eq-eqb, le-leb}
 use Rattle.std.specs.FinMap.Entries.{is_sorted}
 use Rattle.std.proofs.lemmas.Bool.{lt-leb}
 use Rattle.pud_defs.specs.declared.layout.TheConstants.{TYPE_RECORDS}
@@ -14,9 +14,9 @@ use Rattle.pud_defs.specs.World.{World}
 use Rattle.pud_defs.specs.PoolChanges.{pools_read, with_type_defined}
 use Rattle.pud_defs.specs.declared.objects.Val.{Val}
 use Rattle.pud_defs.specs.declared.objects.Val.TheVariants.{Num, Ref}
-use Rattle.pud_defs.specs.Grammar.{command_of}
-use Rattle.pud_defs.specs.Step.{Answer, step_answer, is_other, is_clash, is_full, holds, refusal_of, after, text_for, value_for, value_or_ok, text_or, answer, answer_unless, answer_by, world_by, unless_refused, Step}
+use Rattle.pud_defs.specs.Step.{Answer, is_other, is_clash, is_full, holds, refusal_of, after, text_for, value_for, value_or_ok, text_or, answer, answer_unless, answer_by, world_by, unless_refused}
 use Rattle.pud_defs.specs.Step.Answer.{of_reply}
+use Rattle.pud_defs.specs.Gives.{StepBy}
 use Rattle.pud_defs.specs.Run.{is_cut}
 use Rattle.pud_defs.proofs.TypeLists.{with_type-same}
 
@@ -99,18 +99,6 @@ pub answer_is_ok : (w : World) (c : Command) → text_for w c ≡ None → value
 unfolding answer
 answer_is_ok w c no_text no_value h = done_answer w c h ∙ ap₂ (λ value text. text_or (value_or_ok value) text) no_value no_text
 
--- a line that is no command
-pub step-bad : (w : World) (line : List ℕ) → command_of line ≡ None → Step w line (of_reply (replies.No refusals.Bad)) w
-step-bad w line e = record { answered = sym (ap (answer_by w) e); given = sym (ap (world_by w) e) }
-
--- a command that is refused
-pub step-refused : (w : World) (line : List ℕ) (c : Command) (r : Refusal) → command_of line ≡ Some c → refusal_of w c ≡ Some r → Step w line (of_reply (replies.No r)) w
-step-refused w line c r e h = record { answered = sym (ap (answer_by w) e ∙ refused_answer w c r h); given = sym (ap (world_by w) e ∙ refused_world w c r h) }
-
--- a command that is carried out
-pub step-done : (w : World) (line : List ℕ) (c : Command) → command_of line ≡ Some c → refusal_of w c ≡ None → Step w line (answer w c) (after w c)
-step-done w line c e h = record { answered = sym (ap (answer_by w) e ∙ done_answer w c h); given = sym (ap (world_by w) e ∙ done_world w c h) }
-
 -- `cut` is no step's answer
 no_cut_unless : (r : Option Refusal) (done : Answer) → is_cut done ≡ false → is_cut (answer_unless r done) ≡ false
 no_cut_unless None done none = none
@@ -127,5 +115,6 @@ unfolding answer
 no_cut_by w None = refl
 no_cut_by w (Some c) = no_cut_unless (refusal_of w c) (answer w c) (no_cut_in (value_for w c) (text_for w c))
 
-pub step_is_no_cut : (w : World) (line : List ℕ) → is_cut (step_answer w line) ≡ false
-step_is_no_cut w line = no_cut_by w (command_of line)
+pub step_is_no_cut : (w : World) (command : Option Command) (said : Answer) (next : World) → StepBy w command said next → is_cut said ≡ false
+step_is_no_cut w command said next (inl done) = ap is_cut done.answered ∙ no_cut_by w command
+step_is_no_cut w command said next (inr out) = ap is_cut out.answered

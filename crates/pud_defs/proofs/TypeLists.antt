@@ -1,5 +1,5 @@
 -- Laws of lists of types: what defining a type changes.
-use Rattle.std.proofs.Common.{◌≡◌, ℕ, eqb, T, List, Some, nat_cmp, Equal, sym, ap, ◌∙◌, ⊎_elim, arith, ne_eqb, eq-eqb}
+use Rattle.std.proofs.Common.{◌≡◌, ℕ, Bool, true, false, eqb, T, List, Some, nat_cmp, Equal, refl, sym, ap, ◌∙◌, ⊎_elim, arith, ne_eqb, eq-eqb}
 use Rattle.std.specs.Ordering.{eq_by_cmp}
 use Rattle.std.specs.FinMap.Entries.{is_sorted, find-put, is_sorted-put, same_entries}
 use Rattle.std.proofs.lemmas.Bool.{cases_eq, cond-true, cond-false}
@@ -14,6 +14,11 @@ same_test q x = grind (arith, nat_tests)
 
 pub same_number : (x y : ℕ) → nat_cmp x y ≡ Equal → x ≡ y
 same_number x y e = grind (arith, nat_tests)
+
+-- a test that passes is true
+pub true_when : (b : Bool) → T b → b ≡ true
+true_when true passes = refl
+true_when false passes = absurd passes
 
 -- ---- defining a type
 

@@ -1,5 +1,5 @@
 -- The type table of an image: what a record holds by its words, and what writing a free record changes.
-use Rattle.std.proofs.Common.{◌≡◌, ◌⊎◌, ℕ, ◌+◌, ◌<◌, ◌≤◌, true, nat_cmp, Option, Some, None, sym, ap, ap₂, ◌∙◌, ⊎_elim, arith, ne_eqb, eq-eqb, zero-le}
+use Rattle.std.proofs.Common.{◌≡◌, ◌⊎◌, ℕ, ◌+◌, ◌<◌, ◌≤◌, true, nat_cmp, length, Option, Some, None, sym, ap, ap₂, ◌∙◌, ⊎_elim, arith, ne_eqb, eq-eqb, zero-le}
 use Rattle.std.proofs.lemmas.Bool.{cases_eq, cond-true, cond-false, and_parts, and_from}
 use Rattle.std.proofs.lemmas.Cmp.{nat_cmp_total}
 use Rattle.std.proofs.lemmas.Option.{none-some}
@@ -8,10 +8,10 @@ use Rattle.pud_defs.specs.Image.{Image, written}
 use Rattle.pud_defs.specs.TypeMap.{is_legal_map, is_legal_type_id}
 use Rattle.pud_defs.specs.Spaces.{all_below}
 use Rattle.pud_defs.specs.Keyed.{under, are_distinct}
-use Rattle.pud_defs.specs.Types.{type_record_at, type_by, type_at, types_of, map_of, with_type, is_sound_type, are_legal_types}
+use Rattle.pud_defs.specs.Types.{type_record_at, type_by, type_at, types_of, used_types, map_of, with_type, is_sound_type, are_legal_types}
 use Rattle.pud_defs.proofs.Images.{written_there, written_other}
 use Rattle.pud_defs.proofs.Spaces.{all_below-from, all_below-each}
-use Rattle.pud_defs.proofs.Keyed.{HasDistinctKeys-fewer, HasDistinctKeys-set, IsSetAt, is_free_for, distinct_keys, are_distinct_keys, first_from_none_each, find-keyed, keyed-put}
+use Rattle.pud_defs.proofs.Keyed.{HasDistinctKeys-fewer, HasDistinctKeys-set, IsSetAt, is_free_for, distinct_keys, are_distinct_keys, first_from_none_each, find-keyed, keyed-put, length-keyed}
 use Rattle.pud_defs.proofs.TypeLists.{same_test, same_number}
 
 -- ---- a record by its words
@@ -42,6 +42,14 @@ type_other image id i other =
     (λ free. ap (under nat_cmp id) (type_at-free image i free))
     (λ used. ap (under nat_cmp id) (type_at-used image i used) ∙ cond-false _ _ _ (same_test id (image (type_record_at i)) ∙ ne_eqb _ _ (λ e. other (sym e))))
     (cases_eq (image (type_record_at i)) 0)
+
+-- ---- a legal table
+
+-- as many types are defined as records are used
+pub length-types_of : (image : Image) → are_legal_types (type_at image) ≡ true → length (types_of image) ≡ used_types image
+length-types_of image legal =
+    let distinct = and_parts (all_below TYPE_RECORDS (λ i. is_sound_type (type_at image i))) (are_distinct nat_cmp (type_at image) 0 TYPE_RECORDS) legal in
+    length-keyed nat_cmp nat_cmp_total (type_at image) 0 TYPE_RECORDS (distinct_keys nat_cmp (type_at image) 0 TYPE_RECORDS distinct.1)
 
 -- ---- tables that have the same records
 

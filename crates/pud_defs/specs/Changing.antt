@@ -1,9 +1,10 @@
--- Which part of the world a command may change, and which file it may write.
+-- Which part of the world a command may change, but for the shelf, and which file it may write.
 use Rattle.std.specs.Prelude.{◌≡◌, ℕ, List, Option, Some, None}
 use Rattle.pud_defs.specs.declared.machine.Command.{Command}
-use Rattle.pud_defs.specs.declared.machine.Command.TheVariants.{Client, Leave, Define, Cut, Arm, Chmod, Begin, Commit, Abort, New, Set, Later, Root, Free, Pools, Get}
+use Rattle.pud_defs.specs.declared.machine.Command.TheVariants.{Client, Leave, Define, Cut, Arm, Chmod, Begin, Commit, Abort, New, Set, Later, Root, Free, Dump, Export, Pools, Get}
 use Rattle.pud_defs.specs.declared.machine.Command.TheVariants as commands
 use Rattle.pud_defs.specs.World.{World}
+use Rattle.pud_defs.specs.Listing.{name_text}
 use Rattle.pud_defs.specs.Grammar.{command_of}
 
 pub data Part : Type 0 where
@@ -29,6 +30,8 @@ part_of (Set client name s f x) = transactions
 part_of (Later client name s f x) = transactions
 part_of (Root client name s) = transactions
 part_of (Free client name s) = transactions
+part_of (Dump client name) = nothing
+part_of (Export client name file) = nothing
 part_of Pools = nothing
 part_of (Cut pick) = clients
 part_of (Arm step pick) = nothing
@@ -41,8 +44,9 @@ with_part clients v w = record w { clients = v.clients; transactions = v.transac
 with_part transactions v w = record w { stored = record w.stored { next_number = v.stored.next_number; pools = v.stored.pools }; transactions = v.transactions }
 with_part nothing v w = w
 
--- the file that a command may write: none does
+-- the file that a command may write
 abbrev pub file_of : Command → Option (List ℕ)
+file_of (Export client name file) = Some (name_text file)
 file_of c = None
 
 -- the file that a line may write, by the command that it is

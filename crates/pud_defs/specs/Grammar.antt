@@ -3,7 +3,7 @@ use Rattle.std.specs.Prelude.{IsTrue, ℕ, ◌<◌, ◌≤◌, ◌+◌, ◌-◌,
 use Rattle.std.specs.List.{list_all, slice_split}
 use Rattle.pud_defs.specs.declared.layout.TheConstants.{LINE_LIMIT, CLIENTS, MAX_OWNER_ID, MAX_TYPE_ID, MAX_FIELDS, MAX_ARMED_STEP}
 use Rattle.pud_defs.specs.declared.machine.Command.{Command}
-use Rattle.pud_defs.specs.declared.machine.Command.TheVariants.{Client, Leave, Define, Cut, Arm, Chmod, Begin, Commit, Abort, New, Set, Later, Root, Free, Pools, Get}
+use Rattle.pud_defs.specs.declared.machine.Command.TheVariants.{Client, Leave, Define, Cut, Arm, Chmod, Begin, Commit, Abort, New, Set, Later, Root, Free, Dump, Export, Pools, Get}
 use Rattle.pud_defs.specs.declared.machine.Command.TheVariants as commands
 use Rattle.pud_defs.specs.declared.objects.Val.{Val}
 use Rattle.pud_defs.specs.declared.objects.Val.TheVariants.{Num, Ref}
@@ -69,7 +69,7 @@ field_count bytes = number_within 1 (MAX_FIELDS + 1) bytes
 abbrev pub listed_map : ℕ → List ℕ → Option ℕ
 listed_map n bytes = option_map (map_word n) (pointers_of n bytes)
 
--- the name of a pool: 1 to 16 bytes out of small letters, digits and `_`, filled with zeros
+-- the name of a pool, or of a file: 1 to 16 bytes out of small letters, digits and `_`, filled with zeros
 unfoldable pub pool_name : List ℕ → Option (List ℕ)
 pool_name bytes =
     cond (nat_le 1 (length bytes) && nat_le (length bytes) NAME_BYTES && list_all is_name_byte bytes) (Some (bytes ++ replicate (NAME_BYTES - length bytes) 0)) None
@@ -194,6 +194,14 @@ free_by arguments = taking client_number (λ client. taking pool_name (λ name. 
 unfoldable pub get_by : Parser
 get_by arguments = taking client_number (λ client. taking pool_name (λ name. taking field_place (λ field. at_end (Get client name field.0 field.1)))) arguments
 
+-- `dump C P`
+unfoldable pub dump_by : Parser
+dump_by arguments = taking client_number (λ client. taking pool_name (λ name. at_end (Dump client name))) arguments
+
+-- `export C P file`
+unfoldable pub export_by : Parser
+export_by arguments = taking client_number (λ client. taking pool_name (λ name. taking pool_name (λ file. at_end (Export client name file)))) arguments
+
 -- `pools`
 unfoldable pub pools_by : Parser
 pools_by arguments = at_end Pools arguments
@@ -229,6 +237,8 @@ lines =
     ∷ (codes "chmod", chmod_by)
     ∷ (codes "drop", drop_by)
     ∷ (codes "get", get_by)
+    ∷ (codes "dump", dump_by)
+    ∷ (codes "export", export_by)
     ∷ (codes "pools", pools_by)
     ∷ (codes "cut", cut_by)
     ∷ (codes "arm", arm_by)
@@ -273,6 +283,8 @@ IsLegalCommand (Set client name s f x) = (client < CLIENTS) × IsName name × Is
 IsLegalCommand (Later client name s f x) = (client < CLIENTS) × IsName name × IsTrue (is_legal_name name) × (1 ≤ s) × (s < 2 ^ 64) × (f < MAX_FIELDS) × IsLegalValue x
 IsLegalCommand (Root client name s) = (client < CLIENTS) × IsName name × IsTrue (is_legal_name name) × (s < 2 ^ 64)
 IsLegalCommand (Free client name s) = (client < CLIENTS) × IsName name × IsTrue (is_legal_name name) × (1 ≤ s) × (s < 2 ^ 64)
+IsLegalCommand (Dump client name) = (client < CLIENTS) × IsName name × IsTrue (is_legal_name name)
+IsLegalCommand (Export client name file) = (client < CLIENTS) × IsName name × IsTrue (is_legal_name name) × IsName file × IsTrue (is_legal_name file)
 IsLegalCommand Pools = Unit {0}
 IsLegalCommand (Cut pick) = pick < 2 ^ 64
 IsLegalCommand (Arm step pick) = (1 ≤ step) × (step ≤ MAX_ARMED_STEP) × (pick < 2 ^ 64)

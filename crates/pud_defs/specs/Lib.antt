@@ -20,6 +20,9 @@ pub mod Graph
 pub mod GraphChanges
 pub mod Laters
 pub mod Holdings
+pub mod ExportFile
+pub mod Exported
+pub mod DumpText
 pub mod Tables
 pub mod SoundTables
 pub mod Puts
@@ -36,6 +39,7 @@ pub mod Transactions
 pub mod Listing
 pub mod Grammar
 pub mod Step
+pub mod Gives
 pub mod Changing
 pub mod Run
 pub mod Texts

@@ -3,9 +3,10 @@ use Rattle.std.specs.Prelude.{◌≡◌, ◌⊎◌, ℕ, Bool, true, false, cond
 use Rattle.std.specs.List.{after_last}
 use Rattle.pud_defs.specs.declared.machine.Reply.TheVariants as replies
 use Rattle.pud_defs.specs.World.{World, restart}
-use Rattle.pud_defs.specs.Grammar.{split_at}
-use Rattle.pud_defs.specs.Step.{Answer, Step, step_world}
+use Rattle.pud_defs.specs.Grammar.{split_at, command_of}
+use Rattle.pud_defs.specs.Step.{Answer}
 use Rattle.pud_defs.specs.Step.Answer.{of_reply, of_text}
+use Rattle.pud_defs.specs.Gives.{Gives, Step}
 
 -- A line with its answer, the world that the line gives, and the world from which the run goes on.
 pub record Turn : Type 0 where
@@ -22,7 +23,7 @@ pub record IsStep (w : World) (t : Turn) : Type 0 where
 -- Power was lost while the line was carried out: the run goes on from the restarted world of before it, or of what the line gives.
 pub record IsCutOff (w : World) (t : Turn) : Type 0 where
   pub answered : t.answer ≡ of_reply replies.Cut
-  pub given : t.under ≡ step_world w t.line
+  pub given : Gives w (command_of t.line) t.under
   pub goes_on : (t.next ≡ restart w) ⊎ (t.next ≡ restart t.under)
 
 abbrev pub IsTurn : World → Turn → Type 0

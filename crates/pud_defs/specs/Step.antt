@@ -1,9 +1,9 @@
--- What a line does to the world, and what is answered.
-use Rattle.std.specs.Prelude.{◌≡◌, ℕ, ◌+◌, Bool, true, false, not, ◌&&◌, ◌||◌, nat_le, nat_lt, ◌==◌, cond, List, [], ◌∷◌, length, find, count_by, slice_get, bytes_eq, Option, Some, None, is_none, is_some, unwrap_or}
+-- What a command does to the world, but for the shelf, and what is answered.
+use Rattle.std.specs.Prelude.{ℕ, ◌+◌, Bool, true, false, not, ◌&&◌, ◌||◌, nat_le, nat_lt, ◌==◌, cond, List, [], ◌∷◌, ◌++◌, length, find, count_by, slice_get, bytes_eq, codes, Option, Some, None, option_map, is_none, is_some, unwrap_or}
 use Rattle.pud_defs.specs.declared.layout.TheConstants.{TYPE_RECORDS, CLIENT_LOGS, LOG_ENTRY_WORDS, MAX_DEPTH, SET_UNITS, NEW_UNITS, NUMBER_LIMIT}
 use Rattle.pud_defs.specs.declared.records.TheConstants.{MAX_PUDDLES}
 use Rattle.pud_defs.specs.declared.machine.Command.{Command}
-use Rattle.pud_defs.specs.declared.machine.Command.TheVariants.{Client, Leave, Define, Cut, Arm, Chmod, Begin, Commit, Abort, New, Set, Later, Root, Free, Pools, Get}
+use Rattle.pud_defs.specs.declared.machine.Command.TheVariants.{Client, Leave, Define, Cut, Arm, Chmod, Begin, Commit, Abort, New, Set, Later, Root, Free, Dump, Export, Pools, Get}
 use Rattle.pud_defs.specs.declared.machine.Command.TheVariants as commands
 use Rattle.pud_defs.specs.declared.machine.Reply.{Reply}
 use Rattle.pud_defs.specs.declared.machine.Reply.TheVariants as replies
@@ -24,6 +24,7 @@ use Rattle.pud_defs.specs.World.{StoredWorld, Transaction, World, restart}
 use Rattle.pud_defs.specs.PoolChanges.{pool_named, is_full_of_pools, lacks_frames, lacks_a_number, changed_pool, with_puddle_more, with_new_pool, with_pool_mode, without_pool, with_type_defined}
 use Rattle.pud_defs.specs.Transactions.{is_own, is_others, units_of, depth_of, laters_of, with_open, with_changed, without_client, begun, charged, asked, lowered, committed_pools}
 use Rattle.pud_defs.specs.Listing.{pools_text}
+use Rattle.pud_defs.specs.DumpText.{dump_text}
 use Rattle.pud_defs.specs.Grammar.{command_of}
 
 -- The answer to a line: a reply, or the text behind `ok` that the line asks for.
@@ -48,6 +49,8 @@ causes (Set client name s f x) = refusals.Client ∷ refusals.Pool ∷ refusals.
 causes (Later client name s f x) = refusals.Client ∷ refusals.Pool ∷ refusals.Wild ∷ refusals.Busy ∷ refusals.Tx ∷ refusals.Object ∷ refusals.Field ∷ refusals.Kind ∷ refusals.TooBig ∷ []
 causes (Root client name s) = refusals.Client ∷ refusals.Pool ∷ refusals.Wild ∷ refusals.Busy ∷ refusals.Tx ∷ refusals.Object ∷ refusals.TooBig ∷ []
 causes (Free client name s) = refusals.Client ∷ refusals.Pool ∷ refusals.Wild ∷ refusals.Busy ∷ refusals.Tx ∷ refusals.Object ∷ refusals.Held ∷ refusals.TooBig ∷ []
+causes (Dump client name) = refusals.Client ∷ refusals.Pool ∷ refusals.Wild ∷ refusals.Denied ∷ refusals.Busy ∷ refusals.Memory ∷ []
+causes (Export client name file) = refusals.Client ∷ refusals.Pool ∷ refusals.Wild ∷ refusals.Denied ∷ refusals.Busy ∷ refusals.OpenHere ∷ refusals.Memory ∷ []
 causes Pools = []
 causes (Cut pick) = []
 causes (Arm step pick) = []
@@ -69,6 +72,8 @@ client_of (Set client name s f x) = Some client
 client_of (Later client name s f x) = Some client
 client_of (Root client name s) = Some client
 client_of (Free client name s) = Some client
+client_of (Dump client name) = Some client
+client_of (Export client name file) = Some client
 client_of Pools = None
 client_of (Cut pick) = None
 client_of (Arm step pick) = None
@@ -97,6 +102,8 @@ name_in (Set client name s f x) = Some name
 name_in (Later client name s f x) = Some name
 name_in (Root client name s) = Some name
 name_in (Free client name s) = Some name
+name_in (Dump client name) = Some name
+name_in (Export client name file) = Some name
 name_in c = None
 
 -- the pool of the name, where one is named and is there
@@ -125,6 +132,8 @@ writes (Some who) (Some pool) = may_write pool.mode pool.owner who
 -- the command is allowed: one that reads a pool, or begins to write it, by the pool's mode, any other by its owner
 abbrev pub is_allowed : Command → Option Owner → Option Pool → Bool
 is_allowed (Get client name s f) who pool = reads who pool
+is_allowed (Dump client name) who pool = reads who pool
+is_allowed (Export client name file) who pool = reads who pool
 is_allowed (Begin client name) who pool = writes who pool
 is_allowed c who pool = owns who pool
 
@@ -313,7 +322,8 @@ overflows w (commands.Pool client name mode) = lacks_frames w.stored 1
 overflows w (New client name t) = grows w name && lacks_frames w.stored 1
 overflows w _ = false
 
--- whether the cause holds for the command. `bad` never does: it is said of lines that are no command
+-- whether the cause holds for the command. `bad` never does: it is said of lines that are no command. Nor does `memory`: that memory is refused
+-- has no cause in the world
 unfoldable pub holds : World → Command → Refusal → Bool
 holds w c refusals.Bad = false
 holds w c refusals.Client = not (is_present w.clients (client_of c))
@@ -333,6 +343,7 @@ holds w c refusals.Held = frees_held w c
 holds w c refusals.Deep = is_deep w c
 holds w c refusals.Logs = lacks_logs w c
 holds w c refusals.TooBig = nat_lt LOG_ENTRY_WORDS (units_of (open_for w c) + charge c)
+holds w c refusals.Memory = false
 holds w c refusals.Clash = clashes w.stored.types c
 holds w c refusals.Full = overfills w c
 holds w c refusals.Space = overflows w c
@@ -376,6 +387,8 @@ after w (Set client name s f x) = record w { transactions = with_changed name (c
 after w (Later client name s f x) = record w { transactions = with_changed name (asked SET_UNITS (record { s = s; f = f; x = x })) w.transactions }
 after w (Root client name s) = record w { transactions = with_changed name (charged SET_UNITS (with_root s)) w.transactions }
 after w (Free client name s) = record w { transactions = with_changed name (charged SET_UNITS (without_object s)) w.transactions }
+after w (Dump client name) = w
+after w (Export client name file) = w
 after w Pools = w
 after w (Cut pick) = restart w
 after w (Arm step pick) = w
@@ -383,6 +396,7 @@ after w (Arm step pick) = w
 -- the text that a command asks for
 abbrev pub text_for : World → Command → Option (List ℕ)
 text_for w Pools = Some (pools_text w.stored)
+text_for w (Dump client name) = option_map (λ g. codes " " ++ dump_text g) (graph_for w (Dump client name))
 text_for w c = None
 
 -- the serial that the next object of a graph has
@@ -431,13 +445,10 @@ abbrev pub world_by : World → Option Command → World
 world_by w None = w
 world_by w (Some c) = unless_refused (refusal_of w c) w (after w c)
 
+-- the answer to a line
 abbrev pub step_answer : World → List ℕ → Answer
 step_answer w line = answer_by w (command_of line)
 
+-- the world that it gives, but for the shelf
 abbrev pub step_world : World → List ℕ → World
 step_world w line = world_by w (command_of line)
-
--- the line is answered so, and gives this world
-pub record Step (w : World) (line : List ℕ) (said : Answer) (next : World) : Type 0 where
-  pub answered : said ≡ step_answer w line
-  pub given : next ≡ step_world w line

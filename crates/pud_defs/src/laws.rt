@@ -1,10 +1,13 @@
-//! Laws of logs and of their replay, on which every layer above stands. Each function here does nothing; its contract is
-//! the law.
+//! Laws of logs, of their replay and of texts, on which the layers above stand. Each function here does nothing; its contract
+//! is the law.
 
 ghost use Rattle.std.specs.Prelude.{◌≡◌, ◌⊎◌, ◌+◌, ◌≤◌, ℕ, List, ◌++◌, Option, option_map};
 ghost use Rattle.pud_defs.specs.Image.{Image};
 ghost use Rattle.pud_defs.specs.Entries.{Entry, Log, entries_in};
 ghost use Rattle.pud_defs.specs.Replay.{Place, new_value, replayed};
+ghost use Rattle.pud_defs.specs.Graph.{Graph};
+ghost use Rattle.pud_defs.specs.Texts.{in_one_line};
+ghost use Rattle.pud_defs.specs.DumpText.{dump_text};
 
 /// A word that no entry in range names keeps its value.
 pub fn word_not_named_stays()
@@ -32,4 +35,9 @@ pub fn logs_apart_replay_in_either_order()
 /// Words that spell entries, with others behind them, spell these entries and then those of the others.
 pub fn joined_words_spell_joined_entries()
     ensures { (xs : List ℕ) (ys : List ℕ) (es : List Entry) → entries_in 0 xs ≡ Option.Some es → entries_in 0 (xs ++ ys) ≡ option_map (λ fs. es ++ fs) (entries_in 0 ys) }
+{}
+
+/// A graph as a text has no newline, so it is said as it is.
+pub fn graph_is_dumped_in_one_line()
+    ensures { (g : Graph) → in_one_line (dump_text g) ≡ dump_text g }
 {}

@@ -2,6 +2,7 @@
 //! things that the daemon's lines move. Every other crate's contracts cite the definitions of this one.
 #![tactic(auto)]
 
+pub mod files;
 pub mod laws;
 pub mod layout;
 pub mod log_words;

@@ -105,6 +105,17 @@ pub enum Command {
         name: Name,
         s: u64,
     },
+    /// `dump C P`: the client, from 0 to 7, reads the graph of the pool of this name, as the text of a JSON object.
+    Dump {
+        client: u8,
+        name: Name,
+    },
+    /// `export C P file`: the client, from 0 to 7, writes the pool of the name `name` into the export file of the name `file` on the shelf.
+    Export {
+        client: u8,
+        name: Name,
+        file: Name,
+    },
     /// `pools`: what pools are there.
     Pools,
     /// `cut N`: power is lost at once, and what is left of words that are not durable is chosen by `pick`.
@@ -188,6 +199,8 @@ pub enum Refusal {
     Logs,
     /// The client's transaction has too few units left.
     TooBig,
+    /// Memory was refused, where the line takes some.
+    Memory,
     /// The type is defined with another map.
     Clash,
     /// So many others are there that no further one fits, or so many UUID numbers were given out that too few are left.

@@ -89,7 +89,7 @@ impl<'a> Arguments<'a> {
         read_map(self.front()?, fields)
     }
 
-    /// The front argument as the name of a pool.
+    /// The front argument as the name of a pool, or of a file.
     #[tactic(auto, using(crate::proofs::Taken::taken))]
     pub(crate) fn name(&mut self) -> Option<Name>
         ensures { IsTaken pool_name self.old result self.new }

@@ -20,13 +20,15 @@
 //! - `root C P o`: the serial o of an object, or 0 for null;
 //! - `free C P o`;
 //! - `get C P o.f`;
+//! - `dump C P`;
+//! - `export C P file`: the name of the file has the form of a pool's;
 //! - `pools`;
 //! - `cut N`: the pick N, any number below 2^64;
 //! - `arm K N`: the step K from 1 to 1,000,000, and the pick N.
 
 ghost use Rattle.std.specs.Prelude.{◌≡◌, IfOk};
 ghost use Rattle.std.specs.Result.{result_ok};
-ghost use Rattle.pud_defs.specs.Grammar.{split_at, client_by, leave_by, define_by, pool_line_by, chmod_by, drop_by, begin_by, commit_by, abort_by, new_by, set_by, later_by, root_by, free_by, get_by, pools_by, cut_by, arm_by, transaction_lines, command_among, command_with, command_by, command_of, IsLegalCommand};
+ghost use Rattle.pud_defs.specs.Grammar.{split_at, client_by, leave_by, define_by, pool_line_by, chmod_by, drop_by, begin_by, commit_by, abort_by, new_by, set_by, later_by, root_by, free_by, get_by, dump_by, export_by, pools_by, cut_by, arm_by, transaction_lines, command_among, command_with, command_by, command_of, IsLegalCommand};
 
 use crate::arguments::Arguments;
 use crate::pieces::cut;
@@ -211,6 +213,27 @@ fn read_get(mut arguments: Arguments) -> Option<Command>
     arguments.end(Command::Get { client, name, s, f })
 }
 
+/// The text of a pool's graph.
+#[tactic(auto, unfolding(pud_defs::specs::Grammar::dump_by))]
+fn read_dump(mut arguments: Arguments) -> Option<Command>
+    ensures { result ≡ dump_by arguments.entry }
+{
+    let client = arguments.client()?;
+    let name = arguments.name()?;
+    arguments.end(Command::Dump { client, name })
+}
+
+/// The writing of a pool into a file.
+#[tactic(auto, unfolding(pud_defs::specs::Grammar::export_by))]
+fn read_export(mut arguments: Arguments) -> Option<Command>
+    ensures { result ≡ export_by arguments.entry }
+{
+    let client = arguments.client()?;
+    let name = arguments.name()?;
+    let file = arguments.name()?;
+    arguments.end(Command::Export { client, name, file })
+}
+
 /// The list of the pools.
 #[tactic(auto, unfolding(pud_defs::specs::Grammar::pools_by))]
 fn read_pools(arguments: Arguments) -> Option<Command>
@@ -282,6 +305,10 @@ fn read_with(word: &[u8], arguments: Arguments) -> Option<Command>
         read_drop(arguments)
     } else if word == b"get".as_slice() {
         read_get(arguments)
+    } else if word == b"dump".as_slice() {
+        read_dump(arguments)
+    } else if word == b"export".as_slice() {
+        read_export(arguments)
     } else if word == b"pools".as_slice() {
         read_pools(arguments)
     } else if word == b"cut".as_slice() {

@@ -31,6 +31,7 @@ fn word_of(refusal: Refusal) -> &'static [u8]
         Refusal::Deep => b"deep",
         Refusal::Logs => b"logs",
         Refusal::TooBig => b"toobig",
+        Refusal::Memory => b"memory",
         Refusal::Clash => b"clash",
         Refusal::Full => b"full",
         Refusal::Space => b"space",

@@ -1,0 +1,5 @@
+use Rattle.pud_defs.proofs.DumpText.{in_one_line-dump_text}
+use Rattle.pud_defs.proofs.laws.graph_is_dumped_in_one_line.Goals as goal
+
+pub returns : goal.returns
+returns c = λ g. in_one_line-dump_text g

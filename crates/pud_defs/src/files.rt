@@ -1,0 +1,81 @@
+//! Export files: which word holds what, and how many words there are.
+//!
+//! A file is a row of words, each as eight bytes, the lowest first: a header, the types that its objects have, the bases of
+//! its puddles by their ordinals, and their frames.
+
+ghost use Rattle.std.specs.Prelude.{◌≡◌, ◌≤◌};
+ghost use Rattle.pud_defs.specs.ExportFile.{file_type_at, file_bases_at, file_frames_at, file_frame_at, file_words};
+
+use crate::layout::{FRAME_WORDS, TYPE_RECORD_WORDS, TYPE_RECORDS};
+use crate::records::MAX_PUDDLES;
+
+/// The value of word 0 of an export file: the eight bytes `PUDEXP01`, lowest first.
+pub const FILE_MAGIC: u64 = 0x3130_5058_4544_5550;
+
+/// The value of word 1 of an export file.
+pub const FILE_VERSION: u64 = 1;
+
+/// The word that holds the file magic.
+pub const FILE_MAGIC_WORD: u32 = 0;
+
+/// The word that holds the version.
+pub const FILE_VERSION_WORD: u32 = 1;
+
+/// The word that holds the number of types.
+pub const FILE_TYPES_WORD: u32 = 2;
+
+/// The word that holds the number of puddles.
+pub const FILE_PUDDLES_WORD: u32 = 3;
+
+/// The word that holds the id of the machine that wrote the file.
+pub const FILE_MACHINE_WORD: u32 = 4;
+
+/// The word that holds the UUID number that the pool has on that machine.
+pub const FILE_NUMBER_WORD: u32 = 5;
+
+/// How many words the header of an export file has.
+pub const FILE_HEADER_WORDS: u32 = 8;
+
+/// The first word of type `i`: its id, behind which its map stands.
+pub const fn file_type_at(i: u32) -> u32
+    requires { i ≤ TYPE_RECORDS }
+    ensures { result ≡ file_type_at i }
+{
+    FILE_HEADER_WORDS + TYPE_RECORD_WORDS * i
+}
+
+/// The word of the base of ordinal 0, behind so many types.
+pub const fn file_bases_at(types: u32) -> u32
+    requires { types ≤ TYPE_RECORDS }
+    ensures { result ≡ file_bases_at types }
+{
+    file_type_at(types)
+}
+
+/// The first word of the frame of ordinal 0.
+pub const fn file_frames_at(types: u32, puddles: u32) -> u32
+    requires few_types { types ≤ TYPE_RECORDS }
+    requires few_puddles { puddles ≤ MAX_PUDDLES }
+    ensures { result ≡ file_frames_at types puddles }
+{
+    file_bases_at(types) + puddles
+}
+
+/// The first word of the frame of an ordinal.
+pub const fn file_frame_at(types: u32, puddles: u32, ordinal: u32) -> u32
+    requires few_types { types ≤ TYPE_RECORDS }
+    requires few_puddles { puddles ≤ MAX_PUDDLES }
+    requires known { ordinal ≤ MAX_PUDDLES }
+    ensures { result ≡ file_frame_at types puddles ordinal }
+{
+    file_frames_at(types, puddles) + FRAME_WORDS * ordinal
+}
+
+/// How many words an export file of so many types and puddles has.
+pub const fn file_words(types: u32, puddles: u32) -> u32
+    requires few_types { types ≤ TYPE_RECORDS }
+    requires few_puddles { puddles ≤ MAX_PUDDLES }
+    ensures { result ≡ file_words types puddles }
+{
+    file_frame_at(types, puddles, puddles)
+}
