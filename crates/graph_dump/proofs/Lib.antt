@@ -1,0 +1,5 @@
+pub mod Spelling
+pub mod Placing
+pub mod Joining
+pub mod Objects
+pub mod Dumped

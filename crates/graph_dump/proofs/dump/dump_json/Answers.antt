@@ -1,0 +1,29 @@
+use Rattle.std.proofs.Common.{◌≡◌, ◌<◌, length, map, ap, sym, ◌∙◌, arith, ℕ}
+use Rattle.pm_model.specs.Words.{reads}
+use Rattle.pm_model.specs.Moments.{State}
+use Rattle.pud_defs.specs.declared.space.TheConstants.{NEXT_SERIAL_WORD, ROOT_WORD}
+use Rattle.pud_defs.specs.Types.{types_of}
+use Rattle.pud_defs.specs.Graph.{pointee_at, named_by}
+use Rattle.graph_read.specs.Reading.{table_in}
+use Rattle.graph_read.proofs.Held.{none_held}
+use Rattle.graph_read.proofs.Judging.{first_word, positive_length}
+use Rattle.graph_dump.proofs.Dumped.{dumped}
+use Rattle.graph_dump.proofs.dump.dump_json.Goals as goal
+
+pub returns-then-is_empty-clause-text : goal.returns-then-is_empty-clause-text
+returns-then-is_empty-clause-text g c = λ t image same graph stored. absurd (none_held (types_of image) c.args.frames c.args.pool.now image graph (sym c.is_empty.ensures ∙ c.if-is_empty.true) stored)
+
+pub returns-clause-text : goal.returns-clause-text
+returns-clause-text g c = λ t image same graph stored.
+    let F = c.args.frames in
+    let at = c.args.pool.now in
+    let some : 0 < length at = positive_length at (sym c.is_empty.ensures ∙ c.if-is_empty.false) in
+    let second : reads (g.H.Host.state c.next_serial.new.h).now.words ≡ image = ap (λ (s : State). reads s.now.words) (c.next_serial.ensures.stays t) ∙ same in
+    let third : reads (g.H.Host.state c.root_value.new.h).now.words ≡ image = ap (λ (s : State). reads s.now.words) (c.root_value.ensures.stays t) ∙ second in
+    let fourth : reads (g.H.Host.state c.serial_behind.new.h).now.words ≡ image = ap (λ (s : State). reads s.now.words) (c.serial_behind.ensures.stays t) ∙ third in
+    let fifth : reads (g.H.Host.state c.live_places.new.h).now.words ≡ image = ap (λ (s : State). reads s.now.words) (c.live_places.ensures.stays t) ∙ fourth in
+    dumped F at image graph c.in_ok-next.next c.in_ok-root-2.root c.in_ok-places.places.entries c.in_ok-text.text.items c.dump_objects.new.text.items c.put_root.new.text.items stored
+    (c.in_ok-next.ensures.word t image same ∙ first_word F at image NEXT_SERIAL_WORD some (omega arith))
+    (c.in_ok-root-2.ensures.serial t image third
+    ∙ ap (λ (v : ℕ). named_by (table_in F at image).serial (pointee_at (map (λ e. e.1) at) 0 0 v)) (c.in_ok-root.ensures.word t image second ∙ first_word F at image ROOT_WORD some (omega arith)))
+    (c.in_ok-places.ensures.places t image fourth) c.in_ok-text.ensures (c.in_ok-dump_objects.ensures.text t image fifth) c.in_ok-put_root.ensures

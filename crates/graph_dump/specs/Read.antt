@@ -1,0 +1,27 @@
+-- What is read of a place.
+use Rattle.std.specs.Prelude.{ℕ, ◌+◌, List, map, Option}
+use Rattle.std.specs.List.{range_with_len}
+use Rattle.pud_defs.specs.declared.space.TheConstants.{SLOT_FIELDS_WORD}
+use Rattle.pud_defs.specs.declared.records.Puddle.{Puddle}
+use Rattle.pud_defs.specs.declared.objects.Val.{Val}
+use Rattle.pud_defs.specs.Image.{Image}
+use Rattle.pud_defs.specs.Stored.{stored_in, place_word}
+use Rattle.pud_defs.specs.Graph.{value_of, content, field_count, under_serial, object_at}
+use Rattle.pud_defs.specs.DumpText.{object_text}
+use Rattle.graph_read.specs.Reading.{table_in}
+
+-- what field f at a place holds by the map of a type
+abbrev pub field_value : (F : ℕ) → List (ℕ × Puddle) → Image → (place map field : ℕ) → Val
+field_value F at image p m f = value_of (table_in F at image).serial (content (map (λ e. e.1) at) m p f (place_word (stored_in F at image) p (SLOT_FIELDS_WORD + f)))
+
+-- what the fields hold
+abbrev pub field_values : (F : ℕ) → List (ℕ × Puddle) → Image → (place map : ℕ) → List Val
+field_values F at image p m = map (field_value F at image p m) (range_with_len 0 (field_count m))
+
+-- a place under its serial, where it is live
+abbrev pub placed_under : (serial place : ℕ) → Option (ℕ × ℕ)
+placed_under s p = under_serial (λ _. s) (λ q. q) p
+
+-- the text of the object at a place, under its serial
+abbrev pub entry_text : (F : ℕ) → List (ℕ × Puddle) → Image → ℕ × ℕ → List ℕ
+entry_text F at image e = object_text (e.0, object_at (table_in F at image) e.1)

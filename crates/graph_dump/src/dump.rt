@@ -1,0 +1,138 @@
+//! A pool dumped: read from the device, and written.
+
+ghost use Rattle.std.specs.Prelude.{◌≡◌, ◌≢◌, ◌++◌, ◌≤◌, ◌<◌, Option, All, IfOk, OnOk, codes, decimal, map};
+ghost use Rattle.std.specs.BTreeMap.{values};
+ghost use Rattle.pm_model.specs.Words.{Image, reads};
+ghost use Rattle.pm_model.specs.Counts.{after_fault};
+ghost use Rattle.pud_defs.specs.Layout.{device_words};
+ghost use Rattle.pud_defs.specs.Types.{types_of};
+ghost use Rattle.pud_defs.specs.Stored.{IsOnDevice, stored_in};
+ghost use Rattle.pud_defs.specs.Graph.{Graph, graph_of};
+ghost use Rattle.pud_defs.specs.DumpText.{dump_text, pointer_text, joined};
+ghost use Rattle.puddle_header.specs.Places.{places_in};
+ghost use Rattle.graph_dump.specs.Faults.{fault_in};
+ghost use Rattle.graph_dump.specs.Read.{entry_text};
+ghost use Rattle.graph_dump.specs.Spelled.{separator};
+
+use crate::fault::DumpFault;
+use crate::places::{Places, live_places};
+use crate::reading::read_object;
+use crate::values::{pointer_value, put_object};
+use graph_read::serial_behind;
+use pm_model::{Host, HostFault};
+use pud_defs::layout::MAX_FRAMES;
+use pud_defs::records::Puddle;
+use puddle_header::{next_serial, root_value};
+use std::alloc::{AllocError, Global};
+
+/// The front of the text, up to the objects.
+fn front(alloc: Global, next: u64) -> Result<Vec<u8>, AllocError>
+    ensures { IfOk result (λ text. text.items ≡ codes "{\"next\":" ++ (decimal next ++ codes ",\"objects\":[")) }
+{
+    Ok(format!(in alloc; "{{\"next\":{next},\"objects\":[")?.into_bytes())
+}
+
+/// Appends what stands behind the objects.
+fn put_root(alloc: Global, text: &mut Vec<u8>, root: u64) -> Result<(), AllocError>
+    ensures { OnOk result (text.new.items ≡ text.old.items ++ (codes "],\"root\":" ++ (pointer_text root ++ codes "}"))) }
+{
+    let written = pointer_value(alloc, root)?.to_vec(alloc)?;
+    text.extend_from_slice(b"],\"root\":")?;
+    text.extend_from_slice(&written)?;
+    text.push(b'}')?;
+    Ok(())
+}
+
+/// Reads the object at the place of an entry, and appends its text under the entry's serial, behind a comma where it is not the
+/// first.
+fn dump_object<H: Host>(
+    alloc: Global,
+    h: &mut H,
+    frames: u32,
+    pool: &[(u32, Puddle)],
+    text: &mut Vec<u8>,
+    is_first: bool,
+    entry: (u64, u32),
+) -> Result<(), DumpFault>
+    requires few { frames ≤ MAX_FRAMES }
+    requires room { device_words frames ≤ (H.counts h.old).size }
+    requires known { IsOnDevice frames pool.now }
+    requires within { entry.1 < places_in pool.now }
+    ensures text { H.tells → (image : Image) → reads (H.state h.old).now.words ≡ image
+        → OnOk result (text.new.items ≡ text.old.items ++ (separator is_first ++ entry_text frames pool.now image entry)) }
+    ensures stays { H.tells → H.state h.new ≡ H.state h.old }
+    ensures cause { H.counts h.new ≡ after_fault (fault_in result) (H.counts h.old) }
+    ensures never_cut { fault_in result ≢ Option.Some HostFault.Cut }
+{
+    let (serial, place) = entry;
+    let object = read_object(h, frames, pool, place)?;
+    put_object(alloc, text, is_first, serial, &object)?;
+    Ok(())
+}
+
+/// Appends the texts of the objects at these places, with commas between them.
+fn dump_objects<H: Host>(
+    alloc: Global,
+    h: &mut H,
+    frames: u32,
+    pool: &[(u32, Puddle)],
+    text: &mut Vec<u8>,
+    places: &Places,
+) -> Result<(), DumpFault>
+    requires few { frames ≤ MAX_FRAMES }
+    requires room { device_words frames ≤ (H.counts h.old).size }
+    requires known { IsOnDevice frames pool.now }
+    requires within { All (λ p. p < places_in pool.now) (values places.now) }
+    ensures text { H.tells → (image : Image) → reads (H.state h.old).now.words ≡ image
+        → OnOk result (text.new.items ≡ text.old.items ++ joined (map (entry_text frames pool.now image) (places.now).entries)) }
+    ensures stays { H.tells → H.state h.new ≡ H.state h.old }
+    ensures cause { H.counts h.new ≡ after_fault (fault_in result) (H.counts h.old) }
+    ensures never_cut { fault_in result ≢ Option.Some HostFault.Cut }
+{
+    let mut is_first = true;
+    for (serial, place) in places {
+        dump_object(alloc, h, frames, pool, text, is_first, (*serial, *place))?;
+        is_first = false;
+    }
+    Ok(())
+}
+
+/// The graph of a pool as the compact text of one JSON object, `{"next":n,"objects":[..],"root":r}`. The objects are
+/// `{"fields":[..],"serial":s,"type":t}` by ascending serials; a field is a number, `"@s"` for a pointer to the object of serial
+/// s, or null.
+///
+/// The device has the words that so many frames need, at most 1,024, and the pool is given by the frames and the records of its
+/// puddles by their ordinals, at most 16. Where what they store is no graph the text may be any, and of a pool without puddles
+/// it is empty. Each word of the frames is loaded once, and a serial once more for each pointer that names it; nothing is
+/// searched but the type table.
+///
+/// `Memory` where memory was refused, `Host` where the host failed; nothing has changed then but what the host counts.
+pub fn dump_json<H: Host>(
+    alloc: Global,
+    h: &mut H,
+    frames: u32,
+    pool: &[(u32, Puddle)],
+) -> Result<Vec<u8>, DumpFault>
+    requires few { frames ≤ MAX_FRAMES }
+    requires room { device_words frames ≤ (H.counts h.old).size }
+    requires known { IsOnDevice frames pool.now }
+    ensures text { H.tells → (image : Image) → reads (H.state h.old).now.words ≡ image
+        → (g : Graph) → graph_of (types_of image) (stored_in frames pool.now image) ≡ Option.Some g
+        → IfOk result (λ text. text.items ≡ dump_text g) }
+    ensures stays { H.tells → H.state h.new ≡ H.state h.old }
+    ensures cause { H.counts h.new ≡ after_fault (fault_in result) (H.counts h.old) }
+    ensures never_cut { fault_in result ≢ Option.Some HostFault.Cut }
+{
+    if pool.is_empty() {
+        return Ok(Vec::new(alloc));
+    }
+    let (first, _) = pool[0];
+    let next = next_serial(h, frames, first)?;
+    let root = root_value(h, frames, first)?;
+    let root = serial_behind(h, frames, pool, 0, 0, root)?;
+    let places = live_places(alloc, h, frames, pool)?;
+    let mut text = front(alloc, next)?;
+    dump_objects(alloc, h, frames, pool, &mut text, &places)?;
+    put_root(alloc, &mut text, root)?;
+    Ok(text)
+}

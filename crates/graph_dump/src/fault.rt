@@ -1,0 +1,37 @@
+//! Why a pool was not dumped.
+
+ghost use Rattle.std.specs.Prelude.{◌≡◌};
+
+use pm_model::HostFault;
+use std::alloc::AllocError;
+
+/// Why a pool was not dumped. Nothing changed but after a fault of the host, which counted it.
+#[derive(Clone, Copy, Debug, PartialEq, Eq, thiserror::Error)]
+pub enum DumpFault {
+    /// Memory was refused.
+    #[error("memory was refused")]
+    Memory,
+    /// The host's own fault.
+    #[error("the host failed")]
+    Host(HostFault),
+}
+
+impl From<AllocError> for DumpFault {
+    ghost use Rattle.graph_dump.specs.declared.fault.DumpFault.TheVariants.{Memory};
+
+    ghost from_gives = { λ _ fault. fault ≡ Memory };
+
+    fn from(_error: AllocError) -> DumpFault {
+        DumpFault::Memory
+    }
+}
+
+impl From<HostFault> for DumpFault {
+    ghost use Rattle.graph_dump.specs.declared.fault.DumpFault.TheVariants.{Host};
+
+    ghost from_gives = { λ host fault. fault ≡ Host host };
+
+    fn from(host: HostFault) -> DumpFault {
+        DumpFault::Host(host)
+    }
+}

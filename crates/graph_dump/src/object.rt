@@ -1,0 +1,59 @@
+//! What is read of one object.
+
+ghost use Rattle.std.specs.Prelude.{◌≡◌, ◌≤◌, take};
+ghost use Rattle.pud_defs.specs.declared.layout.TheConstants.{MAX_FIELDS};
+ghost use Rattle.pud_defs.specs.Graph.{Object};
+
+use pud_defs::layout::MAX_FIELDS;
+use pud_defs::objects::Val;
+use std::marker::Model;
+
+/// As many values as an object has fields at most.
+pub(crate) type Fields = [Val; MAX_FIELDS as usize];
+
+/// Values that stand for none.
+pub(crate) const NO_FIELDS: Fields = [Val::Num(0); MAX_FIELDS as usize];
+
+/// An object, as it was read.
+#[derive(Drop)]
+pub(crate) struct ObjectRead {
+    type_id: u64,
+    count: u32,
+    values: Fields,
+}
+
+impl Model for ObjectRead {
+    ghost Value = { Object };
+
+    ghost view = { λ o. record { type_id = o.type_id; fields = take o.count o.values } };
+
+    ghost invariant = { λ o. o.count ≤ MAX_FIELDS };
+}
+
+impl ObjectRead {
+    /// The object of a type whose fields are the first so many of these values.
+    pub(crate) fn new(type_id: u64, count: u32, values: Fields) -> ObjectRead
+        requires { count ≤ MAX_FIELDS }
+        ensures { result ≡ record { type_id = type_id; fields = take count values } }
+    {
+        ObjectRead {
+            type_id,
+            count,
+            values,
+        }
+    }
+
+    /// The type id.
+    pub(crate) fn type_id(&self) -> u64
+        ensures { result ≡ (self.now).type_id }
+    {
+        self.type_id
+    }
+
+    /// The fields, in turn.
+    pub(crate) fn fields(&self) -> &[Val]
+        ensures { result.now ≡ (self.now).fields }
+    {
+        &self.values[..self.count as usize]
+    }
+}

@@ -1,0 +1,82 @@
+//! One object, read from the device.
+
+ghost use Rattle.std.specs.Prelude.{◌≡◌, ◌≢◌, ◌<◌, ◌≤◌, take, Option, IfOk};
+ghost use Rattle.pm_model.specs.Words.{Image, reads};
+ghost use Rattle.pm_model.specs.Counts.{after_fault, fault_of};
+ghost use Rattle.pud_defs.specs.Layout.{device_words};
+ghost use Rattle.pud_defs.specs.Stored.{IsOnDevice};
+ghost use Rattle.pud_defs.specs.Graph.{field_count, object_at};
+ghost use Rattle.puddle_header.specs.Places.{places_in, place_of_slot, IsSlotOf};
+ghost use Rattle.graph_read.specs.Reading.{table_in};
+ghost use Rattle.graph_dump.specs.Read.{field_values};
+
+use crate::object::{Fields, NO_FIELDS, ObjectRead};
+use graph_read::{type_at, value_at};
+use pm_model::{Host, HostFault};
+use pud_defs::layout::{MAX_FIELDS, MAX_FRAMES};
+use pud_defs::records::{Puddle, Slot};
+use pud_defs::type_map::map_fields;
+use puddle_header::slot_at_place;
+use type_maps::find;
+
+/// How many fields an object has by the map word of its type, at most 30.
+fn field_count(map_word: u64) -> u32
+    ensures count { result ≡ field_count map_word }
+    ensures within { result ≤ MAX_FIELDS }
+{
+    map_fields(map_word).min(MAX_FIELDS)
+}
+
+/// What the fields of a slot hold by the map word of its type, and any values behind them.
+fn read_fields<H: Host>(
+    h: &mut H,
+    frames: u32,
+    pool: &[(u32, Puddle)],
+    at: &Slot,
+    map_word: u64,
+) -> Result<Fields, HostFault>
+    requires few { frames ≤ MAX_FRAMES }
+    requires room { device_words frames ≤ (H.counts h.old).size }
+    requires known { IsOnDevice frames pool.now }
+    requires within { IsSlotOf pool.now at.now }
+    ensures fields { H.tells → (image : Image) → reads (H.state h.old).now.words ≡ image
+        → IfOk result (λ values. take (field_count map_word) values ≡ field_values frames pool.now image (place_of_slot at.now) map_word) }
+    ensures stays { H.tells → H.state h.new ≡ H.state h.old }
+    ensures cause { H.counts h.new ≡ after_fault (fault_of result) (H.counts h.old) }
+    ensures never_cut { fault_of result ≢ Option.Some HostFault.Cut }
+{
+    let mut values = NO_FIELDS;
+    for f in 0..field_count(map_word) {
+        values[f as usize] = value_at(h, frames, pool, at, map_word, f)?;
+    }
+    Ok(values)
+}
+
+/// The object at a place. One whose type is not defined has no fields. The type and each field are read once, and of a pointer
+/// the serial of the slot to which it leads.
+pub(crate) fn read_object<H: Host>(
+    h: &mut H,
+    frames: u32,
+    pool: &[(u32, Puddle)],
+    place: u32,
+) -> Result<ObjectRead, HostFault>
+    requires few { frames ≤ MAX_FRAMES }
+    requires room { device_words frames ≤ (H.counts h.old).size }
+    requires known { IsOnDevice frames pool.now }
+    requires within { place < places_in pool.now }
+    ensures object { H.tells → (image : Image) → reads (H.state h.old).now.words ≡ image
+        → IfOk result (λ object. object ≡ object_at (table_in frames pool.now image) place) }
+    ensures stays { H.tells → H.state h.new ≡ H.state h.old }
+    ensures cause { H.counts h.new ≡ after_fault (fault_of result) (H.counts h.old) }
+    ensures never_cut { fault_of result ≢ Option.Some HostFault.Cut }
+{
+    let type_id = type_at(h, frames, pool, place)?;
+    match find(h, type_id)? {
+        Some(map_word) => {
+            let at = slot_at_place(pool, place);
+            let values = read_fields(h, frames, pool, &at, map_word)?;
+            Ok(ObjectRead::new(type_id, field_count(map_word), values))
+        }
+        None => Ok(ObjectRead::new(type_id, 0, NO_FIELDS)),
+    }
+}

@@ -1,0 +1,6 @@
+-- What follows of an answer from two facts of it.
+use Rattle.std.proofs.Common.{Result, Ok, Err, IfOk}
+
+pub both_ok : {X E : Type 0} (r : Result X E) (P Q R : X → Type 0) → ((x : X) → P x → Q x → R x) → IfOk r P → IfOk r Q → IfOk r R
+both_ok (Ok x) P Q R joins p q = joins x p q
+both_ok (Err e) P Q R joins p q = tt

@@ -1,0 +1,32 @@
+-- What is gathered number by number, from 0 on.
+use Rattle.std.proofs.Common.{◌≡◌, ℕ, ◌+◌, List, [], ◌∷◌, ◌++◌, Option, Some, None, sym, ap, ◌∙◌, arith}
+use Rattle.std.specs.List.{filter_map, flat_map, range_with_len, cons_option}
+use Rattle.std.proofs.lemmas.List.{append-nil, map-id}
+use Rattle.std.proofs.lemmas.List.Elements.{filter_map-append}
+use Rattle.std.proofs.lemmas.List.FromFn.{map-range_with_len_more}
+use Rattle.std.proofs.lemmas.Grind.{flat_map-append}
+
+-- one number more
+range_more : (n : ℕ) → range_with_len 0 (n + 1) ≡ range_with_len 0 n ++ n ∷ []
+range_more n =
+    sym (map-id (range_with_len 0 (n + 1)))
+    ∙ map-range_with_len_more (λ (k : ℕ). k) 0 n n (omega arith)
+    ∙ ap (λ (ks : List ℕ). ks ++ n ∷ []) (map-id (range_with_len 0 n))
+
+module _ {X : Type 0} (h : ℕ → Option X) (n : ℕ) (gathered : List X) where
+  filter_map-next : gathered ≡ filter_map h (range_with_len 0 n) → filter_map h (range_with_len 0 (n + 1)) ≡ gathered ++ cons_option (h n) []
+  filter_map-next so_far =
+      ap (filter_map h) (range_more n) ∙ filter_map-append h (range_with_len 0 n) (n ∷ []) ∙ ap (λ (xs : List X). xs ++ cons_option (h n) []) (sym so_far)
+
+  -- at the next number there is something
+  pub filter_map_some : (x : X) → h n ≡ Some x → gathered ≡ filter_map h (range_with_len 0 n) → gathered ++ x ∷ [] ≡ filter_map h (range_with_len 0 (n + 1))
+  filter_map_some x is so_far = sym (filter_map-next so_far ∙ ap (λ (o : Option X). gathered ++ cons_option o []) is)
+
+  -- there is nothing
+  pub filter_map_none : h n ≡ None → gathered ≡ filter_map h (range_with_len 0 n) → gathered ≡ filter_map h (range_with_len 0 (n + 1))
+  filter_map_none is so_far = sym (filter_map-next so_far ∙ ap (λ (o : Option X). gathered ++ cons_option o []) is ∙ append-nil gathered)
+
+-- one piece more
+pub flat_map-range_more : {X : Type 0} (f : ℕ → List X) (n : ℕ) → flat_map f (range_with_len 0 (n + 1)) ≡ flat_map f (range_with_len 0 n) ++ f n
+flat_map-range_more f n =
+    ap (flat_map f) (range_more n) ∙ flat_map-append f (range_with_len 0 n) (n ∷ []) ∙ ap (λ xs. flat_map f (range_with_len 0 n) ++ xs) (append-nil (f n))

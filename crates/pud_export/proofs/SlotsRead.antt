@@ -1,0 +1,101 @@
+-- What is written of a slot, word by word.
+use Rattle.std.proofs.Common.{◌≡◌, ◌≢◌, ℕ, true, ◌&&◌, eqb, leb, ltb, suc, ◌+◌, ◌-◌, ◌*◌, ◌%◌, ◌^◌, ◌<◌, ◌≤◌, List, [], ◌∷◌, ◌++◌, map, length, get_or, set, replicate, Option, Some, option_map, sym, ap, ap₂, ◌∙◌, arith, append_assoc, eq-eqb, ne_eqb}
+use Rattle.std.specs.Prelude.{slice_get}
+use Rattle.std.specs.List.{range_with_len}
+use Rattle.std.proofs.Math.Nat.{mod-eq_of_lt}
+use Rattle.std.proofs.Math.Seq.{set-append_seam}
+use Rattle.std.proofs.lemmas.Bool.{cond-true, cond-false, and_parts, ltb-true}
+use Rattle.std.proofs.lemmas.List.Elements.{All-get_or, All-weaker}
+use Rattle.std.proofs.lemmas.List.Folds.{list_all-map}
+use Rattle.std.proofs.lemmas.List.Sums.{AllPass-from_list_all}
+use Rattle.std.proofs.lemmas.List.FromFn.{map-range_with_len_more, length-map-range_with_len}
+use Rattle.std.proofs.lemmas.Option.{slice_get-map, slice_get-get_or}
+use Rattle.pud_defs.specs.declared.records.Puddle.{Puddle}
+use Rattle.pud_defs.specs.declared.space.TheConstants.{SPACE_START, SPACE_BYTES, WORD_BYTES, RANGE_BYTES, SLOT_SERIAL_WORD, SLOT_TYPE_WORD, SLOT_FIELDS_WORD}
+use Rattle.pud_defs.specs.Bases.{is_legal_base}
+use Rattle.pud_defs.specs.ExportFile.{are_file_bases}
+use Rattle.pud_defs.specs.Geometry.{puddle_slots, slot_at, place_at}
+use Rattle.pud_defs.specs.Graph.{At, slot_address, field_count}
+use Rattle.pud_defs.specs.Types.{map_of}
+use Rattle.pud_defs.specs.Stored.{Stored, place_words, place_word}
+use Rattle.pud_defs.specs.Exported.{address_in, address_of, exported_field, exported_object, exported_slot}
+use Rattle.puddle_header.proofs.Placed.{place_ordinal, place_slot}
+use Rattle.pud_export.specs.Exporting.{HasLowBases}
+
+-- ---- addresses
+
+-- the address of a slot of a pool's puddle
+pub address_at : (at : List (ℕ × Puddle)) (o s v : ℕ) (e : ℕ × Puddle) → HasLowBases at → o < length at → s < puddle_slots
+    → ((get_or at o e).1.base + RANGE_BYTES ≤ 2 ^ 64 → v ≡ slot_address (get_or at o e).1 s) → v ≡ address_of (map (λ e. e.1) at) (At (place_at o s))
+address_at at o s v e low within below is =
+    let there : slice_get (map (λ (e : ℕ × Puddle). e.1) at) o ≡ Some (get_or at o e).1 =
+    slice_get-map (λ (e : ℕ × Puddle). e.1) at o ∙ ap (option_map (λ (e : ℕ × Puddle). e.1)) (slice_get-get_or at o e within) in
+    is (All-get_or (λ (e : ℕ × Puddle). e.1.base + RANGE_BYTES ≤ 2 ^ 64) at o e within low.low)
+    ∙ sym (ap₂ (λ (i j : ℕ). address_in (slice_get (map (λ (e : ℕ × Puddle). e.1) at) i) j) (place_ordinal o s below) (place_slot o s below)
+    ∙ ap (λ (d : Option Puddle). address_in d s) there)
+
+-- an address that does not wrap around
+pub low_address : (d : Puddle) (s word v : ℕ) → s < puddle_slots → word ≡ slot_at d s → v ≡ (d.base + WORD_BYTES * word) % 2 ^ 64 → d.base + RANGE_BYTES ≤ 2 ^ 64 → v ≡ slot_address d s
+low_address d s word v below is wrapped low =
+    wrapped ∙ ap (λ (w : ℕ). (d.base + WORD_BYTES * w) % 2 ^ 64) is ∙ mod-eq_of_lt {n = d.base + WORD_BYTES * slot_at d s} {m = 2 ^ 64} (omega arith)
+
+-- legal bases are low
+low_base : (b : ℕ) → is_legal_base b ≡ true → b + RANGE_BYTES ≤ 2 ^ 64
+low_base b legal =
+    let parts = and_parts (leb SPACE_START b && ltb b (SPACE_START + SPACE_BYTES)) (eqb (b % RANGE_BYTES) 0) legal in
+    let below = ltb-true b (SPACE_START + SPACE_BYTES) (and_parts (leb SPACE_START b) (ltb b (SPACE_START + SPACE_BYTES)) parts.0).1 in
+    omega arith
+
+pub low_bases : (at : List (ℕ × Puddle)) → are_file_bases (map (λ e. e.1) at) ≡ true → HasLowBases at
+low_bases at legal =
+    let each = list_all-map (λ (d : Puddle). is_legal_base d.base) (λ (e : ℕ × Puddle). e.1) at in
+    let test = λ (e : ℕ × Puddle). is_legal_base e.1.base in
+    record { low = All-weaker (λ e. test e ≡ true) (λ e. e.1.base + RANGE_BYTES ≤ 2 ^ 64) (λ e. low_base e.1.base) at (AllPass-from_list_all test at (sym each ∙ (and_parts _ _ legal).0)) }
+
+-- ---- words that are filled one by one
+
+-- what f gives of so many numbers, and 0 behind them
+abbrev pub filled_to : (ℕ → ℕ) → (size count : ℕ) → List ℕ
+filled_to f size n = map f (range_with_len 0 n) ++ replicate (size - n) 0
+
+pub fill_more : (f : ℕ → ℕ) (size n v : ℕ) → n < size → v ≡ f n → set (filled_to f size n) n v ≡ filled_to f size (n + 1)
+fill_more f size n v below is =
+    let one : size - n ≡ suc (size - (n + 1)) = omega arith in
+    let rest : List ℕ = replicate (size - (n + 1)) 0 in
+    ap (λ (k : ℕ). set (map f (range_with_len 0 n) ++ replicate k 0) n v) one
+    ∙ ap (λ (k : ℕ). set (map f (range_with_len 0 n) ++ 0 ∷ rest) k v) (sym (length-map-range_with_len f 0 n))
+    ∙ set-append_seam (map f (range_with_len 0 n)) 0 rest v
+    ∙ sym (append_assoc (map f (range_with_len 0 n)) (v ∷ []) rest)
+    ∙ ap (λ (xs : List ℕ). xs ++ rest) (ap (λ (w : ℕ). map f (range_with_len 0 n) ++ w ∷ []) is ∙ sym (map-range_with_len_more f 0 n n (omega arith)))
+
+-- ---- objects
+
+-- the words of an object of which so many fields were read
+abbrev pub object_so_far : Stored → (place type_map serial id count : ℕ) → List ℕ
+object_so_far st p m serial id n = serial ∷ id ∷ filled_to (exported_field st m p) (place_words st p - SLOT_FIELDS_WORD) n
+
+-- one field more
+pub object_more : (st : Stored) (p m serial id n v : ℕ) (words : List ℕ) → n < place_words st p - SLOT_FIELDS_WORD → v ≡ exported_field st m p n
+    → words ≡ object_so_far st p m serial id n → set words (SLOT_FIELDS_WORD + n) v ≡ object_so_far st p m serial id (n + 1)
+object_more st p m serial id n v words below is so_far =
+    let behind : SLOT_FIELDS_WORD + n ≡ suc (suc n) = omega arith in
+    ap (λ (ws : List ℕ). set ws (SLOT_FIELDS_WORD + n) v) so_far
+    ∙ ap (λ (k : ℕ). set (object_so_far st p m serial id n) k v) behind
+    ∙ ap (λ (ws : List ℕ). serial ∷ id ∷ ws) (fill_more (exported_field st m p) (place_words st p - SLOT_FIELDS_WORD) n v below is)
+
+-- all fields were read
+pub object_whole : (st : Stored) (p m serial id n : ℕ) (words : List ℕ) → serial ≡ place_word st p SLOT_SERIAL_WORD → id ≡ place_word st p SLOT_TYPE_WORD → n ≡ field_count m
+    → words ≡ object_so_far st p m serial id n → words ≡ exported_object st p (Some m)
+object_whole st p m serial id n words is_serial is_id all so_far =
+    so_far ∙ ap (object_so_far st p m serial id) all ∙ ap₂ (λ (s i : ℕ). object_so_far st p m s i (field_count m)) is_serial is_id
+
+-- ---- slots
+
+module _ (types : List (ℕ × ℕ)) (st : Stored) (p : ℕ) where
+  pub exported_slot-free : place_word st p SLOT_SERIAL_WORD ≡ 0 → exported_slot types st p ≡ replicate (place_words st p) 0
+  unfolding exported_slot
+  exported_slot-free free = cond-true _ _ _ (eq-eqb _ _ free)
+
+  pub exported_slot-live : (m : Option ℕ) → place_word st p SLOT_SERIAL_WORD ≢ 0 → map_of (place_word st p SLOT_TYPE_WORD) types ≡ m → exported_slot types st p ≡ exported_object st p m
+  unfolding exported_slot
+  exported_slot-live m live is = cond-false _ _ _ (ne_eqb _ _ live) ∙ ap (exported_object st p) is

@@ -1,0 +1,41 @@
+use Rattle.std.proofs.Common.{◌≡◌, ℕ, ◌*◌, List, length, Some, IfOk, ap, ap₂, subst, ◌∙◌}
+use Rattle.std.proofs.lemmas.List.{length-map}
+use Rattle.pm_model.specs.Words.{reads}
+use Rattle.pm_model.specs.Moments.{State}
+use Rattle.pud_defs.specs.declared.layout.TheConstants.{MACHINE_WORD}
+use Rattle.pud_defs.specs.ExportFile.{words_in, types_used, file_graph}
+use Rattle.pud_defs.specs.Exported.{exported_words}
+use Rattle.pud_defs.specs.Stored.{stored_in}
+use Rattle.pud_defs.specs.Types.{types_of}
+use Rattle.graph_laws.proofs.Law.{file_graph-exported}
+use Rattle.pud_export.specs.Exporting.{types_among}
+use Rattle.pud_export.proofs.Both.{both_ok}
+use Rattle.pud_export.proofs.SlotsRead.{low_bases}
+use Rattle.pud_export.proofs.TypesUsed.{types_among-live}
+use Rattle.pud_export.proofs.export.export_pool.Goals as goal
+
+pub returns-clause-words : goal.returns-clause-words
+returns-clause-words g c = λ t low image same graph is.
+    let st = stored_in c.args.frames c.args.pool.now image in
+    let second = ap (λ (s : State). reads s.now.words) (c.read_types.ensures.stays t) ∙ same in
+    let third = ap (λ (s : State). reads s.now.words) (c.live_types.ensures.stays t) ∙ second in
+    let types = c.in_ok-types.ensures.types t image same in
+    let used : c.types_among-used.result.items ≡ types_used (types_of image) graph =
+    c.types_among-used.ensures ∙ ap₂ types_among (c.as_slice.ensures.value ∙ types) (c.as_slice-2.ensures.value ∙ c.in_ok-ids.ensures.ids t image second) ∙ types_among-live (types_of image) st graph is in
+    subst (λ (p : List (ℕ × ℕ) × List (ℕ × ℕ)). IfOk c.export_with.result (λ bytes. words_in bytes.items ≡ exported_words (image MACHINE_WORD) c.args.number p.0 p.1 st))
+    (ap₂ (λ (xs ys : List (ℕ × ℕ)). (xs, ys)) (c.as_slice-3.ensures.value ∙ types) (c.as_slice-4.ensures.value ∙ used))
+    (c.export_with.ensures.words t low image third)
+
+pub returns-clause-file : goal.returns-clause-file
+returns-clause-file g c = λ t image same graph is fits.
+    let pool = c.args.pool.now in
+    let st = stored_in c.args.frames pool image in
+    let low = low_bases pool fits.legal_bases in
+    both_ok c.export_with.result
+    (λ bytes. words_in bytes.items ≡ exported_words (image MACHINE_WORD) c.args.number (types_of image) (types_used (types_of image) graph) st)
+    (λ bytes. length bytes.items ≡ 8 * length (words_in bytes.items))
+    (λ bytes. file_graph bytes.items ≡ Some (record { types = types_used (types_of image) graph; puddles = length pool; graph = graph }))
+    (λ bytes spelled whole. file_graph-exported (image MACHINE_WORD) c.args.number (types_of image) st graph fits is bytes.items spelled whole
+    ∙ ap (λ (n : ℕ). Some (record { types = types_used (types_of image) graph; puddles = n; graph = graph })) (length-map pool (λ e. e.1)))
+    (returns-clause-words g c t low image same graph is)
+    c.export_with.ensures.whole

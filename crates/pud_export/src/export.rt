@@ -1,0 +1,96 @@
+//! A pool on a device as an export file.
+
+ghost use Rattle.std.specs.Prelude.{◌≡◌, ◌≢◌, ◌*◌, ◌≤◌, length, Option, IfOk};
+ghost use Rattle.pm_model.specs.Words.{reads};
+ghost use Rattle.pm_model.specs.Counts.{after_fault};
+ghost use Rattle.pud_defs.specs.declared.layout.TheConstants.{MACHINE_WORD, TYPE_RECORDS};
+ghost use Rattle.pud_defs.specs.ExportFile.{words_in, types_used, file_graph};
+ghost use Rattle.pud_defs.specs.Exported.{exported_words, IsExportable};
+ghost use Rattle.pud_defs.specs.Graph.{Graph, graph_of};
+ghost use Rattle.pud_defs.specs.Image.{Image};
+ghost use Rattle.pud_defs.specs.Layout.{device_words};
+ghost use Rattle.pud_defs.specs.Stored.{IsOnDevice, stored_in};
+ghost use Rattle.pud_defs.specs.Types.{types_of};
+ghost use Rattle.pud_export.specs.Exporting.{HasLowBases, fault_in};
+
+use crate::faults::ExportFault;
+use crate::frames::push_frames;
+use crate::front::front;
+use crate::types::{live_types, read_types, types_among};
+use pm_model::{Host, HostFault};
+use pud_defs::layout::{MACHINE_WORD, MAX_FRAMES};
+use pud_defs::records::Puddle;
+use std::alloc::Global;
+
+/// The export file of a pool of this UUID number, whose slots are read by the defined types, and in which those that are used
+/// are listed.
+fn export_with<H: Host>(
+    alloc: Global,
+    h: &mut H,
+    frames: u32,
+    number: u64,
+    pool: &[(u32, Puddle)],
+    types: &[(u64, u64)],
+    used: &[(u64, u64)],
+) -> Result<Vec<u8>, ExportFault>
+    requires few { frames ≤ MAX_FRAMES }
+    requires room { device_words frames ≤ (H.counts h.old).size }
+    requires known { IsOnDevice frames pool.now }
+    requires few_types { length used.now ≤ TYPE_RECORDS }
+    ensures words { H.tells → HasLowBases pool.now → (image : Image) → reads (H.state h.old).now.words ≡ image
+        → IfOk result (λ bytes. words_in bytes.items ≡ exported_words (image MACHINE_WORD) number types.now used.now (stored_in frames pool.now image)) }
+    ensures whole { IfOk result (λ bytes. length bytes.items ≡ 8 * length (words_in bytes.items)) }
+    ensures stays { H.tells → H.state h.new ≡ H.state h.old }
+    ensures cause { H.counts h.new ≡ after_fault (fault_in result) (H.counts h.old) }
+    ensures never_cut { fault_in result ≢ Option.Some HostFault.Cut }
+{
+    let machine = h.load(MACHINE_WORD)?;
+    let mut words = front(alloc, machine, number, pool, used)?;
+    push_frames(h, frames, pool, types, &mut words)?;
+    Ok(words.into_bytes())
+}
+
+/// The export file of a pool of this UUID number: the types that its objects have, its bases by ordinals, and its frames. Each
+/// pointer stands over the bases of the pool, whichever it stands over on the device, and each word of a frame that no reader
+/// of graphs reads is 0. Of a pool without a graph it is only said that the bytes are whole words.
+///
+/// The device has so many frames, at most 1,024, and the words which so many need; the pool is the frames and the records of
+/// its puddles by their ordinals, at most 16. `Memory` comes where memory is refused, and `Host` is the host's own fault, never
+/// a cut. Nothing changes.
+///
+/// Of the pool's frames each word is read at most once, but for the serial and the type of a slot, which are read twice at
+/// most; the first three words of a frame are not read. Room for the bytes is taken once: 64, 16 a type and 16,392 a puddle.
+pub fn export_pool<H: Host>(
+    alloc: Global,
+    h: &mut H,
+    frames: u32,
+    number: u64,
+    pool: &[(u32, Puddle)],
+) -> Result<Vec<u8>, ExportFault>
+    requires few { frames ≤ MAX_FRAMES }
+    requires room { device_words frames ≤ (H.counts h.old).size }
+    requires known { IsOnDevice frames pool.now }
+    ensures words { H.tells → HasLowBases pool.now → (image : Image) → reads (H.state h.old).now.words ≡ image
+        → (g : Graph) → graph_of (types_of image) (stored_in frames pool.now image) ≡ Option.Some g
+        → IfOk result (λ bytes. words_in bytes.items ≡ exported_words (image MACHINE_WORD) number (types_of image) (types_used (types_of image) g) (stored_in frames pool.now image)) }
+    ensures whole { IfOk result (λ bytes. length bytes.items ≡ 8 * length (words_in bytes.items)) }
+    ensures file { H.tells → (image : Image) → reads (H.state h.old).now.words ≡ image
+        → (g : Graph) → graph_of (types_of image) (stored_in frames pool.now image) ≡ Option.Some g → IsExportable (types_of image) (stored_in frames pool.now image)
+        → IfOk result (λ bytes. file_graph bytes.items ≡ Option.Some (record { types = types_used (types_of image) g; puddles = length pool.now; graph = g })) }
+    ensures stays { H.tells → H.state h.new ≡ H.state h.old }
+    ensures cause { H.counts h.new ≡ after_fault (fault_in result) (H.counts h.old) }
+    ensures never_cut { fault_in result ≢ Option.Some HostFault.Cut }
+{
+    let types = read_types(h)?;
+    let ids = live_types(h, frames, pool)?;
+    let used = types_among(types.as_slice(), ids.as_slice());
+    export_with(
+        alloc,
+        h,
+        frames,
+        number,
+        pool,
+        types.as_slice(),
+        used.as_slice(),
+    )
+}

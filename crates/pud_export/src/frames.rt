@@ -1,0 +1,165 @@
+//! The frames of a pool, as an export file has them.
+
+ghost use Rattle.std.specs.Prelude.{◌≡◌, ◌≢◌, ◌-◌, ◌<◌, ◌≤◌, ◌∷◌, ◌++◌, length, map, flat_map, replicate, Option, IfOk, OnOk};
+ghost use Rattle.std.specs.List.{range_with_len};
+ghost use Rattle.pm_model.specs.Words.{reads};
+ghost use Rattle.pm_model.specs.Counts.{after_fault, fault_of};
+ghost use Rattle.pud_defs.specs.Exported.{exported_header, exported_frame};
+ghost use Rattle.pud_defs.specs.Geometry.{puddle_slots};
+ghost use Rattle.pud_defs.specs.Image.{Image};
+ghost use Rattle.pud_defs.specs.Layout.{device_words};
+ghost use Rattle.pud_defs.specs.Stored.{IsOnDevice, stored_in};
+ghost use Rattle.pud_export.specs.Exporting.{HasLowBases, fault_in, slots_to};
+
+use crate::faults::ExportFault;
+use crate::slots::{address_of, read_slot};
+use crate::words::WordBytes;
+use graph_read::read_pointer;
+use pm_model::{Host, HostFault};
+use pud_defs::layout::MAX_FRAMES;
+use pud_defs::records::Puddle;
+use pud_defs::space::{
+    FRAME_HEADER_WORDS, FRAME_MAGIC, FRAME_MAGIC_WORD, FRAME_NUMBER_WORD, FRAME_ORDINAL_WORD,
+    NEXT_SERIAL_WORD, ROOT_WORD, place_at, slots_of,
+};
+use puddle_header::{next_serial, root_value};
+
+/// How many words of a frame stand before its slots.
+pub(crate) const HEADER: usize = FRAME_HEADER_WORDS as usize;
+
+/// The words of a frame that stand before its slots.
+pub(crate) type HeaderWords = [u64; HEADER];
+
+/// A header of these words, and 0 behind them.
+fn header_of(number: u64, ordinal: u32, next: u64, root: u64) -> HeaderWords
+    ensures { result ≡ FRAME_MAGIC ∷ number ∷ ordinal ∷ next ∷ root ∷ replicate (FRAME_HEADER_WORDS - 5) 0 }
+{
+    let mut words = [0; HEADER];
+    words[FRAME_MAGIC_WORD as usize] = FRAME_MAGIC;
+    words[FRAME_NUMBER_WORD as usize] = number;
+    words[FRAME_ORDINAL_WORD as usize] = u64::from(ordinal);
+    words[NEXT_SERIAL_WORD as usize] = next;
+    words[ROOT_WORD as usize] = root;
+    words
+}
+
+/// The header of the puddle of ordinal 0, which has the pool's next serial and its root pointer. Each is read once.
+fn read_first_header<H: Host>(
+    h: &mut H,
+    frames: u32,
+    pool: &[(u32, Puddle)],
+) -> Result<HeaderWords, HostFault>
+    requires few { frames ≤ MAX_FRAMES }
+    requires room { device_words frames ≤ (H.counts h.old).size }
+    requires known { IsOnDevice frames pool.now }
+    requires some { 0 < length pool.now }
+    ensures words { H.tells → HasLowBases pool.now → (image : Image) → reads (H.state h.old).now.words ≡ image
+        → IfOk result (λ words. words ≡ exported_header (stored_in frames pool.now image) 0) }
+    ensures stays { H.tells → H.state h.new ≡ H.state h.old }
+    ensures cause { H.counts h.new ≡ after_fault (fault_of result) (H.counts h.old) }
+    ensures never_cut { fault_of result ≢ Option.Some HostFault.Cut }
+{
+    let (frame, puddle) = pool[0];
+    let next = next_serial(h, frames, frame)?;
+    let root = root_value(h, frames, frame)?;
+    let root = address_of(pool, read_pointer(pool, 0, 0, root));
+    Ok(header_of(puddle.number, 0, next, root))
+}
+
+/// The header of the puddle of an ordinal. Only that of ordinal 0 is read.
+fn read_header<H: Host>(
+    h: &mut H,
+    frames: u32,
+    pool: &[(u32, Puddle)],
+    ordinal: u32,
+) -> Result<HeaderWords, HostFault>
+    requires few { frames ≤ MAX_FRAMES }
+    requires room { device_words frames ≤ (H.counts h.old).size }
+    requires known { IsOnDevice frames pool.now }
+    requires within { ordinal < length pool.now }
+    ensures words { H.tells → HasLowBases pool.now → (image : Image) → reads (H.state h.old).now.words ≡ image
+        → IfOk result (λ words. words ≡ exported_header (stored_in frames pool.now image) ordinal) }
+    ensures stays { H.tells → H.state h.new ≡ H.state h.old }
+    ensures cause { H.counts h.new ≡ after_fault (fault_of result) (H.counts h.old) }
+    ensures never_cut { fault_of result ≢ Option.Some HostFault.Cut }
+{
+    if ordinal == 0 {
+        return read_first_header(h, frames, pool);
+    }
+    let (_, puddle) = pool[ordinal as usize];
+    Ok(header_of(puddle.number, ordinal, 0, 0))
+}
+
+/// Adds the slots of the puddle of an ordinal, by these types.
+fn push_slots<H: Host>(
+    h: &mut H,
+    frames: u32,
+    pool: &[(u32, Puddle)],
+    types: &[(u64, u64)],
+    ordinal: u32,
+    words: &mut WordBytes,
+) -> Result<(), ExportFault>
+    requires few { frames ≤ MAX_FRAMES }
+    requires room { device_words frames ≤ (H.counts h.old).size }
+    requires known { IsOnDevice frames pool.now }
+    requires within { ordinal < length pool.now }
+    ensures words { H.tells → HasLowBases pool.now → (image : Image) → reads (H.state h.old).now.words ≡ image
+        → OnOk result (words.new ≡ words.old ++ slots_to types.now (stored_in frames pool.now image) ordinal puddle_slots) }
+    ensures stays { H.tells → H.state h.new ≡ H.state h.old }
+    ensures cause { H.counts h.new ≡ after_fault (fault_in result) (H.counts h.old) }
+    ensures never_cut { fault_in result ≢ Option.Some HostFault.Cut }
+{
+    let (_, puddle) = pool[ordinal as usize];
+    for slot in 0..slots_of(&puddle) {
+        let slot_words = read_slot(h, frames, pool, types, place_at(ordinal, slot) as u32)?;
+        words.push_all(&slot_words)?;
+    }
+    Ok(())
+}
+
+/// Adds the frame of the puddle of an ordinal, its slots by these types.
+fn push_frame<H: Host>(
+    h: &mut H,
+    frames: u32,
+    pool: &[(u32, Puddle)],
+    types: &[(u64, u64)],
+    ordinal: u32,
+    words: &mut WordBytes,
+) -> Result<(), ExportFault>
+    requires few { frames ≤ MAX_FRAMES }
+    requires room { device_words frames ≤ (H.counts h.old).size }
+    requires known { IsOnDevice frames pool.now }
+    requires within { ordinal < length pool.now }
+    ensures words { H.tells → HasLowBases pool.now → (image : Image) → reads (H.state h.old).now.words ≡ image
+        → OnOk result (words.new ≡ words.old ++ exported_frame types.now (stored_in frames pool.now image) ordinal) }
+    ensures stays { H.tells → H.state h.new ≡ H.state h.old }
+    ensures cause { H.counts h.new ≡ after_fault (fault_in result) (H.counts h.old) }
+    ensures never_cut { fault_in result ≢ Option.Some HostFault.Cut }
+{
+    let header = read_header(h, frames, pool, ordinal)?;
+    words.push_all(&header)?;
+    push_slots(h, frames, pool, types, ordinal, words)
+}
+
+/// Adds the frames of a pool by ordinals, their slots by these types.
+pub(crate) fn push_frames<H: Host>(
+    h: &mut H,
+    frames: u32,
+    pool: &[(u32, Puddle)],
+    types: &[(u64, u64)],
+    words: &mut WordBytes,
+) -> Result<(), ExportFault>
+    requires few { frames ≤ MAX_FRAMES }
+    requires room { device_words frames ≤ (H.counts h.old).size }
+    requires known { IsOnDevice frames pool.now }
+    ensures words { H.tells → HasLowBases pool.now → (image : Image) → reads (H.state h.old).now.words ≡ image
+        → OnOk result (words.new ≡ words.old ++ flat_map (exported_frame types.now (stored_in frames pool.now image)) (range_with_len 0 (length pool.now))) }
+    ensures stays { H.tells → H.state h.new ≡ H.state h.old }
+    ensures cause { H.counts h.new ≡ after_fault (fault_in result) (H.counts h.old) }
+    ensures never_cut { fault_in result ≢ Option.Some HostFault.Cut }
+{
+    for ordinal in 0..pool.len() as u32 {
+        push_frame(h, frames, pool, types, ordinal, words)?;
+    }
+    Ok(())
+}

@@ -1,0 +1,13 @@
+//! Export files, written of pools on a device: bytes that stand for the types and the graph of a pool, apart from the device.
+#![tactic(auto)]
+
+mod export;
+mod faults;
+mod frames;
+mod front;
+mod slots;
+mod types;
+mod words;
+
+pub use export::export_pool;
+pub use faults::ExportFault;

@@ -1,0 +1,143 @@
+//! The slots of a pool, as an export file has them.
+
+ghost use Rattle.std.specs.Prelude.{◌≡◌, ◌≢◌, ◌<◌, ◌≤◌, length, map, Option, IfOk, IfSome};
+ghost use Rattle.pm_model.specs.Words.{reads};
+ghost use Rattle.pm_model.specs.Counts.{after_fault, fault_of};
+ghost use Rattle.pud_defs.specs.Exported.{address_of, exported_value, exported_object, exported_slot};
+ghost use Rattle.pud_defs.specs.Geometry.{puddle_slots, place_at};
+ghost use Rattle.pud_defs.specs.Graph.{At};
+ghost use Rattle.pud_defs.specs.Image.{Image};
+ghost use Rattle.pud_defs.specs.Layout.{device_words};
+ghost use Rattle.pud_defs.specs.Stored.{IsOnDevice, stored_in, place_word};
+ghost use Rattle.puddle_header.specs.Places.{places_in};
+ghost use Rattle.graph_read.specs.Asking.{content_of};
+ghost use Rattle.graph_read.specs.Reading.{LeadsWithin};
+ghost use Rattle.pud_export.specs.Exporting.{HasLowBases};
+
+use crate::types::map_of;
+use graph_read::{field_word, read_pointer, type_at};
+use pm_model::{Host, HostFault};
+use pud_defs::layout::{MAX_FIELDS, MAX_FRAMES};
+use pud_defs::objects::{Pointee, is_free};
+use pud_defs::records::{MAX_PUDDLES, Puddle};
+use pud_defs::space::{
+    MAX_SLOT_WORDS, SLOT_FIELDS_WORD, SLOT_SERIAL_WORD, SLOT_TYPE_WORD, ordinal_of, slot_at,
+    slot_of, word_address,
+};
+use pud_defs::type_map::{map_fields, map_is_pointer};
+use puddle_header::serial_at;
+
+/// How many words a slot has at most.
+pub(crate) const SLOT: usize = MAX_SLOT_WORDS as usize;
+
+/// The words of a slot.
+pub(crate) type SlotWords = [u64; SLOT];
+
+/// The address of a slot of the puddle of an ordinal, where the bases are low. Else it may wrap around.
+fn place_address(pool: &[(u32, Puddle)], ordinal: u32, slot: u32) -> u64
+    requires puddle { ordinal < length pool.now }
+    requires within { slot < puddle_slots }
+    ensures { HasLowBases pool.now → result ≡ address_of (map (λ e. e.1) pool.now) (At (place_at ordinal slot)) }
+{
+    let (_, puddle) = pool[ordinal as usize];
+    word_address(puddle.base, slot_at(&puddle, slot))
+}
+
+/// The word that stands over the pool's bases for nothing or for a slot.
+fn pointee_address(pool: &[(u32, Puddle)], pointee: Pointee) -> u64
+    requires { LeadsWithin (length pool.now) pointee }
+    ensures { HasLowBases pool.now → result ≡ address_of (map (λ e. e.1) pool.now) (content_of (Option.Some pointee)) }
+{
+    match pointee {
+        Pointee::Null => 0,
+        Pointee::At { ordinal, slot } => place_address(pool, ordinal, slot),
+    }
+}
+
+/// The word that stands over the pool's bases for what a pointer leads to: 0 where it leads to nothing or nowhere.
+pub(crate) fn address_of(pool: &[(u32, Puddle)], pointee: Option<Pointee>) -> u64
+    requires { IfSome pointee (LeadsWithin (length pool.now)) }
+    ensures { HasLowBases pool.now → result ≡ address_of (map (λ e. e.1) pool.now) (content_of pointee) }
+{
+    match pointee {
+        Some(pointee) => pointee_address(pool, pointee),
+        None => 0,
+    }
+}
+
+/// What a file has for field `f` of the slot at a place, by its word and the map of the slot's type: a pointer over the pool's
+/// bases, whichever it stands over here, and a number as it is.
+fn exported_value(pool: &[(u32, Puddle)], type_map: u64, place: u32, f: u32, v: u64) -> u64
+    requires few { length pool.now ≤ MAX_PUDDLES }
+    requires within { place < places_in pool.now }
+    ensures { HasLowBases pool.now → result ≡ exported_value (map (λ e. e.1) pool.now) type_map place f v }
+{
+    if !map_is_pointer(type_map, f) {
+        return v;
+    }
+    address_of(
+        pool,
+        read_pointer(pool, ordinal_of(place), slot_of(place) + 1, v),
+    )
+}
+
+/// The words of the object at a place, whose serial and type were read: both, its fields, and 0 behind them.
+fn read_object<H: Host>(
+    h: &mut H,
+    frames: u32,
+    pool: &[(u32, Puddle)],
+    place: u32,
+    serial: u64,
+    id: u64,
+    type_map: u64,
+) -> Result<SlotWords, HostFault>
+    requires few { frames ≤ MAX_FRAMES }
+    requires room { device_words frames ≤ (H.counts h.old).size }
+    requires known { IsOnDevice frames pool.now }
+    requires within { place < places_in pool.now }
+    ensures words { H.tells → HasLowBases pool.now → (image : Image) → reads (H.state h.old).now.words ≡ image
+        → serial ≡ place_word (stored_in frames pool.now image) place SLOT_SERIAL_WORD → id ≡ place_word (stored_in frames pool.now image) place SLOT_TYPE_WORD
+        → IfOk result (λ words. words ≡ exported_object (stored_in frames pool.now image) place (Option.Some type_map)) }
+    ensures stays { H.tells → H.state h.new ≡ H.state h.old }
+    ensures cause { H.counts h.new ≡ after_fault (fault_of result) (H.counts h.old) }
+    ensures never_cut { fault_of result ≢ Option.Some HostFault.Cut }
+{
+    let mut words = [0; SLOT];
+    words[SLOT_SERIAL_WORD as usize] = serial;
+    words[SLOT_TYPE_WORD as usize] = id;
+    for f in 0..map_fields(type_map).min(MAX_FIELDS) {
+        let v = field_word(h, frames, pool, place, f)?;
+        words[(SLOT_FIELDS_WORD + f) as usize] = exported_value(pool, type_map, place, f, v);
+    }
+    Ok(words)
+}
+
+/// The words of the slot at a place, by these types: those of its object, or 0 alone where it is free or its type is none of
+/// them. Its serial, its type and each field are read once, of a free slot the serial alone.
+pub(crate) fn read_slot<H: Host>(
+    h: &mut H,
+    frames: u32,
+    pool: &[(u32, Puddle)],
+    types: &[(u64, u64)],
+    place: u32,
+) -> Result<SlotWords, HostFault>
+    requires few { frames ≤ MAX_FRAMES }
+    requires room { device_words frames ≤ (H.counts h.old).size }
+    requires known { IsOnDevice frames pool.now }
+    requires within { place < places_in pool.now }
+    ensures words { H.tells → HasLowBases pool.now → (image : Image) → reads (H.state h.old).now.words ≡ image
+        → IfOk result (λ words. words ≡ exported_slot types.now (stored_in frames pool.now image) place) }
+    ensures stays { H.tells → H.state h.new ≡ H.state h.old }
+    ensures cause { H.counts h.new ≡ after_fault (fault_of result) (H.counts h.old) }
+    ensures never_cut { fault_of result ≢ Option.Some HostFault.Cut }
+{
+    let serial = serial_at(h, frames, pool, place)?;
+    if is_free(serial) {
+        return Ok([0; SLOT]);
+    }
+    let id = type_at(h, frames, pool, place)?;
+    match map_of(types, id) {
+        Some(type_map) => read_object(h, frames, pool, place, serial, id, type_map),
+        None => Ok([0; SLOT]),
+    }
+}
