@@ -1,0 +1,5 @@
+use Rattle.pud_import.proofs.FileParts.{file_graph-limit}
+use Rattle.pud_import.proofs.laws.front_of_a_file_decides.Goals as goal
+
+pub returns : goal.returns
+returns c = file_graph-limit

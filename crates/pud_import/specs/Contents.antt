@@ -1,0 +1,52 @@
+-- What a file holds, by its bytes alone.
+use Rattle.std.specs.Prelude.{ℕ, ◌*◌, Bool, ◌&&◌, ◌==◌, List, length, slice_index, is_some}
+use Rattle.std.specs.List.{list_all, list_any, range_with_len}
+use Rattle.pud_defs.specs.declared.files.TheConstants.{FILE_TYPES_WORD, FILE_PUDDLES_WORD}
+use Rattle.pud_defs.specs.Image.{Image}
+use Rattle.pud_defs.specs.Graph.{Graph, graph_of}
+use Rattle.pud_defs.specs.Stored.{Stored, places_of}
+use Rattle.pud_defs.specs.ExportFile.{FileContents, words_in, file_words, file_types, file_stored, has_file_header, are_file_types, are_file_bases, is_plain}
+use Rattle.graph_laws.specs.Slots.{is_of_type}
+
+-- the words that they spell
+abbrev pub file_image : (bytes : List ℕ) → Image
+file_image bytes = slice_index (words_in bytes)
+
+-- how many types the header says there are, and how many puddles
+abbrev pub types_counted : (bytes : List ℕ) → ℕ
+types_counted bytes = file_image bytes FILE_TYPES_WORD
+
+abbrev pub puddles_counted : (bytes : List ℕ) → ℕ
+puddles_counted bytes = file_image bytes FILE_PUDDLES_WORD
+
+-- the types
+abbrev pub types_held : (bytes : List ℕ) → List (ℕ × ℕ)
+types_held bytes = file_types (file_image bytes) (types_counted bytes)
+
+-- the records of the puddles, and their frames
+abbrev pub stored_held : (bytes : List ℕ) → Stored
+stored_held bytes = file_stored (file_image bytes) (types_counted bytes) (puddles_counted bytes)
+
+-- what they hold with this graph
+abbrev pub contents_held : (bytes : List ℕ) → Graph → FileContents
+contents_held bytes g = record { types = types_held bytes; puddles = puddles_counted bytes; graph = g }
+
+-- an object of the type lives in some slot
+abbrev pub is_used_in : Stored → (id : ℕ) → Bool
+is_used_in st id = list_any (is_of_type st id) (range_with_len 0 (places_of st))
+
+-- ---- the tests of a file
+
+-- the bytes have a header, and are as many as it says
+abbrev pub is_sized : (bytes : List ℕ) → Bool
+is_sized bytes =
+    length bytes == 8 * length (words_in bytes)
+    && (has_file_header (file_image bytes) (types_counted bytes) (puddles_counted bytes) && length (words_in bytes) == file_words (types_counted bytes) (puddles_counted bytes))
+
+-- what stands behind the header of so many types and puddles is that of a file: the types are legal, the bases are, each word that is not
+-- read is 0, the frames store a graph, and of each type an object lives in some slot
+abbrev pub is_sound : Image → (T K : ℕ) → Bool
+is_sound words T K =
+    let types = file_types words T in
+    let st = file_stored words T K in
+    are_file_types types && are_file_bases st.puddles && is_plain types st && is_some (graph_of types st) && list_all (λ t. is_used_in st t.0) types

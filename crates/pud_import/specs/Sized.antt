@@ -1,0 +1,18 @@
+-- What bytes hold of which the counts are known, word by word.
+use Rattle.std.specs.Prelude.{ℕ, List, slice_index}
+use Rattle.pud_defs.specs.Image.{Image}
+use Rattle.pud_defs.specs.Stored.{Stored}
+use Rattle.pud_defs.specs.ExportFile.{words_in, file_types, file_stored}
+use Rattle.pud_import.specs.declared.sized_file.SizedFile.{SizedFile}
+
+-- its words
+abbrev pub words_of : SizedFile → Image
+words_of f = slice_index (words_in f.bytes.now)
+
+-- its types
+abbrev pub types_in : SizedFile → List (ℕ × ℕ)
+types_in f = file_types (words_of f) f.types
+
+-- the records of its puddles, and their frames
+abbrev pub stored_of : SizedFile → Stored
+stored_of f = file_stored (words_of f) f.types f.puddles

@@ -1,0 +1,48 @@
+//! A file that answers as a device, so that what reads a device reads a file.
+
+ghost use Rattle.std.specs.Prelude.{◌≡◌, ◌<◌};
+ghost use Rattle.pud_defs.specs.Layout.{device_words};
+ghost use Rattle.pud_import.specs.Answers.{as_device};
+ghost use Rattle.pud_import.specs.Sized.{words_of};
+
+use crate::sized_file::SizedFile;
+use pm_model::{HostFault, Loads};
+use pud_defs::files::{FILE_HEADER_WORDS, file_frames_at};
+use pud_defs::layout::{TYPE_RECORD_WORDS, TYPE_TABLE, frames_at};
+
+impl<'a> SizedFile<'a> {
+    /// Word `w` of the device as which the file answers: it has the file's types in its type table, from the first record on,
+    /// and a frame for each puddle, and all its other words are 0.
+    fn device_word(&self, w: u32) -> u64
+        requires { w < device_words self.now.puddles }
+        ensures { result ≡ as_device (words_of self.now) self.now.types self.now.puddles w }
+    {
+        let frames = frames_at(self.puddles);
+        if w >= frames {
+            return self.word(file_frames_at(self.types, self.puddles) + (w - frames));
+        }
+        let end = TYPE_TABLE + TYPE_RECORD_WORDS * self.types;
+        if w >= TYPE_TABLE && w < end {
+            return self.word(FILE_HEADER_WORDS + (w - TYPE_TABLE));
+        }
+        0
+    }
+}
+
+impl<'a> Loads for SizedFile<'a> {
+    ghost use Rattle.std.specs.Prelude.{slice_index};
+    ghost use Rattle.pm_model.specs.Counts.{fresh_counts};
+    ghost use Rattle.pud_defs.specs.ExportFile.{words_in};
+    ghost use Rattle.pud_defs.specs.Layout.{device_words};
+    ghost use Rattle.pud_import.specs.Answers.{as_device, holding};
+
+    ghost tells = { Unit {0} };
+
+    ghost state = { λ f. holding (as_device (slice_index (words_in f.bytes.now)) f.types f.puddles) };
+
+    ghost counts = { λ f. fresh_counts (device_words f.puddles) };
+
+    fn load_word(&mut self, w: u32) -> Result<u64, HostFault> {
+        Ok(self.device_word(w))
+    }
+}

@@ -1,0 +1,100 @@
+//! An export file, read.
+
+ghost use Rattle.std.specs.Prelude.{◌≡◌, ◌+◌, ◌<◌, ◌≤◌, option_map, is_some, IfOk};
+ghost use Rattle.std.specs.Result.{is_ok};
+ghost use Rattle.pud_defs.specs.declared.layout.TheConstants.{FRAME_WORDS, TYPE_RECORDS};
+ghost use Rattle.pud_defs.specs.declared.records.TheConstants.{MAX_PUDDLES};
+ghost use Rattle.pud_defs.specs.ExportFile.{file_type, file_bases_at, file_graph};
+ghost use Rattle.pud_defs.specs.Exported.{IsExportable};
+ghost use Rattle.pud_defs.specs.Graph.{graph_of};
+ghost use Rattle.pud_import.specs.Contents.{file_image, types_counted, puddles_counted, types_held, stored_held, contents_held};
+
+use crate::header::sized;
+use crate::sized_file::SizedFile;
+use std::marker::Model;
+
+/// The bytes are no export file.
+#[derive(Clone, Copy, Debug, PartialEq, Eq, thiserror::Error)]
+#[error("the bytes are no export file")]
+pub struct BadFile;
+
+/// An export file. Contracts see it as its bytes.
+#[derive(Drop)]
+pub struct FileView<'a> {
+    file: SizedFile<'a>,
+}
+
+impl<'a> Model for FileView<'a> {
+    ghost use Rattle.std.specs.Prelude.{◌≡◌, ℕ, true, List, is_some};
+    ghost use Rattle.pud_defs.specs.ExportFile.{file_graph};
+    ghost use Rattle.pud_import.specs.Contents.{types_counted, puddles_counted};
+
+    ghost Value = { List ℕ };
+
+    ghost view = { λ v. v.file.bytes.now };
+
+    ghost invariant = { λ v. (is_some (file_graph v.file.bytes.now) ≡ true) × (v.file.types ≡ types_counted v.file.bytes.now) × (v.file.puddles ≡ puddles_counted v.file.bytes.now) };
+}
+
+/// The export file that the bytes are, or `BadFile` exactly where they are none, whatever they hold.
+///
+/// No memory is taken. How much is read goes by the two counts of the header alone, of at most 64 types and 16 puddles, and no
+/// more than the header is read where the bytes are not as many as these counts say. Each word of a frame is read once, but for
+/// its number, which is read twice, and the serial and the type id in a slot, which are read twice, and once more for each type
+/// that is listed.
+pub fn read_file(bytes: &[u8]) -> Result<FileView<'_>, BadFile>
+    ensures file { is_ok result ≡ is_some (file_graph bytes.now) }
+    ensures view { IfOk result (λ view. view ≡ bytes.now) }
+    ensures contents { IfOk result (λ view. file_graph bytes.now ≡ option_map (contents_held view) (graph_of (types_held view) (stored_held view))) }
+    ensures legal { IfOk result (λ view. IsExportable (types_held view) (stored_held view)) }
+{
+    match sized(bytes) {
+        Some(file) if file.is_sound() => Ok(FileView { file }),
+        _ => Err(BadFile),
+    }
+}
+
+impl<'a> FileView<'a> {
+    /// How many types the file lists, at most 64.
+    pub fn types(&self) -> u32
+        ensures counted { result ≡ types_counted self.now }
+        ensures most { result ≤ TYPE_RECORDS }
+    {
+        self.file.types
+    }
+
+    /// The id and the map of type `i`, in the order of the ids.
+    pub fn type_at(&self, i: u32) -> (u32, u64)
+        requires { i < types_counted self.now }
+        ensures { result ≡ file_type (file_image self.now) i }
+    {
+        let (id, map) = self.file.type_at(i);
+        (id as u32, map)
+    }
+
+    /// How many puddles the file has, 1 to 16.
+    pub fn puddles(&self) -> u32
+        ensures counted { result ≡ puddles_counted self.now }
+        ensures some { 1 ≤ result }
+        ensures most { result ≤ MAX_PUDDLES }
+    {
+        self.file.puddles
+    }
+
+    /// The base of the puddle of an ordinal, over which the file's pointers stand.
+    pub fn base(&self, ordinal: u32) -> u64
+        requires { ordinal < puddles_counted self.now }
+        ensures { result ≡ file_image self.now (file_bases_at (types_counted self.now) + ordinal) }
+    {
+        self.file.base(ordinal)
+    }
+
+    /// Word `w` of the frame of an ordinal.
+    pub fn frame_word(&self, ordinal: u32, w: u32) -> u64
+        requires known { ordinal < puddles_counted self.now }
+        requires within { w < FRAME_WORDS }
+        ensures { result ≡ (stored_held self.now).word ordinal w }
+    {
+        self.file.frame_word(ordinal, w)
+    }
+}

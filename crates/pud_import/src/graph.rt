@@ -1,0 +1,28 @@
+//! Whether what a file's frames store is a graph.
+
+ghost use Rattle.std.specs.Prelude.{◌≡◌, is_some};
+ghost use Rattle.pud_defs.specs.Graph.{graph_of};
+ghost use Rattle.pud_defs.specs.Stored.{IsOnDevice, stored_in};
+ghost use Rattle.pud_defs.specs.Types.{types_of};
+ghost use Rattle.pud_import.specs.Answers.{as_device};
+ghost use Rattle.pud_import.specs.Sized.{words_of};
+
+use crate::sized_file::SizedFile;
+use graph_read::pool_is_sound;
+use pud_defs::records::Puddle;
+
+impl<'a> SizedFile<'a> {
+    /// Whether what these puddles store is a graph, of the device as which the file answers. It is judged as a pool on a device
+    /// is.
+    pub(crate) fn has_graph(&self, pool: &[(u32, Puddle)]) -> bool
+        requires { IsOnDevice self.now.puddles pool.now }
+        ensures { let image = as_device (words_of self.now) self.now.types self.now.puddles in
+            result ≡ is_some (graph_of (types_of image) (stored_in self.now.puddles pool.now image)) }
+    {
+        let mut words = *self;
+        match pool_is_sound(&mut words, self.puddles, pool) {
+            Ok(sound) => sound,
+            Err(_) => false,
+        }
+    }
+}

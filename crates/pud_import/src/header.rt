@@ -1,0 +1,70 @@
+//! The header of a file, and how many words it says there are.
+
+ghost use Rattle.std.specs.Prelude.{◌≡◌, ◌≤◌, ◌*◌, ◌&&◌, ◌==◌, nat_le, length, is_some, IfSome};
+ghost use Rattle.pud_defs.specs.ExportFile.{has_file_header};
+ghost use Rattle.pud_import.specs.Contents.{file_image, types_counted, puddles_counted, is_sized};
+
+use crate::sized_file::SizedFile;
+use crate::words::{WORD, word_at};
+use pud_defs::files::{
+    FILE_HEADER_WORDS, FILE_MAGIC, FILE_MAGIC_WORD, FILE_PUDDLES_WORD, FILE_TYPES_WORD,
+    FILE_VERSION, FILE_VERSION_WORD, file_words,
+};
+use pud_defs::layout::TYPE_RECORDS;
+use pud_defs::records::MAX_PUDDLES;
+
+/// Whether these are the words of a header that are not free to be any: the magic, the version, the counts, and the two words
+/// that are 0.
+fn is_header(magic: u64, version: u64, types: u64, puddles: u64, sixth: u64, seventh: u64) -> bool
+    ensures { result ≡ (magic == FILE_MAGIC && version == FILE_VERSION && nat_le types TYPE_RECORDS && nat_le 1 puddles && nat_le puddles MAX_PUDDLES && sixth == 0 && seventh == 0) }
+{
+    magic == FILE_MAGIC
+        && version == FILE_VERSION
+        && types <= u64::from(TYPE_RECORDS)
+        && puddles >= 1
+        && puddles <= u64::from(MAX_PUDDLES)
+        && sixth == 0
+        && seventh == 0
+}
+
+/// Whether the bytes have the header of an export file of so many types and puddles.
+fn has_header(bytes: &[u8], types: u64, puddles: u64) -> bool
+    requires { 8 * FILE_HEADER_WORDS ≤ length bytes.now }
+    ensures { result ≡ has_file_header (file_image bytes.now) types puddles }
+{
+    is_header(
+        word_at(bytes, FILE_MAGIC_WORD),
+        word_at(bytes, FILE_VERSION_WORD),
+        types,
+        puddles,
+        word_at(bytes, 6),
+        word_at(bytes, 7),
+    )
+}
+
+/// The bytes with their counts, or None where they have no header, or not as many words as it says. Six words of the header are
+/// read, once.
+pub(crate) fn sized(bytes: &[u8]) -> Option<SizedFile<'_>>
+    ensures sized { is_some result ≡ is_sized bytes.now }
+    ensures bytes { IfSome result (λ file. file.bytes.now ≡ bytes.now) }
+    ensures types { IfSome result (λ file. file.types ≡ types_counted bytes.now) }
+    ensures puddles { IfSome result (λ file. file.puddles ≡ puddles_counted bytes.now) }
+{
+    if bytes.len() < WORD * FILE_HEADER_WORDS as usize {
+        return None;
+    }
+    let types = word_at(bytes, FILE_TYPES_WORD);
+    let puddles = word_at(bytes, FILE_PUDDLES_WORD);
+    if !has_header(bytes, types, puddles) {
+        return None;
+    }
+    let (types, puddles) = (types as u32, puddles as u32);
+    if bytes.len() != WORD * file_words(types, puddles) as usize {
+        return None;
+    }
+    Some(SizedFile {
+        bytes,
+        types,
+        puddles,
+    })
+}

@@ -1,0 +1,21 @@
+//! Export files, read: whether bytes are a file, and what the file holds. No memory is taken.
+//!
+//! The judge of graphs is that of pools on devices: a file answers it as a device that has the file's types in its type table
+//! and the file's frames as its own.
+#![tactic(auto)]
+
+mod bases;
+mod contents;
+mod device;
+mod file_view;
+mod graph;
+mod header;
+mod judge;
+pub mod laws;
+mod plain;
+mod sized_file;
+mod types;
+mod types_used;
+mod words;
+
+pub use file_view::{BadFile, FileView, read_file};
