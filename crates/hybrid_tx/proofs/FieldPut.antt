@@ -24,7 +24,7 @@ use Rattle.pud_defs.specs.Stored.{stored_in}
 use Rattle.pud_defs.specs.Graph.{Graph, graph_of}
 use Rattle.pud_defs.specs.GraphChanges.{with_field}
 use Rattle.pud_defs.specs.Laters.{Later}
-use Rattle.graph_laws.specs.Rewriting.{address_in}
+use Rattle.pud_defs.specs.Exported.{address_in}
 use Rattle.graph_laws.proofs.Words.{few_fields}
 use Rattle.puddle_header.specs.Places.{place_of_slot, IsSlotOf}
 use Rattle.graph_read.specs.Reading.{place_in_pool}

@@ -22,7 +22,7 @@ use Rattle.pud_defs.proofs.Replay.{overwritten-there, overwritten-stays, value_a
 use Rattle.pud_defs.specs.GraphChanges.{with_field}
 use Rattle.graph_laws.specs.Changes.{with_word, with_words, with_field_word, IsAddress, IsField}
 use Rattle.graph_laws.specs.Reads.{HasDistinctFrames}
-use Rattle.graph_laws.specs.Rewriting.{address_in}
+use Rattle.pud_defs.specs.Exported.{address_in}
 use Rattle.graph_laws.proofs.Fields.{graph_of-number, graph_of-null, graph_of-reference}
 use Rattle.graph_laws.proofs.Places.{object_in-place}
 use Rattle.graph_laws.proofs.StoredImages.{stored_in-written}

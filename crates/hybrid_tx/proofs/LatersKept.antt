@@ -15,7 +15,7 @@ use Rattle.pud_defs.specs.Entries.{Entry}
 use Rattle.pud_defs.specs.Stored.{Stored, stored_in, place_word}
 use Rattle.pud_defs.specs.Graph.{slot_address, under_serial, Object, Graph, object_in}
 use Rattle.pud_defs.specs.Laters.{Later}
-use Rattle.graph_laws.specs.Rewriting.{address_in}
+use Rattle.pud_defs.specs.Exported.{address_in}
 use Rattle.graph_laws.proofs.Words.{place_of-some}
 use Rattle.puddle_header.specs.Places.{places_in}
 use Rattle.graph_read.specs.Reading.{place_in_pool, table_in}

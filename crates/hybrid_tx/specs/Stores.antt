@@ -11,7 +11,7 @@ use Rattle.pud_defs.specs.Image.{Image}
 use Rattle.pud_defs.specs.Frames.{frame_at}
 use Rattle.pud_defs.specs.Replay.{over, IsInLog}
 use Rattle.pud_defs.specs.Graph.{At}
-use Rattle.graph_laws.specs.Rewriting.{address_of}
+use Rattle.pud_defs.specs.Exported.{address_of}
 use Rattle.graph_read.specs.Reading.{place_in_pool}
 
 -- the address of the slot at a place, over the pool's bases

@@ -1,30 +1,26 @@
 -- The pool on which a transaction is held grows by a puddle, and the transaction then has it too; the others stay.
-use Rattle.std.proofs.Common.{◌≡◌, ◌≢◌, inl, inr, ℕ, ◌+◌, Bool, true, false, not, cond, List, [], ◌∷◌, ◌++◌, length, Option, Some, None, is_some, refl, sym, ap, subst, ◌∙◌, arith}
+use Rattle.std.proofs.Common.{◌≡◌, ◌≢◌, inl, inr, ℕ, ◌+◌, ◌<◌, List, [], ◌∷◌, ◌++◌, length, Option, Some, None, refl, sym, ap, subst, ◌∙◌, arith}
 use Rattle.std.specs.Prelude.{set, slice_get}
 use Rattle.std.specs.FinMap.Entries.{find, find-put}
 use Rattle.std.specs.Cmp.{tied_itself}
 use Rattle.std.specs.Cmp.Lexicographic.{nat_list_cmp_total}
 use Rattle.std.specs.Ordering.{is_eq}
-use Rattle.std.proofs.lemmas.Bool.{cases_lt, cond-true, and_from}
+use Rattle.std.proofs.lemmas.Bool.{cases_lt, cond-true}
 use Rattle.std.proofs.lemmas.List.{length_push}
 use Rattle.std.proofs.lemmas.Option.{none-some, same_Some, slice_get_within}
 use Rattle.pm_model.specs.declared.host.HostFault.{HostFault}
 use Rattle.pm_model.specs.declared.host.HostFault.TheVariants.{Cut}
-use Rattle.pm_model.specs.Words.{Words, IsRested, reads}
+use Rattle.pm_model.specs.Words.{Words, reads}
 use Rattle.pm_model.specs.Moments.{State}
 use Rattle.pm_model.specs.Changes.{Write, Leaves, Silently}
 use Rattle.pm_model.specs.Masks.{masked, masked_state}
 use Rattle.pm_model.proofs.Changes.{Changes-said}
 use Rattle.pm_model.proofs.Masks.{reads-masked}
 use Rattle.pud_defs.specs.declared.layout.TheConstants.{DAEMON_LOG, NEXT_NUMBER_WORD}
-use Rattle.pud_defs.specs.declared.machine.Refusal.{Refusal}
-use Rattle.pud_defs.specs.declared.machine.Refusal.TheVariants as refusals
-use Rattle.pud_defs.specs.declared.records.PoolRec.{PoolRec}
 use Rattle.pud_defs.specs.declared.records.Puddle.{Puddle}
 use Rattle.pud_defs.specs.Frames.{IsFreshFrame}
-use Rattle.pud_defs.specs.Graph.{Graph, graph_of}
+use Rattle.pud_defs.specs.Graph.{graph_of}
 use Rattle.pud_defs.specs.Image.{Image}
-use Rattle.pud_defs.specs.Keyed.{first_free}
 use Rattle.pud_defs.specs.Names.{name_cmp}
 use Rattle.pud_defs.specs.PoolChanges.{pool_named, with_puddle_more, with_grown_pool}
 use Rattle.pud_defs.specs.SoundTables.{HasSoundTables}
@@ -39,28 +35,33 @@ use Rattle.pud_defs.proofs.PoolsCounted.{length_puddles}
 use Rattle.pud_defs.proofs.TablesOf.{frames_of_tables}
 use Rattle.graph_laws.proofs.Grown.{slice_get-front, slice_get-push}
 use Rattle.batch.specs.Batches.{HasIdleGate}
-use Rattle.batch.specs.Worlds.{IsSettled}
-use Rattle.registry.specs.Pools.{OrStill, KeepsTables, IsPoolAt, ChangesPools}
-use Rattle.registry.specs.Growth.{puddle_count, has_room, can_grow, GrowsSomewhere, HasFreshPuddle, IsOffGrowing, HoldsGraph}
+use Rattle.registry.specs.declared.adding.Added.{Added}
+use Rattle.registry.specs.Puts.{puts_batch}
+use Rattle.registry.specs.Adding.{filling, IsFilled, PersistsThenCommits, IsOffAdding}
+use Rattle.registry.specs.Pools.{KeepsTables, ChangesPools, ChangesMasked}
+use Rattle.registry.specs.Growth.{puddle_count, IsGrowthFor, growing, added_puddle, GrowsAt}
 use Rattle.registry.proofs.Changed.{changed_there}
-use Rattle.registry.proofs.GrowthAllowed.{puddle_count_by_world}
+use Rattle.registry.proofs.PuddlesCounted.{puddle_count_by_world}
 use Rattle.registry.proofs.Moved.{ReadsWorld, reads_world}
 use Rattle.ready_daemon.specs.Memory.{Held, Memory, held_under, with_held}
 use Rattle.ready_daemon.specs.Held.{puddles_in, IsHeld, Holds, HasDurableFrames, ByOthers, IsBeside}
 use Rattle.ready_daemon.specs.KnownPools.{KnowsPools}
-use Rattle.pool_transaction.specs.Changing.{StaysOpen, refusal_to_grow, refusal_by_tables, with_more}
+use Rattle.pool_transaction.specs.Changing.{StaysOpen, GrowsBy, with_more}
 use Rattle.ready_daemon.specs.Ready.{IsReady, StandsBetween, AppliesMasked, Applies}
 use Rattle.ready_daemon.proofs.Beside.{KeepsOne, holds_still, durable_frames_still, moments_beside}
 use Rattle.ready_daemon.proofs.Beneath.{ready_gate, keeps_tables}
 use Rattle.ready_daemon.proofs.PoolsBeside.{used_still, members_still}
-use Rattle.ready_daemon.proofs.PoolsApart.{found_beside_put, AppliesMasked-pools}
+use Rattle.ready_daemon.proofs.PoolsApart.{frame_below, found_beside_put, IsBeside-adds, AppliesMasked-pools}
 use Rattle.ready_daemon.proofs.TablesBeside.{HasDurableTables-masked, header_read, tables_read, under_durable}
 use Rattle.pool_transaction.proofs.HeldRuns.{is_held}
 use Rattle.pool_transaction.proofs.HeldPools.{its_pool, its_graph, count_held, puddles_counted, some_held}
 use Rattle.ready_daemon.proofs.InTurn.{all_members}
 use Rattle.ready_daemon.proofs.JudgedPools.{KeepsPools-grow}
 use Rattle.pool_transaction.proofs.HeldChanged.{KnowsPools-later}
-use Rattle.ready_daemon.proofs.PoolsGrown.{IsGrownBy, off_growing, IsBeside-grows, grown_somewhere}
+use Rattle.ready_daemon.proofs.PoolsGrown.{off_growing, grown_read}
+use Rattle.ready_daemon.proofs.JudgedKept.{KeepsPools}
+use Rattle.pud_defs.specs.Puts.{member_by, with_puddle_at}
+use Rattle.pud_defs.specs.declared.records.TheConstants.{POOL_RECORDS}
 use Rattle.pool_transaction.proofs.Widened.{GrowsHeld, wide, holds_more, sessions_more, settled_more, rest_more, logs_more}
 
 -- ---- the world
@@ -90,20 +91,9 @@ pub found_beside_more : (name other : List ℕ) (s : StoredWorld) (p : Pool) →
 unfolding with_grown_pool
 found_beside_more name other s p there apart = ap (find name_cmp other) (changed_there name with_puddle_more s.pools p there) ∙ found_beside_put name other (with_puddle_more p) s.pools apart
 
--- ---- what is not refused
-
-not_so : (b : Bool) (r : Refusal) (rest : Option Refusal) → cond (not b) (Some r) rest ≡ None → (b ≡ true) × (rest ≡ None)
-not_so true r rest none = (refl, none)
-not_so false r rest none = absurd (none-some r (sym none))
-
-pub may_grow : (puddles number : ℕ) (free : Bool) → refusal_to_grow puddles number free ≡ None → (has_room puddles number ≡ true) × (free ≡ true)
-may_grow puddles number free none =
-    let room = not_so (has_room puddles number) refusals.Full _ none in
-    (room.0, (not_so free refusals.Space None room.1).0)
-
 -- ---- a daemon that is ready, and holds it
 
-module _ (size : ℕ) (w : World) (memory : Memory) (held : Held) (old : State) (number : ℕ) (there : held_under memory.held number ≡ Some held) (ready : IsReady size w memory old) where
+module _ (size : ℕ) (w : World) (memory : Memory) (held : Held) (old : State) (number : ℕ) (there : held_under memory.held number ≡ Some held) (ready : IsReady size w memory old) (a : Added) where
   abbrev F : ℕ
   F = w.stored.frames
 
@@ -119,40 +109,55 @@ module _ (size : ℕ) (w : World) (memory : Memory) (held : Held) (old : State) 
 
   -- what the call owes that makes the pool grow, on so many frames
   abbrev pub OwesGrowth : ℕ → Option HostFault → State → Type 0
-  OwesGrowth n fault new = HasIdleGate DAEMON_LOG old.now.words → can_grow (tables_of n image) (image NEXT_NUMBER_WORD) held.slot ≡ true
-      → OrStill (GrowsSomewhere (tables_of n image) (image NEXT_NUMBER_WORD) held.slot) fault old new
+  OwesGrowth n fault new = HasIdleGate DAEMON_LOG old.now.words → PersistsThenCommits (filling n a) (puts_batch (growing a)) fault old new
 
   abbrev pub OwesWorld : ℕ → Option HostFault → State → Type 0
-  OwesWorld n fault new = (mask : Write) → KeepsTables n mask image → IsOffGrowing mask (tables_of n image) (image NEXT_NUMBER_WORD) held.slot → IsSettled size w.stored (masked mask old.now.words)
-      → (r : PoolRec) → IsPoolAt n held.slot r (masked mask old.now.words) → (g : Graph) → HoldsGraph r.name w.stored g → can_grow (tables_of n image) (image NEXT_NUMBER_WORD) held.slot ≡ true
-      → ChangesPools size w.stored (with_grown_pool r.name w.stored) (HasFreshPuddle (tables_of n image) w.stored.next_number (puddle_count (tables_of n image) held.slot)) fault (masked_state mask old) (masked_state mask new)
+  OwesWorld n fault new = (mask : Write) → GrowsAt size w.stored (with_grown_pool held.name w.stored) n a mask old.now.words → ChangesMasked mask size w.stored (with_grown_pool held.name w.stored) (IsFilled n a) fault old new
 
-  module _ (none : refusal_by_tables F held image ≡ None) (fault : Option HostFault) (new : State) (grows : OwesGrowth F fault new) (worlds : OwesWorld F fault new)
-      (rests : fault ≡ Some Cut → IsRested new.now.words) where
-    can : can_grow (tables_of F image) (image NEXT_NUMBER_WORD) held.slot ≡ true
-    can =
-        let may = may_grow (length held.at) (image NEXT_NUMBER_WORD) (is_some (first_free (tables_of F image).puddles 0 (tables_of F image).frames)) none in
-        and_from (has_room (puddle_count (tables_of F image) held.slot) (image NEXT_NUMBER_WORD)) (is_some (first_free (tables_of F image).puddles 0 (tables_of F image).frames))
-        (ap (λ (n : ℕ). has_room n (image NEXT_NUMBER_WORD)) (count_held size w memory held old number there ready) ∙ may.0) may.1
+  module _ (by : GrowsBy F held image a) where
+    slot_is : a.puddle.pool ≡ held.slot
+    slot_is = by.puddle.slot_is
 
-    off : IsOffGrowing ready.mask (tables_of F image) (image NEXT_NUMBER_WORD) held.slot
-    off = off_growing w memory.held ready.mask old.now.words ready.held (image NEXT_NUMBER_WORD) held.slot
+    within : a.puddle.pool < POOL_RECORDS
+    within = let below = is.pool.slot in omega (arith, slot_is)
 
-    does : OrStill (GrowsSomewhere (tables_of F image) (image NEXT_NUMBER_WORD) held.slot) fault old new
-    does = grows (ready_gate size w memory old ready) can
+    known : a.frame < F
+    known = frame_below w memory.held ready.mask old.now.words ready.held a.frame by.puddle.frame
 
+    off : IsOffAdding ready.mask F a (growing a)
+    off = off_growing w memory.held ready.mask old.now.words ready.held a by.puddle.frame within
+
+    abbrev IsNext : Tables → ℕ → Type 0
+    IsNext t n = IsGrowthFor t n a.puddle.pool (puddle_count t a.puddle.pool) a
+
+    next_read : IsNext (tables_of F image) (image NEXT_NUMBER_WORD)
+    next_read =
+        subst (λ (n : ℕ). IsGrowthFor (tables_of F image) (image NEXT_NUMBER_WORD) a.puddle.pool n a) (sym (count_held size w memory held old number there ready) ∙ ap (puddle_count (tables_of F image)) (sym slot_is))
+        (subst (λ (n : ℕ). IsGrowthFor (tables_of F image) (image NEXT_NUMBER_WORD) n (length held.at) a) (sym slot_is) by)
+
+    grows_at : GrowsAt size w.stored (with_grown_pool held.name w.stored) F a ready.mask old.now.words
+    grows_at = record {
+      frames = refl;
+      off = off;
+      settled = ready.settled;
+      pool = is.rec;
+      at = record {
+        tables = under_durable size w memory old ready;
+        used = ap (λ (t : Tables). t.pools a.puddle.pool) (tables_read size w memory old ready) ∙ ap (tables_of F image).pools slot_is ∙ used_still w held ready.mask old.now.words is;
+      };
+      is = subst (λ (t : Tables). IsNext t w.stored.next_number) (sym (tables_read size w memory old ready)) (subst (IsNext (tables_of F image)) (header_read size w memory old ready).next_number next_read);
+      grown = inl (is.undone, its_graph size w memory held old number there ready, ap (λ (name : List ℕ). with_grown_pool name w.stored) (sym is.name));
+    }
+
+  module _ (by : GrowsBy F held image a) (fault : Option HostFault) (new : State) (grows : OwesGrowth F fault new) (worlds : OwesWorld F fault new) where
     beside : IsBeside ready.mask fault old new
-    beside = IsBeside-grows ready.mask (tables_of F image) (image NEXT_NUMBER_WORD) held.slot fault old new off (ready_gate size w memory old ready) rests does
+    beside = IsBeside-adds ready.mask F a (growing a) fault old new (off by) (ready_gate size w memory old ready) (grows (ready_gate size w memory old ready))
 
-    changes : ChangesPools size w.stored (with_grown_pool held.name w.stored) (HasFreshPuddle (tables_of F image) w.stored.next_number (puddle_count (tables_of F image) held.slot)) fault (masked_state ready.mask old) (masked_state ready.mask new)
-    changes =
-        subst (λ (name : List ℕ). ChangesPools size w.stored (with_grown_pool name w.stored) (HasFreshPuddle (tables_of F image) w.stored.next_number (puddle_count (tables_of F image) held.slot)) fault (masked_state ready.mask old) (masked_state ready.mask new)) is.name
-        (worlds ready.mask (keeps_tables w memory.held ready.mask old.now.words ready.held) off ready.settled is.rec
-        (record { tables = under_durable size w memory old ready; used = ap (λ (t : Tables). t.pools held.slot) (tables_read size w memory old ready) ∙ used_still w held ready.mask old.now.words is })
-        is.undone (its_graph size w memory held old number there ready) can)
+    changes : ChangesPools size w.stored (with_grown_pool held.name w.stored) (IsFilled F a) fault (masked_state ready.mask old) (masked_state ready.mask new)
+    changes = worlds ready.mask (grows_at by)
 
     masks : AppliesMasked size w next ready.mask fault old new
-    masks = AppliesMasked-pools size w memory (with_grown_pool held.name w.stored) (HasFreshPuddle (tables_of F image) w.stored.next_number (puddle_count (tables_of F image) held.slot)) fault old new ready beside changes (grown_frames held.name w.stored)
+    masks = AppliesMasked-pools size w memory (with_grown_pool held.name w.stored) (IsFilled F a) fault old new ready beside changes (grown_frames held.name w.stored)
 
     -- at every moment each image stands for the world before, or for the one with the puddle
     pub moments_grown : Leaves (Silently (StandsBetween size w next)) old new
@@ -170,10 +175,7 @@ module _ (size : ℕ) (w : World) (memory : Memory) (held : Held) (old : State) 
 
   -- ---- the transaction has the puddle too
 
-  module _ (none : refusal_by_tables F held image ≡ None) (new : State) (grows : OwesGrowth F None new) (worlds : OwesWorld F None new) where
-    no_cut : None ≡ Some Cut → IsRested new.now.words
-    no_cut cut = absurd (none-some Cut cut)
-
+  module _ (by : GrowsBy F held image a) (new : State) (grows : OwesGrowth F None new) (worlds : OwesWorld F None new) where
     abbrev words : Words
     words = new.now.words
 
@@ -184,7 +186,7 @@ module _ (size : ℕ) (w : World) (memory : Memory) (held : Held) (old : State) 
     under = reads (masked ready.mask words)
 
     done : AppliesMasked size w next ready.mask None old new
-    done = masks none None new grows worlds no_cut
+    done = masks by None new grows worlds
 
     -- what is held is so of the world before still
     holds_then : Holds w memory.held ready.mask words
@@ -218,26 +220,29 @@ module _ (size : ℕ) (w : World) (memory : Memory) (held : Held) (old : State) 
         let now = sym keeps_then.number ∙ sym (ap (λ (i : Image). i NEXT_NUMBER_WORD) (reads-masked ready.mask words)) ∙ world_then.number in
         absurd (omega (arith, same, was, now, grown_number held.name w.stored))
 
-    grown : IsGrownBy F held.slot image (reads words)
-    grown = grown_somewhere F (image NEXT_NUMBER_WORD) held.slot old new is.pool.slot moved (does none None new grows worlds no_cut)
+    abbrev commits : PersistsThenCommits (filling F a) (puts_batch (growing a)) None old new
+    commits = grows (ready_gate size w memory old ready)
+
+    grown : (t ≡ with_puddle_at a.frame (Some (member_by a.puddle)) (tables_of F image)) × IsFilled F a (reads words)
+    grown = grown_read F a (known by) (within by) old new commits moved
 
     abbrev e : ℕ × Puddle
-    e = (grown.frame, grown.member.puddle)
+    e = (a.frame, added_puddle a)
 
     abbrev at : List (ℕ × Puddle)
     at = held.at ++ e ∷ []
 
-    last : grown.member.ordinal ≡ length held.at
-    last = grown.ordinal ∙ count_held size w memory held old number there ready
+    last : a.puddle.ordinal ≡ length held.at
+    last = by.puddle.ordinal_is
 
     comes : (i : ℕ) → i ≡ length held.at → IsMemberOf t held.slot i e
     comes i same =
-        let below = grown.below in
+        let below = known by in
         record {
           below = omega (arith, below, frames_of_tables F (reads words));
-          member = grown.member;
-          used = ap (λ (u : Tables). u.puddles grown.frame) grown.tables ∙ changed_here grown.frame (Some grown.member) (tables_of F image).puddles;
-          pool = grown.pool;
+          member = member_by a.puddle;
+          used = ap (λ (u : Tables). u.puddles a.frame) grown.0 ∙ changed_here a.frame (Some (member_by a.puddle)) (tables_of F image).puddles;
+          pool = ap (λ (n : ℕ). n + 1) (slot_is by);
           ordinal_is = last ∙ sym same;
           puddle = refl;
         }
@@ -276,7 +281,7 @@ module _ (size : ℕ) (w : World) (memory : Memory) (held : Held) (old : State) 
         (length_puddles (with_grown_pool held.name w.stored).next_number t sound_then held.slot is.pool.slot ∙ counted_then ∙ sym (length_push held.at e))
 
     fresh : IsFreshFrame F e.0 e.1.number (length held.at) (reads words)
-    fresh = subst (λ (n : ℕ). IsFreshFrame F grown.frame grown.member.puddle.number n (reads words)) last grown.fresh
+    fresh = subst (λ (n : ℕ). IsFreshFrame F a.frame a.puddle.number n (reads words)) last grown.1
 
     owners : owner_of (reads words) held.client ≡ w.clients held.client
     owners = done.clients refl held.client (let whose = is.owner in let known = is.pool.known in omega (arith, whose))
@@ -325,7 +330,7 @@ module _ (size : ℕ) (w : World) (memory : Memory) (held : Held) (old : State) 
     knows_then : KnowsPools F memory.judged (set memory.held number (Some (record held { at = at }))) (reads words)
     knows_then =
         KnowsPools-later memory.held number held (record held { at = at }) there stays F memory.judged image (reads words)
-        (KeepsPools-grow F (image NEXT_NUMBER_WORD) held.slot old new is.pool.slot (does none None new grows worlds no_cut)) ready.knows
+        (subst (λ (n : ℕ). KeepsPools F (Some n) image (reads words)) (slot_is by) (KeepsPools-grow F a old new (within by) by.puddle.frame commits)) ready.knows
 
     ready_then : IsReady size next (with_held number (Some (record held { at = at })) memory) new
     ready_then =
@@ -350,7 +355,7 @@ module _ (size : ℕ) (w : World) (memory : Memory) (held : Held) (old : State) 
     Applies-wide puddles scanned =
         let all : puddles ≡ at = scanned ∙ listed_then in
         record {
-          moments = moments_grown none None new grows worlds no_cut;
+          moments = moments_grown by None new grows worlds;
           quiet = Changes-said (ByOthers ready.mask) None old new done.beside.changes;
           ready = λ _. subst (λ (ps : List (ℕ × Puddle)). IsReady size next (with_held number (Some (record held { at = ps })) memory) new) (sym all) ready_then;
           rests = done.beside.changes.rests;
@@ -359,9 +364,9 @@ module _ (size : ℕ) (w : World) (memory : Memory) (held : Held) (old : State) 
 
   -- ---- what the calls owe, on so many frames
 
-  module _ (n : ℕ) (same : n ≡ F) (none : refusal_by_tables n held image ≡ None) where
-    not_refused : refusal_by_tables F held image ≡ None
-    not_refused = subst (λ (m : ℕ). refusal_by_tables m held image ≡ None) same none
+  module _ (n : ℕ) (same : n ≡ F) (by : GrowsBy n held image a) where
+    by_world : GrowsBy F held image a
+    by_world = subst (λ (m : ℕ). GrowsBy m held image a) same by
 
     growth_there : (fault : Option HostFault) (new : State) → OwesGrowth n fault new → OwesGrowth F fault new
     growth_there fault new = subst (λ (m : ℕ). OwesGrowth m fault new) same
@@ -370,15 +375,15 @@ module _ (size : ℕ) (w : World) (memory : Memory) (held : Held) (old : State) 
     worlds_there fault new = subst (λ (m : ℕ). OwesWorld m fault new) same
 
     -- the call failed that makes it grow
-    pub grows_failed : (behind : Memory) (fault : HostFault) (new : State) → OwesGrowth n (Some fault) new → OwesWorld n (Some fault) new → (Some fault ≡ Some Cut → IsRested new.now.words)
+    pub grows_failed : (behind : Memory) (fault : HostFault) (new : State) → OwesGrowth n (Some fault) new → OwesWorld n (Some fault) new
         → Applies size w next behind (Some fault) old new
-    grows_failed behind fault new grows worlds rests =
-        Applies-grown_failed not_refused (Some fault) new (growth_there (Some fault) new grows) (worlds_there (Some fault) new worlds) rests behind fault refl
+    grows_failed behind fault new grows worlds =
+        Applies-grown_failed by_world (Some fault) new (growth_there (Some fault) new grows) (worlds_there (Some fault) new worlds) behind fault refl
 
     -- it did not, but what the pool has then was not read
     pub grows_unread : (behind : Memory) (fault : HostFault) (mid new : State) → OwesGrowth n None mid → OwesWorld n None mid → new ≡ mid → (Some fault ≡ Some Cut → ⊥) → Applies size w next behind (Some fault) old new
     grows_unread behind fault mid new grows worlds still never_cut =
-        let a = Applies-wide not_refused mid (growth_there None mid grows) (worlds_there None mid worlds) (puddles_in_turn (tables_of F (reads mid.now.words)) held.slot) refl in
+        let a = Applies-wide by_world mid (growth_there None mid grows) (worlds_there None mid worlds) (puddles_in_turn (tables_of F (reads mid.now.words)) held.slot) refl in
         subst (λ (s : State). Applies size w next behind (Some fault) old s) (sym still)
         (record { moments = a.moments; quiet = a.quiet; ready = λ done. absurd (none-some fault (sym done)); rests = λ cut. absurd (never_cut cut); script = a.script })
 
@@ -387,5 +392,5 @@ module _ (size : ℕ) (w : World) (memory : Memory) (held : Held) (old : State) 
         → Applies size w next (with_held number (Some (record held { at = puddles })) memory) None old new
     grows_done puddles mid new grows worlds still scanned =
         subst (λ (s : State). Applies size w next (with_held number (Some (record held { at = puddles })) memory) None old s) (sym still)
-        (Applies-wide not_refused mid (growth_there None mid grows) (worlds_there None mid worlds) puddles
+        (Applies-wide by_world mid (growth_there None mid grows) (worlds_there None mid worlds) puddles
         (subst (λ (m : ℕ). puddles ≡ puddles_in_turn (tables_of m (reads mid.now.words)) held.slot) same scanned))

@@ -16,7 +16,8 @@ use Rattle.pud_defs.specs.Step.Answer.{of_reply}
 use Rattle.pud_defs.specs.World.{World, closed}
 use Rattle.pud_defs.proofs.Steps.{refused_answer}
 use Rattle.ready_daemon.specs.Memory.{Held, Memory, held_under, with_held}
-use Rattle.pool_transaction.specs.Changing.{refusal_by_tables, refusal_by_world, with_more, with_made}
+use Rattle.registry.specs.declared.adding.Added.{Added}
+use Rattle.pool_transaction.specs.Changing.{refusal_by_tables, GrowsBy, refusal_by_world, with_more, with_made}
 use Rattle.ready_daemon.specs.Ready.{IsReady, Applies}
 use Rattle.ready_daemon.proofs.Applying.{Applies-refused, Applies-stopped, Applies-closed, Applies-then}
 use Rattle.ready_daemon.proofs.HeldUnder.{held_within, held_here, held_same}
@@ -101,7 +102,7 @@ module _ (size : ℕ) (w : World) (memory : Memory) (held : Held) (old : State) 
       pub refused_by_tables : (r : Refusal) → Some r ≡ refusal_by_tables F held (reads old.now.words) → refusal_of w line ≡ Some r
       refused_by_tables r is = by_tables ∙ sym is
 
-      module _ (may : None ≡ refusal_by_tables F held (reads old.now.words)) where
+      module _ (may : None ≡ refusal_by_tables F held (reads old.now.words)) (a : Added) (by : GrowsBy F held (reads old.now.words) a) where
         free : refusal_of w line ≡ None
         free = by_tables ∙ sym may
 
@@ -113,11 +114,11 @@ module _ (size : ℕ) (w : World) (memory : Memory) (held : Held) (old : State) 
 
         -- what growing owes, from where it begins
         abbrev pub OwesMore : (behind : Held) → Option HostFault → (start mid : State) → Type 0
-        OwesMore behind fault start mid = IsReady size w memory start → refusal_by_tables F held (reads start.now.words) ≡ None → Applies size w grown (memory_with behind) fault start mid
+        OwesMore behind fault start mid = IsReady size w memory start → GrowsBy F held (reads start.now.words) a → Applies size w grown (memory_with behind) fault start mid
 
         has_grown : (behind : Held) (fault : Option HostFault) (start mid : State) → start ≡ old → OwesMore behind fault start mid → Applies size w grown (memory_with behind) fault old mid
         has_grown behind fault start mid still grows =
-            subst (λ (s : State). OwesMore behind fault s mid) still grows ready (sym may)
+            subst (λ (s : State). OwesMore behind fault s mid) still grows ready by
 
         pub new_ungrown : (behind : Held) (fault : HostFault) (start new : State) → start ≡ old → OwesMore behind (Some fault) start new → AppliesNew behind (Some fault) new
         new_ungrown behind fault start new still grows =

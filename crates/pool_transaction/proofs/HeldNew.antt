@@ -1,5 +1,5 @@
 -- The line that makes an object in a transaction that is held: why it is refused, by what is read, and the world that it gives.
-use Rattle.std.proofs.Common.{◌≡◌, inl, inr, ℕ, ◌+◌, ◌≤◌, Bool, true, false, not, ◌&&◌, ◌||◌, leb, ltb, ◌==◌, cond, List, length, Option, Some, None, is_none, is_some, sum_by, refl, sym, ap, ap₂, ◌∙◌, arith, eqb-true, eq-eqb, ne_eqb}
+use Rattle.std.proofs.Common.{◌≡◌, inl, inr, ℕ, ◌+◌, ◌≤◌, Bool, true, false, not, ◌&&◌, ◌||◌, leb, ltb, ◌==◌, cond, List, length, Option, Some, None, is_none, sum_by, refl, sym, ap, ap₂, ◌∙◌, arith, eqb-true, eq-eqb, ne_eqb}
 use Rattle.std.specs.Option.{option_or}
 use Rattle.std.proofs.lemmas.Bool.{cases_lt, and_parts, leb-true, le-leb, lt-leb, lt-ltb, le-ltb}
 use Rattle.pm_model.specs.Words.{reads}
@@ -68,20 +68,16 @@ full_or_room objects puddles number all = elim (cases_lt puddles MAX_PUDDLES) [
       ∙ sym (ap (λ a. not (a && ltb number NUMBER_LIMIT)) (le-ltb puddles MAX_PUDDLES many))
 ]
 
-none_or_some : {A : Type 0} (o : Option A) → is_none o ≡ not (is_some o)
-none_or_some None = refl
-none_or_some (Some x) = refl
-
 -- ---- the causes in order
 
-joined : (type big serial many out lacks grow room free : Bool) → (grow ≡ false → many ≡ false) → (grow ≡ true → (many || out) ≡ not room) → lacks ≡ not free
+joined : (type big serial many out lacks grow room none : Bool) → (grow ≡ false → many ≡ false) → (grow ≡ true → (many || out) ≡ not room) → lacks ≡ none
     → cond type (Some refusals.NoType) (cond big (Some refusals.TooBig) (cond ((serial || many) || (grow && out)) (Some refusals.Full) (cond (grow && lacks) (Some refusals.Space) None)))
-    ≡ option_or (cond type (Some refusals.NoType) (cond big (Some refusals.TooBig) (cond serial (Some refusals.Full) None))) (cond grow (cond (not room) (Some refusals.Full) (cond (not free) (Some refusals.Space) None)) None)
-joined true big serial many out lacks grow room free less more frames = refl
-joined false true serial many out lacks grow room free less more frames = refl
-joined false false true many out lacks grow room free less more frames = refl
-joined false false false many out lacks false room free less more frames = ap (λ (m : Bool). cond (m || false) (Some refusals.Full) None) (less refl)
-joined false false false many out lacks true room free less more frames =
+    ≡ option_or (cond type (Some refusals.NoType) (cond big (Some refusals.TooBig) (cond serial (Some refusals.Full) None))) (cond grow (cond (not room) (Some refusals.Full) (cond none (Some refusals.Space) None)) None)
+joined true big serial many out lacks grow room none less more frames = refl
+joined false true serial many out lacks grow room none less more frames = refl
+joined false false true many out lacks grow room none less more frames = refl
+joined false false false many out lacks false room none less more frames = ap (λ (m : Bool). cond (m || false) (Some refusals.Full) None) (less refl)
+joined false false false many out lacks true room none less more frames =
     ap₂ (λ (full : Bool) (space : Bool). cond full (Some refusals.Full) (cond space (Some refusals.Space) None)) (more refl) frames
 
 -- ---- a daemon that is ready, and holds it
@@ -105,11 +101,10 @@ module _ (size : ℕ) (w : World) (memory : Memory) (held : Held) (s : State) (n
   abbrev hold : Reader
   hold = holding_in w.stored.types F (reads (masked ready.mask s.now.words))
 
-  frames_lack : lacks_frames w.stored 1 ≡ not (is_some (first_free t.puddles 0 t.frames))
+  frames_lack : lacks_frames w.stored 1 ≡ is_none (first_free t.puddles 0 t.frames)
   frames_lack =
       ap₂ (λ n ps. ltb n (sum_by (λ (e : List ℕ × Pool). e.1.puddles) ps + 1)) (sym (frames_of_tables F image)) (sym (pools_read size w memory s ready))
       ∙ sym (space_by_table hold w.stored.next_number t (sound_read size w memory s ready) (record { beyond = λ slot beyond. pools_beyond F image slot beyond }))
-      ∙ none_or_some (first_free t.puddles 0 t.frames)
 
   few_held : length held.at ≤ MAX_PUDDLES
   few_held = (open_on_device F (pool_held held is.rec is.who) is.before is.pool).few
@@ -148,7 +143,7 @@ module _ (size : ℕ) (w : World) (memory : Memory) (held : Held) (s : State) (n
       ∙ (λ p. cond (is_none (map_of id w.stored.types)) (Some refusals.NoType) (cond (ltb LOG_ENTRY_WORDS (units p + NEW_UNITS)) (Some refusals.TooBig)
       (cond (full p || (grows w held.name && lacks_a_number w.stored.next_number)) (Some refusals.Full) (cond (grows w held.name && lacks_frames w.stored 1) (Some refusals.Space) None))))
       ∙ joined (is_none (map_of id w.stored.types)) (ltb LOG_ENTRY_WORDS (held.log.used + NEW_UNITS)) (leb NUMBER_LIMIT is.transaction.now.next_serial) many (lacks_a_number w.stored.next_number) (lacks_frames w.stored 1)
-      (grows w held.name) (has_room (length held.at) (image NEXT_NUMBER_WORD)) (is_some (first_free t.puddles 0 t.frames)) less_by more_by frames_lack
+      (grows w held.name) (has_room (length held.at) (image NEXT_NUMBER_WORD)) (is_none (first_free t.puddles 0 t.frames)) less_by more_by frames_lack
       ∙ ap (λ (n : ℕ). option_or (refusal_to_make (map_of id w.stored.types) held.log.used n) (cond (grows w held.name) (refusal_by_tables F held image) None)) (sym next)
 
   -- what is read gives those that count whatever slots there are

@@ -18,7 +18,7 @@ use Rattle.pud_defs.proofs.PoolsCounted.{few_members, length_puddles}
 use Rattle.graph_laws.specs.Slots.{AreAllLive}
 use Rattle.graph_laws.proofs.LiveSlots.{objects-most, objects-live}
 use Rattle.registry.specs.Growth.{puddle_count, HoldsGraph}
-use Rattle.registry.proofs.GrowthAllowed.{puddle_count_by_world}
+use Rattle.registry.proofs.PuddlesCounted.{puddle_count_by_world}
 use Rattle.ready_daemon.specs.Memory.{Held, Memory, held_under}
 use Rattle.ready_daemon.specs.Held.{puddles_in, IsHeld}
 use Rattle.ready_daemon.specs.Ready.{IsReady}

@@ -1,5 +1,5 @@
 -- What a line changes in a transaction that is held, and what stays of it while it goes on; why an object is not made in it, and what making one leaves.
-use Rattle.std.specs.Prelude.{◌≡◌, ℕ, ◌+◌, ◌<◌, ◌≤◌, Bool, false, not, nat_le, nat_lt, cond, List, length, Option, Some, None, is_none, is_some}
+use Rattle.std.specs.Prelude.{◌≡◌, ℕ, ◌+◌, ◌<◌, ◌≤◌, false, nat_le, nat_lt, cond, List, length, Option, Some, None, is_none}
 use Rattle.pud_defs.specs.declared.layout.TheConstants.{LOG_ENTRY_WORDS, MAX_FIELDS, SET_UNITS, NEW_UNITS, NUMBER_LIMIT, NEXT_NUMBER_WORD}
 use Rattle.pud_defs.specs.declared.machine.Command.{Command}
 use Rattle.pud_defs.specs.declared.machine.Command.TheVariants as commands
@@ -7,7 +7,6 @@ use Rattle.pud_defs.specs.declared.machine.Refusal.{Refusal}
 use Rattle.pud_defs.specs.declared.machine.Refusal.TheVariants as refusals
 use Rattle.pud_defs.specs.GraphChanges.{with_field, with_root, without_object, with_new}
 use Rattle.pud_defs.specs.Image.{Image}
-use Rattle.pud_defs.specs.Keyed.{first_free}
 use Rattle.pud_defs.specs.Laters.{laters_name}
 use Rattle.pud_defs.specs.PoolChanges.{pool_named, with_grown_pool}
 use Rattle.pud_defs.specs.Step.{graph_seen, next_in, object_made}
@@ -15,7 +14,8 @@ use Rattle.pud_defs.specs.Tables.{tables_of}
 use Rattle.pud_defs.specs.Transactions.{with_changed, charged, asked}
 use Rattle.pud_defs.specs.Types.{map_of}
 use Rattle.pud_defs.specs.World.{Transaction, World}
-use Rattle.registry.specs.Growth.{has_room}
+use Rattle.registry.specs.declared.adding.Added.{Added}
+use Rattle.registry.specs.Growth.{grow_refusal, IsGrowthFor}
 use Rattle.hybrid_tx.specs.Transactions.{MayName, MaySet, MayFree}
 use Rattle.pool_transaction.specs.declared.changing.Change.{Change}
 use Rattle.pool_transaction.specs.declared.changing.Change.TheVariants.{Set, Later, Root, Free}
@@ -68,13 +68,13 @@ abbrev pub refusal_to_make : (map : Option ℕ) → (units next : ℕ) → Optio
 refusal_to_make map units next =
     cond (is_none map) (Some refusals.NoType) (cond (nat_lt LOG_ENTRY_WORDS (units + NEW_UNITS)) (Some refusals.TooBig) (cond (nat_le NUMBER_LIMIT next) (Some refusals.Full) None))
 
--- why a pool of so many puddles has no puddle more for it: by the next UUID number, and whether a frame is free
-abbrev pub refusal_to_grow : (puddles number : ℕ) → (free : Bool) → Option Refusal
-refusal_to_grow puddles number free = cond (not (has_room puddles number)) (Some refusals.Full) (cond (not free) (Some refusals.Space) None)
-
--- by the words of an image of so many frames
+-- why its pool does not grow for it, by the words of an image of so many frames
 abbrev pub refusal_by_tables : ℕ → Held → Image → Option Refusal
-refusal_by_tables F held image = refusal_to_grow (length held.at) (image NEXT_NUMBER_WORD) (is_some (first_free (tables_of F image).puddles 0 (tables_of F image).frames))
+refusal_by_tables F held image = grow_refusal (tables_of F image) (image NEXT_NUMBER_WORD) (length held.at)
+
+-- the puddle is the one by which its pool grows, by them
+abbrev pub GrowsBy : ℕ → Held → Image → Added → Type 0
+GrowsBy F held image a = IsGrowthFor (tables_of F image) (image NEXT_NUMBER_WORD) held.slot (length held.at) a
 
 -- by the world, of an object of this type
 abbrev pub refusal_by_world : World → Held → ℕ → Option Refusal

@@ -1,20 +1,17 @@
 //! What a transaction that is open changes of its pool: a field or the root is set, or a field's value asked for later, and an object is freed or made.
-ghost use Rattle.std.specs.Prelude.{◌≡◌, ◌≢◌, ◌+◌, ◌<◌, ◌≤◌, ℕ, List, true, false, is_some, Option, IfOk, IfNone};
+ghost use Rattle.std.specs.Prelude.{◌≡◌, ◌≢◌, ◌+◌, ◌<◌, ◌≤◌, ℕ, List, true, false, Option, IfOk, IfNone};
 ghost use Rattle.pm_model.specs.Words.{IsRested, reads};
 ghost use Rattle.pm_model.specs.Counts.{after_fault, fault_of};
 ghost use Rattle.pm_model.specs.Changes.{Changes};
-ghost use Rattle.pud_defs.specs.declared.layout.TheConstants.{LOG_WORDS, LOG_ENTRY_WORDS, MAX_FRAMES, NEXT_NUMBER_WORD, SET_UNITS, NEW_UNITS};
-ghost use Rattle.pud_defs.specs.declared.records.TheConstants.{MAX_PUDDLES};
+ghost use Rattle.pud_defs.specs.declared.layout.TheConstants.{LOG_WORDS, LOG_ENTRY_WORDS, MAX_FRAMES, SET_UNITS, NEW_UNITS};
 ghost use Rattle.pud_defs.specs.declared.records.Slot.{Slot};
 ghost use Rattle.pud_defs.specs.declared.machine.Command.TheVariants as commands;
 ghost use Rattle.pud_defs.specs.Image.{Image};
-ghost use Rattle.pud_defs.specs.Keyed.{first_free};
-ghost use Rattle.pud_defs.specs.Layout.{device_words, frames_at, tables_end};
+ghost use Rattle.pud_defs.specs.Layout.{device_words, frames_at};
 ghost use Rattle.pud_defs.specs.Types.{map_of, types_of};
 ghost use Rattle.pud_defs.specs.Stored.{IsOnDevice, stored_in};
 ghost use Rattle.pud_defs.specs.Graph.{Graph, next_serial_of};
 ghost use Rattle.pud_defs.specs.PoolChanges.{pool_named};
-ghost use Rattle.pud_defs.specs.Tables.{tables_of};
 ghost use Rattle.pud_defs.specs.Step.{refusal_of, after, graph_seen, next_in, grows, answer_by, world_by};
 ghost use Rattle.pud_defs.specs.Step.Answer.{of_reply};
 ghost use Rattle.pud_defs.specs.World.{Transaction, World};
@@ -26,19 +23,21 @@ ghost use Rattle.hybrid_tx.specs.Grounds.{pool_ground, IsPlaced, IsRewritten};
 ghost use Rattle.hybrid_tx.specs.Transactions.{IsOpenOn, RunsOn, MakesIn};
 ghost use Rattle.ready_daemon.specs.Memory.{Memory, held_under, with_held};
 ghost use Rattle.ready_daemon.specs.Held.{IsHeldWithin};
-ghost use Rattle.pool_transaction.specs.Changing.{line_of, changed_by, IsLegalChange, MayChange, StaysOpen, refusal_to_make, refusal_to_grow, refusal_by_tables, refusal_by_world, with_more, with_made};
+ghost use Rattle.registry.specs.Adding.{IsAddedWithin};
+ghost use Rattle.registry.specs.Places.{refusal_in};
+ghost use Rattle.pool_transaction.specs.Changing.{line_of, changed_by, IsLegalChange, MayChange, StaysOpen, refusal_to_make, refusal_by_tables, GrowsBy, refusal_by_world, with_more, with_made};
 ghost use Rattle.ready_daemon.specs.Ready.{KeepsRest, IsReady, Applies};
 
 use crate::opened::Opened;
 use hybrid_tx::Tx;
 use pm_model::{Host, HostFault};
-use pud_defs::layout::{LOG_ENTRY_WORDS, NEW_UNITS, NEXT_NUMBER_WORD, NUMBER_LIMIT};
+use pud_defs::layout::{LOG_ENTRY_WORDS, NEW_UNITS, NUMBER_LIMIT};
 use pud_defs::machine::{Refusal, Reply};
 use pud_defs::objects::Val;
-use pud_defs::records::{MAX_PUDDLES, Puddle};
+use pud_defs::records::Puddle;
 use puddle_header::next_serial;
-use puddle_table::{PuddleFault, find_puddles, free_frame};
-use registry::grow_pool;
+use puddle_table::find_puddles;
+use registry::{Added, grow_pool};
 use type_maps::find;
 
 /// What a line changes within a transaction that is open, where it is answered with `ok` alone.
@@ -71,23 +70,6 @@ fn serial_to_give<H: Host>(h: &mut H, frames: u32, pool: &[(u32, Puddle)]) -> Re
     next_serial(h, frames, first)
 }
 
-/// Whether a frame is free.
-fn has_free_frame<H: Host>(h: &mut H, frames: u32) -> Result<bool, HostFault>
-    requires few { frames ≤ MAX_FRAMES }
-    requires table { tables_end frames ≤ (H.counts h.old).size }
-    ensures free { H.tells → (image : Image) → reads (H.state h.old).now.words ≡ image
-        → IfOk result (λ free. free ≡ is_some (first_free (tables_of frames image).puddles 0 (tables_of frames image).frames)) }
-    ensures stays { H.tells → H.state h.new ≡ H.state h.old }
-    ensures cause { H.counts h.new ≡ after_fault (fault_of result) (H.counts h.old) }
-    ensures never_cut { fault_of result ≢ Option.Some HostFault.Cut }
-{
-    match free_frame(h, frames, 0) {
-        Ok(_) => Ok(true),
-        Err(PuddleFault::NoSpace) => Ok(false),
-        Err(PuddleFault::Host(fault)) => Err(fault),
-    }
-}
-
 /// Why no object is made, whatever slots there are: by the map of its type, the units that were used, and the next serial.
 fn refusal_to_make(map: Option<u64>, units: u32, next: u64) -> Option<Refusal>
     requires { units ≤ LOG_ENTRY_WORDS }
@@ -100,19 +82,6 @@ fn refusal_to_make(map: Option<u64>, units: u32, next: u64) -> Option<Refusal>
         Some(Refusal::TooBig)
     } else if next >= NUMBER_LIMIT {
         Some(Refusal::Full)
-    } else {
-        None
-    }
-}
-
-/// Why a pool of so many puddles has no puddle more: by the next UUID number, and whether a frame is free.
-fn refusal_to_grow(puddles: u32, number: u64, free: bool) -> Option<Refusal>
-    ensures { result ≡ refusal_to_grow puddles number free }
-{
-    if puddles >= MAX_PUDDLES || number >= NUMBER_LIMIT {
-        Some(Refusal::Full)
-    } else if !free {
-        Some(Refusal::Space)
     } else {
         None
     }
@@ -228,28 +197,30 @@ impl Opened {
         Ok(refusal_to_make(map, self.tx.units(), next))
     }
 
-    /// Why no object is made in one puddle more of the pool. That the log has room for it is tested again, since the device may hold anything.
-    fn find_refusal_to_grow<H: Host>(
+    /// The puddle by which the pool grows for an object, or why it does not. That the log has room for the object is tested again, since the
+    /// device may hold anything.
+    fn find_growth<H: Host>(
         &self,
         h: &mut H,
         frames: u32,
-    ) -> Result<Option<Refusal>, HostFault>
+    ) -> Result<Result<Added, Refusal>, HostFault>
         requires few { frames ≤ MAX_FRAMES }
         requires room { device_words frames ≤ (H.counts h.old).size }
+        requires held { IsHeldWithin frames self.now }
         ensures refusal { H.tells → (image : Image) → reads (H.state h.old).now.words ≡ image → (self.now).log.used + NEW_UNITS ≤ LOG_ENTRY_WORDS
-            → IfOk result (λ refusal. refusal ≡ refusal_by_tables frames self.now image) }
-        ensures fits { IfOk result (λ refusal. IfNone refusal ((self.now).log.used + NEW_UNITS ≤ LOG_ENTRY_WORDS)) }
+            → IfOk result (λ found. refusal_in found ≡ refusal_by_tables frames self.now image) }
+        ensures growth { H.tells → (image : Image) → reads (H.state h.old).now.words ≡ image → IfOk result (λ found. IfOk found (GrowsBy frames self.now image)) }
+        ensures fits { IfOk result (λ found. IfOk found (λ _. (self.now).log.used + NEW_UNITS ≤ LOG_ENTRY_WORDS)) }
+        ensures within { IfOk result (λ found. IfOk found (IsAddedWithin frames)) }
         ensures stays { H.tells → H.state h.new ≡ H.state h.old }
         ensures cause { H.counts h.new ≡ after_fault (fault_of result) (H.counts h.old) }
         ensures never_cut { fault_of result ≢ Option.Some HostFault.Cut }
     {
         if self.tx.units() + NEW_UNITS > LOG_ENTRY_WORDS {
-            return Ok(Some(Refusal::TooBig));
+            return Ok(Err(Refusal::TooBig));
         }
-        let number = h.load(NEXT_NUMBER_WORD)?;
-        let free = has_free_frame(h, frames)?;
         let puddles = self.puddles.as_slice().len() as u32;
-        Ok(refusal_to_grow(puddles, number, free))
+        registry::find_growth(h, frames, self.slot, puddles)
     }
 
     /// Makes an object of type `t` in the lowest free slot, where it is not refused whatever slots there are. The answer is its serial, or 0 where
@@ -285,14 +256,14 @@ impl Opened {
         made
     }
 
-    /// Adds a puddle to the pool, which may have one more, and takes it to those of the transaction.
-    fn grow<H: Host>(&mut self, h: &mut H, frames: u32) -> Result<(), HostFault>
+    /// Adds the puddle to the pool, and takes it to those of the transaction.
+    fn grow<H: Host>(&mut self, h: &mut H, frames: u32, added: Added) -> Result<(), HostFault>
         requires few { frames ≤ MAX_FRAMES }
         requires room { device_words frames ≤ (H.counts h.old).size }
         requires within { IsHeldWithin frames self.old }
+        requires puddle { IsAddedWithin frames added }
         ensures grows { H.tells → (size : ℕ) → size ≡ (H.counts h.old).size → (w : World) → (memory : Memory) → memory.frames ≡ frames → held_under memory.held (self.old).number ≡ Option.Some self.old
-            → IsReady size w memory (H.state h.old)
-            → refusal_by_tables frames self.old (reads (H.state h.old).now.words) ≡ Option.None
+            → IsReady size w memory (H.state h.old) → GrowsBy frames self.old (reads (H.state h.old).now.words) added
             → Applies size w (with_more (self.old).name w) (with_held (self.old).number (Option.Some self.new) memory) (fault_of result) (H.state h.old) (H.state h.new) }
         ensures within { IsHeldWithin frames self.new }
         ensures stays { StaysOpen self.old self.new }
@@ -301,7 +272,7 @@ impl Opened {
         ensures rests { H.tells → fault_of result ≡ Option.Some HostFault.Cut → IsRested (H.state h.new).now.words }
         ensures cause { H.counts h.new ≡ after_fault (fault_of result) (H.counts h.old) }
     {
-        grow_pool(h, frames, self.slot)?;
+        grow_pool(h, frames, added)?;
         self.puddles = find_puddles(h, frames, self.slot)?;
         Ok(())
     }
@@ -324,10 +295,11 @@ impl Opened {
         ensures rests { H.tells → fault_of result ≡ Option.Some HostFault.Cut → IsRested (H.state h.new).now.words }
         ensures cause { H.counts h.new ≡ after_fault (fault_of result) (H.counts h.old) }
     {
-        if let Some(refusal) = self.find_refusal_to_grow(h, frames)? {
-            return Ok(Reply::No(refusal));
-        }
-        self.grow(h, frames)?;
+        let added = match self.find_growth(h, frames)? {
+            Ok(added) => added,
+            Err(refusal) => return Ok(Reply::No(refusal)),
+        };
+        self.grow(h, frames, added)?;
         let serial = self.make(h, frames, t)?;
         Ok(Reply::Ref(serial))
     }

@@ -21,7 +21,6 @@ use Rattle.pud_defs.specs.Keyed.{first_free}
 use Rattle.pud_defs.specs.Layout.{tables_end, frames_at}
 use Rattle.pud_defs.specs.Puddles.{Member}
 use Rattle.pud_defs.specs.Puts.{with_put, member_by, changed_at, puddle_put, pool_put, free_pool_put, free_puddle_put, with_pool_at, is_of_pool}
-use Rattle.pud_defs.specs.PoolChanges.{NUMBERS_DRAWN}
 use Rattle.pud_defs.specs.Types.{types_of}
 use Rattle.pud_defs.specs.Stored.{stored_in}
 use Rattle.pud_defs.specs.Graph.{graph_of}
@@ -37,12 +36,14 @@ use Rattle.pud_defs.proofs.TablesOf.{frames_of_tables}
 use Rattle.batch.specs.Batches.{Commits}
 use Rattle.batch.proofs.Tables.{reads_kept, reads_committed}
 use Rattle.registry.specs.Puts.{puts_batch, number_put, with_puts, AreOfPools, IsPoolsWord}
-use Rattle.registry.specs.Pools.{frame_write, making, first_puddle, changing, freeing, dropping, OrStill, CommitsPuts, PersistsThenCommits, MakesSomewhere}
-use Rattle.registry.specs.Growth.{growing, grown_puddle, GrowsSomewhere}
+use Rattle.registry.specs.declared.adding.Added.{Added}
+use Rattle.registry.specs.Adding.{frame_write, filling, PersistsThenCommits}
+use Rattle.registry.specs.Pools.{making, new_record, changing, freeing, dropping, OrStill, CommitsPuts, MakesSomewhere}
+use Rattle.registry.specs.Growth.{growing}
 use Rattle.registry.proofs.PutBatches.{overwritten-puts, with_puts-stays}
 use Rattle.registry.proofs.Made.{making_of}
 use Rattle.registry.proofs.Changed.{changing_of, dropping_of}
-use Rattle.registry.proofs.Grown.{growing_of}
+use Rattle.registry.proofs.NewPuddles.{adding_of}
 use Rattle.ready_daemon.proofs.JudgedKept.{HasGraphIn, KeepsPools, KeepsPools-each, KeepsPools-still, KeepsPools-changes, KeepsGraphs-same, types_same, puddles_same, own_word}
 
 -- ---- a batch of changes
@@ -218,57 +219,55 @@ frame_within F frame image first =
 module _ (F next number : ℕ) (name : List ℕ) (uid gid mode : ℕ) (old new : State) (sound : HasSoundTables next (tables_of F (reads old.now.words)))
     (m : MakesSomewhere (tables_of F (reads old.now.words)) number name uid gid mode None old new) where
   abbrev pool : PoolRec
-  pool = record { name = name; uid = uid; gid = gid; mode = mode; number = m.place.number }
+  pool = new_record name uid gid mode number
 
-  slot_below : m.place.slot < POOL_RECORDS
-  slot_below = let slot = first_free_some (tables_of F (reads old.now.words)).pools 0 POOL_RECORDS m.place.slot m.is.slot in let high = slot.high in omega arith
+  slot_below : m.added.puddle.pool < POOL_RECORDS
+  slot_below = let slot = first_free_some (tables_of F (reads old.now.words)).pools 0 POOL_RECORDS m.added.puddle.pool m.is.slot in let high = slot.high in omega arith
 
-  adds_first : (image : Image) → AddsPuddle F m.place.frame (first_puddle m.place) (making m.place pool) image
+  adds_first : (image : Image) → AddsPuddle F m.added.frame m.added.puddle (making pool m.added) image
   unfolding with_puts
   adds_first image =
+      let put = pool_put m.added.puddle.pool pool in
+      let frame = (frame_within F m.added.frame (reads old.now.words) m.is.puddle.frame).0 in
       let slot = slot_below in
-      let numbered = with_put (number_put (m.place.number + NUMBERS_DRAWN)) image in
-      let frame = (frame_within F m.place.frame (reads old.now.words) m.is.frame).0 in
       record {
-        of = making_of F m.place pool slot frame;
+        of = making_of F pool m.added frame slot;
         below = frame;
         few = slot;
-        front = with_put (pool_put m.place.slot pool) numbered;
+        front = with_put (number_put (m.added.puddle.number + 1)) (with_put put image);
         made = refl;
-        same = λ k low high.
-            with_put-outside (pool_put m.place.slot pool) numbered k (λ from to. omega arith)
-            ∙ with_put-outside (number_put (m.place.number + NUMBERS_DRAWN)) image k (λ from to. omega arith);
+        same = λ k low high. with_put-outside (number_put (m.added.puddle.number + 1)) (with_put put image) k (λ from to. omega arith) ∙ with_put-outside put image k (λ from to. omega arith);
       }
 
   pub KeepsPools-making : KeepsPools F None (reads old.now.words) (reads new.now.words)
   KeepsPools-making =
       let t = tables_of F (reads old.now.words) in
-      let slot = first_free_some t.pools 0 POOL_RECORDS m.place.slot m.is.slot in
-      KeepsPools-more F None old new (making m.place pool) m.place.frame (m.place.number + 1) 0 (first_puddle m.place) (frame_within F m.place.frame (reads old.now.words) m.is.frame).1
+      let slot = first_free_some t.pools 0 POOL_RECORDS m.added.puddle.pool m.is.slot in
+      KeepsPools-more F None old new (making pool m.added) m.added.frame m.added.puddle.number m.added.puddle.ordinal m.added.puddle (frame_within F m.added.frame (reads old.now.words) m.is.puddle.frame).1
       adds_first (λ s at apart has same. not_free F next s (reads old.now.words) at sound has (ap t.pools same ∙ slot.free))
       m.commits
 
--- the pool of a slot grows, and all others stay
-module _ (F next slot : ℕ) (old new : State) (within : slot < POOL_RECORDS)
-    (m : GrowsSomewhere (tables_of F (reads old.now.words)) next slot None old new) where
-  adds_next : (image : Image) → AddsPuddle F m.growth.frame (grown_puddle slot m.growth) (growing slot m.growth) image
+-- a pool grows by a puddle in the lowest free frame, and all others stay
+module _ (F : ℕ) (a : Added) (old new : State) (within : a.puddle.pool < POOL_RECORDS)
+    (first : first_free (tables_of F (reads old.now.words)).puddles 0 (tables_of F (reads old.now.words)).frames ≡ Some a.frame) where
+  adds_next : (image : Image) → AddsPuddle F a.frame a.puddle (growing a) image
   unfolding with_puts
   adds_next image =
-      let frame = (frame_within F m.growth.frame (reads old.now.words) m.is.frame).0 in
+      let frame = (frame_within F a.frame (reads old.now.words) first).0 in
       record {
-        of = growing_of F slot m.growth frame;
+        of = adding_of F (a.puddle.number + 1) (a ∷ []) (frame, within, tt);
         below = frame;
         few = within;
-        front = with_put (number_put (m.growth.number + 1)) image;
+        front = with_put (number_put (a.puddle.number + 1)) image;
         made = refl;
-        same = λ k low high. with_put-outside (number_put (m.growth.number + 1)) image k (λ from to. omega arith);
+        same = λ k low high. with_put-outside (number_put (a.puddle.number + 1)) image k (λ from to. omega arith);
       }
 
-  pub KeepsPools-growing : KeepsPools F (Some slot) (reads old.now.words) (reads new.now.words)
-  KeepsPools-growing =
-      KeepsPools-more F (Some slot) old new (growing slot m.growth) m.growth.frame m.growth.number m.growth.ordinal (grown_puddle slot m.growth) (frame_within F m.growth.frame (reads old.now.words) m.is.frame).1
+  pub KeepsPools-grow : PersistsThenCommits (filling F a) (puts_batch (growing a)) None old new → KeepsPools F (Some a.puddle.pool) (reads old.now.words) (reads new.now.words)
+  KeepsPools-grow commits =
+      KeepsPools-more F (Some a.puddle.pool) old new (growing a) a.frame a.puddle.number a.puddle.ordinal a.puddle (frame_within F a.frame (reads old.now.words) first).1
       adds_next (λ s at apart has same. apart (ap (λ (n : ℕ). Some n) (sym same)))
-      m.commits
+      (subst (λ (n : ℕ). PersistsThenCommits (filling n a) (puts_batch (growing a)) None old new) (sym (frames_of_tables F (reads old.now.words))) commits)
 
 -- ---- a mode is changed
 
@@ -352,9 +351,3 @@ pub KeepsPools-drop : (F slot : ℕ) (old new : State) → slot < POOL_RECORDS �
     → KeepsPools F (Some slot) (reads old.now.words) (reads new.now.words)
 KeepsPools-drop F slot old new within does =
     KeepsPools-or_still F (Some slot) (CommitsPuts (dropping (tables_of F (reads old.now.words)) slot)) old new does (KeepsPools-dropping F slot old new within)
-
--- the pool of a slot grows
-pub KeepsPools-grow : (F next slot : ℕ) (old new : State) → slot < POOL_RECORDS → OrStill (GrowsSomewhere (tables_of F (reads old.now.words)) next slot) None old new
-    → KeepsPools F (Some slot) (reads old.now.words) (reads new.now.words)
-KeepsPools-grow F next slot old new within does =
-    KeepsPools-or_still F (Some slot) (GrowsSomewhere (tables_of F (reads old.now.words)) next slot) old new does (KeepsPools-growing F next slot old new within)

@@ -19,7 +19,6 @@ use Rattle.pm_model.proofs.Masks.{masked-elsewhere, reads-masked}
 use Rattle.pm_persist.proofs.Ranges.{placed_within}
 use Rattle.pud_defs.specs.declared.layout.TheConstants.{DAEMON_LOG, SPACE_TABLE, PUDDLE_TABLE, TYPE_TABLE, FRAME_WORDS}
 use Rattle.pud_defs.specs.declared.records.TheConstants.{POOL_RECORDS}
-use Rattle.pud_defs.specs.declared.records.PoolRec.{PoolRec}
 use Rattle.pud_defs.specs.declared.records.Put.{Put}
 use Rattle.pud_defs.specs.Image.{Image}
 use Rattle.pud_defs.specs.Entries.{Entry}
@@ -45,7 +44,9 @@ use Rattle.batch.specs.Batches.{batch_write, AreBatched, HasIdleGate, ByBatch}
 use Rattle.batch.specs.Tables.{HasDurableTables}
 use Rattle.batch.proofs.Tables.{StaysDurable, HasDurableTables-changed, reads_kept}
 use Rattle.registry.specs.Puts.{puts_batch, AreOfPools, IsOfPools, ByPools}
-use Rattle.registry.specs.Pools.{frame_write, making, changing, freeing, dropping, OrStill, CommitsPuts, PersistsThenCommits, MakesSomewhere, IsOffMaking, MayStand, ChangesPools}
+use Rattle.registry.specs.declared.adding.Added.{Added}
+use Rattle.registry.specs.Adding.{frame_write, filling, PersistsThenCommits, IsOffAdding}
+use Rattle.registry.specs.Pools.{making, new_record, changing, freeing, dropping, OrStill, CommitsPuts, MakesSomewhere, IsOffMaking, MayStand, ChangesPools}
 use Rattle.registry.proofs.PutBatches.{puts_batched}
 use Rattle.registry.proofs.Made.{making_of}
 use Rattle.registry.proofs.Changed.{changing_of, dropping_of}
@@ -149,11 +150,15 @@ module _ (w : World) (held : List (Option Held)) (mask : Write) (words : Words) 
 
   pub off_making : (next : ℕ) (name : List ℕ) (uid gid mode : ℕ) → IsOffMaking mask t next name uid gid mode
   off_making next name uid gid mode = record {
-    frame = λ place for. filling_off place.frame for.frame (place.number + 1) 0;
-    records = λ place for.
-        let r : PoolRec = record { name = name; uid = uid; gid = gid; mode = mode; number = place.number } in
-        IsOff-puts (making place r) (making_of F place r (slot_below place.slot for.slot) (frame_below place.frame for.frame))
-        (λ k low high. unmasked_front w held mask words holds k (omega arith), (λ k low high. new_slot place.slot for.slot k low (omega arith), (λ k low high. new_frame place.frame for.frame k low (omega arith), tt)));
+    each = λ a for.
+        let r = new_record name uid gid mode next in
+        record {
+          frame = filling_off a.frame for.puddle.frame a.puddle.number a.puddle.ordinal;
+          records = IsOff-puts (making r a) (making_of F r a (frame_below a.frame for.puddle.frame) (slot_below a.puddle.pool for.slot)) (
+            λ k low high. new_slot a.puddle.pool for.slot k low (omega arith),
+            (λ k low high. unmasked_front w held mask words holds k (omega arith), (λ k low high. new_frame a.frame for.puddle.frame k low (omega arith), tt)),
+          );
+        };
   }
 
   -- ---- a pool that is not held is changed, or dropped
@@ -302,12 +307,17 @@ IsBeside-filled mask write es fault old new off_write off apart batched idle c =
       | inr on ↦ IsBeside-then mask fault old c.mid new (subst (λ (f : Option HostFault). IsBeside mask f old c.mid) on.0 first) (IsBeside-commits mask es fault c.mid new off batched on.1)
     ]
 
+-- a puddle was added
+pub IsBeside-adds : (mask : Write) (F : ℕ) (a : Added) (puts : List Put) (fault : Option HostFault) (old new : State) → IsOffAdding mask F a puts → HasIdleGate DAEMON_LOG old.now.words
+    → PersistsThenCommits (filling F a) (puts_batch puts) fault old new → IsBeside mask fault old new
+IsBeside-adds mask F a puts fault old new off idle commits =
+    IsBeside-filled mask (filling F a) (puts_batch puts) fault old new off.frame off.records
+    (λ v may. let within = placed_within (frame_at F a.frame) DAEMON_LOG v (fresh_frame a.puddle.number a.puddle.ordinal) may in let low = within.0 in absurd (omega arith))
+    (puts_batched puts) idle commits
+
 -- a pool was made somewhere
 pub IsBeside-makes : (mask : Write) (t : Tables) (next : ℕ) (name : List ℕ) (uid gid mode : ℕ) (fault : Option HostFault) (old new : State) → IsOffMaking mask t next name uid gid mode
     → HasIdleGate DAEMON_LOG old.now.words → (fault ≡ Some Cut → IsRested new.now.words) → OrStill (MakesSomewhere t next name uid gid mode) fault old new → IsBeside mask fault old new
 IsBeside-makes mask t next name uid gid mode fault old new off idle rests (inl still) = IsBeside-still mask fault old new idle rests still.0
 IsBeside-makes mask t next name uid gid mode fault old new off idle rests (inr m) =
-    let r : PoolRec = record { name = name; uid = uid; gid = gid; mode = mode; number = m.place.number } in
-    IsBeside-filled mask (frame_write t.frames m.place.frame (m.place.number + 1) 0) (puts_batch (making m.place r)) fault old new (off.frame m.place m.is) (off.records m.place m.is)
-    (λ v may. let within = placed_within (frame_at t.frames m.place.frame) DAEMON_LOG v (fresh_frame (m.place.number + 1) 0) may in let low = within.0 in absurd (omega arith))
-    (puts_batched (making m.place r)) idle m.commits
+    IsBeside-adds mask t.frames m.added (making (new_record name uid gid mode next) m.added) fault old new (off.each m.added m.is) idle m.commits

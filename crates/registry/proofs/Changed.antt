@@ -26,7 +26,8 @@ use Rattle.pud_defs.proofs.PoolsChanged.{distinct_entries, entry_of, changed_her
 use Rattle.pud_defs.proofs.SoundChanged.{legal_pool, distinct_names, sound_changed, sound_dropped}
 use Rattle.registry.specs.Puts.{with_puts, AreOfPools}
 use Rattle.registry.specs.Pools.{changing, freeing, dropping}
-use Rattle.registry.proofs.Moved.{ReadsWorld, MakesPools, pools_next}
+use Rattle.registry.specs.Adding.{MakesPools, pools_next}
+use Rattle.registry.proofs.Moved.{ReadsWorld}
 
 -- the pool of a used record is found under its name
 pub found_pool : (hold : Reader) (next : ℕ) (t : Tables) (slot : ℕ) (r : PoolRec) → HasSoundTables next t → slot < POOL_RECORDS → t.pools slot ≡ Some r → find name_cmp r.name (pools_of hold t) ≡ Some (pool_of hold r (puddles_of t slot))

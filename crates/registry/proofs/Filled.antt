@@ -5,7 +5,7 @@ use Rattle.std.proofs.lemmas.List.{append-nil, length-replicate}
 use Rattle.pm_model.specs.declared.host.HostFault.{HostFault}
 use Rattle.pm_model.specs.Words.{Words, HasOnly, Picks, reads}
 use Rattle.pm_model.specs.Moments.{State}
-use Rattle.pm_model.specs.Changes.{written, IsFrom, Changes, Leaves, Silently}
+use Rattle.pm_model.specs.Changes.{placed, written, IsFrom, Changes, Leaves, Silently}
 use Rattle.pm_model.proofs.Changes.{Changes-said, Changes-now, Changes-then, Changes-wider}
 use Rattle.pm_model.proofs.Leaves.{Leaves-changes, Leaves-weaker, Leaves-then, Leaves-now}
 use Rattle.pm_persist.proofs.Ranges.{placed_at, placed_within}
@@ -13,7 +13,7 @@ use Rattle.pud_defs.specs.declared.layout.TheConstants.{DAEMON_LOG, FRAME_WORDS}
 use Rattle.pud_defs.specs.declared.records.Put.{Put}
 use Rattle.pud_defs.specs.Image.{Image}
 use Rattle.pud_defs.specs.Layout.{IsWithin, frames_at, device_words}
-use Rattle.pud_defs.specs.Frames.{frame_at, fresh_frame, IsFreshFrame}
+use Rattle.pud_defs.specs.Frames.{frame_at, frame_word, fresh_frame}
 use Rattle.pud_defs.specs.Entries.{is_idle_gate}
 use Rattle.pud_defs.specs.Replay.{is_in_log, beside_log, settled_by}
 use Rattle.pud_defs.specs.World.{StoredWorld, idle_world_of}
@@ -26,7 +26,7 @@ use Rattle.batch.specs.Worlds.{IsSettled}
 use Rattle.batch.specs.Tables.{HasDurableTables}
 use Rattle.batch.proofs.Tables.{HasDurableTables-kept}
 use Rattle.registry.specs.Puts.{puts_batch, AreOfPools, IsPoolsWord, ByPools}
-use Rattle.registry.specs.Pools.{frame_write, MayStand, ChangesPools}
+use Rattle.registry.specs.Pools.{MayStand, ChangesPools}
 use Rattle.registry.proofs.PutBatches.{puts_write-none}
 use Rattle.registry.proofs.Moved.{settled_tables, settled_frames}
 
@@ -48,20 +48,21 @@ pub record IsFreeFrame (F frame : ℕ) (words : Words) : Type 0 where
   pub tables : HasDurableTables F words
   pub free : (tables_of F (reads words)).puddles frame ≡ None
 
-length-fresh_frame : (number ordinal : ℕ) → length (fresh_frame number ordinal) ≡ FRAME_WORDS
+pub length-fresh_frame : (number ordinal : ℕ) → length (fresh_frame number ordinal) ≡ FRAME_WORDS
 unfolding fresh_frame
 length-fresh_frame number ordinal = omega (arith, length-replicate {A = ℕ} (FRAME_WORDS - 4) 0)
 
-module _ (F frame number ordinal : ℕ) (known : frame < F) where
+-- whatever the words are that the frame is filled with
+module _ (F frame : ℕ) (words : List ℕ) (whole : length words ≡ FRAME_WORDS) (known : frame < F) where
   abbrev write : ℕ → Option ℕ
-  write = frame_write F frame number ordinal
+  write = placed (frame_at F frame) words
 
   -- the words that are filled are words of the frame
   fills_frame : (k v : ℕ) → written write k v → IsWithin (frame_at F frame) (frame_at F (frame + 1)) k
   fills_frame k v may =
-      let within = placed_within (frame_at F frame) k v (fresh_frame number ordinal) may in
+      let within = placed_within (frame_at F frame) k v words may in
       let high = within.1 in
-      record { low = within.0; high = omega (arith, length-fresh_frame number ordinal) }
+      record { low = within.0; high = omega (arith, whole) }
 
   fills : (k v : ℕ) → written write k v → IsWithin (frames_at F) (device_words F) k
   fills k v may = let of = fills_frame k v may in let low = of.low in let high = of.high in record { low = omega arith; high = omega arith }
@@ -82,12 +83,9 @@ module _ (F frame number ordinal : ℕ) (known : frame < F) where
     each = λ v had. elim (Changes-now (written write) fault a b c DAEMON_LOG v had) [ inl was ↦ idle.each v was | inr may ↦ absurd (not_filled DAEMON_LOG v (omega arith) may) ];
   }
 
-  -- a frame that was filled is that of a new puddle in each image
-  pub fresh_word : (b : State) → ((k v : ℕ) → write k ≡ Some v → HasOnly (b.now.words k) v) → (k : ℕ) → k < FRAME_WORDS
-      → HasOnly (b.now.words (frame_at F frame + k)) (slice_index (fresh_frame number ordinal) k)
-  fresh_word b durable k below =
-      let whole = length-fresh_frame number ordinal in
-      durable (frame_at F frame + k) (slice_index (fresh_frame number ordinal) k) (placed_at (frame_at F frame) k (frame_at F frame + k) (fresh_frame number ordinal) refl (omega arith))
+  -- a frame that was filled has these words in each image
+  pub filled_word : (b : State) → ((k v : ℕ) → write k ≡ Some v → HasOnly (b.now.words k) v) → (k : ℕ) → k < FRAME_WORDS → HasOnly (b.now.words (frame_at F frame + k)) (slice_index words k)
+  filled_word b durable k below = durable (frame_at F frame + k) (slice_index words k) (placed_at (frame_at F frame) k (frame_at F frame + k) words refl (omega (arith, whole)))
 
   -- ---- a world that stands still
 
@@ -96,17 +94,17 @@ module _ (F frame number ordinal : ℕ) (known : frame < F) where
     stands image = idle_world_of size image ≡ Some s
 
     -- its record is free in each image
-    still_free : (words : Words) → IsSettled size s words → IsFreeFrame F frame words → (before : Image) → Picks words before → (tables_of s.frames (beside_log DAEMON_LOG before)).puddles frame ≡ None
-    still_free words settled is before picked =
-        let here = subst (λ (n : ℕ). IsFreeFrame n frame words) same is in
+    still_free : (held : Words) → IsSettled size s held → IsFreeFrame F frame held → (before : Image) → Picks held before → (tables_of s.frames (beside_log DAEMON_LOG before)).puddles frame ≡ None
+    still_free held settled is before picked =
+        let here = subst (λ (n : ℕ). IsFreeFrame n frame held) same is in
         let idle = settled.idle (before DAEMON_LOG) (picked.each DAEMON_LOG) in
         ap (λ (i : Image). (tables_of s.frames i).puddles frame) (sym (settled_by-beside DAEMON_LOG before idle))
-        ∙ ap (λ (t : Tables). t.puddles frame) (settled_tables size s words before settled here.tables picked)
+        ∙ ap (λ (t : Tables). t.puddles frame) (settled_tables size s held before settled here.tables picked)
         ∙ here.free
 
-    still : (words : Words) → IsSettled size s words → IsFreeFrame F frame words → (before image : Image) → Picks words before → IsFrom (written write) before image → stands image
-    still words settled is before image picked from =
-        world_beside_frame size s frame before image (settled.idle (before DAEMON_LOG) (picked.each DAEMON_LOG)) (settled.stands before picked) (still_free words settled is before picked)
+    still : (held : Words) → IsSettled size s held → IsFreeFrame F frame held → (before image : Image) → Picks held before → IsFrom (written write) before image → stands image
+    still held settled is before image picked from =
+        world_beside_frame size s frame before image (settled.idle (before DAEMON_LOG) (picked.each DAEMON_LOG)) (settled.stands before picked) (still_free held settled is before picked)
         (λ k outside. filled_from before image from k (λ of. let low = of.low in let high = of.high in outside (record { low = omega (arith, same); high = omega (arith, same) })))
 
     pub Leaves-filled : (fault : Option HostFault) (a b : State) → IsSettled size s a.now.words → IsFreeFrame F frame a.now.words → Changes (written write) fault a b → Leaves (Silently stands) a b
@@ -124,14 +122,12 @@ module _ (F frame number ordinal : ℕ) (known : frame < F) where
     -- ---- and then the batch
 
     -- the frame is as it was filled in each image that a batch of pools leaves
-    pub fresh_behind : (puts : List Put) (b : State) (image : Image) → AreOfPools F puts → ((k v : ℕ) → write k ≡ Some v → HasOnly (b.now.words k) v) → IsBatched b.now.words DAEMON_LOG (puts_batch puts) image
-        → IsFreshFrame F frame number ordinal image
-    fresh_behind puts b image of durable batched = record {
-      each = λ k below.
-          let at = frame_at F frame + k in
-          batched.outside at (outside_log DAEMON_LOG at (inr (omega arith))) (puts_write-none F puts at of (λ word. not_pools at (omega arith) word))
-          ∙ (fresh_word b durable k below).each (batched.before at) (batched.picked.each at);
-    }
+    pub filled_behind : (puts : List Put) (b : State) (image : Image) → AreOfPools F puts → ((k v : ℕ) → write k ≡ Some v → HasOnly (b.now.words k) v) → IsBatched b.now.words DAEMON_LOG (puts_batch puts) image
+        → (k : ℕ) → k < FRAME_WORDS → frame_word F frame k image ≡ slice_index words k
+    filled_behind puts b image of durable batched k below =
+        let at = frame_at F frame + k in
+        batched.outside at (outside_log DAEMON_LOG at (inr (omega arith))) (puts_write-none F puts at of (λ word. not_pools at (omega arith) word))
+        ∙ (filled_word b durable k below).each (batched.before at) (batched.picked.each at)
       where
         not_pools : (k : ℕ) → frames_at F ≤ k → IsPoolsWord F k → ⊥
         not_pools k behind (inl word) = let high = word.high in absurd (omega arith)
@@ -139,13 +135,11 @@ module _ (F frame number ordinal : ℕ) (known : frame < F) where
         not_pools k behind (inr (inr word)) = let high = word.high in absurd (omega arith)
 
     -- it is so in each image before the batch, with the daemon log replayed
-    pub fresh_before : (b : State) (image : Image) → IsSettled size s b.now.words → ((k v : ℕ) → write k ≡ Some v → HasOnly (b.now.words k) v) → Picks b.now.words image
-        → IsFreshFrame F frame number ordinal (settled_by DAEMON_LOG image)
-    fresh_before b image settled durable picked = record {
-      each = λ k below.
-          let at = frame_at F frame + k in
-          settled_frames size s b.now.words image at settled picked (omega (arith, same)) ∙ (fresh_word b durable k below).each (image at) (picked.each at);
-    }
+    pub filled_before : (b : State) (image : Image) → IsSettled size s b.now.words → ((k v : ℕ) → write k ≡ Some v → HasOnly (b.now.words k) v) → Picks b.now.words image
+        → (k : ℕ) → k < FRAME_WORDS → frame_word F frame k (settled_by DAEMON_LOG image) ≡ slice_index words k
+    filled_before b image settled durable picked k below =
+        let at = frame_at F frame + k in
+        settled_frames size s b.now.words image at settled picked (omega (arith, same)) ∙ (filled_word b durable k below).each (image at) (picked.each at)
 
     -- the frame could not be filled
     pub ChangesPools-unfilled : (next : StoredWorld) (also : Image → Type 0) (fault : HostFault) (a b : State) → IsSettled size s a.now.words → IsFreeFrame F frame a.now.words → Changes (written write) (Some fault) a b

@@ -1,14 +1,13 @@
 -- A pool that grows: what the batch makes of the tables and of the pools, and the frame that is filled before it.
-use Rattle.std.proofs.Common.{◌≡◌, inl, inr, ℕ, ◌+◌, ◌-◌, ◌<◌, ◌≤◌, true, false, not, ltb, eqb, List, [], ◌∷◌, ◌++◌, length, Option, Some, None, option_map, nat_cmp, refl, sym, ap, ap₂, ◌∙◌, subst, arith, lt-ltb, le-ltb, eq-eqb, ne_eqb, replicate, cond, length-append}
+use Rattle.std.proofs.Common.{◌≡◌, inl, inr, ℕ, ◌+◌, ◌-◌, ◌<◌, ◌≤◌, true, ltb, eqb, List, [], ◌∷◌, ◌++◌, length, Option, Some, None, nat_cmp, refl, sym, ap, ap₂, ◌∙◌, subst, arith, lt-ltb, le-ltb, eq-eqb, ne_eqb, replicate, cond, length-append}
 use Rattle.std.specs.Prelude.{slice_get, slice_index}
-use Rattle.std.specs.Cmp.{unsigned_tied}
 use Rattle.std.specs.FinMap.Entries.{put, find}
-use Rattle.std.proofs.lemmas.Bool.{cases_eq, cases_lt, cases_Bool, cond-true, cond-false, and_parts, and_from}
+use Rattle.std.proofs.lemmas.Bool.{cases_eq, cases_lt, cond-true, cond-false, and_parts, and_from, ltb-true}
 use Rattle.std.proofs.lemmas.List.{map-append, length-map, length_push, length-replicate, get_or_past}
 use Rattle.std.proofs.lemmas.Option.{same_Some, slice_get_past}
-use Rattle.pud_defs.specs.declared.layout.TheConstants.{NEXT_NUMBER_WORD, FRAME_WORDS}
+use Rattle.pud_defs.specs.declared.layout.TheConstants.{FRAME_WORDS, NUMBER_LIMIT}
 use Rattle.pud_defs.specs.declared.space.TheConstants.{FRAME_MAGIC, FRAME_MAGIC_WORD, FRAME_NUMBER_WORD, FRAME_ORDINAL_WORD, SLOT_SERIAL_WORD}
-use Rattle.pud_defs.specs.declared.records.TheConstants.{POOL_RECORDS}
+use Rattle.pud_defs.specs.declared.records.TheConstants.{POOL_RECORDS, MAX_PUDDLES}
 use Rattle.pud_defs.specs.declared.records.PoolRec.{PoolRec}
 use Rattle.pud_defs.specs.declared.records.Puddle.{Puddle}
 use Rattle.pud_defs.specs.Geometry.{ordinal_of}
@@ -18,31 +17,28 @@ use Rattle.pud_defs.specs.Keyed.{under}
 use Rattle.pud_defs.specs.Headers.{is_header}
 use Rattle.pud_defs.specs.Frames.{fresh_header, fresh_frame, IsFreshFrame}
 use Rattle.pud_defs.specs.Puddles.{Member}
-use Rattle.pud_defs.specs.Places.{has_other_bases, IsLowestBase}
-use Rattle.pud_defs.specs.Spaces.{owner, all_below}
+use Rattle.pud_defs.specs.Spaces.{owner}
 use Rattle.pud_defs.specs.Stored.{Stored, word_in_frame, stored_in, place_begins}
 use Rattle.pud_defs.specs.Graph.{Graph, graph_of}
 use Rattle.pud_defs.specs.Holdings.{Holding, held_as, held_by, graph_held, holding_in}
 use Rattle.pud_defs.specs.Holdings.Holding.{Sound, Wild}
-use Rattle.pud_defs.specs.Tables.{Tables, Pool, Reader, tables_of, member_of, puddles_of, listed, pool_of, pools_of}
-use Rattle.pud_defs.specs.Puts.{with_put, puddle_put, member_by, with_puddle_at}
+use Rattle.pud_defs.specs.Tables.{Tables, Pool, Reader, tables_of, puddles_of, listed, pool_of, pools_of}
+use Rattle.pud_defs.specs.Puts.{member_by, with_puddle_at}
 use Rattle.pud_defs.specs.PoolChanges.{pool_named, changed_pool, with_puddle_more, with_grown_pool}
 use Rattle.pud_defs.specs.World.{StoredWorld}
 use Rattle.pud_defs.proofs.FreshGraph.{fresh_word, fresh_header_words}
-use Rattle.pud_defs.proofs.Keyed.{first_free_some, under_apart}
-use Rattle.pud_defs.proofs.Spaces.{all_below-each}
-use Rattle.pud_defs.proofs.TablesOf.{tables_of-same}
-use Rattle.pud_defs.proofs.PutsMade.{with_put-outside, with_put-inside, puddle_put_made}
+use Rattle.pud_defs.proofs.Keyed.{first_free_some}
 use Rattle.pud_defs.proofs.PoolsCounted.{few_members, length_puddles}
 use Rattle.graph_laws.specs.Reads.{with_puddle, IsGrown}
 use Rattle.graph_laws.proofs.Grown.{slice_get-front, slice_get-push, graph_of-grown}
 use Rattle.graph_laws.proofs.StaysWild.{graph_of-wild}
-use Rattle.registry.specs.declared.growing.Growth.{Growth}
-use Rattle.registry.specs.Puts.{AreOfPools, number_put, with_puts}
-use Rattle.registry.specs.Growth.{grown_puddle, growing, IsGrowthFor, HoldsGraph, HoldsNoGraph, added_puddle, kept_longer, with_kept_longer, with_wild_grown}
-use Rattle.registry.proofs.Moved.{ReadsWorld, MakesPools, pools_next}
+use Rattle.registry.specs.declared.adding.Added.{Added}
+use Rattle.registry.specs.Adding.{IsFilled, MakesPools, pools_next}
+use Rattle.registry.specs.Growth.{puddle_count, growing, IsGrowthFor, HoldsGraph, HoldsNoGraph, added_puddle, kept_longer, with_kept_longer, with_wild_grown}
+use Rattle.registry.proofs.Moved.{ReadsWorld}
 use Rattle.registry.proofs.Changed.{found_pool, changed_there}
-use Rattle.registry.proofs.Made.{other_base, given}
+use Rattle.registry.proofs.NewPuddles.{other_base, other_old_base, others_bases, legal_new, adding_of, adding_next, adding_tables}
+use Rattle.pud_defs.specs.SoundTables.{old_bases}
 use Rattle.pud_defs.proofs.PuddleMore.{IsNextPuddle, sound_more, pools_more}
 
 -- ---- the graph
@@ -136,31 +132,7 @@ module _ (types : List (ℕ × ℕ)) (F : ℕ) (i : Image) (at : List (ℕ × Pu
   pub still_holds : (g : Graph) → holding_in types F i at ≡ Sound g → holding_in types F i longer ≡ Sound g
   still_holds g holds = ap (held_by types) stored_longer ∙ ap (held_as (with_puddle d word st)) (graph_of-grown types st d word grown g (held_graph types st g holds))
 
--- ---- what is free
-
-other_old_base : (base slot frame : ℕ) (o : Option Member) → has_other_bases base o ≡ true → under nat_cmp base (option_map (λ p. (p.1.1.old_base, frame)) (member_of slot frame o)) ≡ None
-other_old_base base slot frame None other = refl
-other_old_base base slot frame (Some m) other =
-    let parts = and_parts (not (eqb m.puddle.base base)) (not (eqb m.puddle.old_base base)) other in
-    elim (cases_Bool (eqb m.pool (slot + 1))) [
-      | inl of ↦ ap (λ o. under nat_cmp base (option_map (λ p. (p.1.1.old_base, frame)) o)) (cond-true _ (Some (m.ordinal, (frame, m.puddle))) None of) ∙ elim (cases_eq m.puddle.old_base base) [
-        | inl e ↦ absurd (let no : false ≡ true = sym (ap not (eq-eqb m.puddle.old_base base e)) ∙ parts.1 in cc)
-        | inr apart ↦ under_apart nat_cmp base (m.puddle.old_base, frame) (unsigned_tied base m.puddle.old_base ∙ ne_eqb base m.puddle.old_base (λ e. apart (sym e)))
-      ]
-      | inr not_of ↦ ap (λ o. under nat_cmp base (option_map (λ p. (p.1.1.old_base, frame)) o)) (cond-false _ (Some (m.ordinal, (frame, m.puddle))) None not_of)
-    ]
-
--- no puddle has the base as its own or as its old one
-others_bases : (t : Tables) (base : ℕ) → IsLowestBase t [] base → (f : ℕ) → f < t.frames → has_other_bases base (t.puddles f) ≡ true
-others_bases t base lowest f below =
-    all_below-each t.frames (λ frame. has_other_bases base (t.puddles frame)) (and_parts true (all_below t.frames (λ frame. has_other_bases base (t.puddles frame))) lowest.free).1 f below
-
--- the changes are of pools
-pub growing_of : (F slot : ℕ) (g : Growth) → g.frame < F → AreOfPools F (growing slot g)
-growing_of F slot g frame = (
-  inl (record { low = omega arith; high = omega arith; some = omega arith; fits = omega arith }),
-  (inr (inr (record { low = omega arith; high = omega arith; some = omega arith; fits = omega arith })), tt),
-)
+-- ---- the worlds
 
 pub grown_world : (s : StoredWorld) (name : List ℕ) → pools_next s (s.next_number + 1) (changed_pool name with_puddle_more s.pools) ≡ with_grown_pool name s
 unfolding with_grown_pool
@@ -172,57 +144,52 @@ wild_world s name d kept = refl
 
 -- ---- the tables
 
-module _ (s : StoredWorld) (image : Image) (slot : ℕ) (r : PoolRec) (p : Growth) (world : ReadsWorld s image) (within : slot < POOL_RECORDS) (used : (tables_of s.frames image).pools slot ≡ Some r)
-    (place : IsGrowthFor (tables_of s.frames image) s.next_number slot p) where
+module _ (s : StoredWorld) (image : Image) (a : Added) (r : PoolRec) (world : ReadsWorld s image) (within : a.puddle.pool < POOL_RECORDS) (used : (tables_of s.frames image).pools a.puddle.pool ≡ Some r)
+    (place : IsGrowthFor (tables_of s.frames image) s.next_number a.puddle.pool (puddle_count (tables_of s.frames image) a.puddle.pool) a) where
   abbrev t : Tables
   t = tables_of s.frames image
 
+  abbrev slot : ℕ
+  slot = a.puddle.pool
+
   abbrev m : Member
-  m = member_by (grown_puddle slot p)
+  m = member_by a.puddle
 
   same_frames : t.frames ≡ s.frames
   unfolding tables_of
   same_frames = refl
 
-  frame_below : p.frame < t.frames
-  frame_below = let free = first_free_some t.puddles 0 t.frames p.frame place.frame in let high = free.high in omega arith
+  frame_below : a.frame < t.frames
+  frame_below = let free = first_free_some t.puddles 0 t.frames a.frame place.puddle.frame in let high = free.high in omega arith
 
-  ordinal_last : p.ordinal ≡ length (puddles_of t slot)
-  ordinal_last = place.ordinal ∙ sym (length_puddles s.next_number t world.sound slot within)
+  within_frames : a.frame < s.frames
+  within_frames = omega (arith, frame_below, same_frames)
 
-  next_puddle : IsNextPuddle (s.next_number + 1) t slot p.frame r m
+  ordinal_last : a.puddle.ordinal ≡ length (puddles_of t slot)
+  ordinal_last = place.puddle.ordinal_is ∙ sym (length_puddles s.next_number t world.sound slot within)
+
+  few : puddle_count t slot < MAX_PUDDLES
+  few = ltb-true (puddle_count t slot) MAX_PUDDLES (and_parts (ltb (puddle_count t slot) MAX_PUDDLES) (ltb s.next_number NUMBER_LIMIT) place.room).0
+
+  left : s.next_number < NUMBER_LIMIT
+  left = ltb-true s.next_number NUMBER_LIMIT (and_parts (ltb (puddle_count t slot) MAX_PUDDLES) (ltb s.next_number NUMBER_LIMIT) place.room).1
+
+  next_puddle : IsNextPuddle (s.next_number + 1) t slot a.frame r m
   next_puddle =
-      let low = world.low in
-      let number = place.number in
       record {
         within = within;
         used = used;
         frame_below = frame_below;
-        frame_free = (first_free_some t.puddles 0 t.frames p.frame place.frame).free;
+        frame_free = (first_free_some t.puddles 0 t.frames a.frame place.puddle.frame).free;
         of = refl;
         last = ordinal_last;
-        few = place.few;
-        puddle = and_from _ _ (and_from _ _ (and_from _ _ (given (s.next_number + 1) p.number (omega arith) (omega arith)) place.base.legal) place.base.legal) refl;
-        new_base = λ f below. other_base p.base f (t.puddles f) (others_bases t p.base place.base f below);
-        new_old_base = λ f below. other_old_base p.base slot f (t.puddles f) (others_bases t p.base place.base f below);
+        few = omega (arith, few, place.puddle.ordinal_is);
+        puddle = legal_new t slot (puddle_count t slot) s.next_number (s.next_number + 1) a place.puddle world.low (omega arith);
+        new_base = λ f below. other_base a.puddle.base f (t.puddles f) (others_bases t a.puddle.base place.puddle.base f below);
+        new_old_base = λ f below.
+            subst (λ (b : ℕ). under nat_cmp b (old_bases t slot f) ≡ None) (sym place.puddle.old_base)
+            (other_old_base a.puddle.base slot f (t.puddles f) (others_bases t a.puddle.base place.puddle.base f below));
       }
-
-  grown_tables : (i : Image) → tables_of s.frames i ≡ t → tables_of s.frames (with_puts (growing slot p) i) ≡ with_puddle_at p.frame (Some m) t
-  unfolding with_puts
-  grown_tables i same =
-      let put = number_put (p.number + 1) in
-      let kept : tables_of s.frames (with_put put i) ≡ tables_of s.frames i =
-      tables_of-same s.frames (with_put put i) i (λ k low high. with_put-outside put i k (λ from to. omega arith)) (λ k low high. with_put-outside put i k (λ from to. omega arith)) in
-      puddle_put_made s.frames (with_put put i) p.frame (grown_puddle slot p) (omega (arith, frame_below, same_frames)) (omega arith)
-      ∙ ap (with_puddle_at p.frame (Some m)) (kept ∙ same)
-
-  grown_next : (i : Image) → i NEXT_NUMBER_WORD ≡ s.next_number → with_puts (growing slot p) i NEXT_NUMBER_WORD ≡ s.next_number + 1
-  unfolding with_puts
-  grown_next i same =
-      let put = number_put (p.number + 1) in
-      with_put-outside (puddle_put p.frame (grown_puddle slot p)) (with_put put i) NEXT_NUMBER_WORD (λ low high. omega arith)
-      ∙ with_put-inside put i NEXT_NUMBER_WORD 0 (omega arith) (omega arith)
-      ∙ ap (λ (n : ℕ). n + 1) place.number
 
   -- ---- the pools
 
@@ -230,7 +197,7 @@ module _ (s : StoredWorld) (image : Image) (slot : ℕ) (r : PoolRec) (p : Growt
   before = puddles_of t slot
 
   abbrev after : List (ℕ × (ℕ × Puddle))
-  after = before ++ (m.ordinal, (p.frame, m.puddle)) ∷ []
+  after = before ++ (m.ordinal, (a.frame, m.puddle)) ∷ []
 
   as_many : length (listed before) ≡ length before
   as_many = length-map before (λ (e : ℕ × (ℕ × Puddle)). e.1)
@@ -238,27 +205,27 @@ module _ (s : StoredWorld) (image : Image) (slot : ℕ) (r : PoolRec) (p : Growt
   some_listed : 0 < length (listed before)
   some_listed = let some = (few_members s.next_number t world.sound slot r within used).some in omega (arith, some, as_many)
 
-  module _ (i : Image) (fresh : IsFreshFrame s.frames p.frame p.number p.ordinal i) (pools : pools_of (holding_in s.types s.frames i) t ≡ s.pools) where
+  module _ (i : Image) (fresh : IsFilled s.frames a i) (pools : pools_of (holding_in s.types s.frames i) t ≡ s.pools) where
     abbrev hold : Reader
     hold = holding_in s.types s.frames i
 
     found : find name_cmp r.name s.pools ≡ Some (pool_of hold r before)
     found = ap (find name_cmp r.name) (sym pools) ∙ found_pool hold s.next_number t slot r world.sound within used
 
-    fresh_here : IsFreshFrame s.frames p.frame p.number (length (listed before)) i
-    fresh_here = let place_of : p.ordinal ≡ length (listed before) = omega (arith, ordinal_last, as_many) in subst (λ (n : ℕ). IsFreshFrame s.frames p.frame p.number n i) place_of fresh
+    fresh_here : IsFreshFrame s.frames a.frame a.puddle.number (length (listed before)) i
+    fresh_here = let place_of : a.puddle.ordinal ≡ length (listed before) = omega (arith, ordinal_last, as_many) in subst (λ (n : ℕ). IsFreshFrame s.frames a.frame a.puddle.number n i) place_of fresh
 
-    held_then : (holding : Holding) → hold (listed before ++ (p.frame, m.puddle) ∷ []) ≡ holding → hold (listed after) ≡ holding
-    held_then holding is = ap hold (map-append (λ (e : ℕ × (ℕ × Puddle)). e.1) before ((m.ordinal, (p.frame, m.puddle)) ∷ [])) ∙ is
+    held_then : (holding : Holding) → hold (listed before ++ (a.frame, m.puddle) ∷ []) ≡ holding → hold (listed after) ≡ holding
+    held_then holding is = ap hold (map-append (λ (e : ℕ × (ℕ × Puddle)). e.1) before ((m.ordinal, (a.frame, m.puddle)) ∷ [])) ∙ is
 
     -- what the pool holds, as it is found by its name
     held_as_found : (pool : Pool) → pool_named r.name s ≡ Some pool → hold (listed before) ≡ pool.holding
     unfolding pool_of
     held_as_found pool there = ap (λ (x : Pool). x.holding) (same_Some (pool_of hold r before) pool (sym found ∙ there))
 
-    pools_grown : (change : Pool → Pool) → pool_of hold r after ≡ change (pool_of hold r before) → pools_of hold (with_puddle_at p.frame (Some m) t) ≡ changed_pool r.name change s.pools
+    pools_grown : (change : Pool → Pool) → pool_of hold r after ≡ change (pool_of hold r before) → pools_of hold (with_puddle_at a.frame (Some m) t) ≡ changed_pool r.name change s.pools
     pools_grown change grown =
-        pools_more s.next_number (s.next_number + 1) (omega arith) t slot p.frame r m world.sound next_puddle hold
+        pools_more s.next_number (s.next_number + 1) (omega arith) t slot a.frame r m world.sound next_puddle hold
         ∙ ap₂ (put name_cmp r.name) grown pools
         ∙ sym (changed_there r.name change s.pools (pool_of hold r before) found)
 
@@ -270,8 +237,8 @@ module _ (s : StoredWorld) (image : Image) (slot : ℕ) (r : PoolRec) (p : Growt
       pool_grown : pool_of hold r after ≡ with_puddle_more (pool_of hold r before)
       unfolding pool_of
       pool_grown =
-          let count = length_push before (m.ordinal, (p.frame, m.puddle)) in
-          let same = held_then (Sound g) (still_holds s.types s.frames i (listed before) p.frame m.puddle some_listed fresh_here g held) ∙ sym held in
+          let count = length_push before (m.ordinal, (a.frame, m.puddle)) in
+          let same = held_then (Sound g) (still_holds s.types s.frames i (listed before) a.frame m.puddle some_listed fresh_here g held) ∙ sym held in
           λ k. record { owner = owner r.uid r.gid; mode = r.mode; number = r.number; puddles = count k; holding = same k }
 
     -- without one it keeps the puddle's words too
@@ -279,35 +246,33 @@ module _ (s : StoredWorld) (image : Image) (slot : ℕ) (r : PoolRec) (p : Growt
       wild : hold (listed before) ≡ Wild kept
       wild = held_as_found holds.pool holds.there ∙ holds.holds
 
-      pool_wild : pool_of hold r after ≡ with_kept_longer (added_puddle p) kept (pool_of hold r before)
+      pool_wild : pool_of hold r after ≡ with_kept_longer (added_puddle a) kept (pool_of hold r before)
       unfolding pool_of
       pool_wild =
-          let count = length_push before (m.ordinal, (p.frame, m.puddle)) in
-          let then = held_then (Wild (kept_longer m.puddle kept)) (still_wild s.types s.frames i (listed before) p.frame m.puddle some_listed fresh_here kept wild) in
+          let count = length_push before (m.ordinal, (a.frame, m.puddle)) in
+          let then = held_then (Wild (kept_longer m.puddle kept)) (still_wild s.types s.frames i (listed before) a.frame m.puddle some_listed fresh_here kept wild) in
           λ k. record { owner = owner r.uid r.gid; mode = r.mode; number = r.number; puddles = count k; holding = then k }
 
   MakesPools-by : (change : Pool → Pool)
-      → ((i : Image) → IsFreshFrame s.frames p.frame p.number p.ordinal i → pools_of (holding_in s.types s.frames i) t ≡ s.pools
+      → ((i : Image) → IsFilled s.frames a i → pools_of (holding_in s.types s.frames i) t ≡ s.pools
       → pool_of (holding_in s.types s.frames i) r after ≡ change (pool_of (holding_in s.types s.frames i) r before))
-      → MakesPools s (s.next_number + 1) (changed_pool r.name change s.pools) (growing slot p) (IsFreshFrame s.frames p.frame p.number p.ordinal) t
+      → MakesPools s (s.next_number + 1) (changed_pool r.name change s.pools) (growing a) (IsFilled s.frames a) t
   MakesPools-by change grows =
-      let low = world.low in
-      let left = place.left in
       record {
-        of = growing_of s.frames slot p (omega (arith, frame_below, same_frames));
+        of = adding_of s.frames (a.puddle.number + 1) (a ∷ []) (within_frames, within, tt);
         low = omega arith;
-        high = omega arith;
-        next = grown_next;
-        now = with_puddle_at p.frame (Some m) t;
-        tables = grown_tables;
+        high = omega (arith, left);
+        next = λ i read. adding_next (a.puddle.number + 1) (a ∷ []) i ∙ ap (λ (n : ℕ). n + 1) place.puddle.number_is;
+        now = with_puddle_at a.frame (Some m) t;
+        tables = λ i same. adding_tables s.frames (a.puddle.number + 1) (a ∷ []) i (within_frames, within, tt) ∙ ap (with_puddle_at a.frame (Some m)) same;
         pools = λ i fresh pools. pools_grown i fresh pools change (grows i fresh pools);
-        sound = sound_more s.next_number (s.next_number + 1) (omega arith) t slot p.frame r m world.sound next_puddle;
+        sound = sound_more s.next_number (s.next_number + 1) (omega arith) t slot a.frame r m world.sound next_puddle;
       }
 
   pub MakesPools-grown : (g : Graph) → HoldsGraph r.name s g
-      → MakesPools s (s.next_number + 1) (changed_pool r.name with_puddle_more s.pools) (growing slot p) (IsFreshFrame s.frames p.frame p.number p.ordinal) t
+      → MakesPools s (s.next_number + 1) (changed_pool r.name with_puddle_more s.pools) (growing a) (IsFilled s.frames a) t
   MakesPools-grown g holds = MakesPools-by with_puddle_more (λ i fresh pools. pool_grown i fresh pools g holds)
 
   pub MakesPools-wild : (kept : Stored) → HoldsNoGraph r.name s kept
-      → MakesPools s (s.next_number + 1) (changed_pool r.name (with_kept_longer (added_puddle p) kept) s.pools) (growing slot p) (IsFreshFrame s.frames p.frame p.number p.ordinal) t
-  MakesPools-wild kept holds = MakesPools-by (with_kept_longer (added_puddle p) kept) (λ i fresh pools. pool_wild i fresh pools kept holds)
+      → MakesPools s (s.next_number + 1) (changed_pool r.name (with_kept_longer (added_puddle a) kept) s.pools) (growing a) (IsFilled s.frames a) t
+  MakesPools-wild kept holds = MakesPools-by (with_kept_longer (added_puddle a) kept) (λ i fresh pools. pool_wild i fresh pools kept holds)

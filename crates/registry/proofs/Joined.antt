@@ -1,11 +1,11 @@
 -- What the calls owe that change pools, from what their batches do.
-use Rattle.std.proofs.Common.{◌≡◌, inl, inr, ℕ, ◌+◌, ◌<◌, ◌≤◌, true, List, Option, Some, None, refl, sym, ap, subst, ◌∙◌, arith}
+use Rattle.std.proofs.Common.{◌≡◌, inl, inr, ℕ, ◌+◌, ◌-◌, ◌<◌, ◌≤◌, true, List, Option, Some, None, refl, sym, ap, subst, ◌∙◌, arith}
 use Rattle.std.specs.Prelude.{⊤}
 use Rattle.pm_model.specs.declared.host.HostFault.{HostFault}
-use Rattle.pm_model.specs.Words.{Picks, reads}
+use Rattle.pm_model.specs.Words.{Words, Picks, reads}
 use Rattle.pm_model.specs.Moments.{State}
 use Rattle.pm_model.specs.Changes.{Write, written, Persists, Silently}
-use Rattle.pm_model.specs.Masks.{masked, masked_state, masked_image, IsOff}
+use Rattle.pm_model.specs.Masks.{masked, masked_state, masked_image}
 use Rattle.pm_model.proofs.Masks.{reads-masked}
 use Rattle.pm_model.proofs.Leaves.{Leaves-weaker}
 use Rattle.pud_defs.specs.declared.layout.TheConstants.{DAEMON_LOG, NEXT_NUMBER_WORD}
@@ -14,7 +14,7 @@ use Rattle.pud_defs.specs.declared.records.PoolRec.{PoolRec}
 use Rattle.pud_defs.specs.declared.records.Put.{Put}
 use Rattle.pud_defs.specs.Image.{Image}
 use Rattle.pud_defs.specs.Entries.{Entry}
-use Rattle.pud_defs.specs.Frames.{IsFreshFrame}
+use Rattle.pud_defs.specs.Frames.{fresh_frame, IsFreshFrame}
 use Rattle.pud_defs.specs.Keyed.{first_free, count_used, without}
 use Rattle.pud_defs.specs.Replay.{settled_by}
 use Rattle.pud_defs.proofs.Keyed.{first_free_some}
@@ -24,23 +24,26 @@ use Rattle.pud_defs.specs.Spaces.{owner}
 use Rattle.pud_defs.specs.Tables.{Tables, Pool, tables_of, members}
 use Rattle.std.specs.FinMap.Entries.{put}
 use Rattle.pud_defs.specs.Layout.{tables_end}
-use Rattle.pud_defs.specs.PoolChanges.{NUMBERS_DRAWN, changed_pool, new_pool, with_new_pool, with_pool_mode, without_pool}
+use Rattle.pud_defs.specs.PoolChanges.{NUMBERS_DRAWN, changed_pool, new_pool, with_puddle_more, with_new_pool, with_pool_mode, without_pool}
 use Rattle.pud_defs.specs.World.{StoredWorld}
 use Rattle.pud_defs.proofs.TablesOf.{tables_of-same, frames_of_tables}
 use Rattle.pud_defs.proofs.PoolsCounted.{few_members, length_puddles}
-use Rattle.batch.specs.Batches.{HasIdleGate, IsFree, ByBatch, Commits}
+use Rattle.batch.specs.Batches.{HasIdleGate, IsFree, Commits}
 use Rattle.batch.specs.Worlds.{IsSettled, MovesBy, Moves, IsBetween}
 use Rattle.batch.specs.Tables.{HasDurableTables}
 use Rattle.batch.proofs.Tables.{reads_kept}
-use Rattle.registry.specs.declared.making.Place.{Place}
+use Rattle.registry.specs.declared.adding.Added.{Added}
 use Rattle.registry.specs.Puts.{puts_batch, AreOfPools}
-use Rattle.registry.specs.Places.{IsPlaceFor}
-use Rattle.registry.specs.Pools.{frame_write, changing, dropping, making, PersistsThenCommits, OrStill, MakesSomewhere, KeepsTables, IsOffMaking, IsLegalPool, IsPoolAt, HasFreshFrame, MayStand, ChangesPools}
+use Rattle.registry.specs.Adding.{filling, IsFilled, PersistsThenCommits, IsOffAdding, MakesPools, pools_next, AddsTo}
+use Rattle.registry.specs.Places.{IsFirstFor}
+use Rattle.registry.specs.Pools.{changing, dropping, making, new_record, OrStill, MakesSomewhere, KeepsTables, IsPoolAt, HasFreshFrame, MayStand, ChangesPools, ChangesMasked, MayMake, MakesPool}
+use Rattle.registry.specs.Growth.{growing, added_puddle, with_kept_longer, GrowsAt}
 use Rattle.registry.proofs.PutBatches.{IsFree-puts}
-use Rattle.registry.proofs.Moved.{reads_world, MakesPools, MovesBy-puts, pools_next, ChangesPools-moves}
+use Rattle.registry.proofs.Moved.{ReadsWorld, reads_world, MovesBy-puts, ChangesPools-moves}
 use Rattle.registry.proofs.Changed.{MakesPools-mode, mode_world, MakesPools-drop, drop_world}
 use Rattle.registry.proofs.Made.{MakesPools-made, made_world}
-use Rattle.registry.proofs.Filled.{not_filled, IsSettled-filled, HasDurableTables-filled, IsFreeFrame, fresh_before, fresh_behind, ChangesPools-filled}
+use Rattle.registry.proofs.Grown.{MakesPools-grown, MakesPools-wild, grown_world, wild_world}
+use Rattle.registry.proofs.Filled.{length-fresh_frame, not_filled, IsSettled-filled, HasDurableTables-filled, IsFreeFrame, filled_before, filled_behind, ChangesPools-filled}
 
 -- the batch of changes that makes these pools
 changes_by : (size : ℕ) (s next : StoredWorld) (number : ℕ) (ps : List (List ℕ × Pool)) (puts : List Put) (has also : Image → Type 0) (fault : Option HostFault) (a b : State) → pools_next s number ps ≡ next
@@ -107,60 +110,95 @@ whole_batch size s F slot r mask a es frames within settled at same gathered =
     gathered (subst (λ (u : Tables). count_used (members u slot) 0 F ≤ MAX_PUDDLES) same here)
 
 -- the lowest free frame is free
-pub free_there : (F : ℕ) (image : Image) (frame : ℕ) → first_free (tables_of F image).puddles 0 (tables_of F image).frames ≡ Some frame → (tables_of F image).puddles frame ≡ None
-free_there F image frame is = (first_free_some (tables_of F image).puddles 0 (tables_of F image).frames frame is).free
+pub free_there : (t : Tables) (frame : ℕ) → first_free t.puddles 0 t.frames ≡ Some frame → t.puddles frame ≡ None
+free_there t frame is = (first_free_some t.puddles 0 t.frames frame is).free
 
--- a frame was filled, and then the batch of these changes is written, which makes these pools
-module _ (size : ℕ) (s next : StoredWorld) (number : ℕ) (ps : List (List ℕ × Pool)) (puts : List Put) (frame drawn ordinal : ℕ) (es : List Entry) (fault : Option HostFault) (a b c : State) (stands : pools_next s number ps ≡ next)
-    (settled : IsSettled size s a.now.words) (is : es ≡ puts_batch puts) where
-  -- the batch is written where each image stands for the world still
-  abbrev pub MovesThen : Type 0
-  MovesThen = IsSettled size s b.now.words → MovesBy size s next es b.now.words → Moves size s next es fault b c
+-- ---- a puddle is added
 
-  pub filled_then : frame < s.frames → IsFreeFrame s.frames frame a.now.words → MakesPools s number ps puts (IsFreshFrame s.frames frame drawn ordinal) (tables_of s.frames (reads a.now.words))
-      → Persists (frame_write s.frames frame drawn ordinal) None a b → MovesThen → ChangesPools size s next (IsFreshFrame s.frames frame drawn ordinal) fault a c
-  filled_then known free makes filled moves =
+-- its frame was filled, and then the batch is written
+module _ (size : ℕ) (s next : StoredWorld) (F : ℕ) (a : Added) (es : List Entry) (mask : Write) (fault : Option HostFault) (old mid new : State) (adds : AddsTo size s next F a es mask old.now.words) where
+  abbrev start : State
+  start = masked_state mask old
+
+  abbrev filled : State
+  filled = masked_state mask mid
+
+  abbrev end : State
+  end = masked_state mask new
+
+  abbrev MovesThen : Type 0
+  MovesThen = IsSettled size s filled.now.words → MovesBy size s next es filled.now.words → Moves size s next es fault filled end
+
+  added_here : a.frame < s.frames → Persists (filling s.frames a) None start filled → MovesThen → ChangesPools size s next (IsFilled s.frames a) fault start end
+  added_here known fills moves =
       let F = s.frames in
-      let write = frame_write F frame drawn ordinal in
-      let settled_then = IsSettled-filled F frame drawn ordinal known size s refl None a b settled free filled.changes in
-      let tables_then = HasDurableTables-filled F frame drawn ordinal known size s refl None a b filled.changes free.tables in
-      let kept : (k : ℕ) → k < tables_end F → reads b.now.words k ≡ reads a.now.words k = λ k below. reads_kept (written write) a b k filled.changes (λ v. not_filled F frame drawn ordinal known k v (omega arith)) in
-      let same : tables_of F (reads b.now.words) ≡ tables_of F (reads a.now.words) =
-      tables_of-same F (reads b.now.words) (reads a.now.words) (λ k low high. kept k (omega arith)) (λ k low high. kept k high) in
-      let makes_then = subst (MakesPools s number ps puts (IsFreshFrame F frame drawn ordinal)) (sym same) makes in
-      ChangesPools-filled F frame drawn ordinal known size s refl next (IsFreshFrame F frame drawn ordinal) fault a b c settled free filled.changes
-      (changes_by size s next number ps puts (IsFreshFrame F frame drawn ordinal) (IsFreshFrame F frame drawn ordinal) fault b c stands settled_then tables_then makes_then
-      (λ image picked. fresh_before F frame drawn ordinal known size s refl b image settled_then (filled.durable refl) picked)
-      (λ image between. fresh_behind F frame drawn ordinal known size s refl puts b image makes.of (filled.durable refl) between.batched)
-      (subst (λ (es : List Entry). MovesBy size s next es b.now.words → Moves size s next es fault b c) is (moves settled_then)))
-
--- a pool is made: its frame was filled, and then its batch is written
-module _ (size : ℕ) (s : StoredWorld) (p : Place) (r : PoolRec) (es : List Entry) (fault : Option HostFault) (a b c : State) (number : r.number ≡ p.number) (settled : IsSettled size s a.now.words)
-    (legal : IsLegalPool r.name r.uid r.gid r.mode) (is : es ≡ puts_batch (making p r)) where
-  abbrev next : StoredWorld
-  next = with_new_pool r.name (owner r.uid r.gid) r.mode s
-
-  -- the pools with it
-  abbrev pools : List (List ℕ × Pool)
-  pools = put name_cmp r.name (new_pool (owner r.uid r.gid) r.mode s.next_number) s.pools
-
-  abbrev MakesThen : Type 0
-  MakesThen = MovesThen size s next (s.next_number + NUMBERS_DRAWN) pools (making p r) p.frame (p.number + 1) 0 es fault a b c (made_world s r.name (owner r.uid r.gid) r.mode) settled is
-
-  made_behind : p.frame < s.frames → HasDurableTables s.frames a.now.words → IsPlaceFor (tables_of s.frames (reads a.now.words)) s.next_number r.name p
-      → Persists (frame_write s.frames p.frame (p.number + 1) 0) None a b → MakesThen → ChangesPools size s next (IsFreshFrame s.frames p.frame (p.number + 1) 0) fault a c
-  made_behind known tables place filled moves =
-      filled_then size s next (s.next_number + NUMBERS_DRAWN) pools (making p r) p.frame (p.number + 1) 0 es fault a b c (made_world s r.name (owner r.uid r.gid) r.mode) settled is known
-      (record { tables = tables; free = free_there s.frames (reads a.now.words) p.frame place.frame })
-      (MakesPools-made s (reads a.now.words) p r (reads_world size s a.now.words settled tables) place legal number) filled moves
+      let words = fresh_frame a.puddle.number a.puddle.ordinal in
+      let whole = length-fresh_frame a.puddle.number a.puddle.ordinal in
+      let is_free : IsFreeFrame F a.frame start.now.words = record { tables = adds.tables; free = adds.free } in
+      let settled_then = IsSettled-filled F a.frame words whole known size s refl None start filled adds.settled is_free fills.changes in
+      let tables_then = HasDurableTables-filled F a.frame words whole known size s refl None start filled fills.changes adds.tables in
+      let kept : (k : ℕ) → k < tables_end F → reads filled.now.words k ≡ reads start.now.words k = λ k below.
+      reads_kept (written (filling F a)) start filled k fills.changes (λ v. not_filled F a.frame words whole known k v (omega arith)) in
+      let same : tables_of F (reads filled.now.words) ≡ tables_of F (reads start.now.words) =
+      tables_of-same F (reads filled.now.words) (reads start.now.words) (λ k low high. kept k (omega arith)) (λ k low high. kept k high) in
+      let makes_then = subst (MakesPools s adds.number adds.pools adds.puts (IsFilled F a)) (sym same) adds.makes in
+      ChangesPools-filled F a.frame words whole known size s refl next (IsFilled F a) fault start filled end adds.settled is_free fills.changes
+      (changes_by size s next adds.number adds.pools adds.puts (IsFilled F a) (IsFilled F a) fault filled end adds.stands settled_then tables_then makes_then
+      (λ image picked. record { each = filled_before F a.frame words whole known size s refl filled image settled_then (fills.durable refl) picked })
+      (λ image between. record { each = filled_behind F a.frame words whole known size s refl adds.puts filled image adds.makes.of (fills.durable refl) between.batched })
+      (subst (λ (es : List Entry). MovesBy size s next es filled.now.words → Moves size s next es fault filled end) adds.is (moves settled_then)))
 
   -- on so many frames
-  pub ChangesPools-made : (F : ℕ) → F ≡ s.frames → p.frame < F → HasDurableTables F a.now.words → IsPlaceFor (tables_of F (reads a.now.words)) s.next_number r.name p
-      → Persists (frame_write F p.frame (p.number + 1) 0) None a b → MakesThen → ChangesPools size s next (IsFreshFrame F p.frame (p.number + 1) 0) fault a c
-  ChangesPools-made F same = subst (λ (n : ℕ). p.frame < n → HasDurableTables n a.now.words → IsPlaceFor (tables_of n (reads a.now.words)) s.next_number r.name p
-      → Persists (frame_write n p.frame (p.number + 1) 0) None a b → MakesThen → ChangesPools size s next (IsFreshFrame n p.frame (p.number + 1) 0) fault a c) (sym same) made_behind
+  pub ChangesPools-added : a.frame < F → Persists (filling F a) None start filled → MovesThen → ChangesPools size s next (IsFilled F a) fault start end
+  ChangesPools-added = subst (λ (n : ℕ). a.frame < n → Persists (filling n a) None start filled → MovesThen → ChangesPools size s next (IsFilled n a) fault start end) (sym adds.frames) added_here
+
+-- the puddle by which a pool grows
+module _ (size : ℕ) (s next : StoredWorld) (F : ℕ) (a : Added) (es : List Entry) (mask : Write) (words : Words) (within : a.puddle.pool < POOL_RECORDS) (is : es ≡ puts_batch (growing a)) (g : GrowsAt size s next F a mask words) where
+  abbrev read : Image
+  read = reads (masked mask words)
+
+  world : ReadsWorld s read
+  world = reads_world size s (masked mask words) g.settled g.at.tables
+
+  adds_by : (ps : List (List ℕ × Pool)) → MakesPools s (s.next_number + 1) ps (growing a) (IsFilled s.frames a) (tables_of s.frames read) → pools_next s (s.next_number + 1) ps ≡ next → AddsTo size s next F a es mask words
+  adds_by ps makes stands = record {
+    frames = g.frames;
+    puts = growing a;
+    is = is;
+    off = g.off;
+    settled = g.settled;
+    tables = g.at.tables;
+    free = free_there (tables_of s.frames read) a.frame g.is.puddle.frame;
+    number = s.next_number + 1;
+    pools = ps;
+    makes = makes;
+    stands = stands;
+  }
+
+  pub AddsTo-grown : AddsTo size s next F a es mask words
+  AddsTo-grown = elim g.grown [
+    | inl of ↦ adds_by (changed_pool g.pool.name with_puddle_more s.pools) (MakesPools-grown s read a g.pool world within g.at.used g.is of.0 of.1) (grown_world s g.pool.name ∙ sym of.2)
+    | inr of ↦
+        adds_by (changed_pool g.pool.name (with_kept_longer (added_puddle a) of.0) s.pools) (MakesPools-wild s read a g.pool world within g.at.used g.is of.0 of.1)
+        (wild_world s g.pool.name (added_puddle a) of.0 ∙ sym of.2)
+  ]
 
 -- ---- where a place was found
+
+-- what holds of the tables and of the next number as they are read, with words masked that leave them so
+module _ (size : ℕ) (s : StoredWorld) (F : ℕ) (image : Image) (mask : Write) (words : Words) (read : reads words ≡ image) (same : F ≡ s.frames) (keeps : KeepsTables F mask image)
+    (settled : IsSettled size s (masked mask words)) (tables : HasDurableTables s.frames (masked mask words)) where
+  read_masked : reads (masked mask words) ≡ masked_image mask image
+  read_masked = reads-masked mask words ∙ ap (masked_image mask) read
+
+  pub tables_masked : tables_of s.frames (reads (masked mask words)) ≡ tables_of F image
+  tables_masked = ap (λ (n : ℕ). tables_of n (reads (masked mask words))) (sym same) ∙ ap (tables_of F) read_masked ∙ keeps.tables
+
+  pub number_masked : image NEXT_NUMBER_WORD ≡ s.next_number
+  number_masked = sym keeps.number ∙ sym (ap (λ (i : Image). i NEXT_NUMBER_WORD) read_masked) ∙ (reads_world size s (masked mask words) settled tables).number
+
+  pub carried : (Is : Tables → ℕ → Type 0) → Is (tables_of F image) (image NEXT_NUMBER_WORD) → Is (tables_of s.frames (reads (masked mask words))) s.next_number
+  carried Is is = subst (λ (t : Tables). Is t s.next_number) (sym tables_masked) (subst (Is (tables_of F image)) number_masked is)
 
 -- with a weaker fact besides
 pub ChangesPools-weaker : (size : ℕ) (s next : StoredWorld) (also besides : Image → Type 0) (fault : Option HostFault) (a c : State) → ((image : Image) → also image → besides image) → ChangesPools size s next also fault a c
@@ -173,70 +211,77 @@ ChangesPools-weaker size s next also besides fault a c weaker p = record {
   tables = p.tables;
 }
 
-fresh_place : (F next : ℕ) (before : Image) (name : List ℕ) (p : Place) → IsPlaceFor (tables_of F before) next name p → (image : Image) → IsFreshFrame F p.frame (p.number + 1) 0 image → HasFreshFrame (tables_of F before) (next + 1) image
-unfolding tables_of
-fresh_place F next before name p place image fresh =
-    record { frame = p.frame; lowest = place.frame; fresh = subst (λ (n : ℕ). IsFreshFrame F p.frame (n + 1) 0 image) place.number fresh }
+-- the number before the puddle's is the pool's
+pub record_is : (name : List ℕ) (uid gid mode next : ℕ) (a : Added) → a.puddle.number ≡ next + 1 → record { name = name; uid = uid; gid = gid; mode = mode; number = a.puddle.number - 1 } ≡ new_record name uid gid mode next
+record_is name uid gid mode next a is = ap (new_record name uid gid mode) (let same : a.puddle.number - 1 ≡ next = omega arith in same)
 
-module _ (size : ℕ) (s next : StoredWorld) (F : ℕ) (image : Image) (name : List ℕ) (p : Place) (fault : Option HostFault) (a c : State) (read : reads a.now.words ≡ image) (same : F ≡ s.frames)
-    (settled : IsSettled size s a.now.words) (tables : HasDurableTables F a.now.words) (place : IsPlaceFor (tables_of F image) (image NEXT_NUMBER_WORD) name p) where
-  -- what the call that makes it owes from there
-  abbrev MakesThere : State → Type 0
-  MakesThere b = IsSettled size s b.now.words → HasDurableTables F b.now.words → IsPlaceFor (tables_of F (reads b.now.words)) s.next_number name p
-      → ChangesPools size s next (IsFreshFrame F p.frame (p.number + 1) 0) fault b c
+-- a first puddle was found for a new pool, and nothing changed
+module _ (F : ℕ) (image : Image) (name : List ℕ) (uid gid mode : ℕ) (a : Added) (place : IsFirstFor (tables_of F image) (image NEXT_NUMBER_WORD) name a) (fault : Option HostFault) (old mid new : State) (still : mid ≡ old) where
+  abbrev r : PoolRec
+  r = new_record name uid gid mode (image NEXT_NUMBER_WORD)
+
+  -- on any content
+  pub MakesSomewhere-found : (HasIdleGate DAEMON_LOG mid.now.words → PersistsThenCommits (filling F a) (puts_batch (making r a)) fault mid new) → HasIdleGate DAEMON_LOG old.now.words
+      → OrStill (MakesSomewhere (tables_of F image) (image NEXT_NUMBER_WORD) name uid gid mode) fault old new
+  unfolding tables_of
+  MakesSomewhere-found commits idle =
+      inr (record {
+        added = a;
+        is = place;
+        commits = subst (λ (b : State). HasIdleGate DAEMON_LOG b.now.words → PersistsThenCommits (filling F a) (puts_batch (making r a)) fault b new) still commits idle;
+      })
+
+fresh_place : (F next n : ℕ) (before : Image) (name : List ℕ) (a : Added) → IsFirstFor (tables_of F before) next name a → next ≡ n → (image : Image) → IsFilled F a image → HasFreshFrame (tables_of F before) (n + 1) image
+unfolding tables_of
+fresh_place F next n before name a place is image filled = record {
+  frame = a.frame;
+  lowest = place.puddle.frame;
+  fresh = subst (λ (m : ℕ). IsFreshFrame F a.frame m 0 image) (place.puddle.number_is ∙ ap (λ (m : ℕ). m + 1) is) (subst (λ (m : ℕ). IsFreshFrame F a.frame a.puddle.number m image) place.puddle.ordinal_is filled);
+}
+
+-- where each image stands for a world
+module _ (size : ℕ) (s : StoredWorld) (F : ℕ) (name : List ℕ) (uid gid mode : ℕ) (mask : Write) (old : State) (may : MayMake size s F name uid gid mode mask old.now.words)
+    (a : Added) (place : IsFirstFor (tables_of F (reads old.now.words)) (reads old.now.words NEXT_NUMBER_WORD) name a) where
+  abbrev image : Image
+  image = reads old.now.words
+
+  abbrev words : Words
+  words = masked mask old.now.words
+
+  abbrev next : StoredWorld
+  next = with_new_pool name (owner uid gid) mode s
+
+  tables : HasDurableTables s.frames words
+  tables = subst (λ (n : ℕ). HasDurableTables n words) may.frames may.tables
 
   number_is : image NEXT_NUMBER_WORD ≡ s.next_number
-  number_is = ap (λ (i : Image). i NEXT_NUMBER_WORD) (sym read) ∙ (reads_world size s a.now.words settled (subst (λ (n : ℕ). HasDurableTables n a.now.words) same tables)).number
+  number_is = number_masked size s F image mask old.now.words refl may.frames may.keeps may.settled tables
 
-  place_here : IsPlaceFor (tables_of F image) s.next_number name p
-  place_here = subst (λ (n : ℕ). IsPlaceFor (tables_of F image) n name p) number_is place
+  place_masked : IsFirstFor (tables_of s.frames (reads words)) s.next_number name a
+  place_masked = carried size s F image mask old.now.words refl may.frames may.keeps may.settled tables (λ t n. IsFirstFor t n name a) place
 
-  changes_here : MakesThere a → ChangesPools size s next (HasFreshFrame (tables_of F image) (s.next_number + 1)) fault a c
-  changes_here makes =
-      ChangesPools-weaker size s next (IsFreshFrame F p.frame (p.number + 1) 0) (HasFreshFrame (tables_of F image) (s.next_number + 1)) fault a c
-      (fresh_place F s.next_number image name p place_here)
-      (makes settled tables (subst (λ (i : Image). IsPlaceFor (tables_of F i) s.next_number name p) (sym read) place_here))
+  adds : (es : List Entry) → es ≡ puts_batch (making (new_record name uid gid mode (image NEXT_NUMBER_WORD)) a) → AddsTo size s next F a es mask old.now.words
+  adds es is = record {
+    frames = may.frames;
+    puts = making (new_record name uid gid mode (image NEXT_NUMBER_WORD)) a;
+    is = is;
+    off = subst (λ (n : ℕ). IsOffAdding mask n a (making (new_record name uid gid mode (image NEXT_NUMBER_WORD)) a)) (frames_of_tables F image) (may.off.each a place);
+    settled = may.settled;
+    tables = tables;
+    free = free_there (tables_of s.frames (reads words)) a.frame place_masked.puddle.frame;
+    number = s.next_number + NUMBERS_DRAWN;
+    pools = put name_cmp name (new_pool (owner uid gid) mode s.next_number) s.pools;
+    makes = MakesPools-made s (reads words) a (new_record name uid gid mode (image NEXT_NUMBER_WORD)) (reads_world size s words may.settled tables) place_masked may.legal number_is;
+    stands = made_world s name (owner uid gid) mode;
+  }
 
-  -- behind the search for the place
-  pub ChangesPools-found : (b : State) → b ≡ a → MakesThere b → ChangesPools size s next (HasFreshFrame (tables_of F image) (s.next_number + 1)) fault a c
-  ChangesPools-found b e = subst (λ (b : State). MakesThere b → ChangesPools size s next (HasFreshFrame (tables_of F image) (s.next_number + 1)) fault a c) (sym e) changes_here
-
--- with words masked that are none of those that the pool takes
-module _ (size : ℕ) (s next : StoredWorld) (F : ℕ) (image : Image) (name : List ℕ) (uid gid mode : ℕ) (p : Place) (fault : Option HostFault) (mask : Write) (a b c : State) (read : reads a.now.words ≡ image) (same : F ≡ s.frames)
-    (keeps : KeepsTables F mask image) (off : IsOffMaking mask (tables_of F image) (image NEXT_NUMBER_WORD) name uid gid mode) (place : IsPlaceFor (tables_of F image) (image NEXT_NUMBER_WORD) name p) where
-  read_masked : reads (masked mask a.now.words) ≡ masked_image mask image
-  read_masked = reads-masked mask a.now.words ∙ ap (masked_image mask) read
-
-  place_masked : IsPlaceFor (tables_of F (reads (masked mask a.now.words))) (reads (masked mask a.now.words) NEXT_NUMBER_WORD) name p
-  place_masked =
-      subst (λ (i : Image). IsPlaceFor (tables_of F i) (i NEXT_NUMBER_WORD) name p) (sym read_masked)
-      (subst (λ (n : ℕ). IsPlaceFor (tables_of F (masked_image mask image)) n name p) (sym keeps.number)
-      (subst (λ (t : Tables). IsPlaceFor t (image NEXT_NUMBER_WORD) name p) (sym keeps.tables) place))
-
-  off_frame : IsOff mask (written (frame_write F p.frame (p.number + 1) 0))
-  off_frame = subst (λ (n : ℕ). IsOff mask (written (frame_write n p.frame (p.number + 1) 0))) (frames_of_tables F image) (off.frame p place)
-
-  -- what the call that makes it owes, behind a search that changed nothing
-  pub ChangesPools-found_masked : IsSettled size s (masked mask a.now.words) → HasDurableTables F (masked mask a.now.words) → b ≡ a
-      → (IsOff mask (written (frame_write F p.frame (p.number + 1) 0))
-      → IsOff mask (ByBatch DAEMON_LOG (puts_batch (making p (record { name = name; uid = uid; gid = gid; mode = mode; number = p.number }))))
-      → IsSettled size s (masked mask b.now.words) → HasDurableTables F (masked mask b.now.words) → IsPlaceFor (tables_of F (reads (masked mask b.now.words))) s.next_number name p
-      → ChangesPools size s next (IsFreshFrame F p.frame (p.number + 1) 0) fault (masked_state mask b) (masked_state mask c))
-      → ChangesPools size s next (HasFreshFrame (tables_of F image) (s.next_number + 1)) fault (masked_state mask a) (masked_state mask c)
-  ChangesPools-found_masked settled tables still makes =
-      subst (λ (t : Tables). ChangesPools size s next (HasFreshFrame t (s.next_number + 1)) fault (masked_state mask a) (masked_state mask c)) (ap (tables_of F) read_masked ∙ keeps.tables)
-      (ChangesPools-found size s next F (reads (masked mask a.now.words)) name p fault (masked_state mask a) (masked_state mask c) refl same settled tables place_masked (masked_state mask b) (ap (masked_state mask) still)
-      (makes off_frame (off.records p place)))
-
--- on any content
-pub MakesSomewhere-found : (F : ℕ) (image : Image) (next : ℕ) (name : List ℕ) (uid gid mode : ℕ) (p : Place) (fault : Option HostFault) (a b c : State) → b ≡ a → IsPlaceFor (tables_of F image) next name p
-    → (HasIdleGate DAEMON_LOG b.now.words → PersistsThenCommits (frame_write F p.frame (p.number + 1) 0) (puts_batch (making p (record { name = name; uid = uid; gid = gid; mode = mode; number = p.number }))) fault b c)
-    → HasIdleGate DAEMON_LOG a.now.words → OrStill (MakesSomewhere (tables_of F image) next name uid gid mode) fault a c
-unfolding tables_of
-MakesSomewhere-found F image next name uid gid mode p fault a b c e place commits idle =
-    let behind = subst (λ (b : State). (HasIdleGate DAEMON_LOG b.now.words → PersistsThenCommits (frame_write F p.frame (p.number + 1) 0)
-    (puts_batch (making p (record { name = name; uid = uid; gid = gid; mode = mode; number = p.number }))) fault b c)) e commits in
-    inr (record { place = p; is = place; commits = behind idle })
+  -- what the call that adds the puddle owes from there
+  pub MakesPool-found : (es : List Entry) (fault : Option HostFault) (mid new : State) → mid ≡ old → es ≡ puts_batch (making (new_record name uid gid mode (image NEXT_NUMBER_WORD)) a)
+      → (AddsTo size s next F a es mask mid.now.words → ChangesMasked mask size s next (IsFilled F a) fault mid new) → MakesPool size s F name uid gid mode mask fault old new
+  MakesPool-found es fault mid new still is makes =
+      ChangesPools-weaker size s next (IsFilled F a) (HasFreshFrame (tables_of F image) (s.next_number + 1)) fault (masked_state mask old) (masked_state mask new)
+      (fresh_place F (image NEXT_NUMBER_WORD) s.next_number image name a place number_is)
+      (subst (λ (b : State). AddsTo size s next F a es mask b.now.words → ChangesMasked mask size s next (IsFilled F a) fault b new) still makes (adds es is))
 
 -- ---- batches on any content
 

@@ -2,12 +2,11 @@ pub mod Applied
 pub mod PutBatches
 pub mod Moved
 pub mod Changed
+pub mod NewPuddles
 pub mod Made
 pub mod Filled
 pub mod Gathered
+pub mod Grown
 pub mod Joined
 pub mod Placed
-pub mod GrowthPlaced
-pub mod Grown
-pub mod GrownJoined
-pub mod GrowthAllowed
+pub mod PuddlesCounted

@@ -29,6 +29,7 @@ use Rattle.batch.specs.Worlds.{IsSettled, with_batch, MovesBy, IsBetween, Moves}
 use Rattle.batch.specs.Tables.{HasDurableTables}
 use Rattle.batch.proofs.Tables.{HasDurableTables-committed}
 use Rattle.registry.specs.Puts.{puts_batch, with_puts, AreOfPools, IsPoolsWord, ByPools}
+use Rattle.registry.specs.Adding.{MakesPools, pools_next}
 use Rattle.registry.specs.Pools.{MayStand, ChangesPools}
 use Rattle.registry.proofs.PutBatches.{overwritten-puts, with_puts-stays, ByPools-batch, puts_allowed}
 
@@ -77,21 +78,6 @@ reads_world size s words settled tables =
     }
 
 -- ---- a batch that changes pools
-
--- With these changes each image that has these tables, the world's pools and next number, and this besides, has this next number, and sound
--- tables of these pools.
-pub record MakesPools (s : StoredWorld) (number : ℕ) (ps : List (List ℕ × Pool)) (puts : List Put) (besides : Image → Type 0) (t : Tables) : Type 0 where
-  pub of : AreOfPools s.frames puts
-  pub low : 1 ≤ number
-  pub high : number ≤ NUMBER_LIMIT
-  pub next : (image : Image) → image NEXT_NUMBER_WORD ≡ s.next_number → with_puts puts image NEXT_NUMBER_WORD ≡ number
-  pub now : Tables
-  pub tables : (image : Image) → tables_of s.frames image ≡ t → tables_of s.frames (with_puts puts image) ≡ now
-  pub pools : (image : Image) → besides image → pools_of (holding_in s.types s.frames image) t ≡ s.pools → pools_of (holding_in s.types s.frames image) now ≡ ps
-  pub sound : HasSoundTables number now
-
-abbrev pub pools_next : StoredWorld → ℕ → List (List ℕ × Pool) → StoredWorld
-pools_next s number ps = record s { next_number = number; pools = ps }
 
 -- no word of a frame is a word of pools
 frames_apart : (F k : ℕ) → frames_at F ≤ k → IsPoolsWord F k → ⊥

@@ -1,31 +1,29 @@
--- A pool that grows by a puddle: where that one stands, what its batch writes, and what the world is then.
-use Rattle.std.specs.Prelude.{◌≡◌, ◌⊎◌, ℕ, ◌+◌, ◌<◌, Bool, ◌&&◌, ◌==◌, nat_lt, cond, List, [], ◌∷◌, length, slice_index, Option, Some, is_some}
-use Rattle.pm_model.specs.declared.host.HostFault.{HostFault}
-use Rattle.pm_model.specs.Moments.{State}
-use Rattle.pm_model.specs.Changes.{Write, written}
-use Rattle.pm_model.specs.Masks.{IsOff}
-use Rattle.pud_defs.specs.declared.layout.TheConstants.{DAEMON_LOG, NUMBER_LIMIT}
-use Rattle.pud_defs.specs.declared.space.TheConstants.{LAST_FRONTIER}
+-- A pool that grows by a puddle: where that one stands, or why it does not grow, what its batch writes, and what the world is then.
+use Rattle.std.specs.Prelude.{◌≡◌, ◌⊎◌, ℕ, ◌+◌, Bool, true, not, ◌&&◌, ◌==◌, nat_lt, cond, List, [], ◌∷◌, length, slice_index, Option, Some, None, is_none}
+use Rattle.pm_model.specs.Words.{Words, reads}
+use Rattle.pm_model.specs.Changes.{Write}
+use Rattle.pm_model.specs.Masks.{masked}
+use Rattle.pud_defs.specs.declared.layout.TheConstants.{NUMBER_LIMIT}
+use Rattle.pud_defs.specs.declared.machine.Refusal.{Refusal}
+use Rattle.pud_defs.specs.declared.machine.Refusal.TheVariants as refusals
 use Rattle.pud_defs.specs.declared.records.TheConstants.{MAX_PUDDLES}
 use Rattle.pud_defs.specs.declared.records.Puddle.{Puddle}
-use Rattle.pud_defs.specs.declared.records.PuddleRec.{PuddleRec}
 use Rattle.pud_defs.specs.declared.records.Put.{Put}
-use Rattle.pud_defs.specs.Image.{Image}
+use Rattle.pud_defs.specs.declared.records.PoolRec.{PoolRec}
 use Rattle.pud_defs.specs.Keyed.{first_free, count_used}
-use Rattle.pud_defs.specs.Frames.{fresh_frame, IsFreshFrame}
+use Rattle.pud_defs.specs.Frames.{fresh_frame}
 use Rattle.pud_defs.specs.Graph.{Graph}
 use Rattle.pud_defs.specs.Holdings.Holding.{Sound, Wild}
-use Rattle.pud_defs.specs.Places.{IsLowestBase}
-use Rattle.pud_defs.specs.Puts.{puddle_put}
+use Rattle.pud_defs.specs.Puts.{member_by}
 use Rattle.pud_defs.specs.Stored.{Stored}
-use Rattle.pud_defs.specs.Tables.{Tables, Pool, members}
+use Rattle.pud_defs.specs.Tables.{Tables, Pool, tables_of, members}
 use Rattle.pud_defs.specs.PoolChanges.{pool_named, changed_pool, with_grown_pool}
 use Rattle.pud_defs.specs.World.{StoredWorld}
 use Rattle.graph_laws.specs.Reads.{with_puddle}
-use Rattle.batch.specs.Batches.{ByBatch}
-use Rattle.registry.specs.declared.growing.Growth.{Growth}
-use Rattle.registry.specs.Puts.{puts_batch, number_put}
-use Rattle.registry.specs.Pools.{frame_write, PersistsThenCommits, ChangesPools}
+use Rattle.batch.specs.Worlds.{IsSettled}
+use Rattle.registry.specs.declared.adding.Added.{Added}
+use Rattle.registry.specs.Adding.{IsNewPuddle, IsOffAdding, adding}
+use Rattle.registry.specs.Pools.{IsPoolAt}
 
 -- ---- where it stands
 
@@ -37,54 +35,20 @@ puddle_count t slot = count_used (members t slot) 0 t.frames
 abbrev pub has_room : (puddles next : ℕ) → Bool
 has_room puddles next = nat_lt puddles MAX_PUDDLES && nat_lt next NUMBER_LIMIT
 
--- the pool of the slot can grow where this UUID number is the next: it may have a puddle more, the number is left, and a frame is free
-abbrev pub can_grow : Tables → (next slot : ℕ) → Bool
-can_grow t next slot = has_room (puddle_count t slot) next && is_some (first_free t.puddles 0 t.frames)
+-- why a pool of so many puddles does not grow where this UUID number is the next: it may not have one more, or no number is left; no frame is free
+abbrev pub grow_refusal : Tables → (next puddles : ℕ) → Option Refusal
+grow_refusal t next puddles = cond (not (has_room puddles next)) (Some refusals.Full) (cond (is_none (first_free t.puddles 0 t.frames)) (Some refusals.Space) None)
 
--- The puddle is the next one of the pool of a slot, in the lowest free frame, at the lowest free base, with the next UUID number.
-pub record IsGrowthFor (t : Tables) (next slot : ℕ) (g : Growth) : Type 0 where
-  pub ordinal : g.ordinal ≡ puddle_count t slot
-  pub frame : first_free t.puddles 0 t.frames ≡ Some g.frame
-  pub base : IsLowestBase t [] g.base
-  pub number : g.number ≡ next
-  pub few : g.ordinal < MAX_PUDDLES
-  pub left : next < NUMBER_LIMIT
-
--- its frame is one of so many, and there is a number behind its own
-pub record IsGrowthWithin (F : ℕ) (g : Growth) : Type 0 where
-  pub frame : g.frame < F
-  pub number : g.number < NUMBER_LIMIT
+-- The puddle is the new one of the next UUID number, the next of the pool of a slot that has so many, which may have it.
+pub record IsGrowthFor (t : Tables) (next slot puddles : ℕ) (a : Added) : Type 0 where
+  pub puddle : IsNewPuddle t slot puddles next a
+  pub room : has_room puddles next ≡ true
 
 -- ---- what its batch writes
 
--- what its record says
-abbrev pub grown_puddle : (slot : ℕ) → Growth → PuddleRec
-grown_puddle slot g = record { pool = slot; ordinal = g.ordinal; number = g.number; base = g.base; old_base = g.base; frontier = LAST_FRONTIER }
-
--- the pool of a slot grows: the next number, and the puddle's record
-abbrev pub growing : (slot : ℕ) → Growth → List Put
-growing slot g = number_put (g.number + 1) ∷ puddle_put g.frame (grown_puddle slot g) ∷ []
-
--- ---- what the call does
-
--- the pool of a slot grows by some puddle that is the one for it: its frame is filled durably, and then its record is written
-pub record GrowsSomewhere (t : Tables) (next slot : ℕ) (fault : Option HostFault) (old new : State) : Type 0 where
-  pub growth : Growth
-  pub is : IsGrowthFor t next slot growth
-  pub commits : PersistsThenCommits (frame_write t.frames growth.frame growth.number growth.ordinal) (puts_batch (growing slot growth)) fault old new
-
--- the lowest free frame of these tables is that of a new puddle
-pub record HasFreshPuddle (t : Tables) (number ordinal : ℕ) (image : Image) : Type 0 where
-  pub frame : ℕ
-  pub lowest : first_free t.puddles 0 t.frames ≡ Some frame
-  pub fresh : IsFreshFrame t.frames frame number ordinal image
-
--- ---- with words masked
-
--- none of the words that a puddle more takes is masked, wherever it is to stand
-pub record IsOffGrowing (mask : Write) (t : Tables) (next slot : ℕ) : Type 0 where
-  pub frame : (g : Growth) → IsGrowthFor t next slot g → IsOff mask (written (frame_write t.frames g.frame g.number g.ordinal))
-  pub records : (g : Growth) → IsGrowthFor t next slot g → IsOff mask (ByBatch DAEMON_LOG (puts_batch (growing slot g)))
+-- a pool grows: its puddle is added
+abbrev pub growing : Added → List Put
+growing a = adding (a.puddle.number + 1) (a ∷ [])
 
 -- ---- worlds
 
@@ -102,9 +66,9 @@ pub record HoldsNoGraph (name : List ℕ) (s : StoredWorld) (kept : Stored) : Ty
   pub there : pool_named name s ≡ Some pool
   pub holds : pool.holding ≡ Wild kept
 
--- the puddle that is added
-abbrev pub added_puddle : Growth → Puddle
-added_puddle g = record { number = g.number; base = g.base; old_base = g.base; frontier = LAST_FRONTIER }
+-- what its record says of it, beside whose it is
+abbrev pub added_puddle : Added → Puddle
+added_puddle a = (member_by a.puddle).puddle
 
 -- what is kept with this puddle behind the others: its record, and the words of its frame, which is that of a new puddle
 abbrev pub kept_longer : Puddle → Stored → Stored
@@ -124,8 +88,13 @@ abbrev pub IsGrownBy : List ℕ → StoredWorld → Puddle → StoredWorld → T
 IsGrownBy name s d next =
     ((g : Graph) × HoldsGraph name s g × (next ≡ with_grown_pool name s)) ⊎ ((kept : Stored) × HoldsNoGraph name s kept × (next ≡ with_wild_grown name d kept s))
 
--- The pool of the name and of a slot, which keeps this and holds no graph, grows by some puddle that is the one for it.
-pub record GrowsWild (size : ℕ) (s : StoredWorld) (name : List ℕ) (kept : Stored) (t : Tables) (next slot : ℕ) (fault : Option HostFault) (old new : State) : Type 0 where
-  pub growth : Growth
-  pub is : IsGrowthFor t next slot growth
-  pub changes : ChangesPools size s (with_wild_grown name (added_puddle growth) kept s) (HasFreshPuddle t s.next_number (puddle_count t slot)) fault old new
+-- With words masked that the puddle does not take, each image stands for a world, the tables are durable, and the puddle is the one by which a pool
+-- grows that is there; with it more in that pool the world is the next.
+pub record GrowsAt (size : ℕ) (s next : StoredWorld) (F : ℕ) (a : Added) (mask : Write) (words : Words) : Type 0 where
+  pub frames : F ≡ s.frames
+  pub off : IsOffAdding mask F a (growing a)
+  pub settled : IsSettled size s (masked mask words)
+  pub pool : PoolRec
+  pub at : IsPoolAt s.frames a.puddle.pool pool (masked mask words)
+  pub is : IsGrowthFor (tables_of s.frames (reads (masked mask words))) s.next_number a.puddle.pool (puddle_count (tables_of s.frames (reads (masked mask words))) a.puddle.pool) a
+  pub grown : IsGrownBy pool.name s (added_puddle a) next

@@ -1,19 +1,18 @@
 -- Where a new pool stands, or why none can be made.
-use Rattle.std.specs.Prelude.{◌≡◌, ℕ, ◌+◌, ◌<◌, ◌≤◌, false, ◌||◌, cond, List, [], Option, Some, None, is_some, is_none, Result, Ok, Err}
+use Rattle.std.specs.Prelude.{◌≡◌, ℕ, ◌+◌, false, ◌||◌, cond, List, Option, Some, None, is_some, is_none, Result, Ok, Err}
 use Rattle.pm_model.specs.declared.host.HostFault.{HostFault}
-use Rattle.pud_defs.specs.declared.layout.TheConstants.{NUMBER_LIMIT}
 use Rattle.pud_defs.specs.declared.records.TheConstants.{POOL_RECORDS}
 use Rattle.pud_defs.specs.Keyed.{first_free}
-use Rattle.pud_defs.specs.Places.{IsLowestBase}
 use Rattle.pud_defs.specs.Tables.{Tables, pool_in}
-use Rattle.pud_defs.specs.PoolChanges.{NUMBERS_DRAWN, lacks_numbers}
+use Rattle.pud_defs.specs.PoolChanges.{lacks_numbers}
 use Rattle.pool_table.specs.declared.PoolFault.{PoolFault}
 use Rattle.pool_table.specs.declared.PoolFault.TheVariants as pools
 use Rattle.puddle_table.specs.declared.PuddleFault.{PuddleFault}
 use Rattle.puddle_table.specs.declared.PuddleFault.TheVariants as puddles
 use Rattle.registry.specs.declared.making.MakeFault.{MakeFault}
 use Rattle.registry.specs.declared.making.MakeFault.TheVariants as faults
-use Rattle.registry.specs.declared.making.Place.{Place}
+use Rattle.registry.specs.declared.adding.Added.{Added}
+use Rattle.registry.specs.Adding.{IsNewPuddle}
 
 -- the host's fault that the making of a pool answered
 abbrev pub make_fault : {T : Type 0} → Result T MakeFault → Option HostFault
@@ -33,8 +32,8 @@ abbrev pub of_puddle_fault : PuddleFault → MakeFault
 of_puddle_fault puddles.NoSpace = faults.NoSpace
 of_puddle_fault (puddles.Host fault) = faults.Host fault
 
--- what it answered in place of Ok
-abbrev pub refusal_in : {T : Type 0} → Result T MakeFault → Option MakeFault
+-- what a call answered in place of Ok
+abbrev pub refusal_in : {T E : Type 0} → Result T E → Option E
 refusal_in (Ok x) = None
 refusal_in (Err fault) = Some fault
 
@@ -46,17 +45,10 @@ make_refusal t next name =
     (cond (is_none (first_free t.pools 0 POOL_RECORDS) || lacks_numbers next) (Some faults.Full)
     (cond (is_none (first_free t.puddles 0 t.frames)) (Some faults.NoSpace) None))
 
--- the place is the lowest free slot, frame and base, with the next UUID number, for a name that is not there
-pub record IsPlaceFor (t : Tables) (next : ℕ) (name : List ℕ) (p : Place) : Type 0 where
-  pub slot : first_free t.pools 0 POOL_RECORDS ≡ Some p.slot
-  pub frame : first_free t.puddles 0 t.frames ≡ Some p.frame
-  pub base : IsLowestBase t [] p.base
-  pub number : p.number ≡ next
+-- the puddle is the first of a new pool in the lowest free slot, which draws the next UUID number and the puddle the one behind, for a name that is
+-- not there
+pub record IsFirstFor (t : Tables) (next : ℕ) (name : List ℕ) (a : Added) : Type 0 where
+  pub slot : first_free t.pools 0 POOL_RECORDS ≡ Some a.puddle.pool
+  pub puddle : IsNewPuddle t a.puddle.pool 0 (next + 1) a
   pub enough : lacks_numbers next ≡ false
   pub absent : pool_in t name ≡ None
-
--- its slot is one of the table, its frame one of so many, and there are numbers behind its own
-pub record IsPlaceWithin (F : ℕ) (p : Place) : Type 0 where
-  pub slot : p.slot < POOL_RECORDS
-  pub frame : p.frame < F
-  pub numbers : p.number + NUMBERS_DRAWN ≤ NUMBER_LIMIT

@@ -3,44 +3,35 @@ use Rattle.std.specs.Prelude.{◌≡◌, ◌≢◌, ◌⊎◌, ℕ, zero, suc, �
 use Rattle.pm_model.specs.declared.host.HostFault.{HostFault}
 use Rattle.pm_model.specs.Words.{Words, reads}
 use Rattle.pm_model.specs.Moments.{State}
-use Rattle.pm_model.specs.Changes.{Write, placed, written, Persists, Changes, Leaves, Silently}
-use Rattle.pm_model.specs.Masks.{masked_image, IsOff}
+use Rattle.pm_model.specs.Changes.{Write, Changes, Leaves, Silently}
+use Rattle.pm_model.specs.Masks.{masked, masked_image, masked_state}
 use Rattle.pud_defs.specs.declared.layout.TheConstants.{DAEMON_LOG, NEXT_NUMBER_WORD, MAX_OWNER_ID}
-use Rattle.pud_defs.specs.declared.space.TheConstants.{LAST_FRONTIER}
 use Rattle.pud_defs.specs.declared.records.PoolRec.{PoolRec}
-use Rattle.pud_defs.specs.declared.records.PuddleRec.{PuddleRec}
 use Rattle.pud_defs.specs.declared.records.Put.{Put}
 use Rattle.pud_defs.specs.Image.{Image}
 use Rattle.pud_defs.specs.Keyed.{first_free}
-use Rattle.pud_defs.specs.Frames.{frame_at, fresh_frame, IsFreshFrame}
+use Rattle.pud_defs.specs.Frames.{IsFreshFrame}
 use Rattle.pud_defs.specs.Modes.{is_legal_mode}
 use Rattle.pud_defs.specs.Names.{IsName, is_legal_name}
-use Rattle.pud_defs.specs.Entries.{Entry}
 use Rattle.pud_defs.specs.Puddles.{Member}
 use Rattle.pud_defs.specs.Tables.{Tables, tables_of}
-use Rattle.pud_defs.specs.Puts.{pool_put, puddle_put, mode_put, free_pool_put, free_puddle_put, is_of_pool}
-use Rattle.pud_defs.specs.PoolChanges.{NUMBERS_DRAWN}
+use Rattle.pud_defs.specs.Puts.{pool_put, mode_put, free_pool_put, free_puddle_put, is_of_pool}
+use Rattle.pud_defs.specs.PoolChanges.{with_new_pool}
+use Rattle.pud_defs.specs.Spaces.{owner}
 use Rattle.pud_defs.specs.World.{StoredWorld, idle_world_of}
-use Rattle.batch.specs.Batches.{ByBatch, Commits}
+use Rattle.batch.specs.Batches.{Commits}
 use Rattle.batch.specs.Worlds.{IsSettled}
 use Rattle.batch.specs.Tables.{HasDurableTables}
-use Rattle.registry.specs.declared.making.Place.{Place}
-use Rattle.registry.specs.Places.{IsPlaceFor}
-use Rattle.registry.specs.Puts.{puts_batch, number_put, ByPools}
+use Rattle.registry.specs.declared.adding.Added.{Added}
+use Rattle.registry.specs.Puts.{puts_batch, ByPools}
+use Rattle.registry.specs.Adding.{filling, adding, PersistsThenCommits, IsOffAdding}
+use Rattle.registry.specs.Places.{make_refusal, IsFirstFor}
 
 -- ---- what each batch writes
 
--- the words of the frame of a new puddle
-abbrev pub frame_write : (F frame number ordinal : ℕ) → Write
-frame_write F frame number ordinal = placed (frame_at F frame) (fresh_frame number ordinal)
-
--- the first puddle of a new pool, whose UUID number is the one behind the pool's
-abbrev pub first_puddle : Place → PuddleRec
-first_puddle p = record { pool = p.slot; ordinal = 0; number = p.number + 1; base = p.base; old_base = p.base; frontier = LAST_FRONTIER }
-
--- a pool is made: the next number, the pool's record, and that of its puddle
-abbrev pub making : Place → PoolRec → List Put
-making p r = number_put (p.number + NUMBERS_DRAWN) ∷ pool_put p.slot r ∷ puddle_put p.frame (first_puddle p) ∷ []
+-- a pool is made: its record, and with it its first puddle
+abbrev pub making : PoolRec → Added → List Put
+making r a = pool_put a.puddle.pool r ∷ adding (a.puddle.number + 1) (a ∷ [])
 
 -- a pool's mode is changed
 abbrev pub changing : (slot mode : ℕ) → List Put
@@ -69,21 +60,17 @@ OrStill Does fault old new = ((new ≡ old) × (fault ≢ None)) ⊎ Does fault 
 abbrev pub CommitsPuts : List Put → Option HostFault → State → State → Type 0
 CommitsPuts puts fault old new = Commits DAEMON_LOG (puts_batch puts) fault old new
 
--- Words are made durable, and only then the batch is written.
-pub record PersistsThenCommits (write : Write) (es : List Entry) (fault : Option HostFault) (old new : State) : Type 0 where
-  pub mid : State
-  pub first : Option HostFault
-  pub persists : Persists write first old mid
-  pub then : ((new ≡ mid) × (fault ≡ first)) ⊎ ((first ≡ None) × Commits DAEMON_LOG es fault mid new)
+-- the record of a pool that is made where this UUID number is the next
+abbrev pub new_record : List ℕ → (uid gid mode next : ℕ) → PoolRec
+new_record name uid gid mode next = record { name = name; uid = uid; gid = gid; mode = mode; number = next }
 
--- a pool is made at some place that is the one for it: its frame is filled durably, and then its records are written
+-- a pool is made with some first puddle that is the one for it: the frame is filled durably, and then the records are written
 pub record MakesSomewhere (t : Tables) (next : ℕ) (name : List ℕ) (uid gid mode : ℕ) (fault : Option HostFault) (old new : State) : Type 0 where
-  pub place : Place
-  pub is : IsPlaceFor t next name place
-  pub commits : PersistsThenCommits (frame_write t.frames place.frame (place.number + 1) 0)
-      (puts_batch (making place (record { name = name; uid = uid; gid = gid; mode = mode; number = place.number }))) fault old new
+  pub added : Added
+  pub is : IsFirstFor t next name added
+  pub commits : PersistsThenCommits (filling t.frames added) (puts_batch (making (new_record name uid gid mode next) added)) fault old new
 
--- the lowest free frame of these tables is that of a new puddle, the first of its pool
+-- the lowest free frame of these tables is that of a new puddle of this number, the first of its pool
 pub record HasFreshFrame (t : Tables) (number : ℕ) (image : Image) : Type 0 where
   pub frame : ℕ
   pub lowest : first_free t.puddles 0 t.frames ≡ Some frame
@@ -111,9 +98,7 @@ pub record KeepsTables (F : ℕ) (mask : Write) (image : Image) : Type 0 where
 
 -- none of the words that a new pool takes is masked, wherever it is to stand
 pub record IsOffMaking (mask : Write) (t : Tables) (next : ℕ) (name : List ℕ) (uid gid mode : ℕ) : Type 0 where
-  pub frame : (p : Place) → IsPlaceFor t next name p → IsOff mask (written (frame_write t.frames p.frame (p.number + 1) 0))
-  pub records : (p : Place) → IsPlaceFor t next name p
-      → IsOff mask (ByBatch DAEMON_LOG (puts_batch (making p (record { name = name; uid = uid; gid = gid; mode = mode; number = p.number }))))
+  pub each : (a : Added) → IsFirstFor t next name a → IsOffAdding mask t.frames a (making (new_record name uid gid mode next) a)
 
 -- an image that stands for the world before, or for the next one and then also for this
 abbrev pub MayStand : (size : ℕ) → (s next : StoredWorld) → (Image → Type 0) → Image → Type 0
@@ -127,3 +112,22 @@ pub record ChangesPools (size : ℕ) (s next : StoredWorld) (also : Image → Ty
   pub moments : Leaves (Silently (MayStand size s next also)) old new
   pub settled : fault ≡ None → IsSettled size next new.now.words
   pub tables : fault ≡ None → HasDurableTables s.frames new.now.words
+
+-- the same with these words masked
+abbrev pub ChangesMasked : Write → (size : ℕ) → (s next : StoredWorld) → (Image → Type 0) → Option HostFault → State → State → Type 0
+ChangesMasked mask size s next also fault old new = ChangesPools size s next also fault (masked_state mask old) (masked_state mask new)
+
+-- With words masked that a new pool does not take, each image stands for a world and the tables are durable, and nothing stands against the pool.
+pub record MayMake (size : ℕ) (s : StoredWorld) (F : ℕ) (name : List ℕ) (uid gid mode : ℕ) (mask : Write) (words : Words) : Type 0 where
+  pub frames : F ≡ s.frames
+  pub keeps : KeepsTables F mask (reads words)
+  pub off : IsOffMaking mask (tables_of F (reads words)) (reads words NEXT_NUMBER_WORD) name uid gid mode
+  pub settled : IsSettled size s (masked mask words)
+  pub tables : HasDurableTables F (masked mask words)
+  pub legal : IsLegalPool name uid gid mode
+  pub none : make_refusal (tables_of F (reads words)) (reads words NEXT_NUMBER_WORD) name ≡ None
+
+-- The world gets the pool, wholly or not at all, and then the frame that was the lowest free one is that of a new puddle.
+abbrev pub MakesPool : (size : ℕ) → StoredWorld → ℕ → List ℕ → (uid gid mode : ℕ) → Write → Option HostFault → State → State → Type 0
+MakesPool size s F name uid gid mode mask fault old new =
+    ChangesMasked mask size s (with_new_pool name (owner uid gid) mode s) (HasFreshFrame (tables_of F (reads old.now.words)) (s.next_number + 1)) fault old new

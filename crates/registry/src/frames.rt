@@ -5,8 +5,9 @@ ghost use Rattle.pm_model.specs.Counts.{after_fault, fault_of};
 ghost use Rattle.pm_model.specs.Changes.{Persists};
 ghost use Rattle.pud_defs.specs.Layout.{device_words};
 ghost use Rattle.pud_defs.specs.Frames.{first_serial, fresh_frame};
-ghost use Rattle.registry.specs.Pools.{frame_write};
+ghost use Rattle.registry.specs.Adding.{filling};
 
+use crate::adding::Added;
 use pm_model::{Host, HostFault};
 use pm_persist::persist_range;
 use pud_defs::layout::{FRAME_WORDS, MAX_FRAMES};
@@ -35,21 +36,16 @@ fn fresh_frame(number: u64, ordinal: u32) -> [u64; FRAME_WORDS as usize]
     words
 }
 
-/// Gives the frame the words of a new puddle of this UUID number and this ordinal, and makes them durable.
+/// Gives the puddle's frame the words of a new one, and makes them durable.
 ///
 /// A frame that no record names is free, whatever it holds: so it is filled before a batch names it. It costs one fence.
-pub(crate) fn fill_frame<H: Host>(
-    h: &mut H,
-    frames: u32,
-    frame: u32,
-    number: u64,
-    ordinal: u32,
-) -> Result<(), HostFault>
+pub(crate) fn fill_frame<H: Host>(h: &mut H, frames: u32, added: Added) -> Result<(), HostFault>
     requires few { frames ≤ MAX_FRAMES }
-    requires known { frame < frames }
+    requires known { added.frame < frames }
     requires room { device_words frames ≤ (H.counts h.old).size }
-    ensures fills { H.tells → Persists (frame_write frames frame number ordinal) (fault_of result) (H.state h.old) (H.state h.new) }
+    ensures fills { H.tells → Persists (filling frames added) (fault_of result) (H.state h.old) (H.state h.new) }
     ensures cause { H.counts h.new ≡ after_fault (fault_of result) (H.counts h.old) }
 {
-    persist_range(h, frame_at(frames, frame), &fresh_frame(number, ordinal))
+    let words = fresh_frame(added.puddle.number, added.puddle.ordinal);
+    persist_range(h, frame_at(frames, added.frame), &words)
 }

@@ -12,14 +12,16 @@ ghost use Rattle.pud_defs.specs.World.{StoredWorld, world_of};
 ghost use Rattle.soundness.specs.Judging.{IsRoomFor};
 ghost use Rattle.registry.specs.Registry.{load_fault, AppliesLog};
 
+mod adding;
 mod changing;
 mod frames;
 mod growing;
 mod making;
 mod puts;
 
+pub use adding::Added;
 pub use changing::{change_mode, drop_pool};
-pub use growing::grow_pool;
+pub use growing::{find_growth, grow_pool};
 use log_replay::{Target, settle_log};
 pub use making::{MakeFault, make_pool};
 use pm_model::{Host, HostFault};

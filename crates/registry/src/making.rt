@@ -3,36 +3,29 @@
 ghost use Rattle.std.specs.Prelude.{◌≡◌, ◌≢◌, ◌+◌, ◌<◌, ◌≤◌, ℕ, Option, IfOk};
 ghost use Rattle.pm_model.specs.Words.{reads};
 ghost use Rattle.pm_model.specs.Counts.{after_fault, fault_of};
-ghost use Rattle.pm_model.specs.Changes.{Changes, Write, written};
-ghost use Rattle.pm_model.specs.Masks.{masked, masked_state, IsOff};
+ghost use Rattle.pm_model.specs.Changes.{Changes, Write};
 ghost use Rattle.log_replay.specs.Replaying.{Anything};
 ghost use Rattle.pud_defs.specs.declared.layout.TheConstants.{DAEMON_LOG, NEXT_NUMBER_WORD};
 ghost use Rattle.pud_defs.specs.Image.{Image};
 ghost use Rattle.pud_defs.specs.Layout.{device_words};
-ghost use Rattle.pud_defs.specs.Frames.{IsFreshFrame};
-ghost use Rattle.pud_defs.specs.Spaces.{owner};
 ghost use Rattle.pud_defs.specs.Tables.{tables_of};
-ghost use Rattle.pud_defs.specs.PoolChanges.{with_new_pool};
 ghost use Rattle.pud_defs.specs.World.{StoredWorld};
-ghost use Rattle.batch.specs.Batches.{HasIdleGate, ByBatch};
-ghost use Rattle.batch.specs.Worlds.{IsSettled};
-ghost use Rattle.batch.specs.Tables.{HasDurableTables};
+ghost use Rattle.batch.specs.Batches.{HasIdleGate};
 ghost use Rattle.registry.specs.Puts.{puts_batch};
-ghost use Rattle.registry.specs.Places.{make_fault, refusal_in, make_refusal, IsPlaceFor, IsPlaceWithin};
-ghost use Rattle.registry.specs.Pools.{frame_write, making, PersistsThenCommits, OrStill, MakesSomewhere, KeepsTables, IsOffMaking, IsLegalPool, HasFreshFrame, ChangesPools};
+ghost use Rattle.registry.specs.Adding.{IsAddedWithin};
+ghost use Rattle.registry.specs.Places.{make_fault, refusal_in, make_refusal, IsFirstFor};
+ghost use Rattle.registry.specs.Pools.{making, OrStill, MakesSomewhere, MayMake, MakesPool};
 
-use crate::frames::fill_frame;
+use crate::adding::{Added, add_puddle, find_place};
 use crate::puts::{add_put, number_put};
 use batch::Batch;
 use pm_model::{Host, HostFault};
 use pool_table::PoolFault;
 use pud_defs::layout::{MAX_FRAMES, NEXT_NUMBER_WORD, NUMBER_LIMIT};
-use pud_defs::records::{Name, POOL_RECORDS, PoolRec, PuddleRec};
-use pud_defs::space::LAST_FRONTIER;
-use puddle_space::free_base;
+use pud_defs::records::{Name, PoolRec};
 use puddle_table::PuddleFault;
 
-/// How many UUID numbers a new pool draws: its own, and behind it that of its puddle.
+/// How many UUID numbers a new pool draws: its own, and behind it that of its first puddle.
 const NUMBERS_DRAWN: u64 = 2;
 
 /// Why no pool was made. Nothing changed, but by a fault of the host.
@@ -89,28 +82,17 @@ impl From<PuddleFault> for MakeFault {
     }
 }
 
-/// What a new pool takes.
-#[derive(Clone, Copy)]
-struct Place {
-    /// The slot of the pool table.
-    slot: u32,
-    /// The frame of its puddle.
-    frame: u32,
-    /// The base of its puddle.
-    base: u64,
-    /// Its UUID number; that of its puddle is the one behind it.
-    number: u64,
-}
-
-/// Where a pool of this name would stand, or why none can be made.
-fn find_place<H: Host>(h: &mut H, frames: u32, name: Name) -> Result<Place, MakeFault>
+/// The first puddle of a new pool of this name, with the slot that the pool takes, or why none can be made. The pool's own UUID number is the one
+/// before the puddle's.
+fn find_first<H: Host>(h: &mut H, frames: u32, name: Name) -> Result<Added, MakeFault>
     requires few { frames ≤ MAX_FRAMES }
     requires room { device_words frames ≤ (H.counts h.old).size }
     ensures refusal { H.tells → (image : Image) → reads (H.state h.old).now.words ≡ image → make_fault result ≡ Option.None
         → refusal_in result ≡ make_refusal (tables_of frames image) (image NEXT_NUMBER_WORD) name }
-    ensures place { H.tells → (image : Image) → reads (H.state h.old).now.words ≡ image
-        → IfOk result (λ place. IsPlaceFor (tables_of frames image) (image NEXT_NUMBER_WORD) name place) }
-    ensures within { IfOk result (IsPlaceWithin frames) }
+    ensures first { H.tells → (image : Image) → reads (H.state h.old).now.words ≡ image
+        → IfOk result (IsFirstFor (tables_of frames image) (image NEXT_NUMBER_WORD) name) }
+    ensures within { IfOk result (IsAddedWithin frames) }
+    ensures behind { IfOk result (λ added. 1 ≤ added.puddle.number) }
     ensures stays { H.tells → H.state h.new ≡ H.state h.old }
     ensures cause { H.counts h.new ≡ after_fault (make_fault result) (H.counts h.old) }
     ensures never_cut { make_fault result ≢ Option.Some HostFault.Cut }
@@ -120,56 +102,22 @@ fn find_place<H: Host>(h: &mut H, frames: u32, name: Name) -> Result<Place, Make
     if number > NUMBER_LIMIT - NUMBERS_DRAWN {
         return Err(MakeFault::Full);
     }
-    let frame = puddle_table::free_frame(h, frames, 0)?;
-    let base = free_base(h, frames, &[])?;
-    Ok(Place {
-        slot,
-        frame,
-        base,
-        number,
-    })
+    Ok(find_place(h, frames, slot, 0, number + 1)?)
 }
 
-/// The batch that makes the pool of this record at the place.
-fn making(place: Place, rec: PoolRec) -> Batch
-    requires slot { place.slot < POOL_RECORDS }
-    requires frame { place.frame < MAX_FRAMES }
-    requires numbers { place.number + NUMBERS_DRAWN ≤ NUMBER_LIMIT }
-    ensures { result ≡ puts_batch (making place rec) }
+/// The batch that makes the pool of this record with its first puddle.
+fn making(rec: PoolRec, added: Added) -> Batch
+    requires within { IsAddedWithin MAX_FRAMES added }
+    ensures { result ≡ puts_batch (making rec added) }
 {
-    let puddle = PuddleRec {
-        pool: place.slot,
-        ordinal: 0,
-        number: place.number + 1,
-        base: place.base,
-        old_base: place.base,
-        frontier: LAST_FRONTIER,
-    };
     let mut batch = Batch::new();
-    add_put(&mut batch, &number_put(place.number + NUMBERS_DRAWN));
-    add_put(&mut batch, &pool_table::record_put(place.slot, rec));
-    add_put(&mut batch, &puddle_table::record_put(place.frame, puddle));
+    add_put(&mut batch, &pool_table::record_put(added.puddle.pool, rec));
+    add_put(&mut batch, &number_put(added.puddle.number + 1));
+    add_put(
+        &mut batch,
+        &puddle_table::record_put(added.frame, added.puddle),
+    );
     batch
-}
-
-/// Makes the pool of this record at the place: fills its frame, and then writes the records.
-fn make_at<H: Host>(h: &mut H, frames: u32, place: Place, rec: PoolRec) -> Result<(), HostFault>
-    requires few { frames ≤ MAX_FRAMES }
-    requires room { device_words frames ≤ (H.counts h.old).size }
-    requires within { IsPlaceWithin frames place }
-    ensures commits { H.tells → (size : ℕ) → size ≡ (H.counts h.old).size → HasIdleGate DAEMON_LOG (H.state h.old).now.words
-        → PersistsThenCommits (frame_write frames place.frame (place.number + 1) 0) (puts_batch (making place rec)) (fault_of result) (H.state h.old) (H.state h.new) }
-    ensures makes { H.tells → (size : ℕ) → size ≡ (H.counts h.old).size → (s : StoredWorld) → frames ≡ s.frames → rec.number ≡ place.number
-        → (mask : Write) → IsOff mask (written (frame_write frames place.frame (place.number + 1) 0)) → IsOff mask (ByBatch DAEMON_LOG (puts_batch (making place rec)))
-        → IsSettled size s (masked mask (H.state h.old).now.words) → HasDurableTables frames (masked mask (H.state h.old).now.words)
-        → IsPlaceFor (tables_of frames (reads (masked mask (H.state h.old).now.words))) s.next_number rec.name place → IsLegalPool rec.name rec.uid rec.gid rec.mode
-        → ChangesPools size s (with_new_pool rec.name (owner rec.uid rec.gid) rec.mode s) (IsFreshFrame frames place.frame (place.number + 1) 0) (fault_of result)
-        (masked_state mask (H.state h.old)) (masked_state mask (H.state h.new)) }
-    ensures any { H.tells → Changes Anything (fault_of result) (H.state h.old) (H.state h.new) }
-    ensures cause { H.counts h.new ≡ after_fault (fault_of result) (H.counts h.old) }
-{
-    fill_frame(h, frames, place.frame, place.number + 1, 0)?;
-    making(place, rec).commit(h)
 }
 
 /// Makes a pool of one puddle, by one batch: the pool takes the lowest free slot and the next UUID number, its puddle the lowest free
@@ -194,25 +142,21 @@ pub fn make_pool<H: Host>(
         → refusal_in result ≡ make_refusal (tables_of frames image) (image NEXT_NUMBER_WORD) name }
     ensures unchanged { H.tells → (image : Image) → reads (H.state h.old).now.words ≡ image
         → make_refusal (tables_of frames image) (image NEXT_NUMBER_WORD) name ≢ Option.None → H.state h.new ≡ H.state h.old }
-    ensures commits { H.tells → (size : ℕ) → size ≡ (H.counts h.old).size → (image : Image) → reads (H.state h.old).now.words ≡ image → HasIdleGate DAEMON_LOG (H.state h.old).now.words
+    ensures commits { H.tells → (image : Image) → reads (H.state h.old).now.words ≡ image → HasIdleGate DAEMON_LOG (H.state h.old).now.words
         → make_refusal (tables_of frames image) (image NEXT_NUMBER_WORD) name ≡ Option.None
         → OrStill (MakesSomewhere (tables_of frames image) (image NEXT_NUMBER_WORD) name uid gid mode) (make_fault result) (H.state h.old) (H.state h.new) }
-    ensures makes { H.tells → (size : ℕ) → size ≡ (H.counts h.old).size → (s : StoredWorld) → frames ≡ s.frames → (image : Image) → reads (H.state h.old).now.words ≡ image
-        → (mask : Write) → KeepsTables frames mask image → IsOffMaking mask (tables_of frames image) (image NEXT_NUMBER_WORD) name uid gid mode
-        → IsSettled size s (masked mask (H.state h.old).now.words) → HasDurableTables frames (masked mask (H.state h.old).now.words) → IsLegalPool name uid gid mode
-        → make_refusal (tables_of frames image) (image NEXT_NUMBER_WORD) name ≡ Option.None
-        → ChangesPools size s (with_new_pool name (owner uid gid) mode s) (HasFreshFrame (tables_of frames image) (s.next_number + 1)) (make_fault result)
-        (masked_state mask (H.state h.old)) (masked_state mask (H.state h.new)) }
+    ensures makes { H.tells → (size : ℕ) → size ≡ (H.counts h.old).size → (s : StoredWorld) (mask : Write) → MayMake size s frames name uid gid mode mask (H.state h.old).now.words
+        → MakesPool size s frames name uid gid mode mask (make_fault result) (H.state h.old) (H.state h.new) }
     ensures any { H.tells → Changes Anything (make_fault result) (H.state h.old) (H.state h.new) }
     ensures cause { H.counts h.new ≡ after_fault (make_fault result) (H.counts h.old) }
 {
-    let place = find_place(h, frames, name)?;
+    let added = find_first(h, frames, name)?;
     let rec = PoolRec {
         name,
         uid,
         gid,
         mode,
-        number: place.number,
+        number: added.puddle.number - 1,
     };
-    Ok(make_at(h, frames, place, rec)?)
+    Ok(add_puddle(h, frames, added, making(rec, added))?)
 }

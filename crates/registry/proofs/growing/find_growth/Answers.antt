@@ -1,32 +1,37 @@
-use Rattle.std.proofs.Common.{sym, ap, ◌∙◌}
+use Rattle.std.proofs.Common.{ℕ, Err, sym, ap, subst, ◌∙◌}
 use Rattle.pm_model.specs.Words.{reads}
 use Rattle.pm_model.specs.Moments.{State}
 use Rattle.pud_defs.specs.declared.layout.TheConstants.{NEXT_NUMBER_WORD}
 use Rattle.pud_defs.specs.Image.{Image}
-use Rattle.registry.proofs.GrowthPlaced.{no_growth, some_growth, growth_is}
+use Rattle.pud_defs.specs.Tables.{tables_of}
+use Rattle.registry.specs.Adding.{IsNewPuddle}
+use Rattle.registry.specs.Growth.{has_room}
+use Rattle.registry.proofs.Placed.{refused_full, refused_space, not_refused}
 use Rattle.registry.proofs.growing.find_growth.Goals as goal
 
-pub returns-then-not-has_room-clause-grows : goal.returns-then-not-has_room-clause-grows
-returns-then-not-has_room-clause-grows g c = λ t image same.
-    let counted = (c.in_ok-counts.ensures.counts t image same).each c.args.slot c.requires.known in
-    let number = c.in_ok-number.ensures.value t ∙ ap (λ (s : State). reads s.now.words NEXT_NUMBER_WORD) (c.count_by_pool.ensures.stays t) ∙ ap (λ (i : Image). i NEXT_NUMBER_WORD) same in
-    no_growth c.args.frames image c.args.slot _ c.in_ok-number.number counted number (sym c.if-not-has_room.ensures)
+pub returns-then-not-has_room-clause-refusal : goal.returns-then-not-has_room-clause-refusal
+returns-then-not-has_room-clause-refusal g c = λ t image same.
+    let number = c.in_ok-number.ensures.value t ∙ ap (λ (i : Image). i NEXT_NUMBER_WORD) same in
+    refused_full (tables_of c.args.frames image) (image NEXT_NUMBER_WORD) c.args.puddles c.in_ok-number.number number (sym c.if-not-has_room.ensures)
 
-pub returns-clause-grows : goal.returns-clause-grows
-returns-clause-grows g c = λ t image same.
-    let counted_read = ap (λ (s : State). reads s.now.words) (c.count_by_pool.ensures.stays t) ∙ same in
-    let number_read = ap (λ (s : State). reads s.now.words) (c.load.ensures.state t) ∙ counted_read in
-    let counted = (c.in_ok-counts.ensures.counts t image same).each c.args.slot c.requires.known in
-    let number = c.in_ok-number.ensures.value t ∙ ap (λ (i : Image). i NEXT_NUMBER_WORD) counted_read in
-    let frame = sym c.in-Some.is ∙ c.in_ok-frame.ensures.frame t image number_read in
-    some_growth c.args.frames image c.args.slot _ c.in_ok-number.number counted number c.in-Some.frame (sym c.if-not-has_room.ensures) frame
+pub returns-in-Ok-clause-refusal : goal.returns-in-Ok-clause-refusal
+returns-in-Ok-clause-refusal g c = λ t image same.
+    let read = ap (λ (s : State). reads s.now.words) (c.load.ensures.state t) ∙ same in
+    let number = c.in_ok-number.ensures.value t ∙ ap (λ (i : Image). i NEXT_NUMBER_WORD) same in
+    let new = c.in-Ok.ensures.place t image read in
+    not_refused (tables_of c.args.frames image) (image NEXT_NUMBER_WORD) c.args.puddles c.in_ok-number.number number (sym c.if-not-has_room.ensures) c.in-Ok.added.frame new.frame
 
-pub returns-clause-growth : goal.returns-clause-growth
-returns-clause-growth g c = λ t image same.
-    let counted_read = ap (λ (s : State). reads s.now.words) (c.count_by_pool.ensures.stays t) ∙ same in
-    let number_read = ap (λ (s : State). reads s.now.words) (c.load.ensures.state t) ∙ counted_read in
-    let frame_read = ap (λ (s : State). reads s.now.words) (c.free_frame.ensures.stays t) ∙ number_read in
-    let counted = (c.in_ok-counts.ensures.counts t image same).each c.args.slot c.requires.known in
-    let number = c.in_ok-number.ensures.value t ∙ ap (λ (i : Image). i NEXT_NUMBER_WORD) counted_read in
-    let frame = sym c.in-Some.is ∙ c.in_ok-frame.ensures.frame t image number_read in
-    growth_is c.args.frames image c.args.slot _ c.in_ok-number.number counted number c.in-Some.frame (sym c.if-not-has_room.ensures) frame c.in_ok-base.base (c.in_ok-base.ensures.lowest t image frame_read)
+pub returns-in-Ok-clause-growth : goal.returns-in-Ok-clause-growth
+returns-in-Ok-clause-growth g c = λ t image same.
+    let read = ap (λ (s : State). reads s.now.words) (c.load.ensures.state t) ∙ same in
+    let number = c.in_ok-number.ensures.value t ∙ ap (λ (i : Image). i NEXT_NUMBER_WORD) same in
+    record {
+      puddle = subst (λ (n : ℕ). IsNewPuddle (tables_of c.args.frames image) c.args.slot c.args.puddles n c.in-Ok.added) number (c.in-Ok.ensures.place t image read);
+      room = ap (has_room c.args.puddles) (sym number) ∙ sym c.if-not-has_room.ensures;
+    }
+
+pub returns-in-Err-NoSpace-clause-refusal : goal.returns-in-Err-NoSpace-clause-refusal
+returns-in-Err-NoSpace-clause-refusal g c = λ t image same.
+    let read = ap (λ (s : State). reads s.now.words) (c.load.ensures.state t) ∙ same in
+    let number = c.in_ok-number.ensures.value t ∙ ap (λ (i : Image). i NEXT_NUMBER_WORD) same in
+    refused_space (tables_of c.args.frames image) (image NEXT_NUMBER_WORD) c.args.puddles c.in_ok-number.number number (sym c.if-not-has_room.ensures) (c.in-Err-NoSpace.ensures.no_space t image read (ap (λ f. Err f) c.in-Err-NoSpace.field-0-is))

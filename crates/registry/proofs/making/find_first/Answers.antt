@@ -1,22 +1,21 @@
-use Rattle.std.proofs.Common.{refl, ap, ◌∙◌}
+use Rattle.std.proofs.Common.{Err, refl, ap, ◌∙◌}
 use Rattle.std.proofs.lemmas.Result.{err_from_is_err_and}
 use Rattle.pm_model.specs.Words.{reads}
 use Rattle.pm_model.specs.Moments.{State}
 use Rattle.pud_defs.specs.declared.layout.TheConstants.{NEXT_NUMBER_WORD}
 use Rattle.pud_defs.specs.Image.{Image}
-use Rattle.registry.proofs.Placed.{host_fault, refused_for_space, not_refused, place_is}
-use Rattle.registry.proofs.making.find_place.Goals as goal
+use Rattle.registry.proofs.Placed.{refused_for_space, makes_first, first_is}
+use Rattle.registry.proofs.making.find_first.Goals as goal
 
-pub returns-in_err-frame-clause-refusal : goal.returns-in_err-frame-clause-refusal
-returns-in_err-frame-clause-refusal g c =
-    let p = err_from_is_err_and c.from_residual-in_err-frame.result c.from_residual-in_err-frame.ensures.1 in
+pub returns-in_err-find_place-clause-refusal : goal.returns-in_err-find_place-clause-refusal
+returns-in_err-find_place-clause-refusal g c =
+    let p = err_from_is_err_and c.from_residual-in_err-find_place.result c.from_residual-in_err-find_place.ensures.1 in
     rw (p.1, p.2) (λ t image same none.
     let slot_read = ap (λ (s : State). reads s.now.words) (c.free_slot.ensures.stays t) ∙ same in
     let number_read = ap (λ (s : State). reads s.now.words) (c.load.ensures.state t) ∙ slot_read in
     let found = c.in_ok-slot.ensures.slot t image same c.args.frames refl in
     let number = c.in_ok-number.ensures.value t ∙ ap (λ (i : Image). i NEXT_NUMBER_WORD) slot_read in
-    refused_for_space c.args.frames image c.args.name c.in_ok-slot.slot c.in_ok-number.number found number c.if-number.false c.in_err-frame.field-0.0 none
-    (c.in_err-frame.ensures.frame t image number_read (host_fault c.in_err-frame.field-0.0 none)))
+    refused_for_space c.args.frames image c.args.name c.in_ok-slot.slot c.in_ok-number.number found number c.if-number.false c.in_err-find_place.field-0.0 none (λ is. c.in_err-find_place.ensures.no_space t image number_read (ap (λ f. Err f) is)))
 
 pub returns-clause-refusal : goal.returns-clause-refusal
 returns-clause-refusal g c = λ t image same none.
@@ -24,15 +23,12 @@ returns-clause-refusal g c = λ t image same none.
     let number_read = ap (λ (s : State). reads s.now.words) (c.load.ensures.state t) ∙ slot_read in
     let found = c.in_ok-slot.ensures.slot t image same c.args.frames refl in
     let number = c.in_ok-number.ensures.value t ∙ ap (λ (i : Image). i NEXT_NUMBER_WORD) slot_read in
-    let frame = c.in_ok-frame.ensures.frame t image number_read refl in
-    not_refused c.args.frames image c.args.name c.in_ok-slot.slot c.in_ok-number.number found number c.if-number.false c.in_ok-frame.frame frame
+    makes_first c.args.frames image c.args.name c.in_ok-slot.slot c.in_ok-number.number found number c.if-number.false c.in_ok-find_place.field-0 (c.in_ok-find_place.ensures.place t image number_read)
 
-pub returns-clause-place : goal.returns-clause-place
-returns-clause-place g c = λ t image same.
+pub returns-clause-first : goal.returns-clause-first
+returns-clause-first g c = λ t image same.
     let slot_read = ap (λ (s : State). reads s.now.words) (c.free_slot.ensures.stays t) ∙ same in
     let number_read = ap (λ (s : State). reads s.now.words) (c.load.ensures.state t) ∙ slot_read in
     let found = c.in_ok-slot.ensures.slot t image same c.args.frames refl in
     let number = c.in_ok-number.ensures.value t ∙ ap (λ (i : Image). i NEXT_NUMBER_WORD) slot_read in
-    let frame_read = ap (λ (s : State). reads s.now.words) (c.free_frame.ensures.stays t) ∙ number_read in
-    let frame = c.in_ok-frame.ensures.frame t image number_read refl in
-    place_is c.args.frames image c.args.name c.in_ok-slot.slot c.in_ok-number.number found number c.if-number.false c.in_ok-frame.frame frame c.in_ok-base.base (c.in_ok-base.ensures.lowest t image frame_read)
+    first_is c.args.frames image c.args.name c.in_ok-slot.slot c.in_ok-number.number found number c.if-number.false c.in_ok-find_place.field-0 (c.in_ok-find_place.ensures.place t image number_read)

@@ -1,0 +1,111 @@
+-- Puddles that are added: what their changes make of the tables, and that a new one is legal and has a base of its own.
+use Rattle.std.proofs.Common.{◌≡◌, inl, inr, ℕ, ◌+◌, ◌<◌, ◌≤◌, true, false, not, eqb, List, [], ◌∷◌, map, Option, Some, None, option_map, nat_cmp, refl, sym, ap, ◌∙◌, arith, le-leb, lt-ltb, eq-eqb, ne_eqb}
+use Rattle.std.specs.Prelude.{⊤}
+use Rattle.std.specs.Cmp.{unsigned_tied}
+use Rattle.std.proofs.lemmas.Bool.{cases_eq, cases_Bool, cond-true, cond-false, and_parts, and_from}
+use Rattle.pud_defs.specs.declared.layout.TheConstants.{NEXT_NUMBER_WORD, PUDDLE_TABLE}
+use Rattle.pud_defs.specs.declared.records.TheConstants.{POOL_RECORDS}
+use Rattle.pud_defs.specs.declared.records.Put.{Put}
+use Rattle.pud_defs.specs.declared.space.TheConstants.{LAST_FRONTIER}
+use Rattle.pud_defs.specs.Bases.{is_legal_base}
+use Rattle.pud_defs.specs.Image.{Image}
+use Rattle.pud_defs.specs.Keyed.{under}
+use Rattle.pud_defs.specs.Places.{has_other_bases, IsLowestBase}
+use Rattle.pud_defs.specs.Pools.{is_given}
+use Rattle.pud_defs.specs.Puddles.{Member, is_legal_puddle}
+use Rattle.pud_defs.specs.Puts.{with_put, puddle_put, member_by, with_puddle_at}
+use Rattle.pud_defs.specs.Spaces.{all_below}
+use Rattle.pud_defs.specs.Tables.{Tables, tables_of, member_of}
+use Rattle.pud_defs.proofs.Keyed.{under_apart}
+use Rattle.pud_defs.proofs.PutsMade.{with_put-outside, with_put-inside, puddle_put_made}
+use Rattle.pud_defs.proofs.Spaces.{all_below-each}
+use Rattle.pud_defs.proofs.TablesOf.{tables_of-same}
+use Rattle.registry.specs.declared.adding.Added.{Added}
+use Rattle.registry.specs.Puts.{AreOfPools, number_put, with_puts}
+use Rattle.registry.specs.Adding.{IsNewPuddle, adding}
+
+-- ---- what their changes make
+
+-- their frames are among so many, and their pools are of the table
+abbrev pub AreWithin : ℕ → List Added → Type 0
+AreWithin F [] = ⊤
+AreWithin F (a ∷ all) = (a.frame < F) × (a.puddle.pool < POOL_RECORDS) × AreWithin F all
+
+-- the tables with their records
+abbrev pub with_added : List Added → Tables → Tables
+with_added [] t = t
+with_added (a ∷ all) t = with_added all (with_puddle_at a.frame (Some (member_by a.puddle)) t)
+
+abbrev records : List Added → List Put
+records all = map (λ (a : Added). puddle_put a.frame a.puddle) all
+
+records_of : (F : ℕ) (all : List Added) → AreWithin F all → AreOfPools F (records all)
+records_of F [] within = tt
+records_of F (a ∷ all) within = let below = within.0 in (inr (inr (record { low = omega arith; high = omega arith; some = omega arith; fits = omega arith })), records_of F all within.2)
+
+-- the changes are of pools
+pub adding_of : (F next : ℕ) (all : List Added) → AreWithin F all → AreOfPools F (adding next all)
+adding_of F next all within = (inl (record { low = omega arith; high = omega arith; some = omega arith; fits = omega arith }), records_of F all within)
+
+records_front : (all : List Added) (i : Image) (k : ℕ) → k < PUDDLE_TABLE → with_puts (records all) i k ≡ i k
+unfolding with_puts
+records_front [] i k below = refl
+records_front (a ∷ all) i k below = records_front all (with_put (puddle_put a.frame a.puddle) i) k below ∙ with_put-outside (puddle_put a.frame a.puddle) i k (λ low high. omega arith)
+
+pub adding_next : (next : ℕ) (all : List Added) (i : Image) → with_puts (adding next all) i NEXT_NUMBER_WORD ≡ next
+unfolding with_puts
+adding_next next all i =
+    records_front all (with_put (number_put next) i) NEXT_NUMBER_WORD (omega arith)
+    ∙ with_put-inside (number_put next) i NEXT_NUMBER_WORD 0 (omega arith) (omega arith)
+
+records_tables : (F : ℕ) (all : List Added) (i : Image) → AreWithin F all → tables_of F (with_puts (records all) i) ≡ with_added all (tables_of F i)
+unfolding with_puts
+records_tables F [] i within = refl
+records_tables F (a ∷ all) i within =
+    let few = within.1 in
+    records_tables F all (with_put (puddle_put a.frame a.puddle) i) within.2
+    ∙ ap (with_added all) (puddle_put_made F i a.frame a.puddle within.0 (omega arith))
+
+pub adding_tables : (F next : ℕ) (all : List Added) (i : Image) → AreWithin F all → tables_of F (with_puts (adding next all) i) ≡ with_added all (tables_of F i)
+unfolding with_puts
+adding_tables F next all i within =
+    let put = number_put next in
+    records_tables F all (with_put put i) within
+    ∙ ap (with_added all) (tables_of-same F (with_put put i) i (λ k low high. with_put-outside put i k (λ from to. omega arith)) (λ k low high. with_put-outside put i k (λ from to. omega arith)))
+
+-- ---- a new puddle
+
+pub given : (later number : ℕ) → 1 ≤ number → number < later → is_given later number ≡ true
+given later number low high = and_from _ _ (le-leb 1 number low) (lt-ltb number later high)
+
+pub other_base : (base frame : ℕ) (o : Option Member) → has_other_bases base o ≡ true → under nat_cmp base (option_map (λ m. (m.puddle.base, frame)) o) ≡ None
+other_base base frame None other = refl
+other_base base frame (Some m) other =
+    let parts = and_parts (not (eqb m.puddle.base base)) (not (eqb m.puddle.old_base base)) other in
+    elim (cases_eq m.puddle.base base) [
+      | inl e ↦ absurd (let no : false ≡ true = sym (ap not (eq-eqb m.puddle.base base e)) ∙ parts.0 in cc)
+      | inr apart ↦ under_apart nat_cmp base (m.puddle.base, frame) (unsigned_tied base m.puddle.base ∙ ne_eqb base m.puddle.base (λ e. apart (sym e)))
+    ]
+
+pub other_old_base : (base slot frame : ℕ) (o : Option Member) → has_other_bases base o ≡ true → under nat_cmp base (option_map (λ p. (p.1.1.old_base, frame)) (member_of slot frame o)) ≡ None
+other_old_base base slot frame None other = refl
+other_old_base base slot frame (Some m) other =
+    let parts = and_parts (not (eqb m.puddle.base base)) (not (eqb m.puddle.old_base base)) other in
+    elim (cases_Bool (eqb m.pool (slot + 1))) [
+      | inl of ↦ ap (λ o. under nat_cmp base (option_map (λ p. (p.1.1.old_base, frame)) o)) (cond-true _ (Some (m.ordinal, (frame, m.puddle))) None of) ∙ elim (cases_eq m.puddle.old_base base) [
+        | inl e ↦ absurd (let no : false ≡ true = sym (ap not (eq-eqb m.puddle.old_base base e)) ∙ parts.1 in cc)
+        | inr apart ↦ under_apart nat_cmp base (m.puddle.old_base, frame) (unsigned_tied base m.puddle.old_base ∙ ne_eqb base m.puddle.old_base (λ e. apart (sym e)))
+      ]
+      | inr not_of ↦ ap (λ o. under nat_cmp base (option_map (λ p. (p.1.1.old_base, frame)) o)) (cond-false _ (Some (m.ordinal, (frame, m.puddle))) None not_of)
+    ]
+
+-- no puddle has the base all its own or all its old one
+pub others_bases : (t : Tables) (base : ℕ) → IsLowestBase t [] base → (f : ℕ) → f < t.frames → has_other_bases base (t.puddles f) ≡ true
+others_bases t base lowest f below =
+    all_below-each t.frames (λ frame. has_other_bases base (t.puddles frame)) (and_parts true (all_below t.frames (λ frame. has_other_bases base (t.puddles frame))) lowest.free).1 f below
+
+-- it is legal once its number is given
+pub legal_new : (t : Tables) (slot ordinal number later : ℕ) (a : Added) → IsNewPuddle t slot ordinal number a → 1 ≤ number → number < later → is_legal_puddle later (member_by a.puddle).puddle ≡ true
+legal_new t slot ordinal number later a new low high =
+    let is = new.number_is in
+    and_from _ _ (and_from _ _ (and_from _ _ (given later a.puddle.number (omega arith) (omega arith)) new.base.legal) (ap is_legal_base new.old_base ∙ new.base.legal)) (eq-eqb a.puddle.frontier LAST_FRONTIER new.frontier)

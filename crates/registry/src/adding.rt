@@ -1,0 +1,96 @@
+//! Puddles that are added to pools, to new ones and to others.
+
+ghost use Rattle.std.specs.Prelude.{◌≡◌, ◌≢◌, ◌<◌, ◌≤◌, ℕ, List, Option, Result, IfOk};
+ghost use Rattle.pm_model.specs.Words.{reads};
+ghost use Rattle.pm_model.specs.Counts.{after_fault, fault_of};
+ghost use Rattle.pm_model.specs.Changes.{Changes, Write};
+ghost use Rattle.log_replay.specs.Replaying.{Anything};
+ghost use Rattle.pud_defs.specs.declared.layout.TheConstants.{DAEMON_LOG, NUMBER_LIMIT};
+ghost use Rattle.pud_defs.specs.declared.records.Put.{Put};
+ghost use Rattle.pud_defs.specs.declared.records.TheConstants.{POOL_RECORDS};
+ghost use Rattle.pud_defs.specs.Image.{Image};
+ghost use Rattle.pud_defs.specs.Keyed.{first_free};
+ghost use Rattle.pud_defs.specs.Layout.{device_words};
+ghost use Rattle.pud_defs.specs.Tables.{tables_of};
+ghost use Rattle.pud_defs.specs.World.{StoredWorld};
+ghost use Rattle.batch.specs.Batches.{HasIdleGate};
+ghost use Rattle.puddle_table.specs.Records.{fault_in};
+ghost use Rattle.registry.specs.Puts.{puts_batch, AreOfPools};
+ghost use Rattle.registry.specs.Adding.{filling, IsFilled, IsAddedWithin, IsNewPuddle, PersistsThenCommits, IsOffAdding, AddsTo};
+ghost use Rattle.registry.specs.Pools.{ChangesMasked};
+
+use crate::frames::fill_frame;
+use batch::Batch;
+use pm_model::{Host, HostFault};
+use pud_defs::layout::{MAX_FRAMES, NUMBER_LIMIT};
+use pud_defs::records::{POOL_RECORDS, PuddleRec};
+use pud_defs::space::LAST_FRONTIER;
+use puddle_space::free_base;
+use puddle_table::{PuddleFault, free_frame};
+
+/// A puddle that is added to a pool.
+#[derive(Clone, Copy, Debug, PartialEq, Eq)]
+pub struct Added {
+    /// Its frame.
+    pub frame: u32,
+    /// What its record says.
+    pub puddle: PuddleRec,
+}
+
+/// The new puddle of this ordinal and of this UUID number in the pool of the slot: in the lowest free frame, at the lowest free base.
+/// `NoSpace` comes only where no frame is free, and nothing changes.
+pub(crate) fn find_place<H: Host>(
+    h: &mut H,
+    frames: u32,
+    slot: u32,
+    ordinal: u32,
+    number: u64,
+) -> Result<Added, PuddleFault>
+    requires few { frames ≤ MAX_FRAMES }
+    requires room { device_words frames ≤ (H.counts h.old).size }
+    requires known { slot < POOL_RECORDS }
+    requires left { number < NUMBER_LIMIT }
+    ensures no_space { H.tells → (image : Image) → reads (H.state h.old).now.words ≡ image
+        → result ≡ Result.Err PuddleFault.NoSpace → first_free (tables_of frames image).puddles 0 (tables_of frames image).frames ≡ Option.None }
+    ensures place { H.tells → (image : Image) → reads (H.state h.old).now.words ≡ image → IfOk result (IsNewPuddle (tables_of frames image) slot ordinal number) }
+    ensures within { IfOk result (IsAddedWithin frames) }
+    ensures drawn { IfOk result (λ added. added.puddle.number ≡ number) }
+    ensures stays { H.tells → H.state h.new ≡ H.state h.old }
+    ensures cause { H.counts h.new ≡ after_fault (fault_in result) (H.counts h.old) }
+    ensures never_cut { fault_in result ≢ Option.Some HostFault.Cut }
+{
+    let frame = free_frame(h, frames, 0)?;
+    let base = free_base(h, frames, &[])?;
+    Ok(Added {
+        frame,
+        puddle: PuddleRec {
+            pool: slot,
+            ordinal,
+            number,
+            base,
+            old_base: base,
+            frontier: LAST_FRONTIER,
+        },
+    })
+}
+
+/// Adds the puddle: fills its frame, and then writes the batch that names it. The only errors are the host's own.
+pub(crate) fn add_puddle<H: Host>(
+    h: &mut H,
+    frames: u32,
+    added: Added,
+    batch: Batch,
+) -> Result<(), HostFault>
+    requires few { frames ≤ MAX_FRAMES }
+    requires room { device_words frames ≤ (H.counts h.old).size }
+    requires within { added.frame < frames }
+    ensures commits { H.tells → (puts : List Put) → AreOfPools frames puts → batch ≡ puts_batch puts
+        → HasIdleGate DAEMON_LOG (H.state h.old).now.words → PersistsThenCommits (filling frames added) (puts_batch puts) (fault_of result) (H.state h.old) (H.state h.new) }
+    ensures adds { H.tells → (size : ℕ) → size ≡ (H.counts h.old).size → (s next : StoredWorld) (mask : Write) → AddsTo size s next frames added batch mask (H.state h.old).now.words
+        → ChangesMasked mask size s next (IsFilled frames added) (fault_of result) (H.state h.old) (H.state h.new) }
+    ensures any { H.tells → Changes Anything (fault_of result) (H.state h.old) (H.state h.new) }
+    ensures cause { H.counts h.new ≡ after_fault (fault_of result) (H.counts h.old) }
+{
+    fill_frame(h, frames, added)?;
+    batch.commit(h)
+}
