@@ -208,6 +208,7 @@ fn files_of_the_shelf_are_replaced_whole(rt: HostRuntime) {
         ("no_such_folder/file", b"abc", false, None),
     ];
     puts(&rt, alloc, &mut host, &rows);
+    assert!(rt; fs::remove_file(&rt, "device_tests_shelf.pud.new").is_err());
     assert!(rt; fs::remove_file(&rt, "device_tests_shelf.pud").is_ok());
     without_device(&rt);
 }

@@ -35,12 +35,13 @@ pub(crate) fn get<R: Files>(
     }
 }
 
-/// Replaces the whole file of that name, and syncs its data.
+/// Replaces the whole file of that name: the bytes are written and synced under a name of their own, `<name>.pud.new`, and then renamed. So where
+/// power is lost meanwhile the file has its old bytes or the new ones.
 ///
 /// # Errors
 ///
-/// `Memory` where memory was refused, which leaves the file as it was; `Failed` where it could not be made, written or
-/// synced, which may leave it in any state, or where the name is none of a file in the folder.
+/// `Memory` where memory was refused, `Failed` where the bytes could not be written, synced or renamed, which may leave the file of the other name
+/// behind, or where the name is none of a file in the folder. All leave the file as it was.
 pub(crate) fn put<R: Files>(
     runtime: &R,
     alloc: Global,
@@ -51,9 +52,11 @@ pub(crate) fn put<R: Files>(
         return Err(StorageFault::Failed);
     }
     let path = format!(in alloc; "{name}.pud")?;
-    let mut file = fs::create(runtime, path.as_str())?;
+    let fresh = format!(in alloc; "{name}.pud.new")?;
+    let mut file = fs::create(runtime, fresh.as_str())?;
     file.write_all(bytes)?;
     file.sync_data()?;
+    fs::rename(runtime, fresh.as_str(), path.as_str())?;
     Ok(())
 }
 
