@@ -13,7 +13,7 @@ use Rattle.pud_defs.specs.declared.layout.TheConstants.{SCRIPT_LIMIT}
 use Rattle.pud_defs.specs.declared.machine.Command.{Command}
 use Rattle.pud_defs.specs.World.{World, world_of}
 use Rattle.pud_defs.specs.Grammar.{command_of}
-use Rattle.pud_defs.specs.Step.{answer_by, world_by}
+use Rattle.pud_defs.specs.Gives.{Gives, StepBy}
 use Rattle.pud_defs.specs.Run.{Turn, IsTurn, cuts_of, IsRun, last_world, newlines, open_rest, lines_taken, lines_among}
 use Rattle.pud_defs.specs.Texts.{answer_text, replies_text}
 use Rattle.pud_defs.specs.Stands.{StandsWith}
@@ -62,18 +62,11 @@ module _ (w : World) (t : Turn) (piece line : List ℕ) (of_line : t.line ≡ pi
 
   is_turn_relined : IsTurn w t → IsTurn w (relined t line)
   unfolding relined
-  is_turn_relined (inl turn) =
-      inl (record {
-        step = record {
-          answered = turn.step.answered ∙ ap (answer_by w) same_command;
-          given = turn.step.given ∙ ap (λ (c : Option Command). world_by w c) same_command;
-        };
-        goes_on = turn.goes_on;
-      })
+  is_turn_relined (inl turn) = inl (record { step = subst (λ (c : Option Command). StepBy w c t.answer t.under) same_command turn.step; goes_on = turn.goes_on })
   is_turn_relined (inr turn) =
       inr (record {
         answered = turn.answered;
-        given = turn.given ∙ ap (λ (c : Option Command). world_by w c) same_command;
+        given = subst (λ (c : Option Command). Gives w c t.under) same_command turn.given;
         goes_on = turn.goes_on;
       })
 

@@ -15,7 +15,7 @@ use Rattle.pud_defs.specs.Texts.{replies_text}
 use Rattle.pud_defs.specs.StartText.{start_text}
 use Rattle.pud_defs.specs.Stands.{StandsWith, StandsBehind}
 use Rattle.ready_daemon.proofs.Beside.{ready_stands}
-use Rattle.pud_defs.proofs.Changing.{KeepsFiles-still, KeepsUnwritable-still, KeepsUnwritable-then, KeepsUnwritable-none}
+use Rattle.pud_defs.proofs.Changing.{KeepsFiles-still, KeepsUnwritable-still, KeepsUnwritable-then}
 use Rattle.pud_defs.proofs.Lines.{newlines-append, newlines_part, lines_taken-nothing}
 use Rattle.pud_defs.proofs.Stands.{StandsBehind-closed, StandsBehind-after}
 use Rattle.recover.specs.Recovery.{RefusesSame}
@@ -276,7 +276,6 @@ TakesScript-unstarted status start end kept faulty = record {
   too_long = λ is. absurd (faulty (ap run_fault_at is));
   exact = λ none. absurd (faulty none);
   files = KeepsUnwritable-still start.shelf end.shelf kept.shelf;
-  shelf = kept.shelf;
 }
 
 -- behind it what the loop over the script took
@@ -292,7 +291,6 @@ TakesScript-served (Ok true) start mid end kept t =
       too_long = λ is. absurd (let no : DONE ≡ TOO_LONG = is in cc);
       exact = λ _. (λ is. absurd (let no : DONE ≡ TOO_LONG = is in cc), λ all. absurd (omega arith));
       files = files;
-      shelf = KeepsUnwritable-none start.shelf end.shelf files;
     }
 TakesScript-served (Ok false) start mid end kept t =
     let files = KeepsUnwritable-then start.shelf mid.shelf end.shelf (KeepsUnwritable-still start.shelf mid.shelf kept.shelf) t.files in
@@ -305,7 +303,6 @@ TakesScript-served (Ok false) start mid end kept t =
       too_long = λ _. t.counted;
       exact = λ _. (λ _. t.counted, λ _. refl);
       files = files;
-      shelf = KeepsUnwritable-none start.shelf end.shelf files;
     }
 TakesScript-served (Err fault) start mid end kept t =
     let files = KeepsUnwritable-then start.shelf mid.shelf end.shelf (KeepsUnwritable-still start.shelf mid.shelf kept.shelf) t.files in
@@ -317,5 +314,4 @@ TakesScript-served (Err fault) start mid end kept t =
       too_long = λ is. absurd (not_whole_at fault TOO_LONG refl is);
       exact = λ none. absurd (not_whole_at fault (status_at fault) none refl);
       files = files;
-      shelf = KeepsUnwritable-none start.shelf end.shelf files;
     }

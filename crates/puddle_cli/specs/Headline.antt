@@ -22,7 +22,7 @@ use Rattle.puddle_cli.specs.Status.{status_fault, run_fault_at}
 use Rattle.puddle_cli.specs.Serving.{CountsPending, file_under_way}
 
 -- Bytes of the script were taken: all of them, and fewer than 2^20, at status 0; 2^20 at status 7, and of a run that could go on to its end only
--- there. Each file that no line may write is as it was; no line of today may write one, so the shelf is.
+-- there. Each file that no line may write is as it was.
 pub record TakesScript (status : ℕ) (start end : State) : Type 0 where
   pub taken : List ℕ
   pub script : start.script ≡ taken ++ end.script
@@ -31,7 +31,6 @@ pub record TakesScript (status : ℕ) (start end : State) : Type 0 where
   pub too_long : status ≡ TOO_LONG → length taken ≡ SCRIPT_LIMIT
   pub exact : run_fault_at status ≡ None → (status ≡ TOO_LONG) ↔ (length taken ≡ SCRIPT_LIMIT)
   pub files : KeepsUnwritable start.shelf end.shelf
-  pub shelf : end.shelf ≡ start.shelf
 
 -- One run of the machine over a script: whether the start was said whole, before which nothing is taken; the bytes taken, whether their end was
 -- read, and the lines that they are, some of them answered and at most one without a whole reply.

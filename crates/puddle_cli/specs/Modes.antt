@@ -37,10 +37,10 @@ pub record FormatsDevice (F id status : ℕ) (before after : Counts) (old new : 
   pub formats : status ≢ NOT_USABLE → Formats before.size F id (status_fault status) old new
   pub completes : is_refused before.size F (reads old.now.words) ≡ false → NoneRose before after → status ≡ DONE
 
--- The mode `run`. On a device that was rested it is refused exactly where what the device reads is not sound, and the device then stays; where
--- it is sound and neither count rose the script was run. Whatever the device holds, the start's text is said, and one answer for each line taken; and it is refused only where that is not sound, or where power
--- was lost meanwhile and what the device then reads is not sound. From a rested device that stands for a world without clients there is one run of the
--- machine that the headline speaks of.
+-- The mode `run`. Whatever the device holds, the start's text is said, and one answer for each line taken; it is refused only where what the
+-- device reads is not sound, or where power was lost meanwhile and what it then reads is not sound. On a device that was rested it is refused
+-- exactly where what the device reads is not sound, and the device then stays; where it is sound and neither count rose, the script was run.
+-- From a rested device that stands for a world without clients there is one run of the machine that the headline speaks of.
 pub record RunsScript (status : ℕ) (before after : Counts) (old new : State) : Type 0 where
   pub takes : TakesScript status old new
   pub says : RunSays status old new

@@ -1,6 +1,7 @@
 -- What each command owes, from what its own call ensures.
-use Rattle.std.proofs.Common.{◌≡◌, ℕ, true, List, Option, Some, None, Result, Ok, Err, refl, sym, ap, subst, ◌∙◌}
+use Rattle.std.proofs.Common.{◌≡◌, inl, inr, ℕ, true, List, Option, Some, None, Result, Ok, Err, refl, sym, ap, subst, ◌∙◌}
 use Rattle.std.specs.Prelude.{IfOk, is_some}
+use Rattle.std.proofs.lemmas.Option.{same_Some}
 use Rattle.pm_model.specs.declared.host.HostFault.{HostFault}
 use Rattle.pm_model.specs.declared.host.HostFault.TheVariants as hosts
 use Rattle.pm_model.specs.Counts.{Counts, after_fault, after_arm, after_loss_of, fault_of}
@@ -11,11 +12,12 @@ use Rattle.pud_defs.specs.declared.machine.Reply.{Reply}
 use Rattle.pud_defs.specs.declared.machine.Reply.TheVariants as replies
 use Rattle.pud_defs.specs.declared.machine.Refusal.TheVariants as refusals
 use Rattle.pud_defs.specs.World.{World, restart}
-use Rattle.pud_defs.specs.Step.{refusal_of, after, answer, answer_by, world_by}
+use Rattle.pud_defs.specs.Step.{Answer, refusal_of, after, answer, answer_by, world_by}
 use Rattle.pud_defs.specs.Step.Answer.{of_reply, of_text}
 use Rattle.pud_defs.specs.Listing.{pools_text}
-use Rattle.pud_defs.specs.Changing.{file_of}
-use Rattle.pud_defs.proofs.Changing.{KeepsFiles-still, KeepsFiles-then}
+use Rattle.pud_defs.specs.Gives.{StepBy, may_lack_memory}
+use Rattle.pud_defs.specs.Changing.{file_of, file_in}
+use Rattle.pud_defs.proofs.Changing.{Gives-plain, KeepsFiles-still, KeepsFiles-then}
 use Rattle.pud_defs.proofs.Steps.{answer_is_ok, done_world}
 use Rattle.puddled.specs.Faults.{Kind, kind_of, CountsCommand}
 use Rattle.puddled.specs.Faults.Kind.{ordinary, loses, arms}
@@ -72,6 +74,21 @@ restart_line w (Some (Cut p)) pick is = record { answered = answer_is_ok w (Cut 
 restart_line w (Some (Arm step p)) pick is = absurd (let no : arms step p ≡ loses pick = is in cc)
 restart_line w command pick is = absurd (let no : ordinary ≡ loses pick = is in cc)
 
+-- what it is answered, by the step that was made
+pub lost_answer : (w : World) (command : Option Command) (pick : ℕ) (said : Answer) (next : World) → kind_of command ≡ loses pick → StepBy w command said next → said ≡ of_reply replies.Ok
+unfolding may_lack_memory
+lost_answer w (Some (Cut p)) pick said next is (inl done) = done.answered ∙ (restart_line w (Some (Cut p)) pick is).answered
+lost_answer w (Some (Cut p)) pick said next is (inr out) =
+    let asked : Cut p ≡ out.asked = same_Some (Cut p) out.asked out.is in
+    absurd (let no : may_lack_memory w (Cut p) ≡ true = ap (may_lack_memory w) asked ∙ out.may in cc)
+lost_answer w (Some (Arm step p)) pick said next is step_made = absurd (let no : arms step p ≡ loses pick = is in cc)
+lost_answer w command pick said next is step_made = absurd (let no : ordinary ≡ loses pick = is in cc)
+
+-- ---- a step that writes no file and needs no memory
+
+pub plain_step : (w : World) (c : Option Command) → file_in c ≡ None → StepBy w c (answer_by w c) (world_by w c)
+plain_step w c none = inl (record { answered = refl; gives = Gives-plain w c none })
+
 -- ---- a client that goes
 
 -- its own call closes its logs first
@@ -94,7 +111,12 @@ module _ (size : ℕ) (w : World) (memory : Memory) (before after : Counts) (old
       → Applies size w (world_by w (Some c)) memory (fault_of done) old new → ClosesLogs ClosesBefore w (Some c) old new → KeepsRest old new → after ≡ after_fault (fault_of done) before
       → CarriesOut size w memory (Some c) (as_answered done) before after old new
   CarriesOut-plain c (Ok reply) plain none replied applies closes rest cause = record {
+    said = answer_by w (Some c);
+    under = world_by w (Some c);
+    step = plain_step w (Some c) none;
+    gives = λ _. Gives-plain w (Some c) none;
     replied = replied;
+    one_line = tt;
     applies = applies;
     files = KeepsFiles-still (file_of c) old.shelf new.shelf rest.shelf;
     no_file = λ _. none;
@@ -102,7 +124,12 @@ module _ (size : ℕ) (w : World) (memory : Memory) (before after : Counts) (old
     counted = subst (λ (k : Kind). CountsCommand k None before after) (sym plain) cause;
   }
   CarriesOut-plain c (Err fault) plain none replied applies closes rest cause = record {
+    said = answer_by w (Some c);
+    under = world_by w (Some c);
+    step = plain_step w (Some c) none;
+    gives = λ _. Gives-plain w (Some c) none;
     replied = tt;
+    one_line = tt;
     applies = applies;
     files = KeepsFiles-still (file_of c) old.shelf new.shelf rest.shelf;
     no_file = λ _. none;
@@ -119,6 +146,11 @@ module _ (size : ℕ) (w : World) (memory : Memory) (before after : Counts) (old
   -- the list of the pools is asked for
   pub CarriesOut-listed : IsReady size w memory old → new ≡ old → after ≡ before → CarriesOut size w memory (Some Pools) (Ok answers.Pools) before after old new
   CarriesOut-listed ready same cause = record {
+    said = answer_by w (Some Pools);
+    under = world_by w (Some Pools);
+    step = plain_step w (Some Pools) refl;
+    gives = λ _. Gives-plain w (Some Pools) refl;
+    one_line = tt;
     replied = ap (λ (v : World). of_text (pools_text v.stored)) (world_of_pools w) ∙ sym (answer_of_pools w);
     applies = subst (λ (v : World). Applies size w v memory None old new) (sym (world_of_pools w)) (Applies-idle size w memory old new ready same);
     files = KeepsFiles-still None old.shelf new.shelf (ap (λ (s : State). s.shelf) same);
@@ -131,7 +163,12 @@ module _ (size : ℕ) (w : World) (memory : Memory) (before after : Counts) (old
   pub CarriesOut-lost : (pick : ℕ) (done : Result Reply HostFault) → done ≡ Err hosts.Cut → Applies size w (restart w) memory (Some hosts.Cut) old new → KeepsRest old new
       → after ≡ after_loss_of pick before → CarriesOut size w memory (Some (Cut pick)) (as_answered done) before after old new
   CarriesOut-lost pick done is applies rest cause = subst (λ (r : Result Reply HostFault). CarriesOut size w memory (Some (Cut pick)) (as_answered r) before after old new) (sym is) (record {
+    said = answer_by w (Some (Cut pick));
+    under = world_by w (Some (Cut pick));
+    step = plain_step w (Some (Cut pick)) refl;
+    gives = λ _. Gives-plain w (Some (Cut pick)) refl;
     replied = tt;
+    one_line = tt;
     applies = subst (λ (v : World). Applies size w v memory (Some hosts.Cut) old new) (sym (world_of_cut w pick)) applies;
     files = KeepsFiles-still None old.shelf new.shelf rest.shelf;
     no_file = λ _. refl;
@@ -143,6 +180,11 @@ module _ (size : ℕ) (w : World) (memory : Memory) (before after : Counts) (old
   pub CarriesOut-armed : (step pick : ℕ) (done : Result Reply HostFault) → done ≡ Ok replies.Ok → IsReady size w memory old → new ≡ old
       → after ≡ after_arm step pick before → CarriesOut size w memory (Some (Arm step pick)) (as_answered done) before after old new
   CarriesOut-armed step pick done is ready same cause = subst (λ (r : Result Reply HostFault). CarriesOut size w memory (Some (Arm step pick)) (as_answered r) before after old new) (sym is) (record {
+    said = answer_by w (Some (Arm step pick));
+    under = world_by w (Some (Arm step pick));
+    step = plain_step w (Some (Arm step pick)) refl;
+    gives = λ _. Gives-plain w (Some (Arm step pick)) refl;
+    one_line = tt;
     replied = sym (answer_is_ok w (Arm step pick) refl refl (arm_is_free w step pick));
     applies = subst (λ (v : World). Applies size w v memory None old new) (sym (world_of_arm w step pick)) (Applies-idle size w memory old new ready same);
     files = KeepsFiles-still None old.shelf new.shelf (ap (λ (s : State). s.shelf) same);
@@ -154,7 +196,12 @@ module _ (size : ℕ) (w : World) (memory : Memory) (before after : Counts) (old
   -- the line is no command
   pub CarriesOut-bad : IsReady size w memory old → new ≡ old → after ≡ before → CarriesOut size w memory None (Ok (answers.Reply (replies.No refusals.Bad))) before after old new
   CarriesOut-bad ready same cause = record {
+    said = answer_by w None;
+    under = w;
+    step = plain_step w None refl;
+    gives = λ _. Gives-plain w None refl;
     replied = refl;
+    one_line = tt;
     applies = Applies-idle size w memory old new ready same;
     files = KeepsFiles-still None old.shelf new.shelf (ap (λ (s : State). s.shelf) same);
     no_file = λ _. refl;

@@ -10,6 +10,8 @@ use Rattle.pud_defs.specs.World.{World}
 use Rattle.pud_defs.specs.declared.machine.Command.{Command}
 use Rattle.pud_defs.specs.declared.machine.Reply.TheVariants as replies
 use Rattle.pud_defs.specs.Grammar.{command_of}
+use Rattle.pud_defs.specs.Step.{Answer}
+use Rattle.pud_defs.specs.Gives.{Step}
 use Rattle.pud_defs.specs.Run.{Turn, is_cut, cuts_of}
 use Rattle.puddled.specs.declared.daemon.StartFault.{StartFault}
 use Rattle.puddled.specs.declared.daemon.StartFault.TheVariants as starts
@@ -49,9 +51,9 @@ risen_by-more k zero n = rw zero-add refl
 risen_by-more k (suc l) n = rw suc-add (ap risen (risen_by-more k l n))
 
 -- a line that was carried out adds no cut to what is counted
-pub counted_step : (w : World) (line : List ℕ) (fault : Option RunFault) (before after : Counts) → CountsLine (command_of line) fault 0 before after
-    → CountsLine (command_of line) fault (cuts_of (turn_of w line ∷ [])) before after
-counted_step w line fault before after c = subst (λ (n : ℕ). CountsLine (command_of line) fault n before after) (sym (no_cut_reply w line)) c
+pub counted_step : (w : World) (line : List ℕ) (said : Answer) (under : World) (fault : Option RunFault) (before after : Counts) → Step w line said under → CountsLine (command_of line) fault 0 before after
+    → CountsLine (command_of line) fault (cuts_of (turn_of line said under ∷ [])) before after
+counted_step w line said under fault before after step c = subst (λ (n : ℕ). CountsLine (command_of line) fault n before after) (sym (no_cut_reply w line said under step)) c
 
 pub counted_nothing : (before after : Counts) → after ≡ before → IsCounted None 0 before after
 counted_nothing before after same = record { count = 0; cuts = refl; is = same }

@@ -1,5 +1,9 @@
 pub mod Depth
 pub mod Readable
+pub mod Saying
+pub mod FileNames
+pub mod FileLines
+pub mod ExportLines
 pub mod RefusedLines
 pub mod Entering
 pub mod Counted

@@ -193,7 +193,7 @@ module _ (size : ℕ) (w : World) (memory : Memory) (line : List ℕ) (answered 
 
   -- what is said of a ready device is the text of the answer
   text_is : (fault : Option HostFault) → Says (said_text memory.frames (reads mid.now.words) answered) fault mid new → Says (answer_text s.turn.answer) fault mid new
-  text_is fault says = subst (λ (text : List ℕ). Says text fault mid new) (said_when_ready size s.turn.next memory mid answered (s.ready refl) ∙ ap answer_text (sym s.replied)) says
+  text_is fault says = subst (λ (text : List ℕ). Says text fault mid new) (said_when_ready size s.turn.next memory mid answered s.one_line (s.ready refl) ∙ ap answer_text (sym s.replied)) says
 
   pub Answers-said : (result : Result Bool RunFault) (fault : Option HostFault) → Says (said_text memory.frames (reads mid.now.words) answered) fault mid new → (run_fault result ≡ None → fault ≡ None)
       → ((v : World) → IfOk result (λ ok. ok ≡ begins_with_ok (answer_of v answered))) → (run_fault result ≡ Some NotSound → ⊥) → CountsLine (command_of line) (run_fault result) (cuts_of (s.turn ∷ [])) before after

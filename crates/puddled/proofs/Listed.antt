@@ -1,5 +1,5 @@
 -- What is said of a ready device is what the machine answers.
-use Rattle.std.proofs.Common.{◌≡◌, ℕ, ◌++◌, codes, Option, refl, sym, ap, subst, ◌∙◌}
+use Rattle.std.proofs.Common.{◌≡◌, ℕ, List, ◌++◌, codes, Option, refl, sym, ap, subst, ◌∙◌}
 use Rattle.pm_model.specs.Words.{reads}
 use Rattle.pm_model.specs.declared.host.HostFault.{HostFault}
 use Rattle.pm_model.specs.Moments.{State}
@@ -16,13 +16,14 @@ use Rattle.pool_list.proofs.ListedPools.{line_of-listed_text}
 use Rattle.ready_daemon.specs.Memory.{Memory}
 use Rattle.puddled.specs.declared.answers.Answered.{Answered}
 use Rattle.puddled.specs.declared.answers.Answered.TheVariants as answers
-use Rattle.puddled.specs.Answered.{answer_of, said_text}
+use Rattle.puddled.specs.Answered.{answer_of, IsOneLine, said_text}
 use Rattle.ready_daemon.specs.Ready.{IsReady}
 use Rattle.ready_daemon.proofs.TablesBeside.{tables_read, world_under, header_read}
 
-pub said_when_ready : (size : ℕ) (w : World) (memory : Memory) (s : State) (answered : Answered) → IsReady size w memory s → said_text memory.frames (reads s.now.words) answered ≡ answer_text (answer_of w answered)
-said_when_ready size w memory s (answers.Reply reply) ready = refl
-said_when_ready size w memory s answers.Pools ready =
+pub said_when_ready : (size : ℕ) (w : World) (memory : Memory) (s : State) (answered : Answered) → IsOneLine answered → IsReady size w memory s → said_text memory.frames (reads s.now.words) answered ≡ answer_text (answer_of w answered)
+said_when_ready size w memory s (answers.Reply reply) one ready = refl
+said_when_ready size w memory s (answers.Text text) one ready = ap (λ (t : List ℕ). line_of (codes "ok " ++ t)) (sym one)
+said_when_ready size w memory s answers.Pools one ready =
     let image = reads s.now.words in
     let under = reads (masked ready.mask s.now.words) in
     let world = world_under size w memory s ready in

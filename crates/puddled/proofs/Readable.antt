@@ -1,8 +1,9 @@
 -- Lines that read a field: which pool is readable, and what is replied.
-use Rattle.std.proofs.Common.{◌≡◌, ◌≢◌, inl, inr, ℕ, Bool, true, false, not, cond, List, [], Option, Some, None, is_some, is_none, option_map, eqb, eqb-true, refl, sym, ap, ap₂, subst, ◌∙◌}
+use Rattle.std.proofs.Common.{◌≡◌, ◌≢◌, inl, inr, ℕ, Bool, true, false, not, cond, List, [], length, Option, Some, None, is_some, is_none, option_map, eqb, eqb-true, refl, sym, ap, ap₂, subst, ◌∙◌}
 use Rattle.std.specs.Prelude.{IfOk, unwrap_or}
 use Rattle.std.specs.FinMap.Entries.{find}
 use Rattle.std.proofs.lemmas.Option.{none-some, same_Some}
+use Rattle.std.proofs.lemmas.List.{length-map}
 use Rattle.pm_model.specs.declared.host.HostFault.{HostFault}
 use Rattle.pm_model.specs.declared.host.HostFault.TheVariants.{Cut}
 use Rattle.pm_model.specs.Words.{reads}
@@ -24,6 +25,7 @@ use Rattle.pud_defs.specs.Rights.{may_read}
 use Rattle.pud_defs.specs.Types.{types_of}
 use Rattle.pud_defs.specs.Stored.{Stored, stored_in}
 use Rattle.pud_defs.specs.Graph.{Graph, Object, graph_of, object_in}
+use Rattle.pud_defs.specs.Exported.{IsExportable}
 use Rattle.pud_defs.specs.Holdings.{held_as, graph_held, holding_in}
 use Rattle.pud_defs.specs.SoundTables.{is_sound_pool, HasSoundTables}
 use Rattle.pud_defs.specs.Tables.{Tables, Pool, Reader, tables_of, records_of, pool_in, puddles_of, puddles_in_turn, listed, pool_of}
@@ -33,6 +35,7 @@ use Rattle.pud_defs.specs.Transactions.{is_others}
 use Rattle.pud_defs.specs.Step.{reads as reads_pool, graph_in, graph_seen, object_of, field_of, value_or_ok, text_or, refusal_of, holds, after, answer, answer_by, answer_unless, unless_refused, world_by}
 use Rattle.pud_defs.specs.Step.Answer.{of_reply}
 use Rattle.pud_defs.proofs.PuddlesListed.{puddles_in_turn-listed}
+use Rattle.pud_defs.proofs.Exportable.{exportable as pool_exportable}
 use Rattle.pud_defs.proofs.PoolRefusals.{pool_by_record, found_record}
 use Rattle.pud_defs.proofs.RecordsPlaced.{legal_mode, mode_read}
 use Rattle.pud_defs.proofs.SoundChanged.{legal_pool}
@@ -46,7 +49,8 @@ use Rattle.ready_daemon.specs.Held.{IsHeld}
 use Rattle.ready_daemon.specs.Holding.{FindsPuddles, IsOwnOn}
 use Rattle.ready_daemon.specs.Judged.{known_in, AreJudged}
 use Rattle.ready_daemon.specs.Owning.{refusal_found, IsSlotOf}
-use Rattle.puddled.specs.Reading.{reading_refusal, refusal_to_read, reading_open, HoldsGraph, HoldsFound, reply_of_read}
+use Rattle.puddled.specs.Files.{IsStoredPool}
+use Rattle.puddled.specs.Reading.{reading_refusal, refusal_to_read, reading_open, IsShut, HoldsGraph, HoldsFound, reply_of_read}
 use Rattle.ready_daemon.specs.Judged.{puddles_with_graph}
 use Rattle.ready_daemon.specs.Ready.{IsReady, Applies}
 use Rattle.ready_daemon.proofs.Applying.{Applies-still, IsReady-beside}
@@ -206,6 +210,38 @@ module _ (size : ℕ) (w : World) (memory : Memory) (s : State) (ready : IsReady
       unfolding puddles_with_graph
       holds_graph frames puddles on some = holds_by frames (puddles_in_turn (tables_of frames image) slot) puddles _ refl (graph_read frames on) some
 
+      had : (holds : HoldsGraph w F name image (puddles_in_turn t slot)) → graph_in (pool_named name w.stored) ≡ Some holds.graph
+      had holds = sym (ap (λ (o : Option Transaction). graph_seen o (pool_named name w.stored)) shut_there) ∙ holds.is
+
+      known_are : (puddles : List (ℕ × Puddle)) (g : Option Graph) → Some puddles ≡ option_map (λ graph. puddles_in_turn t slot) g → puddles_in_turn t slot ≡ puddles
+      known_are puddles None some = absurd (none-some puddles (sym some))
+      known_are puddles (Some graph) some = same_Some (puddles_in_turn t slot) puddles (sym some)
+
+      -- the pool as it is known, which can be written into a file
+      stored_on : (puddles : List (ℕ × Puddle)) → Some puddles ≡ puddles_with_graph F image slot → IsStoredPool w F name image rec.number puddles
+      unfolding puddles_with_graph pool_of
+      stored_on puddles some =
+          let at = found_record t name slot found.r found.found in
+          let are : puddles_in_turn t slot ≡ puddles = known_are puddles _ some in
+          let holds = subst (λ (p : List (ℕ × Puddle)). HoldsGraph w F name image p) (sym are) (holds_graph F puddles refl some) in
+          let types = types_read size w memory s ready in
+          record {
+            pool = pool_by_record hold t (slot, found.r);
+            there = named;
+            graph = holds.graph;
+            holds = ap graph_in (sym named) ∙ had holds;
+            stored = ap (λ (p : List (ℕ × Puddle)). graph_of (types_of image) (stored_in F p image)) (sym are) ∙ holds.stored;
+            number_is = ap (λ (x : PoolRec). x.number) found.same;
+            count = ap length (sym are ∙ puddles_are) ∙ length-map (puddles_of t slot) (λ e. e.1);
+            types = types.types;
+            exportable = subst (λ (p : List (ℕ × Puddle)). IsExportable (types_of image) (stored_in F p image)) are
+                (pool_exportable w.stored.next_number image F slot found.r types.legal sound at.below at.used);
+          }
+
+      pub stored_pool : (frames : ℕ) (puddles : List (ℕ × Puddle)) → frames ≡ F → Some puddles ≡ puddles_with_graph frames image slot → IsStoredPool w frames name image rec.number puddles
+      stored_pool frames puddles on some =
+          subst (λ (n : ℕ). IsStoredPool w n name image rec.number puddles) (sym on) (stored_on puddles (some ∙ ap (λ (n : ℕ). puddles_with_graph n image slot) on))
+
       module _ (uid gid frames : ℕ) (on : frames ≡ F) (there : w.clients client ≡ Some (owner uid gid)) where
         abbrev right : Bool
         right = may_read rec.mode (owner rec.uid rec.gid) (owner uid gid)
@@ -244,24 +280,32 @@ module _ (size : ℕ) (w : World) (memory : Memory) (s : State) (ready : IsReady
       pub its_graph : graph_in (pool_named name w.stored) ≡ Some its.undone
       its_graph = ap (λ (n : List ℕ). graph_in (pool_named n w.stored)) (sym open_on.name_is) ∙ its.stored
 
-      by_own : (frames : ℕ) (judged : List (Option (List (ℕ × Puddle)))) (right own : Bool) → eqb other client ≡ own → IfOk (reading_open slot right own) (HoldsFound w frames memory.held client name image judged)
-      by_own frames judged false own e = tt
-      by_own frames judged true false e = tt
-      by_own frames judged true true e = inl (refl, open_on.number, own_on w memory.held client name slot (record { client = other; depth = depth_in memory.sessions slot }) open_on (eqb-true other client e))
+      by_own : (number frames : ℕ) (judged : List (Option (List (ℕ × Puddle)))) (right own : Bool) → eqb other client ≡ own → IfOk (reading_open slot number right own) (HoldsFound w frames memory.held client name image judged)
+      by_own number frames judged false own e = tt
+      by_own number frames judged true false e = tt
+      by_own number frames judged true true e = inl (refl, open_on.number, own_on w memory.held client name slot (record { client = other; depth = depth_in memory.sessions slot }) open_on (eqb-true other client e))
 
       -- what is found then is the client's own
-      pub found_open : (frames : ℕ) (judged : List (Option (List (ℕ × Puddle)))) (right : Bool) → IfOk (reading_open slot right (eqb other client)) (HoldsFound w frames memory.held client name image judged)
-      found_open frames judged right = by_own frames judged right (eqb other client) refl
+      pub found_open : (number frames : ℕ) (judged : List (Option (List (ℕ × Puddle)))) (right : Bool) → IfOk (reading_open slot number right (eqb other client)) (HoldsFound w frames memory.held client name image judged)
+      found_open number frames judged right = by_own number frames judged right (eqb other client) refl
+
+      open_not_shut : (number frames : ℕ) (judged : List (Option (List (ℕ × Puddle)))) (right own : Bool) → IfOk (reading_open slot number right own) (λ found. found.is_open ≡ false → IsShut w frames name image judged found)
+      open_not_shut number frames judged false own = tt
+      open_not_shut number frames judged true false = tt
+      open_not_shut number frames judged true true = λ shut. absurd (let no : true ≡ false = shut in cc)
+
+      pub found_not_shut : (number frames : ℕ) (judged : List (Option (List (ℕ × Puddle)))) (right : Bool) → IfOk (reading_open slot number right (eqb other client)) (λ found. found.is_open ≡ false → IsShut w frames name image judged found)
+      found_not_shut number frames judged right = open_not_shut number frames judged right (eqb other client)
 
       module _ (uid gid : ℕ) (there : w.clients client ≡ Some (owner uid gid)) where
-        by_open : (right : Bool) → refusal_found (reading_open slot right (eqb other client)) ≡ cond (not right) (Some refusals.Denied) (cond (not (eqb other client)) (Some refusals.Busy) None)
-        by_open true = elim (eqb other client) as (λ b. refusal_found (reading_open slot true b) ≡ cond (not b) (Some refusals.Busy) None) [ true ↦ refl | false ↦ refl ]
-        by_open false = refl
+        by_open : (number : ℕ) (right : Bool) → refusal_found (reading_open slot number right (eqb other client)) ≡ cond (not right) (Some refusals.Denied) (cond (not (eqb other client)) (Some refusals.Busy) None)
+        by_open number true = elim (eqb other client) as (λ b. refusal_found (reading_open slot number true b) ≡ cond (not b) (Some refusals.Busy) None) [ true ↦ refl | false ↦ refl ]
+        by_open number false = refl
 
         -- the client's own is read, unless the mode denies it
-        pub refusal_open : (right : Bool) → right ≡ may_read rec.mode (owner rec.uid rec.gid) (owner uid gid) → refusal_found (reading_open slot right (eqb other client)) ≡ refusal_to_read w client name
-        refusal_open right is_right =
-            by_open right
+        pub refusal_open : (number : ℕ) (right : Bool) → right ≡ may_read rec.mode (owner rec.uid rec.gid) (owner uid gid) → refusal_found (reading_open slot number right (eqb other client)) ≡ refusal_to_read w client name
+        refusal_open number right is_right =
+            by_open number right
             ∙ ap₂ (λ (b : Bool) (whose : ℕ). cond (not b) (Some refusals.Denied) (cond (not (eqb whose client)) (Some refusals.Busy) None)) is_right (sym its_client)
             ∙ sym (refusal_there uid gid (Some its.undone) (Some open_on.transaction) there its_graph open_on.there)
 
@@ -291,6 +335,23 @@ module _ (size : ℕ) (w : World) (memory : Memory) (s : State) (ready : IsReady
       subst (λ (n : ℕ). HoldsGraph w n name (reads s.now.words) at) (sym on) (holds_own readable.slot own.1 at (finds own.0) own.2)
   holds_found frames judged readable at on (inr holds) finds known =
       subst (HoldsGraph w frames name (reads s.now.words)) (sym (known holds.0)) holds.1
+
+-- ---- more is known of pools
+
+-- by calls that read
+pub judged_more : (size : ℕ) (w : World) (memory : Memory) (judged : List (Option (List (ℕ × Puddle)))) (old : State) → IsReady size w memory old → AreJudged memory.frames judged (reads old.now.words)
+    → ((number : ℕ) (h : Held) → held_under memory.held number ≡ Some h → known_in judged h.slot ≡ known_in memory.judged h.slot) → IsReady size w (record memory { judged = judged }) old
+judged_more size w memory judged old ready right apart =
+    let there = subst (λ (n : ℕ). AreJudged n judged (reads old.now.words)) ready.frames right in
+    let knows = KnowsPools-read w.stored.frames memory.judged judged memory.held (reads old.now.words) there apart ready.knows in
+    IsReady-beside size w memory (record memory { judged = judged }) old refl refl refl knows ready
+
+-- and nothing else changes
+pub Applies-judged : (size : ℕ) (w : World) (memory : Memory) (judged : List (Option (List (ℕ × Puddle)))) (fault : Option HostFault) (old new : State) → IsReady size w memory old
+    → AreJudged memory.frames judged (reads old.now.words) → ((number : ℕ) (h : Held) → held_under memory.held number ≡ Some h → known_in judged h.slot ≡ known_in memory.judged h.slot)
+    → new ≡ old → (fault ≡ Some Cut → ⊥) → Applies size w w (record memory { judged = judged }) fault old new
+Applies-judged size w memory judged fault old new ready right apart same never =
+    Applies-still size w (record memory { judged = judged }) fault old new (judged_more size w memory judged old ready right apart) same (λ cut. absurd (never cut))
 
 -- ---- what is replied
 
@@ -380,8 +441,4 @@ module _ (w : World) (client : ℕ) (name : List ℕ) (serial f : ℕ) where
       → AreJudged memory.frames judged (reads old.now.words) → ((number : ℕ) (h : Held) → held_under memory.held number ≡ Some h → known_in judged h.slot ≡ known_in memory.judged h.slot)
       → new ≡ old → (fault ≡ Some Cut → ⊥) → Applies size w (world_by w (Some c)) (record memory { judged = judged }) fault old new
   Applies-get size memory judged fault old new ready right apart same never =
-      let next : Memory = record memory { judged = judged } in
-      let there = subst (λ (n : ℕ). AreJudged n judged (reads old.now.words)) ready.frames right in
-      let knows = KnowsPools-read w.stored.frames memory.judged judged memory.held (reads old.now.words) there apart ready.knows in
-      subst (λ (v : World). Applies size w v next fault old new) (sym world_of_get)
-      (Applies-still size w next fault old new (IsReady-beside size w memory next old refl refl refl knows ready) same (λ cut. absurd (never cut)))
+      subst (λ (v : World). Applies size w v (record memory { judged = judged }) fault old new) (sym world_of_get) (Applies-judged size w memory judged fault old new ready right apart same never)

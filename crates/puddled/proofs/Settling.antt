@@ -16,10 +16,10 @@ use Rattle.pud_defs.specs.declared.machine.Command.TheVariants.{Leave}
 use Rattle.pud_defs.specs.declared.machine.Refusal.{Refusal}
 use Rattle.pud_defs.specs.World.{World, world_of, closed, restart}
 use Rattle.pud_defs.specs.Grammar.{command_of}
-use Rattle.pud_defs.specs.Step.{refusal_of, after, unless_refused, world_by, step_world}
+use Rattle.pud_defs.specs.Step.{refusal_of, after, unless_refused, world_by}
 use Rattle.pud_defs.specs.Changing.{Part, part_of, with_part, file_in}
 use Rattle.pud_defs.specs.Changing.Part.{types, pools, clients, transactions, nothing}
-use Rattle.pud_defs.proofs.Changing.{after-part, shelf_by, KeepsFiles-none}
+use Rattle.pud_defs.proofs.Changing.{after-part, shelf_of_gives, Gives-plain_is, KeepsFiles-none}
 use Rattle.pud_defs.proofs.Commands.{command_of-legal}
 use Rattle.puddled.specs.declared.daemon.StartFault.{StartFault}
 use Rattle.puddled.specs.declared.daemon.StartFault.TheVariants as starts
@@ -34,7 +34,7 @@ use Rattle.puddled.specs.Starting.{Recovers}
 use Rattle.puddled.specs.Daemon.{CarriesOut, Settles}
 use Rattle.ready_daemon.proofs.Turns.{turn_of, is_turn_of, cut_turn, is_cut_turn}
 use Rattle.puddled.proofs.Counted.{counted_step, counted_cut, kind_done, kind_faulty, kind_unstarted, host_is_sound}
-use Rattle.puddled.proofs.Carrying.{restart_line}
+use Rattle.puddled.proofs.Carrying.{restart_line, lost_answer}
 use Rattle.puddled.proofs.Restarts.{closed_if_free}
 
 -- the images between the world before a turn and the one that it gives
@@ -67,16 +67,17 @@ module _ (size : ℕ) (w : World) (memory : Memory) (line : List ℕ) (before be
   pub Settles-done : (answered : Answered) → CarriesOut size w memory (command_of line) (Ok answered) before between old mid → Settles size w line (Ok answered) memory before between old mid
   Settles-done answered k =
       record {
-        turn = turn_of w line;
+        turn = turn_of line k.said k.under;
         of_line = refl;
-        is_turn = is_turn_of w line;
+        is_turn = is_turn_of w line k.said k.under k.step;
         replied = sym k.replied;
-        moments = stands_applied size w (step_world w line) memory None old mid k.applies;
+        one_line = k.one_line;
+        moments = stands_applied size w k.under memory None old mid k.applies;
         quiet = k.applies.quiet;
         closes = closes_first w (command_of line) old mid k.closes;
-        allowed = allowed_applied size w (step_world w line) memory None old mid k.applies;
+        allowed = allowed_applied size w k.under memory None old mid k.applies;
         ready = λ _. k.applies.ready refl;
-        counted = counted_step w line None before between (kind_done (kind_of (command_of line)) before between k.counted);
+        counted = counted_step w line k.said k.under None before between k.step (kind_done (kind_of (command_of line)) before between k.counted);
         sound = λ no. cc;
         script = k.applies.script;
       }
@@ -85,16 +86,17 @@ module _ (size : ℕ) (w : World) (memory : Memory) (line : List ℕ) (before be
   pub Settles-failed : (now : Memory) → CarriesOut size w memory (command_of line) (Err hosts.Failed) before between old mid → Settles size w line (Err faults.Failed) now before between old mid
   Settles-failed now k =
       record {
-        turn = turn_of w line;
+        turn = turn_of line k.said k.under;
         of_line = refl;
-        is_turn = is_turn_of w line;
+        is_turn = is_turn_of w line k.said k.under k.step;
         replied = tt;
-        moments = stands_applied size w (step_world w line) memory (Some hosts.Failed) old mid k.applies;
+        one_line = tt;
+        moments = stands_applied size w k.under memory (Some hosts.Failed) old mid k.applies;
         quiet = k.applies.quiet;
         closes = closes_first w (command_of line) old mid k.closes;
-        allowed = allowed_applied size w (step_world w line) memory (Some hosts.Failed) old mid k.applies;
+        allowed = allowed_applied size w k.under memory (Some hosts.Failed) old mid k.applies;
         ready = λ no. absurd (cc);
-        counted = counted_step w line (Some faults.Failed) before between (kind_faulty (kind_of (command_of line)) before between k.counted);
+        counted = counted_step w line k.said k.under (Some faults.Failed) before between k.step (kind_faulty (kind_of (command_of line)) before between k.counted);
         sound = λ no. cc;
         script = k.applies.script;
       }
@@ -118,9 +120,9 @@ frames_by w None = refl
 frames_by w (Some c) = frames_unless (refusal_of w c) w (after w c) (ap (λ (x : World). x.stored.frames) (after-part w c) ∙ frames_of_part (part_of c) (after w c) w)
 
 -- After a power loss the device reads as one of the two worlds, with no registered log refused, and the daemon recovers that one.
-record Found (size : ℕ) (w : World) (line : List ℕ) (mid : State) : Type 0 where
+record Found (size : ℕ) (w under : World) (mid : State) : Type 0 where
   next : World
-  which : (next ≡ restart w) ⊎ (next ≡ restart (step_world w line))
+  which : (next ≡ restart w) ⊎ (next ≡ restart under)
   stands : world_of size (reads mid.now.words) ≡ Some (closed next)
   shelf : mid.shelf ≡ next.shelf
   again : restart next ≡ next
@@ -132,16 +134,19 @@ module _ (size : ℕ) (w : World) (memory : Memory) (line : List ℕ) (before be
   kept : mid.shelf ≡ w.shelf
   kept = KeepsFiles-none (file_in (command_of line)) old.shelf mid.shelf (k.no_file refl) k.files ∙ was
 
-  given : (step_world w line).shelf ≡ w.shelf
-  given = shelf_by w (command_of line) (k.no_file refl)
+  given : k.under.shelf ≡ w.shelf
+  given = shelf_of_gives w (command_of line) k.under (k.no_file refl) (k.gives refl)
 
-  read_image : StandsBetween size w (step_world w line) (reads mid.now.words)
-  read_image = (Leaves-now (Silently (StandsBetween size w (step_world w line))) [] old mid (k.applies.quiet ∙ sym (append-nil old.now.said)) k.applies.moments (reads mid.now.words) (Picks-reads mid.now.words)).1
+  under_is : k.under ≡ world_by w (command_of line)
+  under_is = Gives-plain_is w (command_of line) k.under (k.no_file refl) (k.gives refl)
 
-  found : Found size w line mid
+  read_image : StandsBetween size w k.under (reads mid.now.words)
+  read_image = (Leaves-now (Silently (StandsBetween size w k.under)) [] old mid (k.applies.quiet ∙ sym (append-nil old.now.said)) k.applies.moments (reads mid.now.words) (Picks-reads mid.now.words)).1
+
+  found : Found size w k.under mid
   found = elim read_image.0 [
     | inl first ↦ record { next = restart w; which = inl refl; stands = first; shelf = kept; again = refl; frames = refl }
-    | inr later ↦ record { next = restart (step_world w line); which = inr refl; stands = later; shelf = kept ∙ sym given; again = refl; frames = frames_by w (command_of line) }
+    | inr later ↦ record { next = restart k.under; which = inr refl; stands = later; shelf = kept ∙ sym given; again = refl; frames = ap (λ (v : World). v.stored.frames) under_is ∙ frames_by w (command_of line) }
   ]
 
   -- the restart finds a sound device
@@ -168,30 +173,30 @@ module _ (size : ℕ) (w : World) (memory : Memory) (line : List ℕ) (before be
   unfolding found_world
   found_again = found.again
 
-  stands_between : (image : Image) → world_of size image ≡ Some (closed found_world) → Between size w (step_world w line) image
+  stands_between : (image : Image) → world_of size image ≡ Some (closed found_world) → Between size w k.under image
   unfolding found_world
   stands_between image stands = elim found.which [
     | inl first ↦ inl (stands ∙ ap (λ (v : World). Some (closed v)) first)
     | inr later ↦ inr (stands ∙ ap (λ (v : World). Some (closed v)) later)
   ]
 
-  which_world : (found_world ≡ restart w) ⊎ (found_world ≡ restart (step_world w line))
+  which_world : (found_world ≡ restart w) ⊎ (found_world ≡ restart k.under)
   unfolding found_world
   which_world = found.which
 
   -- where the line gives the restarted world, it is that
-  lost_world : step_world w line ≡ restart w → found_world ≡ step_world w line
+  lost_world : world_by w (command_of line) ≡ restart w → found_world ≡ k.under
   lost_world is = elim which_world [
-    | inl first ↦ first ∙ sym is
-    | inr later ↦ later ∙ ap restart is ∙ sym is
+    | inl first ↦ first ∙ sym (under_is ∙ is)
+    | inr later ↦ later ∙ ap restart (under_is ∙ is) ∙ sym (under_is ∙ is)
   ]
 
-  command_moments : Leaves (Silently (Between size w (step_world w line))) old mid
-  command_moments = stands_applied size w (step_world w line) memory (Some hosts.Cut) old mid k.applies
+  command_moments : Leaves (Silently (Between size w k.under)) old mid
+  command_moments = stands_applied size w k.under memory (Some hosts.Cut) old mid k.applies
 
-  both_moments : (result : Result Memory StartFault) (new : State) → Recovers size found_world result mid new → Leaves (Silently (Between size w (step_world w line))) old new
+  both_moments : (result : Result Memory StartFault) (new : State) → Recovers size found_world result mid new → Leaves (Silently (Between size w k.under)) old new
   both_moments result new r =
-      let P = Silently (Between size w (step_world w line)) in
+      let P = Silently (Between size w k.under) in
       Leaves-then P (Silently (λ image. world_of size image ≡ Some (closed found_world))) P [] old mid new (k.applies.quiet ∙ sym (append-nil old.now.said))
       (λ front image m. m) (λ more image m. (m.0, stands_between image m.1)) command_moments r.moments
 
@@ -200,7 +205,7 @@ module _ (size : ℕ) (w : World) (memory : Memory) (line : List ℕ) (before be
   allowed_behind result new r =
       let P : List ℕ → Image → Type 0 = λ bytes image. RefusesNone image in
       Leaves-then P P P [] old mid new (k.applies.quiet ∙ sym (append-nil old.now.said)) (λ front image m. m) (λ more image m. m)
-      (allowed_applied size w (step_world w line) memory (Some hosts.Cut) old mid k.applies)
+      (allowed_applied size w k.under memory (Some hosts.Cut) old mid k.applies)
       (r.allowed read_image.1)
 
   -- a client that goes has its logs closed, or its record used, as power is lost, and so the restart leaves it
@@ -225,10 +230,11 @@ module _ (size : ℕ) (w : World) (memory : Memory) (line : List ℕ) (before be
     Settles-cut is r same =
         let lost : between ≡ after_fault (Some hosts.Cut) before = subst (λ (x : Kind). CountsCommand x (Some hosts.Cut) before between) is k.counted in
         record {
-          turn = cut_turn w line found_world;
+          turn = cut_turn line k.under found_world;
           of_line = refl;
-          is_turn = is_cut_turn w line found_world which_world;
+          is_turn = is_cut_turn w line k.under found_world (k.gives refl) which_world;
           replied = refl;
+          one_line = tt;
           moments = both_moments (Ok now) new r;
           quiet = r.quiet ∙ k.applies.quiet;
           closes = closes_behind (Ok now) new r;
@@ -246,16 +252,17 @@ module _ (size : ℕ) (w : World) (memory : Memory) (line : List ℕ) (before be
         let lost = subst (λ (x : Kind). CountsCommand x (Some hosts.Cut) before between) is k.counted in
         let counts : CountsLine (command_of line) None 0 before after = subst (λ (x : Kind). CountsKind x None 0 before after) (sym is) (refl, same ∙ lost.1) in
         record {
-          turn = turn_of w line;
+          turn = turn_of line k.said k.under;
           of_line = refl;
-          is_turn = is_turn_of w line;
-          replied = it.answered;
+          is_turn = is_turn_of w line k.said k.under k.step;
+          replied = lost_answer w (command_of line) pick k.said k.under is k.step;
+          one_line = tt;
           moments = both_moments (Ok now) new r;
           quiet = r.quiet ∙ k.applies.quiet;
           closes = closes_behind (Ok now) new r;
           allowed = allowed_behind (Ok now) new r;
           ready = λ _. subst (λ (v : World). IsReady size v now new) (found_again ∙ lost_world it.given) r.ready;
-          counted = counted_step w line None before after counts;
+          counted = counted_step w line k.said k.under None before after k.step counts;
           sound = λ no. cc;
           script = r.script ∙ k.applies.script;
         }
@@ -272,16 +279,17 @@ module _ (size : ℕ) (w : World) (memory : Memory) (line : List ℕ) (before be
         → Settles size w line (Err (of_host fault)) now before after old new
     Settles-failed_again fault r counts =
         record {
-          turn = turn_of w line;
+          turn = turn_of line k.said k.under;
           of_line = refl;
-          is_turn = is_turn_of w line;
+          is_turn = is_turn_of w line k.said k.under k.step;
           replied = tt;
+          one_line = tt;
           moments = both_moments (Err (starts.Host fault)) new r;
           quiet = r.quiet ∙ k.applies.quiet;
           closes = closes_behind (Err (starts.Host fault)) new r;
           allowed = allowed_behind (Err (starts.Host fault)) new r;
           ready = λ no. absurd (cc);
-          counted = counted_step w line (Some (of_host fault)) before after counts;
+          counted = counted_step w line k.said k.under (Some (of_host fault)) before after k.step counts;
           sound = host_is_sound fault;
           script = r.script ∙ k.applies.script;
         }

@@ -1,5 +1,5 @@
 -- What is answered to a line that was settled, and what is said of it.
-use Rattle.std.specs.Prelude.{ℕ, List, ◌++◌, codes, Result, Ok, Err}
+use Rattle.std.specs.Prelude.{◌≡◌, ℕ, List, ◌++◌, codes, Result, Ok, Err}
 use Rattle.pm_model.specs.declared.host.HostFault.{HostFault}
 use Rattle.pud_defs.specs.declared.layout.TheConstants.{MACHINE_WORD}
 use Rattle.pud_defs.specs.declared.machine.Reply.{Reply}
@@ -9,7 +9,7 @@ use Rattle.pud_defs.specs.World.{World}
 use Rattle.pud_defs.specs.Listing.{pools_text}
 use Rattle.pud_defs.specs.Step.{Answer}
 use Rattle.pud_defs.specs.Step.Answer.{of_reply, of_text}
-use Rattle.pud_defs.specs.Texts.{line_of, reply_text}
+use Rattle.pud_defs.specs.Texts.{line_of, reply_text, in_one_line}
 use Rattle.pool_list.specs.Listed.{listed_text}
 use Rattle.puddled.specs.declared.answers.Answered.{Answered}
 use Rattle.puddled.specs.declared.answers.Answered.TheVariants as answers
@@ -23,8 +23,15 @@ as_answered (Err fault) = Err fault
 abbrev pub answer_of : World → Answered → Answer
 answer_of w (answers.Reply reply) = of_reply reply
 answer_of w answers.Pools = of_text (pools_text w.stored)
+answer_of w (answers.Text text) = of_text (codes " " ++ text)
+
+-- a text that is answered is one line
+abbrev pub IsOneLine : Answered → Type 0
+IsOneLine (answers.Text text) = in_one_line text ≡ text
+IsOneLine answered = Unit {0}
 
 -- what is said of it, on a device of so many frames that reads so
 abbrev pub said_text : ℕ → Image → Answered → List ℕ
 said_text frames image (answers.Reply reply) = reply_text reply
+said_text frames image (answers.Text text) = line_of (codes "ok " ++ text)
 said_text frames image answers.Pools = line_of (codes "ok" ++ listed_text (image MACHINE_WORD) (tables_of frames image))

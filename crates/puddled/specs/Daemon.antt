@@ -6,7 +6,8 @@ use Rattle.pm_model.specs.Words.{Image, reads}
 use Rattle.pm_model.specs.Counts.{Counts, fault_of}
 use Rattle.pm_model.specs.Moments.{State}
 use Rattle.pm_model.specs.Changes.{Leaves, Silently}
-use Rattle.pud_defs.specs.Step.{Answer, answer_by, world_by}
+use Rattle.pud_defs.specs.Step.{Answer}
+use Rattle.pud_defs.specs.Gives.{Gives, StepBy}
 use Rattle.pud_defs.specs.World.{World, world_of, closed}
 use Rattle.pud_defs.specs.declared.machine.Command.{Command}
 use Rattle.pud_defs.specs.Grammar.{command_of}
@@ -17,7 +18,7 @@ use Rattle.pud_defs.specs.Stands.{StandsWith}
 use Rattle.ready_daemon.specs.Memory.{Memory}
 use Rattle.ready_daemon.specs.Ready.{IsReady, RefusesNone, Applies, ClosesFirst, ClosesBefore, ClosesLogs}
 use Rattle.puddled.specs.declared.answers.Answered.{Answered}
-use Rattle.puddled.specs.Answered.{answer_of, said_text}
+use Rattle.puddled.specs.Answered.{answer_of, IsOneLine, said_text}
 use Rattle.puddled.specs.declared.daemon.RunFault.{RunFault}
 use Rattle.puddled.specs.declared.daemon.RunFault.TheVariants as faults
 use Rattle.puddled.specs.Faults.{run_fault, kind_of, CountsLine, CountsCommand}
@@ -34,11 +35,17 @@ pub record KeepsAllBut (file : Option (List ℕ)) (old new : State) : Type 0 whe
   pub script : new.script ≡ old.script
   pub files : KeepsFiles file old.shelf new.shelf
 
--- What each command owes, before the daemon goes on behind it: it was carried out, or refused, and the reply is the machine's; only a file that
--- it names was written, and it names none where power was lost; a client that goes has its logs closed first; it was counted by its kind.
+-- What each command owes, before the daemon goes on behind it: a step of the machine was made, and answered so, in one line; only a file that it
+-- names was written, and it names none where power was lost, in which case the world is one that it gives where memory is not refused; a client that
+-- goes has its logs closed first; it was counted by its kind.
 pub record CarriesOut (size : ℕ) (w : World) (memory : Memory) (command : Option Command) (done : Result Answered HostFault) (before after : Counts) (old new : State) : Type 0 where
-  pub replied : IfOk done (λ answered. answer_of (world_by w command) answered ≡ answer_by w command)
-  pub applies : Applies size w (world_by w command) memory (fault_of done) old new
+  pub said : Answer
+  pub under : World
+  pub step : StepBy w command said under
+  pub gives : fault_of done ≡ Some hosts.Cut → Gives w command under
+  pub replied : IfOk done (λ answered. answer_of under answered ≡ said)
+  pub one_line : IfOk done IsOneLine
+  pub applies : Applies size w under memory (fault_of done) old new
   pub files : KeepsFiles (file_in command) old.shelf new.shelf
   pub no_file : fault_of done ≡ Some hosts.Cut → file_in command ≡ None
   pub closes : ClosesLogs ClosesBefore w command old new
@@ -52,6 +59,7 @@ pub record Settles (size : ℕ) (w : World) (line : List ℕ) (result : Result A
   pub of_line : turn.line ≡ line
   pub is_turn : IsTurn w turn
   pub replied : IfOk result (λ answered. turn.answer ≡ answer_of turn.next answered)
+  pub one_line : IfOk result IsOneLine
   pub moments : Leaves (Silently (λ image. (world_of size image ≡ Some (closed w)) ⊎ (world_of size image ≡ Some (closed turn.under)))) old new
   pub quiet : new.now.said ≡ old.now.said
   pub closes : ClosesLogs ClosesFirst w (command_of line) old new

@@ -3,5 +3,6 @@ pub mod Faults
 pub mod Saying
 pub mod Starting
 pub mod Daemon
+pub mod Files
 pub mod Reading
 pub mod Finding

@@ -21,6 +21,7 @@ use Rattle.graph_read.specs.declared.fields.FieldRead.TheVariants.{NoObject, NoF
 use Rattle.ready_daemon.specs.Memory.{Held}
 use Rattle.ready_daemon.specs.Holding.{IsOwnOn}
 use Rattle.puddled.specs.declared.reading.Readable.{Readable}
+use Rattle.puddled.specs.Files.{IsStoredPool}
 
 -- why this pool is not read for a client that acts so, where this is open on it: no one does, there is no pool, it is wild, its mode is against it, or
 -- the transaction is another's
@@ -39,8 +40,8 @@ refusal_to_read w client name = reading_refusal (w.clients client) (pool_named n
 -- ---- a pool on which a transaction is open
 
 -- it is read as the transaction has it, where the mode allows it and the transaction is the client's own
-abbrev pub reading_open : (slot : ℕ) (right own : Bool) → Result Readable Refusal
-reading_open slot right own = cond (not right) (Err refusals.Denied) (cond (not own) (Err refusals.Busy) (Ok (record { slot = slot; is_open = true })))
+abbrev pub reading_open : (slot number : ℕ) (right own : Bool) → Result Readable Refusal
+reading_open slot number right own = cond (not right) (Err refusals.Denied) (cond (not own) (Err refusals.Busy) (Ok (record { slot = slot; number = number; is_open = true })))
 
 -- ---- what is read
 
@@ -49,6 +50,11 @@ pub record HoldsGraph (w : World) (F : ℕ) (name : List ℕ) (image : Image) (p
   pub graph : Graph
   pub stored : graph_of (types_of image) (stored_in F puddles image) ≡ Some graph
   pub is : graph_seen (w.transactions name) (pool_named name w.stored) ≡ Some graph
+
+-- What was found of a pool that is to be read and on which nothing is open is a pool of the world, as it is known; and nothing is open on it.
+pub record IsShut (w : World) (F : ℕ) (name : List ℕ) (image : Image) (judged : List (Option (List (ℕ × Puddle)))) (found : Readable) : Type 0 where
+  pub none : w.transactions name ≡ None
+  pub pool : IsStoredPool w F name image found.number (unwrap_or (slice_index_or judged found.slot None) [])
 
 -- What was found of a pool that is to be read: the client's own transaction is open on it, or its puddles are known and hold its graph.
 abbrev pub HoldsFound : World → ℕ → List (Option Held) → (client : ℕ) → List ℕ → Image → List (Option (List (ℕ × Puddle))) → Readable → Type 0

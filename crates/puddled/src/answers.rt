@@ -1,12 +1,12 @@
 //! What is answered to a line, and how it is said.
-ghost use Rattle.std.specs.Prelude.{◌≡◌, ◌≢◌, ◌≤◌, Option};
+ghost use Rattle.std.specs.Prelude.{◌≡◌, ◌≢◌, ◌≤◌, ◌++◌, codes, Option};
 ghost use Rattle.pm_model.specs.Words.{Image, reads};
 ghost use Rattle.pm_model.specs.Counts.{after_fault, fault_of};
 ghost use Rattle.pm_model.specs.Calls.{Says};
 ghost use Rattle.pud_defs.specs.declared.layout.TheConstants.{MAX_FRAMES};
 ghost use Rattle.pud_defs.specs.Layout.{tables_end};
 ghost use Rattle.pud_defs.specs.World.{World};
-ghost use Rattle.pud_defs.specs.Texts.{reply_text, begins_with_ok};
+ghost use Rattle.pud_defs.specs.Texts.{line_of, reply_text, begins_with_ok};
 ghost use Rattle.puddled.specs.Answered.{as_answered, answer_of, said_text};
 
 use pm_model::{Host, HostFault};
@@ -14,24 +14,57 @@ use pool_list::say_pools;
 use pud_defs::layout::REPLY_LIMIT;
 use pud_defs::machine::Reply;
 use script::print_reply;
+use std::marker::Model;
+
+/// The bytes of a text that a line asks for, made whole before any of it is said. Contracts see them as a list.
+#[derive(Drop)]
+pub(crate) struct Text {
+    bytes: Vec<u8>,
+}
+
+impl Model for Text {
+    ghost use Rattle.std.specs.Prelude.{ℕ, List};
+
+    ghost Value = { List ℕ };
+
+    ghost view = { λ t. t.bytes.items };
+}
+
+impl Text {
+    /// The text of these bytes.
+    pub(crate) fn new(bytes: Vec<u8>) -> Text
+        ensures { result ≡ bytes.items }
+    {
+        Text { bytes }
+    }
+
+    /// Its bytes.
+    fn as_slice(&self) -> &[u8]
+        ensures { result.now ≡ self.now }
+    {
+        self.bytes.as_slice()
+    }
+}
 
 /// What is answered to a line that was settled.
-#[derive(Clone, Copy)]
+#[derive(Drop)]
 pub(crate) enum Answered {
     /// This reply.
     Reply(Reply),
+    /// `ok`, and behind a space this text.
+    Text(Text),
     /// `ok` and the list of the pools, which is read from the device as it is said.
     Pools,
 }
 
 impl Answered {
     /// Whether the line was carried out: the text of the answer begins with `ok`.
-    pub(crate) fn is_ok(self) -> bool
-        ensures { (w : World) → result ≡ begins_with_ok (answer_of w self) }
+    pub(crate) fn is_ok(&self) -> bool
+        ensures { (w : World) → result ≡ begins_with_ok (answer_of w self.now) }
     {
         match self {
             Answered::Reply(reply) => reply.is_ok(),
-            Answered::Pools => true,
+            Answered::Text(_) | Answered::Pools => true,
         }
     }
 }
@@ -57,21 +90,33 @@ fn say_reply<H: Host>(h: &mut H, reply: Reply) -> Result<(), HostFault>
     h.say(&text[..length])
 }
 
+/// Says `ok` and the text behind a space, with a newline.
+fn say_text<H: Host>(h: &mut H, text: &Text) -> Result<(), HostFault>
+    ensures says { H.tells → Says (line_of (codes "ok " ++ text.now)) (fault_of result) (H.state h.old) (H.state h.new) }
+    ensures cause { H.counts h.new ≡ after_fault (fault_of result) (H.counts h.old) }
+    ensures never_cut { fault_of result ≢ Option.Some HostFault.Cut }
+{
+    h.say(b"ok ")?;
+    h.say(text.as_slice())?;
+    h.say(b"\n")
+}
+
 /// Says the answer with its newline. The device has so many frames.
 pub(crate) fn say_answer<H: Host>(
     h: &mut H,
     frames: u32,
-    answered: Answered,
+    answered: &Answered,
 ) -> Result<(), HostFault>
     requires few { frames ≤ MAX_FRAMES }
     requires table { tables_end frames ≤ (H.counts h.old).size }
     ensures says { H.tells → (image : Image) → reads (H.state h.old).now.words ≡ image
-        → Says (said_text frames image answered) (fault_of result) (H.state h.old) (H.state h.new) }
+        → Says (said_text frames image answered.now) (fault_of result) (H.state h.old) (H.state h.new) }
     ensures cause { H.counts h.new ≡ after_fault (fault_of result) (H.counts h.old) }
     ensures never_cut { fault_of result ≢ Option.Some HostFault.Cut }
 {
     match answered {
-        Answered::Reply(reply) => say_reply(h, reply),
+        Answered::Reply(reply) => say_reply(h, *reply),
+        Answered::Text(text) => say_text(h, text),
         Answered::Pools => say_pools(h, frames),
     }
 }

@@ -176,7 +176,12 @@ fn arm<H: Host>(h: &mut H, step: u32, pick: u64) -> Result<Reply, HostFault>
 
 /// Carries out the command, or refuses it, without a word.
 #[tactic(auto, using(crate::proofs::Carrying::keeps_line))]
-fn apply<H: Host>(daemon: &mut Daemon, h: &mut H, command: Command) -> Result<Answered, HostFault>
+fn apply<H: Host>(
+    daemon: &mut Daemon,
+    alloc: Global,
+    h: &mut H,
+    command: Command,
+) -> Result<Answered, HostFault>
     requires legal { IsLegalCommand command }
     requires room { device_words daemon.old.frames ≤ (H.counts h.old).size }
     ensures carries { H.tells → (size : ℕ) → size ≡ (H.counts h.old).size → (w : World) → IsReady size w daemon.old (H.state h.old)
@@ -220,6 +225,10 @@ fn apply<H: Host>(daemon: &mut Daemon, h: &mut H, command: Command) -> Result<An
         } => with_reply(daemon.later(h, client, name, s, f, x)),
         Command::Root { client, name, s } => with_reply(daemon.root(h, client, name, s)),
         Command::Free { client, name, s } => with_reply(daemon.free(h, client, name, s)),
+        Command::Dump { client, name } => daemon.dump_for(alloc, h, client, name),
+        Command::Export { client, name, file } => {
+            daemon.export_for(alloc, h, client, name, file)
+        }
         Command::Pools => Ok(Answered::Pools),
         Command::Cut { pick } => with_reply(lose_power(h, pick)),
         Command::Arm { step, pick } => with_reply(arm(h, step, pick)),
@@ -273,7 +282,12 @@ fn go_on<H: Host>(
 }
 
 /// Carries out one line without a word. Where power is lost in it the daemon starts again.
-fn settle<H: Host>(daemon: &mut Daemon, h: &mut H, line: &[u8]) -> Result<Answered, RunFault>
+fn settle<H: Host>(
+    daemon: &mut Daemon,
+    alloc: Global,
+    h: &mut H,
+    line: &[u8],
+) -> Result<Answered, RunFault>
     requires { device_words daemon.old.frames ≤ (H.counts h.old).size }
     ensures settles { H.tells → (size : ℕ) → size ≡ (H.counts h.old).size → (w : World) → IsReady size w daemon.old (H.state h.old)
         → Settles size w line.now result daemon.new (H.counts h.old) (H.counts h.new) (H.state h.old) (H.state h.new) }
@@ -286,13 +300,11 @@ fn settle<H: Host>(daemon: &mut Daemon, h: &mut H, line: &[u8]) -> Result<Answer
     ensures rest { H.tells → KeepsAllBut (file_in (command_of line.now)) (H.state h.old) (H.state h.new) }
     ensures cause { CountsReply (command_of line.now) result (Answered.Reply Reply.Cut) (H.counts h.old) (H.counts h.new) }
 {
-    match parse_line(line) {
-        Err(_) => Ok(Answered::Reply(Reply::No(Refusal::Bad))),
-        Ok(command) => {
-            let done = apply(daemon, h, command);
-            go_on(daemon, h, command, done)
-        }
-    }
+    let Ok(command) = parse_line(line) else {
+        return Ok(Answered::Reply(Reply::No(Refusal::Bad)));
+    };
+    let done = apply(daemon, alloc, h, command);
+    go_on(daemon, h, command, done)
 }
 
 impl Daemon {
@@ -367,7 +379,7 @@ impl Daemon {
     /// where the restart read a registry that is not sound; then no further line is to be given.
     pub fn exec<H: Host>(
         &mut self,
-        _alloc: Global,
+        alloc: Global,
         h: &mut H,
         line: &[u8],
         aloud: bool,
@@ -394,9 +406,9 @@ impl Daemon {
         // line `cut N` that loss, and at a line `arm K N` that arming.
         ensures cause { CountsReply (command_of line.now) result false (H.counts h.old) (H.counts h.new) }
     {
-        let answered = settle(self, h, line)?;
+        let answered = settle(self, alloc, h, line)?;
         if aloud {
-            say_answer(h, self.frames, answered)?;
+            say_answer(h, self.frames, &answered)?;
         }
         Ok(answered.is_ok())
     }

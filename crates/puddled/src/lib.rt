@@ -5,6 +5,8 @@ mod answers;
 mod clients;
 mod commands;
 mod daemon;
+mod dumping;
+mod exporting;
 mod finding;
 mod judged;
 mod pools;

@@ -14,7 +14,7 @@ ghost use Rattle.pud_defs.specs.Step.Answer.{of_reply};
 ghost use Rattle.ready_daemon.specs.Memory.{Held, Memory, held_under};
 ghost use Rattle.ready_daemon.specs.Holding.{FindsPuddles};
 ghost use Rattle.ready_daemon.specs.Owning.{refusal_found};
-ghost use Rattle.puddled.specs.Reading.{refusal_to_read, reading_open, HoldsFound, reply_of_read};
+ghost use Rattle.puddled.specs.Reading.{refusal_to_read, reading_open, IsShut, HoldsFound, reply_of_read};
 ghost use Rattle.ready_daemon.specs.Judged.{known_in, AreOnDevice, AreJudged};
 ghost use Rattle.ready_daemon.specs.Ready.{IsReady, Applies};
 
@@ -35,14 +35,16 @@ use pud_defs::records::{Name, Puddle};
 #[derive(Clone, Copy)]
 pub(crate) struct Readable {
     /// The slot of its record, 0 to 31.
-    slot: u32,
+    pub(crate) slot: u32,
+    /// Its UUID number.
+    pub(crate) number: u64,
     /// Whether the client's own transaction is open on it. Else its puddles are known.
-    is_open: bool,
+    pub(crate) is_open: bool,
 }
 
 /// What was found of a pool on which a transaction is open, where the mode allows to read it and the transaction is the client's own, or why not.
-fn reading_open(slot: u32, right: bool, own: bool) -> Result<Readable, Refusal>
-    ensures { result ≡ reading_open slot right own }
+fn reading_open(slot: u32, number: u64, right: bool, own: bool) -> Result<Readable, Refusal>
+    ensures { result ≡ reading_open slot number right own }
 {
     if !right {
         return Err(Refusal::Denied);
@@ -52,13 +54,14 @@ fn reading_open(slot: u32, right: bool, own: bool) -> Result<Readable, Refusal>
     }
     Ok(Readable {
         slot,
+        number,
         is_open: true,
     })
 }
 
 /// The pool of this name, where it has a graph that the client may read, or why not: it is read as the client's own transaction has it, where that is
 /// open on it, and else its puddles are known. The device has so many frames.
-fn find_readable<H: Host>(
+pub(crate) fn find_readable<H: Host>(
     h: &mut H,
     frames: u32,
     sessions: &Sessions,
@@ -73,6 +76,8 @@ fn find_readable<H: Host>(
         → IfOk result (λ found. refusal_found found ≡ refusal_to_read w client name) }
     ensures graph { H.tells → (size : ℕ) → (w : World) → (memory : Memory) → memory.frames ≡ frames → memory.sessions ≡ sessions.now → memory.judged ≡ judged.old → IsReady size w memory (H.state h.old)
         → IfOk result (λ found. IfOk found (HoldsFound w frames memory.held client name (reads (H.state h.old).now.words) judged.new)) }
+    ensures stored { H.tells → (size : ℕ) → (w : World) → (memory : Memory) → memory.frames ≡ frames → memory.sessions ≡ sessions.now → memory.judged ≡ judged.old → IsReady size w memory (H.state h.old)
+        → IfOk result (λ found. IfOk found (λ readable. readable.is_open ≡ false → IsShut w frames name (reads (H.state h.old).now.words) judged.new readable)) }
     ensures slot { IfOk result (λ found. IfOk found (λ readable. readable.slot < POOL_RECORDS)) }
     ensures judged { H.tells → (image : Image) → reads (H.state h.old).now.words ≡ image → AreJudged frames judged.old image → AreJudged frames judged.new image }
     // Of a pool on which a transaction is open nothing comes to be known.
@@ -91,7 +96,7 @@ fn find_readable<H: Host>(
     };
     let right = may_read(rec.mode, rec.uid, rec.gid, who.uid, who.gid);
     if let Some(other) = sessions.holder(slot) {
-        return Ok(reading_open(slot, right, other == client));
+        return Ok(reading_open(slot, rec.number, right, other == client));
     }
     if !judged.judge(h, frames, slot)? {
         return Ok(Err(Refusal::Wild));
@@ -101,6 +106,7 @@ fn find_readable<H: Host>(
     }
     Ok(Ok(Readable {
         slot,
+        number: rec.number,
         is_open: false,
     }))
 }
@@ -119,7 +125,7 @@ fn reply_of(read: FieldRead) -> Reply
 
 impl Daemon {
     /// The puddles of the pool that was found, each with its frame.
-    fn puddles_of(&self, found: Readable) -> &[(u32, Puddle)]
+    pub(crate) fn puddles_of(&self, found: Readable) -> &[(u32, Puddle)]
         requires { found.slot < POOL_RECORDS }
         ensures open { found.is_open ≡ true → FindsPuddles (self.now).held found.slot result.now }
         ensures known { found.is_open ≡ false → result.now ≡ unwrap_or (known_in (self.now).judged found.slot) [] }

@@ -48,9 +48,16 @@ returns-clause-applies g c = λ t size e w memory frames ready legal.
     (λ ready_then.
     Applies-making size w memory c.args.client c.in-Some.who.uid c.in-Some.who.gid c.args.mode c.args.frames c.args.name c.make_pool.result c.reply_of.result b d ready_then who same c.reply_of.ensures
     (λ n. HasFreshFrame (tables_of n (reads b.now.words)) (w.stored.next_number + 1))
-    (λ keeps off settled tables none. c.make_pool.ensures.makes t size then w.stored same _ refl ready_then.mask keeps off settled tables
-    (record { is_name = legal.1; has_legal_name = legal.2; has_legal_mode = legal.3; uid_fits = who.uid_fits; gid_fits = who.gid_fits }) none)
-    (λ idle none. c.make_pool.ensures.commits t size then _ refl idle none)
+    (λ keeps off settled tables none. c.make_pool.ensures.makes t size then w.stored ready_then.mask (record {
+      frames = same;
+      keeps = keeps;
+      off = off;
+      settled = settled;
+      tables = tables;
+      legal = record { is_name = legal.1; has_legal_name = legal.2; has_legal_mode = legal.3; uid_fits = who.uid_fits; gid_fits = who.gid_fits };
+      none = none;
+    }))
+    (λ idle none. c.make_pool.ensures.commits t _ refl idle none)
     (c.make_pool.ensures.unchanged t _ refl)
     (c.make_pool.ensures.any t).rests) ready
 

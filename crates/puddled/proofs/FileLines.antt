@@ -1,0 +1,346 @@
+-- Lines that read a pool whole: why they are refused, and what they owe.
+use Rattle.std.proofs.Common.{◌≡◌, inl, inr, ℕ, ◌*◌, Bool, true, false, not, cond, List, ◌++◌, length, codes, Option, Some, None, is_none, is_some, option_map, Result, Ok, Err, refl, sym, ap, subst, ◌∙◌}
+use Rattle.std.specs.Prelude.{IfOk, bytes_eq}
+use Rattle.std.proofs.lemmas.Bool.{cases_Bool, cond-true, cond-false}
+use Rattle.std.proofs.lemmas.Slice.Eq.{bytes_eq-Decides}
+use Rattle.pm_model.specs.declared.host.HostFault.{HostFault}
+use Rattle.pm_model.specs.declared.host.FileFault.{FileFault}
+use Rattle.pm_model.specs.declared.host.HostFault.TheVariants as hosts
+use Rattle.pm_model.specs.Words.{reads}
+use Rattle.pm_model.specs.Counts.{Counts, after_fault, fault_of}
+use Rattle.pm_model.specs.Moments.{State, Shelf, with_shelf}
+use Rattle.pm_model.specs.Calls.{shelved, LeavesFile}
+use Rattle.pm_model.specs.Changes.{Leaves, Silently}
+use Rattle.pm_model.proofs.Leaves.{Leaves-still}
+use Rattle.pm_model.proofs.Changes.{Changes-still}
+use Rattle.pud_defs.specs.declared.machine.Command.{Command}
+use Rattle.pud_defs.specs.declared.machine.Command.TheVariants.{Leave, Dump, Export}
+use Rattle.pud_defs.specs.declared.machine.Reply.TheVariants as replies
+use Rattle.pud_defs.specs.declared.machine.Refusal.{Refusal}
+use Rattle.pud_defs.specs.declared.machine.Refusal.TheVariants as refusals
+use Rattle.pud_defs.specs.declared.records.Puddle.{Puddle}
+use Rattle.pud_defs.specs.Image.{Image}
+use Rattle.pud_defs.specs.Spaces.{Owner}
+use Rattle.pud_defs.specs.Graph.{Graph}
+use Rattle.pud_defs.specs.DumpText.{dump_text}
+use Rattle.pud_defs.specs.declared.layout.TheConstants.{MACHINE_WORD}
+use Rattle.pud_defs.specs.Types.{types_of}
+use Rattle.pud_defs.specs.Stored.{stored_in}
+use Rattle.pud_defs.specs.ExportFile.{FileContents, words_in, types_used, file_graph}
+use Rattle.pud_defs.specs.Exported.{exported_words}
+use Rattle.pud_defs.specs.Tables.{Pool}
+use Rattle.pud_defs.specs.PoolChanges.{pool_named}
+use Rattle.pud_defs.specs.World.{Transaction, World, closed}
+use Rattle.pud_defs.specs.Transactions.{is_own, is_others}
+use Rattle.pud_defs.specs.Listing.{name_text}
+use Rattle.pud_defs.specs.Step.{Answer, refusal_of, holds, graph_in, reads as reads_pool, after, answer, world_by}
+use Rattle.pud_defs.specs.Step.Answer.{of_reply, of_text}
+use Rattle.pud_defs.specs.Gives.{with_file, contents_for, contents_held, Exports, GivesUnless, Gives, StepBy, may_lack_memory}
+use Rattle.pud_defs.specs.Changing.{file_of, KeepsFiles}
+use Rattle.pud_defs.specs.Texts.{in_one_line}
+use Rattle.pud_defs.proofs.Changing.{Gives-plain, KeepsFiles-still}
+use Rattle.pud_defs.proofs.DumpText.{in_one_line-dump_text}
+use Rattle.pud_defs.proofs.Steps.{refused_answer, refused_world, done_answer, done_world, answer_is_ok}
+use Rattle.graph_dump.specs.declared.fault.DumpFault.{DumpFault}
+use Rattle.graph_dump.specs.declared.fault.DumpFault.TheVariants as dumps
+use Rattle.graph_dump.specs.Faults.{fault_in as dump_fault_in}
+use Rattle.puddled.specs.declared.answers.Answered.{Answered}
+use Rattle.puddled.specs.declared.answers.Answered.TheVariants as answers
+use Rattle.puddled.specs.Answered.{answer_of, IsOneLine}
+use Rattle.puddled.specs.Faults.{Kind, kind_of, CountsCommand}
+use Rattle.puddled.specs.Faults.Kind.{ordinary}
+use Rattle.puddled.specs.Reading.{reading_refusal, refusal_to_read, HoldsGraph}
+use Rattle.puddled.specs.Daemon.{CarriesOut}
+use Rattle.puddled.specs.Files.{HoldsPool, IsStoredPool}
+use Rattle.ready_daemon.specs.Memory.{Held, Memory, held_under}
+use Rattle.ready_daemon.specs.Held.{KeepsHeld}
+use Rattle.ready_daemon.specs.Judged.{known_in, AreJudged}
+use Rattle.ready_daemon.specs.Ready.{IsReady, StandsBetween, Applies}
+use Rattle.ready_daemon.proofs.Beside.{ready_stands, holds_still, sessions_still}
+use Rattle.puddled.proofs.Carrying.{ClosesLogs-other}
+use Rattle.puddled.proofs.Readable.{Applies-judged}
+
+-- ---- why they are refused
+
+module _ (w : World) (client : ℕ) (name : List ℕ) where
+  -- the graph is said where the pool may be read
+  pub refusal_of-dump : refusal_of w (Dump client name) ≡ refusal_to_read w client name
+  unfolding refusal_of holds
+  refusal_of-dump = refl
+
+  pub memory_of-dump : may_lack_memory w (Dump client name) ≡ is_none (refusal_of w (Dump client name))
+  unfolding may_lack_memory refusal_of holds
+  memory_of-dump = refl
+
+-- it may be read, or why not; and the client's own transaction is not open on it
+abbrev export_refusal : Option Refusal → (client : ℕ) → Option Transaction → Option Refusal
+export_refusal None client opened = cond (is_own client opened) (Some refusals.OpenHere) None
+export_refusal (Some r) client opened = Some r
+
+earlier : (b : Bool) (r : Refusal) (rest : Option Refusal) (client : ℕ) (opened : Option Transaction) → cond b (Some r) (export_refusal rest client opened) ≡ export_refusal (cond b (Some r) rest) client opened
+earlier true r rest client opened = refl
+earlier false r rest client opened = refl
+
+in_turn : (who : Option Owner) (found : Option Pool) (client : ℕ) (opened : Option Transaction)
+    → cond (not (is_some who)) (Some refusals.Client) (cond (is_none found) (Some refusals.Pool) (cond (is_none (graph_in found)) (Some refusals.Wild)
+    (cond (not (reads_pool who found)) (Some refusals.Denied) (cond (is_others client opened) (Some refusals.Busy) (cond (is_own client opened) (Some refusals.OpenHere) None)))))
+    ≡ export_refusal (reading_refusal who found client opened) client opened
+in_turn who found client opened =
+    let busy = earlier (is_others client opened) refusals.Busy None client opened in
+    let denied = ap (cond (not (reads_pool who found)) (Some refusals.Denied)) busy ∙ earlier (not (reads_pool who found)) refusals.Denied _ client opened in
+    let wild = ap (cond (is_none (graph_in found)) (Some refusals.Wild)) denied ∙ earlier (is_none (graph_in found)) refusals.Wild _ client opened in
+    let pool = ap (cond (is_none found) (Some refusals.Pool)) wild ∙ earlier (is_none found) refusals.Pool _ client opened in
+    ap (cond (not (is_some who)) (Some refusals.Client)) pool ∙ earlier (not (is_some who)) refusals.Client _ client opened
+
+module _ (w : World) (client : ℕ) (name file : List ℕ) where
+  refusal_of-export : refusal_of w (Export client name file) ≡ export_refusal (refusal_to_read w client name) client (w.transactions name)
+  unfolding refusal_of holds
+  refusal_of-export = in_turn (w.clients client) (pool_named name w.stored) client (w.transactions name)
+
+  pub memory_of-export : may_lack_memory w (Export client name file) ≡ is_none (refusal_of w (Export client name file))
+  unfolding may_lack_memory refusal_of holds
+  memory_of-export = refl
+
+  pub export_unread : (r : Refusal) → refusal_to_read w client name ≡ Some r → refusal_of w (Export client name file) ≡ Some r
+  export_unread r is = refusal_of-export ∙ ap (λ (o : Option Refusal). export_refusal o client (w.transactions name)) is
+
+  -- the client's own transaction is open on it
+  pub export_open : refusal_to_read w client name ≡ None → is_own client (w.transactions name) ≡ true → refusal_of w (Export client name file) ≡ Some refusals.OpenHere
+  export_open none own = refusal_of-export ∙ ap (λ (o : Option Refusal). export_refusal o client (w.transactions name)) none ∙ ap (λ b. cond b (Some refusals.OpenHere) None) own
+
+  pub export_free : refusal_to_read w client name ≡ None → w.transactions name ≡ None → refusal_of w (Export client name file) ≡ None
+  export_free none shut = refusal_of-export ∙ (λ p. export_refusal (none p) client (shut p))
+
+-- ---- a step that gives the world as it was
+
+-- an answer that a line may have that gives it
+pub record StaysBy (w : World) (c : Command) : Type 0 where
+  pub said : Answer
+  pub step : StepBy w (Some c) said w
+
+module _ (w : World) (c : Command) where
+  pub refused_step : (r : Refusal) → refusal_of w c ≡ Some r → StepBy w (Some c) (of_reply (replies.No r)) w
+  refused_step r is = inl (record {
+    answered = sym (refused_answer w c r is);
+    gives = record { shelf = subst (λ (o : Option Refusal). GivesUnless o w c w.shelf) (sym is) refl; rest = ap (λ (v : World). record v { shelf = w.shelf }) (sym (refused_world w c r is)) };
+  })
+
+  pub memory_step : may_lack_memory w c ≡ true → StepBy w (Some c) (of_reply (replies.No refusals.Memory)) w
+  memory_step may = inr (record { asked = c; is = refl; may = may; answered = refl; stays = refl })
+
+  stays_by : (r : Option Refusal) → refusal_of w c ≡ r → may_lack_memory w c ≡ is_none (refusal_of w c) → StaysBy w c
+  stays_by None is may = record { said = of_reply (replies.No refusals.Memory); step = memory_step (may ∙ ap is_none is) }
+  stays_by (Some r) is may = record { said = of_reply (replies.No r); step = refused_step r is }
+
+  -- refused, or want of memory
+  pub some_step : may_lack_memory w c ≡ is_none (refusal_of w c) → StaysBy w c
+  some_step may = stays_by (refusal_of w c) refl may
+
+-- ---- what a line owes that leaves the device
+
+module _ (size : ℕ) (w : World) (memory : Memory) (c : Command) (plain : kind_of (Some c) ≡ ordinary) (other : (client : ℕ) → Some c ≡ Some (Leave client) → ⊥) (first last : Counts) (old new : State) where
+  counted_plain : (fault : Option HostFault) → last ≡ after_fault fault first → CountsCommand (kind_of (Some c)) fault first last
+  counted_plain fault cause = subst (λ (k : Kind). CountsCommand k fault first last) (sym plain) cause
+
+  -- nothing changed
+  pub CarriesOut-still : (said : Answer) (done : Result Answered HostFault) → StepBy w (Some c) said w → IfOk done (λ answered. answer_of w answered ≡ said) → IfOk done IsOneLine
+      → (fault_of done ≡ Some hosts.Cut → ⊥) → Applies size w w memory (fault_of done) old new → new ≡ old → last ≡ after_fault (fault_of done) first
+      → CarriesOut size w memory (Some c) done first last old new
+  CarriesOut-still said done step replied one never applies same cause = record {
+    said = said;
+    under = w;
+    step = step;
+    gives = λ cut. absurd (never cut);
+    replied = replied;
+    one_line = one;
+    applies = applies;
+    files = KeepsFiles-still (file_of c) old.shelf new.shelf (ap (λ (s : State). s.shelf) same);
+    no_file = λ cut. absurd (never cut);
+    closes = ClosesLogs-other w (Some c) old new other;
+    counted = counted_plain (fault_of done) cause;
+  }
+
+  -- a file was replaced, or left in some state as the host failed
+  pub CarriesOut-file : (said : Answer) (under : World) (done : Result Answered HostFault) → StepBy w (Some c) said under → IfOk done (λ answered. answer_of under answered ≡ said) → IfOk done IsOneLine
+      → (fault_of done ≡ Some hosts.Cut → ⊥) → Applies size w under memory (fault_of done) old new → KeepsFiles (file_of c) old.shelf new.shelf → last ≡ after_fault (fault_of done) first
+      → CarriesOut size w memory (Some c) done first last old new
+  CarriesOut-file said under done step replied one never applies files cause = record {
+    said = said;
+    under = under;
+    step = step;
+    gives = λ cut. absurd (never cut);
+    replied = replied;
+    one_line = one;
+    applies = applies;
+    files = files;
+    no_file = λ cut. absurd (never cut);
+    closes = ClosesLogs-other w (Some c) old new other;
+    counted = counted_plain (fault_of done) cause;
+  }
+
+-- more is known of pools by calls that read, and nothing else changed
+pub CarriesOut-read : (size : ℕ) (w : World) (memory : Memory) (judged : List (Option (List (ℕ × Puddle)))) (c : Command) → kind_of (Some c) ≡ ordinary → ((client : ℕ) → Some c ≡ Some (Leave client) → ⊥)
+    → (first last : Counts) (old new : State) → IsReady size w memory old → AreJudged memory.frames judged (reads old.now.words)
+    → ((number : ℕ) (h : Held) → held_under memory.held number ≡ Some h → known_in judged h.slot ≡ known_in memory.judged h.slot)
+    → (said : Answer) (done : Result Answered HostFault) → StepBy w (Some c) said w → IfOk done (λ answered. answer_of w answered ≡ said) → IfOk done IsOneLine
+    → (fault_of done ≡ Some hosts.Cut → ⊥) → new ≡ old → last ≡ after_fault (fault_of done) first → CarriesOut size w (record memory { judged = judged }) (Some c) done first last old new
+CarriesOut-read size w memory judged c plain other first last old new ready right apart said done step replied one never same cause =
+    CarriesOut-still size w (record memory { judged = judged }) c plain other first last old new said done step replied one never
+    (Applies-judged size w memory judged (fault_of done) old new ready right apart same never) same cause
+
+-- ---- a text
+
+pub dump_is_plain : (client : ℕ) (name : List ℕ) (other : ℕ) → Some (Dump client name) ≡ Some (Leave other) → ⊥
+dump_is_plain client name other is = cc
+
+pub export_is_plain : (client : ℕ) (name file : List ℕ) (other : ℕ) → Some (Export client name file) ≡ Some (Leave other) → ⊥
+export_is_plain client name file other is = cc
+
+module _ (w : World) (client : ℕ) (name : List ℕ) (F : ℕ) (image : Image) (puddles : List (ℕ × Puddle)) (holds : HoldsGraph w F name image puddles) (free : refusal_to_read w client name ≡ None) where
+  abbrev line : Command
+  line = Dump client name
+
+  dump_free : refusal_of w line ≡ None
+  dump_free = refusal_of-dump w client name ∙ free
+
+  dump_leaves : world_by w (Some line) ≡ w
+  unfolding after
+  dump_leaves = done_world w line dump_free
+
+  pub dumped_step : StepBy w (Some line) (of_text (codes " " ++ dump_text holds.graph)) w
+  unfolding answer
+  dumped_step = inl (record {
+    answered = sym (done_answer w line dump_free ∙ ap (λ (g : Option Graph). text_answer (option_map (λ h. codes " " ++ dump_text h) g)) holds.is);
+    gives = subst (λ (v : World). Gives w (Some line) v) dump_leaves (Gives-plain w (Some line) refl);
+  })
+    where
+      text_answer : Option (List ℕ) → Answer
+      text_answer None = of_reply replies.Ok
+      text_answer (Some text) = of_text text
+
+-- ---- another shelf
+
+-- it adds no moment
+Leaves-shelf : (P : List ℕ → Image → Type 0) (shelf : Shelf) (start now : State) → Leaves P start now → Leaves P start (with_shelf shelf now)
+Leaves-shelf P shelf start now l = record { added = l.added; history = l.history; start = l.start; later = l.later }
+
+module _ (size : ℕ) (w : World) (memory : Memory) (shelf : Shelf) (s : State) (ready : IsReady size w memory s) where
+  abbrev beside : World
+  beside = record w { shelf = shelf }
+
+  keeps : KeepsHeld w beside memory.held
+  keeps = record { frames = refl; transactions = refl; present = λ number h is. refl; stored = λ number h is. refl; puddles = λ number h is. refl; types = λ id m is. is; graphs = λ st g is. is }
+
+  -- the daemon is ready in the world that has it
+  ready_shelved : IsReady size beside memory (with_shelf shelf s)
+  ready_shelved = record {
+    mask = ready.mask;
+    settled = ready.settled;
+    tables = ready.tables;
+    clients = ready.clients;
+    frames = ready.frames;
+    shelf = refl;
+    held = holds_still w beside memory.held ready.mask s s ready.held keeps (Changes-still _ None s s (λ no. let it : None ≡ Some hosts.Cut = no in cc) refl);
+    sessions = sessions_still w beside memory.held memory.sessions refl ready.sessions;
+    rest = ready.rest;
+    logs = ready.logs;
+    knows = ready.knows;
+  }
+
+  moments_shelved : (under : World) (other : Shelf) → closed under ≡ closed w → Leaves (Silently (StandsBetween size w under)) s (with_shelf other s)
+  moments_shelved under other same =
+      Leaves-shelf _ other s s (Leaves-still _ s s (λ image picked. let stands = ready_stands size w memory s ready image picked in (refl, (inl stands.0, stands.1))) refl)
+
+  pub Applies-shelved : Applies size w beside memory None s (with_shelf shelf s)
+  Applies-shelved = record {
+    moments = moments_shelved beside shelf refl;
+    quiet = refl;
+    ready = λ none. ready_shelved;
+    rests = λ cut. absurd (let no : None ≡ Some hosts.Cut = cut in cc);
+    script = refl;
+  }
+
+  -- the host failed as it wrote a file
+  pub Applies-unwritten : (other : Shelf) → Applies size w w memory (Some hosts.Failed) s (with_shelf other s)
+  Applies-unwritten other = record {
+    moments = moments_shelved w other refl;
+    quiet = refl;
+    ready = λ none. absurd (let no : Some hosts.Failed ≡ None = none in cc);
+    rests = λ cut. absurd (let no : Some hosts.Failed ≡ Some hosts.Cut = cut in cc);
+    script = refl;
+  }
+
+-- every other file is as it was
+pub KeepsFiles-shelved : (file : List ℕ) (entry : Option (List ℕ)) (shelf : Shelf) → KeepsFiles (Some file) shelf (shelved file entry shelf)
+KeepsFiles-shelved file entry shelf = record {
+  others = λ name other. elim (cases_Bool (bytes_eq name file)) [
+    | inl same ↦ absurd (other (ap (λ (n : List ℕ). Some n) (sym ((bytes_eq-Decides name file).0 same))))
+    | inr apart ↦ cond-false (bytes_eq name file) entry (shelf name) apart
+  ];
+}
+
+-- ---- a file
+
+module _ (w : World) (client : ℕ) (name file : List ℕ) where
+  abbrev exports : Command
+  exports = Export client name file
+
+  export_leaves : refusal_of w exports ≡ None → world_by w (Some exports) ≡ w
+  unfolding after
+  export_leaves free = done_world w exports free
+
+  pub exported_step : (contents : FileContents) (bytes : List ℕ) → refusal_of w exports ≡ None → contents_held w.stored.types (pool_named name w.stored) ≡ Some contents → file_graph bytes ≡ Some contents
+      → StepBy w (Some exports) (of_reply replies.Ok) (record w { shelf = with_file (name_text file) bytes w.shelf })
+  exported_step contents bytes free held holds =
+      let shelf = with_file (name_text file) bytes w.shelf in
+      let given : Exports w name (name_text file) shelf = record { contents = contents; held = held; bytes = bytes; holds = holds; given = refl } in
+      inl (record {
+        answered = sym (answer_is_ok w exports refl refl free);
+        gives = record {
+          shelf = subst (λ (o : Option Refusal). GivesUnless o w exports shelf) (sym free) given;
+          rest = ap (λ (v : World). record v { shelf = shelf }) (sym (export_leaves free));
+        };
+      })
+
+-- what the file is to hold of a pool that is known
+pub contents_are : (w : World) (F : ℕ) (name : List ℕ) (image : Image) (number : ℕ) (puddles : List (ℕ × Puddle)) (p : IsStoredPool w F name image number puddles)
+    → contents_held w.stored.types (pool_named name w.stored) ≡ Some (contents_for w.stored.types p.pool.puddles p.graph)
+contents_are w F name image number puddles p =
+    ap (contents_held w.stored.types) p.there ∙ ap (λ (g : Option Graph). option_map (contents_for w.stored.types p.pool.puddles) g) p.holds
+
+-- the text of a graph is one line
+pub one_line_dump : (g : Graph) (text : List ℕ) → text ≡ dump_text g → IsOneLine (answers.Text text)
+one_line_dump g text is = ap in_one_line is ∙ in_one_line-dump_text g ∙ sym is
+
+-- the host's fault of a dump that was not made
+abbrev pub dump_fault : DumpFault → Option HostFault
+dump_fault fault = dump_fault_in {T = Unit {0}} (Err fault)
+
+-- where memory was refused nothing was counted
+pub dump_unmade : (fault : DumpFault) (before after : Counts) → fault ≡ dumps.Memory → after ≡ after_fault (dump_fault fault) before → after ≡ before
+dump_unmade fault before after is cause = cause ∙ ap (λ (f : DumpFault). after_fault (dump_fault f) before) is
+
+-- the host failed in it, behind calls that counted nothing
+pub dump_failed : (fault : DumpFault) (host : HostFault) (first mid last : Counts) → fault ≡ dumps.Host host → last ≡ after_fault (dump_fault fault) mid → mid ≡ first → last ≡ after_fault (Some host) first
+dump_failed fault host first mid last is cause same = cause ∙ (λ p. after_fault (dump_fault (is p)) (same p))
+
+-- ---- a file that is written
+
+-- none was
+pub LeavesFile-still : (file : List ℕ) (old new : State) → new ≡ old → LeavesFile file old new
+LeavesFile-still file old new same = record { entry = old.shelf file; is = same ∙ ap (λ (s : Shelf). with_shelf s old) (λ i name. sym (itself name) i) }
+  where
+    itself : (name : List ℕ) → shelved file (old.shelf file) old.shelf name ≡ old.shelf name
+    itself name = elim (cases_Bool (bytes_eq name file)) [
+      | inl same ↦ cond-true (bytes_eq name file) (old.shelf file) (old.shelf name) same ∙ ap old.shelf (sym ((bytes_eq-Decides name file).0 same))
+      | inr apart ↦ cond-false (bytes_eq name file) (old.shelf file) (old.shelf name) apart
+    ]
+
+-- the bytes of a pool were put into it
+pub HoldsPool-put : (result : Result (Unit {0}) FileFault) (F number : ℕ) (puddles : List (ℕ × Puddle)) (g : Graph) (image : Image) (file bytes slice : List ℕ) (old mid new : State) → slice ≡ bytes → mid ≡ old
+    → words_in bytes ≡ exported_words (image MACHINE_WORD) number (types_of image) (types_used (types_of image) g) (stored_in F puddles image) → length bytes ≡ 8 * length (words_in bytes)
+    → file_graph bytes ≡ Some (contents_for (types_of image) (length puddles) g)
+    → IfOk result (λ done. new ≡ with_shelf (shelved file (Some slice) mid.shelf) mid) → IfOk result (λ done. HoldsPool F number puddles g image file old new)
+HoldsPool-put (Ok done) F number puddles g image file bytes slice old mid new same stays words whole holds put =
+    record { bytes = bytes; given = put ∙ (λ p. with_shelf (shelved file (Some (same p)) (stays p).shelf) (stays p)); words = words; whole = whole; holds = holds }
+HoldsPool-put (Err fault) F number puddles g image file bytes slice old mid new same stays words whole holds put = tt

@@ -1,0 +1,63 @@
+//! Lines that ask for the graph of a pool as a text.
+ghost use Rattle.std.specs.Prelude.{◌≡◌, ◌≢◌, ◌<◌, ◌≤◌, ℕ, Option};
+ghost use Rattle.pm_model.specs.Counts.{after_fault, fault_of};
+ghost use Rattle.pud_defs.specs.declared.layout.TheConstants.{CLIENTS};
+ghost use Rattle.pud_defs.specs.declared.machine.Command.TheVariants.{Dump};
+ghost use Rattle.pud_defs.specs.Layout.{device_words};
+ghost use Rattle.pud_defs.specs.World.{World};
+ghost use Rattle.ready_daemon.specs.Ready.{IsReady};
+ghost use Rattle.puddled.specs.Daemon.{CarriesOut};
+
+use crate::answers::{Answered, Text};
+use crate::daemon::Daemon;
+use crate::reading::find_readable;
+use graph_dump::{DumpFault, dump_json};
+use pm_model::{Host, HostFault};
+use pud_defs::machine::{Refusal, Reply};
+use pud_defs::records::Name;
+use std::alloc::Global;
+
+impl Daemon {
+    /// Reads the graph of the pool of this name for the client, from 0 to 7, as a text that is made whole before any of it is said, or refuses to.
+    /// A pool on which a transaction is open is read as the transaction has it, and by its client alone. Nothing on the device changes, and the pool
+    /// is judged where it is not known to have a graph.
+    ///
+    /// The answer is the text, or says why there is none, by the first of these that holds: `Client`, the client is not present; `Pool`, there is no pool
+    /// of the name; `Wild`, the pool has no graph; `Denied`, its mode does not let the client read it; `Busy`, another client's transaction is open on
+    /// it; `Memory`, memory was refused. The only error is the host's own, `Failed`.
+    pub(crate) fn dump_for<H: Host>(
+        &mut self,
+        alloc: Global,
+        h: &mut H,
+        client: u8,
+        name: Name,
+    ) -> Result<Answered, HostFault>
+        requires known { client < CLIENTS }
+        requires room { device_words (self.old).frames ≤ (H.counts h.old).size }
+        ensures carries { H.tells → (size : ℕ) → size ≡ (H.counts h.old).size → (w : World) → IsReady size w self.old (H.state h.old)
+            → CarriesOut size w self.new (Option.Some (Dump client name)) result (H.counts h.old) (H.counts h.new) (H.state h.old) (H.state h.new) }
+        ensures frames { (self.new).frames ≡ (self.old).frames }
+        ensures stays { H.tells → H.state h.new ≡ H.state h.old }
+        ensures cause { H.counts h.new ≡ after_fault (fault_of result) (H.counts h.old) }
+        ensures never_cut { fault_of result ≢ Option.Some HostFault.Cut }
+    {
+        let found = find_readable(
+            h,
+            self.frames,
+            &self.sessions,
+            &mut self.judged,
+            client,
+            name,
+        )?;
+        match found {
+            Err(refusal) => Ok(Answered::Reply(Reply::No(refusal))),
+            Ok(found) => {
+                match dump_json(alloc, h, self.frames, self.puddles_of(found)) {
+                    Ok(bytes) => Ok(Answered::Text(Text::new(bytes))),
+                    Err(DumpFault::Memory) => Ok(Answered::Reply(Reply::No(Refusal::Memory))),
+                    Err(DumpFault::Host(fault)) => Err(fault),
+                }
+            }
+        }
+    }
+}

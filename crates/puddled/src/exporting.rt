@@ -1,0 +1,142 @@
+//! Lines that write a pool into an export file.
+ghost use Rattle.std.specs.Prelude.{◌≡◌, ◌≢◌, ◌<◌, ◌≤◌, IsTrue, ℕ, List, Option, Result, IfOk};
+ghost use Rattle.pm_model.specs.Words.{reads};
+ghost use Rattle.pm_model.specs.Counts.{after_fault, fault_of, file_fault_of};
+ghost use Rattle.pm_model.specs.Moments.{with_shelf};
+ghost use Rattle.pm_model.specs.Calls.{shelved, LeavesFile};
+ghost use Rattle.pud_defs.specs.declared.layout.TheConstants.{CLIENTS, MAX_FRAMES};
+ghost use Rattle.pud_defs.specs.declared.records.Puddle.{Puddle};
+ghost use Rattle.pud_defs.specs.declared.machine.Command.TheVariants.{Export};
+ghost use Rattle.pud_defs.specs.Image.{Image};
+ghost use Rattle.pud_defs.specs.Layout.{device_words};
+ghost use Rattle.pud_defs.specs.Names.{is_legal_name};
+ghost use Rattle.pud_defs.specs.Types.{types_of};
+ghost use Rattle.pud_defs.specs.Stored.{IsOnDevice, stored_in};
+ghost use Rattle.pud_defs.specs.Graph.{Graph, graph_of};
+ghost use Rattle.pud_defs.specs.Exported.{IsExportable};
+ghost use Rattle.pud_defs.specs.Listing.{name_text};
+ghost use Rattle.pud_defs.specs.Changing.{file_of};
+ghost use Rattle.pud_defs.specs.World.{World};
+ghost use Rattle.ready_daemon.specs.Ready.{IsReady};
+ghost use Rattle.puddled.specs.Daemon.{KeepsAllBut, CarriesOut};
+ghost use Rattle.puddled.specs.Files.{file_answer, HoldsPool, HoldsOneOf};
+
+use crate::answers::Answered;
+use crate::daemon::Daemon;
+use crate::reading::find_readable;
+use pm_model::{FileFault, Host, HostFault};
+use pool_list::text::{self, add_name};
+use pud_defs::machine::{Refusal, Reply};
+use pud_defs::records::{Name, Puddle};
+use pud_export::{ExportFault, export_pool};
+use std::alloc::Global;
+use std::str;
+
+/// Replaces the whole file on the shelf whose name is this one without the zeros that fill it.
+fn put_file<H: Host>(alloc: Global, h: &mut H, file: Name, bytes: &[u8]) -> Result<(), FileFault>
+    requires { IsTrue (is_legal_name file) }
+    ensures put { H.tells → IfOk result (λ _. H.state h.new ≡ with_shelf (shelved (name_text file) (Option.Some bytes.now) (H.state h.old).shelf) (H.state h.old)) }
+    ensures memory { H.tells → result ≡ Result.Err FileFault.Memory → H.state h.new ≡ H.state h.old }
+    ensures failed { H.tells → LeavesFile (name_text file) (H.state h.old) (H.state h.new) }
+    ensures cause { H.counts h.new ≡ after_fault (file_fault_of result) (H.counts h.old) }
+    ensures never_cut { file_fault_of result ≢ Option.Some HostFault.Cut }
+{
+    let mut name = text::Text::new();
+    add_name(&mut name, &file);
+    match str::from_utf8(name.as_slice()) {
+        Ok(name) => h.file_put(alloc, name, bytes),
+        // A legal name is ASCII.
+        Err(_) => unreachable!(),
+    }
+}
+
+/// Writes the pool of these puddles, by their ordinals, each with its frame, into a file of this name on the shelf, whole or not at all where the
+/// host does not fail. The pool has this UUID number.
+fn write_file<H: Host>(
+    alloc: Global,
+    h: &mut H,
+    frames: u32,
+    number: u64,
+    puddles: &[(u32, Puddle)],
+    file: Name,
+) -> Result<(), FileFault>
+    requires few { frames ≤ MAX_FRAMES }
+    requires room { device_words frames ≤ (H.counts h.old).size }
+    requires known { IsOnDevice frames puddles.now }
+    requires name { IsTrue (is_legal_name file) }
+    ensures written { H.tells → (image : Image) → reads (H.state h.old).now.words ≡ image → (g : Graph) → graph_of (types_of image) (stored_in frames puddles.now image) ≡ Option.Some g
+        → IsExportable (types_of image) (stored_in frames puddles.now image)
+        → IfOk result (λ _. HoldsPool frames number puddles.now g image (name_text file) (H.state h.old) (H.state h.new)) }
+    ensures memory { H.tells → result ≡ Result.Err FileFault.Memory → H.state h.new ≡ H.state h.old }
+    ensures failed { H.tells → LeavesFile (name_text file) (H.state h.old) (H.state h.new) }
+    ensures cause { H.counts h.new ≡ after_fault (file_fault_of result) (H.counts h.old) }
+    ensures never_cut { file_fault_of result ≢ Option.Some HostFault.Cut }
+{
+    match export_pool(alloc, h, frames, number, puddles) {
+        Ok(bytes) => put_file(alloc, h, file, bytes.as_slice()),
+        Err(ExportFault::Memory) => Err(FileFault::Memory),
+        Err(ExportFault::Host(fault)) => Err(FileFault::Host(fault)),
+    }
+}
+
+/// What is answered where a file was to be written.
+fn answer_written(done: Result<(), FileFault>) -> Result<Answered, HostFault>
+    ensures { result ≡ file_answer done }
+{
+    match done {
+        Ok(()) => Ok(Answered::Reply(Reply::Ok)),
+        Err(FileFault::Memory) => Ok(Answered::Reply(Reply::No(Refusal::Memory))),
+        Err(FileFault::Host(fault)) => Err(fault),
+    }
+}
+
+impl Daemon {
+    /// Writes the pool of this name for the client, from 0 to 7, into the export file `file` on the shelf, or refuses to. Nothing on the device
+    /// changes, and the pool is judged where it is not known to have a graph. The file is replaced where the answer is `Ok`, and else as it was, but
+    /// where the host fails, when it may be left in any state.
+    ///
+    /// The answer is `Ok`, or says why nothing was written, by the first of these that holds: `Client`, the client is not present; `Pool`, there is no
+    /// pool of the name; `Wild`, the pool has no graph; `Denied`, its mode does not let the client read it; `Busy`, another client's transaction is open
+    /// on it; `OpenHere`, the client's own is; `Memory`, memory was refused. The only error is the host's own, `Failed`.
+    pub(crate) fn export_for<H: Host>(
+        &mut self,
+        alloc: Global,
+        h: &mut H,
+        client: u8,
+        name: Name,
+        file: Name,
+    ) -> Result<Answered, HostFault>
+        requires known { client < CLIENTS }
+        requires room { device_words (self.old).frames ≤ (H.counts h.old).size }
+        requires name { IsTrue (is_legal_name file) }
+        ensures carries { H.tells → (size : ℕ) → size ≡ (H.counts h.old).size → (w : World) → IsReady size w self.old (H.state h.old)
+            → CarriesOut size w self.new (Option.Some (Export client name file)) result (H.counts h.old) (H.counts h.new) (H.state h.old) (H.state h.new) }
+        // Word by word: the file is the one that is written of what the pool stores.
+        ensures words { H.tells → (size : ℕ) → (w : World) → IsReady size w self.old (H.state h.old)
+            → IfOk result (λ answered. answered ≡ Answered.Reply Reply.Ok → HoldsOneOf w name (reads (H.state h.old).now.words) (name_text file) (H.state h.old) (H.state h.new)) }
+        ensures frames { (self.new).frames ≡ (self.old).frames }
+        ensures rest { H.tells → KeepsAllBut (file_of (Export client name file)) (H.state h.old) (H.state h.new) }
+        ensures cause { H.counts h.new ≡ after_fault (fault_of result) (H.counts h.old) }
+        ensures never_cut { fault_of result ≢ Option.Some HostFault.Cut }
+    {
+        let found = find_readable(
+            h,
+            self.frames,
+            &self.sessions,
+            &mut self.judged,
+            client,
+            name,
+        )?;
+        match found {
+            Err(refusal) => Ok(Answered::Reply(Reply::No(refusal))),
+            Ok(found) => {
+                if found.is_open {
+                    return Ok(Answered::Reply(Reply::No(Refusal::OpenHere)));
+                }
+                let puddles = self.judged.puddles(found.slot);
+                let done = write_file(alloc, h, self.frames, found.number, puddles, file);
+                answer_written(done)
+            }
+        }
+    }
+}
