@@ -30,6 +30,11 @@ impl Bench {
                 let loads = u64::from(self.host.watched());
                 self.check_numbers(number, cells, &[loads])
             }
+            ("bytes", Some(cells)) => self.check_length(number, rest, cells),
+            ("file", Some(cells)) => match rest.split_once(' ') {
+                Some((name, first)) => self.check_file(number, name, first, cells),
+                None => Err(self.unknown(line)),
+            },
             ("plan", None) => {
                 let plan = self.plan_of(number, rest)?;
                 let device = Copied::of(self.alloc, &self.host)?;

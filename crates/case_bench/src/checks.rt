@@ -2,8 +2,10 @@
 use crate::bench::Bench;
 use crate::numbers::numbers_of;
 use crate::runs::{Difference, NOTHING, Run};
+use case_text::counters::number_of;
 use case_text::trouble::{Trouble, amiss};
 use case_text::wanted::cell_of;
+use pm_model::{FileFault, Host};
 
 impl Bench {
     /// What the run says has to be what is wanted of it in one of the outcomes that agreed so far.
@@ -74,6 +76,50 @@ impl Bench {
         let first = usize::try_from(first).unwrap_or(usize::MAX);
         let found = newest.get(first..).unwrap_or(&[]);
         self.check_numbers(number, cells, found)
+    }
+
+    /// The bytes of the file on the shelf: none where there is no such file.
+    fn file_bytes(&mut self, number: u32, name: &str) -> Result<Vec<u8>, Trouble> {
+        match self.host.file_get(self.alloc, name) {
+            Ok(found) => Ok(found.unwrap_or(Vec::new(self.alloc))),
+            Err(FileFault::Memory) => Err(Trouble::Memory),
+            Err(FileFault::Host(_)) => Err(amiss(
+                number,
+                format!(in self.alloc; "the shelf failed"),
+            )),
+        }
+    }
+
+    /// The file on the shelf has to have so many bytes.
+    pub(crate) fn check_length(
+        &mut self,
+        number: u32,
+        name: &str,
+        cells: &str,
+    ) -> Result<(), Trouble> {
+        let bytes = self.file_bytes(number, name)?;
+        let length = u64::try_from(bytes.len()).unwrap_or(u64::MAX);
+        self.check_numbers(number, cells, &[length])
+    }
+
+    /// The words of the file on the shelf from this one on have to begin with those that are wanted.
+    pub(crate) fn check_file(
+        &mut self,
+        number: u32,
+        name: &str,
+        first: &str,
+        cells: &str,
+    ) -> Result<(), Trouble> {
+        let Some(first) = number_of(first) else {
+            return Err(amiss(number, format!(in self.alloc; "a word is wanted")));
+        };
+        let first = usize::try_from(first).unwrap_or(usize::MAX);
+        let bytes = self.file_bytes(number, name)?;
+        let mut found = Vec::new(self.alloc);
+        for word in bytes.chunks_exact(8).skip(first) {
+            found.push(u64::from_le_bytes(word.try_into().unwrap_or([0; 8])))?;
+        }
+        self.check_numbers(number, cells, &found)
     }
 
     /// Each word has to be as it was remembered, but for those of these ranges.
