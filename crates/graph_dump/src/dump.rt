@@ -1,9 +1,9 @@
 //! A pool dumped: read from the device, and written.
 
-ghost use Rattle.std.specs.Prelude.{◌≡◌, ◌≢◌, ◌++◌, ◌≤◌, ◌<◌, Option, All, IfOk, OnOk, codes, decimal, map};
+ghost use Rattle.std.specs.Prelude.{◌≡◌, ◌++◌, ◌≤◌, ◌<◌, Option, All, IfOk, OnOk, codes, decimal, map};
 ghost use Rattle.std.specs.BTreeMap.{values};
 ghost use Rattle.pm_model.specs.Words.{Image, reads};
-ghost use Rattle.pm_model.specs.Counts.{after_fault};
+ghost use Rattle.pm_model.specs.Reads.{OnlyReads};
 ghost use Rattle.pud_defs.specs.Layout.{device_words};
 ghost use Rattle.pud_defs.specs.Types.{types_of};
 ghost use Rattle.pud_defs.specs.Stored.{IsOnDevice, stored_in};
@@ -60,9 +60,7 @@ fn dump_object<H: Host>(
     requires within { entry.1 < places_in pool.now }
     ensures text { H.tells → (image : Image) → reads (H.state h.old).now.words ≡ image
         → OnOk result (text.new.items ≡ text.old.items ++ (separator is_first ++ entry_text frames pool.now image entry)) }
-    ensures stays { H.tells → H.state h.new ≡ H.state h.old }
-    ensures cause { H.counts h.new ≡ after_fault (fault_in result) (H.counts h.old) }
-    ensures never_cut { fault_in result ≢ Option.Some HostFault.Cut }
+    ensures only_reads { OnlyReads H.tells H.state H.counts (fault_in result) h.old h.new }
 {
     let (serial, place) = entry;
     let object = read_object(h, frames, pool, place)?;
@@ -85,9 +83,7 @@ fn dump_objects<H: Host>(
     requires within { All (λ p. p < places_in pool.now) (values places.now) }
     ensures text { H.tells → (image : Image) → reads (H.state h.old).now.words ≡ image
         → OnOk result (text.new.items ≡ text.old.items ++ joined (map (entry_text frames pool.now image) (places.now).entries)) }
-    ensures stays { H.tells → H.state h.new ≡ H.state h.old }
-    ensures cause { H.counts h.new ≡ after_fault (fault_in result) (H.counts h.old) }
-    ensures never_cut { fault_in result ≢ Option.Some HostFault.Cut }
+    ensures only_reads { OnlyReads H.tells H.state H.counts (fault_in result) h.old h.new }
 {
     let mut is_first = true;
     for (serial, place) in places {
@@ -119,9 +115,7 @@ pub fn dump_json<H: Host>(
     ensures text { H.tells → (image : Image) → reads (H.state h.old).now.words ≡ image
         → (g : Graph) → graph_of (types_of image) (stored_in frames pool.now image) ≡ Option.Some g
         → IfOk result (λ text. text.items ≡ dump_text g) }
-    ensures stays { H.tells → H.state h.new ≡ H.state h.old }
-    ensures cause { H.counts h.new ≡ after_fault (fault_in result) (H.counts h.old) }
-    ensures never_cut { fault_in result ≢ Option.Some HostFault.Cut }
+    ensures only_reads { OnlyReads H.tells H.state H.counts (fault_in result) h.old h.new }
 {
     if pool.is_empty() {
         return Ok(Vec::new(alloc));

@@ -1,8 +1,9 @@
 //! One object, read from the device.
 
-ghost use Rattle.std.specs.Prelude.{◌≡◌, ◌≢◌, ◌<◌, ◌≤◌, take, Option, IfOk};
+ghost use Rattle.std.specs.Prelude.{◌≡◌, ◌<◌, ◌≤◌, take, IfOk};
 ghost use Rattle.pm_model.specs.Words.{Image, reads};
-ghost use Rattle.pm_model.specs.Counts.{after_fault, fault_of};
+ghost use Rattle.pm_model.specs.Counts.{fault_of};
+ghost use Rattle.pm_model.specs.Reads.{OnlyReads};
 ghost use Rattle.pud_defs.specs.Layout.{device_words};
 ghost use Rattle.pud_defs.specs.Stored.{IsOnDevice};
 ghost use Rattle.pud_defs.specs.Graph.{field_count, object_at};
@@ -41,9 +42,7 @@ fn read_fields<H: Host>(
     requires within { IsSlotOf pool.now at.now }
     ensures fields { H.tells → (image : Image) → reads (H.state h.old).now.words ≡ image
         → IfOk result (λ values. take (field_count map_word) values ≡ field_values frames pool.now image (place_of_slot at.now) map_word) }
-    ensures stays { H.tells → H.state h.new ≡ H.state h.old }
-    ensures cause { H.counts h.new ≡ after_fault (fault_of result) (H.counts h.old) }
-    ensures never_cut { fault_of result ≢ Option.Some HostFault.Cut }
+    ensures only_reads { OnlyReads H.tells H.state H.counts (fault_of result) h.old h.new }
 {
     let mut values = NO_FIELDS;
     for f in 0..field_count(map_word) {
@@ -66,9 +65,7 @@ pub(crate) fn read_object<H: Host>(
     requires within { place < places_in pool.now }
     ensures object { H.tells → (image : Image) → reads (H.state h.old).now.words ≡ image
         → IfOk result (λ object. object ≡ object_at (table_in frames pool.now image) place) }
-    ensures stays { H.tells → H.state h.new ≡ H.state h.old }
-    ensures cause { H.counts h.new ≡ after_fault (fault_of result) (H.counts h.old) }
-    ensures never_cut { fault_of result ≢ Option.Some HostFault.Cut }
+    ensures only_reads { OnlyReads H.tells H.state H.counts (fault_of result) h.old h.new }
 {
     let type_id = type_at(h, frames, pool, place)?;
     match find(h, type_id)? {

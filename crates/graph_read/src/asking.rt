@@ -1,8 +1,9 @@
 //! What is asked of each slot of a pool, slot by slot and field by field.
 
-ghost use Rattle.std.specs.Prelude.{◌≡◌, ◌≢◌, ◌+◌, ◌*◌, ◌<◌, ◌≤◌, length, map, slice_index, Option, IfOk};
+ghost use Rattle.std.specs.Prelude.{◌≡◌, ◌+◌, ◌*◌, ◌<◌, ◌≤◌, length, map, slice_index, Option, IfOk};
 ghost use Rattle.pm_model.specs.Words.{reads};
-ghost use Rattle.pm_model.specs.Counts.{after_fault, fault_of};
+ghost use Rattle.pm_model.specs.Counts.{fault_of};
+ghost use Rattle.pm_model.specs.Reads.{OnlyReads};
 ghost use Rattle.pud_defs.specs.Graph.{content, contents_by};
 ghost use Rattle.pud_defs.specs.Image.{Image};
 ghost use Rattle.pud_defs.specs.Layout.{device_words};
@@ -95,9 +96,7 @@ pub fn type_at<H: Loads>(
     requires known { IsOnDevice frames pool.now }
     requires within { place < places_in pool.now }
     ensures id { H.tells → (image : Image) → reads (H.state h.old).now.words ≡ image → IfOk result (λ v. v ≡ place_word (stored_in frames pool.now image) place SLOT_TYPE_WORD) }
-    ensures stays { H.tells → H.state h.new ≡ H.state h.old }
-    ensures cause { H.counts h.new ≡ after_fault (fault_of result) (H.counts h.old) }
-    ensures never_cut { fault_of result ≢ Option.Some HostFault.Cut }
+    ensures only_reads { OnlyReads H.tells H.state H.counts (fault_of result) h.old h.new }
 {
     let at = slot_at_place(pool, place);
     slot_type(h, frames, at.frame, at.slot)
@@ -118,9 +117,7 @@ pub fn field_word<H: Loads>(
     requires field { f < MAX_FIELDS }
     ensures word { H.tells → (image : Image) → reads (H.state h.old).now.words ≡ image
         → IfOk result (λ v. v ≡ place_word (stored_in frames pool.now image) place (SLOT_FIELDS_WORD + f)) }
-    ensures stays { H.tells → H.state h.new ≡ H.state h.old }
-    ensures cause { H.counts h.new ≡ after_fault (fault_of result) (H.counts h.old) }
-    ensures never_cut { fault_of result ≢ Option.Some HostFault.Cut }
+    ensures only_reads { OnlyReads H.tells H.state H.counts (fault_of result) h.old h.new }
 {
     let at = slot_at_place(pool, place);
     slot_field(h, frames, at.frame, at.slot, f)
@@ -142,9 +139,7 @@ fn fields_pass<H: Loads>(
     requires within { place < places_in pool.now }
     ensures pass { H.tells → (image : Image) → reads (H.state h.old).now.words ≡ image
         → IfOk result (λ pass. pass ≡ contents_pass asked (slice_index serials.now) (contents_by (stored_in frames pool.now image) place (Option.Some type_map))) }
-    ensures stays { H.tells → H.state h.new ≡ H.state h.old }
-    ensures cause { H.counts h.new ≡ after_fault (fault_of result) (H.counts h.old) }
-    ensures never_cut { fault_of result ≢ Option.Some HostFault.Cut }
+    ensures only_reads { OnlyReads H.tells H.state H.counts (fault_of result) h.old h.new }
 {
     for f in 0..map_fields(type_map).min(MAX_FIELDS) {
         let v = field_word(h, frames, pool, place, f)?;
@@ -170,9 +165,7 @@ fn place_passes<H: Loads>(
     requires within { place < places_in pool.now }
     ensures pass { H.tells → (image : Image) → reads (H.state h.old).now.words ≡ image
         → IfOk result (λ pass. pass ≡ place_passes asked (with_serials (slice_index serials.now) (table_in frames pool.now image)) place) }
-    ensures stays { H.tells → H.state h.new ≡ H.state h.old }
-    ensures cause { H.counts h.new ≡ after_fault (fault_of result) (H.counts h.old) }
-    ensures never_cut { fault_of result ≢ Option.Some HostFault.Cut }
+    ensures only_reads { OnlyReads H.tells H.state H.counts (fault_of result) h.old h.new }
 {
     let serial = serials[place as usize];
     if is_free(serial) {
@@ -201,9 +194,7 @@ pub(crate) fn places_pass<H: Loads>(
     requires known { IsOnDevice frames pool.now }
     ensures pass { H.tells → (image : Image) → reads (H.state h.old).now.words ≡ image
         → IfOk result (λ pass. pass ≡ all_below (places_in pool.now) (place_passes asked (with_serials (slice_index serials.now) (table_in frames pool.now image)))) }
-    ensures stays { H.tells → H.state h.new ≡ H.state h.old }
-    ensures cause { H.counts h.new ≡ after_fault (fault_of result) (H.counts h.old) }
-    ensures never_cut { fault_of result ≢ Option.Some HostFault.Cut }
+    ensures only_reads { OnlyReads H.tells H.state H.counts (fault_of result) h.old h.new }
 {
     for place in 0..places_among(pool.len() as u32) {
         if !place_passes(h, frames, pool, serials, asked, place)? {

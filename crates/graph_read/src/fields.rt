@@ -1,8 +1,9 @@
 //! What a field of an object holds.
 
-ghost use Rattle.std.specs.Prelude.{◌≡◌, ◌≢◌, ◌+◌, ◌<◌, ◌≤◌, length, map, Option, IfOk};
+ghost use Rattle.std.specs.Prelude.{◌≡◌, ◌+◌, ◌<◌, ◌≤◌, length, map, Option, IfOk};
 ghost use Rattle.pm_model.specs.Words.{Image, reads};
-ghost use Rattle.pm_model.specs.Counts.{after_fault, fault_of};
+ghost use Rattle.pm_model.specs.Counts.{fault_of};
+ghost use Rattle.pm_model.specs.Reads.{OnlyReads};
 ghost use Rattle.pud_defs.specs.declared.space.TheConstants.{SLOT_FIELDS_WORD};
 ghost use Rattle.pud_defs.specs.Layout.{device_words};
 ghost use Rattle.pud_defs.specs.Types.{types_of};
@@ -48,9 +49,7 @@ pub fn serial_behind<H: Loads>(
     requires within { ordinal < length pool.now }
     ensures serial { H.tells → (image : Image) → reads (H.state h.old).now.words ≡ image
         → IfOk result (λ s. s ≡ named_by (table_in frames pool.now image).serial (pointee_at (map (λ e. e.1) pool.now) ordinal step value)) }
-    ensures stays { H.tells → H.state h.new ≡ H.state h.old }
-    ensures cause { H.counts h.new ≡ after_fault (fault_of result) (H.counts h.old) }
-    ensures never_cut { fault_of result ≢ Option.Some HostFault.Cut }
+    ensures only_reads { OnlyReads H.tells H.state H.counts (fault_of result) h.old h.new }
 {
     match read_pointer(pool, ordinal, step, value) {
         Some(Pointee::At { ordinal, slot }) => {
@@ -79,9 +78,7 @@ pub fn value_at<H: Loads>(
     ensures value { H.tells → (image : Image) → reads (H.state h.old).now.words ≡ image
         → IfOk result (λ v. v ≡ value_of (table_in frames pool.now image).serial
         (content (map (λ e. e.1) pool.now) map_word (place_of_slot at.now) f (place_word (stored_in frames pool.now image) (place_of_slot at.now) (SLOT_FIELDS_WORD + f)))) }
-    ensures stays { H.tells → H.state h.new ≡ H.state h.old }
-    ensures cause { H.counts h.new ≡ after_fault (fault_of result) (H.counts h.old) }
-    ensures never_cut { fault_of result ≢ Option.Some HostFault.Cut }
+    ensures only_reads { OnlyReads H.tells H.state H.counts (fault_of result) h.old h.new }
 {
     let value = slot_field(h, frames, at.frame, at.slot, f)?;
     if map_is_pointer(map_word, f) {
@@ -107,9 +104,7 @@ fn field_at<H: Loads>(
     requires field { f < MAX_FIELDS }
     ensures read { H.tells → (image : Image) → reads (H.state h.old).now.words ≡ image
         → IfOk result (λ read. read ≡ read_by (Option.Some (object_at (table_in frames pool.now image) (place_of_slot at.now))) f) }
-    ensures stays { H.tells → H.state h.new ≡ H.state h.old }
-    ensures cause { H.counts h.new ≡ after_fault (fault_of result) (H.counts h.old) }
-    ensures never_cut { fault_of result ≢ Option.Some HostFault.Cut }
+    ensures only_reads { OnlyReads H.tells H.state H.counts (fault_of result) h.old h.new }
 {
     let id = slot_type(h, frames, at.frame, at.slot)?;
     match find(h, id)? {
@@ -143,9 +138,7 @@ pub fn read_field<H: Loads>(
     ensures object { H.tells → (image : Image) → reads (H.state h.old).now.words ≡ image
         → (g : Graph) → graph_of (types_of image) (stored_in frames pool.now image) ≡ Option.Some g
         → IfOk result (λ read. read ≡ read_by (object_in s g) f) }
-    ensures stays { H.tells → H.state h.new ≡ H.state h.old }
-    ensures cause { H.counts h.new ≡ after_fault (fault_of result) (H.counts h.old) }
-    ensures never_cut { fault_of result ≢ Option.Some HostFault.Cut }
+    ensures only_reads { OnlyReads H.tells H.state H.counts (fault_of result) h.old h.new }
 {
     match find_serial(h, frames, pool, s)? {
         Some(at) => field_at(h, frames, pool, &at, f),

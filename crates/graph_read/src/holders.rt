@@ -1,8 +1,9 @@
 //! Who holds an object.
 
-ghost use Rattle.std.specs.Prelude.{◌≡◌, ◌≢◌, ◌≤◌, ◌==◌, ◌||◌, not, Option, IfOk};
+ghost use Rattle.std.specs.Prelude.{◌≡◌, ◌≤◌, ◌==◌, ◌||◌, not, Option, IfOk};
 ghost use Rattle.pm_model.specs.Words.{reads};
-ghost use Rattle.pm_model.specs.Counts.{after_fault, fault_of};
+ghost use Rattle.pm_model.specs.Counts.{fault_of};
+ghost use Rattle.pm_model.specs.Reads.{OnlyReads};
 ghost use Rattle.pud_defs.specs.Graph.{Graph, graph_of, is_held};
 ghost use Rattle.pud_defs.specs.Image.{Image};
 ghost use Rattle.pud_defs.specs.Layout.{device_words};
@@ -38,9 +39,7 @@ pub fn is_held<H: Loads>(
     requires known { IsOnDevice frames pool.now }
     ensures held { H.tells → (image : Image) → reads (H.state h.old).now.words ≡ image → (g : Graph)
         → graph_of (types_of image) (stored_in frames pool.now image) ≡ Option.Some g → IfOk result (λ held. held ≡ is_held s g) }
-    ensures stays { H.tells → H.state h.new ≡ H.state h.old }
-    ensures cause { H.counts h.new ≡ after_fault (fault_of result) (H.counts h.old) }
-    ensures never_cut { fault_of result ≢ Option.Some HostFault.Cut }
+    ensures only_reads { OnlyReads H.tells H.state H.counts (fault_of result) h.old h.new }
 {
     if pool.is_empty() {
         return Ok(false);

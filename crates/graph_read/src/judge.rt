@@ -1,10 +1,11 @@
 //! Whether what a pool stores is a graph, and how many objects it has.
 
-ghost use Rattle.std.specs.Prelude.{◌≡◌, ◌≢◌, ◌+◌, ◌-◌, ◌*◌, ◌<◌, ◌≤◌, ◌==◌, ◌&&◌, length, slice_index, Option, is_some, option_map, IfOk, IfSome};
+ghost use Rattle.std.specs.Prelude.{◌≡◌, ◌+◌, ◌-◌, ◌*◌, ◌<◌, ◌≤◌, ◌==◌, ◌&&◌, length, slice_index, Option, is_some, option_map, IfOk, IfSome};
 ghost use Rattle.std.specs.List.{list_any};
 ghost use Rattle.std.specs.Ordering.{nat_cmp};
 ghost use Rattle.pm_model.specs.Words.{reads};
-ghost use Rattle.pm_model.specs.Counts.{after_fault, fault_of};
+ghost use Rattle.pm_model.specs.Counts.{fault_of};
+ghost use Rattle.pm_model.specs.Reads.{OnlyReads};
 ghost use Rattle.pud_defs.specs.Graph.{graph_of, headers_fit, is_next_serial, under_serial};
 ghost use Rattle.pud_defs.specs.Image.{Image};
 ghost use Rattle.pud_defs.specs.Keyed.{are_distinct, count_used, is_apart};
@@ -29,9 +30,7 @@ fn headers_fit<H: Loads>(h: &mut H, frames: u32, pool: &[(u32, Puddle)]) -> Resu
     requires room { device_words frames ≤ (H.counts h.old).size }
     requires known { IsOnDevice frames pool.now }
     ensures fit { H.tells → (image : Image) → reads (H.state h.old).now.words ≡ image → IfOk result (λ fit. fit ≡ headers_fit (stored_in frames pool.now image)) }
-    ensures stays { H.tells → H.state h.new ≡ H.state h.old }
-    ensures cause { H.counts h.new ≡ after_fault (fault_of result) (H.counts h.old) }
-    ensures never_cut { fault_of result ≢ Option.Some HostFault.Cut }
+    ensures only_reads { OnlyReads H.tells H.state H.counts (fault_of result) h.old h.new }
 {
     for ordinal in 0..pool.len() as u32 {
         let (frame, puddle) = pool[ordinal as usize];
@@ -123,9 +122,7 @@ pub fn objects_held<H: Loads>(
     ensures held { H.tells → (image : Image) → reads (H.state h.old).now.words ≡ image
         → IfOk result (λ held. held ≡ option_map (λ g. length g.objects) (graph_of (types_of image) (stored_in frames pool.now image))) }
     ensures within { IfOk result (λ held. IfSome held (λ n. n ≤ places_in pool.now)) }
-    ensures stays { H.tells → H.state h.new ≡ H.state h.old }
-    ensures cause { H.counts h.new ≡ after_fault (fault_of result) (H.counts h.old) }
-    ensures never_cut { fault_of result ≢ Option.Some HostFault.Cut }
+    ensures only_reads { OnlyReads H.tells H.state H.counts (fault_of result) h.old h.new }
 {
     if pool.is_empty() {
         return Ok(None);
@@ -159,9 +156,7 @@ pub fn pool_is_sound<H: Loads>(
     requires known { IsOnDevice frames pool.now }
     ensures sound { H.tells → (image : Image) → reads (H.state h.old).now.words ≡ image
         → IfOk result (λ sound. sound ≡ is_some (graph_of (types_of image) (stored_in frames pool.now image))) }
-    ensures stays { H.tells → H.state h.new ≡ H.state h.old }
-    ensures cause { H.counts h.new ≡ after_fault (fault_of result) (H.counts h.old) }
-    ensures never_cut { fault_of result ≢ Option.Some HostFault.Cut }
+    ensures only_reads { OnlyReads H.tells H.state H.counts (fault_of result) h.old h.new }
 {
     Ok(objects_held(h, frames, pool)?.is_some())
 }

@@ -2,9 +2,10 @@
 //!
 //! A place is a slot of a pool, counted over its puddles by their ordinals.
 
-ghost use Rattle.std.specs.Prelude.{◌≡◌, ◌≢◌, ◌*◌, ◌<◌, ◌≤◌, length, Option, IfOk, IfSome, is_none, option_map};
+ghost use Rattle.std.specs.Prelude.{◌≡◌, ◌*◌, ◌<◌, ◌≤◌, length, Option, IfOk, IfSome, is_none, option_map};
 ghost use Rattle.pm_model.specs.Words.{Image, reads};
-ghost use Rattle.pm_model.specs.Counts.{after_fault, fault_of};
+ghost use Rattle.pm_model.specs.Counts.{fault_of};
+ghost use Rattle.pm_model.specs.Reads.{OnlyReads};
 ghost use Rattle.pud_defs.specs.declared.records.Slot.{Slot};
 ghost use Rattle.pud_defs.specs.Layout.{device_words};
 ghost use Rattle.pud_defs.specs.Types.{types_of};
@@ -33,9 +34,7 @@ pub fn find_place<H: Loads>(
     ensures found { H.tells → (image : Image) → reads (H.state h.old).now.words ≡ image
         → IfOk result (λ found. found ≡ place_in_pool frames pool.now image s) }
     ensures within { IfOk result (λ found. IfSome found (λ p. p < places_in pool.now)) }
-    ensures stays { H.tells → H.state h.new ≡ H.state h.old }
-    ensures cause { H.counts h.new ≡ after_fault (fault_of result) (H.counts h.old) }
-    ensures never_cut { fault_of result ≢ Option.Some HostFault.Cut }
+    ensures only_reads { OnlyReads H.tells H.state H.counts (fault_of result) h.old h.new }
 {
     if s == 0 {
         return Ok(None);
@@ -65,9 +64,7 @@ pub fn find_serial<H: Loads>(
         → (g : Graph) → graph_of (types_of image) (stored_in frames pool.now image) ≡ Option.Some g
         → IfOk result (λ found. is_none found ≡ is_none (object_in s g)) }
     ensures within { IfOk result (λ found. IfSome found (IsSlotOf pool.now)) }
-    ensures stays { H.tells → H.state h.new ≡ H.state h.old }
-    ensures cause { H.counts h.new ≡ after_fault (fault_of result) (H.counts h.old) }
-    ensures never_cut { fault_of result ≢ Option.Some HostFault.Cut }
+    ensures only_reads { OnlyReads H.tells H.state H.counts (fault_of result) h.old h.new }
 {
     match find_place(h, frames, pool, s)? {
         Some(place) => Ok(Some(slot_at_place(pool, place))),

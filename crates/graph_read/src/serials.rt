@@ -1,8 +1,9 @@
 //! The serials of a pool's slots, each read once.
 
-ghost use Rattle.std.specs.Prelude.{◌≡◌, ◌≢◌, ◌≤◌, slice_index, Option, IfOk};
+ghost use Rattle.std.specs.Prelude.{◌≡◌, ◌≤◌, slice_index, Option, IfOk};
 ghost use Rattle.pm_model.specs.Words.{reads};
-ghost use Rattle.pm_model.specs.Counts.{after_fault, fault_of};
+ghost use Rattle.pm_model.specs.Counts.{fault_of};
+ghost use Rattle.pm_model.specs.Reads.{OnlyReads};
 ghost use Rattle.pud_defs.specs.Graph.{named_by};
 ghost use Rattle.pud_defs.specs.Image.{Image};
 ghost use Rattle.pud_defs.specs.Layout.{device_words};
@@ -33,9 +34,7 @@ pub(crate) fn read_serials<H: Loads>(
     requires known { IsOnDevice frames pool.now }
     ensures serials { H.tells → (image : Image) → reads (H.state h.old).now.words ≡ image
         → IfOk result (λ serials. slice_index serials ≡ serials_in (stored_in frames pool.now image)) }
-    ensures stays { H.tells → H.state h.new ≡ H.state h.old }
-    ensures cause { H.counts h.new ≡ after_fault (fault_of result) (H.counts h.old) }
-    ensures never_cut { fault_of result ≢ Option.Some HostFault.Cut }
+    ensures only_reads { OnlyReads H.tells H.state H.counts (fault_of result) h.old h.new }
 {
     let mut serials = [0; PLACES];
     for place in 0..places_among(pool.len() as u32) {

@@ -3,10 +3,11 @@ use Rattle.std.proofs.Common.{◌≡◌, ℕ, ◌+◌, ◌*◌, ◌%◌, ◌^◌
 use Rattle.std.specs.Prelude.{slice_get}
 use Rattle.std.proofs.lemmas.Option.{slice_get-map}
 use Rattle.pm_model.specs.declared.host.HostFault.{HostFault}
-use Rattle.pm_model.specs.declared.host.HostFault.TheVariants.{Cut}
 use Rattle.pm_model.specs.Words.{reads}
 use Rattle.pm_model.specs.Moments.{State}
+use Rattle.pm_model.specs.Counts.{Counts}
 use Rattle.pm_model.specs.Changes.{placed}
+use Rattle.pm_model.specs.Reads.{OnlyReads}
 use Rattle.pud_defs.specs.declared.layout.TheConstants.{LOG_WORDS}
 use Rattle.pud_defs.specs.declared.space.TheConstants.{WORD_BYTES}
 use Rattle.pud_defs.specs.declared.records.Puddle.{Puddle}
@@ -60,15 +61,16 @@ slot_address-read at slot of e same legal =
     ∙ ap (λ (n : ℕ). address_in (slice_get (map (λ (d : ℕ × Puddle). d.1) at) (ordinal_of (place_of_slot slot))) n) (sym number)
 
 module _ (F : ℕ) (at : List (ℕ × Puddle)) (types : List (ℕ × ℕ)) (log behind : OpenLog) (before : Image) (undone now : Graph) (laters : List Later) where
-  -- a call that failed before it did anything
-  pub RunsOn-stopped : (next : Graph) (more : List Later) (fault : HostFault) (old new : State) → behind.at ≡ log.at → (Some fault ≡ Some Cut → ⊥) → new ≡ old
-      → IsOpenOn F at types log before undone now laters old.now.words → RunsOn F at types behind before undone next more (Some fault) old new
-  RunsOn-stopped next more fault old new same kept stays is_open =
+  -- a call that failed before it did more than read
+  pub RunsOn-stopped : {H : Type 0} {tells : Type 0} {state : H → State} {counts : H → Counts} {old new : H} (next : Graph) (more : List Later) (fault : HostFault) → behind.at ≡ log.at
+      → OnlyReads tells state counts (Some fault) old new → tells → IsOpenOn F at types log before undone now laters (state old).now.words
+      → RunsOn F at types behind before undone next more (Some fault) (state old) (state new)
+  RunsOn-stopped {state = state} {old = old} {new = new} next more fault same only t is_open =
       let s = is_open.saving in
       record {
         write = nothing;
         redo = is_open.redo;
-        saves = record { es = s.es; runs = Runs-stopped (pool_ground F at) log behind s.es s.es before nothing fault old new same kept stays s.running; asks = s.asks };
+        saves = record { es = s.es; runs = Runs-stopped (pool_ground F at) log behind s.es s.es before nothing fault (state old) (state new) same only.never_cut (only.stays t) s.running; asks = s.asks };
         was = is_open.was;
         is = λ none. absurd (some_fault fault none);
         are = λ none. absurd (some_fault fault none);

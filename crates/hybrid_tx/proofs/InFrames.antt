@@ -8,7 +8,7 @@ use Rattle.pm_model.specs.Moments.{State}
 use Rattle.pm_model.specs.Changes.{Write, Changes, placed}
 use Rattle.pm_model.proofs.Changes.{Changes-wider}
 use Rattle.pm_persist.proofs.Ranges.{placed_within}
-use Rattle.pud_defs.specs.declared.layout.TheConstants.{FRAME_WORDS, LOG_WORDS}
+use Rattle.pud_defs.specs.declared.layout.TheConstants.{FRAME_WORDS, LOG_WORDS, SET_UNITS}
 use Rattle.pud_defs.specs.declared.space.TheConstants.{WORD_BYTES, SPACE_START, SPACE_BYTES}
 use Rattle.pud_defs.specs.declared.records.Puddle.{Puddle}
 use Rattle.pud_defs.specs.Layout.{device_words, frames_at}
@@ -17,7 +17,7 @@ use Rattle.pud_defs.specs.Bases.{is_legal_base}
 use Rattle.pud_defs.specs.Frames.{frame_at}
 use Rattle.pud_defs.specs.Entries.{Entry}
 use Rattle.pud_defs.specs.Replay.{over}
-use Rattle.log_store.specs.Store.{OpenLog}
+use Rattle.log_store.specs.Store.{OpenLog, longer}
 use Rattle.word_transaction.specs.Ground.{IsGround, undo_entry, redo_entry}
 use Rattle.word_transaction.specs.Running.{IsRunning, ByTransaction, nothing, Runs}
 use Rattle.word_transaction.proofs.Calls.{Runs-failed, Runs-then}
@@ -99,18 +99,19 @@ module _ (F size : ℕ) (at : List (ℕ × Puddle)) (o word : ℕ) (e : ℕ × P
 
 -- ---- a value asked for in a frame
 
-pub Saves-asked : (F size : ℕ) (at : List (ℕ × Puddle)) (word : ℕ) (e : ℕ × Puddle) (o : ℕ) (log long : OpenLog) (before : Image) (redo : List Entry) (address value : ℕ) (fault : Option HostFault) (old new : State)
+-- by the log behind the call, which at Ok has one entry more
+pub Saves-asked : (F size : ℕ) (at : List (ℕ × Puddle)) (word : ℕ) (e : ℕ × Puddle) (o : ℕ) (log now : OpenLog) (before : Image) (redo : List Entry) (address value : ℕ) (result : Result (Unit {0}) HostFault) (old new : State)
     → IsPlaced F at → device_words F ≤ size → log.at + LOG_WORDS ≤ frames_at F → slice_get at o ≡ Some e → word < FRAME_WORDS → address ≡ (e.1.base + WORD_BYTES * word) % 2 ^ 64
-    → IsSaving F at log before redo old.now.words
+    → IsSaving F at log before redo old.now.words → now.at ≡ log.at → IfOk result (λ _. now ≡ longer SET_UNITS log)
     → ((es : List Entry) → IsGround size log.at (pool_ground F at) → pool_may at address 1 ≡ true → IsRunning (pool_ground F at) log es before old.now.words
-    → Runs (pool_ground F at) long (es ++ redo_entry address (value ∷ []) ∷ []) before nothing fault old new)
-    → Saves F at long before (redo ++ redo_entry (e.1.base + WORD_BYTES * word) (value ∷ []) ∷ []) nothing fault old new
-Saves-asked F size at word e o log long before redo address value fault old new is_placed device apart there below is_address s runs =
+    → Runs (pool_ground F at) (longer SET_UNITS log) (es ++ redo_entry address (value ∷ []) ∷ []) before nothing (fault_of result) old new)
+    → Saves F at now before (redo ++ redo_entry (e.1.base + WORD_BYTES * word) (value ∷ []) ∷ []) nothing (fault_of result) old new
+Saves-asked F size at word e o log now before redo address value result old new is_placed device apart there below is_address s same is runs =
     let legal = all_there (λ d. is_legal_base d.1.base ≡ true) at o e is_placed.legal there in
     let named : address ≡ e.1.base + WORD_BYTES * word = is_address ∙ no_wrap e.1.base word legal below in
     let may = ap (λ a. pool_may at a 1) named ∙ may_name_words F at is_placed o word e there 1 (omega arith) (omega arith) in
-    record {
+    Saves-behind F at (longer SET_UNITS log) now before (redo ++ redo_entry (e.1.base + WORD_BYTES * word) (value ∷ []) ∷ []) nothing result old new same is (record {
       es = s.es ++ redo_entry address (value ∷ []) ∷ [];
       runs = runs s.es (is_ground F size log.at at is_placed device apart) may s.running;
       asks = asked-redo s.es address (value ∷ []) ∙ ap₂ (λ (es : List Entry) (a : ℕ). es ++ redo_entry a (value ∷ []) ∷ []) s.asks named;
-    }
+    })

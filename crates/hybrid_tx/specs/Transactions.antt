@@ -22,9 +22,20 @@ use Rattle.puddle_header.specs.Places.{place_of_slot, IsSlotOf}
 use Rattle.graph_read.specs.Reading.{place_in_pool}
 use Rattle.log_store.specs.Store.{OpenLog}
 use Rattle.word_transaction.specs.Ground.{redo_entry, asked}
-use Rattle.word_transaction.specs.Running.{IsRunning, IsIdle, Runs, Closes, Ends}
+use Rattle.word_transaction.specs.Running.{IsRunning, IsIdle, begun, Runs, Closes, Ends}
 use Rattle.hybrid_tx.specs.Grounds.{pool_ground, IsRewrittenAt}
 use Rattle.hybrid_tx.specs.Stores.{word_for, field_word, making, ByMaking}
+
+-- ---- an open transaction
+
+-- The log of an open transaction, and how many units it has taken: what each call was charged. The words of its log that count are at most as many.
+pub record OpenTx : Type 0 where
+  pub log : OpenLog
+  pub units : ℕ
+
+-- as it has just begun, in the log whose gate is this word
+abbrev pub begun_tx : (at : ℕ) → OpenTx
+begun_tx at = record { log = begun at; units = 0 }
 
 -- ---- what may be named, set and freed
 

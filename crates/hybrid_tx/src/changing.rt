@@ -1,9 +1,10 @@
 //! What a transaction changes of objects: a field or the root is set, and an object is made or freed.
 #![tactic(auto)]
 
-ghost use Rattle.std.specs.Prelude.{◌≡◌, ◌≢◌, ◌⊎◌, ◌+◌, ◌*◌, ◌<◌, ◌≤◌, ℕ, List, [], ◌∷◌, true, false, All, Option, Result, IfOk, OnErr, length};
+ghost use Rattle.std.specs.Prelude.{◌≡◌, ◌⊎◌, ◌+◌, ◌*◌, ◌<◌, ◌≤◌, ℕ, List, [], ◌∷◌, true, false, All, Option, Result, IfOk, OnErr, length};
 ghost use Rattle.pm_model.specs.Words.{reads};
 ghost use Rattle.pm_model.specs.Counts.{after_fault, fault_of};
+ghost use Rattle.pm_model.specs.Reads.{OnlyReads};
 ghost use Rattle.pm_model.specs.Changes.{placed, Changes};
 ghost use Rattle.pud_defs.specs.declared.layout.TheConstants.{LOG_WORDS, LOG_ENTRY_WORDS, MAX_FRAMES, MAX_FIELDS, NUMBER_LIMIT, SET_UNITS, NEW_UNITS};
 ghost use Rattle.pud_defs.specs.declared.space.TheConstants.{SLOT_SERIAL_WORD};
@@ -14,7 +15,6 @@ ghost use Rattle.pud_defs.specs.Types.{map_of};
 ghost use Rattle.pud_defs.specs.Entries.{Entry};
 ghost use Rattle.pud_defs.specs.Stored.{IsOnDevice, stored_in, place_word, IsFreePlace};
 ghost use Rattle.pud_defs.specs.Graph.{Graph, graph_of};
-ghost use Rattle.log_store.specs.Store.{longer};
 ghost use Rattle.pud_defs.specs.GraphChanges.{with_field, with_new, blank_object, without_object, with_root};
 ghost use Rattle.graph_laws.specs.Slots.{AreAllLive, IsLowestFreeSlot};
 ghost use Rattle.puddle_header.specs.Places.{place_of_slot, IsSlotOf};
@@ -30,6 +30,7 @@ use crate::Tx;
 use graph_read::find_serial;
 use object_alloc::{AllocFault, alloc_slot, free_slot};
 use pm_model::{Host, HostFault};
+use pud_defs::layout::SET_UNITS;
 use pud_defs::objects::Val;
 use pud_defs::records::{Puddle, Slot};
 use pud_defs::space::{
@@ -60,9 +61,7 @@ pub(crate) fn word_for<H: Host>(
     requires known { IsOnDevice frames pool.now }
     ensures word { H.tells → All (λ e. is_legal_base e.1.base ≡ true) pool.now → (image : Image) → reads (H.state h.old).now.words ≡ image
         → IfOk result (λ word. word ≡ word_for frames pool.now image x) }
-    ensures stays { H.tells → H.state h.new ≡ H.state h.old }
-    ensures cause { H.counts h.new ≡ after_fault (fault_of result) (H.counts h.old) }
-    ensures never_cut { fault_of result ≢ Option.Some HostFault.Cut }
+    ensures only_reads { OnlyReads H.tells H.state H.counts (fault_of result) h.old h.new }
 {
     match x {
         Val::Num(v) => Ok(Some(v)),
@@ -92,7 +91,7 @@ fn new_words(serial: u64, t: u32) -> [u64; MAX_SLOT_WORDS as usize]
 impl Tx {
     /// Gives field `f` of the object of serial `s` another value.
     ///
-    /// The field is below 30, the log lies before the frames, and it has room for three units. Where the object is live, its
+    /// The field is below 30, the log lies before the frames, and three units are left. Where the object is live, its
     /// puddle is rewritten, its type has the field and the field may hold the value, the pool's graph has it so at `Ok`, and what
     /// is asked for later stays; each image left until the transaction is committed is, with the log replayed, as at the
     /// beginning. Where no object has the serial, or none has the one that is to be named, nothing is done. The only errors are
@@ -109,17 +108,17 @@ impl Tx {
         requires few { frames ≤ MAX_FRAMES }
         requires device { device_words frames ≤ (H.counts h.old).size }
         requires known { IsOnDevice frames pool.now }
-        requires place { self.old.at + LOG_WORDS ≤ frames_at frames }
+        requires place { (self.old).log.at + LOG_WORDS ≤ frames_at frames }
         requires field { f < MAX_FIELDS }
-        requires room { self.old.used + SET_UNITS ≤ LOG_ENTRY_WORDS }
-        ensures at { self.new.at ≡ self.old.at }
-        ensures changes { H.tells → Changes (ByTransaction (pool_ground frames pool.now) self.old.at) (fault_of result) (H.state h.old) (H.state h.new) }
+        requires room { (self.old).units + SET_UNITS ≤ LOG_ENTRY_WORDS }
+        ensures at { (self.new).log.at ≡ (self.old).log.at }
+        ensures changes { H.tells → Changes (ByTransaction (pool_ground frames pool.now) (self.old).log.at) (fault_of result) (H.state h.old) (H.state h.new) }
         ensures runs { H.tells → (types : List (ℕ × ℕ)) (before : Image) (undone : Graph) (now : Graph) (laters : List Later) → IsPlaced frames pool.now
-            → IsRewrittenFor frames pool.now (reads (H.state h.old).now.words) s → IsOpenOn frames pool.now types self.old before undone now laters (H.state h.old).now.words → MaySet types now s f x
-            → RunsOn frames pool.now types self.new before undone (with_field s f x now) laters (fault_of result) (H.state h.old) (H.state h.new) }
+            → IsRewrittenFor frames pool.now (reads (H.state h.old).now.words) s → IsOpenOn frames pool.now types (self.old).log before undone now laters (H.state h.old).now.words → MaySet types now s f x
+            → RunsOn frames pool.now types (self.new).log before undone (with_field s f x now) laters (fault_of result) (H.state h.old) (H.state h.new) }
         ensures counts { H.tells → (types : List (ℕ × ℕ)) (before : Image) (undone : Graph) (now : Graph) (laters : List Later) → IsPlaced frames pool.now
-            → IsOpenOn frames pool.now types self.old before undone now laters (H.state h.old).now.words → MaySet types now s f x
-            → IfOk result (λ _. self.new ≡ longer SET_UNITS self.old) }
+            → IsOpenOn frames pool.now types (self.old).log before undone now laters (H.state h.old).now.words → MaySet types now s f x
+            → IfOk result (λ _. (self.new).units ≡ (self.old).units + SET_UNITS) }
         ensures nothing { H.tells → All (λ e. is_legal_base e.1.base ≡ true) pool.now
             → (place_in_pool frames pool.now (reads (H.state h.old).now.words) s ≡ Option.None) ⊎ (word_for frames pool.now (reads (H.state h.old).now.words) x ≡ Option.None)
             → (H.state h.new ≡ H.state h.old) × (self.new ≡ self.old) }
@@ -148,21 +147,21 @@ impl Tx {
         requires few { frames ≤ MAX_FRAMES }
         requires device { device_words frames ≤ (H.counts h.old).size }
         requires known { IsOnDevice frames pool.now }
-        requires place { self.old.at + LOG_WORDS ≤ frames_at frames }
+        requires place { (self.old).log.at + LOG_WORDS ≤ frames_at frames }
         requires within { IsSlotOf pool.now at.now }
-        requires room { self.old.used + NEW_UNITS ≤ LOG_ENTRY_WORDS }
-        ensures at { self.new.at ≡ self.old.at }
-        ensures changes { H.tells → Changes (ByTransaction (pool_ground frames pool.now) self.old.at) (fault_of result) (H.state h.old) (H.state h.new) }
+        requires room { (self.old).units + NEW_UNITS ≤ LOG_ENTRY_WORDS }
+        ensures at { (self.new).log.at ≡ (self.old).log.at }
+        ensures changes { H.tells → Changes (ByTransaction (pool_ground frames pool.now) (self.old).log.at) (fault_of result) (H.state h.old) (H.state h.new) }
         ensures runs { H.tells → (types : List (ℕ × ℕ)) (m : ℕ) (before : Image) (undone : Graph) (now : Graph) (laters : List Later) → IsPlaced frames pool.now
-            → IsOpenOn frames pool.now types self.old before undone now laters (H.state h.old).now.words → map_of t types ≡ Option.Some m → now.next_serial < NUMBER_LIMIT
+            → IsOpenOn frames pool.now types (self.old).log before undone now laters (H.state h.old).now.words → map_of t types ≡ Option.Some m → now.next_serial < NUMBER_LIMIT
             → IsFreePlace (stored_in frames pool.now (reads (H.state h.old).now.words)) (place_of_slot at.now)
-            → RunsOn frames pool.now types self.new before undone (with_new (blank_object t m) now) laters (fault_of result) (H.state h.old) (H.state h.new) }
+            → RunsOn frames pool.now types (self.new).log before undone (with_new (blank_object t m) now) laters (fault_of result) (H.state h.old) (H.state h.new) }
         ensures makes { H.tells → (types : List (ℕ × ℕ)) (before : Image) (undone : Graph) (now : Graph) (laters : List Later) → IsPlaced frames pool.now
-            → IsOpenOn frames pool.now types self.old before undone now laters (H.state h.old).now.words → now.next_serial < NUMBER_LIMIT
-            → MakesIn frames pool.now self.old.at at.now t (fault_of result) (H.state h.old) (H.state h.new) }
+            → IsOpenOn frames pool.now types (self.old).log before undone now laters (H.state h.old).now.words → now.next_serial < NUMBER_LIMIT
+            → MakesIn frames pool.now (self.old).log.at at.now t (fault_of result) (H.state h.old) (H.state h.new) }
         ensures serial { H.tells → (types : List (ℕ × ℕ)) (now : Graph) → graph_of types (stored_in frames pool.now (reads (H.state h.old).now.words)) ≡ Option.Some now
             → IfOk result (λ serial. serial ≡ now.next_serial) }
-        ensures counts { IfOk result (λ _. self.new ≡ longer NEW_UNITS self.old) }
+        ensures counts { IfOk result (λ _. (self.new).units ≡ (self.old).units + NEW_UNITS) }
         ensures cause { H.counts h.new ≡ after_fault (fault_of result) (H.counts h.old) }
     {
         let (first, _) = pool[0];
@@ -183,7 +182,7 @@ impl Tx {
     /// Makes an object of type `t` in the lowest free slot, each of its fields 0 or null. The answer is its serial, the next
     /// one of the pool, or 0 where no slot is free, and then nothing is done.
     ///
-    /// The log lies before the frames, and has room for 37 units. Where the type is defined and the next serial is below 2^63,
+    /// The log lies before the frames, and 37 units are left. Where the type is defined and the next serial is below 2^63,
     /// the pool's graph has the object at `Ok`, and what is asked for later stays; each image left until the transaction is
     /// committed is, with the log replayed, as at the beginning. Outside the log only the words of that slot and the next serial
     /// are written. The only errors are the host's own. Four fences.
@@ -197,21 +196,21 @@ impl Tx {
         requires few { frames ≤ MAX_FRAMES }
         requires device { device_words frames ≤ (H.counts h.old).size }
         requires known { IsOnDevice frames pool.now }
-        requires place { self.old.at + LOG_WORDS ≤ frames_at frames }
-        requires room { self.old.used + NEW_UNITS ≤ LOG_ENTRY_WORDS }
-        ensures at { self.new.at ≡ self.old.at }
-        ensures changes { H.tells → Changes (ByTransaction (pool_ground frames pool.now) self.old.at) (fault_of result) (H.state h.old) (H.state h.new) }
+        requires place { (self.old).log.at + LOG_WORDS ≤ frames_at frames }
+        requires room { (self.old).units + NEW_UNITS ≤ LOG_ENTRY_WORDS }
+        ensures at { (self.new).log.at ≡ (self.old).log.at }
+        ensures changes { H.tells → Changes (ByTransaction (pool_ground frames pool.now) (self.old).log.at) (fault_of result) (H.state h.old) (H.state h.new) }
         ensures runs { H.tells → (types : List (ℕ × ℕ)) (m : ℕ) (before : Image) (undone : Graph) (now : Graph) (laters : List Later) → IsPlaced frames pool.now
-            → IsOpenOn frames pool.now types self.old before undone now laters (H.state h.old).now.words → map_of t types ≡ Option.Some m → now.next_serial < NUMBER_LIMIT
+            → IsOpenOn frames pool.now types (self.old).log before undone now laters (H.state h.old).now.words → map_of t types ≡ Option.Some m → now.next_serial < NUMBER_LIMIT
             → (AreAllLive (stored_in frames pool.now (reads (H.state h.old).now.words)) → ⊥)
-            → RunsOn frames pool.now types self.new before undone (with_new (blank_object t m) now) laters (fault_of result) (H.state h.old) (H.state h.new) }
+            → RunsOn frames pool.now types (self.new).log before undone (with_new (blank_object t m) now) laters (fault_of result) (H.state h.old) (H.state h.new) }
         ensures makes { H.tells → (types : List (ℕ × ℕ)) (before : Image) (undone : Graph) (now : Graph) (laters : List Later) → IsPlaced frames pool.now
-            → IsOpenOn frames pool.now types self.old before undone now laters (H.state h.old).now.words → now.next_serial < NUMBER_LIMIT
+            → IsOpenOn frames pool.now types (self.old).log before undone now laters (H.state h.old).now.words → now.next_serial < NUMBER_LIMIT
             → (slot : Slot) → IsSlotOf pool.now slot → IsLowestFreeSlot (stored_in frames pool.now (reads (H.state h.old).now.words)) (place_of_slot slot)
-            → MakesIn frames pool.now self.old.at slot t (fault_of result) (H.state h.old) (H.state h.new) }
+            → MakesIn frames pool.now (self.old).log.at slot t (fault_of result) (H.state h.old) (H.state h.new) }
         ensures serial { H.tells → (types : List (ℕ × ℕ)) (now : Graph) → graph_of types (stored_in frames pool.now (reads (H.state h.old).now.words)) ≡ Option.Some now
             → (AreAllLive (stored_in frames pool.now (reads (H.state h.old).now.words)) → ⊥) → IfOk result (λ serial. serial ≡ now.next_serial) }
-        ensures counts { H.tells → (AreAllLive (stored_in frames pool.now (reads (H.state h.old).now.words)) → ⊥) → IfOk result (λ _. self.new ≡ longer NEW_UNITS self.old) }
+        ensures counts { H.tells → (AreAllLive (stored_in frames pool.now (reads (H.state h.old).now.words)) → ⊥) → IfOk result (λ _. (self.new).units ≡ (self.old).units + NEW_UNITS) }
         ensures full { H.tells → AreAllLive (stored_in frames pool.now (reads (H.state h.old).now.words))
             → IfOk result (λ serial. serial ≡ 0) × (H.state h.new ≡ H.state h.old) × (self.new ≡ self.old) }
         ensures cause { H.counts h.new ≡ after_fault (fault_of result) (H.counts h.old) }
@@ -234,25 +233,26 @@ impl Tx {
         requires few { frames ≤ MAX_FRAMES }
         requires device { device_words frames ≤ (H.counts h.old).size }
         requires known { IsOnDevice frames pool.now }
-        requires place { self.old.at + LOG_WORDS ≤ frames_at frames }
+        requires place { (self.old).log.at + LOG_WORDS ≤ frames_at frames }
         requires within { IsSlotOf pool.now at }
-        requires room { self.old.used + SET_UNITS ≤ LOG_ENTRY_WORDS }
-        ensures at { self.new.at ≡ self.old.at }
-        ensures done { IfOk result (λ _. self.new ≡ longer SET_UNITS self.old) }
-        ensures changes { H.tells → Changes (ByTransaction (pool_ground frames pool.now) self.old.at) (fault_of result) (H.state h.old) (H.state h.new) }
-        ensures saves { H.tells → IsPlaced frames pool.now → (before : Image) (redo : List Entry) → IsSaving frames pool.now self.old before redo (H.state h.old).now.words
-            → Saves frames pool.now self.new before redo (placed (serial_word_at frames at) (0 ∷ [])) (fault_of result) (H.state h.old) (H.state h.new) }
+        requires room { (self.old).units + SET_UNITS ≤ LOG_ENTRY_WORDS }
+        ensures at { (self.new).log.at ≡ (self.old).log.at }
+        ensures counts { IfOk result (λ _. (self.new).units ≡ (self.old).units + SET_UNITS) }
+        ensures changes { H.tells → Changes (ByTransaction (pool_ground frames pool.now) (self.old).log.at) (fault_of result) (H.state h.old) (H.state h.new) }
+        ensures saves { H.tells → IsPlaced frames pool.now → (before : Image) (redo : List Entry) → IsSaving frames pool.now (self.old).log before redo (H.state h.old).now.words
+            → Saves frames pool.now (self.new).log before redo (placed (serial_word_at frames at) (0 ∷ [])) (fault_of result) (H.state h.old) (H.state h.new) }
         ensures cause { H.counts h.new ≡ after_fault (fault_of result) (H.counts h.old) }
     {
         let serial = slot_begins(&at) + SLOT_SERIAL_WORD;
         let first = frame_at(frames, at.frame) + serial;
         self.words.save(h, slot_address(pool, &at), first, 1)?;
+        self.units += SET_UNITS;
         free_slot(h, frames, at)
     }
 
     /// Frees the object of serial `s`: its slot may hold a new one from then on.
     ///
-    /// The log lies before the frames, and it has room for three units. Where the object is live, nothing holds it, and nothing
+    /// The log lies before the frames, and three units are left. Where the object is live, nothing holds it, and nothing
     /// that is asked for later names it, the pool's graph is without it at `Ok`, and what is asked for stays; each image left
     /// until the transaction is committed is, with the log replayed, as at the beginning. Where no object has the serial nothing
     /// is done. The only errors are the host's own. Two fences.
@@ -266,16 +266,16 @@ impl Tx {
         requires few { frames ≤ MAX_FRAMES }
         requires device { device_words frames ≤ (H.counts h.old).size }
         requires known { IsOnDevice frames pool.now }
-        requires place { self.old.at + LOG_WORDS ≤ frames_at frames }
-        requires room { self.old.used + SET_UNITS ≤ LOG_ENTRY_WORDS }
-        ensures at { self.new.at ≡ self.old.at }
-        ensures changes { H.tells → Changes (ByTransaction (pool_ground frames pool.now) self.old.at) (fault_of result) (H.state h.old) (H.state h.new) }
+        requires place { (self.old).log.at + LOG_WORDS ≤ frames_at frames }
+        requires room { (self.old).units + SET_UNITS ≤ LOG_ENTRY_WORDS }
+        ensures at { (self.new).log.at ≡ (self.old).log.at }
+        ensures changes { H.tells → Changes (ByTransaction (pool_ground frames pool.now) (self.old).log.at) (fault_of result) (H.state h.old) (H.state h.new) }
         ensures runs { H.tells → (types : List (ℕ × ℕ)) (before : Image) (undone : Graph) (now : Graph) (laters : List Later) → IsPlaced frames pool.now
-            → IsOpenOn frames pool.now types self.old before undone now laters (H.state h.old).now.words → MayFree now s → laters_name s laters ≡ false
-            → RunsOn frames pool.now types self.new before undone (without_object s now) laters (fault_of result) (H.state h.old) (H.state h.new) }
+            → IsOpenOn frames pool.now types (self.old).log before undone now laters (H.state h.old).now.words → MayFree now s → laters_name s laters ≡ false
+            → RunsOn frames pool.now types (self.new).log before undone (without_object s now) laters (fault_of result) (H.state h.old) (H.state h.new) }
         ensures counts { H.tells → (types : List (ℕ × ℕ)) (before : Image) (undone : Graph) (now : Graph) (laters : List Later)
-            → IsOpenOn frames pool.now types self.old before undone now laters (H.state h.old).now.words → MayFree now s
-            → IfOk result (λ _. self.new ≡ longer SET_UNITS self.old) }
+            → IsOpenOn frames pool.now types (self.old).log before undone now laters (H.state h.old).now.words → MayFree now s
+            → IfOk result (λ _. (self.new).units ≡ (self.old).units + SET_UNITS) }
         ensures nothing { H.tells → place_in_pool frames pool.now (reads (H.state h.old).now.words) s ≡ Option.None
             → (H.state h.new ≡ H.state h.old) × (self.new ≡ self.old) }
         ensures cause { H.counts h.new ≡ after_fault (fault_of result) (H.counts h.old) }
@@ -288,7 +288,7 @@ impl Tx {
 
     /// Makes the object of serial `s` the pool's root, or takes the root away with 0.
     ///
-    /// The log lies before the frames, and it has room for three units. Where `s` is 0 or its object is live, and the puddle of
+    /// The log lies before the frames, and three units are left. Where `s` is 0 or its object is live, and the puddle of
     /// ordinal 0 is rewritten, it is the root of the pool's graph at `Ok`, and what is asked for later stays; each image left
     /// until the transaction is committed is, with the log replayed, as at the beginning. Where no object has the serial, or the
     /// pool has no puddle, nothing is done. The only errors are the host's own. Two fences.
@@ -302,16 +302,16 @@ impl Tx {
         requires few { frames ≤ MAX_FRAMES }
         requires device { device_words frames ≤ (H.counts h.old).size }
         requires known { IsOnDevice frames pool.now }
-        requires place { self.old.at + LOG_WORDS ≤ frames_at frames }
-        requires room { self.old.used + SET_UNITS ≤ LOG_ENTRY_WORDS }
-        ensures at { self.new.at ≡ self.old.at }
-        ensures changes { H.tells → Changes (ByTransaction (pool_ground frames pool.now) self.old.at) (fault_of result) (H.state h.old) (H.state h.new) }
+        requires place { (self.old).log.at + LOG_WORDS ≤ frames_at frames }
+        requires room { (self.old).units + SET_UNITS ≤ LOG_ENTRY_WORDS }
+        ensures at { (self.new).log.at ≡ (self.old).log.at }
+        ensures changes { H.tells → Changes (ByTransaction (pool_ground frames pool.now) (self.old).log.at) (fault_of result) (H.state h.old) (H.state h.new) }
         ensures runs { H.tells → (types : List (ℕ × ℕ)) (before : Image) (undone : Graph) (now : Graph) (laters : List Later) → IsPlaced frames pool.now
-            → IsRewrittenAt pool.now 0 → IsOpenOn frames pool.now types self.old before undone now laters (H.state h.old).now.words → MayName now s
-            → RunsOn frames pool.now types self.new before undone (with_root s now) laters (fault_of result) (H.state h.old) (H.state h.new) }
+            → IsRewrittenAt pool.now 0 → IsOpenOn frames pool.now types (self.old).log before undone now laters (H.state h.old).now.words → MayName now s
+            → RunsOn frames pool.now types (self.new).log before undone (with_root s now) laters (fault_of result) (H.state h.old) (H.state h.new) }
         ensures counts { H.tells → (types : List (ℕ × ℕ)) (before : Image) (undone : Graph) (now : Graph) (laters : List Later) → IsPlaced frames pool.now
-            → IsOpenOn frames pool.now types self.old before undone now laters (H.state h.old).now.words → MayName now s
-            → IfOk result (λ _. self.new ≡ longer SET_UNITS self.old) }
+            → IsOpenOn frames pool.now types (self.old).log before undone now laters (H.state h.old).now.words → MayName now s
+            → IfOk result (λ _. (self.new).units ≡ (self.old).units + SET_UNITS) }
         ensures nothing { H.tells → All (λ e. is_legal_base e.1.base ≡ true) pool.now
             → (length pool.now ≡ 0) ⊎ (word_for frames pool.now (reads (H.state h.old).now.words) (Val.Ref s) ≡ Option.None)
             → (H.state h.new ≡ H.state h.old) × (self.new ≡ self.old) }

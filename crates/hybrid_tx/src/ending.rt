@@ -39,17 +39,20 @@ impl Tx {
     /// It reads the log's entries up to the first that asks for a value. Where there is none the only word written is the log's
     /// gate, and it takes three fences; else the loads of a replay, and four fences.
     pub fn commit<H: Host>(self, h: &mut H, frames: u32) -> Result<(), HostFault>
-        requires log { self.at + LOG_WORDS ≤ (H.counts h.old).size }
+        requires log { self.log.at + LOG_WORDS ≤ (H.counts h.old).size }
         requires tables { HasPuddleTable frames (H.counts h.old).size }
         ensures ends { H.tells → (pool : List (ℕ × Puddle)) (types : List (ℕ × ℕ)) (before : Image) (undone : Graph) (now : Graph) (laters : List Later) → IsPlaced frames pool
-            → device_words frames ≤ (H.counts h.old).size → self.at + LOG_WORDS ≤ frames_at frames → IsOpenOn frames pool types self before undone now laters (H.state h.old).now.words
-            → All (λ l. IsRewrittenFor frames pool (reads (H.state h.old).now.words) l.s) laters → (laters ≢ [] → CanRedo (pool_ground frames pool) frames self.at (H.state h.old).now.words)
-            → EndsOn frames pool types self.at before undone (with_laters laters now) (fault_of result) (H.state h.old) (H.state h.new) }
-        ensures gate { H.tells → (es : List Entry) → IsOpen self es (H.state h.old).now.words → asks es ≡ false → Changes (ByCommit self) (fault_of result) (H.state h.old) (H.state h.new) }
+            → device_words frames ≤ (H.counts h.old).size → self.log.at + LOG_WORDS ≤ frames_at frames → IsOpenOn frames pool types self.log before undone now laters (H.state h.old).now.words
+            → All (λ l. IsRewrittenFor frames pool (reads (H.state h.old).now.words) l.s) laters → (laters ≢ [] → CanRedo (pool_ground frames pool) frames self.log.at (H.state h.old).now.words)
+            → EndsOn frames pool types self.log.at before undone (with_laters laters now) (fault_of result) (H.state h.old) (H.state h.new) }
+        ensures gate { H.tells → (es : List Entry) → IsOpen self.log es (H.state h.old).now.words → asks es ≡ false → Changes (ByCommit self.log) (fault_of result) (H.state h.old) (H.state h.new) }
         ensures any { H.tells → Changes Anything (fault_of result) (H.state h.old) (H.state h.new) }
         ensures cause { H.counts h.new ≡ after_fault (fault_of result) (H.counts h.old) }
     {
-        let Tx { words } = self;
+        let Tx {
+            words,
+            units: _units,
+        } = self;
         words.commit(h, frames)
     }
 
@@ -61,37 +64,43 @@ impl Tx {
     ///
     /// Where nothing was set, made or asked for it takes no load, and one fence; else the loads of a replay, and two fences.
     pub fn abort<H: Host>(self, h: &mut H, frames: u32) -> Result<(), HostFault>
-        requires log { self.at + LOG_WORDS ≤ (H.counts h.old).size }
+        requires log { self.log.at + LOG_WORDS ≤ (H.counts h.old).size }
         requires tables { HasPuddleTable frames (H.counts h.old).size }
         ensures closes { H.tells → (pool : List (ℕ × Puddle)) (types : List (ℕ × ℕ)) (before : Image) (undone : Graph) (now : Graph) (laters : List Later) → IsPlaced frames pool
-            → device_words frames ≤ (H.counts h.old).size → self.at + LOG_WORDS ≤ frames_at frames → IsOpenOn frames pool types self before undone now laters (H.state h.old).now.words
+            → device_words frames ≤ (H.counts h.old).size → self.log.at + LOG_WORDS ≤ frames_at frames → IsOpenOn frames pool types self.log before undone now laters (H.state h.old).now.words
             → HasPlaces (pool_ground frames pool) (puddle_word (tables_of frames (reads (H.state h.old).now.words))) → HasOneTable frames (H.state h.old).now.words
-            → ClosesOn frames pool types self.at before undone (fault_of result) (H.state h.old) (H.state h.new) }
+            → ClosesOn frames pool types self.log.at before undone (fault_of result) (H.state h.old) (H.state h.new) }
         ensures any { H.tells → Changes Anything (fault_of result) (H.state h.old) (H.state h.new) }
         ensures cause { H.counts h.new ≡ after_fault (fault_of result) (H.counts h.old) }
     {
-        let Tx { words } = self;
+        let Tx {
+            words,
+            units: _units,
+        } = self;
         words.abort(h, frames)
     }
 
     /// Gives the transaction up where power was lost or the host failed. No device is touched.
     pub fn lose(self) {
-        let Tx { words } = self;
+        let Tx {
+            words,
+            units: _units,
+        } = self;
         words.lose();
     }
 
     /// The word of its log's gate.
     pub fn at(&self) -> u32
-        ensures { result ≡ self.now.at }
+        ensures { result ≡ (self.now).log.at }
     {
         self.words.at()
     }
 
-    /// How many units of its log it has taken, from 0 to 1,016: two for each entry, and one for each value.
+    /// How many units it has taken, from 0 to 1,016.
     pub fn units(&self) -> u32
-        ensures used { result ≡ self.now.used }
+        ensures units { result ≡ (self.now).units }
         ensures within { result ≤ LOG_ENTRY_WORDS }
     {
-        self.words.units()
+        self.units
     }
 }

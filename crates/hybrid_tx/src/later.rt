@@ -4,6 +4,7 @@
 ghost use Rattle.std.specs.Prelude.{◌≡◌, ◌≢◌, ◌⊎◌, ◌+◌, ◌*◌, ◌<◌, ◌≤◌, ◌++◌, ◌∷◌, [], ℕ, List, true, false, All, map, Option, Result, IfOk, IfSome, OnErr, length};
 ghost use Rattle.pm_model.specs.Words.{reads};
 ghost use Rattle.pm_model.specs.Counts.{after_fault, fault_of};
+ghost use Rattle.pm_model.specs.Reads.{OnlyReads};
 ghost use Rattle.pm_model.specs.Changes.{Changes};
 ghost use Rattle.pud_defs.specs.declared.layout.TheConstants.{LOG_WORDS, LOG_ENTRY_WORDS, MAX_FRAMES, MAX_FIELDS, SET_UNITS};
 ghost use Rattle.pud_defs.specs.declared.log_words.TheConstants.{REDO_ORDER};
@@ -16,7 +17,7 @@ ghost use Rattle.pud_defs.specs.Stored.{IsOnDevice, stored_in};
 ghost use Rattle.pud_defs.specs.Graph.{Graph, graph_of};
 ghost use Rattle.pud_defs.specs.Laters.{Later, later_names, laters_name};
 ghost use Rattle.log_entry.specs.Reading.{entry_from};
-ghost use Rattle.log_store.specs.Store.{InLog, longer};
+ghost use Rattle.log_store.specs.Store.{InLog};
 ghost use Rattle.graph_laws.specs.Changes.{AreBases};
 ghost use Rattle.puddle_header.specs.Places.{IsSlotOf};
 ghost use Rattle.graph_read.specs.Reading.{place_in_pool};
@@ -103,9 +104,7 @@ fn names<H: Host>(
         → graph_of (types_of image) (stored_in frames pool.now image) ≡ Option.Some now → IsLater frames pool.now (types_of image) image now l (entry_from image entry.now)
         → s ≢ 0 → place_in_pool frames pool.now image s ≡ Option.Some p → address ≡ address_at pool.now p → IfOk result (λ named. named ≡ later_names s l) }
     ensures saves { entry.now.order ≢ REDO_ORDER → IfOk result (λ named. named ≡ false) }
-    ensures stays { H.tells → H.state h.new ≡ H.state h.old }
-    ensures cause { H.counts h.new ≡ after_fault (fault_of result) (H.counts h.old) }
-    ensures never_cut { fault_of result ≢ Option.Some HostFault.Cut }
+    ensures only_reads { OnlyReads H.tells H.state H.counts (fault_of result) h.old h.new }
 {
     if entry.order != REDO_ORDER {
         return Ok(false);
@@ -132,7 +131,7 @@ impl Tx {
     /// Asks for another value of field `f` of the object of serial `s`: it comes when the transaction is committed, behind what is
     /// set and what was asked for before.
     ///
-    /// The field is below 30, the log lies before the frames, and it has room for three units. Where the object is live, its
+    /// The field is below 30, the log lies before the frames, and three units are left. Where the object is live, its
     /// type has the field and the field may hold the value, it is asked for at `Ok`; the pool's graph stays, and each image left
     /// until the transaction is committed is, with the log replayed, as at the beginning. Where no object has the serial, or none
     /// has the one that is to be named, nothing is done. The only errors are the host's own. Two fences.
@@ -148,17 +147,17 @@ impl Tx {
         requires few { frames ≤ MAX_FRAMES }
         requires device { device_words frames ≤ (H.counts h.old).size }
         requires known { IsOnDevice frames pool.now }
-        requires place { self.old.at + LOG_WORDS ≤ frames_at frames }
+        requires place { (self.old).log.at + LOG_WORDS ≤ frames_at frames }
         requires field { f < MAX_FIELDS }
-        requires room { self.old.used + SET_UNITS ≤ LOG_ENTRY_WORDS }
-        ensures at { self.new.at ≡ self.old.at }
-        ensures changes { H.tells → Changes (InLog self.old.at) (fault_of result) (H.state h.old) (H.state h.new) }
+        requires room { (self.old).units + SET_UNITS ≤ LOG_ENTRY_WORDS }
+        ensures at { (self.new).log.at ≡ (self.old).log.at }
+        ensures changes { H.tells → Changes (InLog (self.old).log.at) (fault_of result) (H.state h.old) (H.state h.new) }
         ensures runs { H.tells → (types : List (ℕ × ℕ)) (before : Image) (undone : Graph) (now : Graph) (laters : List Later) → IsPlaced frames pool.now
-            → IsOpenOn frames pool.now types self.old before undone now laters (H.state h.old).now.words → MaySet types now s f x
-            → RunsOn frames pool.now types self.new before undone now (laters ++ record { s = s; f = f; x = x } ∷ []) (fault_of result) (H.state h.old) (H.state h.new) }
+            → IsOpenOn frames pool.now types (self.old).log before undone now laters (H.state h.old).now.words → MaySet types now s f x
+            → RunsOn frames pool.now types (self.new).log before undone now (laters ++ record { s = s; f = f; x = x } ∷ []) (fault_of result) (H.state h.old) (H.state h.new) }
         ensures counts { H.tells → (types : List (ℕ × ℕ)) (before : Image) (undone : Graph) (now : Graph) (laters : List Later) → IsPlaced frames pool.now
-            → IsOpenOn frames pool.now types self.old before undone now laters (H.state h.old).now.words → MaySet types now s f x
-            → IfOk result (λ _. self.new ≡ longer SET_UNITS self.old) }
+            → IsOpenOn frames pool.now types (self.old).log before undone now laters (H.state h.old).now.words → MaySet types now s f x
+            → IfOk result (λ _. (self.new).units ≡ (self.old).units + SET_UNITS) }
         ensures nothing { H.tells → All (λ e. is_legal_base e.1.base ≡ true) pool.now
             → (place_in_pool frames pool.now (reads (H.state h.old).now.words) s ≡ Option.None) ⊎ (word_for frames pool.now (reads (H.state h.old).now.words) x ≡ Option.None)
             → (H.state h.new ≡ H.state h.old) × (self.new ≡ self.old) }
@@ -189,12 +188,10 @@ impl Tx {
         requires few { frames ≤ MAX_FRAMES }
         requires device { device_words frames ≤ (H.counts h.old).size }
         requires known { IsOnDevice frames pool.now }
-        requires place { self.now.at + LOG_WORDS ≤ (H.counts h.old).size }
+        requires place { (self.now).log.at + LOG_WORDS ≤ (H.counts h.old).size }
         ensures names { H.tells → (image : Image) → reads (H.state h.old).now.words ≡ image → (before : Image) (undone : Graph) (now : Graph) (laters : List Later) → IsPlaced frames pool.now
-            → IsOpenOn frames pool.now (types_of image) self.now before undone now laters (H.state h.old).now.words → s ≢ 0 → IfOk result (λ named. named ≡ laters_name s laters) }
-        ensures stays { H.tells → H.state h.new ≡ H.state h.old }
-        ensures cause { H.counts h.new ≡ after_fault (fault_of result) (H.counts h.old) }
-        ensures never_cut { fault_of result ≢ Option.Some HostFault.Cut }
+            → IsOpenOn frames pool.now (types_of image) (self.now).log before undone now laters (H.state h.old).now.words → s ≢ 0 → IfOk result (λ named. named ≡ laters_name s laters) }
+        ensures only_reads { OnlyReads H.tells H.state H.counts (fault_of result) h.old h.new }
     {
         let Some(at) = find_serial(h, frames, pool, s)? else {
             return Ok(false);

@@ -16,8 +16,6 @@ pub mod laws;
 pub mod open_laws;
 mod running;
 
-ghost use Rattle.log_store.specs.Store.{OpenLog};
-
 use std::marker::Model;
 use word_transaction::WordTransaction;
 
@@ -25,10 +23,18 @@ use word_transaction::WordTransaction;
 /// host failed.
 pub struct Tx {
     words: WordTransaction,
+    /// What its calls were charged, at least the entry words of its log that count.
+    units: u32,
 }
 
 impl Model for Tx {
-    ghost Value = { OpenLog };
+    ghost use Rattle.std.specs.Prelude.{◌≤◌};
+    ghost use Rattle.pud_defs.specs.declared.layout.TheConstants.{LOG_ENTRY_WORDS};
+    ghost use Rattle.hybrid_tx.specs.Transactions.{OpenTx};
 
-    ghost view = { λ tx. tx.words };
+    ghost Value = { OpenTx };
+
+    ghost view = { λ tx. record { log = tx.words; units = tx.units } };
+
+    ghost invariant = { λ tx. (tx.words.used ≤ tx.units) × (tx.units ≤ LOG_ENTRY_WORDS) };
 }

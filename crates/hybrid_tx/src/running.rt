@@ -21,11 +21,11 @@ ghost use Rattle.word_transaction.specs.Ground.{Ground, IsGround, undo_entry, re
 ghost use Rattle.word_transaction.specs.Running.{IsRunning, IsIdle, nothing, begun, ByTransaction, Runs};
 ghost use Rattle.hybrid_tx.specs.Grounds.{pool_ground, IsPlaced};
 ghost use Rattle.hybrid_tx.specs.Stores.{ByPut};
-ghost use Rattle.hybrid_tx.specs.Transactions.{IsSaving, IsOpenOn, Saves};
+ghost use Rattle.hybrid_tx.specs.Transactions.{begun_tx, IsSaving, IsOpenOn, Saves};
 
 use crate::Tx;
 use pm_model::{Host, HostFault};
-use pud_defs::layout::log_number_at;
+use pud_defs::layout::{ENTRY_HEADER_WORDS, SET_UNITS, log_number_at};
 use pud_defs::records::Puddle;
 use pud_defs::space::{frame_at, word_address};
 use word_transaction::WordTransaction;
@@ -41,18 +41,18 @@ impl Tx {
         requires few { frames ≤ MAX_FRAMES }
         requires device { device_words frames ≤ (H.counts h.old).size }
         requires known { log < ALL_LOGS }
-        ensures opened { IfOk result (λ tx. tx ≡ begun (log_number_at frames log)) }
+        ensures opened { IfOk result (λ tx. tx ≡ begun_tx (log_number_at frames log)) }
         ensures persists { H.tells → Persists (only (log_number_at frames log) RUNNING_GATE) (fault_of result) (H.state h.old) (H.state h.new) }
         ensures runs { H.tells → (at : List (ℕ × Puddle)) (before : Image) → IsPlaced frames at → IsIdle (pool_ground frames at) (log_number_at frames log) before (H.state h.old).now.words
             → Runs (pool_ground frames at) (begun (log_number_at frames log)) [] before nothing (fault_of result) (H.state h.old) (H.state h.new) }
         ensures open { H.tells → (at : List (ℕ × Puddle)) (before : Image) → IsPlaced frames at → IsIdle (pool_ground frames at) (log_number_at frames log) before (H.state h.old).now.words
             → (types : List (ℕ × ℕ)) (g : Graph) → graph_of types (stored_in frames at before) ≡ Option.Some g
-            → IfOk result (λ tx. IsOpenOn frames at types tx before g g [] (H.state h.new).now.words) }
+            → IfOk result (λ tx. IsOpenOn frames at types tx.log before g g [] (H.state h.new).now.words) }
         ensures cause { H.counts h.new ≡ after_fault (fault_of result) (H.counts h.old) }
     {
         let gate = log_number_at(frames, log);
         let words = WordTransaction::begin(h, gate)?;
-        Ok(Tx { words })
+        Ok(Tx { words, units: 0 })
     }
 
     /// Keeps in the log what the words from device word `first` on hold, and then gives them these values in turn, 1 to 32.
@@ -63,22 +63,24 @@ impl Tx {
         first: u32,
         vals: &[u64],
     ) -> Result<(), HostFault>
-        requires place { self.old.at + LOG_WORDS ≤ (H.counts h.old).size }
+        requires place { (self.old).log.at + LOG_WORDS ≤ (H.counts h.old).size }
         requires some { 1 ≤ length vals.now }
         requires no_more { length vals.now ≤ MAX_ENTRY_VALUES }
         requires within { first + length vals.now ≤ (H.counts h.old).size }
-        requires room { self.old.used + (length vals.now + ENTRY_HEADER_WORDS) ≤ LOG_ENTRY_WORDS }
-        ensures at { self.new.at ≡ self.old.at }
-        ensures done { IfOk result (λ _. self.new ≡ longer (length vals.now + ENTRY_HEADER_WORDS) self.old) }
-        ensures changes { H.tells → Changes (ByPut self.old.at first vals.now) (fault_of result) (H.state h.old) (H.state h.new) }
-        ensures runs { H.tells → (size : ℕ) → size ≡ (H.counts h.old).size → (g : Ground) → (es : List Entry) → (before : Image) → IsGround size self.old.at g
-            → g.may address (length vals.now) ≡ true → g.place address ≡ Option.Some first → IsRunning g self.old es before (H.state h.old).now.words
-            → Runs g (longer (length vals.now + ENTRY_HEADER_WORDS) self.old) (es ++ undo_entry address (words_from (reads (H.state h.old).now.words) first (length vals.now)) ∷ []) before
+        requires room { (self.old).units + (length vals.now + ENTRY_HEADER_WORDS) ≤ LOG_ENTRY_WORDS }
+        ensures at { (self.new).log.at ≡ (self.old).log.at }
+        ensures done { IfOk result (λ _. (self.new).log ≡ longer (length vals.now + ENTRY_HEADER_WORDS) (self.old).log) }
+        ensures counts { IfOk result (λ _. (self.new).units ≡ (self.old).units + (length vals.now + ENTRY_HEADER_WORDS)) }
+        ensures changes { H.tells → Changes (ByPut (self.old).log.at first vals.now) (fault_of result) (H.state h.old) (H.state h.new) }
+        ensures runs { H.tells → (size : ℕ) → size ≡ (H.counts h.old).size → (g : Ground) → (es : List Entry) → (before : Image) → IsGround size (self.old).log.at g
+            → g.may address (length vals.now) ≡ true → g.place address ≡ Option.Some first → IsRunning g (self.old).log es before (H.state h.old).now.words
+            → Runs g (longer (length vals.now + ENTRY_HEADER_WORDS) (self.old).log) (es ++ undo_entry address (words_from (reads (H.state h.old).now.words) first (length vals.now)) ∷ []) before
             (placed first vals.now) (fault_of result) (H.state h.old) (H.state h.new) }
         ensures cause { H.counts h.new ≡ after_fault (fault_of result) (H.counts h.old) }
     {
         let _words = h.words();
         self.words.save(h, address, first, vals.len() as u32)?;
+        self.units += vals.len() as u32 + ENTRY_HEADER_WORDS;
         self.words.write(h, first, vals)
     }
 
@@ -96,20 +98,21 @@ impl Tx {
         requires few { frames ≤ MAX_FRAMES }
         requires device { device_words frames ≤ (H.counts h.old).size }
         requires known { IsOnDevice frames pool.now }
-        requires place { self.old.at + LOG_WORDS ≤ frames_at frames }
+        requires place { (self.old).log.at + LOG_WORDS ≤ frames_at frames }
         requires there { ordinal < length pool.now }
         requires some { 1 ≤ length vals.now }
         requires no_more { length vals.now ≤ MAX_ENTRY_VALUES }
         requires within { word + length vals.now ≤ FRAME_WORDS }
-        requires room { self.old.used + (length vals.now + ENTRY_HEADER_WORDS) ≤ LOG_ENTRY_WORDS }
-        ensures at { self.new.at ≡ self.old.at }
-        ensures done { IfOk result (λ _. self.new ≡ longer (length vals.now + ENTRY_HEADER_WORDS) self.old) }
-        ensures changes { H.tells → Changes (ByTransaction (pool_ground frames pool.now) self.old.at) (fault_of result) (H.state h.old) (H.state h.new) }
+        requires room { (self.old).units + (length vals.now + ENTRY_HEADER_WORDS) ≤ LOG_ENTRY_WORDS }
+        ensures at { (self.new).log.at ≡ (self.old).log.at }
+        ensures done { IfOk result (λ _. (self.new).log ≡ longer (length vals.now + ENTRY_HEADER_WORDS) (self.old).log) }
+        ensures counts { IfOk result (λ _. (self.new).units ≡ (self.old).units + (length vals.now + ENTRY_HEADER_WORDS)) }
+        ensures changes { H.tells → Changes (ByTransaction (pool_ground frames pool.now) (self.old).log.at) (fault_of result) (H.state h.old) (H.state h.new) }
         ensures puts { H.tells → (e : ℕ × Puddle) → slice_get pool.now ordinal ≡ Option.Some e
-            → Changes (ByPut self.old.at (frame_at frames e.0 + word) vals.now) (fault_of result) (H.state h.old) (H.state h.new) }
+            → Changes (ByPut (self.old).log.at (frame_at frames e.0 + word) vals.now) (fault_of result) (H.state h.old) (H.state h.new) }
         ensures saves { H.tells → IsPlaced frames pool.now → (e : ℕ × Puddle) → slice_get pool.now ordinal ≡ Option.Some e → (before : Image) (redo : List Entry)
-            → IsSaving frames pool.now self.old before redo (H.state h.old).now.words
-            → Saves frames pool.now self.new before redo (placed (frame_at frames e.0 + word) vals.now) (fault_of result) (H.state h.old) (H.state h.new) }
+            → IsSaving frames pool.now (self.old).log before redo (H.state h.old).now.words
+            → Saves frames pool.now (self.new).log before redo (placed (frame_at frames e.0 + word) vals.now) (fault_of result) (H.state h.old) (H.state h.new) }
         ensures cause { H.counts h.new ≡ after_fault (fault_of result) (H.counts h.old) }
     {
         let (frame, puddle) = pool[ordinal as usize];
@@ -126,20 +129,23 @@ impl Tx {
         word: u32,
         value: u64,
     ) -> Result<(), HostFault>
-        requires place { self.old.at + LOG_WORDS ≤ (H.counts h.old).size }
+        requires place { (self.old).log.at + LOG_WORDS ≤ (H.counts h.old).size }
         requires there { ordinal < length pool.now }
         requires within { word < FRAME_WORDS }
-        requires room { self.old.used + SET_UNITS ≤ LOG_ENTRY_WORDS }
-        ensures at { self.new.at ≡ self.old.at }
-        ensures done { IfOk result (λ _. self.new ≡ longer SET_UNITS self.old) }
-        ensures changes { H.tells → Changes (InLog self.old.at) (fault_of result) (H.state h.old) (H.state h.new) }
-        ensures asks { H.tells → (frames : ℕ) → IsPlaced frames pool.now → device_words frames ≤ (H.counts h.old).size → self.old.at + LOG_WORDS ≤ frames_at frames
-            → (e : ℕ × Puddle) → slice_get pool.now ordinal ≡ Option.Some e → (before : Image) (redo : List Entry) → IsSaving frames pool.now self.old before redo (H.state h.old).now.words
-            → Saves frames pool.now self.new before (redo ++ redo_entry (e.1.base + WORD_BYTES * word) (value ∷ []) ∷ []) nothing (fault_of result) (H.state h.old) (H.state h.new) }
+        requires room { (self.old).units + SET_UNITS ≤ LOG_ENTRY_WORDS }
+        ensures at { (self.new).log.at ≡ (self.old).log.at }
+        ensures done { IfOk result (λ _. (self.new).log ≡ longer SET_UNITS (self.old).log) }
+        ensures counts { IfOk result (λ _. (self.new).units ≡ (self.old).units + SET_UNITS) }
+        ensures changes { H.tells → Changes (InLog (self.old).log.at) (fault_of result) (H.state h.old) (H.state h.new) }
+        ensures asks { H.tells → (frames : ℕ) → IsPlaced frames pool.now → device_words frames ≤ (H.counts h.old).size → (self.old).log.at + LOG_WORDS ≤ frames_at frames
+            → (e : ℕ × Puddle) → slice_get pool.now ordinal ≡ Option.Some e → (before : Image) (redo : List Entry) → IsSaving frames pool.now (self.old).log before redo (H.state h.old).now.words
+            → Saves frames pool.now (self.new).log before (redo ++ redo_entry (e.1.base + WORD_BYTES * word) (value ∷ []) ∷ []) nothing (fault_of result) (H.state h.old) (H.state h.new) }
         ensures cause { H.counts h.new ≡ after_fault (fault_of result) (H.counts h.old) }
     {
         let (_, puddle) = pool[ordinal as usize];
         let field = word_address(puddle.base, word);
-        self.words.ask(h, field, &[value])
+        self.words.ask(h, field, &[value])?;
+        self.units += SET_UNITS;
+        Ok(())
     }
 }

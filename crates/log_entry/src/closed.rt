@@ -1,7 +1,8 @@
 //! Whether a log is closed.
-ghost use Rattle.std.specs.Prelude.{◌≡◌, ◌≢◌, ◌+◌, ◌≤◌, Option, IfOk};
+ghost use Rattle.std.specs.Prelude.{◌≡◌, ◌+◌, ◌≤◌, IfOk};
 ghost use Rattle.pm_model.specs.Words.{reads};
-ghost use Rattle.pm_model.specs.Counts.{after_fault, fault_of};
+ghost use Rattle.pm_model.specs.Counts.{fault_of};
+ghost use Rattle.pm_model.specs.Reads.{OnlyReads};
 ghost use Rattle.pud_defs.specs.declared.layout.TheConstants.{LOG_WORDS};
 ghost use Rattle.pud_defs.specs.Image.{Image};
 ghost use Rattle.pud_defs.specs.Spaces.{is_closed_log};
@@ -17,9 +18,7 @@ use pud_defs::log_words::is_closed_range;
 pub fn is_closed_log<H: Host>(h: &mut H, at: u32) -> Result<bool, HostFault>
     requires { at + LOG_WORDS ≤ (H.counts h.old).size }
     ensures closed { H.tells → (image : Image) → reads (H.state h.old).now.words ≡ image → IfOk result (λ closed. closed ≡ is_closed_log image at) }
-    ensures stays { H.tells → H.state h.new ≡ H.state h.old }
-    ensures cause { H.counts h.new ≡ after_fault (fault_of result) (H.counts h.old) }
-    ensures never_cut { fault_of result ≢ Option.Some HostFault.Cut }
+    ensures only_reads { OnlyReads H.tells H.state H.counts (fault_of result) h.old h.new }
 {
     if !is_closed_range(h.load(at)?) {
         return Ok(false);

@@ -5,9 +5,10 @@
 //! where they spell no entry.
 #![tactic(auto)]
 
-ghost use Rattle.std.specs.Prelude.{◌≡◌, ◌≢◌, ◌+◌, ◌<◌, ◌≤◌, ◌^◌, ℕ, Option, IfOk, IfSome, OnErr, ◌&&◌, nat_le, option_map, is_some, length, take};
+ghost use Rattle.std.specs.Prelude.{◌≡◌, ◌+◌, ◌<◌, ◌≤◌, ◌^◌, ℕ, Option, IfOk, IfSome, OnErr, ◌&&◌, nat_le, option_map, is_some, length, take};
 ghost use Rattle.pm_model.specs.Words.{reads};
-ghost use Rattle.pm_model.specs.Counts.{after_fault, fault_of};
+ghost use Rattle.pm_model.specs.Counts.{fault_of};
+ghost use Rattle.pm_model.specs.Reads.{OnlyReads};
 ghost use Rattle.pud_defs.specs.declared.layout.TheConstants.{LOG_WORDS, LOG_ENTRY_WORDS, ENTRY_HEADER_WORDS, MAX_ENTRY_VALUES};
 ghost use Rattle.pud_defs.specs.Image.{Image};
 ghost use Rattle.pud_defs.specs.Entries.{entry_n, is_legal_entry_word, spelled, Log, log_of, entries_of};
@@ -112,9 +113,7 @@ impl EntryReader {
             → IfOk result (λ found. entries_left image self.old ≡ left_before image found self.new) }
         ensures passes { IfOk result (λ found. Passes found self.old self.new) }
         ensures failed { OnErr result (self.new ≡ self.old) }
-        ensures stays { H.tells → H.state h.new ≡ H.state h.old }
-        ensures cause { H.counts h.new ≡ after_fault (fault_of result) (H.counts h.old) }
-        ensures never_cut { fault_of result ≢ Option.Some HostFault.Cut }
+        ensures only_reads { OnlyReads H.tells H.state H.counts (fault_of result) h.old h.new }
     {
         let _words = h.words();
         let used = gate_used(h.load(self.log_at)?);
@@ -146,9 +145,7 @@ impl EntryReader {
 pub fn well_formed<H: Host>(h: &mut H, log_at: u32) -> Result<bool, HostFault>
     requires { log_at + LOG_WORDS ≤ (H.counts h.old).size }
     ensures answer { H.tells → IfOk result (λ ok. ok ≡ is_some (entries_of (reads (H.state h.old).now.words) log_at)) }
-    ensures stays { H.tells → H.state h.new ≡ H.state h.old }
-    ensures cause { H.counts h.new ≡ after_fault (fault_of result) (H.counts h.old) }
-    ensures never_cut { fault_of result ≢ Option.Some HostFault.Cut }
+    ensures only_reads { OnlyReads H.tells H.state H.counts (fault_of result) h.old h.new }
 {
     let gate = h.load(log_at)?;
     if !is_legal_gate(gate) {
@@ -178,9 +175,7 @@ impl LogRange {
     pub fn of<H: Host>(h: &mut H, log_at: u32) -> Result<LogRange, HostFault>
         requires { log_at < (H.counts h.old).size }
         ensures range { H.tells → (image : Image) → reads (H.state h.old).now.words ≡ image → IfOk result (λ range. HasRange range (log_of image log_at)) }
-        ensures stays { H.tells → H.state h.new ≡ H.state h.old }
-        ensures cause { H.counts h.new ≡ after_fault (fault_of result) (H.counts h.old) }
-        ensures never_cut { fault_of result ≢ Option.Some HostFault.Cut }
+        ensures only_reads { OnlyReads H.tells H.state H.counts (fault_of result) h.old h.new }
     {
         let gate = h.load(log_at)?;
         Ok(LogRange {

@@ -1,8 +1,9 @@
 //! As many words as an entry has values.
 
-ghost use Rattle.std.specs.Prelude.{◌≡◌, ◌≢◌, ◌+◌, ◌≤◌, Option, IfOk, length, take};
+ghost use Rattle.std.specs.Prelude.{◌≡◌, ◌+◌, ◌≤◌, IfOk, length, take};
 ghost use Rattle.pm_model.specs.Words.{reads};
-ghost use Rattle.pm_model.specs.Counts.{after_fault, fault_of};
+ghost use Rattle.pm_model.specs.Counts.{fault_of};
+ghost use Rattle.pm_model.specs.Reads.{OnlyReads};
 ghost use Rattle.pud_defs.specs.Entries.{words_from};
 
 use pm_model::{Host, HostFault};
@@ -20,9 +21,7 @@ pub fn read_values<H: Host>(
     requires within { from + n ≤ (H.counts h.old).size }
     ensures taken { H.tells → IfOk result (λ values. take n values ≡ words_from (reads (H.state h.old).now.words) from n) }
     ensures room { IfOk result (λ values. length values ≡ MAX_ENTRY_VALUES) }
-    ensures stays { H.tells → H.state h.new ≡ H.state h.old }
-    ensures cause { H.counts h.new ≡ after_fault (fault_of result) (H.counts h.old) }
-    ensures never_cut { fault_of result ≢ Option.Some HostFault.Cut }
+    ensures only_reads { OnlyReads H.tells H.state H.counts (fault_of result) h.old h.new }
 {
     let words = h.words();
     prove!(n <= words - from);

@@ -109,8 +109,8 @@ pub Applies-failed_first : (f g : Write) (fault : HostFault) (s t : State) → A
 Applies-failed_first f g fault s t a = Applies-failed f (over f g) fault s t (λ k named. named_first f g k (g k) refl named) a.changes
 
 -- nothing was written yet
-pub Applies-failed_still : (write : Write) (fault : HostFault) (s t : State) → (Some fault ≡ Some Cut → ⊥) → t ≡ s → Applies write (Some fault) s t
-Applies-failed_still write fault s t not_cut same = Applies-failed write write fault s t (λ k named. named) (Changes-still (Named write) (Some fault) s t not_cut same)
+pub Applies-failed_still : (write : Write) (fault : HostFault) (s t : State) → Changes (Named write) (Some fault) s t → Applies write (Some fault) s t
+Applies-failed_still write fault s t changes = Applies-failed write write fault s t (λ k named. named) changes
 
 -- behind a call that changed nothing
 pub Applies-behind : (write : Write) (fault : Option HostFault) (s t u : State) → t ≡ s → Applies write fault t u → Applies write fault s u
@@ -133,9 +133,6 @@ pub size_then : (size : ℕ) (old new : Counts) → size ≡ old.size → new �
 size_then size old new same stays = same ∙ sym (ap (λ (n : Counts). n.size) stays)
 
 -- ---- whatever the words hold
-
-pub any_still : (fault : Option HostFault) (s t : State) → (fault ≡ Some Cut → ⊥) → t ≡ s → Changes Anything fault s t
-any_still fault s t not_cut same = Changes-still Anything fault s t not_cut same
 
 pub any_then : (fault : Option HostFault) (a b c : State) → Changes Anything None a b → Changes Anything fault b c → Changes Anything fault a c
 any_then fault a b c p q = Changes-then Anything fault a b c p q

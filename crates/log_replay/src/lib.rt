@@ -8,9 +8,10 @@
 //! replay leaves the places of addresses as they are.
 #![tactic(auto)]
 
-ghost use Rattle.std.specs.Prelude.{◌≡◌, ◌≢◌, ◌+◌, ◌-◌, ◌<◌, ◌≤◌, ◌^◌, ℕ, List, Option, IfOk, IfSome, IsTrue, length, take};
+ghost use Rattle.std.specs.Prelude.{◌≡◌, ◌+◌, ◌-◌, ◌<◌, ◌≤◌, ◌^◌, ℕ, List, Option, IfOk, IfSome, IsTrue, length, take};
 ghost use Rattle.pm_model.specs.Words.{reads};
 ghost use Rattle.pm_model.specs.Counts.{after_fault, fault_of};
+ghost use Rattle.pm_model.specs.Reads.{OnlyReads};
 ghost use Rattle.pm_model.specs.Changes.{placed, Changes, Writes, Leaves, Silently};
 ghost use Rattle.pud_defs.specs.declared.layout.TheConstants.{LOG_WORDS, LOG_ENTRY_WORDS, MAX_ENTRY_VALUES};
 ghost use Rattle.pud_defs.specs.declared.log_words.TheConstants.{UNDO_ORDER, REDO_ORDER};
@@ -44,9 +45,7 @@ impl Target {
     fn word_of<H: Host>(self, h: &mut H, address: u64) -> Result<Option<u64>, HostFault>
         requires { HasTables self (H.counts h.old).size }
         ensures word { H.tells → (image : Image) → reads (H.state h.old).now.words ≡ image → IfOk result (λ word. word ≡ place_of self image address) }
-        ensures stays { H.tells → H.state h.new ≡ H.state h.old }
-        ensures cause { H.counts h.new ≡ after_fault (fault_of result) (H.counts h.old) }
-        ensures never_cut { fault_of result ≢ Option.Some HostFault.Cut }
+        ensures only_reads { OnlyReads H.tells H.state H.counts (fault_of result) h.old h.new }
     {
         match self {
             Target::Words => Ok(Some(address)),
@@ -88,9 +87,7 @@ impl Replay {
         ensures within { IfOk result (λ found. IfSome found (λ first. first + entry.now.n ≤ (H.counts h.old).size)) }
         ensures found { H.tells → (image : Image) → reads (H.state h.old).now.words ≡ image → IfOk result (λ found. (first : ℕ) → place_of self.now.to image entry.now.addr ≡ Option.Some first
             → first + entry.now.n ≤ (H.counts h.old).size → found ≡ Option.Some first) }
-        ensures stays { H.tells → H.state h.new ≡ H.state h.old }
-        ensures cause { H.counts h.new ≡ after_fault (fault_of result) (H.counts h.old) }
-        ensures never_cut { fault_of result ≢ Option.Some HostFault.Cut }
+        ensures only_reads { OnlyReads H.tells H.state H.counts (fault_of result) h.old h.new }
     {
         let words = u64::from(h.words());
         let Some(first) = self.to.word_of(h, entry.addr)? else {

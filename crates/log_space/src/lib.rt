@@ -4,9 +4,10 @@
 //! as it was or wholly as it is to be.
 #![tactic(auto)]
 
-ghost use Rattle.std.specs.Prelude.{◌≡◌, ◌≢◌, ◌<◌, ◌≤◌, ℕ, Option, IfOk, IfSome, is_some, option_map, length};
+ghost use Rattle.std.specs.Prelude.{◌≡◌, ◌<◌, ◌≤◌, ℕ, Option, IfOk, IfSome, is_some, option_map, length};
 ghost use Rattle.pm_model.specs.Words.{reads};
 ghost use Rattle.pm_model.specs.Counts.{after_fault, fault_of};
+ghost use Rattle.pm_model.specs.Reads.{OnlyReads};
 ghost use Rattle.pm_model.specs.Changes.{Changes, Write};
 ghost use Rattle.pm_model.specs.Masks.{masked, masked_state, IsOff};
 ghost use Rattle.pud_defs.specs.declared.layout.TheConstants.{DAEMON_LOG, PUDDLE_TABLE, SPACE_RECORD_WORDS, CLIENTS, MAX_FRAMES, MAX_OWNER_ID};
@@ -123,9 +124,7 @@ pub fn is_registered<H: Host>(h: &mut H, slot: u32) -> Result<bool, HostFault>
     requires table { PUDDLE_TABLE ≤ (H.counts h.old).size }
     requires known { slot < CLIENTS }
     ensures registered { H.tells → IfOk result (λ registered. registered ≡ is_some (owner_of (reads (H.state h.old).now.words) slot)) }
-    ensures stays { H.tells → H.state h.new ≡ H.state h.old }
-    ensures cause { H.counts h.new ≡ after_fault (fault_of result) (H.counts h.old) }
-    ensures never_cut { fault_of result ≢ Option.Some HostFault.Cut }
+    ensures only_reads { OnlyReads H.tells H.state H.counts (fault_of result) h.old h.new }
 {
     Ok(h.load(SPACE_TABLE + SPACE_RECORD_WORDS * slot)? == 1)
 }
@@ -152,9 +151,7 @@ pub fn owner<H: Host>(h: &mut H, slot: u32) -> Result<Option<Owner>, HostFault>
     requires known { slot < CLIENTS }
     ensures owner { H.tells → (image : Image) → reads (H.state h.old).now.words ≡ image
         → IfOk result (λ found. found ≡ option_map owner_read (owner_of image slot)) }
-    ensures stays { H.tells → H.state h.new ≡ H.state h.old }
-    ensures cause { H.counts h.new ≡ after_fault (fault_of result) (H.counts h.old) }
-    ensures never_cut { fault_of result ≢ Option.Some HostFault.Cut }
+    ensures only_reads { OnlyReads H.tells H.state H.counts (fault_of result) h.old h.new }
 {
     let at = SPACE_TABLE + SPACE_RECORD_WORDS * slot;
     let used = h.load(at)?;
@@ -173,9 +170,7 @@ pub fn free_log<H: Host>(h: &mut H, frames: u32, slot: u32) -> Result<Option<Log
     requires known { slot < CLIENTS }
     ensures lowest { H.tells → IfOk result (λ found. found ≡ first_closed (reads (H.state h.old).now.words) frames slot) }
     ensures within { IfOk result (λ found. IfSome found (IsLogOf slot)) }
-    ensures stays { H.tells → H.state h.new ≡ H.state h.old }
-    ensures cause { H.counts h.new ≡ after_fault (fault_of result) (H.counts h.old) }
-    ensures never_cut { fault_of result ≢ Option.Some HostFault.Cut }
+    ensures only_reads { OnlyReads H.tells H.state H.counts (fault_of result) h.old h.new }
 {
     for number in 0..CLIENT_LOGS {
         if is_closed_log(h, log_at(frames, slot, number))? {

@@ -4,9 +4,10 @@
 //! need. It answers on every content of the device.
 #![tactic(auto)]
 
-ghost use Rattle.std.specs.Prelude.{◌≡◌, ◌≢◌, ◌↔◌, ◌<◌, ◌≤◌, ℕ, Option, Result, IfOk, IfSome, IfNone};
+ghost use Rattle.std.specs.Prelude.{◌≡◌, ◌↔◌, ◌<◌, ◌≤◌, ℕ, Option, Result, IfOk, IfSome, IfNone};
 ghost use Rattle.pm_model.specs.Words.{Image, reads};
 ghost use Rattle.pm_model.specs.Counts.{after_fault, fault_of};
+ghost use Rattle.pm_model.specs.Reads.{OnlyReads};
 ghost use Rattle.pm_model.specs.Changes.{only, Writes};
 ghost use Rattle.pud_defs.specs.Layout.{device_words};
 ghost use Rattle.pud_defs.specs.Geometry.{puddle_slots};
@@ -58,9 +59,7 @@ fn free_place<H: Host>(
     ensures full { H.tells → (image : Image) → reads (H.state h.old).now.words ≡ image
         → IfOk result (λ found. IfNone found (AreAllLive (stored_in frames pool.now image))) }
     ensures within { IfOk result (λ found. IfSome found (λ place. place < places_in pool.now)) }
-    ensures stays { H.tells → H.state h.new ≡ H.state h.old }
-    ensures cause { H.counts h.new ≡ after_fault (fault_of result) (H.counts h.old) }
-    ensures never_cut { fault_of result ≢ Option.Some HostFault.Cut }
+    ensures only_reads { OnlyReads H.tells H.state H.counts (fault_of result) h.old h.new }
 {
     for place in 0..places_among(pool.len() as u32) {
         if is_free(serial_at(h, frames, pool, place)?) {
@@ -88,9 +87,7 @@ pub fn alloc_slot<H: Host>(
     ensures full { H.tells → (image : Image) → reads (H.state h.old).now.words ≡ image → alloc_fault result ≡ Option.None
         → (result ≡ Result.Err AllocFault.Full) ↔ AreAllLive (stored_in frames pool.now image) }
     ensures within { IfOk result (IsSlotOf pool.now) }
-    ensures stays { H.tells → H.state h.new ≡ H.state h.old }
-    ensures cause { H.counts h.new ≡ after_fault (alloc_fault result) (H.counts h.old) }
-    ensures never_cut { alloc_fault result ≢ Option.Some HostFault.Cut }
+    ensures only_reads { OnlyReads H.tells H.state H.counts (alloc_fault result) h.old h.new }
 {
     match free_place(h, frames, pool)? {
         Some(place) => Ok(slot_at_place(pool, place)),

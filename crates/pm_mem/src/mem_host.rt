@@ -175,6 +175,7 @@ impl Host for MemHost {
     ghost use Rattle.pm_model.specs.Words.{after_store, after_flush, after_fence, after_loss};
     ghost use Rattle.pm_model.specs.Moments.{all_said, with_script, with_shelf};
     ghost use Rattle.pm_model.specs.Counts.{after_fault, after_arm, after_loss_of, fault_of, file_fault_of};
+    ghost use Rattle.pm_model.specs.Reads.{OnlyReads};
     ghost use Rattle.pm_model.specs.Calls.{Steps, CountsDown, LosesAtOnce, TakesByte, Says, LeavesFile};
     ghost use Rattle.pm_mem.specs.Events.{image_of};
     ghost use Rattle.pm_mem.specs.Turns.{call_fails, after_call, call_fault, turn_of, turn_fault, after_step, after_turn, say_fails, after_say};
@@ -196,10 +197,8 @@ impl Host for MemHost {
     fn load(&mut self, w: u32) -> Result<u64, HostFault>
         requires { w < (mem_counts self.old).size }
         ensures value { mem_tells → IfOk result (λ v. v ≡ ((mem_state self.old).now.words w).newest) }
-        ensures state { mem_tells → mem_state self.new ≡ mem_state self.old }
+        ensures only_reads { OnlyReads mem_tells mem_state mem_counts (fault_of result) self.old self.new }
         ensures armed { mem_tells → mem_armed self.new ≡ mem_armed self.old }
-        ensures cause { mem_counts self.new ≡ after_fault (fault_of result) (mem_counts self.old) }
-        ensures never_cut { fault_of result ≢ Some faults.Cut }
 
         // It fails exactly where the plan says so, and only a load that is done is watched.
         ensures answer { result ≡ answer (call_fails (mem_turns self.old)) ((mem_state self.old).now.words w).newest }

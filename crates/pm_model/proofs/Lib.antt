@@ -6,3 +6,4 @@ pub mod Said
 pub mod Saying
 pub mod OneWord
 pub mod Masks
+pub mod Reading

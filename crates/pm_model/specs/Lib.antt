@@ -5,3 +5,4 @@ pub mod Calls
 pub mod Picking
 pub mod Changes
 pub mod Masks
+pub mod Reads

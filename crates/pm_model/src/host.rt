@@ -3,6 +3,7 @@ ghost use Rattle.std.specs.Prelude.{◌≡◌, ◌≢◌, ◌<◌, ◌≤◌, �
 ghost use Rattle.pm_model.specs.Words.{after_store, after_flush, after_fence};
 ghost use Rattle.pm_model.specs.Moments.{State, with_shelf};
 ghost use Rattle.pm_model.specs.Counts.{Counts, after_fault, after_arm, after_loss_of, fault_of, file_fault_of};
+ghost use Rattle.pm_model.specs.Reads.{OnlyReads};
 ghost use Rattle.pm_model.specs.declared.losses.Armed.{Armed};
 ghost use Rattle.pm_model.specs.Calls.{Steps, CountsDown, LosesAtOnce, TakesByte, Says, shelved, LeavesFile};
 
@@ -61,10 +62,8 @@ pub trait Host {
     fn load(&mut self, w: u32) -> Result<u64, HostFault>
         requires { w < (counts self.old).size }
         ensures value { tells → IfOk result (λ v. v ≡ ((state self.old).now.words w).newest) }
-        ensures state { tells → state self.new ≡ state self.old }
-        ensures armed { tells → armed self.new ≡ armed self.old }
-        ensures cause { counts self.new ≡ after_fault (fault_of result) (counts self.old) }
-        ensures never_cut { fault_of result ≢ Option.Some HostFault.Cut };
+        ensures only_reads { OnlyReads tells state counts (fault_of result) self.old self.new }
+        ensures armed { tells → armed self.new ≡ armed self.old };
 
     /// Appends a value to word `w`. A device step.
     fn store(&mut self, w: u32, v: u64) -> Result<(), HostFault>

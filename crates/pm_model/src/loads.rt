@@ -1,7 +1,8 @@
 //! Words that can be read: the part of a host that a reader needs.
-ghost use Rattle.std.specs.Prelude.{◌≡◌, ◌≢◌, ◌<◌, Option, IfOk};
+ghost use Rattle.std.specs.Prelude.{◌≡◌, ◌<◌, IfOk};
 ghost use Rattle.pm_model.specs.Moments.{State};
-ghost use Rattle.pm_model.specs.Counts.{Counts, after_fault, fault_of};
+ghost use Rattle.pm_model.specs.Counts.{Counts, fault_of};
+ghost use Rattle.pm_model.specs.Reads.{OnlyReads};
 
 use crate::{Host, HostFault};
 
@@ -22,9 +23,7 @@ pub trait Loads {
     fn load_word(&mut self, w: u32) -> Result<u64, HostFault>
         requires { w < (counts self.old).size }
         ensures value { tells → IfOk result (λ v. v ≡ ((state self.old).now.words w).newest) }
-        ensures state { tells → state self.new ≡ state self.old }
-        ensures cause { counts self.new ≡ after_fault (fault_of result) (counts self.old) }
-        ensures never_cut { fault_of result ≢ Option.Some HostFault.Cut };
+        ensures only_reads { OnlyReads tells state counts (fault_of result) self.old self.new };
 }
 
 impl<H: Host> Loads for H {

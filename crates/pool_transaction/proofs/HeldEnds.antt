@@ -39,14 +39,14 @@ use Rattle.word_transaction.specs.Running.{ByTransaction, HasPlaces, HasOneTable
 use Rattle.hybrid_tx.specs.Grounds.{pool_mine, pool_ground, IsPlaced}
 use Rattle.hybrid_tx.specs.Masks.{OpenPool, is_open_record, open_mask}
 use Rattle.hybrid_tx.specs.ManyOpen.{open_masks}
-use Rattle.hybrid_tx.specs.Transactions.{IsRewrittenFor, IsOpenOn, ClosesOn, EndsOn}
+use Rattle.hybrid_tx.specs.Transactions.{OpenTx, IsRewrittenFor, IsOpenOn, ClosesOn, EndsOn}
 use Rattle.hybrid_tx.proofs.RewrittenPools.{rewritten_for}
 use Rattle.hybrid_tx.proofs.ManyIdle.{masks_changed, places_beside}
 use Rattle.hybrid_tx.proofs.Opening.{stored_in-mine}
 use Rattle.hybrid_tx.proofs.OpenMasks.{mask_of_mine}
 use Rattle.hybrid_tx.proofs.PoolGrounds.{pool_mine-each}
 use Rattle.ready_daemon.specs.Memory.{Held, Memory, held_under}
-use Rattle.ready_daemon.specs.Beginning.{log_held, judged_behind}
+use Rattle.ready_daemon.specs.Beginning.{tx_held, judged_behind}
 use Rattle.ready_daemon.specs.Leaving.{BehindTables, sessions_behind, world_without_log}
 use Rattle.ready_daemon.specs.Held.{pool_held, IsHeld, IsOwn}
 use Rattle.ready_daemon.specs.Holding.{IsOwnOn}
@@ -252,19 +252,19 @@ Applies-own size w client name number memory first behind fault old new own same
 
 -- ---- whatever is held under the number
 
--- what is let go of has this log
-pub record HasLog (o : Option Held) (log : OpenLog) : Type 0 where
+-- what is let go of has this transaction
+pub record HasTx (o : Option Held) (tx : OpenTx) : Type 0 where
   pub mine : Held
   pub is : o ≡ Some mine
-  pub log_is : log ≡ mine.log
+  pub tx_is : tx ≡ tx_held mine
 
-has_log : (o : Option Held) (log : OpenLog) → option_map log_held o ≡ Some log → HasLog o log
-has_log None log is = absurd (none-some log is)
-has_log (Some held) log is = record { mine = held; is = refl; log_is = same_Some log held.log (sym is) }
+has_tx : (o : Option Held) (tx : OpenTx) → option_map tx_held o ≡ Some tx → HasTx o tx
+has_tx None tx is = absurd (none-some tx is)
+has_tx (Some held) tx is = record { mine = held; is = refl; tx_is = same_Some tx (tx_held held) (sym is) }
 
-nothing_held : (o : Option Held) → option_map log_held o ≡ None → o ≡ None
+nothing_held : (o : Option Held) → option_map tx_held o ≡ None → o ≡ None
 nothing_held None none = refl
-nothing_held (Some held) none = absurd (none-some held.log (sym none))
+nothing_held (Some held) none = absurd (none-some (tx_held held) (sym none))
 
 -- What is in memory behind it: nothing is held under the number, its session has ended, and its pool's puddles are known again.
 pub record IsReleased (number : ℕ) (memory behind : Memory) : Type 0 where
@@ -291,36 +291,36 @@ released_none number memory behind none r =
 
 module _ (size : ℕ) (w : World) (memory behind : Memory) (number : ℕ) (fault : Option HostFault) (old new : State) (released : IsReleased number memory behind) (ready : IsReady size w memory old) where
   -- nothing is
-  pub Applies-unheld : option_map log_held (held_under memory.held number) ≡ None → Applies size w (world_without_log (held_under memory.held number) w) behind None old old
+  pub Applies-unheld : option_map tx_held (held_under memory.held number) ≡ None → Applies size w (world_without_log (held_under memory.held number) w) behind None old old
   Applies-unheld none =
       let free = nothing_held (held_under memory.held number) none in
       subst (λ (o : Option Held). Applies size w (world_without_log o w) behind None old old) (sym free)
       (subst (λ (m : Memory). Applies size w w m None old old) (released_none number memory behind free released) (Applies-idle size w memory old old ready refl))
 
-  module _ (sz : ℕ) (log : OpenLog) (same : size ≡ sz) (held_log : option_map log_held (held_under memory.held number) ≡ Some log) where
-    one : HasLog (held_under memory.held number) log
-    one = has_log (held_under memory.held number) log held_log
+  module _ (sz : ℕ) (tx : OpenTx) (same : size ≡ sz) (held_tx : option_map tx_held (held_under memory.held number) ≡ Some tx) where
+    one : HasTx (held_under memory.held number) tx
+    one = has_tx (held_under memory.held number) tx held_tx
 
     -- it was undone
-    pub Applies-undone : Undoes memory.frames sz log fault old new → Applies size w (world_without_log (held_under memory.held number) w) behind fault old new
+    pub Applies-undone : Undoes memory.frames sz tx.log fault old new → Applies size w (world_without_log (held_under memory.held number) w) behind fault old new
     Applies-undone undoes =
         subst (λ (o : Option Held). Applies size w (world_without_log o w) behind fault old new) (sym one.is)
         (subst (λ (m : Memory). Applies size w (world_without_log (Some one.mine) w) m fault old new) (released_one number memory behind one.mine one.is released)
-        (Applies-aborted size w memory number one.mine old ready one.is memory.frames sz fault new ready.frames same (subst (λ (l : OpenLog). Undoes memory.frames sz l fault old new) one.log_is undoes)))
+        (Applies-aborted size w memory number one.mine old ready one.is memory.frames sz fault new ready.frames same (subst (λ (x : OpenTx). Undoes memory.frames sz x.log fault old new) one.tx_is undoes)))
 
-    pub behind_undone : Undoes memory.frames sz log fault old new → Changes (BehindTables w.stored.frames) fault old new
+    pub behind_undone : Undoes memory.frames sz tx.log fault old new → Changes (BehindTables w.stored.frames) fault old new
     behind_undone undoes =
-        undone_behind size w memory number one.mine old ready one.is memory.frames sz fault new ready.frames same (subst (λ (l : OpenLog). Undoes memory.frames sz l fault old new) one.log_is undoes)
+        undone_behind size w memory number one.mine old ready one.is memory.frames sz fault new ready.frames same (subst (λ (x : OpenTx). Undoes memory.frames sz x.log fault old new) one.tx_is undoes)
 
   -- it was committed, where it was begun once
-  pub Applies-kept : (sz client : ℕ) (name : List ℕ) (slot : ℕ) (log : OpenLog) → size ≡ sz → IsOwnOn client name slot number memory.held → option_map log_held (held_under memory.held number) ≡ Some log
-      → depth_in memory.sessions slot ≤ 1 → Commits memory.frames sz log fault old new → Applies size w (after w (Commit client name)) behind fault old new
-  Applies-kept sz client name slot log same on held_log last commits =
+  pub Applies-kept : (sz client : ℕ) (name : List ℕ) (slot : ℕ) (tx : OpenTx) → size ≡ sz → IsOwnOn client name slot number memory.held → option_map tx_held (held_under memory.held number) ≡ Some tx
+      → depth_in memory.sessions slot ≤ 1 → Commits memory.frames sz tx.log fault old new → Applies size w (after w (Commit client name)) behind fault old new
+  Applies-kept sz client name slot tx same on held_tx last commits =
       let mine = on.own.mine in
       let there = on.own.is in
-      let its : log ≡ mine.log = same_Some log mine.log (sym held_log ∙ ap (option_map log_held) there) in
+      let its : tx ≡ tx_held mine = same_Some tx (tx_held mine) (sym held_tx ∙ ap (option_map tx_held) there) in
       let depth = sym (ap (depth_in memory.sessions) on.slot_is) ∙ depth_is size w memory number mine old ready there in
       subst (λ (n : List ℕ). Applies size w (after w (Commit client n)) behind fault old new) on.own.pool
       (subst (λ (m : Memory). Applies size w (after w (Commit client mine.name)) m fault old new) (released_one number memory behind mine there released)
       (Applies-committed size w memory number mine old ready there client (omega (arith, depth, last)) memory.frames sz fault new ready.frames same
-      (subst (λ (l : OpenLog). Commits memory.frames sz l fault old new) its commits)))
+      (subst (λ (x : OpenTx). Commits memory.frames sz x.log fault old new) its commits)))

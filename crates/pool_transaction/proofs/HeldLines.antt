@@ -15,6 +15,7 @@ use Rattle.pud_defs.specs.Step.{graph_seen, next_in, grows, refusal_of, answer_b
 use Rattle.pud_defs.specs.Step.Answer.{of_reply}
 use Rattle.pud_defs.specs.World.{World, closed}
 use Rattle.pud_defs.proofs.Steps.{refused_answer}
+use Rattle.ready_daemon.specs.Beginning.{tx_held}
 use Rattle.ready_daemon.specs.Memory.{Held, Memory, held_under, with_held}
 use Rattle.registry.specs.declared.adding.Added.{Added}
 use Rattle.pool_transaction.specs.Changing.{refusal_by_tables, GrowsBy, refusal_by_world, with_more, with_made}
@@ -124,7 +125,7 @@ module _ (size : ℕ) (w : World) (memory : Memory) (held : Held) (old : State) 
         new_ungrown behind fault start new still grows =
             Applies-closed size w grown given (memory_with behind) (memory_with behind) fault old new same_closed (has_grown behind (Some fault) start new still grows)
 
-        module _ (now : Held) (name : now.name ≡ held.name) (log : now.log ≡ held.log) (its : now.number ≡ number) (start mid : State) (still : start ≡ old) (grows_so : OwesMore now None start mid) where
+        module _ (now : Held) (name : now.name ≡ held.name) (tx : tx_held now ≡ tx_held held) (its : now.number ≡ number) (start mid : State) (still : start ≡ old) (grows_so : OwesMore now None start mid) where
           after_growth : Applies size w grown (memory_with now) None old mid
           after_growth = has_grown now None start mid still grows_so
 
@@ -135,7 +136,7 @@ module _ (size : ℕ) (w : World) (memory : Memory) (held : Held) (old : State) 
               → (IsReady size grown (memory_with now) mid → refusal_by_world grown now id ≡ None → grows grown now.name ≡ false → Applies size grown (with_made now.name id grown) (with_held now.number (Some behind) (memory_with now)) fault mid new)
               → AppliesNew behind fault new
           new_in_more behind fault new makes =
-              let made = makes (after_growth.ready refl) (grown_refusal size w memory held old number there ready id now name log none) less_then in
+              let made = makes (after_growth.ready refl) (grown_refusal size w memory held old number there ready id now name tx none) less_then in
               subst (λ (v : World). Applies size w v (memory_with behind) fault old new) (sym (world_more size w memory held old number there ready id free more))
               (Applies-then size w grown (with_made held.name id grown) (memory_with now) (memory_with behind) fault old mid new refl after_growth
               (subst (λ n. Applies size grown (with_made n id grown) (memory_with behind) fault mid new) name

@@ -22,14 +22,13 @@ use Rattle.pud_defs.specs.Types.{map_of}
 use Rattle.pud_defs.specs.World.{Transaction, World}
 use Rattle.graph_laws.specs.Slots.{AreAllLive, IsLowestFreeSlot}
 use Rattle.puddle_header.specs.Places.{place_of_slot, IsSlotOf}
-use Rattle.log_store.specs.Store.{OpenLog, longer}
 use Rattle.hybrid_tx.specs.Grounds.{IsPlaced}
-use Rattle.hybrid_tx.specs.Transactions.{IsOpenOn, RunsOn, MakesIn}
+use Rattle.hybrid_tx.specs.Transactions.{OpenTx, IsOpenOn, RunsOn, MakesIn}
 use Rattle.ready_daemon.specs.Memory.{Held, Memory, held_under, with_held}
 use Rattle.ready_daemon.specs.Held.{IsHeld}
 use Rattle.pool_transaction.specs.Changing.{refusal_to_make, refusal_by_world, with_made}
 use Rattle.ready_daemon.specs.Ready.{IsReady, Applies}
-use Rattle.pool_transaction.proofs.HeldRuns.{is_held, held_placed, Applies-runs}
+use Rattle.pool_transaction.proofs.HeldRuns.{with_tx, is_held, held_placed, Applies-runs}
 use Rattle.pool_transaction.proofs.HeldSets.{used_more, OwesRuns, told, owed}
 use Rattle.ready_daemon.proofs.OpenNames.{Charges-charged}
 use Rattle.pool_transaction.proofs.HeldPools.{grows_live, grows_not}
@@ -60,8 +59,8 @@ may_make map units next none =
     record { is = there.0; defined = there.1; fits = ltb-false LOG_ENTRY_WORDS (units + NEW_UNITS) big.0; left = leb-false NUMBER_LIMIT next full.0 }
 
 -- the units of what is not refused fit
-pub units_fit : (w : World) (held : Held) (id : ℕ) → refusal_by_world w held id ≡ None → held.log.used + NEW_UNITS ≤ LOG_ENTRY_WORDS
-units_fit w held id none = (may_make (map_of id w.stored.types) held.log.used (next_in (graph_seen (w.transactions held.name) (pool_named held.name w.stored))) none).fits
+pub units_fit : (w : World) (held : Held) (id : ℕ) → refusal_by_world w held id ≡ None → held.units + NEW_UNITS ≤ LOG_ENTRY_WORDS
+units_fit w held id none = (may_make (map_of id w.stored.types) held.units (next_in (graph_seen (w.transactions held.name) (pool_named held.name w.stored))) none).fits
 
 module _ (size : ℕ) (w : World) (memory : Memory) (held : Held) (old : State) (number : ℕ) (there : held_under memory.held number ≡ Some held) (ready : IsReady size w memory old) where
   abbrev is : IsHeld w held ready.mask old.now.words
@@ -104,27 +103,27 @@ module _ (size : ℕ) (w : World) (memory : Memory) (held : Held) (old : State) 
     pub made_lowest : (id : ℕ) → refusal_by_world w held id ≡ None → (fault : Option HostFault) (new : State) (slot : Slot) → OwesMakes slot id fault new at → IsSlotOf held.at slot
         → IsLowestFreeSlot (stored_in F held.at (reads old.now.words)) (place_of_slot slot) → MakesIn F held.at held.log.at slot id fault old new
     made_lowest id none fault new slot owes of lowest =
-        let may = may_make (map_of id w.stored.types) held.log.used (next_in (graph_seen (w.transactions held.name) (pool_named held.name w.stored))) none in
+        let may = may_make (map_of id w.stored.types) held.units (next_in (graph_seen (w.transactions held.name) (pool_named held.name w.stored))) none in
         subst (λ (puddles : List (ℕ × Puddle)). OwesMakes slot id fault new puddles) listed owes
         (subst (λ (n : ℕ). IsPlaced n held.at) (sym same) (held_placed size w memory held old number there ready))
         (subst (λ (n : ℕ). IsOpenOn n held.at w.stored.types held.log is.before is.undone is.transaction.now is.transaction.laters old.now.words) (sym same) is.running)
         (subst (λ (n : ℕ). n < NUMBER_LIMIT) next_serial may.left) of lowest
 
-    module _ (id : ℕ) (none : refusal_by_world w held id ≡ None) (log : OpenLog) (new : State) (gate : log.at ≡ held.log.at) where
-      may : MayMake (map_of id w.stored.types) held.log.used (next_in (graph_seen (w.transactions held.name) (pool_named held.name w.stored)))
-      may = may_make (map_of id w.stored.types) held.log.used (next_in (graph_seen (w.transactions held.name) (pool_named held.name w.stored))) none
+    module _ (id : ℕ) (none : refusal_by_world w held id ≡ None) (tx : OpenTx) (new : State) (gate : tx.log.at ≡ held.log.at) where
+      may : MayMake (map_of id w.stored.types) held.units (next_in (graph_seen (w.transactions held.name) (pool_named held.name w.stored)))
+      may = may_make (map_of id w.stored.types) held.units (next_in (graph_seen (w.transactions held.name) (pool_named held.name w.stored))) none
 
       the_object : with_new (blank_object id may.is) ≡ with_new (object_made w id)
       the_object = ap (λ (o : Option ℕ). with_new (blank_object id (unwrap_or o 0))) (sym may.defined)
 
       pub Applies-made : (done : Result ℕ HostFault) → grows w held.name ≡ false
           → ((m : ℕ) → map_of id w.stored.types ≡ Some m → is.transaction.now.next_serial < NUMBER_LIMIT → (AreAllLive (stored_in F at (reads old.now.words)) → ⊥)
-          → OwesRuns size w memory held old number there ready F at same listed log new gate F at (charged NEW_UNITS (with_new (blank_object id m))) (fault_of done))
-          → ((AreAllLive (stored_in F at (reads old.now.words)) → ⊥) → IfOk done (λ _. log ≡ longer NEW_UNITS held.log))
-          → Applies size w (with_made held.name id w) (with_held number (Some (record held { log = log })) memory) (fault_of done) old new
+          → OwesRuns size w memory held old number there ready F at same listed tx new gate F at (charged NEW_UNITS (with_new (blank_object id m))) (fault_of done))
+          → ((AreAllLive (stored_in F at (reads old.now.words)) → ⊥) → IfOk done (λ _. tx.units ≡ held.units + NEW_UNITS))
+          → Applies size w (with_made held.name id w) (with_held number (Some (with_tx tx held)) memory) (fault_of done) old new
       Applies-made done less runs used =
           let left = subst (λ (n : ℕ). n < NUMBER_LIMIT) next_serial may.left in
-          let at_first = owed size w memory held old number there ready F at same listed log new gate (charged NEW_UNITS (with_new (blank_object id may.is))) (fault_of done) (runs may.is may.defined left (not_live less)) in
-          Applies-runs size w memory held old number there ready log NEW_UNITS (charged NEW_UNITS (with_new (object_made w id))) (Charges-charged NEW_UNITS (with_new (object_made w id))) (fault_of done) new gate
-          (used_more done NEW_UNITS log held.log (used (not_live less)))
-          (subst (λ (change : Graph → Graph). RunsOn w.stored.frames held.at w.stored.types log is.before is.undone (change is.transaction.now) is.transaction.laters (fault_of done) old new) the_object at_first)
+          let at_first = owed size w memory held old number there ready F at same listed tx new gate (charged NEW_UNITS (with_new (blank_object id may.is))) (fault_of done) (runs may.is may.defined left (not_live less)) in
+          Applies-runs size w memory held old number there ready tx NEW_UNITS (charged NEW_UNITS (with_new (object_made w id))) (Charges-charged NEW_UNITS (with_new (object_made w id))) (fault_of done) new gate
+          (used_more done NEW_UNITS tx.units held.units (used (not_live less)))
+          (subst (λ (change : Graph → Graph). RunsOn w.stored.frames held.at w.stored.types tx.log is.before is.undone (change is.transaction.now) is.transaction.laters (fault_of done) old new) the_object at_first)

@@ -31,7 +31,7 @@ use Rattle.pud_defs.proofs.PoolRefusals.{space_by_table}
 use Rattle.pud_defs.proofs.Steps.{done_answer, done_world}
 use Rattle.pud_defs.proofs.TablesOf.{pools_beyond, frames_of_tables}
 use Rattle.registry.specs.Growth.{has_room}
-use Rattle.log_store.specs.Store.{OpenLog}
+use Rattle.hybrid_tx.specs.Transactions.{OpenTx}
 use Rattle.hybrid_tx.proofs.OpenPools.{open_on_device}
 use Rattle.ready_daemon.specs.Memory.{Held, Memory, held_under}
 use Rattle.ready_daemon.specs.Held.{pool_held, IsHeld}
@@ -39,6 +39,7 @@ use Rattle.pool_transaction.specs.Changing.{refusal_to_make, refusal_by_tables, 
 use Rattle.ready_daemon.specs.Ready.{IsReady}
 use Rattle.ready_daemon.proofs.TablesBeside.{header_read, types_read, pools_read, sound_read}
 use Rattle.pool_transaction.proofs.TransactionRefusals.{making_refusal, refusal_of-new, own_is_open}
+use Rattle.ready_daemon.specs.Beginning.{tx_held}
 use Rattle.pool_transaction.proofs.HeldRuns.{is_held}
 use Rattle.pool_transaction.proofs.HeldPools.{its_pool, grows_by, objects_fit, puddles_counted}
 use Rattle.pool_transaction.proofs.HeldGrows.{found_more}
@@ -134,7 +135,7 @@ module _ (size : ℕ) (w : World) (memory : Memory) (held : Held) (s : State) (n
   -- Its refusals are those that count whatever slots there are, and behind them, where each slot is live, those of a puddle more.
   pub refusal_new : refusal_of w line ≡ option_or (refusal_by_world w held id) (cond (grows w held.name) (refusal_by_tables F held image) None)
   refusal_new =
-      let units : units_of (w.transactions held.name) ≡ held.log.used = ap units_of opened ∙ is.units in
+      let units : units_of (w.transactions held.name) ≡ held.units = ap units_of opened ∙ is.units in
       let full : is_full_graph (graph_seen (w.transactions held.name) (pool_named held.name w.stored)) ≡ (leb NUMBER_LIMIT is.transaction.now.next_serial || many) =
       ap (λ (o : Option Transaction). is_full_graph (graph_seen o (pool_named held.name w.stored))) opened in
       let next = next_serial size w memory held s number there ready in
@@ -142,20 +143,20 @@ module _ (size : ℕ) (w : World) (memory : Memory) (held : Held) (s : State) (n
       ∙ ap (λ (first : Option Refusal). option_or first (making_refusal (map_of id w.stored.types) (units_of (w.transactions held.name)) (lacks_room w held.name) (grows w held.name && lacks_frames w.stored 1))) own
       ∙ (λ p. cond (is_none (map_of id w.stored.types)) (Some refusals.NoType) (cond (ltb LOG_ENTRY_WORDS (units p + NEW_UNITS)) (Some refusals.TooBig)
       (cond (full p || (grows w held.name && lacks_a_number w.stored.next_number)) (Some refusals.Full) (cond (grows w held.name && lacks_frames w.stored 1) (Some refusals.Space) None))))
-      ∙ joined (is_none (map_of id w.stored.types)) (ltb LOG_ENTRY_WORDS (held.log.used + NEW_UNITS)) (leb NUMBER_LIMIT is.transaction.now.next_serial) many (lacks_a_number w.stored.next_number) (lacks_frames w.stored 1)
+      ∙ joined (is_none (map_of id w.stored.types)) (ltb LOG_ENTRY_WORDS (held.units + NEW_UNITS)) (leb NUMBER_LIMIT is.transaction.now.next_serial) many (lacks_a_number w.stored.next_number) (lacks_frames w.stored 1)
       (grows w held.name) (has_room (length held.at) (image NEXT_NUMBER_WORD)) (is_none (first_free t.puddles 0 t.frames)) less_by more_by frames_lack
-      ∙ ap (λ (n : ℕ). option_or (refusal_to_make (map_of id w.stored.types) held.log.used n) (cond (grows w held.name) (refusal_by_tables F held image) None)) (sym next)
+      ∙ ap (λ (n : ℕ). option_or (refusal_to_make (map_of id w.stored.types) held.units n) (cond (grows w held.name) (refusal_by_tables F held image) None)) (sym next)
 
   -- what is read gives those that count whatever slots there are
-  refusal_read : (n : ℕ) → n ≡ F → refusal_to_make (map_of id (types_of image)) held.log.used (next_serial_of (stored_in n held.at image)) ≡ refusal_by_world w held id
+  refusal_read : (n : ℕ) → n ≡ F → refusal_to_make (map_of id (types_of image)) held.units (next_serial_of (stored_in n held.at image)) ≡ refusal_by_world w held id
   refusal_read n same =
       let has = graph_of-each w.stored.types (stored_in F held.at image) is.transaction.now is.running.is in
       let types : types_of image ≡ w.stored.types = (types_read size w memory s ready).types in
       let serial : next_serial_of (stored_in n held.at image) ≡ next_in (graph_seen (w.transactions held.name) (pool_named held.name w.stored)) =
       ap (λ (m : ℕ). next_serial_of (stored_in m held.at image)) same ∙ ap (λ (g : Graph). g.next_serial) has.is ∙ sym (next_serial size w memory held s number there ready) in
-      ap₂ (λ (ts : List (ℕ × ℕ)) (v : ℕ). refusal_to_make (map_of id ts) held.log.used v) types serial
+      ap₂ (λ (ts : List (ℕ × ℕ)) (v : ℕ). refusal_to_make (map_of id ts) held.units v) types serial
 
-  pub refusal_found : (n : ℕ) → n ≡ F → (found refused : Option Refusal) → found ≡ refusal_to_make (map_of id (types_of image)) held.log.used (next_serial_of (stored_in n held.at image)) → found ≡ refused
+  pub refusal_found : (n : ℕ) → n ≡ F → (found refused : Option Refusal) → found ≡ refusal_to_make (map_of id (types_of image)) held.units (next_serial_of (stored_in n held.at image)) → found ≡ refused
       → refusal_by_world w held id ≡ refused
   refusal_found n same found refused read is = sym (refusal_read n same) ∙ sym read ∙ is
 
@@ -218,12 +219,12 @@ module _ (size : ℕ) (w : World) (memory : Memory) (held : Held) (s : State) (n
       ∙ ne_eqb (length is.transaction.now.objects) (slots_among (p.pool.puddles + 1)) (λ same. absurd (omega (arith, same, counted, all)))
 
   -- and the same is refused whatever slots there are
-  pub grown_refusal : (now : Held) → now.name ≡ held.name → now.log ≡ held.log → refusal_by_world w held id ≡ None → refusal_by_world (with_more held.name w) now id ≡ None
+  pub grown_refusal : (now : Held) → now.name ≡ held.name → tx_held now ≡ tx_held held → refusal_by_world w held id ≡ None → refusal_by_world (with_more held.name w) now id ≡ None
   unfolding with_grown_pool
-  grown_refusal now name log none =
-      ap₂ (λ (n : List ℕ) (l : OpenLog). refusal_to_make (map_of id w.stored.types) l.used (next_in (graph_seen (w.transactions n) (pool_named n (with_grown_pool held.name w.stored))))) name log
-      ∙ ap (λ (o : Option Transaction). refusal_to_make (map_of id w.stored.types) held.log.used (next_in (graph_seen o (pool_named held.name (with_grown_pool held.name w.stored))))) opened
-      ∙ sym (ap (λ (o : Option Transaction). refusal_to_make (map_of id w.stored.types) held.log.used (next_in (graph_seen o (pool_named held.name w.stored)))) opened)
+  grown_refusal now name tx none =
+      ap₂ (λ (n : List ℕ) (x : OpenTx). refusal_to_make (map_of id w.stored.types) x.units (next_in (graph_seen (w.transactions n) (pool_named n (with_grown_pool held.name w.stored))))) name tx
+      ∙ ap (λ (o : Option Transaction). refusal_to_make (map_of id w.stored.types) held.units (next_in (graph_seen o (pool_named held.name (with_grown_pool held.name w.stored))))) opened
+      ∙ sym (ap (λ (o : Option Transaction). refusal_to_make (map_of id w.stored.types) held.units (next_in (graph_seen o (pool_named held.name w.stored)))) opened)
       ∙ none
 
   pub grown_next : next_in (graph_seen ((with_more held.name w).transactions held.name) (pool_named held.name (with_more held.name w).stored)) ≡ next_in (graph_seen (w.transactions held.name) (pool_named held.name w.stored))

@@ -79,7 +79,7 @@ module _ (size : ℕ) (w : World) (memory : Memory) (s : State) (ready : IsReady
   pub refused_to_set : (frames serial f units : ℕ) (x : Val) (at : List (ℕ × Puddle)) (missed : Bool) (read : FieldRead) → frames ≡ w.stored.frames → at ≡ held.at
       → ((g : Graph) → graph_of (types_of image) (stored_in frames at image) ≡ Some g → missed ≡ misses (Some g) x)
       → ((g : Graph) → graph_of (types_of image) (stored_in frames at image) ≡ Some g → read ≡ read_by (object_in serial g) f)
-      → units ≡ held.log.used → refusal_to_set missed read x units ≡ refusal_of w (Set held.client held.name serial f x)
+      → units ≡ held.units → refusal_to_set missed read x units ≡ refusal_of w (Set held.client held.name serial f x)
   refused_to_set frames serial f units x at missed read on same names fields used =
       let graph = ap (λ puddles. graph_of (types_of image) (stored_in frames puddles image)) same ∙ graph_held frames on in
       let now : Graph = is.transaction.now in
@@ -90,7 +90,7 @@ module _ (size : ℕ) (w : World) (memory : Memory) (s : State) (ready : IsReady
   -- why an object is not made the root
   pub refused_to_root : (frames serial units : ℕ) (at : List (ℕ × Puddle)) (missed : Bool) → frames ≡ w.stored.frames → at ≡ held.at
       → ((g : Graph) → graph_of (types_of image) (stored_in frames at image) ≡ Some g → missed ≡ misses (Some g) (Ref serial))
-      → units ≡ held.log.used → refusal_to_root missed units ≡ refusal_of w (Root held.client held.name serial)
+      → units ≡ held.units → refusal_to_root missed units ≡ refusal_of w (Root held.client held.name serial)
   refused_to_root frames serial units at missed on same names used =
       let graph = ap (λ puddles. graph_of (types_of image) (stored_in frames puddles image)) same ∙ graph_held frames on in
       (λ p. refusal_to_root (names is.transaction.now graph p) ((used ∙ sym is.units) p))
@@ -122,12 +122,11 @@ module _ (size : ℕ) (w : World) (memory : Memory) (s : State) (ready : IsReady
   pub refused_to_free : (then : State) (frames serial units : ℕ) (at : List (ℕ × Puddle)) (log : OpenLog) (named asked : Bool) → then ≡ s → frames ≡ w.stored.frames → at ≡ held.at → log ≡ held.log
       → ((g : Graph) → graph_of (types_of image) (stored_in frames at image) ≡ Some g → is_none (object_in serial g) ≡ false)
       → ((g : Graph) → graph_of (types_of image) (stored_in frames at image) ≡ Some g → named ≡ is_held serial g)
-      → (IsPlaced frames at → IsOpenIn then frames at (types_of image) log → asked ≡ laters_name serial is.transaction.laters) → units ≡ log.used
+      → (IsPlaced frames at → IsOpenIn then frames at (types_of image) log → asked ≡ laters_name serial is.transaction.laters) → units ≡ held.units
       → refusal_to_free named asked units ≡ refusal_of w (Free held.client held.name serial)
   refused_to_free then frames serial units at log named asked still on same logged is_there names laters used =
       let graph = ap (λ puddles. graph_of (types_of image) (stored_in frames puddles image)) same ∙ graph_held frames on in
       let now : Graph = is.transaction.now in
       let opened = open_read then frames at log still on same logged in
-      let counted = used ∙ ap (λ (l : OpenLog). l.used) logged ∙ sym is.units in
-      (λ p. cond (sym (is_there now graph) p) (Some refusals.Object) (refusal_to_free (names now graph p) (laters opened.0 opened.1 p) (counted p)))
+      (λ p. cond (sym (is_there now graph) p) (Some refusals.Object) (refusal_to_free (names now graph p) (laters opened.0 opened.1 p) ((used ∙ sym is.units) p)))
       ∙ refused_by (changes.Free serial)

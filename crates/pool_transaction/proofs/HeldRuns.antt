@@ -22,12 +22,11 @@ use Rattle.pud_defs.proofs.Spaces.{owner_of-same}
 use Rattle.pud_defs.proofs.TablesOf.{frames_of_tables}
 use Rattle.batch.specs.Worlds.{IsSettled}
 use Rattle.batch.proofs.Tables.{reads_kept, HasDurableTables-kept}
-use Rattle.log_store.specs.Store.{OpenLog}
 use Rattle.word_transaction.specs.Running.{SettlesTo, ByTransaction}
 use Rattle.hybrid_tx.specs.Grounds.{pool_ground, IsPlaced}
 use Rattle.hybrid_tx.specs.ManyOpen.{OpenTransaction, AreLeftOpen}
 use Rattle.hybrid_tx.specs.Masks.{OpenPool, IsLeftOpen}
-use Rattle.hybrid_tx.specs.Transactions.{RunsOn}
+use Rattle.hybrid_tx.specs.Transactions.{OpenTx, RunsOn}
 use Rattle.hybrid_tx.proofs.OpenMasks.{open_record_place, mine_behind}
 use Rattle.hybrid_tx.proofs.OpenPools.{open_on_device}
 use Rattle.hybrid_tx.proofs.PoolPlaces.{placed_of_members}
@@ -42,6 +41,10 @@ use Rattle.pool_transaction.proofs.HeldChanged.{Holds-later, HasSessions-later, 
 use Rattle.ready_daemon.proofs.PoolsBeside.{members_still}
 use Rattle.ready_daemon.proofs.JudgedOpen.{KeepsPools-held}
 use Rattle.ready_daemon.proofs.TablesBeside.{sound_read}
+
+-- it, with this transaction on the pool's objects
+abbrev pub with_tx : OpenTx → Held → Held
+with_tx tx held = record held { log = tx.log; units = tx.units }
 
 -- ---- a daemon that is ready, and holds it
 
@@ -193,14 +196,14 @@ module _ (size : ℕ) (w : World) (memory : Memory) (held : Held) (old : State) 
     }
 
   -- the transaction was changed, and used so many units more
-  module _ (log : OpenLog) (units : ℕ) (change : Transaction → Transaction) (charges : Charges units change) (fault : Option HostFault) (new : State) (at : log.at ≡ held.log.at)
-      (used : fault ≡ None → log.used ≡ held.log.used + units)
-      (runs : RunsOn F held.at w.stored.types log is.before is.undone (change is.transaction).now (change is.transaction).laters fault old new) where
+  module _ (tx : OpenTx) (units : ℕ) (change : Transaction → Transaction) (charges : Charges units change) (fault : Option HostFault) (new : State) (at : tx.log.at ≡ held.log.at)
+      (used : fault ≡ None → tx.units ≡ held.units + units)
+      (runs : RunsOn F held.at w.stored.types tx.log is.before is.undone (change is.transaction).now (change is.transaction).laters fault old new) where
     abbrev next : World
     next = record w { transactions = with_changed held.name change w.transactions }
 
     abbrev later : Held
-    later = record held { log = log }
+    later = with_tx tx held
 
     changes_own : Changes own fault old new
     changes_own = subst (λ (n : ℕ). Changes (ByTransaction (pool_ground F held.at) n) fault old new) at runs.saves.runs.changes

@@ -1,15 +1,15 @@
 -- Which refusal a line of a transaction meets: the causes of all of them on an open transaction, and then those of its own.
-use Rattle.std.proofs.Common.{◌≡◌, ℕ, ◌+◌, ◌≤◌, Bool, true, false, not, cond, ◌&&◌, ◌||◌, leb, ltb, eqb, List, Option, Some, None, is_some, is_none, refl, sym, ap, ap₂, ◌∙◌, eq-eqb}
+use Rattle.std.proofs.Common.{◌≡◌, ℕ, ◌+◌, ◌≤◌, Bool, true, false, not, cond, ◌&&◌, ◌||◌, ltb, eqb, List, Option, Some, None, is_some, is_none, refl, sym, ap, ap₂, ◌∙◌, eq-eqb}
 use Rattle.std.specs.Prelude.{slice_get}
 use Rattle.std.specs.Option.{option_or}
 use Rattle.std.proofs.lemmas.Bool.{ltb-false, or_parts}
 use Rattle.std.proofs.lemmas.Option.{none-some}
 use Rattle.pm_model.specs.Words.{Words}
 use Rattle.pm_model.specs.Changes.{Write}
-use Rattle.pud_defs.specs.declared.layout.TheConstants.{CLIENT_LOGS, LOG_ENTRY_WORDS, MAX_DEPTH, SET_UNITS, NEW_UNITS}
+use Rattle.pud_defs.specs.declared.layout.TheConstants.{LOG_ENTRY_WORDS, SET_UNITS, NEW_UNITS}
 use Rattle.pud_defs.specs.declared.objects.Val.{Val}
 use Rattle.pud_defs.specs.declared.objects.Val.TheVariants.{Ref}
-use Rattle.pud_defs.specs.declared.machine.Command.TheVariants.{Begin, Commit, Abort, New, Set}
+use Rattle.pud_defs.specs.declared.machine.Command.TheVariants.{Commit, Abort, New, Set}
 use Rattle.pud_defs.specs.declared.machine.Command.TheVariants as commands
 use Rattle.pud_defs.specs.declared.machine.Refusal.{Refusal}
 use Rattle.pud_defs.specs.declared.machine.Refusal.TheVariants as refusals
@@ -20,14 +20,14 @@ use Rattle.pud_defs.specs.Laters.{Later, laters_name}
 use Rattle.pud_defs.specs.Tables.{Pool}
 use Rattle.pud_defs.specs.PoolChanges.{pool_named, lacks_frames}
 use Rattle.pud_defs.specs.World.{Transaction, World}
-use Rattle.pud_defs.specs.Transactions.{is_own, is_others, units_of, depth_of, laters_of}
-use Rattle.pud_defs.specs.Step.{writes, graph_in, graph_seen, object_of, field_of, open_elsewhere, misses, are_of_two_kinds, is_held_in, grows, lacks_room, holds, refusal_of}
+use Rattle.pud_defs.specs.Transactions.{is_own, is_others, units_of, laters_of}
+use Rattle.pud_defs.specs.Step.{graph_in, graph_seen, object_of, field_of, misses, are_of_two_kinds, is_held_in, grows, lacks_room, holds, refusal_of}
 use Rattle.pool_transaction.specs.declared.changing.Change.{Change}
 use Rattle.pool_transaction.specs.declared.changing.Change.TheVariants as changes
 use Rattle.pool_transaction.specs.Changing.{line_of}
 use Rattle.ready_daemon.specs.Memory.{Held}
 use Rattle.ready_daemon.specs.Held.{Holds, IsHeld, IsOwn}
-use Rattle.pool_transaction.specs.Refusing.{busy_unless, refusal_to_write}
+use Rattle.pool_transaction.specs.Refusing.{busy_unless}
 use Rattle.ready_daemon.proofs.Beside.{held_is}
 
 -- ---- by their parts
@@ -40,12 +40,6 @@ own_refusal who found client opened =
     (cond (is_none (graph_in found)) (Some refusals.Wild)
     (cond (is_others client opened) (Some refusals.Busy)
     (cond (not (is_own client opened)) (Some refusals.Tx) None))))
-
--- of `begin`, on a pool that the client may write, by what is open on it and how many the client has on others
-abbrev pub entering_refusal : (client : ℕ) → Option Transaction → (elsewhere : ℕ) → Option Refusal
-entering_refusal client opened elsewhere =
-    cond (is_own client opened && leb MAX_DEPTH (depth_of opened)) (Some refusals.Deep)
-    (cond (not (is_own client opened) && leb CLIENT_LOGS elsewhere) (Some refusals.Logs) None)
 
 -- of `set`, where the client's own transaction is open, by the graph as it is seen and the units that are used
 abbrev pub setting_refusal : Option Graph → (units s f : ℕ) → Val → Option Refusal
@@ -82,7 +76,7 @@ making_refusal map units full lacks =
     (cond lacks (Some refusals.Space) None)))
 
 -- five causes in front of others
-behind : (r q t u v : Refusal) (a b c d e : Bool) (rest : Option Refusal)
+pub behind : (r q t u v : Refusal) (a b c d e : Bool) (rest : Option Refusal)
     → cond a (Some r) (cond b (Some q) (cond c (Some t) (cond d (Some u) (cond e (Some v) rest)))) ≡ option_or (cond a (Some r) (cond b (Some q) (cond c (Some t) (cond d (Some u) (cond e (Some v) None))))) rest
 behind r q t u v true b c d e rest = refl
 behind r q t u v false true c d e rest = refl
@@ -108,12 +102,6 @@ module _ (w : World) (client : ℕ) (name : List ℕ) where
   pub refusal_of-abort : refusal_of w (Abort client name) ≡ refusal_of w (Commit client name)
   unfolding refusal_of holds
   refusal_of-abort = refl
-
-  pub refusal_of-begin : refusal_of w (Begin client name) ≡ option_or (refusal_to_write w client name) (entering_refusal client opened (open_elsewhere w client name))
-  unfolding refusal_of holds
-  refusal_of-begin =
-      behind refusals.Client refusals.Pool refusals.Wild refusals.Denied refusals.Busy (not (is_some acts)) (is_none found) (is_none (graph_in found)) (not (writes acts found)) (is_others client opened)
-      (entering_refusal client opened (open_elsewhere w client name))
 
   -- what is asked for later is refused as what is set
   pub refusal_of-later : (s f : ℕ) (x : Val) → refusal_of w (commands.Later client name s f x) ≡ refusal_of w (Set client name s f x)
@@ -150,10 +138,6 @@ module _ (w : World) (client : ℕ) (name : List ℕ) where
   refusal_of-new t =
       new_by t
       ∙ ap (λ (r : Option Refusal). option_or r (making_refusal (map_of t w.stored.types) (units_of opened) (lacks_room w name) (grows w name && lacks_frames w.stored 1))) (sym refusal_of-commit)
-
-  -- a `begin` on a pool that the client may not write
-  pub refused_begin : (r : Refusal) → refusal_to_write w client name ≡ Some r → refusal_of w (Begin client name) ≡ Some r
-  refused_begin r refused = refusal_of-begin ∙ ap (λ (o : Option Refusal). option_or o (entering_refusal client opened (open_elsewhere w client name))) refused
 
   -- a line that is refused before what it asks is looked at
   module _ (r : Refusal) (refused : refusal_of w (Commit client name) ≡ Some r) where

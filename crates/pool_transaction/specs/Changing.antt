@@ -78,7 +78,7 @@ GrowsBy F held image a = IsGrowthFor (tables_of F image) (image NEXT_NUMBER_WORD
 
 -- by the world, of an object of this type
 abbrev pub refusal_by_world : World → Held → ℕ → Option Refusal
-refusal_by_world w held id = refusal_to_make (map_of id w.stored.types) held.log.used (next_in (graph_seen (w.transactions held.name) (pool_named held.name w.stored)))
+refusal_by_world w held id = refusal_to_make (map_of id w.stored.types) held.units (next_in (graph_seen (w.transactions held.name) (pool_named held.name w.stored)))
 
 -- the world with a puddle more in the pool of the name
 abbrev pub with_more : List ℕ → World → World

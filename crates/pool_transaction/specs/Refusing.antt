@@ -1,15 +1,10 @@
 -- Why a line of a transaction is refused, by what was read for it, and what was found of the client's own.
-use Rattle.std.specs.Prelude.{◌+◌, ℕ, Bool, not, ◌||◌, nat_lt, cond, List, is_none, is_some, Option, Some, None}
+use Rattle.std.specs.Prelude.{◌+◌, ℕ, Bool, ◌||◌, nat_lt, cond, Option, Some, None}
 use Rattle.pud_defs.specs.declared.layout.TheConstants.{LOG_ENTRY_WORDS, SET_UNITS}
 use Rattle.pud_defs.specs.declared.objects.Val.{Val}
 use Rattle.pud_defs.specs.declared.machine.Refusal.{Refusal}
 use Rattle.pud_defs.specs.declared.machine.Refusal.TheVariants as refusals
-use Rattle.pud_defs.specs.PoolChanges.{pool_named}
-use Rattle.pud_defs.specs.Spaces.{Owner}
-use Rattle.pud_defs.specs.Step.{are_of_two_kinds, graph_in, writes}
-use Rattle.pud_defs.specs.Tables.{Pool}
-use Rattle.pud_defs.specs.Transactions.{is_others}
-use Rattle.pud_defs.specs.World.{Transaction, World}
+use Rattle.pud_defs.specs.Step.{are_of_two_kinds}
 use Rattle.graph_read.specs.declared.fields.FieldRead.{FieldRead}
 use Rattle.graph_read.specs.declared.fields.FieldRead.TheVariants.{NoObject, NoField, Value}
 
@@ -17,7 +12,7 @@ use Rattle.graph_read.specs.declared.fields.FieldRead.TheVariants.{NoObject, NoF
 abbrev pub busy_unless : (own : Bool) → Option Refusal
 busy_unless own = cond own None (Some refusals.Busy)
 
--- why a change of three units is not made that may be made else, by how many are used: the log has no room for it
+-- why a change of three units is not made that may be made else, by how many are used: too few are left
 abbrev pub room_refusal : (units : ℕ) → Option Refusal
 room_refusal units = cond (nat_lt LOG_ENTRY_WORDS (units + SET_UNITS)) (Some refusals.TooBig) None
 
@@ -38,17 +33,3 @@ refusal_to_root missed units = cond missed (Some refusals.Object) (room_refusal 
 -- why an object that is there is not freed, by whether the root or a field names it, and whether what is asked for later does
 abbrev pub refusal_to_free : (held asked : Bool) → (units : ℕ) → Option Refusal
 refusal_to_free held asked units = cond (held || asked) (Some refusals.Held) (room_refusal units)
-
--- why no transaction of the client begins on this pool, whatever it has open, where this is open on it: no one acts as the client, there is no
--- pool, it is wild, its mode is against it, or the transaction is another's
-abbrev pub writing_refusal : Option Owner → Option Pool → (client : ℕ) → Option Transaction → Option Refusal
-writing_refusal who found client opened =
-    cond (not (is_some who)) (Some refusals.Client)
-    (cond (is_none found) (Some refusals.Pool)
-    (cond (is_none (graph_in found)) (Some refusals.Wild)
-    (cond (not (writes who found)) (Some refusals.Denied)
-    (cond (is_others client opened) (Some refusals.Busy) None))))
-
--- the same of a client and a name
-abbrev pub refusal_to_write : World → (client : ℕ) → List ℕ → Option Refusal
-refusal_to_write w client name = writing_refusal (w.clients client) (pool_named name w.stored) client (w.transactions name)

@@ -1,7 +1,8 @@
 //! What a transaction that is open changes of its pool: a field or the root is set, or a field's value asked for later, and an object is freed or made.
-ghost use Rattle.std.specs.Prelude.{◌≡◌, ◌≢◌, ◌+◌, ◌<◌, ◌≤◌, ℕ, List, true, false, Option, IfOk, IfNone};
+ghost use Rattle.std.specs.Prelude.{◌≡◌, ◌+◌, ◌<◌, ◌≤◌, ℕ, List, true, false, Option, IfOk, IfNone};
 ghost use Rattle.pm_model.specs.Words.{IsRested, reads};
 ghost use Rattle.pm_model.specs.Counts.{after_fault, fault_of};
+ghost use Rattle.pm_model.specs.Reads.{OnlyReads};
 ghost use Rattle.pm_model.specs.Changes.{Changes};
 ghost use Rattle.pud_defs.specs.declared.layout.TheConstants.{LOG_WORDS, LOG_ENTRY_WORDS, MAX_FRAMES, SET_UNITS, NEW_UNITS};
 ghost use Rattle.pud_defs.specs.declared.records.Slot.{Slot};
@@ -17,10 +18,10 @@ ghost use Rattle.pud_defs.specs.Step.Answer.{of_reply};
 ghost use Rattle.pud_defs.specs.World.{Transaction, World};
 ghost use Rattle.graph_laws.specs.Slots.{IsLowestFreeSlot};
 ghost use Rattle.puddle_header.specs.Places.{place_of_slot, IsSlotOf};
-ghost use Rattle.log_store.specs.Store.{longer};
 ghost use Rattle.word_transaction.specs.Running.{ByTransaction};
 ghost use Rattle.hybrid_tx.specs.Grounds.{pool_ground, IsPlaced, IsRewritten};
 ghost use Rattle.hybrid_tx.specs.Transactions.{IsOpenOn, RunsOn, MakesIn};
+ghost use Rattle.ready_daemon.specs.Beginning.{tx_held};
 ghost use Rattle.ready_daemon.specs.Memory.{Memory, held_under, with_held};
 ghost use Rattle.ready_daemon.specs.Held.{IsHeldWithin};
 ghost use Rattle.registry.specs.Adding.{IsAddedWithin};
@@ -59,9 +60,7 @@ fn serial_to_give<H: Host>(h: &mut H, frames: u32, pool: &[(u32, Puddle)]) -> Re
     requires room { device_words frames ≤ (H.counts h.old).size }
     requires known { IsOnDevice frames pool.now }
     ensures serial { H.tells → (image : Image) → reads (H.state h.old).now.words ≡ image → IfOk result (λ serial. serial ≡ next_serial_of (stored_in frames pool.now image)) }
-    ensures stays { H.tells → H.state h.new ≡ H.state h.old }
-    ensures cause { H.counts h.new ≡ after_fault (fault_of result) (H.counts h.old) }
-    ensures never_cut { fault_of result ≢ Option.Some HostFault.Cut }
+    ensures only_reads { OnlyReads H.tells H.state H.counts (fault_of result) h.old h.new }
 {
     if pool.is_empty() {
         return Ok(0);
@@ -98,16 +97,16 @@ fn carry_out<H: Host>(
     requires few { frames ≤ MAX_FRAMES }
     requires device { device_words frames ≤ (H.counts h.old).size }
     requires known { IsOnDevice frames pool.now }
-    requires place { tx.old.at + LOG_WORDS ≤ frames_at frames }
+    requires place { (tx.old).log.at + LOG_WORDS ≤ frames_at frames }
     requires legal { IsLegalChange change }
-    requires room { tx.old.used + SET_UNITS ≤ LOG_ENTRY_WORDS }
-    ensures at { tx.new.at ≡ tx.old.at }
-    ensures changes { H.tells → Changes (ByTransaction (pool_ground frames pool.now) tx.old.at) (fault_of result) (H.state h.old) (H.state h.new) }
+    requires room { (tx.old).units + SET_UNITS ≤ LOG_ENTRY_WORDS }
+    ensures at { (tx.new).log.at ≡ (tx.old).log.at }
+    ensures changes { H.tells → Changes (ByTransaction (pool_ground frames pool.now) (tx.old).log.at) (fault_of result) (H.state h.old) (H.state h.new) }
     ensures runs { H.tells → (types : List (ℕ × ℕ)) (before : Image) (undone : Graph) (t : Transaction) → IsPlaced frames pool.now → IsRewritten pool.now
-        → IsOpenOn frames pool.now types tx.old before undone t.now t.laters (H.state h.old).now.words → MayChange types t change
-        → RunsOn frames pool.now types tx.new before undone (changed_by change t).now (changed_by change t).laters (fault_of result) (H.state h.old) (H.state h.new) }
+        → IsOpenOn frames pool.now types (tx.old).log before undone t.now t.laters (H.state h.old).now.words → MayChange types t change
+        → RunsOn frames pool.now types (tx.new).log before undone (changed_by change t).now (changed_by change t).laters (fault_of result) (H.state h.old) (H.state h.new) }
     ensures counts { H.tells → (types : List (ℕ × ℕ)) (before : Image) (undone : Graph) (t : Transaction) → IsPlaced frames pool.now
-        → IsOpenOn frames pool.now types tx.old before undone t.now t.laters (H.state h.old).now.words → MayChange types t change → IfOk result (λ _. tx.new ≡ longer SET_UNITS tx.old) }
+        → IsOpenOn frames pool.now types (tx.old).log before undone t.now t.laters (H.state h.old).now.words → MayChange types t change → IfOk result (λ _. (tx.new).units ≡ (tx.old).units + SET_UNITS) }
     ensures cause { H.counts h.new ≡ after_fault (fault_of result) (H.counts h.old) }
 {
     match change {
@@ -121,13 +120,13 @@ fn carry_out<H: Host>(
 impl Opened {
     /// Makes the change, where the line that asks for it is not refused.
     ///
-    /// The device has so many frames, and the log room for three units. Two fences.
+    /// The device has so many frames, and three units are left. Two fences.
     fn change<H: Host>(&mut self, h: &mut H, frames: u32, change: Change) -> Result<(), HostFault>
         requires few { frames ≤ MAX_FRAMES }
         requires room { device_words frames ≤ (H.counts h.old).size }
         requires within { IsHeldWithin frames self.old }
         requires legal { IsLegalChange change }
-        requires units { (self.old).log.used + SET_UNITS ≤ LOG_ENTRY_WORDS }
+        requires units { (self.old).units + SET_UNITS ≤ LOG_ENTRY_WORDS }
         ensures applies { H.tells → (size : ℕ) → size ≡ (H.counts h.old).size → (w : World) → (memory : Memory) → memory.frames ≡ frames → held_under memory.held (self.old).number ≡ Option.Some self.old
             → IsReady size w memory (H.state h.old) → IsRewritten (self.old).at → refusal_of w (line_of change (self.old).client (self.old).name) ≡ Option.None
             → Applies size w (after w (line_of change (self.old).client (self.old).name)) (with_held (self.old).number (Option.Some self.new) memory) (fault_of result) (H.state h.old) (H.state h.new) }
@@ -186,18 +185,16 @@ impl Opened {
         requires room { device_words frames ≤ (H.counts h.old).size }
         requires within { IsHeldWithin frames self.now }
         ensures refusal { H.tells → (image : Image) → reads (H.state h.old).now.words ≡ image
-            → IfOk result (λ refusal. refusal ≡ refusal_to_make (map_of t (types_of image)) (self.now).log.used (next_serial_of (stored_in frames (self.now).at image))) }
-        ensures fits { IfOk result (λ refusal. IfNone refusal ((self.now).log.used + NEW_UNITS ≤ LOG_ENTRY_WORDS)) }
-        ensures stays { H.tells → H.state h.new ≡ H.state h.old }
-        ensures cause { H.counts h.new ≡ after_fault (fault_of result) (H.counts h.old) }
-        ensures never_cut { fault_of result ≢ Option.Some HostFault.Cut }
+            → IfOk result (λ refusal. refusal ≡ refusal_to_make (map_of t (types_of image)) (self.now).units (next_serial_of (stored_in frames (self.now).at image))) }
+        ensures fits { IfOk result (λ refusal. IfNone refusal ((self.now).units + NEW_UNITS ≤ LOG_ENTRY_WORDS)) }
+        ensures only_reads { OnlyReads H.tells H.state H.counts (fault_of result) h.old h.new }
     {
         let map = find(h, u64::from(t))?;
         let next = serial_to_give(h, frames, self.puddles.as_slice())?;
         Ok(refusal_to_make(map, self.tx.units(), next))
     }
 
-    /// The puddle by which the pool grows for an object, or why it does not. That the log has room for the object is tested again, since the
+    /// The puddle by which the pool grows for an object, or why it does not. That units are left for the object is tested again, since the
     /// device may hold anything.
     fn find_growth<H: Host>(
         &self,
@@ -207,14 +204,12 @@ impl Opened {
         requires few { frames ≤ MAX_FRAMES }
         requires room { device_words frames ≤ (H.counts h.old).size }
         requires held { IsHeldWithin frames self.now }
-        ensures refusal { H.tells → (image : Image) → reads (H.state h.old).now.words ≡ image → (self.now).log.used + NEW_UNITS ≤ LOG_ENTRY_WORDS
+        ensures refusal { H.tells → (image : Image) → reads (H.state h.old).now.words ≡ image → (self.now).units + NEW_UNITS ≤ LOG_ENTRY_WORDS
             → IfOk result (λ found. refusal_in found ≡ refusal_by_tables frames self.now image) }
         ensures growth { H.tells → (image : Image) → reads (H.state h.old).now.words ≡ image → IfOk result (λ found. IfOk found (GrowsBy frames self.now image)) }
-        ensures fits { IfOk result (λ found. IfOk found (λ _. (self.now).log.used + NEW_UNITS ≤ LOG_ENTRY_WORDS)) }
+        ensures fits { IfOk result (λ found. IfOk found (λ _. (self.now).units + NEW_UNITS ≤ LOG_ENTRY_WORDS)) }
         ensures within { IfOk result (λ found. IfOk found (IsAddedWithin frames)) }
-        ensures stays { H.tells → H.state h.new ≡ H.state h.old }
-        ensures cause { H.counts h.new ≡ after_fault (fault_of result) (H.counts h.old) }
-        ensures never_cut { fault_of result ≢ Option.Some HostFault.Cut }
+        ensures only_reads { OnlyReads H.tells H.state H.counts (fault_of result) h.old h.new }
     {
         if self.tx.units() + NEW_UNITS > LOG_ENTRY_WORDS {
             return Ok(Err(Refusal::TooBig));
@@ -226,12 +221,12 @@ impl Opened {
     /// Makes an object of type `t` in the lowest free slot, where it is not refused whatever slots there are. The answer is its serial, or 0 where
     /// each slot is live, and then nothing is done.
     ///
-    /// The device has so many frames, and the log room for 37 units. Four fences.
+    /// The device has so many frames, and 37 units are left. Four fences.
     fn make<H: Host>(&mut self, h: &mut H, frames: u32, t: u32) -> Result<u64, HostFault>
         requires few { frames ≤ MAX_FRAMES }
         requires room { device_words frames ≤ (H.counts h.old).size }
         requires within { IsHeldWithin frames self.old }
-        requires units { (self.old).log.used + NEW_UNITS ≤ LOG_ENTRY_WORDS }
+        requires units { (self.old).units + NEW_UNITS ≤ LOG_ENTRY_WORDS }
         ensures makes { H.tells → (size : ℕ) → (w : World) → (memory : Memory) → memory.frames ≡ frames → held_under memory.held (self.old).number ≡ Option.Some self.old
             → IsReady size w memory (H.state h.old) → refusal_by_world w self.old t ≡ Option.None → grows w (self.old).name ≡ false
             → Applies size w (with_made (self.old).name t w) (with_held (self.old).number (Option.Some self.new) memory) (fault_of result) (H.state h.old) (H.state h.new) }
@@ -267,7 +262,7 @@ impl Opened {
             → Applies size w (with_more (self.old).name w) (with_held (self.old).number (Option.Some self.new) memory) (fault_of result) (H.state h.old) (H.state h.new) }
         ensures within { IsHeldWithin frames self.new }
         ensures stays { StaysOpen self.old self.new }
-        ensures log { self.new.log ≡ self.old.log }
+        ensures tx { tx_held self.new ≡ tx_held self.old }
         ensures rest { H.tells → KeepsRest (H.state h.old) (H.state h.new) }
         ensures rests { H.tells → fault_of result ≡ Option.Some HostFault.Cut → IsRested (H.state h.new).now.words }
         ensures cause { H.counts h.new ≡ after_fault (fault_of result) (H.counts h.old) }

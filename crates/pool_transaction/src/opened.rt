@@ -35,7 +35,7 @@ impl Model for Opened {
 
     ghost Value = { Held };
 
-    ghost view = { λ o. record { client = o.client; name = o.name; slot = o.slot; at = o.puddles; number = o.number; log = o.tx } };
+    ghost view = { λ o. record { client = o.client; name = o.name; slot = o.slot; at = o.puddles; number = o.number; log = o.tx.log; units = o.tx.units } };
 }
 
 /// The transactions that are open, by the numbers of their logs.

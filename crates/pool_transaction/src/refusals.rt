@@ -1,7 +1,8 @@
 //! Why a line in an open transaction is refused. Nothing is written.
-ghost use Rattle.std.specs.Prelude.{◌≡◌, ◌≢◌, ◌+◌, ◌<◌, ◌≤◌, ℕ, true, false, Option, Result, IfOk};
+ghost use Rattle.std.specs.Prelude.{◌≡◌, ◌+◌, ◌<◌, ◌≤◌, ℕ, true, false, Option, Result, IfOk};
 ghost use Rattle.pm_model.specs.Words.{reads};
-ghost use Rattle.pm_model.specs.Counts.{after_fault, fault_of};
+ghost use Rattle.pm_model.specs.Counts.{fault_of};
+ghost use Rattle.pm_model.specs.Reads.{OnlyReads};
 ghost use Rattle.pud_defs.specs.declared.layout.TheConstants.{LOG_ENTRY_WORDS, MAX_FRAMES, MAX_FIELDS, SET_UNITS};
 ghost use Rattle.pud_defs.specs.declared.machine.Command.TheVariants as commands;
 ghost use Rattle.pud_defs.specs.Image.{Image};
@@ -39,9 +40,7 @@ fn misses<H: Host>(
     ensures missed { H.tells → (image : Image) → reads (H.state h.old).now.words ≡ image
         → (g : Graph) → graph_of (types_of image) (stored_in frames pool.now image) ≡ Option.Some g
         → IfOk result (λ missed. missed ≡ misses (Option.Some g) x) }
-    ensures stays { H.tells → H.state h.new ≡ H.state h.old }
-    ensures cause { H.counts h.new ≡ after_fault (fault_of result) (H.counts h.old) }
-    ensures never_cut { fault_of result ≢ Option.Some HostFault.Cut }
+    ensures only_reads { OnlyReads H.tells H.state H.counts (fault_of result) h.old h.new }
 {
     match x {
         Val::Num(_) => Ok(false),
@@ -64,7 +63,7 @@ fn are_of_two_kinds(was: Val, x: Val) -> bool
     }
 }
 
-/// Why a change of three units is not made that may be made else, by how many of the log are used.
+/// Why a change of three units is not made that may be made else, by how many are used.
 fn room_refusal(units: u32) -> Option<Refusal>
     requires { units ≤ LOG_ENTRY_WORDS }
     ensures { result ≡ room_refusal units }
@@ -76,8 +75,7 @@ fn room_refusal(units: u32) -> Option<Refusal>
     }
 }
 
-/// Why a field of which this was read is not set to the value, by whether that names an object that is not there, and by how many units of the
-/// log are used.
+/// Why a field of which this was read is not set to the value, by whether that names an object that is not there, and by how many units are used.
 fn refusal_to_set(missed: bool, read: FieldRead, x: Val, units: u32) -> Option<Refusal>
     requires { units ≤ LOG_ENTRY_WORDS }
     ensures { result ≡ refusal_to_set missed read x units }
@@ -97,7 +95,7 @@ fn refusal_to_set(missed: bool, read: FieldRead, x: Val, units: u32) -> Option<R
     }
 }
 
-/// Why an object is not made the root, by whether there is none of its serial, and by how many units of the log are used.
+/// Why an object is not made the root, by whether there is none of its serial, and by how many units are used.
 fn refusal_to_root(missed: bool, units: u32) -> Option<Refusal>
     requires { units ≤ LOG_ENTRY_WORDS }
     ensures { result ≡ refusal_to_root missed units }
@@ -109,7 +107,7 @@ fn refusal_to_root(missed: bool, units: u32) -> Option<Refusal>
 }
 
 /// Why an object that is there is not freed, by whether the root or a field names it, whether what is asked for later does, and by how many units
-/// of the log are used.
+/// are used.
 fn refusal_to_free(held: bool, asked: bool, units: u32) -> Option<Refusal>
     requires { units ≤ LOG_ENTRY_WORDS }
     ensures { result ≡ refusal_to_free held asked units }
@@ -138,10 +136,8 @@ impl Opened {
         requires field { f < MAX_FIELDS }
         ensures refusal { H.tells → (size : ℕ) → (w : World) → (memory : Memory) → memory.frames ≡ frames → held_under memory.held (self.now).number ≡ Option.Some self.now → IsReady size w memory (H.state h.old)
             → IfOk result (λ refusal. refusal ≡ refusal_of w (commands.Set (self.now).client (self.now).name s f x)) }
-        ensures room { IfOk result (λ refusal. refusal ≡ Option.None → (self.now).log.used + SET_UNITS ≤ LOG_ENTRY_WORDS) }
-        ensures stays { H.tells → H.state h.new ≡ H.state h.old }
-        ensures cause { H.counts h.new ≡ after_fault (fault_of result) (H.counts h.old) }
-        ensures never_cut { fault_of result ≢ Option.Some HostFault.Cut }
+        ensures room { IfOk result (λ refusal. refusal ≡ Option.None → (self.now).units + SET_UNITS ≤ LOG_ENTRY_WORDS) }
+        ensures only_reads { OnlyReads H.tells H.state H.counts (fault_of result) h.old h.new }
     {
         let pool = self.puddles.as_slice();
         let missed = misses(h, frames, pool, x)?;
@@ -164,10 +160,8 @@ impl Opened {
         requires within { IsHeldWithin frames self.now }
         ensures refusal { H.tells → (size : ℕ) → (w : World) → (memory : Memory) → memory.frames ≡ frames → held_under memory.held (self.now).number ≡ Option.Some self.now → IsReady size w memory (H.state h.old)
             → IfOk result (λ refusal. refusal ≡ refusal_of w (commands.Root (self.now).client (self.now).name s)) }
-        ensures room { IfOk result (λ refusal. refusal ≡ Option.None → (self.now).log.used + SET_UNITS ≤ LOG_ENTRY_WORDS) }
-        ensures stays { H.tells → H.state h.new ≡ H.state h.old }
-        ensures cause { H.counts h.new ≡ after_fault (fault_of result) (H.counts h.old) }
-        ensures never_cut { fault_of result ≢ Option.Some HostFault.Cut }
+        ensures room { IfOk result (λ refusal. refusal ≡ Option.None → (self.now).units + SET_UNITS ≤ LOG_ENTRY_WORDS) }
+        ensures only_reads { OnlyReads H.tells H.state H.counts (fault_of result) h.old h.new }
     {
         let pool = self.puddles.as_slice();
         let missed = misses(h, frames, pool, Val::Ref(s))?;
@@ -190,10 +184,8 @@ impl Opened {
         requires serial { 1 ≤ s }
         ensures refusal { H.tells → (size : ℕ) → (w : World) → (memory : Memory) → memory.frames ≡ frames → held_under memory.held (self.now).number ≡ Option.Some self.now → IsReady size w memory (H.state h.old)
             → IfOk result (λ refusal. refusal ≡ refusal_of w (commands.Free (self.now).client (self.now).name s)) }
-        ensures room { IfOk result (λ refusal. refusal ≡ Option.None → (self.now).log.used + SET_UNITS ≤ LOG_ENTRY_WORDS) }
-        ensures stays { H.tells → H.state h.new ≡ H.state h.old }
-        ensures cause { H.counts h.new ≡ after_fault (fault_of result) (H.counts h.old) }
-        ensures never_cut { fault_of result ≢ Option.Some HostFault.Cut }
+        ensures room { IfOk result (λ refusal. refusal ≡ Option.None → (self.now).units + SET_UNITS ≤ LOG_ENTRY_WORDS) }
+        ensures only_reads { OnlyReads H.tells H.state H.counts (fault_of result) h.old h.new }
     {
         let pool = self.puddles.as_slice();
         if find_serial(h, frames, pool, s)?.is_none() {
@@ -219,10 +211,8 @@ impl Opened {
         requires legal { IsLegalChange change }
         ensures refusal { H.tells → (size : ℕ) → (w : World) → (memory : Memory) → memory.frames ≡ frames → held_under memory.held (self.now).number ≡ Option.Some self.now → IsReady size w memory (H.state h.old)
             → IfOk result (λ refusal. refusal ≡ refusal_of w (line_of change (self.now).client (self.now).name)) }
-        ensures room { IfOk result (λ refusal. refusal ≡ Option.None → (self.now).log.used + SET_UNITS ≤ LOG_ENTRY_WORDS) }
-        ensures stays { H.tells → H.state h.new ≡ H.state h.old }
-        ensures cause { H.counts h.new ≡ after_fault (fault_of result) (H.counts h.old) }
-        ensures never_cut { fault_of result ≢ Option.Some HostFault.Cut }
+        ensures room { IfOk result (λ refusal. refusal ≡ Option.None → (self.now).units + SET_UNITS ≤ LOG_ENTRY_WORDS) }
+        ensures only_reads { OnlyReads H.tells H.state H.counts (fault_of result) h.old h.new }
     {
         match change {
             Change::Set { s, f, x } => self.refusal_to_set(h, frames, s, f, x),

@@ -1,8 +1,8 @@
 //! A pool on a device as an export file.
 
-ghost use Rattle.std.specs.Prelude.{◌≡◌, ◌≢◌, ◌*◌, ◌≤◌, length, Option, IfOk};
+ghost use Rattle.std.specs.Prelude.{◌≡◌, ◌*◌, ◌≤◌, length, Option, IfOk};
 ghost use Rattle.pm_model.specs.Words.{reads};
-ghost use Rattle.pm_model.specs.Counts.{after_fault};
+ghost use Rattle.pm_model.specs.Reads.{OnlyReads};
 ghost use Rattle.pud_defs.specs.declared.layout.TheConstants.{MACHINE_WORD, TYPE_RECORDS};
 ghost use Rattle.pud_defs.specs.ExportFile.{words_in, types_used, file_graph};
 ghost use Rattle.pud_defs.specs.Exported.{exported_words, IsExportable};
@@ -40,9 +40,7 @@ fn export_with<H: Host>(
     ensures words { H.tells → HasLowBases pool.now → (image : Image) → reads (H.state h.old).now.words ≡ image
         → IfOk result (λ bytes. words_in bytes.items ≡ exported_words (image MACHINE_WORD) number types.now used.now (stored_in frames pool.now image)) }
     ensures whole { IfOk result (λ bytes. length bytes.items ≡ 8 * length (words_in bytes.items)) }
-    ensures stays { H.tells → H.state h.new ≡ H.state h.old }
-    ensures cause { H.counts h.new ≡ after_fault (fault_in result) (H.counts h.old) }
-    ensures never_cut { fault_in result ≢ Option.Some HostFault.Cut }
+    ensures only_reads { OnlyReads H.tells H.state H.counts (fault_in result) h.old h.new }
 {
     let machine = h.load(MACHINE_WORD)?;
     let mut words = front(alloc, machine, number, pool, used)?;
@@ -77,9 +75,7 @@ pub fn export_pool<H: Host>(
     ensures file { H.tells → (image : Image) → reads (H.state h.old).now.words ≡ image
         → (g : Graph) → graph_of (types_of image) (stored_in frames pool.now image) ≡ Option.Some g → IsExportable (types_of image) (stored_in frames pool.now image)
         → IfOk result (λ bytes. file_graph bytes.items ≡ Option.Some (record { types = types_used (types_of image) g; puddles = length pool.now; graph = g })) }
-    ensures stays { H.tells → H.state h.new ≡ H.state h.old }
-    ensures cause { H.counts h.new ≡ after_fault (fault_in result) (H.counts h.old) }
-    ensures never_cut { fault_in result ≢ Option.Some HostFault.Cut }
+    ensures only_reads { OnlyReads H.tells H.state H.counts (fault_in result) h.old h.new }
 {
     let types = read_types(h)?;
     let ids = live_types(h, frames, pool)?;

@@ -1,9 +1,10 @@
 //! The frames of a pool, as an export file has them.
 
-ghost use Rattle.std.specs.Prelude.{◌≡◌, ◌≢◌, ◌-◌, ◌<◌, ◌≤◌, ◌∷◌, ◌++◌, length, map, flat_map, replicate, Option, IfOk, OnOk};
+ghost use Rattle.std.specs.Prelude.{◌≡◌, ◌-◌, ◌<◌, ◌≤◌, ◌∷◌, ◌++◌, length, map, flat_map, replicate, IfOk, OnOk};
 ghost use Rattle.std.specs.List.{range_with_len};
 ghost use Rattle.pm_model.specs.Words.{reads};
-ghost use Rattle.pm_model.specs.Counts.{after_fault, fault_of};
+ghost use Rattle.pm_model.specs.Counts.{fault_of};
+ghost use Rattle.pm_model.specs.Reads.{OnlyReads};
 ghost use Rattle.pud_defs.specs.Exported.{exported_header, exported_frame};
 ghost use Rattle.pud_defs.specs.Geometry.{puddle_slots};
 ghost use Rattle.pud_defs.specs.Image.{Image};
@@ -55,9 +56,7 @@ fn read_first_header<H: Host>(
     requires some { 0 < length pool.now }
     ensures words { H.tells → HasLowBases pool.now → (image : Image) → reads (H.state h.old).now.words ≡ image
         → IfOk result (λ words. words ≡ exported_header (stored_in frames pool.now image) 0) }
-    ensures stays { H.tells → H.state h.new ≡ H.state h.old }
-    ensures cause { H.counts h.new ≡ after_fault (fault_of result) (H.counts h.old) }
-    ensures never_cut { fault_of result ≢ Option.Some HostFault.Cut }
+    ensures only_reads { OnlyReads H.tells H.state H.counts (fault_of result) h.old h.new }
 {
     let (frame, puddle) = pool[0];
     let next = next_serial(h, frames, frame)?;
@@ -79,9 +78,7 @@ fn read_header<H: Host>(
     requires within { ordinal < length pool.now }
     ensures words { H.tells → HasLowBases pool.now → (image : Image) → reads (H.state h.old).now.words ≡ image
         → IfOk result (λ words. words ≡ exported_header (stored_in frames pool.now image) ordinal) }
-    ensures stays { H.tells → H.state h.new ≡ H.state h.old }
-    ensures cause { H.counts h.new ≡ after_fault (fault_of result) (H.counts h.old) }
-    ensures never_cut { fault_of result ≢ Option.Some HostFault.Cut }
+    ensures only_reads { OnlyReads H.tells H.state H.counts (fault_of result) h.old h.new }
 {
     if ordinal == 0 {
         return read_first_header(h, frames, pool);
@@ -105,9 +102,7 @@ fn push_slots<H: Host>(
     requires within { ordinal < length pool.now }
     ensures words { H.tells → HasLowBases pool.now → (image : Image) → reads (H.state h.old).now.words ≡ image
         → OnOk result (words.new ≡ words.old ++ slots_to types.now (stored_in frames pool.now image) ordinal puddle_slots) }
-    ensures stays { H.tells → H.state h.new ≡ H.state h.old }
-    ensures cause { H.counts h.new ≡ after_fault (fault_in result) (H.counts h.old) }
-    ensures never_cut { fault_in result ≢ Option.Some HostFault.Cut }
+    ensures only_reads { OnlyReads H.tells H.state H.counts (fault_in result) h.old h.new }
 {
     let (_, puddle) = pool[ordinal as usize];
     for slot in 0..slots_of(&puddle) {
@@ -132,9 +127,7 @@ fn push_frame<H: Host>(
     requires within { ordinal < length pool.now }
     ensures words { H.tells → HasLowBases pool.now → (image : Image) → reads (H.state h.old).now.words ≡ image
         → OnOk result (words.new ≡ words.old ++ exported_frame types.now (stored_in frames pool.now image) ordinal) }
-    ensures stays { H.tells → H.state h.new ≡ H.state h.old }
-    ensures cause { H.counts h.new ≡ after_fault (fault_in result) (H.counts h.old) }
-    ensures never_cut { fault_in result ≢ Option.Some HostFault.Cut }
+    ensures only_reads { OnlyReads H.tells H.state H.counts (fault_in result) h.old h.new }
 {
     let header = read_header(h, frames, pool, ordinal)?;
     words.push_all(&header)?;
@@ -154,9 +147,7 @@ pub(crate) fn push_frames<H: Host>(
     requires known { IsOnDevice frames pool.now }
     ensures words { H.tells → HasLowBases pool.now → (image : Image) → reads (H.state h.old).now.words ≡ image
         → OnOk result (words.new ≡ words.old ++ flat_map (exported_frame types.now (stored_in frames pool.now image)) (range_with_len 0 (length pool.now))) }
-    ensures stays { H.tells → H.state h.new ≡ H.state h.old }
-    ensures cause { H.counts h.new ≡ after_fault (fault_in result) (H.counts h.old) }
-    ensures never_cut { fault_in result ≢ Option.Some HostFault.Cut }
+    ensures only_reads { OnlyReads H.tells H.state H.counts (fault_in result) h.old h.new }
 {
     for ordinal in 0..pool.len() as u32 {
         push_frame(h, frames, pool, types, ordinal, words)?;

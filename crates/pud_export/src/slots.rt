@@ -1,8 +1,9 @@
 //! The slots of a pool, as an export file has them.
 
-ghost use Rattle.std.specs.Prelude.{◌≡◌, ◌≢◌, ◌<◌, ◌≤◌, length, map, Option, IfOk, IfSome};
+ghost use Rattle.std.specs.Prelude.{◌≡◌, ◌<◌, ◌≤◌, length, map, Option, IfOk, IfSome};
 ghost use Rattle.pm_model.specs.Words.{reads};
-ghost use Rattle.pm_model.specs.Counts.{after_fault, fault_of};
+ghost use Rattle.pm_model.specs.Counts.{fault_of};
+ghost use Rattle.pm_model.specs.Reads.{OnlyReads};
 ghost use Rattle.pud_defs.specs.Exported.{address_of, exported_value, exported_object, exported_slot};
 ghost use Rattle.pud_defs.specs.Geometry.{puddle_slots, place_at};
 ghost use Rattle.pud_defs.specs.Graph.{At};
@@ -98,9 +99,7 @@ fn read_object<H: Host>(
     ensures words { H.tells → HasLowBases pool.now → (image : Image) → reads (H.state h.old).now.words ≡ image
         → serial ≡ place_word (stored_in frames pool.now image) place SLOT_SERIAL_WORD → id ≡ place_word (stored_in frames pool.now image) place SLOT_TYPE_WORD
         → IfOk result (λ words. words ≡ exported_object (stored_in frames pool.now image) place (Option.Some type_map)) }
-    ensures stays { H.tells → H.state h.new ≡ H.state h.old }
-    ensures cause { H.counts h.new ≡ after_fault (fault_of result) (H.counts h.old) }
-    ensures never_cut { fault_of result ≢ Option.Some HostFault.Cut }
+    ensures only_reads { OnlyReads H.tells H.state H.counts (fault_of result) h.old h.new }
 {
     let mut words = [0; SLOT];
     words[SLOT_SERIAL_WORD as usize] = serial;
@@ -127,9 +126,7 @@ pub(crate) fn read_slot<H: Host>(
     requires within { place < places_in pool.now }
     ensures words { H.tells → HasLowBases pool.now → (image : Image) → reads (H.state h.old).now.words ≡ image
         → IfOk result (λ words. words ≡ exported_slot types.now (stored_in frames pool.now image) place) }
-    ensures stays { H.tells → H.state h.new ≡ H.state h.old }
-    ensures cause { H.counts h.new ≡ after_fault (fault_of result) (H.counts h.old) }
-    ensures never_cut { fault_of result ≢ Option.Some HostFault.Cut }
+    ensures only_reads { OnlyReads H.tells H.state H.counts (fault_of result) h.old h.new }
 {
     let serial = serial_at(h, frames, pool, place)?;
     if is_free(serial) {

@@ -2,6 +2,7 @@
 ghost use Rattle.std.specs.Prelude.{◌≡◌, ◌≢◌, ◌↔◌, ◌≤◌, IsTrue, IfOk, MatchResult, Option, true, false, not};
 ghost use Rattle.pm_model.specs.Words.{reads};
 ghost use Rattle.pm_model.specs.Counts.{after_fault, fault_of};
+ghost use Rattle.pm_model.specs.Reads.{OnlyReads};
 ghost use Rattle.pud_defs.specs.Layout.{device_words, is_legal_frame_count};
 ghost use Rattle.puddle_cli.specs.Status.{status_fault, IsStatusOfMode};
 ghost use Rattle.puddle_cli.specs.Formatting.{is_refused, LaysOut, Formats};
@@ -38,9 +39,7 @@ fn is_refused<H: Host>(h: &mut H, frames: u32) -> Result<bool, HostFault>
     requires { frames ≤ MAX_FRAMES }
     ensures refused { H.tells → IfOk result (λ refused. refused ≡ is_refused (H.counts h.old).size frames (reads (H.state h.old).now.words)) }
     ensures room { IfOk result (λ refused. refused ≡ false → device_words frames ≤ (H.counts h.old).size) }
-    ensures stays { H.tells → H.state h.new ≡ H.state h.old }
-    ensures cause { H.counts h.new ≡ after_fault (fault_of result) (H.counts h.old) }
-    ensures never_cut { fault_of result ≢ Option.Some HostFault.Cut }
+    ensures only_reads { OnlyReads H.tells H.state H.counts (fault_of result) h.old h.new }
 {
     if h.words() < device_words(frames) {
         return Ok(true);

@@ -6,9 +6,10 @@
 //! own.
 #![tactic(auto)]
 
-ghost use Rattle.std.specs.Prelude.{◌≡◌, ◌≢◌, ◌+◌, ◌<◌, ◌≤◌, Option, IfOk};
+ghost use Rattle.std.specs.Prelude.{◌≡◌, ◌+◌, ◌<◌, ◌≤◌, IfOk};
 ghost use Rattle.pm_model.specs.Words.{Image, reads};
-ghost use Rattle.pm_model.specs.Counts.{after_fault, fault_of};
+ghost use Rattle.pm_model.specs.Counts.{fault_of};
+ghost use Rattle.pm_model.specs.Reads.{OnlyReads};
 ghost use Rattle.pud_defs.specs.Layout.{device_words};
 ghost use Rattle.pud_defs.specs.Geometry.{puddle_slots, puddle_slot_words};
 ghost use Rattle.pud_defs.specs.Frames.{frame_word};
@@ -32,9 +33,7 @@ fn frame_word<H: Loads>(h: &mut H, frames: u32, frame: u32, k: u32) -> Result<u6
     requires known { frame < frames }
     requires within { k < FRAME_WORDS }
     ensures word { H.tells → (image : Image) → reads (H.state h.old).now.words ≡ image → IfOk result (λ v. v ≡ frame_word frames frame k image) }
-    ensures stays { H.tells → H.state h.new ≡ H.state h.old }
-    ensures cause { H.counts h.new ≡ after_fault (fault_of result) (H.counts h.old) }
-    ensures never_cut { fault_of result ≢ Option.Some HostFault.Cut }
+    ensures only_reads { OnlyReads H.tells H.state H.counts (fault_of result) h.old h.new }
 {
     h.load_word(frame_at(frames, frame) + k)
 }
@@ -53,9 +52,7 @@ fn slot_word<H: Loads>(
     requires slot { slot < puddle_slots }
     requires within { k < puddle_slot_words }
     ensures word { H.tells → (image : Image) → reads (H.state h.old).now.words ≡ image → IfOk result (λ v. v ≡ slot_word frames frame slot k image) }
-    ensures stays { H.tells → H.state h.new ≡ H.state h.old }
-    ensures cause { H.counts h.new ≡ after_fault (fault_of result) (H.counts h.old) }
-    ensures never_cut { fault_of result ≢ Option.Some HostFault.Cut }
+    ensures only_reads { OnlyReads H.tells H.state H.counts (fault_of result) h.old h.new }
 {
     frame_word(h, frames, frame, puddle_slot_at(slot) + k)
 }
@@ -66,9 +63,7 @@ pub fn frame_magic<H: Loads>(h: &mut H, frames: u32, frame: u32) -> Result<u64, 
     requires room { device_words frames ≤ (H.counts h.old).size }
     requires known { frame < frames }
     ensures word { H.tells → (image : Image) → reads (H.state h.old).now.words ≡ image → IfOk result (λ v. v ≡ frame_word frames frame FRAME_MAGIC_WORD image) }
-    ensures stays { H.tells → H.state h.new ≡ H.state h.old }
-    ensures cause { H.counts h.new ≡ after_fault (fault_of result) (H.counts h.old) }
-    ensures never_cut { fault_of result ≢ Option.Some HostFault.Cut }
+    ensures only_reads { OnlyReads H.tells H.state H.counts (fault_of result) h.old h.new }
 {
     frame_word(h, frames, frame, FRAME_MAGIC_WORD)
 }
@@ -79,9 +74,7 @@ pub fn frame_number<H: Loads>(h: &mut H, frames: u32, frame: u32) -> Result<u64,
     requires room { device_words frames ≤ (H.counts h.old).size }
     requires known { frame < frames }
     ensures word { H.tells → (image : Image) → reads (H.state h.old).now.words ≡ image → IfOk result (λ v. v ≡ frame_word frames frame FRAME_NUMBER_WORD image) }
-    ensures stays { H.tells → H.state h.new ≡ H.state h.old }
-    ensures cause { H.counts h.new ≡ after_fault (fault_of result) (H.counts h.old) }
-    ensures never_cut { fault_of result ≢ Option.Some HostFault.Cut }
+    ensures only_reads { OnlyReads H.tells H.state H.counts (fault_of result) h.old h.new }
 {
     frame_word(h, frames, frame, FRAME_NUMBER_WORD)
 }
@@ -92,9 +85,7 @@ pub fn frame_ordinal<H: Loads>(h: &mut H, frames: u32, frame: u32) -> Result<u64
     requires room { device_words frames ≤ (H.counts h.old).size }
     requires known { frame < frames }
     ensures word { H.tells → (image : Image) → reads (H.state h.old).now.words ≡ image → IfOk result (λ v. v ≡ frame_word frames frame FRAME_ORDINAL_WORD image) }
-    ensures stays { H.tells → H.state h.new ≡ H.state h.old }
-    ensures cause { H.counts h.new ≡ after_fault (fault_of result) (H.counts h.old) }
-    ensures never_cut { fault_of result ≢ Option.Some HostFault.Cut }
+    ensures only_reads { OnlyReads H.tells H.state H.counts (fault_of result) h.old h.new }
 {
     frame_word(h, frames, frame, FRAME_ORDINAL_WORD)
 }
@@ -105,9 +96,7 @@ pub fn next_serial<H: Loads>(h: &mut H, frames: u32, frame: u32) -> Result<u64, 
     requires room { device_words frames ≤ (H.counts h.old).size }
     requires known { frame < frames }
     ensures word { H.tells → (image : Image) → reads (H.state h.old).now.words ≡ image → IfOk result (λ v. v ≡ frame_word frames frame NEXT_SERIAL_WORD image) }
-    ensures stays { H.tells → H.state h.new ≡ H.state h.old }
-    ensures cause { H.counts h.new ≡ after_fault (fault_of result) (H.counts h.old) }
-    ensures never_cut { fault_of result ≢ Option.Some HostFault.Cut }
+    ensures only_reads { OnlyReads H.tells H.state H.counts (fault_of result) h.old h.new }
 {
     frame_word(h, frames, frame, NEXT_SERIAL_WORD)
 }
@@ -118,9 +107,7 @@ pub fn root_value<H: Loads>(h: &mut H, frames: u32, frame: u32) -> Result<u64, H
     requires room { device_words frames ≤ (H.counts h.old).size }
     requires known { frame < frames }
     ensures word { H.tells → (image : Image) → reads (H.state h.old).now.words ≡ image → IfOk result (λ v. v ≡ frame_word frames frame ROOT_WORD image) }
-    ensures stays { H.tells → H.state h.new ≡ H.state h.old }
-    ensures cause { H.counts h.new ≡ after_fault (fault_of result) (H.counts h.old) }
-    ensures never_cut { fault_of result ≢ Option.Some HostFault.Cut }
+    ensures only_reads { OnlyReads H.tells H.state H.counts (fault_of result) h.old h.new }
 {
     frame_word(h, frames, frame, ROOT_WORD)
 }
@@ -137,9 +124,7 @@ pub fn slot_serial<H: Loads>(
     requires known { frame < frames }
     requires slot { slot < puddle_slots }
     ensures word { H.tells → (image : Image) → reads (H.state h.old).now.words ≡ image → IfOk result (λ v. v ≡ slot_word frames frame slot SLOT_SERIAL_WORD image) }
-    ensures stays { H.tells → H.state h.new ≡ H.state h.old }
-    ensures cause { H.counts h.new ≡ after_fault (fault_of result) (H.counts h.old) }
-    ensures never_cut { fault_of result ≢ Option.Some HostFault.Cut }
+    ensures only_reads { OnlyReads H.tells H.state H.counts (fault_of result) h.old h.new }
 {
     slot_word(h, frames, frame, slot, SLOT_SERIAL_WORD)
 }
@@ -151,9 +136,7 @@ pub fn slot_type<H: Loads>(h: &mut H, frames: u32, frame: u32, slot: u32) -> Res
     requires known { frame < frames }
     requires slot { slot < puddle_slots }
     ensures word { H.tells → (image : Image) → reads (H.state h.old).now.words ≡ image → IfOk result (λ v. v ≡ slot_word frames frame slot SLOT_TYPE_WORD image) }
-    ensures stays { H.tells → H.state h.new ≡ H.state h.old }
-    ensures cause { H.counts h.new ≡ after_fault (fault_of result) (H.counts h.old) }
-    ensures never_cut { fault_of result ≢ Option.Some HostFault.Cut }
+    ensures only_reads { OnlyReads H.tells H.state H.counts (fault_of result) h.old h.new }
 {
     slot_word(h, frames, frame, slot, SLOT_TYPE_WORD)
 }
@@ -172,9 +155,7 @@ pub fn slot_field<H: Loads>(
     requires slot { slot < puddle_slots }
     requires field { f < MAX_FIELDS }
     ensures word { H.tells → (image : Image) → reads (H.state h.old).now.words ≡ image → IfOk result (λ v. v ≡ slot_word frames frame slot (SLOT_FIELDS_WORD + f) image) }
-    ensures stays { H.tells → H.state h.new ≡ H.state h.old }
-    ensures cause { H.counts h.new ≡ after_fault (fault_of result) (H.counts h.old) }
-    ensures never_cut { fault_of result ≢ Option.Some HostFault.Cut }
+    ensures only_reads { OnlyReads H.tells H.state H.counts (fault_of result) h.old h.new }
 {
     slot_word(h, frames, frame, slot, SLOT_FIELDS_WORD + f)
 }
@@ -199,9 +180,7 @@ pub fn has_header<H: Loads>(
     requires known { frame < frames }
     ensures fits { H.tells → (image : Image) → reads (H.state h.old).now.words ≡ image
         → IfOk result (λ fits. fits ≡ is_header given place (frame_word frames frame FRAME_MAGIC_WORD image) (frame_word frames frame FRAME_NUMBER_WORD image) (frame_word frames frame FRAME_ORDINAL_WORD image)) }
-    ensures stays { H.tells → H.state h.new ≡ H.state h.old }
-    ensures cause { H.counts h.new ≡ after_fault (fault_of result) (H.counts h.old) }
-    ensures never_cut { fault_of result ≢ Option.Some HostFault.Cut }
+    ensures only_reads { OnlyReads H.tells H.state H.counts (fault_of result) h.old h.new }
 {
     let magic = frame_magic(h, frames, frame)?;
     let number = frame_number(h, frames, frame)?;
@@ -215,9 +194,7 @@ pub fn header_fits<H: Loads>(h: &mut H, frames: u32, frame: u32) -> Result<bool,
     requires room { device_words frames ≤ (H.counts h.old).size }
     requires known { frame < frames }
     ensures fits { H.tells → (image : Image) → reads (H.state h.old).now.words ≡ image → IfOk result (λ fits. fits ≡ header_fits frames frame image) }
-    ensures stays { H.tells → H.state h.new ≡ H.state h.old }
-    ensures cause { H.counts h.new ≡ after_fault (fault_of result) (H.counts h.old) }
-    ensures never_cut { fault_of result ≢ Option.Some HostFault.Cut }
+    ensures only_reads { OnlyReads H.tells H.state H.counts (fault_of result) h.old h.new }
 {
     let record = PUDDLE_TABLE + PUDDLE_RECORD_WORDS * frame;
     let member = h.load_word(record)?;

@@ -3,9 +3,10 @@
 //! A place is a slot of a puddle, counted over the puddles by their ordinals. A pool is given by the frames and the records of
 //! its puddles by their ordinals, at most 16.
 
-ghost use Rattle.std.specs.Prelude.{◌≡◌, ◌≢◌, ◌<◌, ◌≤◌, Option, IfOk};
+ghost use Rattle.std.specs.Prelude.{◌≡◌, ◌<◌, ◌≤◌, IfOk};
 ghost use Rattle.pm_model.specs.Words.{Image, reads};
-ghost use Rattle.pm_model.specs.Counts.{after_fault, fault_of};
+ghost use Rattle.pm_model.specs.Counts.{fault_of};
+ghost use Rattle.pm_model.specs.Reads.{OnlyReads};
 ghost use Rattle.pud_defs.specs.declared.space.TheConstants.{SLOT_SERIAL_WORD};
 ghost use Rattle.pud_defs.specs.Layout.{device_words};
 ghost use Rattle.pud_defs.specs.Stored.{IsOnDevice, stored_in, place_word};
@@ -45,9 +46,7 @@ pub fn serial_at<H: Loads>(
     requires within { place < places_in pool.now }
     ensures serial { H.tells → (image : Image) → reads (H.state h.old).now.words ≡ image
         → IfOk result (λ v. v ≡ place_word (stored_in frames pool.now image) place SLOT_SERIAL_WORD) }
-    ensures stays { H.tells → H.state h.new ≡ H.state h.old }
-    ensures cause { H.counts h.new ≡ after_fault (fault_of result) (H.counts h.old) }
-    ensures never_cut { fault_of result ≢ Option.Some HostFault.Cut }
+    ensures only_reads { OnlyReads H.tells H.state H.counts (fault_of result) h.old h.new }
 {
     let at = slot_at_place(pool, place);
     slot_serial(h, frames, at.frame, at.slot)

@@ -1,8 +1,9 @@
 //! From an address to a word of a frame.
 
-ghost use Rattle.std.specs.Prelude.{◌≡◌, ◌≢◌, ◌+◌, ◌<◌, ◌≤◌, ℕ, Option, IfOk, IfSome};
+ghost use Rattle.std.specs.Prelude.{◌≡◌, ◌+◌, ◌<◌, ◌≤◌, IfOk, IfSome};
 ghost use Rattle.pm_model.specs.Words.{Image, reads};
-ghost use Rattle.pm_model.specs.Counts.{after_fault, fault_of};
+ghost use Rattle.pm_model.specs.Counts.{fault_of};
+ghost use Rattle.pm_model.specs.Reads.{OnlyReads};
 ghost use Rattle.pud_defs.specs.declared.layout.TheConstants.{FRAME_WORDS};
 ghost use Rattle.pud_defs.specs.Layout.{tables_end};
 ghost use Rattle.pud_defs.specs.Puddles.{puddle_at};
@@ -32,9 +33,7 @@ fn place_in<H: Host>(h: &mut H, frame: u32, address: u64) -> Result<Option<(u32,
     requires table { tables_end (frame + 1) ≤ (H.counts h.old).size }
     ensures place { H.tells → (image : Image) → reads (H.state h.old).now.words ≡ image → IfOk result (λ place. place ≡ place_by address frame (puddle_at image frame)) }
     ensures within { IfOk result (λ place. IfSome place (IsPlaceIn (frame + 1))) }
-    ensures stays { H.tells → H.state h.new ≡ H.state h.old }
-    ensures cause { H.counts h.new ≡ after_fault (fault_of result) (H.counts h.old) }
-    ensures never_cut { fault_of result ≢ Option.Some HostFault.Cut }
+    ensures only_reads { OnlyReads H.tells H.state H.counts (fault_of result) h.old h.new }
 {
     let record = PUDDLE_TABLE + PUDDLE_RECORD_WORDS * frame;
     if h.load(record)? == 0 {
@@ -61,9 +60,7 @@ pub fn locate<H: Host>(
     requires table { tables_end frames ≤ (H.counts h.old).size }
     ensures located { H.tells → (image : Image) → reads (H.state h.old).now.words ≡ image → IfOk result (λ found. found ≡ located (tables_of frames image) address) }
     ensures within { IfOk result (λ found. IfSome found (IsPlaceIn frames)) }
-    ensures stays { H.tells → H.state h.new ≡ H.state h.old }
-    ensures cause { H.counts h.new ≡ after_fault (fault_of result) (H.counts h.old) }
-    ensures never_cut { fault_of result ≢ Option.Some HostFault.Cut }
+    ensures only_reads { OnlyReads H.tells H.state H.counts (fault_of result) h.old h.new }
 {
     for frame in 0..frames {
         if let Some(place) = place_in(h, frame, address)? {

@@ -1,10 +1,11 @@
 //! The lowest free base, found among the first ranges of the space: at most two bases are held by each puddle, and so many
 //! that are taken otherwise, so that one of the first ranges is free.
 
-ghost use Rattle.std.specs.Prelude.{◌≡◌, ◌≢◌, ◌+◌, ◌*◌, ◌<◌, ◌≤◌, ℕ, Bool, true, false, not, ◌==◌, length, Option, IfOk, IfSome, IfNone};
+ghost use Rattle.std.specs.Prelude.{◌≡◌, ◌≢◌, ◌+◌, ◌*◌, ◌<◌, ◌≤◌, ℕ, true, false, not, ◌==◌, length, IfOk, IfSome, IfNone};
 ghost use Rattle.std.specs.List.{list_all, position};
 ghost use Rattle.pm_model.specs.Words.{Image, reads};
-ghost use Rattle.pm_model.specs.Counts.{after_fault, fault_of};
+ghost use Rattle.pm_model.specs.Counts.{fault_of};
+ghost use Rattle.pm_model.specs.Reads.{OnlyReads};
 ghost use Rattle.pud_defs.specs.Layout.{tables_end};
 ghost use Rattle.pud_defs.specs.Bases.{base_at};
 ghost use Rattle.pud_defs.specs.Spaces.{all_below};
@@ -74,9 +75,7 @@ fn mark_puddle<H: Host>(h: &mut H, frame: u32, free: &mut [bool; TRIED]) -> Resu
     ensures left { H.tells → (image : Image) → reads (H.state h.old).now.words ≡ image
         → IfOk result (λ _. LeavesFree (λ base. has_other_bases base (puddle_at image frame)) free.old free.new) }
     ensures few { free_count free.old ≤ free_count free.new + 2 }
-    ensures stays { H.tells → H.state h.new ≡ H.state h.old }
-    ensures cause { H.counts h.new ≡ after_fault (fault_of result) (H.counts h.old) }
-    ensures never_cut { fault_of result ≢ Option.Some HostFault.Cut }
+    ensures only_reads { OnlyReads H.tells H.state H.counts (fault_of result) h.old h.new }
 {
     let record = PUDDLE_TABLE + PUDDLE_RECORD_WORDS * frame;
     if h.load(record)? == 0 {
@@ -96,9 +95,7 @@ fn mark_puddles<H: Host>(h: &mut H, frames: u32, free: &mut [bool; TRIED]) -> Re
     ensures left { H.tells → (image : Image) → reads (H.state h.old).now.words ≡ image
         → IfOk result (λ _. LeavesFree (λ base. all_below frames (λ frame. has_other_bases base (puddle_at image frame))) free.old free.new) }
     ensures few { IfOk result (λ _. free_count free.old ≤ free_count free.new + 2 * frames) }
-    ensures stays { H.tells → H.state h.new ≡ H.state h.old }
-    ensures cause { H.counts h.new ≡ after_fault (fault_of result) (H.counts h.old) }
-    ensures never_cut { fault_of result ≢ Option.Some HostFault.Cut }
+    ensures only_reads { OnlyReads H.tells H.state H.counts (fault_of result) h.old h.new }
 {
     for frame in 0..frames {
         mark_puddle(h, frame, free)?;
@@ -132,9 +129,7 @@ pub fn free_base<H: Host>(h: &mut H, frames: u32, taken: &[u64]) -> Result<u64, 
     requires table { tables_end frames ≤ (H.counts h.old).size }
     requires few_taken { length taken.now ≤ MAX_TAKEN }
     ensures lowest { H.tells → (image : Image) → reads (H.state h.old).now.words ≡ image → IfOk result (λ base. IsLowestBase (tables_of frames image) taken.now base) }
-    ensures stays { H.tells → H.state h.new ≡ H.state h.old }
-    ensures cause { H.counts h.new ≡ after_fault (fault_of result) (H.counts h.old) }
-    ensures never_cut { fault_of result ≢ Option.Some HostFault.Cut }
+    ensures only_reads { OnlyReads H.tells H.state H.counts (fault_of result) h.old h.new }
 {
     let mut free = all_free();
     mark_taken(taken, &mut free);

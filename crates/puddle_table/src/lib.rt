@@ -6,9 +6,10 @@
 
 mod places;
 
-ghost use Rattle.std.specs.Prelude.{◌≡◌, ◌≢◌, ◌+◌, ◌-◌, ◌<◌, ◌≤◌, ℕ, Option, IfOk, IfSome, All};
+ghost use Rattle.std.specs.Prelude.{◌≡◌, ◌+◌, ◌-◌, ◌<◌, ◌≤◌, ℕ, Option, IfOk, IfSome, All};
 ghost use Rattle.pm_model.specs.Words.{reads};
-ghost use Rattle.pm_model.specs.Counts.{after_fault, fault_of};
+ghost use Rattle.pm_model.specs.Counts.{fault_of};
+ghost use Rattle.pm_model.specs.Reads.{OnlyReads};
 ghost use Rattle.pud_defs.specs.declared.layout.TheConstants.{MAX_FRAMES};
 ghost use Rattle.pud_defs.specs.declared.records.TheConstants.{POOL_RECORDS};
 ghost use Rattle.pud_defs.specs.Image.{Image};
@@ -66,9 +67,7 @@ pub fn free_frame<H: Host>(h: &mut H, frames: u32, from: u32) -> Result<u32, Pud
     ensures frame { H.tells → (image : Image) → reads (H.state h.old).now.words ≡ image → fault_in result ≡ Option.None
         → result ≡ frame_by (first_free (tables_of frames image).puddles from (frames - from)) }
     ensures within { IfOk result (λ frame. frame < frames) }
-    ensures stays { H.tells → H.state h.new ≡ H.state h.old }
-    ensures cause { H.counts h.new ≡ after_fault (fault_in result) (H.counts h.old) }
-    ensures never_cut { fault_in result ≢ Option.Some HostFault.Cut }
+    ensures only_reads { OnlyReads H.tells H.state H.counts (fault_in result) h.old h.new }
 {
     for frame in from..frames {
         let member = h.load(record_at(frame))?;
@@ -117,9 +116,7 @@ pub fn add<H: Host>(h: &mut H, frames: u32, from: u32, rec: PuddleRec) -> Result
         → result ≡ added (tables_of frames image) from rec }
     ensures changes { H.tells → (image : Image) → reads (H.state h.old).now.words ≡ image
         → IfOk result (λ put. Adds rec from (tables_of frames image) (tables_of frames (with_put put image))) }
-    ensures stays { H.tells → H.state h.new ≡ H.state h.old }
-    ensures cause { H.counts h.new ≡ after_fault (fault_in result) (H.counts h.old) }
-    ensures never_cut { fault_in result ≢ Option.Some HostFault.Cut }
+    ensures only_reads { OnlyReads H.tells H.state H.counts (fault_in result) h.old h.new }
 {
     let frame = free_frame(h, frames, from)?;
     Ok(record_put(frame, rec))
@@ -152,9 +149,7 @@ fn read_puddle<H: Host>(h: &mut H, frame: u32) -> Result<Puddle, HostFault>
     requires known { frame < MAX_FRAMES }
     requires table { puddle_record_at (frame + 1) ≤ (H.counts h.old).size }
     ensures puddle { H.tells → (image : Image) → reads (H.state h.old).now.words ≡ image → IfOk result (λ puddle. puddle ≡ puddle_words_at image frame) }
-    ensures stays { H.tells → H.state h.new ≡ H.state h.old }
-    ensures cause { H.counts h.new ≡ after_fault (fault_of result) (H.counts h.old) }
-    ensures never_cut { fault_of result ≢ Option.Some HostFault.Cut }
+    ensures only_reads { OnlyReads H.tells H.state H.counts (fault_of result) h.old h.new }
 {
     let at = record_at(frame);
     let number = h.load(at + PUDDLE_NUMBER_WORD)?;
@@ -180,9 +175,7 @@ fn read_record<H: Host>(
     requires table { puddle_record_at (frame + 1) ≤ (H.counts h.old).size }
     ensures record { H.tells → (image : Image) → reads (H.state h.old).now.words ≡ image
         → IfOk result (λ rec. rec ≡ puddle_read pool ordinal (puddle_words_at image frame)) }
-    ensures stays { H.tells → H.state h.new ≡ H.state h.old }
-    ensures cause { H.counts h.new ≡ after_fault (fault_of result) (H.counts h.old) }
-    ensures never_cut { fault_of result ≢ Option.Some HostFault.Cut }
+    ensures only_reads { OnlyReads H.tells H.state H.counts (fault_of result) h.old h.new }
 {
     let puddle = read_puddle(h, frame)?;
     Ok(PuddleRec {
@@ -211,9 +204,7 @@ pub fn of_pool<H: Host>(
     ensures found { H.tells → (image : Image) → reads (H.state h.old).now.words ≡ image
         → IfOk result (λ found. found ≡ puddle_in (tables_of frames image) pool ordinal) }
     ensures within { IfOk result (λ found. IfSome found (IsFrame frames)) }
-    ensures stays { H.tells → H.state h.new ≡ H.state h.old }
-    ensures cause { H.counts h.new ≡ after_fault (fault_of result) (H.counts h.old) }
-    ensures never_cut { fault_of result ≢ Option.Some HostFault.Cut }
+    ensures only_reads { OnlyReads H.tells H.state H.counts (fault_of result) h.old h.new }
 {
     for frame in 0..frames {
         let member = h.load(record_at(frame))?;
@@ -250,9 +241,7 @@ pub fn count_by_pool<H: Host>(
     ensures counts { H.tells → (image : Image) → reads (H.state h.old).now.words ≡ image
         → IfOk result (CountsPools frames (tables_of frames image)) }
     ensures within { IfOk result (All (λ count. count ≤ frames)) }
-    ensures stays { H.tells → H.state h.new ≡ H.state h.old }
-    ensures cause { H.counts h.new ≡ after_fault (fault_of result) (H.counts h.old) }
-    ensures never_cut { fault_of result ≢ Option.Some HostFault.Cut }
+    ensures only_reads { OnlyReads H.tells H.state H.counts (fault_of result) h.old h.new }
 {
     let mut counts = [0; POOL_RECORDS as usize];
     for frame in 0..frames {
@@ -269,9 +258,7 @@ pub fn frontier<H: Host>(h: &mut H, frame: u32) -> Result<u32, HostFault>
     requires known { frame < MAX_FRAMES }
     requires table { puddle_record_at (frame + 1) ≤ (H.counts h.old).size }
     ensures frontier { H.tells → (image : Image) → reads (H.state h.old).now.words ≡ image → IfOk result (λ steps. steps ≡ frontier_of image frame) }
-    ensures stays { H.tells → H.state h.new ≡ H.state h.old }
-    ensures cause { H.counts h.new ≡ after_fault (fault_of result) (H.counts h.old) }
-    ensures never_cut { fault_of result ≢ Option.Some HostFault.Cut }
+    ensures only_reads { OnlyReads H.tells H.state H.counts (fault_of result) h.old h.new }
 {
     let steps = h.load(record_at(frame) + PUDDLE_FRONTIER_WORD)?;
     Ok((steps % (1 << 32)) as u32)

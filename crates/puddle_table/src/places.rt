@@ -1,9 +1,10 @@
 //! Where the puddles of all pools stand, as one pass over the table finds them.
 
-ghost use Rattle.std.specs.Prelude.{◌≡◌, ◌≢◌, ◌+◌, ◌*◌, ◌<◌, ◌≤◌, ℕ, List, [], ◌∷◌, ◌++◌, length, Option, IfOk, IfSome, replicate};
+ghost use Rattle.std.specs.Prelude.{◌≡◌, ◌+◌, ◌*◌, ◌<◌, ◌≤◌, ℕ, List, [], ◌∷◌, ◌++◌, length, Option, IfOk, IfSome, replicate};
 ghost use Rattle.arrayvec.specs.ArrayVec.{array_vec_len};
 ghost use Rattle.pm_model.specs.Words.{reads};
-ghost use Rattle.pm_model.specs.Counts.{after_fault, fault_of};
+ghost use Rattle.pm_model.specs.Counts.{fault_of};
+ghost use Rattle.pm_model.specs.Reads.{OnlyReads};
 ghost use Rattle.pud_defs.specs.declared.layout.TheConstants.{MAX_FRAMES};
 ghost use Rattle.pud_defs.specs.declared.records.TheConstants.{POOL_RECORDS, MAX_PUDDLES};
 ghost use Rattle.pud_defs.specs.declared.records.Puddle.{Puddle};
@@ -156,9 +157,7 @@ impl Places {
         ensures found { H.tells → (image : Image) → reads (H.state h.old).now.words ≡ image → HoldsPlaces (tables_of (self.now).count image) self.now
             → IfOk result (λ found. found ≡ puddle_in (tables_of (self.now).count image) pool ordinal) }
         ensures within { IfOk result (λ found. IfSome found (IsFrame (self.now).count)) }
-        ensures stays { H.tells → H.state h.new ≡ H.state h.old }
-        ensures cause { H.counts h.new ≡ after_fault (fault_of result) (H.counts h.old) }
-        ensures never_cut { fault_of result ≢ Option.Some HostFault.Cut }
+        ensures only_reads { OnlyReads H.tells H.state H.counts (fault_of result) h.old h.new }
     {
         match self.frames[place(pool, ordinal)] {
             None => Ok(None),
@@ -176,9 +175,7 @@ impl Places {
         ensures found { H.tells → (image : Image) → reads (H.state h.old).now.words ≡ image → HoldsPlaces (tables_of (self.now).count image) self.now
             → IfOk result (λ puddles. puddles ≡ puddles_in_turn (tables_of (self.now).count image) pool) }
         ensures known { IfOk result (IsOnDevice (self.now).count) }
-        ensures stays { H.tells → H.state h.new ≡ H.state h.old }
-        ensures cause { H.counts h.new ≡ after_fault (fault_of result) (H.counts h.old) }
-        ensures never_cut { fault_of result ≢ Option.Some HostFault.Cut }
+        ensures only_reads { OnlyReads H.tells H.state H.counts (fault_of result) h.old h.new }
     {
         let mut found = Puddles::none();
         for ordinal in 0..MAX_PUDDLES {
@@ -200,9 +197,7 @@ pub fn find_places<H: Host>(h: &mut H, frames: u32) -> Result<Places, HostFault>
     requires table { tables_end frames ≤ (H.counts h.old).size }
     ensures places { H.tells → (image : Image) → reads (H.state h.old).now.words ≡ image → IfOk result (HoldsPlaces (tables_of frames image)) }
     ensures count { IfOk result (λ places. places.count ≡ frames) }
-    ensures stays { H.tells → H.state h.new ≡ H.state h.old }
-    ensures cause { H.counts h.new ≡ after_fault (fault_of result) (H.counts h.old) }
-    ensures never_cut { fault_of result ≢ Option.Some HostFault.Cut }
+    ensures only_reads { OnlyReads H.tells H.state H.counts (fault_of result) h.old h.new }
 {
     let mut found = no_places(frames);
     for frame in (0..frames).rev() {
@@ -223,9 +218,7 @@ pub fn find_puddles<H: Host>(h: &mut H, frames: u32, pool: u32) -> Result<Puddle
     requires table { tables_end frames ≤ (H.counts h.old).size }
     ensures found { H.tells → (image : Image) → reads (H.state h.old).now.words ≡ image → IfOk result (λ puddles. puddles ≡ puddles_in_turn (tables_of frames image) pool) }
     ensures known { IfOk result (IsOnDevice frames) }
-    ensures stays { H.tells → H.state h.new ≡ H.state h.old }
-    ensures cause { H.counts h.new ≡ after_fault (fault_of result) (H.counts h.old) }
-    ensures never_cut { fault_of result ≢ Option.Some HostFault.Cut }
+    ensures only_reads { OnlyReads H.tells H.state H.counts (fault_of result) h.old h.new }
 {
     find_places(h, frames)?.of_pool(h, pool)
 }

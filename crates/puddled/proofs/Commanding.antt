@@ -4,7 +4,6 @@ use Rattle.std.specs.Prelude.{IfOk}
 use Rattle.std.proofs.lemmas.Option.{same_Some}
 use Rattle.pm_model.specs.declared.host.HostFault.{HostFault}
 use Rattle.pm_model.specs.declared.host.HostFault.TheVariants.{Cut}
-use Rattle.pm_model.specs.Words.{reads}
 use Rattle.pm_model.specs.Counts.{Counts, after_fault, fault_of}
 use Rattle.pm_model.specs.Moments.{State}
 use Rattle.pm_model.proofs.Leaves.{Leaves-still}
@@ -14,7 +13,6 @@ use Rattle.pud_defs.specs.declared.machine.Refusal.{Refusal}
 use Rattle.pud_defs.specs.declared.machine.Reply.{Reply}
 use Rattle.pud_defs.specs.declared.machine.Reply.TheVariants as replies
 use Rattle.pud_defs.specs.Changing.{file_of}
-use Rattle.pud_defs.specs.Image.{Image}
 use Rattle.pud_defs.specs.World.{World}
 use Rattle.pud_defs.specs.Step.{refusal_of, after, answer_by, world_by}
 use Rattle.pud_defs.specs.Step.Answer.{of_reply}
@@ -28,31 +26,15 @@ use Rattle.puddled.specs.Daemon.{CarriesOut}
 use Rattle.puddled.specs.Faults.{kind_of}
 use Rattle.puddled.specs.Faults.Kind.{ordinary}
 use Rattle.ready_daemon.specs.Held.{IsOwn}
-use Rattle.ready_daemon.specs.Judged.{known_in, AreJudged}
-use Rattle.ready_daemon.specs.KnownPools.{KnowsPools}
 use Rattle.ready_daemon.specs.Memory.{Held, Memory, held_under}
-use Rattle.ready_daemon.proofs.Applying.{Applies-failed, Applies-refused, IsReady-beside}
+use Rattle.ready_daemon.proofs.Applying.{Applies-failed, Applies-refused}
 use Rattle.ready_daemon.proofs.Beside.{ready_stands}
 use Rattle.ready_daemon.proofs.Keeping.{KeepsRest-still}
 use Rattle.puddled.proofs.Carrying.{ClosesLogs-other, CarriesOut-plain}
-use Rattle.ready_daemon.proofs.JudgedOpen.{KnowsPools-read}
 
--- ---- what is known of pools
-
--- a daemon that is ready knows of pools what a scan gives
-pub judged_ready : (size : ℕ) (w : World) (memory : Memory) (s : State) → IsReady size w memory s → AreJudged memory.frames memory.judged (reads s.now.words)
-judged_ready size w memory s ready = subst (λ (n : ℕ). AreJudged n memory.judged (reads s.now.words)) (sym ready.frames) ready.knows.judged
-
--- more is known of pools by a call that reads, but not of those on which a transaction is open
-pub ready_read : (size : ℕ) (w : World) (memory next : Memory) (old new : State) → IsReady size w memory old → new ≡ old → next.frames ≡ memory.frames → next.held ≡ memory.held → next.sessions ≡ memory.sessions
-    → ((image : Image) → reads old.now.words ≡ image → AreJudged memory.frames memory.judged image → AreJudged memory.frames next.judged image)
-    → ((number : ℕ) (mine : Held) → held_under memory.held number ≡ Some mine → known_in next.judged mine.slot ≡ known_in memory.judged mine.slot) → IsReady size w next new
-ready_read size w memory next old new ready same frames held sessions judged apart =
-    let image : Image = reads old.now.words in
-    let right = subst (λ (n : ℕ). AreJudged n next.judged image) ready.frames (judged image refl (judged_ready size w memory old ready)) in
-    let knows = KnowsPools-read w.stored.frames memory.judged next.judged memory.held image right apart ready.knows in
-    subst (λ (s : State). IsReady size w next s) (sym same)
-    (IsReady-beside size w memory next old frames held sessions (subst (λ (o : List (Option Held)). KnowsPools w.stored.frames next.judged o image) (sym held) knows) ready)
+-- a daemon that is ready is so behind calls that read
+pub ready_read : (size : ℕ) (w : World) (memory : Memory) (old new : State) → new ≡ old → IsReady size w memory old → IsReady size w memory new
+ready_read size w memory old new same ready = subst (IsReady size w memory) (sym same) ready
 
 -- ---- what a line owes
 

@@ -1,8 +1,8 @@
 -- Why a session of a client that may write the pool does not begin, or is not one deeper: so the line is refused, and else it is not.
-use Rattle.std.proofs.Common.{◌≡◌, inl, inr, ℕ, ◌+◌, ◌<◌, ◌≤◌, true, false, cond, ◌&&◌, not, leb, eqb, List, length, Option, Some, None, Result, Err, is_some, refl, sym, ap, ◌∙◌, arith, eq-eqb}
+use Rattle.std.proofs.Common.{◌≡◌, inl, inr, ℕ, ◌<◌, ◌≤◌, true, false, cond, ◌&&◌, not, leb, eqb, List, Option, Some, None, Result, Err, is_some, refl, sym, ap, ◌∙◌, arith, eq-eqb}
 use Rattle.std.specs.Option.{option_or}
-use Rattle.std.proofs.lemmas.List.{get_or-set_same}
-use Rattle.std.proofs.lemmas.Bool.{cases_lt, le-leb, lt-leb}
+use Rattle.std.proofs.lemmas.Bool.{cases_Bool, cases_lt, le-leb, lt-leb}
+use Rattle.std.proofs.lemmas.Option.{none-some}
 use Rattle.pm_model.specs.Moments.{State}
 use Rattle.pud_defs.specs.declared.layout.TheConstants.{CLIENT_LOGS, MAX_DEPTH}
 use Rattle.pud_defs.specs.declared.machine.Command.TheVariants.{Begin}
@@ -13,15 +13,17 @@ use Rattle.pud_defs.specs.World.{Transaction, World}
 use Rattle.nesting.specs.declared.EnterFault.{EnterFault}
 use Rattle.nesting.specs.declared.EnterFault.TheVariants.{Deep, Logs}
 use Rattle.nesting.specs.declared.Session.{Session}
-use Rattle.nesting.specs.Sessions.{session_in, session_depth, depth_in, count_of, entered, AreSessions}
+use Rattle.nesting.specs.Sessions.{session_in, session_depth, depth_in, count_of, AreSessions}
+use Rattle.nesting.proofs.Holders.{session_in-no_holder, session_in-holder}
 use Rattle.ready_daemon.specs.Memory.{Memory}
-use Rattle.ready_daemon.specs.Ready.{IsReady}
 use Rattle.ready_daemon.specs.Holding.{IsOwnOn}
-use Rattle.pool_transaction.specs.Refusing.{refusal_to_write}
+use Rattle.puddled.specs.declared.finding.Need.TheVariants as needs
+use Rattle.puddled.specs.declared.finding.Found.{Found}
 use Rattle.puddled.specs.Finding.{refusal_to_enter}
 use Rattle.ready_daemon.proofs.AtDepth.{its_session}
 use Rattle.ready_daemon.proofs.Counting.{counted}
-use Rattle.pool_transaction.proofs.TransactionRefusals.{entering_refusal, refusal_of-begin}
+use Rattle.puddled.proofs.Found.{Finds}
+use Rattle.puddled.proofs.Needs.{entering_refusal, refusal_of-begin}
 
 -- the client's own is as deep as it may be
 deep_refused : (client elsewhere : ℕ) (t : Transaction) → t.client ≡ client → t.depth ≡ MAX_DEPTH → entering_refusal client (Some t) elsewhere ≡ Some refusals.Deep
@@ -33,18 +35,34 @@ own_free : (client elsewhere : ℕ) (t : Transaction) → t.client ≡ client �
 own_free client elsewhere t whose low =
     (λ p. cond (eq-eqb t.client client whose p && lt-leb MAX_DEPTH t.depth low p) (Some refusals.Deep) (cond (not (eq-eqb t.client client whose p) && leb CLIENT_LOGS elsewhere) (Some refusals.Logs) None))
 
--- one deeper once it has begun
-pub depth_entered : (client slot : ℕ) (sessions : List (Option Session)) → slot < length sessions → depth_in (entered client slot sessions) slot ≡ depth_in sessions slot + 1
-depth_entered client slot sessions within = ap session_depth (get_or-set_same sessions slot (Some (record { client = client; depth = depth_in sessions slot + 1 })) None within)
+module _ (size : ℕ) (w : World) (memory : Memory) (s : State) (client : ℕ) (name : List ℕ) (found : Found) (finds : Finds size w needs.Write client name memory s found) (are : AreSessions memory.sessions) where
+  abbrev slot : ℕ
+  slot = found.slot
 
-module _ (size : ℕ) (w : World) (memory : Memory) (s : State) (ready : IsReady size w memory s) (client : ℕ) (name : List ℕ) (slot : ℕ) (allowed : refusal_to_write w client name ≡ None)
-    (own : true ≡ is_some (session_in memory.sessions slot) → (number : ℕ) × IsOwnOn client name slot number memory.held) (writes : session_in memory.sessions slot ≡ None → w.transactions name ≡ None)
-    (are : AreSessions memory.sessions) where
   abbrev session : Option Session
   session = session_in memory.sessions slot
 
+  -- where it is open the client has a session on it, and else nobody has
+  pub session_open : found.is_open ≡ true → session ≡ Some (record { client = client; depth = depth_in memory.sessions slot })
+  session_open on = session_in-holder memory.sessions slot client (finds.whose ∙ ap (λ b. cond b (Some client) None) on)
+
+  pub session_shut : found.is_open ≡ false → session ≡ None
+  session_shut off = session_in-no_holder memory.sessions slot (finds.whose ∙ ap (λ b. cond b (Some client) None) off)
+
+  own : true ≡ is_some session → (number : ℕ) × IsOwnOn client name slot number memory.held
+  own some = elim (cases_Bool found.is_open) [
+    | inl on ↦ finds.is.own on
+    | inr off ↦ absurd (let no : true ≡ false = some ∙ ap is_some (session_shut off) in cc)
+  ]
+
+  writes : session ≡ None → w.transactions name ≡ None
+  writes none = elim (cases_Bool found.is_open) [
+    | inl on ↦ absurd (none-some (record { client = client; depth = depth_in memory.sessions slot }) (sym none ∙ session_open on))
+    | inr off ↦ finds.is.none off
+  ]
+
   by_entering : refusal_of w (Begin client name) ≡ entering_refusal client (w.transactions name) (open_elsewhere w client name)
-  by_entering = refusal_of-begin w client name ∙ ap (λ (r : Option Refusal). option_or r (entering_refusal client (w.transactions name) (open_elsewhere w client name))) allowed
+  by_entering = refusal_of-begin w client name ∙ ap (λ (r : Option Refusal). option_or r (entering_refusal client (w.transactions name) (open_elsewhere w client name))) finds.free
 
   -- ---- it is open, and the client's own
 
@@ -58,12 +76,12 @@ module _ (size : ℕ) (w : World) (memory : Memory) (s : State) (ready : IsReady
   open_at x is =
       let mine = own (ap is_some (sym is)) in
       let h = mine.1.own.mine in
-      let under = ready.held.each mine.0 h mine.1.own.is in
+      let under = finds.ready.held.each mine.0 h mine.1.own.is in
       record {
         t = under.is.transaction;
         there = ap w.transactions (sym mine.1.own.pool) ∙ under.is.is;
         whose = under.is.client ∙ mine.1.own.whose;
-        begun = sym (ap (λ (i : ℕ). depth_in memory.sessions i) (sym mine.1.slot_is) ∙ ap session_depth (its_session size w memory s ready mine.0 h mine.1.own.is));
+        begun = sym (ap (λ (i : ℕ). depth_in memory.sessions i) (sym mine.1.slot_is) ∙ ap session_depth (its_session size w memory s finds.ready mine.0 h mine.1.own.is));
       }
 
   deep_by : (o : Option Session) → session ≡ o → depth_in memory.sessions slot ≡ MAX_DEPTH → refusal_of w (Begin client name) ≡ Some refusals.Deep
@@ -86,13 +104,13 @@ module _ (size : ℕ) (w : World) (memory : Memory) (s : State) (ready : IsReady
   many none all =
       let shut = writes none in
       by_entering ∙ ap (λ (t : Option Transaction). entering_refusal client t (open_elsewhere w client name)) shut
-      ∙ ap (λ b. cond b (Some refusals.Logs) None) (ap (leb CLIENT_LOGS) (counted size w memory s ready client name shut are.slots) ∙ le-leb CLIENT_LOGS (count_of client memory.sessions) all)
+      ∙ ap (λ b. cond b (Some refusals.Logs) None) (ap (leb CLIENT_LOGS) (counted size w memory s finds.ready client name shut are.slots) ∙ le-leb CLIENT_LOGS (count_of client memory.sessions) all)
 
   pub few : session ≡ None → count_of client memory.sessions < CLIENT_LOGS → refusal_of w (Begin client name) ≡ None
   few none less =
       let shut = writes none in
       by_entering ∙ ap (λ (t : Option Transaction). entering_refusal client t (open_elsewhere w client name)) shut
-      ∙ ap (λ b. cond b (Some refusals.Logs) None) (ap (leb CLIENT_LOGS) (counted size w memory s ready client name shut are.slots) ∙ lt-leb CLIENT_LOGS (count_of client memory.sessions) less)
+      ∙ ap (λ b. cond b (Some refusals.Logs) None) (ap (leb CLIENT_LOGS) (counted size w memory s finds.ready client name shut are.slots) ∙ lt-leb CLIENT_LOGS (count_of client memory.sessions) less)
 
   -- ---- by what the session's beginning answers
 
@@ -103,30 +121,12 @@ module _ (size : ℕ) (w : World) (memory : Memory) (s : State) (ready : IsReady
   refused_to_enter Logs result is deep logs = many (logs is).0 (logs is).1
 
   -- begun before, and not as often as it may be
-  most_by : (o : Option Session) → session ≡ o → session_depth o ≤ MAX_DEPTH
-  most_by None is = omega arith
-  most_by (Some x) is = (are.each slot x is).few
-
-  there_by : (o : Option Session) → 0 < session_depth o → true ≡ is_some o
-  there_by None some = absurd (let it : 0 < session_depth None = some in omega arith)
-  there_by (Some x) some = refl
-
-  pub begun_again : 0 < depth_in memory.sessions slot → (depth_in memory.sessions slot ≡ MAX_DEPTH → ⊥) → refusal_of w (Begin client name) ≡ None
-  begun_again some apart =
-      let most = most_by session refl in
+  pub begun_again : found.is_open ≡ true → (depth_in memory.sessions slot ≡ MAX_DEPTH → ⊥) → refusal_of w (Begin client name) ≡ None
+  begun_again on apart =
+      let there = session_open on in
+      let most = (are.each slot (record { client = client; depth = depth_in memory.sessions slot }) there).few in
       let low : depth_in memory.sessions slot < MAX_DEPTH = elim (cases_lt (depth_in memory.sessions slot) MAX_DEPTH) [ inl low ↦ low | inr high ↦ absurd (apart (omega arith)) ] in
-      free_by session refl (there_by session some) low
-
-  pub own_begun : 0 < depth_in memory.sessions slot → (number : ℕ) × IsOwnOn client name slot number memory.held
-  own_begun some = own (there_by session some)
-
-  -- never begun, where it has no depth
-  none_by : (o : Option Session) → session ≡ o → session_depth o ≡ 0 → o ≡ None
-  none_by None is none = refl
-  none_by (Some x) is none = absurd (let some = (are.each slot x is).begun in let it : x.depth ≡ 0 = none in omega arith)
-
-  pub not_begun : depth_in memory.sessions slot ≡ 0 → session ≡ None
-  not_begun none = none_by session refl none
+      free_by session refl (sym (ap is_some there)) low
 
   -- and a log is left
   pub less : session ≡ None → ((session ≡ None) × (CLIENT_LOGS ≤ count_of client memory.sessions) → ⊥) → count_of client memory.sessions < CLIENT_LOGS

@@ -1,6 +1,6 @@
 -- The line that writes a pool into a file: what it owes, by what its calls did.
-use Rattle.std.proofs.Common.{◌≡◌, inl, inr, ℕ, true, false, List, Option, Some, None, is_none, Result, Ok, Err, refl, sym, ap, ap₂, subst, ◌∙◌, eq-eqb}
-use Rattle.std.specs.Prelude.{IfOk}
+use Rattle.std.proofs.Common.{◌≡◌, ℕ, true, false, List, [], Some, None, is_none, Result, Ok, Err, refl, sym, ap, ap₂, subst, ◌∙◌, eq-eqb}
+use Rattle.std.specs.Prelude.{IfOk, unwrap_or}
 use Rattle.pm_model.specs.declared.host.HostFault.TheVariants as hosts
 use Rattle.pm_model.specs.declared.host.FileFault.{FileFault}
 use Rattle.pm_model.specs.declared.host.FileFault.TheVariants as files
@@ -22,70 +22,73 @@ use Rattle.pud_defs.specs.Step.Answer.{of_reply}
 use Rattle.pud_defs.specs.Gives.{with_file, contents_for}
 use Rattle.pud_defs.specs.Changing.{KeepsFiles}
 use Rattle.puddled.specs.declared.answers.Answered.TheVariants as answers
-use Rattle.puddled.specs.declared.reading.Readable.{Readable}
-use Rattle.puddled.specs.Reading.{HoldsFound}
+use Rattle.puddled.specs.declared.finding.Found.{Found}
+use Rattle.puddled.specs.declared.finding.Need.TheVariants as needs
+use Rattle.puddled.proofs.Found.{Finds, stored_pool}
 use Rattle.puddled.specs.Daemon.{CarriesOut}
 use Rattle.puddled.specs.Files.{file_answer, HoldsPool, IsStoredPool, HoldsOneOf}
-use Rattle.ready_daemon.specs.Memory.{Held, Memory, held_under}
-use Rattle.ready_daemon.specs.Judged.{known_in, AreJudged}
+use Rattle.ready_daemon.specs.Memory.{Memory}
+use Rattle.ready_daemon.specs.Held.{IsOwn}
+use Rattle.ready_daemon.specs.Judged.{known_in}
 use Rattle.ready_daemon.specs.Ready.{IsReady, Applies}
 use Rattle.ready_daemon.proofs.OpenBeside.{open_here}
-use Rattle.puddled.proofs.Readable.{judged_more}
 use Rattle.puddled.proofs.FileLines.{memory_of-export, memory_step, some_step, export_is_plain, CarriesOut-read, CarriesOut-file, Applies-shelved, Applies-unwritten, KeepsFiles-shelved, exported_step, contents_are}
 
 -- ---- the client's own transaction is open on the pool
 
-pub own_is_open : (size : ℕ) (w : World) (memory : Memory) (s : State) → IsReady size w memory s → (client : ℕ) (name : List ℕ) (F : ℕ) (judged : List (Option (List (ℕ × Puddle)))) (found : Readable)
-    → HoldsFound w F memory.held client name (reads s.now.words) judged found → found.is_open ≡ true → is_own client (w.transactions name) ≡ true
-own_is_open size w memory s ready client name F judged found (inl own) opened =
-    let here = open_here w memory.held ready.mask s.now.words name client own.1 ready.held own.2.own in
+pub own_is_open : (size : ℕ) (w : World) (memory : Memory) (s : State) → IsReady size w memory s → (client : ℕ) (name : List ℕ) → (number : ℕ) → IsOwn client name number memory.held → is_own client (w.transactions name) ≡ true
+own_is_open size w memory s ready client name number own =
+    let here = open_here w memory.held ready.mask s.now.words name client number ready.held own in
     ap (is_own client) here.is ∙ eq-eqb here.transaction.client client here.whose
-own_is_open size w memory s ready client name F judged found (inr holds) opened = absurd (let no : true ≡ false = sym opened ∙ holds.0 in cc)
+
+-- ---- none is
+
+-- the pool as it is known, on a device of so many frames
+pub stored_found : (size : ℕ) (w : World) (client : ℕ) (name : List ℕ) (memory : Memory) (s : State) (found : Found) (here : Finds size w needs.Read client name memory s found) → found.is_open ≡ false
+    → IsStoredPool w memory.frames name (reads s.now.words) found.number (unwrap_or (known_in memory.judged found.slot) [])
+stored_found size w client name memory s found here off =
+    let at = unwrap_or (known_in memory.judged found.slot) [] in
+    subst (λ (n : ℕ). IsStoredPool w n name (reads s.now.words) found.number at) (sym here.ready.frames)
+    (subst (λ (n : ℕ). IsStoredPool w w.stored.frames name (reads s.now.words) n at) (sym here.is.number_is)
+    (stored_pool size w memory s here.ready client name found.slot here.is.rec here.is.is (here.is.none off) at (here.is.known off refl)))
 
 -- ---- the file was to be written
 
-module _ (size : ℕ) (w : World) (memory : Memory) (judged : List (Option (List (ℕ × Puddle)))) (old : State) (ready : IsReady size w memory old) (right : AreJudged memory.frames judged (reads old.now.words))
-    (apart : (number : ℕ) (h : Held) → held_under memory.held number ≡ Some h → known_in judged h.slot ≡ known_in memory.judged h.slot) (client : ℕ) (name file : List ℕ)
+module _ (size : ℕ) (w : World) (memory : Memory) (old : State) (ready : IsReady size w memory old) (client : ℕ) (name file : List ℕ)
     (free : refusal_of w (Export client name file) ≡ None) (F number : ℕ) (puddles : List (ℕ × Puddle)) (pool : IsStoredPool w F name (reads old.now.words) number puddles) (first last : Counts) (new : State) where
   abbrev line : Command
   line = Export client name file
 
-  abbrev behind : Memory
-  behind = record memory { judged = judged }
-
-  more : IsReady size w behind old
-  more = judged_more size w memory judged old ready right apart
-
   -- it holds the pool
-  carries_written : HoldsPool F number puddles pool.graph (reads old.now.words) (name_text file) old new → last ≡ first → CarriesOut size w behind (Some line) (Ok (answers.Reply replies.Ok)) first last old new
+  carries_written : HoldsPool F number puddles pool.graph (reads old.now.words) (name_text file) old new → last ≡ first → CarriesOut size w memory (Some line) (Ok (answers.Reply replies.Ok)) first last old new
   carries_written holds cause =
       let shelf = with_file (name_text file) holds.bytes w.shelf in
       let under : World = record w { shelf = shelf } in
       let given : new ≡ with_shelf shelf old = holds.given ∙ ap (λ (s : Shelf). with_shelf (shelved (name_text file) (Some holds.bytes) s) old) ready.shelf in
       let contents : file_graph holds.bytes ≡ Some (contents_for w.stored.types pool.pool.puddles pool.graph) =
       holds.holds ∙ ap₂ (λ (types : List (ℕ × ℕ)) (n : ℕ). Some (contents_for types n pool.graph)) pool.types pool.count in
-      CarriesOut-file size w behind line refl (export_is_plain client name file) first last old new (of_reply replies.Ok) under (Ok (answers.Reply replies.Ok))
+      CarriesOut-file size w memory line refl (export_is_plain client name file) first last old new (of_reply replies.Ok) under (Ok (answers.Reply replies.Ok))
       (exported_step w client name file (contents_for w.stored.types pool.pool.puddles pool.graph) holds.bytes free (contents_are w F name (reads old.now.words) number puddles pool) contents)
       refl tt (λ cut. cc)
-      (subst (λ (s : State). Applies size w under behind None old s) (sym given) (Applies-shelved size w behind shelf old more))
+      (subst (λ (s : State). Applies size w under memory None old s) (sym given) (Applies-shelved size w memory shelf old ready))
       (subst (λ (s : Shelf). KeepsFiles (Some (name_text file)) old.shelf s) (sym (ap (λ (s : State). s.shelf) holds.given)) (KeepsFiles-shelved (name_text file) (Some holds.bytes) old.shelf))
       cause
 
   -- the host failed, and it was left in some state
-  carries_unwritten : LeavesFile (name_text file) old new → last ≡ after_fault (Some hosts.Failed) first → CarriesOut size w behind (Some line) (Err hosts.Failed) first last old new
+  carries_unwritten : LeavesFile (name_text file) old new → last ≡ after_fault (Some hosts.Failed) first → CarriesOut size w memory (Some line) (Err hosts.Failed) first last old new
   carries_unwritten left cause =
       let s = some_step w line (memory_of-export w client name file) in
-      CarriesOut-file size w behind line refl (export_is_plain client name file) first last old new s.said w (Err hosts.Failed) s.step tt tt (λ cut. cc)
-      (subst (λ (t : State). Applies size w w behind (Some hosts.Failed) old t) (sym left.is) (Applies-unwritten size w behind old.shelf old more (shelved (name_text file) left.entry old.shelf)))
+      CarriesOut-file size w memory line refl (export_is_plain client name file) first last old new s.said w (Err hosts.Failed) s.step tt tt (λ cut. cc)
+      (subst (λ (t : State). Applies size w w memory (Some hosts.Failed) old t) (sym left.is) (Applies-unwritten size w memory old.shelf old ready (shelved (name_text file) left.entry old.shelf)))
       (subst (λ (t : Shelf). KeepsFiles (Some (name_text file)) old.shelf t) (sym (ap (λ (t : State). t.shelf) left.is)) (KeepsFiles-shelved (name_text file) left.entry old.shelf))
       cause
 
   -- by what the call that writes it answered
   pub CarriesOut-written : (done : Result (Unit {0}) FileFault) → IfOk done (λ _. HoldsPool F number puddles pool.graph (reads old.now.words) (name_text file) old new) → (done ≡ Err files.Memory → new ≡ old)
-      → LeavesFile (name_text file) old new → last ≡ after_fault (file_fault_of done) first → (file_fault_of done ≡ Some hosts.Cut → ⊥) → CarriesOut size w behind (Some line) (file_answer done) first last old new
+      → LeavesFile (name_text file) old new → last ≡ after_fault (file_fault_of done) first → (file_fault_of done ≡ Some hosts.Cut → ⊥) → CarriesOut size w memory (Some line) (file_answer done) first last old new
   CarriesOut-written (Ok done) holds memory left cause never = carries_written holds cause
   CarriesOut-written (Err files.Memory) holds memory_same left cause never =
-      CarriesOut-read size w memory judged line refl (export_is_plain client name file) first last old new ready right apart (of_reply (replies.No refusals.Memory)) (Ok (answers.Reply (replies.No refusals.Memory)))
+      CarriesOut-read size w memory line refl (export_is_plain client name file) first last old new ready (of_reply (replies.No refusals.Memory)) (Ok (answers.Reply (replies.No refusals.Memory)))
       (memory_step w line (memory_of-export w client name file ∙ ap is_none free)) refl tt (λ cut. cc) (memory_same refl) cause
   CarriesOut-written (Err (files.Host hosts.Failed)) holds memory left cause never = carries_unwritten left cause
   CarriesOut-written (Err (files.Host hosts.Cut)) holds memory left cause never = absurd (never refl)

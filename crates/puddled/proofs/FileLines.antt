@@ -1,12 +1,12 @@
 -- Lines that read a pool whole: why they are refused, and what they owe.
-use Rattle.std.proofs.Common.{◌≡◌, inl, inr, ℕ, ◌*◌, Bool, true, false, not, cond, List, ◌++◌, length, codes, Option, Some, None, is_none, is_some, option_map, Result, Ok, Err, refl, sym, ap, subst, ◌∙◌}
+use Rattle.std.proofs.Common.{◌≡◌, inl, inr, ℕ, ◌*◌, true, cond, List, ◌++◌, length, codes, Option, Some, None, is_none, option_map, Result, Ok, Err, refl, sym, ap, subst, ◌∙◌}
 use Rattle.std.specs.Prelude.{IfOk, bytes_eq}
 use Rattle.std.proofs.lemmas.Bool.{cases_Bool, cond-true, cond-false}
 use Rattle.std.proofs.lemmas.Slice.Eq.{bytes_eq-Decides}
+use Rattle.std.specs.Option.{option_or}
 use Rattle.pm_model.specs.declared.host.HostFault.{HostFault}
 use Rattle.pm_model.specs.declared.host.FileFault.{FileFault}
 use Rattle.pm_model.specs.declared.host.HostFault.TheVariants as hosts
-use Rattle.pm_model.specs.Words.{reads}
 use Rattle.pm_model.specs.Counts.{Counts, after_fault, fault_of}
 use Rattle.pm_model.specs.Moments.{State, Shelf, with_shelf}
 use Rattle.pm_model.specs.Calls.{shelved, LeavesFile}
@@ -20,7 +20,6 @@ use Rattle.pud_defs.specs.declared.machine.Refusal.{Refusal}
 use Rattle.pud_defs.specs.declared.machine.Refusal.TheVariants as refusals
 use Rattle.pud_defs.specs.declared.records.Puddle.{Puddle}
 use Rattle.pud_defs.specs.Image.{Image}
-use Rattle.pud_defs.specs.Spaces.{Owner}
 use Rattle.pud_defs.specs.Graph.{Graph}
 use Rattle.pud_defs.specs.DumpText.{dump_text}
 use Rattle.pud_defs.specs.declared.layout.TheConstants.{MACHINE_WORD}
@@ -28,12 +27,11 @@ use Rattle.pud_defs.specs.Types.{types_of}
 use Rattle.pud_defs.specs.Stored.{stored_in}
 use Rattle.pud_defs.specs.ExportFile.{FileContents, words_in, types_used, file_graph}
 use Rattle.pud_defs.specs.Exported.{exported_words}
-use Rattle.pud_defs.specs.Tables.{Pool}
 use Rattle.pud_defs.specs.PoolChanges.{pool_named}
 use Rattle.pud_defs.specs.World.{Transaction, World, closed}
-use Rattle.pud_defs.specs.Transactions.{is_own, is_others}
+use Rattle.pud_defs.specs.Transactions.{is_own}
 use Rattle.pud_defs.specs.Listing.{name_text}
-use Rattle.pud_defs.specs.Step.{Answer, refusal_of, holds, graph_in, reads as reads_pool, after, answer, world_by}
+use Rattle.pud_defs.specs.Step.{Answer, refusal_of, holds, after, answer, world_by}
 use Rattle.pud_defs.specs.Step.Answer.{of_reply, of_text}
 use Rattle.pud_defs.specs.Gives.{with_file, contents_for, contents_held, Exports, GivesUnless, Gives, StepBy, may_lack_memory}
 use Rattle.pud_defs.specs.Changing.{file_of, KeepsFiles}
@@ -49,67 +47,44 @@ use Rattle.puddled.specs.declared.answers.Answered.TheVariants as answers
 use Rattle.puddled.specs.Answered.{answer_of, IsOneLine}
 use Rattle.puddled.specs.Faults.{Kind, kind_of, CountsCommand}
 use Rattle.puddled.specs.Faults.Kind.{ordinary}
-use Rattle.puddled.specs.Reading.{reading_refusal, refusal_to_read, HoldsGraph}
+use Rattle.puddled.specs.declared.finding.Need.TheVariants as needs
+use Rattle.puddled.specs.Finding.{refusal_to}
+use Rattle.puddled.specs.Reading.{HoldsGraph}
 use Rattle.puddled.specs.Daemon.{CarriesOut}
 use Rattle.puddled.specs.Files.{HoldsPool, IsStoredPool}
-use Rattle.ready_daemon.specs.Memory.{Held, Memory, held_under}
+use Rattle.ready_daemon.specs.Memory.{Memory}
 use Rattle.ready_daemon.specs.Held.{KeepsHeld}
-use Rattle.ready_daemon.specs.Judged.{known_in, AreJudged}
 use Rattle.ready_daemon.specs.Ready.{IsReady, StandsBetween, Applies}
 use Rattle.ready_daemon.proofs.Beside.{ready_stands, holds_still, sessions_still}
 use Rattle.puddled.proofs.Carrying.{ClosesLogs-other}
-use Rattle.puddled.proofs.Readable.{Applies-judged}
+use Rattle.puddled.proofs.Needs.{refusal_of-dump, refusal_of-export}
+use Rattle.ready_daemon.proofs.Applying.{Applies-still}
 
 -- ---- why they are refused
 
 module _ (w : World) (client : ℕ) (name : List ℕ) where
-  -- the graph is said where the pool may be read
-  pub refusal_of-dump : refusal_of w (Dump client name) ≡ refusal_to_read w client name
-  unfolding refusal_of holds
-  refusal_of-dump = refl
-
   pub memory_of-dump : may_lack_memory w (Dump client name) ≡ is_none (refusal_of w (Dump client name))
   unfolding may_lack_memory refusal_of holds
   memory_of-dump = refl
 
--- it may be read, or why not; and the client's own transaction is not open on it
-abbrev export_refusal : Option Refusal → (client : ℕ) → Option Transaction → Option Refusal
-export_refusal None client opened = cond (is_own client opened) (Some refusals.OpenHere) None
-export_refusal (Some r) client opened = Some r
-
-earlier : (b : Bool) (r : Refusal) (rest : Option Refusal) (client : ℕ) (opened : Option Transaction) → cond b (Some r) (export_refusal rest client opened) ≡ export_refusal (cond b (Some r) rest) client opened
-earlier true r rest client opened = refl
-earlier false r rest client opened = refl
-
-in_turn : (who : Option Owner) (found : Option Pool) (client : ℕ) (opened : Option Transaction)
-    → cond (not (is_some who)) (Some refusals.Client) (cond (is_none found) (Some refusals.Pool) (cond (is_none (graph_in found)) (Some refusals.Wild)
-    (cond (not (reads_pool who found)) (Some refusals.Denied) (cond (is_others client opened) (Some refusals.Busy) (cond (is_own client opened) (Some refusals.OpenHere) None)))))
-    ≡ export_refusal (reading_refusal who found client opened) client opened
-in_turn who found client opened =
-    let busy = earlier (is_others client opened) refusals.Busy None client opened in
-    let denied = ap (cond (not (reads_pool who found)) (Some refusals.Denied)) busy ∙ earlier (not (reads_pool who found)) refusals.Denied _ client opened in
-    let wild = ap (cond (is_none (graph_in found)) (Some refusals.Wild)) denied ∙ earlier (is_none (graph_in found)) refusals.Wild _ client opened in
-    let pool = ap (cond (is_none found) (Some refusals.Pool)) wild ∙ earlier (is_none found) refusals.Pool _ client opened in
-    ap (cond (not (is_some who)) (Some refusals.Client)) pool ∙ earlier (not (is_some who)) refusals.Client _ client opened
-
 module _ (w : World) (client : ℕ) (name file : List ℕ) where
-  refusal_of-export : refusal_of w (Export client name file) ≡ export_refusal (refusal_to_read w client name) client (w.transactions name)
-  unfolding refusal_of holds
-  refusal_of-export = in_turn (w.clients client) (pool_named name w.stored) client (w.transactions name)
-
   pub memory_of-export : may_lack_memory w (Export client name file) ≡ is_none (refusal_of w (Export client name file))
   unfolding may_lack_memory refusal_of holds
   memory_of-export = refl
 
-  pub export_unread : (r : Refusal) → refusal_to_read w client name ≡ Some r → refusal_of w (Export client name file) ≡ Some r
-  export_unread r is = refusal_of-export ∙ ap (λ (o : Option Refusal). export_refusal o client (w.transactions name)) is
+  abbrev opened_own : Option Refusal
+  opened_own = cond (is_own client (w.transactions name)) (Some refusals.OpenHere) None
+
+  pub export_unread : (r : Refusal) → refusal_to w needs.Read client name ≡ Some r → refusal_of w (Export client name file) ≡ Some r
+  export_unread r is = refusal_of-export w client name file ∙ ap (λ (o : Option Refusal). option_or o opened_own) is
 
   -- the client's own transaction is open on it
-  pub export_open : refusal_to_read w client name ≡ None → is_own client (w.transactions name) ≡ true → refusal_of w (Export client name file) ≡ Some refusals.OpenHere
-  export_open none own = refusal_of-export ∙ ap (λ (o : Option Refusal). export_refusal o client (w.transactions name)) none ∙ ap (λ b. cond b (Some refusals.OpenHere) None) own
+  pub export_open : refusal_to w needs.Read client name ≡ None → is_own client (w.transactions name) ≡ true → refusal_of w (Export client name file) ≡ Some refusals.OpenHere
+  export_open none own = refusal_of-export w client name file ∙ ap (λ (o : Option Refusal). option_or o opened_own) none ∙ ap (λ b. cond b (Some refusals.OpenHere) None) own
 
-  pub export_free : refusal_to_read w client name ≡ None → w.transactions name ≡ None → refusal_of w (Export client name file) ≡ None
-  export_free none shut = refusal_of-export ∙ (λ p. export_refusal (none p) client (shut p))
+  pub export_free : refusal_to w needs.Read client name ≡ None → w.transactions name ≡ None → refusal_of w (Export client name file) ≡ None
+  export_free none shut =
+      refusal_of-export w client name file ∙ ap (λ (o : Option Refusal). option_or o opened_own) none ∙ ap (λ (o : Option Transaction). cond (is_own client o) (Some refusals.OpenHere) None) shut
 
 -- ---- a step that gives the world as it was
 
@@ -178,15 +153,13 @@ module _ (size : ℕ) (w : World) (memory : Memory) (c : Command) (plain : kind_
     counted = counted_plain (fault_of done) cause;
   }
 
--- more is known of pools by calls that read, and nothing else changed
-pub CarriesOut-read : (size : ℕ) (w : World) (memory : Memory) (judged : List (Option (List (ℕ × Puddle)))) (c : Command) → kind_of (Some c) ≡ ordinary → ((client : ℕ) → Some c ≡ Some (Leave client) → ⊥)
-    → (first last : Counts) (old new : State) → IsReady size w memory old → AreJudged memory.frames judged (reads old.now.words)
-    → ((number : ℕ) (h : Held) → held_under memory.held number ≡ Some h → known_in judged h.slot ≡ known_in memory.judged h.slot)
-    → (said : Answer) (done : Result Answered HostFault) → StepBy w (Some c) said w → IfOk done (λ answered. answer_of w answered ≡ said) → IfOk done IsOneLine
-    → (fault_of done ≡ Some hosts.Cut → ⊥) → new ≡ old → last ≡ after_fault (fault_of done) first → CarriesOut size w (record memory { judged = judged }) (Some c) done first last old new
-CarriesOut-read size w memory judged c plain other first last old new ready right apart said done step replied one never same cause =
-    CarriesOut-still size w (record memory { judged = judged }) c plain other first last old new said done step replied one never
-    (Applies-judged size w memory judged (fault_of done) old new ready right apart same never) same cause
+-- calls that read came, and nothing else changed
+pub CarriesOut-read : (size : ℕ) (w : World) (memory : Memory) (c : Command) → kind_of (Some c) ≡ ordinary → ((client : ℕ) → Some c ≡ Some (Leave client) → ⊥) → (first last : Counts) (old new : State)
+    → IsReady size w memory old → (said : Answer) (done : Result Answered HostFault) → StepBy w (Some c) said w → IfOk done (λ answered. answer_of w answered ≡ said) → IfOk done IsOneLine
+    → (fault_of done ≡ Some hosts.Cut → ⊥) → new ≡ old → last ≡ after_fault (fault_of done) first → CarriesOut size w memory (Some c) done first last old new
+CarriesOut-read size w memory c plain other first last old new ready said done step replied one never same cause =
+    CarriesOut-still size w memory c plain other first last old new said done step replied one never
+    (Applies-still size w memory (fault_of done) old new ready same (λ cut. absurd (never cut))) same cause
 
 -- ---- a text
 
@@ -196,7 +169,7 @@ dump_is_plain client name other is = cc
 pub export_is_plain : (client : ℕ) (name file : List ℕ) (other : ℕ) → Some (Export client name file) ≡ Some (Leave other) → ⊥
 export_is_plain client name file other is = cc
 
-module _ (w : World) (client : ℕ) (name : List ℕ) (F : ℕ) (image : Image) (puddles : List (ℕ × Puddle)) (holds : HoldsGraph w F name image puddles) (free : refusal_to_read w client name ≡ None) where
+module _ (w : World) (client : ℕ) (name : List ℕ) (F : ℕ) (image : Image) (puddles : List (ℕ × Puddle)) (holds : HoldsGraph w F name image puddles) (free : refusal_to w needs.Read client name ≡ None) where
   abbrev line : Command
   line = Dump client name
 

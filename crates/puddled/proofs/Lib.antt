@@ -1,10 +1,11 @@
 pub mod Depth
+pub mod Needs
+pub mod Found
 pub mod Readable
 pub mod Saying
 pub mod FileNames
 pub mod FileLines
 pub mod ExportLines
-pub mod RefusedLines
 pub mod Entering
 pub mod Counted
 pub mod Emptied

@@ -1,23 +1,98 @@
--- What is found of the pool that a line of a transaction names, and why its session does not begin.
-use Rattle.std.specs.Prelude.{◌≡◌, ◌<◌, ℕ, Bool, true, not, cond, is_some, option_map, Some, Result, Ok, Err}
+-- What a line needs of the pool that it names, what is found of it, and why its session does not begin.
+use Rattle.std.specs.Prelude.{◌≡◌, ◌<◌, ℕ, Bool, true, false, not, ◌==◌, cond, is_some, is_none, unwrap_or, option_map, List, [], Option, Some, None, Result, Ok, Err}
 use Rattle.pud_defs.specs.declared.records.TheConstants.{POOL_RECORDS}
+use Rattle.pud_defs.specs.declared.records.PoolRec.{PoolRec}
 use Rattle.pud_defs.specs.declared.machine.Refusal.{Refusal}
 use Rattle.pud_defs.specs.declared.machine.Refusal.TheVariants as refusals
+use Rattle.pud_defs.specs.Image.{Image}
+use Rattle.pud_defs.specs.Rights.{may_read, may_write}
 use Rattle.pud_defs.specs.Settled.{ALL_LOGS}
+use Rattle.pud_defs.specs.Spaces.{Owner, owner}
+use Rattle.pud_defs.specs.Step.{owns, reads, writes, graph_in}
+use Rattle.pud_defs.specs.Tables.{Pool, tables_of, pool_in}
+use Rattle.pud_defs.specs.PoolChanges.{pool_named}
+use Rattle.pud_defs.specs.Transactions.{is_others}
+use Rattle.pud_defs.specs.World.{Transaction, World}
 use Rattle.nesting.specs.declared.EnterFault.{EnterFault}
 use Rattle.nesting.specs.declared.EnterFault.TheVariants.{Deep, Logs}
 use Rattle.nesting.specs.Sessions.{client_in, session_in}
 use Rattle.puddled.specs.declared.finding.Own.{Own}
+use Rattle.puddled.specs.declared.finding.Need.{Need}
+use Rattle.puddled.specs.declared.finding.Need.TheVariants as needs
+use Rattle.puddled.specs.declared.finding.Found.{Found}
 use Rattle.ready_daemon.specs.Memory.{Memory, held_under}
+use Rattle.ready_daemon.specs.Holding.{IsOwnOn}
+use Rattle.ready_daemon.specs.Judged.{known_in, puddles_with_graph}
 
--- the slot that was found, where a transaction is open on the pool: by whether the mode allows the client to write, and whether it is the client's own
-abbrev pub writing_open : (slot : ℕ) (right own : Bool) → Result ℕ Refusal
-writing_open slot right own = cond (not right) (Err refusals.Denied) (cond (not own) (Err refusals.Busy) (Ok slot))
+-- ---- what is needed
 
--- why the session of a transaction does not begin, or is not one deeper
-abbrev pub refusal_to_enter : EnterFault → Refusal
-refusal_to_enter Deep = refusals.Deep
-refusal_to_enter Logs = refusals.Logs
+-- a graph
+abbrev pub needs_graph : Need → Bool
+needs_graph needs.Owner = false
+needs_graph needs.Read = true
+needs_graph needs.Write = true
+needs_graph needs.Graph = true
+
+-- the pool has none where one is needed
+abbrev pub lacks_graph : Need → Option Pool → Bool
+lacks_graph needs.Owner found = false
+lacks_graph needs.Read found = is_none (graph_in found)
+lacks_graph needs.Write found = is_none (graph_in found)
+lacks_graph needs.Graph found = is_none (graph_in found)
+
+-- who acts so has the right that is needed
+abbrev pub has_right : Need → Option Owner → Option Pool → Bool
+has_right needs.Owner who found = owns who found
+has_right needs.Read who found = reads who found
+has_right needs.Write who found = writes who found
+has_right needs.Graph who found = true
+
+-- the same by the pool's record
+abbrev pub right_by : Need → PoolRec → Owner → Bool
+right_by needs.Owner rec who = who.uid == rec.uid
+right_by needs.Read rec who = may_read rec.mode (owner rec.uid rec.gid) who
+right_by needs.Write rec who = may_write rec.mode (owner rec.uid rec.gid) who
+right_by needs.Graph rec who = true
+
+-- ---- why a line that needs so much is refused before what else it asks is looked at
+
+-- of one who acts so, on this pool, where this is open on it
+abbrev pub need_refusal : Need → Option Owner → Option Pool → (client : ℕ) → Option Transaction → Option Refusal
+need_refusal need who found client opened =
+    cond (not (is_some who)) (Some refusals.Client)
+    (cond (is_none found) (Some refusals.Pool)
+    (cond (lacks_graph need found) (Some refusals.Wild)
+    (cond (not (has_right need who found)) (Some refusals.Denied)
+    (cond (is_others client opened) (Some refusals.Busy) None))))
+
+-- the same of a client and a name
+abbrev pub refusal_to : World → Need → (client : ℕ) → List ℕ → Option Refusal
+refusal_to w need client name = need_refusal need (w.clients client) (pool_named name w.stored) client (w.transactions name)
+
+-- ---- what is found
+
+-- by whose transaction is open on the pool
+abbrev pub beside : Option ℕ → (client slot number : ℕ) → Result Found Refusal
+beside None client slot number = Ok (record { slot = slot; number = number; is_open = false })
+beside (Some holder) client slot number = cond (holder == client) (Ok (record { slot = slot; number = number; is_open = true })) (Err refusals.Busy)
+
+-- the pool of the name has this record, as it is read, in the slot
+abbrev pub IsRecordOf : (F : ℕ) → List ℕ → Image → (slot : ℕ) → PoolRec → Type 0
+IsRecordOf F name image slot rec = ◌≡◌ {A = Option (ℕ × PoolRec)} (Some (slot, rec)) (pool_in (tables_of F image) name)
+
+-- whose transaction is open on it then
+abbrev pub holder_found : Found → (client : ℕ) → Option ℕ
+holder_found found client = cond found.is_open (Some client) None
+
+-- The pool that was found is that of the name, by its record. Where a transaction is open on it that is the client's own; else, where it needs a graph,
+-- what is known of it is its puddles, and that they have one.
+pub record IsFound (w : World) (need : Need) (client : ℕ) (name : List ℕ) (image : Image) (memory : Memory) (found : Found) : Type 0 where
+  pub rec : PoolRec
+  pub is : IsRecordOf w.stored.frames name image found.slot rec
+  pub number_is : found.number ≡ rec.number
+  pub own : found.is_open ≡ true → (number : ℕ) × IsOwnOn client name found.slot number memory.held
+  pub none : found.is_open ≡ false → w.transactions name ≡ None
+  pub known : found.is_open ≡ false → needs_graph need ≡ true → Some (unwrap_or (known_in memory.judged found.slot) []) ≡ puddles_with_graph w.stored.frames image found.slot
 
 -- What was found of the client's own transaction lies within the tables, and is the client's by its session.
 pub record FindsOwn (client : ℕ) (memory : Memory) (own : Own) : Type 0 where
@@ -25,3 +100,8 @@ pub record FindsOwn (client : ℕ) (memory : Memory) (own : Own) : Type 0 where
   pub number : own.number < ALL_LOGS
   pub whose : option_map client_in (session_in memory.sessions own.slot) ≡ Some client
   pub there : true ≡ is_some (held_under memory.held own.number)
+
+-- why the session of a transaction does not begin, or is not one deeper
+abbrev pub refusal_to_enter : EnterFault → Refusal
+refusal_to_enter Deep = refusals.Deep
+refusal_to_enter Logs = refusals.Logs

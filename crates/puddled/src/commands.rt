@@ -3,7 +3,7 @@
 ghost use Rattle.std.specs.Prelude.{◌≡◌, ◌<◌, ◌≤◌, ℕ, Option};
 ghost use Rattle.pm_model.specs.Words.{IsRested};
 ghost use Rattle.pm_model.specs.Counts.{after_fault, fault_of};
-ghost use Rattle.pud_defs.specs.declared.layout.TheConstants.{CLIENTS, MAX_FIELDS};
+ghost use Rattle.pud_defs.specs.declared.layout.TheConstants.{CLIENTS};
 ghost use Rattle.pud_defs.specs.declared.machine.Command.TheVariants as commands;
 ghost use Rattle.pud_defs.specs.Layout.{device_words};
 ghost use Rattle.pud_defs.specs.World.{Transaction, World};
@@ -13,11 +13,10 @@ ghost use Rattle.ready_daemon.specs.Ready.{KeepsRest, IsReady};
 ghost use Rattle.puddled.specs.Daemon.{CarriesOut};
 
 use crate::daemon::Daemon;
-use crate::finding::refusal_to_enter;
+use crate::finding::{Need, refusal_to_enter};
 use pm_model::{Host, HostFault};
 use pool_transaction::Change;
 use pud_defs::machine::Reply;
-use pud_defs::objects::Val;
 use pud_defs::records::Name;
 
 impl Daemon {
@@ -46,14 +45,15 @@ impl Daemon {
         ensures rests { H.tells → fault_of result ≡ Option.Some HostFault.Cut → IsRested (H.state h.new).now.words }
         ensures cause { H.counts h.new ≡ after_fault (fault_of result) (H.counts h.old) }
     {
-        let slot = match self.find_writable(h, client, name)? {
+        let found = match self.find_pool(h, client, name, Need::Write)? {
             Err(refusal) => return Ok(Reply::No(refusal)),
-            Ok(slot) => slot,
+            Ok(found) => found,
         };
+        let slot = found.slot;
         if let Err(fault) = self.sessions.enter(client, slot) {
             return Ok(Reply::No(refusal_to_enter(fault)));
         }
-        if self.sessions.depth(slot) > 1 {
+        if found.is_open {
             return Ok(Reply::Ok);
         }
         self.begin_on(h, client, name, slot)
@@ -157,8 +157,18 @@ impl Daemon {
         }
     }
 
-    /// Makes the change in the client's own transaction on the pool of this name, or says why it is not made.
-    fn change_own<H: Host>(
+    /// Makes the change in the client's own transaction on the pool of this name: the client sees it at once, and others once it is committed; but what is
+    /// asked for later comes at the commit, behind all that is set in it and all that was asked for before, and nobody sees it until then. The client is
+    /// one of 0 to 7. The reply is `Ok`, or says why nothing changes, by the first of these that holds: `Client`, the client is not present; `Pool`, there
+    /// is no pool of the name; `Wild`, the pool has no graph; `Busy`, another client's transaction is open on it; `Tx`, none is; `Object`, there is no
+    /// object of the serial that is named, or of that which is to be the value; `Field`, the object has no such field; `Kind`, the field holds a number
+    /// and the value is a reference, or the other way round; `Held`, the object is to be freed and the root is it, or a pointer of an object, itself
+    /// included, leads to it, or a value that was asked for later is one of its fields or leads to it; `TooBig`, the transaction's log has no room for
+    /// three units more.
+    ///
+    /// The only errors are the host's own: `Failed` where a call of it failed, `Cut` where power was lost. At either the device stands for what it
+    /// stood for before the call or for what the line gives, and the daemon is to be stopped, and to start anew.
+    pub(crate) fn change_own<H: Host>(
         &mut self,
         h: &mut H,
         client: u8,
@@ -184,123 +194,5 @@ impl Daemon {
             Some(opened) => opened.change_or_refuse(h, frames, change),
             None => unreachable!(),
         }
-    }
-
-    /// Gives field `f`, 0 to 29, of the object of serial `s` another value, in the client's own transaction on the pool of this name: the client sees it
-    /// at once, and others once it is committed. The client is one of 0 to 7. The reply is `Ok`, or says why nothing was set, by the first of these
-    /// that holds: `Client`, the client is not present; `Pool`, there is no pool of the name; `Wild`, the pool has no graph; `Busy`, another client's
-    /// transaction is open on it; `Tx`, none is; `Object`, the value names an object that the pool does not have, or there is none of serial `s`;
-    /// `Field`, the object has no such field; `Kind`, the field holds a number and the value is a reference, or the other way round; `TooBig`, the
-    /// transaction's log has no room for three units more.
-    ///
-    /// The only errors are the host's own: `Failed` where a call of it failed, `Cut` where power was lost. At either the device stands for what it
-    /// stood for before the call or for what the line gives, and the daemon is to be stopped, and to start anew.
-    pub(crate) fn set<H: Host>(
-        &mut self,
-        h: &mut H,
-        client: u8,
-        name: Name,
-        s: u64,
-        f: u32,
-        x: Val,
-    ) -> Result<Reply, HostFault>
-        requires known { client < CLIENTS }
-        requires field { f < MAX_FIELDS }
-        requires room { device_words (self.old).frames ≤ (H.counts h.old).size }
-        ensures carries { H.tells → (size : ℕ) → size ≡ (H.counts h.old).size → (w : World) → IsReady size w self.old (H.state h.old)
-            → CarriesOut size w self.new (Option.Some (commands.Set client name s f x)) (as_answered result) (H.counts h.old) (H.counts h.new) (H.state h.old) (H.state h.new) }
-        ensures frames { (self.new).frames ≡ (self.old).frames }
-        ensures rest { H.tells → KeepsRest (H.state h.old) (H.state h.new) }
-        ensures rests { H.tells → fault_of result ≡ Option.Some HostFault.Cut → IsRested (H.state h.new).now.words }
-        ensures cause { H.counts h.new ≡ after_fault (fault_of result) (H.counts h.old) }
-    {
-        self.change_own(h, client, name, Change::Set { s, f, x })
-    }
-
-    /// Asks in the client's own transaction on the pool of this name that field `f`, 0 to 29, of the object of serial `s` has another value once the
-    /// transaction is committed, behind all that is set in it and all that was asked for before. Until then nobody sees it, the client neither. The
-    /// client is one of 0 to 7. The reply is `Ok`, or says why nothing was asked for, by the first of these that holds: `Client`, the client is not
-    /// present; `Pool`, there is no pool of the name; `Wild`, the pool has no graph; `Busy`, another client's transaction is open on it; `Tx`, none is;
-    /// `Object`, the value names an object that the pool does not have, or there is none of serial `s`; `Field`, the object has no such field; `Kind`,
-    /// the field holds a number and the value is a reference, or the other way round; `TooBig`, the transaction's log has no room for three units more.
-    ///
-    /// The only errors are the host's own: `Failed` where a call of it failed, `Cut` where power was lost. At either the device stands for what it
-    /// stood for before the call or for what the line gives, and the daemon is to be stopped, and to start anew.
-    pub(crate) fn later<H: Host>(
-        &mut self,
-        h: &mut H,
-        client: u8,
-        name: Name,
-        s: u64,
-        f: u32,
-        x: Val,
-    ) -> Result<Reply, HostFault>
-        requires known { client < CLIENTS }
-        requires field { f < MAX_FIELDS }
-        requires room { device_words (self.old).frames ≤ (H.counts h.old).size }
-        ensures carries { H.tells → (size : ℕ) → size ≡ (H.counts h.old).size → (w : World) → IsReady size w self.old (H.state h.old)
-            → CarriesOut size w self.new (Option.Some (commands.Later client name s f x)) (as_answered result) (H.counts h.old) (H.counts h.new) (H.state h.old) (H.state h.new) }
-        ensures frames { (self.new).frames ≡ (self.old).frames }
-        ensures rest { H.tells → KeepsRest (H.state h.old) (H.state h.new) }
-        ensures rests { H.tells → fault_of result ≡ Option.Some HostFault.Cut → IsRested (H.state h.new).now.words }
-        ensures cause { H.counts h.new ≡ after_fault (fault_of result) (H.counts h.old) }
-    {
-        self.change_own(h, client, name, Change::Later { s, f, x })
-    }
-
-    /// Makes the object of serial `s` the root of the pool of this name, or with 0 takes the root away, in the client's own transaction on it: the client
-    /// sees it at once, and others once it is committed. The client is one of 0 to 7. The reply is `Ok`, or says why the root stays, by the first of these
-    /// that holds: `Client`, the client is not present; `Pool`, there is no pool of the name; `Wild`, the pool has no graph; `Busy`, another client's
-    /// transaction is open on it; `Tx`, none is; `Object`, the serial is not 0 and the pool has no object of it; `TooBig`, the transaction's log has no
-    /// room for three units more.
-    ///
-    /// The only errors are the host's own: `Failed` where a call of it failed, `Cut` where power was lost. At either the device stands for what it
-    /// stood for before the call or for what the line gives, and the daemon is to be stopped, and to start anew.
-    pub(crate) fn root<H: Host>(
-        &mut self,
-        h: &mut H,
-        client: u8,
-        name: Name,
-        s: u64,
-    ) -> Result<Reply, HostFault>
-        requires known { client < CLIENTS }
-        requires room { device_words (self.old).frames ≤ (H.counts h.old).size }
-        ensures carries { H.tells → (size : ℕ) → size ≡ (H.counts h.old).size → (w : World) → IsReady size w self.old (H.state h.old)
-            → CarriesOut size w self.new (Option.Some (commands.Root client name s)) (as_answered result) (H.counts h.old) (H.counts h.new) (H.state h.old) (H.state h.new) }
-        ensures frames { (self.new).frames ≡ (self.old).frames }
-        ensures rest { H.tells → KeepsRest (H.state h.old) (H.state h.new) }
-        ensures rests { H.tells → fault_of result ≡ Option.Some HostFault.Cut → IsRested (H.state h.new).now.words }
-        ensures cause { H.counts h.new ≡ after_fault (fault_of result) (H.counts h.old) }
-    {
-        self.change_own(h, client, name, Change::Root { s })
-    }
-
-    /// Frees the object of serial `s`, at least 1, in the client's own transaction on the pool of this name: for the client it is gone at once, and for
-    /// others once it is committed, and an object that the transaction makes may take its slot. The client is one of 0 to 7. The reply is `Ok`, or says
-    /// why it was not freed, by the first of these that holds: `Client`, the client is not present; `Pool`, there is no pool of the name; `Wild`, the pool
-    /// has no graph; `Busy`, another client's transaction is open on it; `Tx`, none is; `Object`, there is none of serial `s`; `Held`, the root is the
-    /// object, or a pointer of an object, itself included, leads to it, or a value that was asked for later is one of its fields or leads to it;
-    /// `TooBig`, the transaction's log has no room for three units more.
-    ///
-    /// The only errors are the host's own: `Failed` where a call of it failed, `Cut` where power was lost. At either the device stands for what it
-    /// stood for before the call or for what the line gives, and the daemon is to be stopped, and to start anew.
-    pub(crate) fn free<H: Host>(
-        &mut self,
-        h: &mut H,
-        client: u8,
-        name: Name,
-        s: u64,
-    ) -> Result<Reply, HostFault>
-        requires known { client < CLIENTS }
-        requires serial { 1 ≤ s }
-        requires room { device_words (self.old).frames ≤ (H.counts h.old).size }
-        ensures carries { H.tells → (size : ℕ) → size ≡ (H.counts h.old).size → (w : World) → IsReady size w self.old (H.state h.old)
-            → CarriesOut size w self.new (Option.Some (commands.Free client name s)) (as_answered result) (H.counts h.old) (H.counts h.new) (H.state h.old) (H.state h.new) }
-        ensures frames { (self.new).frames ≡ (self.old).frames }
-        ensures rest { H.tells → KeepsRest (H.state h.old) (H.state h.new) }
-        ensures rests { H.tells → fault_of result ≡ Option.Some HostFault.Cut → IsRested (H.state h.new).now.words }
-        ensures cause { H.counts h.new ≡ after_fault (fault_of result) (H.counts h.old) }
-    {
-        self.change_own(h, client, name, Change::Free { s })
     }
 }

@@ -18,13 +18,13 @@ ghost use Rattle.puddled.specs.Daemon.{KeepsAllBut, KeepsLine, CarriesOut, Settl
 use crate::answers::{Answered, say_answer, with_reply};
 use crate::clients::come;
 use crate::judged::Judged;
-use crate::pools::{change, make};
+use crate::pools::make;
 use crate::starting::{say_ready, say_refused};
 use crate::types::define_type;
 use log_space::clear_spaces;
 use nesting::Sessions;
 use pm_model::{Host, HostFault};
-use pool_transaction::{AllOpened, lose_all, none_opened};
+use pool_transaction::{AllOpened, Change, lose_all, none_opened};
 use pud_defs::machine::{Command, Refusal, Reply};
 use recover::{RecoverFault, recover};
 use script::parse_line;
@@ -201,7 +201,7 @@ fn apply<H: Host>(
             with_reply(make(h, daemon.frames, u32::from(client), name, mode))
         }
         Command::Chmod { client, name, mode } => {
-            with_reply(change(h, &daemon.sessions, client, name, mode))
+            with_reply(daemon.change_for(h, client, name, mode))
         }
         Command::Drop { client, name } => with_reply(daemon.drop_for(h, client, name)),
         Command::Get { client, name, s, f } => { with_reply(daemon.get_for(h, client, name, s, f)) }
@@ -215,16 +215,20 @@ fn apply<H: Host>(
             s,
             f,
             x,
-        } => with_reply(daemon.set(h, client, name, s, f, x)),
+        } => with_reply(daemon.change_own(h, client, name, Change::Set { s, f, x })),
         Command::Later {
             client,
             name,
             s,
             f,
             x,
-        } => with_reply(daemon.later(h, client, name, s, f, x)),
-        Command::Root { client, name, s } => with_reply(daemon.root(h, client, name, s)),
-        Command::Free { client, name, s } => with_reply(daemon.free(h, client, name, s)),
+        } => with_reply(daemon.change_own(h, client, name, Change::Later { s, f, x })),
+        Command::Root { client, name, s } => {
+            with_reply(daemon.change_own(h, client, name, Change::Root { s }))
+        }
+        Command::Free { client, name, s } => {
+            with_reply(daemon.change_own(h, client, name, Change::Free { s }))
+        }
         Command::Dump { client, name } => daemon.dump_for(alloc, h, client, name),
         Command::Export { client, name, file } => {
             daemon.export_for(alloc, h, client, name, file)

@@ -1,6 +1,7 @@
 //! Lines that ask for the graph of a pool as a text.
 ghost use Rattle.std.specs.Prelude.{◌≡◌, ◌≢◌, ◌<◌, ◌≤◌, ℕ, Option};
 ghost use Rattle.pm_model.specs.Counts.{after_fault, fault_of};
+ghost use Rattle.pm_model.specs.Reads.{OnlyReads};
 ghost use Rattle.pud_defs.specs.declared.layout.TheConstants.{CLIENTS};
 ghost use Rattle.pud_defs.specs.declared.machine.Command.TheVariants.{Dump};
 ghost use Rattle.pud_defs.specs.Layout.{device_words};
@@ -10,7 +11,7 @@ ghost use Rattle.puddled.specs.Daemon.{CarriesOut};
 
 use crate::answers::{Answered, Text};
 use crate::daemon::Daemon;
-use crate::reading::find_readable;
+use crate::finding::Need;
 use graph_dump::{DumpFault, dump_json};
 use pm_model::{Host, HostFault};
 use pud_defs::machine::{Refusal, Reply};
@@ -37,27 +38,16 @@ impl Daemon {
         ensures carries { H.tells → (size : ℕ) → size ≡ (H.counts h.old).size → (w : World) → IsReady size w self.old (H.state h.old)
             → CarriesOut size w self.new (Option.Some (Dump client name)) result (H.counts h.old) (H.counts h.new) (H.state h.old) (H.state h.new) }
         ensures frames { (self.new).frames ≡ (self.old).frames }
-        ensures stays { H.tells → H.state h.new ≡ H.state h.old }
-        ensures cause { H.counts h.new ≡ after_fault (fault_of result) (H.counts h.old) }
-        ensures never_cut { fault_of result ≢ Option.Some HostFault.Cut }
+        ensures only_reads { OnlyReads H.tells H.state H.counts (fault_of result) h.old h.new }
     {
-        let found = find_readable(
-            h,
-            self.frames,
-            &self.sessions,
-            &mut self.judged,
-            client,
-            name,
-        )?;
-        match found {
-            Err(refusal) => Ok(Answered::Reply(Reply::No(refusal))),
-            Ok(found) => {
-                match dump_json(alloc, h, self.frames, self.puddles_of(found)) {
-                    Ok(bytes) => Ok(Answered::Text(Text::new(bytes))),
-                    Err(DumpFault::Memory) => Ok(Answered::Reply(Reply::No(Refusal::Memory))),
-                    Err(DumpFault::Host(fault)) => Err(fault),
-                }
-            }
+        let found = match self.find_pool(h, client, name, Need::Read)? {
+            Err(refusal) => return Ok(Answered::Reply(Reply::No(refusal))),
+            Ok(found) => found,
+        };
+        match dump_json(alloc, h, self.frames, self.puddles_of(found)) {
+            Ok(bytes) => Ok(Answered::Text(Text::new(bytes))),
+            Err(DumpFault::Memory) => Ok(Answered::Reply(Reply::No(Refusal::Memory))),
+            Err(DumpFault::Host(fault)) => Err(fault),
         }
     }
 }

@@ -23,7 +23,7 @@ ghost use Rattle.puddled.specs.Files.{file_answer, HoldsPool, HoldsOneOf};
 
 use crate::answers::Answered;
 use crate::daemon::Daemon;
-use crate::reading::find_readable;
+use crate::finding::Need;
 use pm_model::{FileFault, Host, HostFault};
 use pool_list::text::{self, add_name};
 use pud_defs::machine::{Refusal, Reply};
@@ -119,24 +119,15 @@ impl Daemon {
         ensures cause { H.counts h.new ≡ after_fault (fault_of result) (H.counts h.old) }
         ensures never_cut { fault_of result ≢ Option.Some HostFault.Cut }
     {
-        let found = find_readable(
-            h,
-            self.frames,
-            &self.sessions,
-            &mut self.judged,
-            client,
-            name,
-        )?;
-        match found {
-            Err(refusal) => Ok(Answered::Reply(Reply::No(refusal))),
-            Ok(found) => {
-                if found.is_open {
-                    return Ok(Answered::Reply(Reply::No(Refusal::OpenHere)));
-                }
-                let puddles = self.judged.puddles(found.slot);
-                let done = write_file(alloc, h, self.frames, found.number, puddles, file);
-                answer_written(done)
-            }
+        let found = match self.find_pool(h, client, name, Need::Read)? {
+            Err(refusal) => return Ok(Answered::Reply(Reply::No(refusal))),
+            Ok(found) => found,
+        };
+        if found.is_open {
+            return Ok(Answered::Reply(Reply::No(Refusal::OpenHere)));
         }
+        let puddles = self.judged.puddles(found.slot);
+        let done = write_file(alloc, h, self.frames, found.number, puddles, file);
+        answer_written(done)
     }
 }

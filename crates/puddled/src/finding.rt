@@ -1,36 +1,57 @@
-//! The pool that a line of a transaction names: whose transaction is open on it, and why the line is refused before what it asks is looked at. Nothing
-//! is written.
-ghost use Rattle.std.specs.Prelude.{◌≡◌, ◌≢◌, ◌<◌, ◌≤◌, ℕ, true, false, [], is_some, unwrap_or, Option, Result, IfOk, IfSome};
-ghost use Rattle.std.specs.Result.{result_ok};
+//! The pool that a line names: why the line is refused before what else it asks is looked at, and what is found. Nothing is written.
+ghost use Rattle.std.specs.Prelude.{◌≡◌, ◌<◌, ◌≤◌, ℕ, List, true, false, is_some, Option, Result, IfOk};
 ghost use Rattle.pm_model.specs.Words.{reads};
-ghost use Rattle.pm_model.specs.Counts.{after_fault, fault_of};
+ghost use Rattle.pm_model.specs.Counts.{fault_of};
+ghost use Rattle.pm_model.specs.Reads.{OnlyReads};
 ghost use Rattle.pud_defs.specs.declared.layout.TheConstants.{CLIENTS};
+ghost use Rattle.pud_defs.specs.declared.records.PoolRec.{PoolRec};
 ghost use Rattle.pud_defs.specs.declared.records.TheConstants.{POOL_RECORDS};
 ghost use Rattle.pud_defs.specs.declared.machine.Command.TheVariants as commands;
-ghost use Rattle.pud_defs.specs.Image.{Image};
 ghost use Rattle.pud_defs.specs.Layout.{device_words};
-ghost use Rattle.pud_defs.specs.Settled.{ALL_LOGS};
-ghost use Rattle.pud_defs.specs.World.{World};
+ghost use Rattle.pud_defs.specs.PoolChanges.{pool_named};
+ghost use Rattle.pud_defs.specs.Spaces.{owner as owner_and};
 ghost use Rattle.pud_defs.specs.Step.{refusal_of};
-ghost use Rattle.nesting.specs.Sessions.{session_in, AreSessions};
-ghost use Rattle.ready_daemon.specs.Memory.{Held, held_under};
-ghost use Rattle.ready_daemon.specs.Holding.{is_held_on, IsOwnOn};
-ghost use Rattle.ready_daemon.specs.Judged.{known_in, AreJudged};
-ghost use Rattle.ready_daemon.specs.Beginning.{MayBegin};
+ghost use Rattle.pud_defs.specs.World.{World};
+ghost use Rattle.nesting.specs.Sessions.{holder_in, AreSessions};
+ghost use Rattle.ready_daemon.specs.Holding.{IsOwnOn};
+ghost use Rattle.ready_daemon.specs.Judged.{known_in};
 ghost use Rattle.ready_daemon.specs.Owning.{refusal_found};
-ghost use Rattle.pool_transaction.specs.Refusing.{refusal_to_write};
-ghost use Rattle.puddled.specs.Finding.{writing_open, refusal_to_enter, FindsOwn};
 ghost use Rattle.ready_daemon.specs.Ready.{IsReady};
+ghost use Rattle.puddled.specs.Finding.{needs_graph, lacks_graph, right_by, refusal_to, beside, holder_found, IsRecordOf, IsFound, FindsOwn, refusal_to_enter};
 
 use crate::daemon::Daemon;
 use log_space::owner;
 use nesting::EnterFault;
-use owner_modes::may_write;
+use owner_modes::{may_read, may_write};
 use pm_model::{Host, HostFault};
 use pool_table::find;
 use pool_transaction::number_on;
 use pud_defs::machine::Refusal;
-use pud_defs::records::Name;
+use pud_defs::records::{Name, Owner, PoolRec};
+
+/// What a line needs of the pool that it names.
+#[derive(Clone, Copy)]
+pub(crate) enum Need {
+    /// That the client owns it. It may have no graph.
+    Owner,
+    /// A graph, and that its mode lets the client read it.
+    Read,
+    /// A graph, and that its mode lets the client write it.
+    Write,
+    /// A graph.
+    Graph,
+}
+
+/// A pool that was found.
+#[derive(Clone, Copy)]
+pub(crate) struct Found {
+    /// The slot of its record, 0 to 31.
+    pub(crate) slot: u32,
+    /// Its UUID number.
+    pub(crate) number: u64,
+    /// Whether the client's own transaction is open on it. Else none is.
+    pub(crate) is_open: bool,
+}
 
 /// The client's own transaction on a pool: the slot of the pool's record, and the number of its log.
 #[derive(Clone, Copy)]
@@ -41,17 +62,50 @@ pub(crate) struct Own {
     pub(crate) number: u32,
 }
 
-/// The slot that was found, where a transaction is open on the pool that is to be written, or why the client may not.
-fn writing_open(slot: u32, right: bool, own: bool) -> Result<u32, Refusal>
-    ensures { result ≡ writing_open slot right own }
+/// Whether a graph is needed.
+fn needs_graph(need: Need) -> bool
+    ensures { result ≡ needs_graph need }
 {
-    if !right {
-        return Err(Refusal::Denied);
+    match need {
+        Need::Owner => false,
+        Need::Read | Need::Write | Need::Graph => true,
     }
-    if !own {
-        return Err(Refusal::Busy);
+}
+
+/// Whether who acts as this owner has the right that is needed, by the pool's record.
+fn has_right(need: Need, rec: &PoolRec, who: Owner) -> bool
+    ensures { result ≡ right_by need rec.now (owner_and who.uid who.gid) }
+{
+    match need {
+        Need::Owner => who.uid == rec.uid,
+        Need::Read => may_read(rec.mode, rec.uid, rec.gid, who.uid, who.gid),
+        Need::Write => may_write(rec.mode, rec.uid, rec.gid, who.uid, who.gid),
+        Need::Graph => true,
     }
-    Ok(slot)
+}
+
+/// The pool that was found, where no other client's transaction is open on it.
+fn beside(holder: Option<u8>, client: u8, slot: u32, number: u64) -> Result<Found, Refusal>
+    ensures { result ≡ beside holder client slot number }
+{
+    match holder {
+        None => Ok(Found {
+            slot,
+            number,
+            is_open: false,
+        }),
+        Some(holder) => {
+            if holder == client {
+                Ok(Found {
+                    slot,
+                    number,
+                    is_open: true,
+                })
+            } else {
+                Err(Refusal::Busy)
+            }
+        }
+    }
 }
 
 /// Why the session of a transaction does not begin, or is not one deeper.
@@ -65,23 +119,79 @@ pub(crate) fn refusal_to_enter(fault: EnterFault) -> Refusal
 }
 
 impl Daemon {
-    /// The transaction that is open on the pool in this slot, where it is the client's own, or why a line on it is refused.
-    fn own_on(&self, slot: u32, own: bool) -> Result<Own, Refusal>
-        ensures busy { own ≡ false → result ≡ Result.Err Refusal.Busy }
-        ensures found { own ≡ true → IfOk result (λ found. (found.slot ≡ slot) × (found.number < ALL_LOGS) × (is_held_on slot (held_under (self.now).held found.number) ≡ true)) }
-        ensures none { own ≡ true → result_ok result ≡ Option.None → (number : ℕ) → is_held_on slot (held_under (self.now).held number) ≡ false }
+    /// Whether the pool in this slot has no graph, where one is needed. It is judged, unless it is known to have one, or a transaction is open on it.
+    ///
+    /// The only errors are the host's own, and nothing changes on the device.
+    fn lacks_graph<H: Host>(&mut self, h: &mut H, slot: u32, need: Need) -> Result<bool, HostFault>
+        requires slot { slot < POOL_RECORDS }
+        requires room { device_words (self.old).frames ≤ (H.counts h.old).size }
+        ensures lacks { H.tells → (size : ℕ) → (w : World) → IsReady size w self.old (H.state h.old) → (name : List ℕ) (rec : PoolRec) → IsRecordOf w.stored.frames name (reads (H.state h.old).now.words) slot rec
+            → IfOk result (λ lacks. lacks ≡ lacks_graph need (pool_named name w.stored)) }
+        ensures known { IfOk result (λ lacks. lacks ≡ false → needs_graph need ≡ true → holder_in (self.old).sessions slot ≡ Option.None → true ≡ is_some (known_in (self.new).judged slot)) }
+        ensures ready { H.tells → (size : ℕ) → (w : World) → IsReady size w self.old (H.state h.old) → IsReady size w self.new (H.state h.old) }
+        ensures unjudged { needs_graph need ≡ false → (self.new).judged ≡ (self.old).judged }
+        ensures frames { (self.new).frames ≡ (self.old).frames }
+        ensures held { (self.new).held ≡ (self.old).held }
+        ensures sessions { (self.new).sessions ≡ (self.old).sessions }
+        ensures only_reads { OnlyReads H.tells H.state H.counts (fault_of result) h.old h.new }
     {
-        if !own {
-            return Err(Refusal::Busy);
+        if !needs_graph(need) {
+            return Ok(false);
         }
-        match number_on(&self.opened, slot) {
-            Some(number) => Ok(Own { slot, number }),
-            None => Err(Refusal::Tx),
+        if self.sessions.holder(slot).is_some() {
+            return Ok(false);
         }
+        let sound = self.judged.judge(h, self.frames, slot)?;
+        Ok(!sound)
     }
 
-    /// The client's own transaction on the pool of this name, or why a line on it is refused before what it asks is looked at. A pool on which none is
-    /// open is judged, unless it is known.
+    /// The pool of this name, where the client has what the line needs of it and no other client's transaction is open on it; or why the line is refused,
+    /// by the first of these that holds: `Client`, the client is not present; `Pool`, there is no pool of the name; `Wild`, the pool has no graph, where
+    /// one is needed; `Denied`, the client has not the right that is needed; `Busy`, another client's transaction is open on it. A pool that needs a
+    /// graph, and on which none is open, is judged, unless it is known, and then is known.
+    ///
+    /// The only errors are the host's own, and nothing changes on the device.
+    pub(crate) fn find_pool<H: Host>(
+        &mut self,
+        h: &mut H,
+        client: u8,
+        name: Name,
+        need: Need,
+    ) -> Result<Result<Found, Refusal>, HostFault>
+        requires known { client < CLIENTS }
+        requires room { device_words (self.old).frames ≤ (H.counts h.old).size }
+        ensures refusal { H.tells → (size : ℕ) → (w : World) → IsReady size w self.old (H.state h.old)
+            → IfOk result (λ found. refusal_found found ≡ refusal_to w need client name) }
+        ensures found { H.tells → (size : ℕ) → (w : World) → IsReady size w self.old (H.state h.old)
+            → IfOk result (λ found. IfOk found (IsFound w need client name (reads (H.state h.old).now.words) self.new)) }
+        ensures slot { IfOk result (λ found. IfOk found (λ found. found.slot < POOL_RECORDS)) }
+        ensures whose { IfOk result (λ found. IfOk found (λ found. holder_in (self.old).sessions found.slot ≡ holder_found found client)) }
+        ensures within { IfOk result (λ found. IfOk found (λ _. AreSessions (self.old).sessions)) }
+        ensures known { IfOk result (λ found. IfOk found (λ found. found.is_open ≡ false → needs_graph need ≡ true → true ≡ is_some (known_in (self.new).judged found.slot))) }
+        // One pool more may be known, where a graph is needed, and nothing else changes.
+        ensures ready { H.tells → (size : ℕ) → (w : World) → IsReady size w self.old (H.state h.old) → IsReady size w self.new (H.state h.old) }
+        ensures unjudged { needs_graph need ≡ false → (self.new).judged ≡ (self.old).judged }
+        ensures frames { (self.new).frames ≡ (self.old).frames }
+        ensures held { (self.new).held ≡ (self.old).held }
+        ensures sessions { (self.new).sessions ≡ (self.old).sessions }
+        ensures only_reads { OnlyReads H.tells H.state H.counts (fault_of result) h.old h.new }
+    {
+        let Some(who) = owner(h, client as u32)? else {
+            return Ok(Err(Refusal::Client));
+        };
+        let Some((slot, rec)) = find(h, name)? else {
+            return Ok(Err(Refusal::Pool));
+        };
+        if self.lacks_graph(h, slot, need)? {
+            return Ok(Err(Refusal::Wild));
+        }
+        if !has_right(need, &rec, who) {
+            return Ok(Err(Refusal::Denied));
+        }
+        Ok(beside(self.sessions.holder(slot), client, slot, rec.number))
+    }
+
+    /// The client's own transaction on the pool of this name, or why a line on it is refused before what it asks is looked at.
     ///
     /// The only errors are the host's own, and nothing changes on the device.
     pub(crate) fn find_own<H: Host>(
@@ -97,86 +207,25 @@ impl Daemon {
         ensures own { H.tells → (size : ℕ) → (w : World) → IsReady size w self.old (H.state h.old)
             → IfOk result (λ found. IfOk found (λ own. IsOwnOn client name own.slot own.number (self.old).held)) }
         ensures finds { IfOk result (λ found. IfOk found (FindsOwn client self.old)) }
+        ensures ready { H.tells → (size : ℕ) → (w : World) → IsReady size w self.old (H.state h.old) → IsReady size w self.new (H.state h.old) }
         ensures frames { (self.new).frames ≡ (self.old).frames }
         ensures held { (self.new).held ≡ (self.old).held }
         ensures sessions { (self.new).sessions ≡ (self.old).sessions }
-        ensures judged { H.tells → (image : Image) → reads (H.state h.old).now.words ≡ image → AreJudged (self.old).frames (self.old).judged image
-            → AreJudged (self.old).frames (self.new).judged image }
-        // Of a pool on which a transaction is open nothing comes to be known.
-        ensures apart { H.tells → (size : ℕ) → (w : World) → IsReady size w self.old (H.state h.old) → (number : ℕ) → (mine : Held) → held_under (self.old).held number ≡ Option.Some mine
-            → known_in (self.new).judged mine.slot ≡ known_in (self.old).judged mine.slot }
-        ensures stays { H.tells → H.state h.new ≡ H.state h.old }
-        ensures cause { H.counts h.new ≡ after_fault (fault_of result) (H.counts h.old) }
-        ensures never_cut { fault_of result ≢ Option.Some HostFault.Cut }
+        ensures only_reads { OnlyReads H.tells H.state H.counts (fault_of result) h.old h.new }
     {
-        let Some(_) = owner(h, client as u32)? else {
-            return Ok(Err(Refusal::Client));
+        let found = match self.find_pool(h, client, name, Need::Graph)? {
+            Err(refusal) => return Ok(Err(refusal)),
+            Ok(found) => found,
         };
-        let Some((slot, _)) = find(h, name)? else {
-            return Ok(Err(Refusal::Pool));
-        };
-        if let Some(other) = self.sessions.holder(slot) {
-            return Ok(self.own_on(slot, other == client));
+        if !found.is_open {
+            return Ok(Err(Refusal::Tx));
         }
-        if !self.judged.judge(h, self.frames, slot)? {
-            return Ok(Err(Refusal::Wild));
+        match number_on(&self.opened, found.slot) {
+            Some(number) => Ok(Ok(Own {
+                slot: found.slot,
+                number,
+            })),
+            None => Ok(Err(Refusal::Tx)),
         }
-        Ok(Err(Refusal::Tx))
-    }
-
-    /// The slot of the record of the pool of this name, where it has a graph and the client may begin a transaction on it, and none or its own is open on
-    /// it; or why the client may not. A pool on which none is open is judged, unless it is known, and then is known.
-    ///
-    /// The only errors are the host's own, and nothing changes on the device.
-    pub(crate) fn find_writable<H: Host>(
-        &mut self,
-        h: &mut H,
-        client: u8,
-        name: Name,
-    ) -> Result<Result<u32, Refusal>, HostFault>
-        requires known { client < CLIENTS }
-        requires room { device_words (self.old).frames ≤ (H.counts h.old).size }
-        ensures refusal { H.tells → (size : ℕ) → (w : World) → IsReady size w self.old (H.state h.old)
-            → IfOk result (λ found. refusal_found found ≡ refusal_to_write w client name) }
-        // Where it is the client's own that is open it is held on the pool in the slot; else the pool may be begun on.
-        ensures own { H.tells → (size : ℕ) → (w : World) → IsReady size w self.old (H.state h.old)
-            → IfOk result (λ found. IfOk found (λ slot. true ≡ is_some (session_in (self.old).sessions slot) → (number : ℕ) × IsOwnOn client name slot number (self.old).held)) }
-        ensures writes { H.tells → (size : ℕ) → (w : World) → IsReady size w self.old (H.state h.old)
-            → IfOk result (λ found. IfOk found (λ slot. session_in (self.old).sessions slot ≡ Option.None
-            → (w.transactions name ≡ Option.None) × MayBegin (self.old).frames client name (reads (H.state h.old).now.words) slot (unwrap_or (known_in (self.new).judged slot) []))) }
-        ensures slot { IfOk result (λ found. IfOk found (λ slot. slot < POOL_RECORDS)) }
-        ensures within { IfOk result (λ found. IfOk found (λ _. AreSessions (self.old).sessions)) }
-        // No other client holds it, and where none does it is known.
-        ensures free { IfOk result (λ found. IfOk found (λ slot. IfSome (session_in (self.old).sessions slot) (λ session. session.client ≡ client))) }
-        ensures known { IfOk result (λ found. IfOk found (λ slot. session_in (self.old).sessions slot ≡ Option.None → true ≡ is_some (known_in (self.new).judged slot))) }
-        ensures frames { (self.new).frames ≡ (self.old).frames }
-        ensures held { (self.new).held ≡ (self.old).held }
-        ensures sessions { (self.new).sessions ≡ (self.old).sessions }
-        ensures judged { H.tells → (image : Image) → reads (H.state h.old).now.words ≡ image → AreJudged (self.old).frames (self.old).judged image
-            → AreJudged (self.old).frames (self.new).judged image }
-        // Of a pool on which a transaction is open nothing comes to be known.
-        ensures apart { H.tells → (size : ℕ) → (w : World) → IsReady size w self.old (H.state h.old) → (number : ℕ) → (mine : Held) → held_under (self.old).held number ≡ Option.Some mine
-            → known_in (self.new).judged mine.slot ≡ known_in (self.old).judged mine.slot }
-        ensures stays { H.tells → H.state h.new ≡ H.state h.old }
-        ensures cause { H.counts h.new ≡ after_fault (fault_of result) (H.counts h.old) }
-        ensures never_cut { fault_of result ≢ Option.Some HostFault.Cut }
-    {
-        let Some(who) = owner(h, client as u32)? else {
-            return Ok(Err(Refusal::Client));
-        };
-        let Some((slot, rec)) = find(h, name)? else {
-            return Ok(Err(Refusal::Pool));
-        };
-        let right = may_write(rec.mode, rec.uid, rec.gid, who.uid, who.gid);
-        if let Some(other) = self.sessions.holder(slot) {
-            return Ok(writing_open(slot, right, other == client));
-        }
-        if !self.judged.judge(h, self.frames, slot)? {
-            return Ok(Err(Refusal::Wild));
-        }
-        if !right {
-            return Ok(Err(Refusal::Denied));
-        }
-        Ok(Ok(slot))
     }
 }

@@ -2,6 +2,7 @@
 ghost use Rattle.std.specs.Prelude.{◌≡◌, ◌≢◌, ◌<◌, ◌≤◌, ℕ, true, false, replicate, set, is_some, unwrap_or, [], Option, IfOk, IfSome};
 ghost use Rattle.pm_model.specs.Words.{reads};
 ghost use Rattle.pm_model.specs.Counts.{after_fault, fault_of};
+ghost use Rattle.pm_model.specs.Reads.{OnlyReads};
 ghost use Rattle.pud_defs.specs.declared.layout.TheConstants.{MAX_FRAMES};
 ghost use Rattle.pud_defs.specs.declared.records.TheConstants.{POOL_RECORDS};
 ghost use Rattle.pud_defs.specs.Image.{Image};
@@ -40,9 +41,7 @@ fn find_graph<H: Host>(h: &mut H, frames: u32, slot: u32) -> Result<Option<Puddl
     ensures found { H.tells → (image : Image) → reads (H.state h.old).now.words ≡ image
         → IfOk result (λ found. found ≡ puddles_with_graph frames image slot) }
     ensures known { IfOk result (λ found. IfSome found (IsOnDevice frames)) }
-    ensures stays { H.tells → H.state h.new ≡ H.state h.old }
-    ensures cause { H.counts h.new ≡ after_fault (fault_of result) (H.counts h.old) }
-    ensures never_cut { fault_of result ≢ Option.Some HostFault.Cut }
+    ensures only_reads { OnlyReads H.tells H.state H.counts (fault_of result) h.old h.new }
 {
     let puddles = find_puddles(h, frames, slot)?;
     if !pool_is_sound(h, frames, puddles.as_slice())? {
@@ -122,9 +121,7 @@ impl Judged {
         ensures judged { H.tells → (image : Image) → reads (H.state h.old).now.words ≡ image → AreJudged frames self.old image → AreJudged frames self.new image }
         ensures others { (i : ℕ) → i ≢ slot → known_in self.new i ≡ known_in self.old i }
         ensures known { AreOnDevice frames self.old → AreOnDevice frames self.new }
-        ensures stays { H.tells → H.state h.new ≡ H.state h.old }
-        ensures cause { H.counts h.new ≡ after_fault (fault_of result) (H.counts h.old) }
-        ensures never_cut { fault_of result ≢ Option.Some HostFault.Cut }
+        ensures only_reads { OnlyReads H.tells H.state H.counts (fault_of result) h.old h.new }
     {
         if self.knows(slot) {
             return Ok(true);

@@ -2,7 +2,8 @@
 ghost use Rattle.std.specs.Prelude.{◌≡◌, ◌≢◌, ◌<◌, ◌≤◌, ℕ, Option, IfOk};
 ghost use Rattle.pm_model.specs.Words.{IsRested, reads};
 ghost use Rattle.pm_model.specs.Counts.{after_fault, fault_of};
-ghost use Rattle.pud_defs.specs.declared.layout.TheConstants.{CLIENTS, MAX_FRAMES, PUDDLE_TABLE};
+ghost use Rattle.pm_model.specs.Reads.{OnlyReads};
+ghost use Rattle.pud_defs.specs.declared.layout.TheConstants.{CLIENTS, MAX_FRAMES};
 ghost use Rattle.pud_defs.specs.declared.records.TheConstants.{POOL_RECORDS};
 ghost use Rattle.pud_defs.specs.declared.machine.Command.TheVariants as commands;
 ghost use Rattle.pud_defs.specs.Layout.{device_words};
@@ -11,16 +12,14 @@ ghost use Rattle.pud_defs.specs.Grammar.{IsLegalCommand};
 ghost use Rattle.pud_defs.specs.Step.{refusal_of, answer_by, world_by};
 ghost use Rattle.pud_defs.specs.Step.Answer.{of_reply};
 ghost use Rattle.ready_daemon.specs.Memory.{Memory};
-ghost use Rattle.ready_daemon.specs.Owning.{reply_of_making, refusal_found, refusal_beside, IsSlotOf};
-ghost use Rattle.ready_daemon.specs.Judged.{AreOnDevice, ForgetsPool};
+ghost use Rattle.ready_daemon.specs.Owning.{reply_of_making, refusal_found, IsSlotOf};
+ghost use Rattle.ready_daemon.specs.Judged.{ForgetsPool};
 ghost use Rattle.ready_daemon.specs.Ready.{KeepsRest, IsReady, Applies};
 
 use crate::daemon::Daemon;
-use crate::judged::Judged;
+use crate::finding::Need;
 use log_space::owner;
-use nesting::Sessions;
 use pm_model::{Host, HostFault};
-use pool_table::find;
 use pud_defs::machine::{Refusal, Reply};
 use pud_defs::records::Name;
 use registry::{MakeFault, change_mode, drop_pool, make_pool};
@@ -65,115 +64,65 @@ pub(crate) fn make<H: Host>(
     reply_of(make_pool(h, frames, name, who.uid, who.gid, mode))
 }
 
-/// Why the client may not change a pool on which the transaction of this client is open.
-fn refusal_beside(holder: Option<u8>, client: u8) -> Option<Refusal>
-    ensures { result ≡ refusal_beside holder client }
-{
-    if holder? == client {
-        Some(Refusal::OpenHere)
-    } else {
-        Some(Refusal::Busy)
-    }
-}
-
-/// The slot of the pool of this name, where the client is its owner and no transaction is open on it, or why the client may not change it.
-fn find_owned<H: Host>(
-    h: &mut H,
-    sessions: &Sessions,
-    client: u8,
-    name: Name,
-) -> Result<Result<u32, Refusal>, HostFault>
-    requires known { client < CLIENTS }
-    requires table { PUDDLE_TABLE ≤ (H.counts h.old).size }
-    ensures refusal { H.tells → (size : ℕ) → (w : World) → (memory : Memory) → memory.sessions ≡ sessions.now → IsReady size w memory (H.state h.old)
-        → IfOk result (λ found. refusal_found found ≡ refusal_of w (commands.Drop client name)) }
-    ensures slot { H.tells → (size : ℕ) → (w : World) → (memory : Memory) → IsReady size w memory (H.state h.old)
-        → IfOk result (λ found. IfOk found (IsSlotOf w.stored.frames name (reads (H.state h.old).now.words))) }
-    ensures within { IfOk result (λ found. IfOk found (λ slot. slot < POOL_RECORDS)) }
-    ensures stays { H.tells → H.state h.new ≡ H.state h.old }
-    ensures cause { H.counts h.new ≡ after_fault (fault_of result) (H.counts h.old) }
-    ensures never_cut { fault_of result ≢ Option.Some HostFault.Cut }
-{
-    let Some(who) = owner(h, client as u32)? else {
-        return Ok(Err(Refusal::Client));
-    };
-    let Some((slot, rec)) = find(h, name)? else {
-        return Ok(Err(Refusal::Pool));
-    };
-    if who.uid != rec.uid {
-        return Ok(Err(Refusal::Denied));
-    }
-    match refusal_beside(sessions.holder(slot), client) {
-        Some(refusal) => Ok(Err(refusal)),
-        None => Ok(Ok(slot)),
-    }
-}
-
-/// Gives the client's pool of this name the mode, or refuses to. A refused one changes nothing.
-pub(crate) fn change<H: Host>(
-    h: &mut H,
-    sessions: &Sessions,
-    client: u8,
-    name: Name,
-    mode: u32,
-) -> Result<Reply, HostFault>
-    requires known { client < CLIENTS }
-    requires table { PUDDLE_TABLE ≤ (H.counts h.old).size }
-    ensures reply { H.tells → (size : ℕ) → (w : World) → (memory : Memory) → memory.sessions ≡ sessions.now → IsReady size w memory (H.state h.old)
-        → IfOk result (λ reply. of_reply reply ≡ answer_by w (Option.Some (commands.Chmod client name mode))) }
-    ensures applies { H.tells → (size : ℕ) → size ≡ (H.counts h.old).size → (w : World) → (memory : Memory) → memory.sessions ≡ sessions.now → IsReady size w memory (H.state h.old)
-        → IsLegalCommand (commands.Chmod client name mode)
-        → Applies size w (world_by w (Option.Some (commands.Chmod client name mode))) memory (fault_of result) (H.state h.old) (H.state h.new) }
-    ensures rest { H.tells → KeepsRest (H.state h.old) (H.state h.new) }
-    ensures rests { H.tells → fault_of result ≡ Option.Some HostFault.Cut → IsRested (H.state h.new).now.words }
-    ensures cause { H.counts h.new ≡ after_fault (fault_of result) (H.counts h.old) }
-{
-    match find_owned(h, sessions, client, name)? {
-        Err(refusal) => Ok(Reply::No(refusal)),
-        Ok(slot) => {
-            change_mode(h, slot, mode)?;
-            Ok(Reply::Ok)
-        }
-    }
-}
-
-/// Drops the client's pool of this name with its puddles, or refuses to. A refused one changes nothing; of one that is dropped nothing is
-/// known any more. The device has so many frames.
-fn drop_owned<H: Host>(
-    h: &mut H,
-    frames: u32,
-    sessions: &Sessions,
-    judged: &mut Judged,
-    client: u8,
-    name: Name,
-) -> Result<Reply, HostFault>
-    requires known { client < CLIENTS }
-    requires few { frames ≤ MAX_FRAMES }
-    requires room { device_words frames ≤ (H.counts h.old).size }
-    ensures reply { H.tells → (size : ℕ) → (w : World) → (memory : Memory) → memory.sessions ≡ sessions.now → IsReady size w memory (H.state h.old)
-        → IfOk result (λ reply. of_reply reply ≡ answer_by w (Option.Some (commands.Drop client name))) }
-    ensures applies { H.tells → (size : ℕ) → size ≡ (H.counts h.old).size → (w : World) → (memory : Memory) → memory.frames ≡ frames → memory.sessions ≡ sessions.now → memory.judged ≡ judged.old → IsReady size w memory (H.state h.old)
-        → Applies size w (world_by w (Option.Some (commands.Drop client name))) (record memory { judged = judged.new }) (fault_of result) (H.state h.old) (H.state h.new) }
-    ensures keeps { H.tells → (size : ℕ) → (w : World) → (memory : Memory) → memory.sessions ≡ sessions.now → IsReady size w memory (H.state h.old)
-        → refusal_of w (commands.Drop client name) ≢ Option.None → judged.new ≡ judged.old }
-    ensures forgets { H.tells → (size : ℕ) → (w : World) → (memory : Memory) → memory.sessions ≡ sessions.now → IsReady size w memory (H.state h.old)
-        → refusal_of w (commands.Drop client name) ≡ Option.None → IfOk result (λ reply. ForgetsPool w.stored.frames name (reads (H.state h.old).now.words) judged.old judged.new) }
-    ensures within { AreOnDevice frames judged.old → AreOnDevice frames judged.new }
-    ensures rest { H.tells → KeepsRest (H.state h.old) (H.state h.new) }
-    ensures rests { H.tells → fault_of result ≡ Option.Some HostFault.Cut → IsRested (H.state h.new).now.words }
-    ensures cause { H.counts h.new ≡ after_fault (fault_of result) (H.counts h.old) }
-{
-    match find_owned(h, sessions, client, name)? {
-        Err(refusal) => Ok(Reply::No(refusal)),
-        Ok(slot) => {
-            judged.forget(slot);
-            drop_pool(h, frames, slot)?;
-            Ok(Reply::Ok)
-        }
-    }
-}
-
 impl Daemon {
+    /// The slot of the pool of this name, where the client is its owner and no transaction is open on it, or why the client may not change it.
+    fn find_owned<H: Host>(
+        &mut self,
+        h: &mut H,
+        client: u8,
+        name: Name,
+    ) -> Result<Result<u32, Refusal>, HostFault>
+        requires known { client < CLIENTS }
+        requires room { device_words (self.old).frames ≤ (H.counts h.old).size }
+        ensures refusal { H.tells → (size : ℕ) → (w : World) → IsReady size w self.old (H.state h.old)
+            → IfOk result (λ found. refusal_found found ≡ refusal_of w (commands.Drop client name)) }
+        ensures slot { H.tells → (size : ℕ) → (w : World) → IsReady size w self.old (H.state h.old)
+            → IfOk result (λ found. IfOk found (IsSlotOf w.stored.frames name (reads (H.state h.old).now.words))) }
+        ensures within { IfOk result (λ found. IfOk found (λ slot. slot < POOL_RECORDS)) }
+        ensures ready { H.tells → (size : ℕ) → (w : World) → IsReady size w self.old (H.state h.old) → IsReady size w self.new (H.state h.old) }
+        ensures judged { (self.new).judged ≡ (self.old).judged }
+        ensures frames { (self.new).frames ≡ (self.old).frames }
+        ensures held { (self.new).held ≡ (self.old).held }
+        ensures sessions { (self.new).sessions ≡ (self.old).sessions }
+        ensures only_reads { OnlyReads H.tells H.state H.counts (fault_of result) h.old h.new }
+    {
+        let found = match self.find_pool(h, client, name, Need::Owner)? {
+            Err(refusal) => return Ok(Err(refusal)),
+            Ok(found) => found,
+        };
+        if found.is_open {
+            return Ok(Err(Refusal::OpenHere));
+        }
+        Ok(Ok(found.slot))
+    }
+
+    /// Gives the client's pool of this name the mode, or refuses to. A refused one changes nothing.
+    pub(crate) fn change_for<H: Host>(
+        &mut self,
+        h: &mut H,
+        client: u8,
+        name: Name,
+        mode: u32,
+    ) -> Result<Reply, HostFault>
+        requires known { client < CLIENTS }
+        requires room { device_words (self.old).frames ≤ (H.counts h.old).size }
+        ensures reply { H.tells → (size : ℕ) → (w : World) → IsReady size w self.old (H.state h.old)
+            → IfOk result (λ reply. of_reply reply ≡ answer_by w (Option.Some (commands.Chmod client name mode))) }
+        ensures applies { H.tells → (size : ℕ) → size ≡ (H.counts h.old).size → (w : World) → IsReady size w self.old (H.state h.old) → IsLegalCommand (commands.Chmod client name mode)
+            → Applies size w (world_by w (Option.Some (commands.Chmod client name mode))) self.new (fault_of result) (H.state h.old) (H.state h.new) }
+        ensures frames { (self.new).frames ≡ (self.old).frames }
+        ensures rest { H.tells → KeepsRest (H.state h.old) (H.state h.new) }
+        ensures rests { H.tells → fault_of result ≡ Option.Some HostFault.Cut → IsRested (H.state h.new).now.words }
+        ensures cause { H.counts h.new ≡ after_fault (fault_of result) (H.counts h.old) }
+    {
+        let slot = match self.find_owned(h, client, name)? {
+            Err(refusal) => return Ok(Reply::No(refusal)),
+            Ok(slot) => slot,
+        };
+        change_mode(h, slot, mode)?;
+        Ok(Reply::Ok)
+    }
+
     /// Drops the client's pool of this name with its puddles, or refuses to. A refused one changes nothing; of one that is dropped nothing is
     /// known any more.
     pub(crate) fn drop_for<H: Host>(
@@ -188,6 +137,9 @@ impl Daemon {
             → IfOk result (λ reply. of_reply reply ≡ answer_by w (Option.Some (commands.Drop client name))) }
         ensures applies { H.tells → (size : ℕ) → size ≡ (H.counts h.old).size → (w : World) → IsReady size w self.old (H.state h.old)
             → Applies size w (world_by w (Option.Some (commands.Drop client name))) self.new (fault_of result) (H.state h.old) (H.state h.new) }
+        ensures keeps { H.tells → (size : ℕ) → (w : World) → IsReady size w self.old (H.state h.old) → refusal_of w (commands.Drop client name) ≢ Option.None → (self.new).judged ≡ (self.old).judged }
+        ensures forgets { H.tells → (size : ℕ) → (w : World) → IsReady size w self.old (H.state h.old) → refusal_of w (commands.Drop client name) ≡ Option.None
+            → IfOk result (λ reply. ForgetsPool w.stored.frames name (reads (H.state h.old).now.words) (self.old).judged (self.new).judged) }
         ensures held { (self.new).held ≡ (self.old).held }
         ensures sessions { (self.new).sessions ≡ (self.old).sessions }
         ensures frames { (self.new).frames ≡ (self.old).frames }
@@ -195,13 +147,12 @@ impl Daemon {
         ensures rests { H.tells → fault_of result ≡ Option.Some HostFault.Cut → IsRested (H.state h.new).now.words }
         ensures cause { H.counts h.new ≡ after_fault (fault_of result) (H.counts h.old) }
     {
-        drop_owned(
-            h,
-            self.frames,
-            &self.sessions,
-            &mut self.judged,
-            client,
-            name,
-        )
+        let slot = match self.find_owned(h, client, name)? {
+            Err(refusal) => return Ok(Reply::No(refusal)),
+            Ok(slot) => slot,
+        };
+        self.judged.forget(slot);
+        drop_pool(h, self.frames, slot)?;
+        Ok(Reply::Ok)
     }
 }

@@ -15,7 +15,7 @@ ghost use Rattle.nesting.specs.Sessions.{AreSessions, client_in, session_in, dep
 ghost use Rattle.ready_daemon.specs.Memory.{held_under};
 ghost use Rattle.ready_daemon.specs.Holding.{IsOwnOn};
 ghost use Rattle.ready_daemon.specs.Judged.{known_in};
-ghost use Rattle.ready_daemon.specs.Beginning.{MayBegin, log_held, judged_behind};
+ghost use Rattle.ready_daemon.specs.Beginning.{MayBegin, tx_held, judged_behind};
 ghost use Rattle.ready_daemon.specs.Leaving.{BehindTables, sessions_behind, world_without, world_without_log};
 ghost use Rattle.ready_daemon.specs.Ready.{KeepsRest, IsReady, Applies};
 
@@ -86,8 +86,8 @@ impl Daemon {
     /// Lets go of what is held under the number: its session ends, and its pool's puddles are known again.
     fn release(&mut self, number: u32) -> Option<Tx>
         requires { number < ALL_LOGS }
-        ensures tx { result ≡ option_map log_held (held_under (self.old).held number) }
-        ensures place { IfSome result (λ log. log.at + LOG_WORDS ≤ frames_at (self.old).frames) }
+        ensures tx { result ≡ option_map tx_held (held_under (self.old).held number) }
+        ensures place { IfSome result (λ tx. tx.log.at + LOG_WORDS ≤ frames_at (self.old).frames) }
         ensures held { (self.new).held ≡ set (self.old).held number Option.None }
         ensures sessions { (self.new).sessions ≡ sessions_behind (held_under (self.old).held number) (self.old).sessions }
         ensures judged { (self.new).judged ≡ judged_behind (held_under (self.old).held number) (self.old).judged }

@@ -52,7 +52,7 @@ pub record IsHeld (w : World) (held : Held) (mask : Write) (words : Words) : Typ
   pub transaction : Transaction
   pub is : w.transactions held.name ≡ Some transaction
   pub client : transaction.client ≡ held.client
-  pub units : transaction.units ≡ held.log.used
+  pub units : transaction.units ≡ held.units
   pub present : w.clients held.client ≡ Some who
   pub owner : client_of_log held.number ≡ held.client
   pub gate : held.log.at ≡ log_number_at w.stored.frames held.number
@@ -100,14 +100,14 @@ pub record HasSessions (w : World) (held : List (Option Held)) (sessions : List 
   pub only : (slot : ℕ) (s : Session) → session_in sessions slot ≡ Some s → IsHeldOn held slot
 
 -- A transaction that is held lies in a device of so many frames: its pool's slot is one of the table, its puddles stand in frames, and its log is that
--- of its number, one of its client's.
+-- of its number, one of its client's. It has taken no more units than there are.
 pub record IsHeldWithin (F : ℕ) (held : Held) : Type 0 where
   pub slot : held.slot < POOL_RECORDS
   pub puddles : IsOnDevice F held.at
   pub client : held.client < CLIENTS
   pub number : held.number < ALL_LOGS
   pub gate : held.log.at ≡ log_number_at F held.number
-  pub used : held.log.used ≤ LOG_ENTRY_WORDS
+  pub units : held.units ≤ LOG_ENTRY_WORDS
 
 -- and so does each that is held
 pub record AreHeldWithin (F : ℕ) (held : List (Option Held)) : Type 0 where

@@ -5,7 +5,7 @@ use Rattle.log_store.specs.Store.{OpenLog}
 use Rattle.nesting.specs.declared.Session.{Session}
 
 -- A transaction that is open: whose it is, the name of its pool, the slot of the pool's record, the pool's puddles by their ordinals, each with its
--- frame, the number of its log among those of all clients, and that log.
+-- frame, the number of its log among those of all clients, that log, and how many units it has taken.
 pub record Held : Type 0 where
   pub client : ℕ
   pub name : List ℕ
@@ -13,6 +13,7 @@ pub record Held : Type 0 where
   pub at : List (ℕ × Puddle)
   pub number : ℕ
   pub log : OpenLog
+  pub units : ℕ
 
 pub record Memory : Type 0 where
   -- how many frames the device has, as the start found it

@@ -3,10 +3,9 @@ use Rattle.std.proofs.Common.{◌≡◌, inl, inr, ℕ, ◌+◌, ◌<◌, ◌≤
 use Rattle.std.proofs.lemmas.Bool.{cases_eq}
 use Rattle.std.proofs.lemmas.List.{append-nil}
 use Rattle.pm_model.specs.declared.host.HostFault.{HostFault}
-use Rattle.pm_model.specs.declared.host.HostFault.TheVariants.{Cut}
 use Rattle.pm_model.specs.Words.{reads, IsRested}
 use Rattle.pm_model.specs.Moments.{State}
-use Rattle.pm_model.specs.Changes.{Silently}
+use Rattle.pm_model.specs.Changes.{Changes, Silently}
 use Rattle.pm_model.proofs.Words.{reads_only}
 use Rattle.pm_model.proofs.Changes.{Changes-still, Changes-said, Changes-wider, Changes-then}
 use Rattle.pm_model.proofs.Leaves.{Leaves-still, Leaves-then, Leaves-weaker}
@@ -153,9 +152,9 @@ TakesTurns-failed F count all image fault old new few t =
     }
 
 -- nor where nothing was done
-pub TakesTurns-unread : (F : ℕ) (image : Image) (fault : HostFault) (old new : State) → (Some fault ≡ Some Cut → ⊥) → new ≡ old → TakesTurns F ALL_LOGS image (Some fault) old new
-TakesTurns-unread F image fault old new uncut same = record {
-  changes = Changes-still (ByLogs F ALL_LOGS image) (Some fault) old new uncut same;
+pub TakesTurns-unread : (F : ℕ) (image : Image) (fault : HostFault) (old new : State) → Changes (ByLogs F ALL_LOGS image) (Some fault) old new → TakesTurns F ALL_LOGS image (Some fault) old new
+TakesTurns-unread F image fault old new changes = record {
+  changes = changes;
   alike = λ none. none_of_fault fault none;
   gone = λ none. none_of_fault fault none;
   closed = λ none. none_of_fault fault none;

@@ -1,8 +1,9 @@
 //! What a start finds of each client's log, before any of them is replayed: whether it is registered, whether its owner
 //! may write all that it names, and whether there is anything to replay.
-ghost use Rattle.std.specs.Prelude.{true, ◌≡◌, ◌≢◌, ◌+◌, ◌-◌, ◌*◌, ◌<◌, ◌≤◌, ◌==◌, ◌&&◌, not, ℕ, slice_index_or, Option, option_map, IfOk, length};
+ghost use Rattle.std.specs.Prelude.{true, ◌≡◌, ◌+◌, ◌-◌, ◌*◌, ◌<◌, ◌≤◌, ◌==◌, ◌&&◌, not, ℕ, slice_index_or, Option, option_map, IfOk, length};
 ghost use Rattle.pm_model.specs.Words.{reads};
-ghost use Rattle.pm_model.specs.Counts.{after_fault, fault_of};
+ghost use Rattle.pm_model.specs.Counts.{fault_of};
+ghost use Rattle.pm_model.specs.Reads.{OnlyReads};
 ghost use Rattle.pud_defs.specs.Image.{Image};
 ghost use Rattle.pud_defs.specs.Layout.{tables_end, frames_at};
 ghost use Rattle.pud_defs.specs.Entries.{log_of, is_legal_gate};
@@ -92,9 +93,7 @@ fn owner_of<H: Host>(h: &mut H, client: u32) -> Result<Option<Registrant>, HostF
     requires known { client < CLIENTS }
     requires table { PUDDLE_TABLE ≤ (H.counts h.old).size }
     ensures owner { H.tells → (image : Image) → reads (H.state h.old).now.words ≡ image → IfOk result (λ who. option_map owner_by_record who ≡ owner_of image client) }
-    ensures stays { H.tells → H.state h.new ≡ H.state h.old }
-    ensures cause { H.counts h.new ≡ after_fault (fault_of result) (H.counts h.old) }
-    ensures never_cut { fault_of result ≢ Option.Some HostFault.Cut }
+    ensures only_reads { OnlyReads H.tells H.state H.counts (fault_of result) h.old h.new }
 {
     let at = SPACE_TABLE + SPACE_RECORD_WORDS * client;
     if h.load(at)? != 1 {
@@ -110,9 +109,7 @@ fn may_write_pool<H: Host>(h: &mut H, who: Registrant, pool: u32) -> Result<bool
     requires { SPACE_TABLE ≤ (H.counts h.old).size }
     ensures may { H.tells → (image : Image) → reads (H.state h.old).now.words ≡ image → (F : ℕ)
         → IfOk result (λ may. may ≡ (not (pool == 0) && may_write_record (owner_by_record who) ((tables_of F image).pools (pool - 1)))) }
-    ensures stays { H.tells → H.state h.new ≡ H.state h.old }
-    ensures cause { H.counts h.new ≡ after_fault (fault_of result) (H.counts h.old) }
-    ensures never_cut { fault_of result ≢ Option.Some HostFault.Cut }
+    ensures only_reads { OnlyReads H.tells H.state H.counts (fault_of result) h.old h.new }
 {
     if pool == 0 || pool > POOL_RECORDS {
         return Ok(false);
@@ -132,9 +129,7 @@ fn may_write_puddle<H: Host>(h: &mut H, who: Registrant, frame: u32) -> Result<b
     requires table { tables_end (frame + 1) ≤ (H.counts h.old).size }
     ensures may { H.tells → (image : Image) → reads (H.state h.old).now.words ≡ image → (F : ℕ) → frame < F
         → IfOk result (λ may. may ≡ may_write_puddle (tables_of F image) (owner_by_record who) ((tables_of F image).puddles frame)) }
-    ensures stays { H.tells → H.state h.new ≡ H.state h.old }
-    ensures cause { H.counts h.new ≡ after_fault (fault_of result) (H.counts h.old) }
-    ensures never_cut { fault_of result ≢ Option.Some HostFault.Cut }
+    ensures only_reads { OnlyReads H.tells H.state H.counts (fault_of result) h.old h.new }
 {
     let member = h.load(PUDDLE_TABLE + PUDDLE_RECORD_WORDS * frame)?;
     may_write_pool(h, who, member_pool(member))
@@ -152,9 +147,7 @@ fn is_allowed_entry<H: Host>(
     requires table { tables_end frames ≤ (H.counts h.old).size }
     ensures allowed { H.tells → (image : Image) → reads (H.state h.old).now.words ≡ image
         → IfOk result (λ allowed. allowed ≡ is_allowed_entry (tables_of frames image) (owner_by_record who) (entry_from image entry.now)) }
-    ensures stays { H.tells → H.state h.new ≡ H.state h.old }
-    ensures cause { H.counts h.new ≡ after_fault (fault_of result) (H.counts h.old) }
-    ensures never_cut { fault_of result ≢ Option.Some HostFault.Cut }
+    ensures only_reads { OnlyReads H.tells H.state H.counts (fault_of result) h.old h.new }
 {
     if entry.addr % u64::from(WORD_BYTES) != 0 {
         return Ok(false);
@@ -182,9 +175,7 @@ fn mark_by_entries<H: Host>(
     requires log { log_at + LOG_WORDS ≤ (H.counts h.old).size }
     ensures mark { H.tells → (image : Image) → reads (H.state h.old).now.words ≡ image → gate ≡ image log_at → is_legal_gate gate ≡ true
         → IfOk result (λ mark. mark ≡ mark_for (tables_of frames image) (owner_by_record who) (log_of image log_at)) }
-    ensures stays { H.tells → H.state h.new ≡ H.state h.old }
-    ensures cause { H.counts h.new ≡ after_fault (fault_of result) (H.counts h.old) }
-    ensures never_cut { fault_of result ≢ Option.Some HostFault.Cut }
+    ensures only_reads { OnlyReads H.tells H.state H.counts (fault_of result) h.old h.new }
 {
     let range = LogRange {
         lo: gate_lo(gate),
@@ -221,9 +212,7 @@ fn mark_log<H: Host>(
     requires log { log_at + LOG_WORDS ≤ (H.counts h.old).size }
     ensures mark { H.tells → (image : Image) → reads (H.state h.old).now.words ≡ image
         → IfOk result (λ mark. mark ≡ mark_for (tables_of frames image) (owner_by_record who) (log_of image log_at)) }
-    ensures stays { H.tells → H.state h.new ≡ H.state h.old }
-    ensures cause { H.counts h.new ≡ after_fault (fault_of result) (H.counts h.old) }
-    ensures never_cut { fault_of result ≢ Option.Some HostFault.Cut }
+    ensures only_reads { OnlyReads H.tells H.state H.counts (fault_of result) h.old h.new }
 {
     let gate = h.load(log_at)?;
     if !is_legal_gate(gate) {
@@ -247,9 +236,7 @@ fn judge_client<H: Host>(
     ensures all { IfOk result (λ marks. length marks ≡ CLIENT_LOGS) }
     ensures marks { H.tells → (image : Image) → reads (H.state h.old).now.words ≡ image
         → IfOk result (λ marks. (k : ℕ) → k < CLIENT_LOGS → slice_index_or marks k Option.None ≡ verdict_of frames image (CLIENT_LOGS * client + k)) }
-    ensures stays { H.tells → H.state h.new ≡ H.state h.old }
-    ensures cause { H.counts h.new ≡ after_fault (fault_of result) (H.counts h.old) }
-    ensures never_cut { fault_of result ≢ Option.Some HostFault.Cut }
+    ensures only_reads { OnlyReads H.tells H.state H.counts (fault_of result) h.old h.new }
 {
     let mut marks = [None; CLIENT_LOGS as usize];
     let Some(who) = owner_of(h, client)? else {
@@ -272,9 +259,7 @@ pub(crate) fn judge<H: Host>(h: &mut H, frames: u32) -> Result<[Option<Mark>; LO
     requires room { frames_at frames ≤ (H.counts h.old).size }
     ensures marks { H.tells → (image : Image) → reads (H.state h.old).now.words ≡ image
         → IfOk result (λ found. (number : ℕ) → number < ALL_LOGS → slice_index_or found number Option.None ≡ verdict_of frames image number) }
-    ensures stays { H.tells → H.state h.new ≡ H.state h.old }
-    ensures cause { H.counts h.new ≡ after_fault (fault_of result) (H.counts h.old) }
-    ensures never_cut { fault_of result ≢ Option.Some HostFault.Cut }
+    ensures only_reads { OnlyReads H.tells H.state H.counts (fault_of result) h.old h.new }
 {
     let mut found = [None; LOGS];
     for client in 0..CLIENTS {

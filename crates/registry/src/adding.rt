@@ -1,8 +1,9 @@
 //! Puddles that are added to pools, to new ones and to others.
 
-ghost use Rattle.std.specs.Prelude.{◌≡◌, ◌≢◌, ◌<◌, ◌≤◌, ℕ, List, Option, Result, IfOk};
+ghost use Rattle.std.specs.Prelude.{◌≡◌, ◌<◌, ◌≤◌, ℕ, List, Option, Result, IfOk};
 ghost use Rattle.pm_model.specs.Words.{reads};
 ghost use Rattle.pm_model.specs.Counts.{after_fault, fault_of};
+ghost use Rattle.pm_model.specs.Reads.{OnlyReads};
 ghost use Rattle.pm_model.specs.Changes.{Changes, Write};
 ghost use Rattle.log_replay.specs.Replaying.{Anything};
 ghost use Rattle.pud_defs.specs.declared.layout.TheConstants.{DAEMON_LOG, NUMBER_LIMIT};
@@ -16,7 +17,7 @@ ghost use Rattle.pud_defs.specs.World.{StoredWorld};
 ghost use Rattle.batch.specs.Batches.{HasIdleGate};
 ghost use Rattle.puddle_table.specs.Records.{fault_in};
 ghost use Rattle.registry.specs.Puts.{puts_batch, AreOfPools};
-ghost use Rattle.registry.specs.Adding.{filling, IsFilled, IsAddedWithin, IsNewPuddle, PersistsThenCommits, IsOffAdding, AddsTo};
+ghost use Rattle.registry.specs.Adding.{filling, IsFilled, IsAddedWithin, IsNewPuddle, PersistsThenCommits, AddsTo};
 ghost use Rattle.registry.specs.Pools.{ChangesMasked};
 
 use crate::frames::fill_frame;
@@ -55,9 +56,7 @@ pub(crate) fn find_place<H: Host>(
     ensures place { H.tells → (image : Image) → reads (H.state h.old).now.words ≡ image → IfOk result (IsNewPuddle (tables_of frames image) slot ordinal number) }
     ensures within { IfOk result (IsAddedWithin frames) }
     ensures drawn { IfOk result (λ added. added.puddle.number ≡ number) }
-    ensures stays { H.tells → H.state h.new ≡ H.state h.old }
-    ensures cause { H.counts h.new ≡ after_fault (fault_in result) (H.counts h.old) }
-    ensures never_cut { fault_in result ≢ Option.Some HostFault.Cut }
+    ensures only_reads { OnlyReads H.tells H.state H.counts (fault_in result) h.old h.new }
 {
     let frame = free_frame(h, frames, 0)?;
     let base = free_base(h, frames, &[])?;

@@ -1,8 +1,9 @@
 //! Pools that are changed, and dropped.
 
-ghost use Rattle.std.specs.Prelude.{◌≡◌, ◌≢◌, ◌+◌, ◌<◌, ◌≤◌, true, ⊤, ℕ, Option, IfOk};
+ghost use Rattle.std.specs.Prelude.{◌≡◌, ◌+◌, ◌<◌, ◌≤◌, true, ⊤, ℕ, IfOk};
 ghost use Rattle.pm_model.specs.Words.{reads};
 ghost use Rattle.pm_model.specs.Counts.{after_fault, fault_of};
+ghost use Rattle.pm_model.specs.Reads.{OnlyReads};
 ghost use Rattle.pm_model.specs.Changes.{Changes, Write};
 ghost use Rattle.pm_model.specs.Masks.{masked, masked_state, IsOff};
 ghost use Rattle.log_replay.specs.Replaying.{Anything};
@@ -57,9 +58,7 @@ fn is_of_pool<H: Host>(h: &mut H, frame: u32, slot: u32) -> Result<bool, HostFau
     requires record { puddle_record_at (frame + 1) ≤ (H.counts h.old).size }
     requires known { slot < POOL_RECORDS }
     ensures of { H.tells → (image : Image) → reads (H.state h.old).now.words ≡ image → IfOk result (λ of. of ≡ is_of_pool slot (puddle_at image frame)) }
-    ensures stays { H.tells → H.state h.new ≡ H.state h.old }
-    ensures cause { H.counts h.new ≡ after_fault (fault_of result) (H.counts h.old) }
-    ensures never_cut { fault_of result ≢ Option.Some HostFault.Cut }
+    ensures only_reads { OnlyReads H.tells H.state H.counts (fault_of result) h.old h.new }
 {
     let member = h.load(PUDDLE_TABLE + PUDDLE_RECORD_WORDS * frame)?;
     Ok(member_pool(member) == slot + 1)
@@ -72,9 +71,7 @@ fn dropping<H: Host>(h: &mut H, frames: u32, slot: u32) -> Result<Batch, HostFau
     requires known { slot < POOL_RECORDS }
     ensures batch { H.tells → (image : Image) → reads (H.state h.old).now.words ≡ image → count_used (members (tables_of frames image) slot) 0 frames ≤ MAX_PUDDLES
         → IfOk result (λ batch. batch ≡ puts_batch (dropping (tables_of frames image) slot)) }
-    ensures stays { H.tells → H.state h.new ≡ H.state h.old }
-    ensures cause { H.counts h.new ≡ after_fault (fault_of result) (H.counts h.old) }
-    ensures never_cut { fault_of result ≢ Option.Some HostFault.Cut }
+    ensures only_reads { OnlyReads H.tells H.state H.counts (fault_of result) h.old h.new }
 {
     let mut batch = Batch::new();
     add_put(&mut batch, &pool_table::remove(slot));

@@ -1,8 +1,9 @@
 //! Pools that grow by a puddle.
 
-ghost use Rattle.std.specs.Prelude.{◌≡◌, ◌≢◌, ◌<◌, ◌≤◌, ℕ, Option, IfOk};
+ghost use Rattle.std.specs.Prelude.{◌≡◌, ◌<◌, ◌≤◌, ℕ, IfOk};
 ghost use Rattle.pm_model.specs.Words.{reads};
 ghost use Rattle.pm_model.specs.Counts.{after_fault, fault_of};
+ghost use Rattle.pm_model.specs.Reads.{OnlyReads};
 ghost use Rattle.pm_model.specs.Changes.{Changes, Write};
 ghost use Rattle.log_replay.specs.Replaying.{Anything};
 ghost use Rattle.pud_defs.specs.declared.layout.TheConstants.{DAEMON_LOG, NEXT_NUMBER_WORD};
@@ -52,9 +53,7 @@ pub fn find_growth<H: Host>(
     ensures growth { H.tells → (image : Image) → reads (H.state h.old).now.words ≡ image
         → IfOk result (λ found. IfOk found (IsGrowthFor (tables_of frames image) (image NEXT_NUMBER_WORD) slot puddles)) }
     ensures within { IfOk result (λ found. IfOk found (IsAddedWithin frames)) }
-    ensures stays { H.tells → H.state h.new ≡ H.state h.old }
-    ensures cause { H.counts h.new ≡ after_fault (fault_of result) (H.counts h.old) }
-    ensures never_cut { fault_of result ≢ Option.Some HostFault.Cut }
+    ensures only_reads { OnlyReads H.tells H.state H.counts (fault_of result) h.old h.new }
 {
     let number = h.load(NEXT_NUMBER_WORD)?;
     if !has_room(puddles, number) {

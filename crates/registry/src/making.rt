@@ -1,8 +1,9 @@
 //! Pools that are made.
 
-ghost use Rattle.std.specs.Prelude.{◌≡◌, ◌≢◌, ◌+◌, ◌<◌, ◌≤◌, ℕ, Option, IfOk};
+ghost use Rattle.std.specs.Prelude.{◌≡◌, ◌≢◌, ◌≤◌, ℕ, Option, IfOk};
 ghost use Rattle.pm_model.specs.Words.{reads};
-ghost use Rattle.pm_model.specs.Counts.{after_fault, fault_of};
+ghost use Rattle.pm_model.specs.Counts.{after_fault};
+ghost use Rattle.pm_model.specs.Reads.{OnlyReads};
 ghost use Rattle.pm_model.specs.Changes.{Changes, Write};
 ghost use Rattle.log_replay.specs.Replaying.{Anything};
 ghost use Rattle.pud_defs.specs.declared.layout.TheConstants.{DAEMON_LOG, NEXT_NUMBER_WORD};
@@ -93,9 +94,7 @@ fn find_first<H: Host>(h: &mut H, frames: u32, name: Name) -> Result<Added, Make
         → IfOk result (IsFirstFor (tables_of frames image) (image NEXT_NUMBER_WORD) name) }
     ensures within { IfOk result (IsAddedWithin frames) }
     ensures behind { IfOk result (λ added. 1 ≤ added.puddle.number) }
-    ensures stays { H.tells → H.state h.new ≡ H.state h.old }
-    ensures cause { H.counts h.new ≡ after_fault (make_fault result) (H.counts h.old) }
-    ensures never_cut { make_fault result ≢ Option.Some HostFault.Cut }
+    ensures only_reads { OnlyReads H.tells H.state H.counts (make_fault result) h.old h.new }
 {
     let slot = pool_table::free_slot(h, name)?;
     let number = h.load(NEXT_NUMBER_WORD)?;

@@ -1,6 +1,6 @@
 //! Changes of records put into a batch.
 
-ghost use Rattle.std.specs.Prelude.{◌≡◌, ◌+◌, ◌≤◌, List, [], ◌∷◌, ◌++◌};
+ghost use Rattle.std.specs.Prelude.{◌≡◌, ◌+◌, ◌≤◌, [], ◌∷◌, ◌++◌};
 ghost use Rattle.pud_defs.specs.declared.layout.TheConstants.{LOG_ENTRY_WORDS, ENTRY_HEADER_WORDS};
 ghost use Rattle.batch.specs.Batches.{words_of};
 ghost use Rattle.registry.specs.Puts.{put_entry, number_put};

@@ -1,9 +1,10 @@
 //! Whether the puddles of a device are told apart by their bases, those of a pool by their old bases and ordinals, and
 //! whether each pool's ordinals are counted from 0 on, once its daemon log is replayed.
-ghost use Rattle.std.specs.Prelude.{◌≡◌, ◌≢◌, ◌↔◌, ◌+◌, ◌-◌, ◌*◌, ◌<◌, ◌≤◌, nat_eq, ℕ, true, false, not, ◌&&◌, ◌||◌, length, drop, Option, option_map, IfSome, IfOk};
+ghost use Rattle.std.specs.Prelude.{◌≡◌, ◌↔◌, ◌+◌, ◌*◌, ◌<◌, ◌≤◌, nat_eq, ℕ, true, not, ◌&&◌, ◌||◌, length, drop, option_map, IfSome, IfOk};
 ghost use Rattle.std.specs.List.{IsDistinct};
 ghost use Rattle.pm_model.specs.Words.{reads};
-ghost use Rattle.pm_model.specs.Counts.{after_fault, fault_of};
+ghost use Rattle.pm_model.specs.Counts.{fault_of};
+ghost use Rattle.pm_model.specs.Reads.{OnlyReads};
 ghost use Rattle.pud_defs.specs.Image.{Image};
 ghost use Rattle.pud_defs.specs.Layout.{device_words};
 ghost use Rattle.pud_defs.specs.Replay.{settled_by};
@@ -87,9 +88,7 @@ fn number_at<H: Host>(
     requires room { device_words (frame + 1) ≤ (H.counts h.old).size }
     ensures number { H.tells → (image : Image) → reads (H.state h.old).now.words ≡ image → IsOverlay overlay.now image → (frames : ℕ) → frame < frames
         → IfOk result (λ number. number ≡ option_map (number_of key) ((tables_of frames (settled_by DAEMON_LOG image)).puddles frame)) }
-    ensures stays { H.tells → H.state h.new ≡ H.state h.old }
-    ensures cause { H.counts h.new ≡ after_fault (fault_of result) (H.counts h.old) }
-    ensures never_cut { fault_of result ≢ Option.Some HostFault.Cut }
+    ensures only_reads { OnlyReads H.tells H.state H.counts (fault_of result) h.old h.new }
 {
     let at = PUDDLE_TABLE + PUDDLE_RECORD_WORDS * frame;
     let member = overlay.word(h, at)?;
@@ -139,9 +138,7 @@ fn has_distinct_numbers<H: Host>(
     requires room { device_words frames ≤ (H.counts h.old).size }
     ensures distinct { H.tells → (image : Image) → reads (H.state h.old).now.words ≡ image → IsOverlay overlay.now image
         → IfOk result (λ distinct. distinct ≡ has_distinct_numbers (number_of key) (tables_of frames (settled_by DAEMON_LOG image))) }
-    ensures stays { H.tells → H.state h.new ≡ H.state h.old }
-    ensures cause { H.counts h.new ≡ after_fault (fault_of result) (H.counts h.old) }
-    ensures never_cut { fault_of result ≢ Option.Some HostFault.Cut }
+    ensures only_reads { OnlyReads H.tells H.state H.counts (fault_of result) h.old h.new }
 {
     let mut numbers = [0u64; MAX_FRAMES as usize];
     let mut left = MAX_FRAMES as usize;
@@ -159,9 +156,7 @@ fn place_at<H: Host>(h: &mut H, overlay: &Overlay, frame: u32) -> Result<Option<
     ensures place { H.tells → (image : Image) → reads (H.state h.old).now.words ≡ image → IsOverlay overlay.now image → (frames : ℕ) → frame < frames
         → IfOk result (λ place. place ≡ option_map place_of ((tables_of frames (settled_by DAEMON_LOG image)).puddles frame)) }
     ensures within { IfOk result (λ place. IfSome place (λ n. n < PLACES)) }
-    ensures stays { H.tells → H.state h.new ≡ H.state h.old }
-    ensures cause { H.counts h.new ≡ after_fault (fault_of result) (H.counts h.old) }
-    ensures never_cut { fault_of result ≢ Option.Some HostFault.Cut }
+    ensures only_reads { OnlyReads H.tells H.state H.counts (fault_of result) h.old h.new }
 {
     let member = overlay.word(h, PUDDLE_TABLE + PUDDLE_RECORD_WORDS * frame)?;
     if member == 0 {
@@ -201,9 +196,7 @@ fn marked_places<H: Host>(
     requires room { device_words frames ≤ (H.counts h.old).size }
     ensures marks { H.tells → (image : Image) → reads (H.state h.old).now.words ≡ image → IsOverlay overlay.now image
         → IfOk result (λ marks. AreMarked (tables_of frames (settled_by DAEMON_LOG image)) marks) }
-    ensures stays { H.tells → H.state h.new ≡ H.state h.old }
-    ensures cause { H.counts h.new ≡ after_fault (fault_of result) (H.counts h.old) }
-    ensures never_cut { fault_of result ≢ Option.Some HostFault.Cut }
+    ensures only_reads { OnlyReads H.tells H.state H.counts (fault_of result) h.old h.new }
 {
     let mut marks = [false; PLACES];
     for done in 0..frames {
@@ -250,9 +243,7 @@ fn is_counted<H: Host>(
     requires all { PLACES ≤ length marks.now }
     ensures counted { H.tells → (image : Image) → reads (H.state h.old).now.words ≡ image → IsOverlay overlay.now image → (frames : ℕ)
         → IfOk result (λ counted. counted ≡ is_counted_by marks.now (tables_of frames (settled_by DAEMON_LOG image)) slot) }
-    ensures stays { H.tells → H.state h.new ≡ H.state h.old }
-    ensures cause { H.counts h.new ≡ after_fault (fault_of result) (H.counts h.old) }
-    ensures never_cut { fault_of result ≢ Option.Some HostFault.Cut }
+    ensures only_reads { OnlyReads H.tells H.state H.counts (fault_of result) h.old h.new }
 {
     if overlay.word(h, POOL_TABLE + POOL_RECORD_WORDS * slot)? == 0 {
         return Ok(true);
@@ -266,9 +257,7 @@ fn are_counted<H: Host>(h: &mut H, overlay: &Overlay, marks: &[bool]) -> Result<
     requires all { PLACES ≤ length marks.now }
     ensures counted { H.tells → (image : Image) → reads (H.state h.old).now.words ≡ image → IsOverlay overlay.now image → (frames : ℕ)
         → IfOk result (λ counted. counted ≡ all_below POOL_RECORDS (is_counted_by marks.now (tables_of frames (settled_by DAEMON_LOG image)))) }
-    ensures stays { H.tells → H.state h.new ≡ H.state h.old }
-    ensures cause { H.counts h.new ≡ after_fault (fault_of result) (H.counts h.old) }
-    ensures never_cut { fault_of result ≢ Option.Some HostFault.Cut }
+    ensures only_reads { OnlyReads H.tells H.state H.counts (fault_of result) h.old h.new }
 {
     for slot in 0..POOL_RECORDS {
         if !is_counted(h, overlay, slot, marks)? {
@@ -289,9 +278,7 @@ fn has_counted_ordinals<H: Host>(
     ensures counted { H.tells → (image : Image) → reads (H.state h.old).now.words ≡ image → IsOverlay overlay.now image
         → (next : ℕ) → has_legal_puddles next (tables_of frames (settled_by DAEMON_LOG image)) ≡ true
         → IfOk result (λ counted. counted ≡ has_counted_ordinals (tables_of frames (settled_by DAEMON_LOG image))) }
-    ensures stays { H.tells → H.state h.new ≡ H.state h.old }
-    ensures cause { H.counts h.new ≡ after_fault (fault_of result) (H.counts h.old) }
-    ensures never_cut { fault_of result ≢ Option.Some HostFault.Cut }
+    ensures only_reads { OnlyReads H.tells H.state H.counts (fault_of result) h.old h.new }
 {
     let Some(marks) = marked_places(h, overlay, frames)? else {
         return Ok(false);
@@ -317,9 +304,7 @@ pub(crate) fn are_distinct_puddles<H: Host>(
     ensures distinct { H.tells → (image : Image) → reads (H.state h.old).now.words ≡ image → IsOverlay overlay.now image
         → (next : ℕ) → has_legal_puddles next (tables_of frames (settled_by DAEMON_LOG image)) ≡ true
         → IfOk result (λ distinct. distinct ≡ are_distinct_puddles (tables_of frames (settled_by DAEMON_LOG image))) }
-    ensures stays { H.tells → H.state h.new ≡ H.state h.old }
-    ensures cause { H.counts h.new ≡ after_fault (fault_of result) (H.counts h.old) }
-    ensures never_cut { fault_of result ≢ Option.Some HostFault.Cut }
+    ensures only_reads { OnlyReads H.tells H.state H.counts (fault_of result) h.old h.new }
 {
     let bases = has_distinct_numbers(h, overlay, frames, Key::Base)?;
     let old_bases = has_distinct_numbers(h, overlay, frames, Key::OldBase)?;

@@ -1,9 +1,10 @@
 //! Whether a device is a sound registry once its daemon log is replayed. Nothing is replayed and nothing is written: each
 //! word is read as the replay makes it.
-ghost use Rattle.std.specs.Prelude.{◌≡◌, ◌≢◌, ◌+◌, ◌-◌, ◌<◌, ◌≤◌, ◌==◌, ℕ, true, not, ◌&&◌, ◌||◌, nat_lt, nat_le, List, Option, IfOk, IfSome, is_some};
+ghost use Rattle.std.specs.Prelude.{◌≡◌, ◌+◌, ◌<◌, ◌≤◌, ◌==◌, ℕ, true, ◌&&◌, nat_le, List, Option, IfOk, IfSome, is_some};
 ghost use Rattle.std.specs.List.{list_all, list_any};
 ghost use Rattle.pm_model.specs.Words.{reads};
-ghost use Rattle.pm_model.specs.Counts.{after_fault, fault_of};
+ghost use Rattle.pm_model.specs.Counts.{fault_of};
+ghost use Rattle.pm_model.specs.Reads.{OnlyReads};
 ghost use Rattle.pud_defs.specs.declared.layout.TheConstants.{POOL_TABLE, PUDDLE_TABLE};
 ghost use Rattle.pud_defs.specs.Image.{Image};
 ghost use Rattle.pud_defs.specs.Layout.{device_words};
@@ -57,9 +58,7 @@ fn described_frames<H: Host>(h: &mut H) -> Result<Option<u32>, HostFault>
     requires { device_words MIN_FRAMES ≤ (H.counts h.old).size }
     ensures frames { H.tells → IfOk result (λ frames. frames ≡ frames_described (H.counts h.old).size (reads (H.state h.old).now.words)) }
     ensures within { IfOk result (λ frames. IfSome frames (IsRoomFor (H.counts h.old).size)) }
-    ensures stays { H.tells → H.state h.new ≡ H.state h.old }
-    ensures cause { H.counts h.new ≡ after_fault (fault_of result) (H.counts h.old) }
-    ensures never_cut { fault_of result ≢ Option.Some HostFault.Cut }
+    ensures only_reads { OnlyReads H.tells H.state H.counts (fault_of result) h.old h.new }
 {
     let words = h.words();
     let magic = h.load(MAGIC_WORD)?;
@@ -101,9 +100,7 @@ fn are_allowed<H: Host>(h: &mut H, overlay: &Overlay, frames: u32) -> Result<boo
     requires log { DAEMON_LOG + LOG_WORDS ≤ (H.counts h.old).size }
     ensures allowed { H.tells → (image : Image) → reads (H.state h.old).now.words ≡ image → (es : List LoggedEntry) → entries_of image DAEMON_LOG ≡ Option.Some es
         → HasRange overlay.now.range (log_of image DAEMON_LOG) → IfOk result (λ allowed. allowed ≡ list_all (is_allowed frames (log_of image DAEMON_LOG)) es) }
-    ensures stays { H.tells → H.state h.new ≡ H.state h.old }
-    ensures cause { H.counts h.new ≡ after_fault (fault_of result) (H.counts h.old) }
-    ensures never_cut { fault_of result ≢ Option.Some HostFault.Cut }
+    ensures only_reads { OnlyReads H.tells H.state H.counts (fault_of result) h.old h.new }
 {
     let mut reader = EntryReader::new(DAEMON_LOG);
     while let Some(entry) = reader.next(h)? {
@@ -120,9 +117,7 @@ fn has_legal_log<H: Host>(h: &mut H, overlay: &Overlay, frames: u32) -> Result<b
     requires log { DAEMON_LOG + LOG_WORDS ≤ (H.counts h.old).size }
     ensures legal { H.tells → (image : Image) → reads (H.state h.old).now.words ≡ image → HasRange overlay.now.range (log_of image DAEMON_LOG) → frames ≡ frames_of image
         → IfOk result (λ legal. legal ≡ has_legal_log image) }
-    ensures stays { H.tells → H.state h.new ≡ H.state h.old }
-    ensures cause { H.counts h.new ≡ after_fault (fault_of result) (H.counts h.old) }
-    ensures never_cut { fault_of result ≢ Option.Some HostFault.Cut }
+    ensures only_reads { OnlyReads H.tells H.state H.counts (fault_of result) h.old h.new }
 {
     if !well_formed(h, DAEMON_LOG)? {
         return Ok(false);
@@ -147,9 +142,7 @@ fn has_legal_types<H: Host>(h: &mut H, overlay: &Overlay) -> Result<bool, HostFa
     requires { POOL_TABLE ≤ (H.counts h.old).size }
     ensures legal { H.tells → (image : Image) → reads (H.state h.old).now.words ≡ image → IsOverlay overlay.now image
         → IfOk result (λ legal. legal ≡ has_legal_types (settled_by DAEMON_LOG image)) }
-    ensures stays { H.tells → H.state h.new ≡ H.state h.old }
-    ensures cause { H.counts h.new ≡ after_fault (fault_of result) (H.counts h.old) }
-    ensures never_cut { fault_of result ≢ Option.Some HostFault.Cut }
+    ensures only_reads { OnlyReads H.tells H.state H.counts (fault_of result) h.old h.new }
 {
     let mut ids = [0u64; TYPE_RECORDS as usize];
     let mut legal = true;
@@ -184,9 +177,7 @@ fn is_legal_space<H: Host>(h: &mut H, overlay: &Overlay, client: u32) -> Result<
     requires within { PUDDLE_TABLE ≤ (H.counts h.old).size }
     ensures legal { H.tells → (image : Image) → reads (H.state h.old).now.words ≡ image → IsOverlay overlay.now image
         → IfOk result (λ legal. legal ≡ is_legal_space (settled_by DAEMON_LOG image) client) }
-    ensures stays { H.tells → H.state h.new ≡ H.state h.old }
-    ensures cause { H.counts h.new ≡ after_fault (fault_of result) (H.counts h.old) }
-    ensures never_cut { fault_of result ≢ Option.Some HostFault.Cut }
+    ensures only_reads { OnlyReads H.tells H.state H.counts (fault_of result) h.old h.new }
 {
     let at = SPACE_TABLE + SPACE_RECORD_WORDS * client;
     let used = overlay.word(h, at)?;
@@ -200,9 +191,7 @@ fn are_legal_spaces<H: Host>(h: &mut H, overlay: &Overlay) -> Result<bool, HostF
     requires { PUDDLE_TABLE ≤ (H.counts h.old).size }
     ensures legal { H.tells → (image : Image) → reads (H.state h.old).now.words ≡ image → IsOverlay overlay.now image
         → IfOk result (λ legal. legal ≡ are_legal_spaces (settled_by DAEMON_LOG image)) }
-    ensures stays { H.tells → H.state h.new ≡ H.state h.old }
-    ensures cause { H.counts h.new ≡ after_fault (fault_of result) (H.counts h.old) }
-    ensures never_cut { fault_of result ≢ Option.Some HostFault.Cut }
+    ensures only_reads { OnlyReads H.tells H.state H.counts (fault_of result) h.old h.new }
 {
     for client in 0..CLIENTS {
         if !is_legal_space(h, overlay, client)? {
@@ -230,9 +219,7 @@ fn are_sound_tables<H: Host>(
     requires room { device_words frames ≤ (H.counts h.old).size }
     ensures sound { H.tells → (image : Image) → reads (H.state h.old).now.words ≡ image → IsOverlay overlay.now image
         → IfOk result (λ sound. sound ≡ are_sound_tables next (tables_of frames (settled_by DAEMON_LOG image))) }
-    ensures stays { H.tells → H.state h.new ≡ H.state h.old }
-    ensures cause { H.counts h.new ≡ after_fault (fault_of result) (H.counts h.old) }
-    ensures never_cut { fault_of result ≢ Option.Some HostFault.Cut }
+    ensures only_reads { OnlyReads H.tells H.state H.counts (fault_of result) h.old h.new }
 {
     let pools = has_legal_pools(h, overlay, next)?;
     let names = has_distinct_names(h, overlay)?;
@@ -249,9 +236,7 @@ fn has_sound_records<H: Host>(h: &mut H, overlay: &Overlay, frames: u32) -> Resu
     requires room { device_words frames ≤ (H.counts h.old).size }
     ensures sound { H.tells → (image : Image) → reads (H.state h.old).now.words ≡ image → IsOverlay overlay.now image
         → IfOk result (λ sound. sound ≡ has_sound_records (settled_by DAEMON_LOG image) frames) }
-    ensures stays { H.tells → H.state h.new ≡ H.state h.old }
-    ensures cause { H.counts h.new ≡ after_fault (fault_of result) (H.counts h.old) }
-    ensures never_cut { fault_of result ≢ Option.Some HostFault.Cut }
+    ensures only_reads { OnlyReads H.tells H.state H.counts (fault_of result) h.old h.new }
 {
     let next = overlay.word(h, NEXT_NUMBER_WORD)?;
     let types = has_legal_types(h, overlay)?;
@@ -271,9 +256,7 @@ fn is_registry<H: Host>(h: &mut H, overlay: &Overlay, frames: u32) -> Result<boo
     requires room { device_words frames ≤ (H.counts h.old).size }
     ensures sound { H.tells → (image : Image) → reads (H.state h.old).now.words ≡ image → IsOverlay overlay.now image → has_legal_log image ≡ true
         → (size : ℕ) → frames_described size image ≡ Option.Some frames → IfOk result (λ sound. sound ≡ is_registry size (settled_by DAEMON_LOG image)) }
-    ensures stays { H.tells → H.state h.new ≡ H.state h.old }
-    ensures cause { H.counts h.new ≡ after_fault (fault_of result) (H.counts h.old) }
-    ensures never_cut { fault_of result ≢ Option.Some HostFault.Cut }
+    ensures only_reads { OnlyReads H.tells H.state H.counts (fault_of result) h.old h.new }
 {
     let records = has_sound_records(h, overlay, frames)?;
     let spaces = are_legal_spaces(h, overlay)?;
@@ -286,9 +269,7 @@ fn is_sound<H: Host>(h: &mut H, frames: u32) -> Result<bool, HostFault>
     requires room { device_words frames ≤ (H.counts h.old).size }
     ensures sound { H.tells → (image : Image) → reads (H.state h.old).now.words ≡ image → (size : ℕ) → frames_described size image ≡ Option.Some frames
         → IfOk result (λ sound. sound ≡ is_sound size image) }
-    ensures stays { H.tells → H.state h.new ≡ H.state h.old }
-    ensures cause { H.counts h.new ≡ after_fault (fault_of result) (H.counts h.old) }
-    ensures never_cut { fault_of result ≢ Option.Some HostFault.Cut }
+    ensures only_reads { OnlyReads H.tells H.state H.counts (fault_of result) h.old h.new }
 {
     let overlay = Overlay::of(h)?;
     if !has_legal_log(h, &overlay, frames)? {
@@ -303,9 +284,7 @@ pub fn sound_frames<H: Host>(h: &mut H) -> Result<Option<u32>, HostFault>
     ensures sound { H.tells → IfOk result (λ found. is_some found ≡ is_sound (H.counts h.old).size (reads (H.state h.old).now.words)) }
     ensures frames { H.tells → IfOk result (λ found. IfSome found (λ frames. frames ≡ frames_of (reads (H.state h.old).now.words))) }
     ensures room { IfOk result (λ found. IfSome found (IsRoomFor (H.counts h.old).size)) }
-    ensures stays { H.tells → H.state h.new ≡ H.state h.old }
-    ensures cause { H.counts h.new ≡ after_fault (fault_of result) (H.counts h.old) }
-    ensures never_cut { fault_of result ≢ Option.Some HostFault.Cut }
+    ensures only_reads { OnlyReads H.tells H.state H.counts (fault_of result) h.old h.new }
 {
     if h.words() < device_words(MIN_FRAMES) {
         return Ok(None);

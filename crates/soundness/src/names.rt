@@ -1,8 +1,9 @@
 //! Whether no two pools have one name, once the daemon log is replayed.
-ghost use Rattle.std.specs.Prelude.{◌≡◌, ◌≢◌, ◌≤◌, ℕ, Option, IfOk};
+ghost use Rattle.std.specs.Prelude.{◌≡◌, ◌≤◌, ℕ, IfOk};
 ghost use Rattle.std.specs.List.{list_any};
 ghost use Rattle.pm_model.specs.Words.{reads};
-ghost use Rattle.pm_model.specs.Counts.{after_fault, fault_of};
+ghost use Rattle.pm_model.specs.Counts.{fault_of};
+ghost use Rattle.pm_model.specs.Reads.{OnlyReads};
 ghost use Rattle.pud_defs.specs.declared.layout.TheConstants.{DAEMON_LOG, SPACE_TABLE};
 ghost use Rattle.pud_defs.specs.Image.{Image};
 ghost use Rattle.pud_defs.specs.Replay.{settled_by};
@@ -57,9 +58,7 @@ fn read_names<H: Host>(
     requires { SPACE_TABLE ≤ (H.counts h.old).size }
     ensures names { H.tells → (image : Image) → reads (H.state h.old).now.words ≡ image → IsOverlay overlay.now image
         → IfOk result (λ names. HoldsNames (settled_by DAEMON_LOG image) names) }
-    ensures stays { H.tells → H.state h.new ≡ H.state h.old }
-    ensures cause { H.counts h.new ≡ after_fault (fault_of result) (H.counts h.old) }
-    ensures never_cut { fault_of result ≢ Option.Some HostFault.Cut }
+    ensures only_reads { OnlyReads H.tells H.state H.counts (fault_of result) h.old h.new }
 {
     let mut names = [NameWords { low: 0, high: 0 }; POOL_RECORDS as usize];
     for slot in 0..POOL_RECORDS {
@@ -76,9 +75,7 @@ pub fn has_distinct_names<H: Host>(h: &mut H, overlay: &Overlay) -> Result<bool,
     requires { SPACE_TABLE ≤ (H.counts h.old).size }
     ensures distinct { H.tells → (image : Image) → reads (H.state h.old).now.words ≡ image → IsOverlay overlay.now image
         → (F : ℕ) → IfOk result (λ distinct. distinct ≡ has_distinct_names (tables_of F (settled_by DAEMON_LOG image))) }
-    ensures stays { H.tells → H.state h.new ≡ H.state h.old }
-    ensures cause { H.counts h.new ≡ after_fault (fault_of result) (H.counts h.old) }
-    ensures never_cut { fault_of result ≢ Option.Some HostFault.Cut }
+    ensures only_reads { OnlyReads H.tells H.state H.counts (fault_of result) h.old h.new }
 {
     let names = read_names(h, overlay)?;
     Ok(are_apart(&names))

@@ -1,9 +1,10 @@
 //! The words of a device as its daemon log's replay makes them. Nothing is replayed: with each word that is asked for,
 //! the entries of the log are read.
-ghost use Rattle.std.specs.Prelude.{◌≡◌, ◌≢◌, ◌+◌, ◌<◌, ◌≤◌, ◌==◌, false, cond, List, Option, IfOk, ◌&&◌, nat_lt, nat_le};
+ghost use Rattle.std.specs.Prelude.{◌≡◌, ◌+◌, ◌<◌, ◌≤◌, ◌==◌, false, cond, List, Option, IfOk, ◌&&◌, nat_lt, nat_le};
 ghost use Rattle.std.specs.Option.{option_or};
 ghost use Rattle.pm_model.specs.Words.{reads};
-ghost use Rattle.pm_model.specs.Counts.{after_fault, fault_of};
+ghost use Rattle.pm_model.specs.Counts.{fault_of};
+ghost use Rattle.pm_model.specs.Reads.{OnlyReads};
 ghost use Rattle.pud_defs.specs.declared.layout.TheConstants.{DAEMON_LOG, LOG_WORDS};
 ghost use Rattle.pud_defs.specs.declared.log_words.TheConstants.{UNDO_ORDER, REDO_ORDER};
 ghost use Rattle.pud_defs.specs.Image.{Image};
@@ -59,9 +60,7 @@ impl Overlay {
     pub fn of<H: Host>(h: &mut H) -> Result<Overlay, HostFault>
         requires { DAEMON_LOG + LOG_WORDS ≤ (H.counts h.old).size }
         ensures range { H.tells → (image : Image) → reads (H.state h.old).now.words ≡ image → IfOk result (λ overlay. HasRange overlay.range (log_of image DAEMON_LOG)) }
-        ensures stays { H.tells → H.state h.new ≡ H.state h.old }
-        ensures cause { H.counts h.new ≡ after_fault (fault_of result) (H.counts h.old) }
-        ensures never_cut { fault_of result ≢ Option.Some HostFault.Cut }
+        ensures only_reads { OnlyReads H.tells H.state H.counts (fault_of result) h.old h.new }
     {
         let range = LogRange::of(h, DAEMON_LOG)?;
         Ok(Overlay { range })
@@ -78,9 +77,7 @@ impl Overlay {
         requires { entry.now.at + entry.now.n ≤ (H.counts h.old).size }
         ensures more { H.tells → (image : Image) → reads (H.state h.old).now.words ≡ image → (log : Log) → HasRange self.now.range log
             → IfOk result (λ after. GivesMore log (entry_from image entry.now) w given after) }
-        ensures stays { H.tells → H.state h.new ≡ H.state h.old }
-        ensures cause { H.counts h.new ≡ after_fault (fault_of result) (H.counts h.old) }
-        ensures never_cut { fault_of result ≢ Option.Some HostFault.Cut }
+        ensures only_reads { OnlyReads H.tells H.state H.counts (fault_of result) h.old h.new }
     {
         let _words = h.words();
         if !self.range.counts(entry) || !names(entry, w) {
@@ -95,9 +92,7 @@ impl Overlay {
         requires { DAEMON_LOG + LOG_WORDS ≤ (H.counts h.old).size }
         ensures given { H.tells → (image : Image) → reads (H.state h.old).now.words ≡ image → (es : List LoggedEntry) → entries_of image DAEMON_LOG ≡ Option.Some es
             → HasRange self.now.range (log_of image DAEMON_LOG) → IfOk result (λ given. Gives (log_of image DAEMON_LOG) es w given) }
-        ensures stays { H.tells → H.state h.new ≡ H.state h.old }
-        ensures cause { H.counts h.new ≡ after_fault (fault_of result) (H.counts h.old) }
-        ensures never_cut { fault_of result ≢ Option.Some HostFault.Cut }
+        ensures only_reads { OnlyReads H.tells H.state H.counts (fault_of result) h.old h.new }
     {
         let mut given = Given {
             undo: None,
@@ -116,9 +111,7 @@ impl Overlay {
         requires word { w < (H.counts h.old).size }
         ensures value { H.tells → (image : Image) → reads (H.state h.old).now.words ≡ image → IsOverlay self.now image → is_in_log DAEMON_LOG w ≡ false
             → IfOk result (λ v. v ≡ settled_by DAEMON_LOG image w) }
-        ensures stays { H.tells → H.state h.new ≡ H.state h.old }
-        ensures cause { H.counts h.new ≡ after_fault (fault_of result) (H.counts h.old) }
-        ensures never_cut { fault_of result ≢ Option.Some HostFault.Cut }
+        ensures only_reads { OnlyReads H.tells H.state H.counts (fault_of result) h.old h.new }
     {
         let before = h.load(w)?;
         if self.range.counts_none() {

@@ -1,14 +1,15 @@
 //! Whether the records of the pool table and the puddle table are legal, once the daemon log is replayed.
-ghost use Rattle.std.specs.Prelude.{◌≡◌, ◌≢◌, ◌+◌, ◌<◌, ◌≤◌, ◌==◌, ℕ, Option, IfOk};
+ghost use Rattle.std.specs.Prelude.{◌≡◌, ◌+◌, ◌<◌, ◌≤◌, ◌==◌, ℕ, IfOk};
 ghost use Rattle.std.specs.List.{list_all};
 ghost use Rattle.pm_model.specs.Words.{reads};
-ghost use Rattle.pm_model.specs.Counts.{after_fault, fault_of};
+ghost use Rattle.pm_model.specs.Counts.{fault_of};
+ghost use Rattle.pm_model.specs.Reads.{OnlyReads};
 ghost use Rattle.pud_defs.specs.declared.layout.TheConstants.{DAEMON_LOG, TYPE_TABLE, SPACE_TABLE, MAX_FRAMES};
 ghost use Rattle.pud_defs.specs.declared.records.TheConstants.{POOL_RECORDS, RECORD_WORDS_READ};
 ghost use Rattle.pud_defs.specs.Image.{Image};
 ghost use Rattle.pud_defs.specs.Layout.{device_words};
 ghost use Rattle.pud_defs.specs.Replay.{settled_by};
-ghost use Rattle.pud_defs.specs.Names.{is_name_byte, is_filled, is_legal_name};
+ghost use Rattle.pud_defs.specs.Names.{is_filled, is_legal_name};
 ghost use Rattle.pud_defs.specs.Pools.{is_given};
 ghost use Rattle.pud_defs.specs.Tables.{tables_of};
 ghost use Rattle.pud_defs.specs.SoundTables.{is_sound_pool, has_legal_pools, is_pool, is_sound_puddle, has_legal_puddles};
@@ -74,9 +75,7 @@ fn read_record<H: Host>(h: &mut H, overlay: &Overlay, at: u32) -> Result<RecordW
     requires within { at + RECORD_WORDS_READ ≤ (H.counts h.old).size }
     ensures words { H.tells → (image : Image) → reads (H.state h.old).now.words ≡ image → IsOverlay overlay.now image
         → IfOk result (λ words. words ≡ record_words (settled_by DAEMON_LOG image) at) }
-    ensures stays { H.tells → H.state h.new ≡ H.state h.old }
-    ensures cause { H.counts h.new ≡ after_fault (fault_of result) (H.counts h.old) }
-    ensures never_cut { fault_of result ≢ Option.Some HostFault.Cut }
+    ensures only_reads { OnlyReads H.tells H.state H.counts (fault_of result) h.old h.new }
 {
     let _words = h.words();
     let first = overlay.word(h, at)?;
@@ -115,9 +114,7 @@ fn is_sound_slot<H: Host>(
     requires within { SPACE_TABLE ≤ (H.counts h.old).size }
     ensures sound { H.tells → (image : Image) → reads (H.state h.old).now.words ≡ image → IsOverlay overlay.now image
         → (F : ℕ) → IfOk result (λ sound. sound ≡ is_sound_pool next ((tables_of F (settled_by DAEMON_LOG image)).pools slot)) }
-    ensures stays { H.tells → H.state h.new ≡ H.state h.old }
-    ensures cause { H.counts h.new ≡ after_fault (fault_of result) (H.counts h.old) }
-    ensures never_cut { fault_of result ≢ Option.Some HostFault.Cut }
+    ensures only_reads { OnlyReads H.tells H.state H.counts (fault_of result) h.old h.new }
 {
     let words = read_record(h, overlay, POOL_TABLE + POOL_RECORD_WORDS * slot)?;
     Ok(is_sound_pool(next, &words))
@@ -128,9 +125,7 @@ pub fn has_legal_pools<H: Host>(h: &mut H, overlay: &Overlay, next: u64) -> Resu
     requires { SPACE_TABLE ≤ (H.counts h.old).size }
     ensures legal { H.tells → (image : Image) → reads (H.state h.old).now.words ≡ image → IsOverlay overlay.now image
         → (F : ℕ) → IfOk result (λ legal. legal ≡ has_legal_pools next (tables_of F (settled_by DAEMON_LOG image))) }
-    ensures stays { H.tells → H.state h.new ≡ H.state h.old }
-    ensures cause { H.counts h.new ≡ after_fault (fault_of result) (H.counts h.old) }
-    ensures never_cut { fault_of result ≢ Option.Some HostFault.Cut }
+    ensures only_reads { OnlyReads H.tells H.state H.counts (fault_of result) h.old h.new }
 {
     for slot in 0..POOL_RECORDS {
         if !is_sound_slot(h, overlay, next, slot)? {
@@ -162,9 +157,7 @@ fn is_pool<H: Host>(h: &mut H, overlay: &Overlay, pool: u32) -> Result<bool, Hos
     requires { SPACE_TABLE ≤ (H.counts h.old).size }
     ensures used { H.tells → (image : Image) → reads (H.state h.old).now.words ≡ image → IsOverlay overlay.now image
         → (F : ℕ) → IfOk result (λ used. used ≡ is_pool (tables_of F (settled_by DAEMON_LOG image)) pool) }
-    ensures stays { H.tells → H.state h.new ≡ H.state h.old }
-    ensures cause { H.counts h.new ≡ after_fault (fault_of result) (H.counts h.old) }
-    ensures never_cut { fault_of result ≢ Option.Some HostFault.Cut }
+    ensures only_reads { OnlyReads H.tells H.state H.counts (fault_of result) h.old h.new }
 {
     if pool == 0 || pool > POOL_RECORDS {
         return Ok(false);
@@ -183,9 +176,7 @@ fn is_sound_puddle<H: Host>(
     requires { SPACE_TABLE ≤ (H.counts h.old).size }
     ensures sound { H.tells → (image : Image) → reads (H.state h.old).now.words ≡ image → IsOverlay overlay.now image
         → (F : ℕ) → IfOk result (λ sound. sound ≡ is_sound_puddle next (tables_of F (settled_by DAEMON_LOG image)) (puddle_by_words words.now)) }
-    ensures stays { H.tells → H.state h.new ≡ H.state h.old }
-    ensures cause { H.counts h.new ≡ after_fault (fault_of result) (H.counts h.old) }
-    ensures never_cut { fault_of result ≢ Option.Some HostFault.Cut }
+    ensures only_reads { OnlyReads H.tells H.state H.counts (fault_of result) h.old h.new }
 {
     if words[0] == 0 {
         return Ok(true);
@@ -209,9 +200,7 @@ fn is_sound_frame<H: Host>(
     requires room { device_words frames ≤ (H.counts h.old).size }
     ensures sound { H.tells → (image : Image) → reads (H.state h.old).now.words ≡ image → IsOverlay overlay.now image
         → IfOk result (λ sound. sound ≡ is_sound_puddle next (tables_of frames (settled_by DAEMON_LOG image)) ((tables_of frames (settled_by DAEMON_LOG image)).puddles frame)) }
-    ensures stays { H.tells → H.state h.new ≡ H.state h.old }
-    ensures cause { H.counts h.new ≡ after_fault (fault_of result) (H.counts h.old) }
-    ensures never_cut { fault_of result ≢ Option.Some HostFault.Cut }
+    ensures only_reads { OnlyReads H.tells H.state H.counts (fault_of result) h.old h.new }
 {
     let words = read_record(h, overlay, PUDDLE_TABLE + PUDDLE_RECORD_WORDS * frame)?;
     is_sound_puddle(h, overlay, next, &words)
@@ -228,9 +217,7 @@ pub fn has_legal_puddles<H: Host>(
     requires room { device_words frames ≤ (H.counts h.old).size }
     ensures legal { H.tells → (image : Image) → reads (H.state h.old).now.words ≡ image → IsOverlay overlay.now image
         → IfOk result (λ legal. legal ≡ has_legal_puddles next (tables_of frames (settled_by DAEMON_LOG image))) }
-    ensures stays { H.tells → H.state h.new ≡ H.state h.old }
-    ensures cause { H.counts h.new ≡ after_fault (fault_of result) (H.counts h.old) }
-    ensures never_cut { fault_of result ≢ Option.Some HostFault.Cut }
+    ensures only_reads { OnlyReads H.tells H.state H.counts (fault_of result) h.old h.new }
 {
     for frame in 0..frames {
         if !is_sound_frame(h, overlay, next, frames, frame)? {

@@ -1,9 +1,10 @@
 //! The type table: the pointer map of each type that was defined, by its id.
 #![tactic(auto)]
 
-ghost use Rattle.std.specs.Prelude.{◌≡◌, ◌≢◌, ◌+◌, ◌*◌, ◌<◌, ◌≤◌, ◌^◌, ℕ, Option, IfOk, IsSome};
+ghost use Rattle.std.specs.Prelude.{◌≡◌, ◌+◌, ◌*◌, ◌<◌, ◌≤◌, ◌^◌, ℕ, Option, IfOk, IsSome};
 ghost use Rattle.pm_model.specs.Words.{IsRested, reads};
 ghost use Rattle.pm_model.specs.Counts.{after_fault, fault_of};
+ghost use Rattle.pm_model.specs.Reads.{OnlyReads};
 ghost use Rattle.pud_defs.specs.Image.{Image};
 ghost use Rattle.pud_defs.specs.Types.{map_of, types_of};
 ghost use Rattle.type_maps.specs.Define.{fault_in, refusal_in, table_refusal, place_for, place_of, IsInTable, Defines};
@@ -52,9 +53,7 @@ fn look_up<H: Loads>(h: &mut H, id: u64) -> Result<Place, HostFault>
     requires { POOL_TABLE ≤ (H.counts h.old).size }
     ensures place { H.tells → IfOk result (λ place. place ≡ place_of (reads (H.state h.old).now.words) id) }
     ensures within { IfOk result IsInTable }
-    ensures stays { H.tells → H.state h.new ≡ H.state h.old }
-    ensures cause { H.counts h.new ≡ after_fault (fault_of result) (H.counts h.old) }
-    ensures never_cut { fault_of result ≢ Option.Some HostFault.Cut }
+    ensures only_reads { OnlyReads H.tells H.state H.counts (fault_of result) h.old h.new }
 {
     let mut free = None;
     for record in 0..TYPE_RECORDS {
@@ -78,9 +77,7 @@ fn look_up<H: Loads>(h: &mut H, id: u64) -> Result<Place, HostFault>
 pub fn find<H: Loads>(h: &mut H, id: u64) -> Result<Option<u64>, HostFault>
     requires { POOL_TABLE ≤ (H.counts h.old).size }
     ensures map { H.tells → (image : Image) → reads (H.state h.old).now.words ≡ image → IfOk result (λ map. map ≡ map_of id (types_of image)) }
-    ensures stays { H.tells → H.state h.new ≡ H.state h.old }
-    ensures cause { H.counts h.new ≡ after_fault (fault_of result) (H.counts h.old) }
-    ensures never_cut { fault_of result ≢ Option.Some HostFault.Cut }
+    ensures only_reads { OnlyReads H.tells H.state H.counts (fault_of result) h.old h.new }
 {
     match look_up(h, id)? {
         Place::Defined(map) => Ok(Some(map)),

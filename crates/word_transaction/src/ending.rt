@@ -1,9 +1,10 @@
 //! How a transaction ends: committed, undone, or lost.
 #![tactic(auto)]
 
-ghost use Rattle.std.specs.Prelude.{◌≡◌, ◌≢◌, ◌+◌, ◌≤◌, ℕ, List, true, false, Option, IfOk};
+ghost use Rattle.std.specs.Prelude.{◌≡◌, ◌+◌, ◌≤◌, ℕ, List, true, false, Option, IfOk};
 ghost use Rattle.pm_model.specs.Words.{reads};
 ghost use Rattle.pm_model.specs.Counts.{after_fault, fault_of};
+ghost use Rattle.pm_model.specs.Reads.{OnlyReads};
 ghost use Rattle.pm_model.specs.Changes.{Changes};
 ghost use Rattle.pud_defs.specs.declared.layout.TheConstants.{LOG_WORDS};
 ghost use Rattle.pud_defs.specs.Image.{Image};
@@ -27,9 +28,7 @@ fn has_redo_entry<H: Host>(h: &mut H, at: u32) -> Result<bool, HostFault>
     requires { at + LOG_WORDS ≤ (H.counts h.old).size }
     ensures asks { H.tells → (image : Image) → reads (H.state h.old).now.words ≡ image → (es : List Entry) → entries_of image at ≡ Option.Some es
         → IfOk result (λ asked. asked ≡ asks es) }
-    ensures stays { H.tells → H.state h.new ≡ H.state h.old }
-    ensures cause { H.counts h.new ≡ after_fault (fault_of result) (H.counts h.old) }
-    ensures never_cut { fault_of result ≢ Option.Some HostFault.Cut }
+    ensures only_reads { OnlyReads H.tells H.state H.counts (fault_of result) h.old h.new }
 {
     let mut reader = EntryReader::new(at);
     while let Some(entry) = reader.next(h)? {

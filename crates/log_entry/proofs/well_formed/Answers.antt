@@ -1,9 +1,9 @@
 use Rattle.std.proofs.Common.{◌≡◌, ℕ, true, leb, is_some, refl, sym, ap, ap₂, ◌∙◌, arith}
 use Rattle.pm_model.specs.Words.{reads}
-use Rattle.pm_model.specs.Moments.{State}
 use Rattle.pud_defs.specs.Entries.{gate_used, is_legal_gate}
 use Rattle.log_entry.specs.Reading.{Reading, PassesOne}
 use Rattle.log_entry.proofs.Left.{entries_left-start, IsReading-start, IsReading-more, not_formed, formed-more, formed-end}
+use Rattle.pm_model.proofs.Reading.{OnlyReads-none, OnlyReads-then, still_reads}
 use Rattle.log_entry.proofs.well_formed.Goals as goal
 
 pub returns-then-not-is_legal_gate-clause-answer : goal.returns-then-not-is_legal_gate-clause-answer
@@ -17,8 +17,7 @@ loop-entry-init g c =
     record {
       reading = IsReading-start c.args.log_at c.new-reader.result c.new-reader.ensures;
       passed = sym begun;
-      counts = refl;
-      stays = λ t. refl;
+      only_reads = OnlyReads-none;
       formed = λ t image same. ap is_some (entries_left-start image c.args.log_at c.new-reader.result c.new-reader.ensures);
     }
 
@@ -29,10 +28,9 @@ loop-entry-preserved g c =
     record {
       reading = IsReading-more c.args.log_at _ c.in-Some.entry _ _ old.reading c.in-Some.is c.in_ok-entry.ensures.passes;
       passed = let before = old.passed in let now = passes.passed in omega arith;
-      counts = c.in_ok-entry.ensures.cause ∙ old.counts;
-      stays = λ t. c.next.ensures.stays t ∙ old.stays t;
+      only_reads = OnlyReads-then old.only_reads c.in_ok-entry.ensures.only_reads;
       formed = λ t image same.
-          let read = ap (λ (s : State). reads s.now.words) (old.stays t) ∙ same in
+          let read = still_reads old.only_reads t same in
           formed-more image _ c.in-Some.entry _ _ c.in-Some.is (c.in_ok-entry.ensures.left t image read) ∙ old.formed t image same;
     }
 
@@ -40,8 +38,8 @@ pub returns-clause-answer : goal.returns-clause-answer
 returns-clause-answer g c = λ t.
     let old = c.loop-entry.invariant in
     let image = reads (g.H.Host.state c.args.h.now).now.words in
-    let same = ap (λ (s : State). reads s.now.words) (c.load.ensures.state t) in
-    let read = ap (λ (s : State). reads s.now.words) (old.stays t) ∙ same in
+    let same = still_reads c.load.ensures.only_reads t refl in
+    let read = still_reads old.only_reads t same in
     let stands : c.next.new.self ≡ c.loop-entry.reader = rw c.in_default.is at c.in_ok-entry.ensures.passes in
     let here : c.next.new.self.log_at ≡ c.args.log_at = ap (λ (r : Reading). r.log_at) stands ∙ old.reading.same_log in
     let gate : c.in_ok-gate.gate ≡ image c.args.log_at = c.in_ok-gate.ensures.value t in

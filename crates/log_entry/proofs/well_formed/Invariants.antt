@@ -1,18 +1,18 @@
-use Rattle.std.proofs.Common.{◌≡◌, ◌-◌, is_some}
+use Rattle.std.proofs.Common.{None, ◌≡◌, ◌-◌, is_some}
 use Rattle.pm_model.specs.Words.{reads}
 use Rattle.pud_defs.specs.declared.layout.TheConstants.{LOG_ENTRY_WORDS}
 use Rattle.pud_defs.specs.Image.{Image}
 use Rattle.pud_defs.specs.Entries.{entries_of}
 use Rattle.log_entry.specs.Reading.{entries_left}
 use Rattle.log_entry.proofs.Left.{IsReading}
+use Rattle.pm_model.specs.Reads.{OnlyReads}
 use Rattle.log_entry.proofs.well_formed.Given as goal
 
 abbrev pub invariant-loop-entry : goal.invariant-loop-entry
 invariant-loop-entry g l = record {
   reading : IsReading l.log_at l.reader;
   passed : l.passed ≡ l.reader.passed;
-  counts : g.H.Host.counts l.h ≡ g.H.Host.counts l.initial.h;
-  stays : g.H.Host.tells → g.H.Host.state l.h ≡ g.H.Host.state l.initial.h;
+  only_reads : OnlyReads g.H.Host.tells g.H.Host.state g.H.Host.counts None l.initial.h l.h;
   formed : g.H.Host.tells → (image : Image) → reads (g.H.Host.state l.initial.h).now.words ≡ image → is_some (entries_left image l.reader) ≡ is_some (entries_of image l.log_at);
 }
 

@@ -1,11 +1,11 @@
-use Rattle.std.proofs.Common.{Some, None}
 use Rattle.std.proofs.lemmas.Result.{err_from_is_err_and}
 use Rattle.pm_model.specs.Words.{reads}
 use Rattle.pm_model.specs.Counts.{fault_of}
-use Rattle.pm_model.specs.Changes.{placed, written}
-use Rattle.pm_model.proofs.Changes.{Changes-still, Writes-failed}
+use Rattle.pm_model.specs.Changes.{placed}
+use Rattle.pm_model.proofs.Changes.{Writes-failed}
+use Rattle.pm_model.proofs.Reading.{Changes-read}
 use Rattle.pud_defs.specs.Entries.{words_from}
-use Rattle.log_replay.proofs.Applying.{any_still, any_then, any_wider}
+use Rattle.log_replay.proofs.Applying.{any_then, any_wider}
 use Rattle.log_replay.proofs.copy_words.Goals as goal
 
 pub returns-in_err-values-clause-writes : goal.returns-in_err-values-clause-writes
@@ -16,14 +16,14 @@ returns-in_err-values-clause-writes g c =
     let end = g.H.Host.state c.read_values.new.h in
     let fault = c.in_err-values.field-0.0 in
     let write = placed c.args.to (words_from (reads s.now.words) c.args.from c.args.n) in
-    Writes-failed write fault s end (Changes-still (written write) (Some fault) s end c.in_err-values.ensures.never_cut (c.in_err-values.ensures.stays t)))
+    Writes-failed write fault s end (Changes-read c.in_err-values.ensures.only_reads t))
 
 pub returns-in_err-values-clause-any : goal.returns-in_err-values-clause-any
 returns-in_err-values-clause-any g c =
     let p = err_from_is_err_and c.from_residual.result c.from_residual.ensures.1 in
-    rw (p.1, p.2) (λ t. any_still _ _ _ c.in_err-values.ensures.never_cut (c.in_err-values.ensures.stays t))
+    rw (p.1, p.2) (λ t. Changes-read c.in_err-values.ensures.only_reads t)
 
 pub returns-clause-any : goal.returns-clause-any
 returns-clause-any g c = λ t.
-    any_then (fault_of c.write_range.result) _ (g.H.Host.state c.read_values.new.h) _ (any_still None _ _ (λ cut. cc) (c.in_ok-values.ensures.stays t))
+    any_then (fault_of c.write_range.result) _ (g.H.Host.state c.read_values.new.h) _ (Changes-read c.in_ok-values.ensures.only_reads t)
     (any_wider _ (fault_of c.write_range.result) _ _ (c.write_range.ensures.writes t).changes)

@@ -1,12 +1,11 @@
 use Rattle.std.proofs.Common.{◌≡◌, ℕ, ◌+◌, ◌-◌, true, false, option_map, refl, sym, ap, ◌∙◌, arith}
 use Rattle.pm_model.specs.Words.{reads}
-use Rattle.pm_model.specs.Moments.{State}
-use Rattle.pm_model.specs.Counts.{after_fault, fault_of}
 use Rattle.pud_defs.specs.declared.layout.TheConstants.{CLIENT_LOGS}
 use Rattle.pud_defs.specs.Layout.{log_at}
 use Rattle.pud_defs.specs.Spaces.{is_closed_log}
 use Rattle.log_space.specs.FreeLogs.{log_number}
 use Rattle.log_space.proofs.FirstFrom.{first_from-passes, first_from-fails, first_from-none}
+use Rattle.pm_model.proofs.Reading.{OnlyReads-none, OnlyReads-then, still_reads}
 use Rattle.log_space.proofs.free_log.Goals as goal
 
 pub returns-then-branch-clause-lowest : goal.returns-then-branch-clause-lowest
@@ -17,25 +16,24 @@ returns-then-branch-clause-lowest g c = λ t.
     let test = λ (k : ℕ). is_closed_log image (log_at c.args.frames c.args.slot k) in
     let within = c.loop-number-test.true in
     let passes : test number ≡ true =
-    sym (c.in_ok-is_closed_log.ensures.closed t image (ap (λ (s : State). reads s.now.words) (before.stays t)) ∙ ap (is_closed_log image) c.log_at.ensures) ∙ c.if-branch.true in
+    sym (c.in_ok-is_closed_log.ensures.closed t image (still_reads before.only_reads t refl) ∙ ap (is_closed_log image) c.log_at.ensures) ∙ c.if-branch.true in
     sym (ap (option_map (log_number c.args.slot)) (before.passed t ∙ first_from-passes number (CLIENT_LOGS - number) test (omega arith) passes))
 
 pub loop-number-init : goal.loop-number-init
-loop-number-init g c = record { counts = refl; stays = λ t. refl; passed = λ t. refl }
+loop-number-init g c = record { only_reads = OnlyReads-none; passed = λ t. refl }
 
 pub loop-number-preserved : goal.loop-number-preserved
 loop-number-preserved g c =
     let number = c.loop-number.number in
     let before = c.loop-number.invariant in
     record {
-      counts = c.is_closed_log.ensures.cause ∙ ap (λ r. after_fault (fault_of r) (g.H.Host.counts c.loop-number.h)) c.in_ok-is_closed_log.was ∙ before.counts;
-      stays = λ t. c.is_closed_log.ensures.stays t ∙ before.stays t;
+      only_reads = OnlyReads-then before.only_reads c.in_ok-is_closed_log.ensures.only_reads;
       passed = λ t.
           let image = reads (g.H.Host.state c.args.h.now).now.words in
           let test = λ (k : ℕ). is_closed_log image (log_at c.args.frames c.args.slot k) in
           let within = c.loop-number-test.true in
           let fails : test number ≡ false =
-          sym (c.in_ok-is_closed_log.ensures.closed t image (ap (λ (s : State). reads s.now.words) (before.stays t)) ∙ ap (is_closed_log image) c.log_at.ensures) ∙ c.if-branch.false in
+          sym (c.in_ok-is_closed_log.ensures.closed t image (still_reads before.only_reads t refl) ∙ ap (is_closed_log image) c.log_at.ensures) ∙ c.if-branch.false in
           before.passed t ∙ first_from-fails number (CLIENT_LOGS - number) (CLIENT_LOGS - (number + 1)) test (omega arith) fails;
     }
 

@@ -1,8 +1,7 @@
 use Rattle.std.proofs.Common.{ℕ, List, ◌++◌, get_or, codes, ap, ◌∙◌, subst}
-use Rattle.pm_model.specs.Words.{reads}
-use Rattle.pm_model.specs.Moments.{State}
 use Rattle.pm_model.specs.Counts.{fault_of}
 use Rattle.pm_model.specs.Calls.{Says}
+use Rattle.pm_model.proofs.Reading.{still_reads}
 use Rattle.pm_model.proofs.Saying.{Says-behind}
 use Rattle.pud_defs.specs.declared.layout.TheConstants.{MACHINE_WORD}
 use Rattle.pud_defs.specs.Texts.{line_of}
@@ -15,14 +14,13 @@ returns-clause-says g c = λ t image e.
     let fault = fault_of c.say_list.result in
     let start = g.H.Host.state c.args.h.now in
     let told = g.H.Host.state c.say_list.new.h in
-    let counting = c.in_ok-records.ensures.stays t in
-    let loading = c.in_ok-counts.ensures.stays t ∙ counting in
-    let saying = c.in_ok-id.ensures.state t ∙ loading in
-    let words = λ (s : State). reads s.now.words in
-    let machine = c.in_ok-id.ensures.value t ∙ ap (λ (s : State). words s MACHINE_WORD) loading ∙ (λ i. e i MACHINE_WORD) in
+    let counting = still_reads c.in_order.ensures.only_reads t e in
+    let loading = still_reads c.count_by_pool.ensures.only_reads t counting in
+    let saying = c.load.ensures.only_reads.stays t ∙ c.count_by_pool.ensures.only_reads.stays t ∙ c.in_order.ensures.only_reads.stays t in
+    let machine = c.in_ok-id.ensures.value t ∙ (λ i. loading i MACHINE_WORD) in
     let text =
     records_text-read c.args.frames image c.in_ok-id.id c.in_ok-records.records.items c.in_ok-counts.counts machine (c.in_ok-records.ensures.listed t image e c.args.frames) c.in_ok-records.ensures.within
-    (c.in_ok-counts.ensures.counts t image (ap words counting ∙ e)) in
+    (c.in_ok-counts.ensures.counts t image counting) in
     let said = ap (records_text c.in_ok-id.id (λ slot. get_or c.in_ok-counts.counts slot 0)) c.as_slice.ensures.value ∙ text in
     Says-behind _ fault start (g.H.Host.state c.load.new.self) told saying
     (subst (λ (bytes : List ℕ). Says (line_of (codes "ok" ++ bytes)) fault (g.H.Host.state c.load.new.self) told) said (c.say_list.ensures.says t))

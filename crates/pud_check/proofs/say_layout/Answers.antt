@@ -1,10 +1,9 @@
 use Rattle.std.proofs.Common.{ℕ, List, Some, None, ap, ◌∙◌, subst}
 use Rattle.std.proofs.lemmas.Result.{err_from_is_err_and}
 use Rattle.std.specs.List.{flat_map}
-use Rattle.pm_model.specs.Words.{reads}
-use Rattle.pm_model.specs.Moments.{State}
 use Rattle.pm_model.specs.Counts.{fault_of}
 use Rattle.pm_model.specs.Calls.{Says}
+use Rattle.pm_model.proofs.Reading.{still_reads}
 use Rattle.pm_model.proofs.Saying.{Says-behind}
 use Rattle.pud_defs.specs.declared.layout.TheConstants.{MACHINE_WORD, NEXT_NUMBER_WORD}
 use Rattle.pud_defs.specs.declared.records.PoolRec.{PoolRec}
@@ -18,17 +17,16 @@ pub returns-in_err-say-clause-says : goal.returns-in_err-say-clause-says
 returns-in_err-say-clause-says g c =
     let p = err_from_is_err_and c.from_residual-in_err-say.result c.from_residual-in_err-say.ensures.1 in
     rw (p.1, p.2) (λ t image e.
-    let words = λ (s : State). reads s.now.words in
-    let placing = c.in_ok-places.ensures.stays t in
-    let listing = c.in_ok-records.ensures.stays t ∙ placing in
-    let machine = c.in_ok-id.ensures.state t ∙ listing in
-    let number = c.in_ok-next.ensures.state t ∙ machine in
+    let placing = still_reads c.find_places.ensures.only_reads t e in
+    let listing = still_reads c.in_order.ensures.only_reads t placing in
+    let machine = still_reads c.load.ensures.only_reads t listing in
+    let number = c.load-2.ensures.only_reads.stays t ∙ c.load.ensures.only_reads.stays t ∙ c.in_order.ensures.only_reads.stays t ∙ c.find_places.ensures.only_reads.stays t in
     let fault = c.in_err-say.field-0.0 in
     let line = c.as_slice.ensures.value ∙ c.frames_line.ensures ∙ ap (λ (used : ℕ). frames_line c.args.frames used c.in_ok-next.next) c.used.ensures in
     Says-no_pools c.args.frames image c.in_ok-places.places c.in_ok-id.id c.in_ok-next.next c.in_ok-records.records.items (c.in_ok-places.ensures.places t image e) c.in_ok-places.ensures.count
-    (c.in_ok-id.ensures.value t ∙ ap (λ (s : State). words s MACHINE_WORD) listing ∙ (λ i. e i MACHINE_WORD))
-    (c.in_ok-next.ensures.value t ∙ ap (λ (s : State). words s NEXT_NUMBER_WORD) machine ∙ (λ i. e i NEXT_NUMBER_WORD))
-    (c.in_ok-records.ensures.listed t image (ap words placing ∙ e) c.args.frames) fault _ _
+    (c.in_ok-id.ensures.value t ∙ (λ i. listing i MACHINE_WORD))
+    (c.in_ok-next.ensures.value t ∙ (λ i. machine i NEXT_NUMBER_WORD))
+    (c.in_ok-records.ensures.listed t image placing c.args.frames) fault _ _
     (Says-behind _ (Some fault) _ _ _ number (subst (λ (bytes : List ℕ). Says bytes (Some fault) (g.H.Host.state c.load-2.new.self) (g.H.Host.state c.say.new.self)) line (c.in_err-say.ensures.said t))))
 
 pub returns-in_err-say-clause-sound : goal.returns-in_err-say-clause-sound
@@ -38,18 +36,17 @@ returns-in_err-say-clause-sound g c = λ t image e next sound all.
 
 pub returns-clause-says : goal.returns-clause-says
 returns-clause-says g c = λ t image e.
-    let words = λ (s : State). reads s.now.words in
-    let placing = c.in_ok-places.ensures.stays t in
-    let listing = c.in_ok-records.ensures.stays t ∙ placing in
-    let machine = c.in_ok-id.ensures.state t ∙ listing in
-    let number = c.in_ok-next.ensures.state t ∙ machine in
+    let placing = still_reads c.find_places.ensures.only_reads t e in
+    let listing = still_reads c.in_order.ensures.only_reads t placing in
+    let machine = still_reads c.load.ensures.only_reads t listing in
+    let number = c.load-2.ensures.only_reads.stays t ∙ c.load.ensures.only_reads.stays t ∙ c.in_order.ensures.only_reads.stays t ∙ c.find_places.ensures.only_reads.stays t in
     let fault = fault_of c.say_pools.result in
     let line = c.as_slice.ensures.value ∙ c.frames_line.ensures ∙ ap (λ (used : ℕ). frames_line c.args.frames used c.in_ok-next.next) c.used.ensures in
     let holds = c.in_ok-places.ensures.places t image e in
     let count = c.in_ok-places.ensures.count in
-    let id = c.in_ok-id.ensures.value t ∙ ap (λ (s : State). words s MACHINE_WORD) listing ∙ (λ i. e i MACHINE_WORD) in
-    let next = c.in_ok-next.ensures.value t ∙ ap (λ (s : State). words s NEXT_NUMBER_WORD) machine ∙ (λ i. e i NEXT_NUMBER_WORD) in
-    let listed = c.in_ok-records.ensures.listed t image (ap words placing ∙ e) c.args.frames in
+    let id = c.in_ok-id.ensures.value t ∙ (λ i. listing i MACHINE_WORD) in
+    let next = c.in_ok-next.ensures.value t ∙ (λ i. machine i NEXT_NUMBER_WORD) in
+    let listed = c.in_ok-records.ensures.listed t image placing c.args.frames in
     let said = Says-behind _ None _ _ _ number (subst (λ (bytes : List ℕ). Says bytes None (g.H.Host.state c.load-2.new.self) (g.H.Host.state c.say.new.self)) line (c.in_ok-say.ensures.said t)) in
     let here = holds_counted c.args.frames image c.in_ok-places.places holds count in
     Says-layout c.args.frames image c.in_ok-places.places c.in_ok-id.id c.in_ok-next.next c.in_ok-records.records.items holds count id next listed fault _ _ _ said

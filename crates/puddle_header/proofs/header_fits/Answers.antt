@@ -1,12 +1,11 @@
 use Rattle.std.proofs.Common.{◌≡◌, ℕ, ◌+◌, Bool, IfOk, sym, ap, subst, ◌∙◌, eq-eqb, ne_eqb}
-use Rattle.pm_model.specs.Words.{reads}
-use Rattle.pm_model.specs.Moments.{State}
 use Rattle.pud_defs.specs.declared.space.TheConstants.{FRAME_MAGIC_WORD, FRAME_NUMBER_WORD, FRAME_ORDINAL_WORD}
 use Rattle.pud_defs.specs.Image.{Image}
 use Rattle.pud_defs.specs.Frames.{frame_word}
 use Rattle.pud_defs.specs.Headers.{is_header}
 use Rattle.pud_defs.specs.Puddles.{puddle_record_at}
 use Rattle.puddle_header.proofs.Fits.{no_header, header_by_record}
+use Rattle.pm_model.proofs.Reading.{still_reads}
 use Rattle.puddle_header.proofs.header_fits.Goals as goal
 
 pub returns-then-member-eq0-clause-fits : goal.returns-then-member-eq0-clause-fits
@@ -16,8 +15,8 @@ returns-then-member-eq0-clause-fits g c = λ t image same.
 
 pub returns-clause-fits : goal.returns-clause-fits
 returns-clause-fits g c = λ t image same.
-    let first : reads (g.H.Loads.state c.load_word.new.self).now.words ≡ image = ap (λ (s : State). reads s.now.words) (c.load_word.ensures.state t) ∙ same in
-    let second : reads (g.H.Loads.state c.load_word-2.new.self).now.words ≡ image = ap (λ (s : State). reads s.now.words) (c.load_word-2.ensures.state t) ∙ first in
+    let first = still_reads c.load_word.ensures.only_reads t same in
+    let second = still_reads c.load_word-2.ensures.only_reads t first in
     let is = c.in_ok-member.ensures.value t ∙ ap (λ (i : Image). i (puddle_record_at c.args.frame)) same in
     let is_number = c.in_ok-number.ensures.value t ∙ ap (λ (i : Image). i (puddle_record_at c.args.frame + 1)) first in
     let asked =

@@ -1,7 +1,7 @@
 use Rattle.std.proofs.Common.{◌≡◌, refl, sym, ap, ◌∙◌, arith}
 use Rattle.pm_model.specs.Words.{reads}
 use Rattle.pm_model.specs.Moments.{State}
-use Rattle.pm_model.specs.Counts.{after_fault, fault_of}
+use Rattle.pm_model.proofs.Reading.{OnlyReads-none, OnlyReads-then, still_reads}
 use Rattle.pud_defs.specs.Image.{Image}
 use Rattle.pud_defs.specs.Puddles.{puddle_record_at}
 use Rattle.puddle_table.specs.Records.{frame_by}
@@ -13,22 +13,21 @@ returns-then-member-eq0-clause-frame g c = λ t image e none.
     let frame = c.loop-frame.frame in
     let within = c.loop-frame-test.true in
     let word : c.in_ok-member.member ≡ image (puddle_record_at frame) =
-    c.in_ok-member.ensures.value t ∙ ap (λ (s : State). reads s.now.words c.record_at.result) (c.loop-frame.invariant.stays t) ∙ ap (λ (f : Image). f c.record_at.result) e ∙ ap image c.record_at.ensures in
+    c.in_ok-member.ensures.value t ∙ ap (λ (f : Image). f c.record_at.result) (still_reads c.loop-frame.invariant.only_reads t e) ∙ ap image c.record_at.ensures in
     sym (ap frame_by (lowest_moved _ image c.args.frames c.args.from frame e (c.loop-frame.invariant.lowest t) ∙ lowest_here c.args.frames image frame (omega arith) (sym word ∙ c.if-member-eq0.true)))
 
 pub loop-frame-init : goal.loop-frame-init
-loop-frame-init g c = record { counts = refl; stays = λ t. refl; lowest = λ t. refl }
+loop-frame-init g c = record { only_reads = OnlyReads-none; lowest = λ t. refl }
 
 pub loop-frame-preserved : goal.loop-frame-preserved
 loop-frame-preserved g c = record {
-  counts = c.load.ensures.cause ∙ ap (λ r. after_fault (fault_of r) (g.H.Host.counts c.loop-frame.h)) c.in_ok-member.was ∙ c.loop-frame.invariant.counts;
-  stays = λ t. c.load.ensures.state t ∙ c.loop-frame.invariant.stays t;
+  only_reads = OnlyReads-then c.loop-frame.invariant.only_reads c.in_ok-member.ensures.only_reads;
   lowest = λ t.
       let frame = c.loop-frame.frame in
       let within = c.loop-frame-test.true in
       let image = reads (g.H.Host.state c.args.h.now).now.words in
       let word : c.in_ok-member.member ≡ image (puddle_record_at frame) =
-      c.in_ok-member.ensures.value t ∙ ap (λ (s : State). reads s.now.words c.record_at.result) (c.loop-frame.invariant.stays t) ∙ ap image c.record_at.ensures in
+      c.in_ok-member.ensures.value t ∙ ap (λ (s : State). reads s.now.words c.record_at.result) (c.loop-frame.invariant.only_reads.stays t) ∙ ap image c.record_at.ensures in
       c.loop-frame.invariant.lowest t ∙ lowest_later c.args.frames image frame (omega arith) (λ empty. c.if-member-eq0.false (word ∙ empty));
 }
 

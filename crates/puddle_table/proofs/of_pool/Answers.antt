@@ -1,7 +1,7 @@
-use Rattle.std.proofs.Common.{◌≡◌, true, false, Some, refl, sym, ap, ◌∙◌, arith}
+use Rattle.std.proofs.Common.{◌≡◌, true, false, Some, sym, ap, ◌∙◌, arith}
 use Rattle.pm_model.specs.Words.{reads}
 use Rattle.pm_model.specs.Moments.{State}
-use Rattle.pm_model.specs.Counts.{after_fault, fault_of}
+use Rattle.pm_model.proofs.Reading.{OnlyReads-none, OnlyReads-then, still_reads}
 use Rattle.pud_defs.specs.declared.records.PuddleRec.{PuddleRec}
 use Rattle.pud_defs.specs.Image.{Image}
 use Rattle.pud_defs.specs.Puddles.{puddle_record_at}
@@ -13,28 +13,27 @@ pub returns-then-names-clause-found : goal.returns-then-names-clause-found
 returns-then-names-clause-found g c = λ t image e.
     let frame = c.loop-frame.frame in
     let within = c.loop-frame-test.true in
-    let stays = c.loop-frame.invariant.stays t in
+    let before = still_reads c.loop-frame.invariant.only_reads t e in
     let word : c.in_ok-member.member ≡ image (puddle_record_at frame) =
-    c.in_ok-member.ensures.value t ∙ ap (λ (s : State). reads s.now.words c.record_at.result) stays ∙ ap (λ (f : Image). f c.record_at.result) e ∙ ap image c.record_at.ensures in
+    c.in_ok-member.ensures.value t ∙ ap (λ (f : Image). f c.record_at.result) before ∙ ap image c.record_at.ensures in
     let names : is_member (image (puddle_record_at frame)) c.args.pool c.args.ordinal ≡ true =
     ap (λ w. is_member w c.args.pool c.args.ordinal) (sym word) ∙ sym c.names.ensures ∙ c.if-names.true in
-    let read = c.in_ok-read_record.ensures.record t image (ap (λ (s : State). reads s.now.words) (c.load.ensures.state t ∙ stays) ∙ e) in
+    let read = c.in_ok-read_record.ensures.record t image (still_reads c.load.ensures.only_reads t before) in
     ap (λ (r : PuddleRec). Some (frame, r)) read
     ∙ sym (found_moved _ image c.args.frames c.args.pool c.args.ordinal frame e (c.loop-frame.invariant.found t) ∙ found_from-here c.args.frames image c.args.pool c.args.ordinal frame (omega arith) names)
 
 pub loop-frame-init : goal.loop-frame-init
-loop-frame-init g c = record { counts = refl; stays = λ t. refl; found = λ t. found_from-start c.args.frames (reads (g.H.Host.state c.args.h.now).now.words) c.args.pool c.args.ordinal }
+loop-frame-init g c = record { only_reads = OnlyReads-none; found = λ t. found_from-start c.args.frames (reads (g.H.Host.state c.args.h.now).now.words) c.args.pool c.args.ordinal }
 
 pub loop-frame-preserved : goal.loop-frame-preserved
 loop-frame-preserved g c = record {
-  counts = c.load.ensures.cause ∙ ap (λ r. after_fault (fault_of r) (g.H.Host.counts c.loop-frame.h)) c.in_ok-member.was ∙ c.loop-frame.invariant.counts;
-  stays = λ t. c.load.ensures.state t ∙ c.loop-frame.invariant.stays t;
+  only_reads = OnlyReads-then c.loop-frame.invariant.only_reads c.in_ok-member.ensures.only_reads;
   found = λ t.
       let frame = c.loop-frame.frame in
       let within = c.loop-frame-test.true in
       let image = reads (g.H.Host.state c.args.h.now).now.words in
       let word : c.in_ok-member.member ≡ image (puddle_record_at frame) =
-      c.in_ok-member.ensures.value t ∙ ap (λ (s : State). reads s.now.words c.record_at.result) (c.loop-frame.invariant.stays t) ∙ ap image c.record_at.ensures in
+      c.in_ok-member.ensures.value t ∙ ap (λ (s : State). reads s.now.words c.record_at.result) (c.loop-frame.invariant.only_reads.stays t) ∙ ap image c.record_at.ensures in
       let names : is_member (image (puddle_record_at frame)) c.args.pool c.args.ordinal ≡ false =
       ap (λ w. is_member w c.args.pool c.args.ordinal) (sym word) ∙ sym c.names.ensures ∙ c.if-names.false in
       c.loop-frame.invariant.found t ∙ found_from-other c.args.frames image c.args.pool c.args.ordinal frame (omega arith) names;

@@ -3,8 +3,7 @@ use Rattle.std.specs.Prelude.{is_some}
 use Rattle.std.proofs.lemmas.Result.{err_from_is_err_and}
 use Rattle.pm_model.specs.Words.{reads}
 use Rattle.pm_model.specs.Counts.{Counts}
-use Rattle.pm_model.proofs.Changes.{Changes-still}
-use Rattle.log_replay.specs.Replaying.{Anything}
+use Rattle.pm_model.proofs.Reading.{Changes-read}
 use Rattle.log_replay.proofs.Applying.{any_then}
 use Rattle.pud_defs.specs.World.{world_of}
 use Rattle.pud_defs.proofs.Worlds.{world_of-sound, world_of-unsound}
@@ -16,17 +15,17 @@ use Rattle.registry.proofs.apply_sound.Goals as goal
 pub returns-in_err-frames-clause-settles : goal.returns-in_err-frames-clause-settles
 returns-in_err-frames-clause-settles g c =
     let p = err_from_is_err_and c.from_residual.result c.from_residual.ensures.1 in
-    rw (p.1, p.2) (λ t sound. SettlesLog-failed _ _ _ c.in_err-frames.ensures.never_cut (c.in_err-frames.ensures.stays t))
+    rw (p.1, p.2) (λ t sound. SettlesLog-failed _ _ _ c.in_err-frames.ensures.only_reads.never_cut (c.in_err-frames.ensures.only_reads.stays t))
 
 pub returns-in_err-frames-clause-applies : goal.returns-in_err-frames-clause-applies
 returns-in_err-frames-clause-applies g c =
     let p = err_from_is_err_and c.from_residual.result c.from_residual.ensures.1 in
-    rw (p.1, p.2) (λ t size same s rested world. AppliesLog-failed size s _ _ _ rested world (c.in_err-frames.ensures.stays t))
+    rw (p.1, p.2) (λ t size same s rested world. AppliesLog-failed size s _ _ _ rested world (c.in_err-frames.ensures.only_reads.stays t))
 
 -- it is refused
 
 pub returns-in_default-clause-unchanged : goal.returns-in_default-clause-unchanged
-returns-in_default-clause-unchanged g c = λ t refused. c.in_ok-frames.ensures.stays t
+returns-in_default-clause-unchanged g c = λ t refused. c.in_ok-frames.ensures.only_reads.stays t
 
 pub returns-in_default-clause-not_sound : goal.returns-in_default-clause-not_sound
 returns-in_default-clause-not_sound g c = λ t none.
@@ -38,7 +37,7 @@ returns-in_default-clause-applies g c = λ t size same s rested world.
     let it : None ≡ Some s = sym none ∙ ap (λ (n : ℕ). world_of n (reads (g.H.Host.state c.args.h.now).now.words)) (sym same) ∙ world in cc)
 
 pub returns-in_default-clause-any : goal.returns-in_default-clause-any
-returns-in_default-clause-any g c = λ t. Changes-still Anything None _ _ (λ cut. cc) (c.in_ok-frames.ensures.stays t)
+returns-in_default-clause-any g c = Changes-read c.in_ok-frames.ensures.only_reads
 
 -- its log is applied
 
@@ -47,15 +46,15 @@ returns-in_err-settle_log-clause-settles g c =
     let p = err_from_is_err_and c.from_residual-in_err-settle_log.result c.from_residual-in_err-settle_log.ensures.1 in
     rw (p.1, p.2) (λ t judged.
     let sound = sym (c.in_ok-frames.ensures.sound t) ∙ ap is_some c.in-Some.is in
-    settles_sound _ _ _ (g.H.Host.state c.sound_frames.new.h) _ (c.in_ok-frames.ensures.stays t) sound
-    (c.in_err-settle_log.ensures.settles t _ (sym (ap (λ (n : Counts). n.size) c.in_ok-frames.ensures.cause))))
+    settles_sound _ _ _ (g.H.Host.state c.sound_frames.new.h) _ (c.in_ok-frames.ensures.only_reads.stays t) sound
+    (c.in_err-settle_log.ensures.settles t _ (sym (ap (λ (n : Counts). n.size) c.in_ok-frames.ensures.only_reads.cause))))
 
 pub returns-in_err-settle_log-clause-applies : goal.returns-in_err-settle_log-clause-applies
 returns-in_err-settle_log-clause-applies g c =
     let p = err_from_is_err_and c.from_residual-in_err-settle_log.result c.from_residual-in_err-settle_log.ensures.1 in
     rw (p.1, p.2) (λ t size same s rested world.
-    let after = same ∙ sym (ap (λ (n : Counts). n.size) c.in_ok-frames.ensures.cause) in
-    AppliesLog-sound size s _ _ (g.H.Host.state c.sound_frames.new.h) _ (c.in_ok-frames.ensures.stays t) rested world
+    let after = same ∙ sym (ap (λ (n : Counts). n.size) c.in_ok-frames.ensures.only_reads.cause) in
+    AppliesLog-sound size s _ _ (g.H.Host.state c.sound_frames.new.h) _ (c.in_ok-frames.ensures.only_reads.stays t) rested world
     (c.in_err-settle_log.ensures.settles t size after) (c.in_err-settle_log.ensures.same t refl size after))
 
 pub returns-clause-not_sound : goal.returns-clause-not_sound
@@ -65,15 +64,15 @@ returns-clause-not_sound g c = λ t _.
 pub returns-clause-settles : goal.returns-clause-settles
 returns-clause-settles g c = λ t judged.
     let sound = sym (c.in_ok-frames.ensures.sound t) ∙ ap is_some c.in-Some.is in
-    settles_sound _ None _ (g.H.Host.state c.sound_frames.new.h) _ (c.in_ok-frames.ensures.stays t) sound
-    (c.in_ok-settle_log.ensures.settles t _ (sym (ap (λ (n : Counts). n.size) c.in_ok-frames.ensures.cause)))
+    settles_sound _ None _ (g.H.Host.state c.sound_frames.new.h) _ (c.in_ok-frames.ensures.only_reads.stays t) sound
+    (c.in_ok-settle_log.ensures.settles t _ (sym (ap (λ (n : Counts). n.size) c.in_ok-frames.ensures.only_reads.cause)))
 
 pub returns-clause-applies : goal.returns-clause-applies
 returns-clause-applies g c = λ t size same s rested world.
-    let after = same ∙ sym (ap (λ (n : Counts). n.size) c.in_ok-frames.ensures.cause) in
-    AppliesLog-sound size s None _ (g.H.Host.state c.sound_frames.new.h) _ (c.in_ok-frames.ensures.stays t) rested world
+    let after = same ∙ sym (ap (λ (n : Counts). n.size) c.in_ok-frames.ensures.only_reads.cause) in
+    AppliesLog-sound size s None _ (g.H.Host.state c.sound_frames.new.h) _ (c.in_ok-frames.ensures.only_reads.stays t) rested world
     (c.in_ok-settle_log.ensures.settles t size after) (c.in_ok-settle_log.ensures.same t refl size after)
 
 pub returns-clause-any : goal.returns-clause-any
 returns-clause-any g c = λ t.
-    any_then None _ (g.H.Host.state c.sound_frames.new.h) _ (Changes-still Anything None _ _ (λ cut. cc) (c.in_ok-frames.ensures.stays t)) (c.in_ok-settle_log.ensures.any t)
+    any_then None _ (g.H.Host.state c.sound_frames.new.h) _ (Changes-read c.in_ok-frames.ensures.only_reads t) (c.in_ok-settle_log.ensures.any t)

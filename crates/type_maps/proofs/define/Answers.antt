@@ -9,7 +9,7 @@ use Rattle.type_maps.proofs.define.Goals as goal
 pub returns-in_err-defined-clause-defines : goal.returns-in_err-defined-clause-defines
 returns-in_err-defined-clause-defines g c =
     let p = err_from_is_err_and c.from_residual.result c.from_residual.ensures.1 in
-    rw (p.1, p.2) (λ t r place. Defines-none r c.args.id c.args.map _ _ _ c.in_err-defined.ensures.never_cut (c.look_up.ensures.stays t))
+    rw (p.1, p.2) (λ t r place. Defines-none r c.args.id c.args.map _ _ _ c.in_err-defined.ensures.only_reads.never_cut (c.look_up.ensures.only_reads.stays t))
 
 pub write_record-requires-clause-within : goal.write_record-requires-clause-within
 write_record-requires-clause-within g c = rw c.in-Free.is at c.in_ok-defined.ensures.within
@@ -23,6 +23,3 @@ returns-in_ok-write_record-in-Free-clause-refusal g c = λ t none. sym (free_acc
 pub returns-then-defined-map-clause-refusal : goal.returns-then-defined-map-clause-refusal
 returns-then-defined-map-clause-refusal g c = λ t none.
     sym (same_accepts (reads (g.H.Host.state c.args.h.now).now.words) c.args.id c.args.map _ (ap (λ id. place_of (reads (g.H.Host.state c.args.h.now).now.words) id) (sym c.from.ensures) ∙ sym (c.in_ok-defined.ensures.place t) ∙ c.in-Defined.is) (let same = c.if-defined-map.true in omega arith))
-
-pub returns-else-defined-map-clause-idle : goal.returns-else-defined-map-clause-idle
-returns-else-defined-map-clause-idle g c = λ t none. c.look_up.ensures.stays t

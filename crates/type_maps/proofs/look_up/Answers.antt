@@ -1,22 +1,22 @@
-use Rattle.std.proofs.Common.{◌≡◌, ℕ, ◌+◌, ◌<◌, ◌∙◌, IfSome, None, Option, refl, sym, ap, subst, arith}
+use Rattle.std.proofs.Common.{◌≡◌, ℕ, ◌+◌, ◌<◌, ◌∙◌, IfSome, None, Option, sym, ap, subst, arith}
 use Rattle.pm_model.specs.Words.{reads}
-use Rattle.pm_model.specs.Counts.{after_fault, fault_of}
 use Rattle.type_maps.specs.declared.Place.TheVariants.{Defined}
 use Rattle.pm_model.specs.Moments.{State}
 use Rattle.pud_defs.specs.declared.layout.TheConstants.{TYPE_RECORDS}
 use Rattle.pud_defs.specs.Types.{type_record_at}
 use Rattle.type_maps.specs.Define.{place_by}
 use Rattle.type_maps.proofs.LookUp.{place_from, place_from-start, place_from-free, place_from-other, place_from-here, place_from-end, either_within}
+use Rattle.pm_model.proofs.Reading.{OnlyReads-none, OnlyReads-then}
 use Rattle.type_maps.proofs.look_up.Goals as goal
 use Rattle.type_maps.proofs.look_up.Goals.{then-used_by-eq0, else-used_by-eq0+else-used_by-id}
 
 pub returns-then-used_by-id-clause-place : goal.returns-then-used_by-id-clause-place
 returns-then-used_by-id-clause-place g c = λ t.
     let i = c.loop-record.record in
-    let stays = c.loop-record.invariant.stays t in
+    let stays = c.loop-record.invariant.only_reads.stays t in
     let image = reads (g.H.Loads.state c.args.h.now).now.words in
     let word : c.in_ok-used_by.used_by ≡ image (type_record_at i) = c.in_ok-used_by.ensures.value t ∙ ap (λ (s : State). reads s.now.words (type_record_at i)) stays in
-    let map : c.in_ok-load_word.field-0 ≡ image (type_record_at i + 1) = c.in_ok-load_word.ensures.value t ∙ ap (λ (s : State). reads s.now.words (type_record_at i + 1)) (c.load_word.ensures.state t ∙ stays) in
+    let map : c.in_ok-load_word.field-0 ≡ image (type_record_at i + 1) = c.in_ok-load_word.ensures.value t ∙ ap (λ (s : State). reads s.now.words (type_record_at i + 1)) (c.load_word.ensures.only_reads.stays t ∙ stays) in
     let here : image (type_record_at i) ≡ c.args.id = omega arith in
     ap (λ n. Defined n) map
     ∙ sym (c.loop-record.invariant.place t ∙ place_from-here image c.args.id c.loop-record.free i (omega arith) (λ zero. absurd (omega arith)) here)
@@ -24,8 +24,7 @@ returns-then-used_by-id-clause-place g c = λ t.
 pub loop-record-init : goal.loop-record-init
 loop-record-init g c = record {
   within = tt;
-  counts = refl;
-  stays = λ t. refl;
+  only_reads = OnlyReads-none;
   place = λ t. place_from-start (reads (g.H.Loads.state c.args.h.now).now.words) c.args.id;
 }
 
@@ -35,12 +34,11 @@ loop-record-preserved g c = record {
     | then-used_by-eq0 w ↦ subst (λ (f : Option ℕ). IfSome f (λ r. r < TYPE_RECORDS)) (sym (w.free-is ∙ w.or-free.ensures)) (either_within c.loop-record.free c.loop-record.record c.loop-record.invariant.within (omega arith))
     | else-used_by-eq0+else-used_by-id w ↦ subst (λ (f : Option ℕ). IfSome f (λ r. r < TYPE_RECORDS)) (sym w.free-is) c.loop-record.invariant.within
   ];
-  counts = c.load_word.ensures.cause ∙ ap (λ r. after_fault (fault_of r) (g.H.Loads.counts c.loop-record.h)) c.in_ok-used_by.was ∙ c.loop-record.invariant.counts;
-  stays = λ t. c.load_word.ensures.state t ∙ c.loop-record.invariant.stays t;
+  only_reads = OnlyReads-then c.loop-record.invariant.only_reads c.in_ok-used_by.ensures.only_reads;
   place = λ t.
       let i = c.loop-record.record in
       let image = reads (g.H.Loads.state c.args.h.now).now.words in
-      let word : c.in_ok-used_by.used_by ≡ image (type_record_at i) = c.in_ok-used_by.ensures.value t ∙ ap (λ (s : State). reads s.now.words (type_record_at i)) (c.loop-record.invariant.stays t) in
+      let word : c.in_ok-used_by.used_by ≡ image (type_record_at i) = c.in_ok-used_by.ensures.value t ∙ ap (λ (s : State). reads s.now.words (type_record_at i)) (c.loop-record.invariant.only_reads.stays t) in
       c.loop-record.invariant.place t ∙ elim c.if-used_by-eq0.branch [
         | then-used_by-eq0 w ↦
             let empty : image (type_record_at i) ≡ 0 = omega arith in

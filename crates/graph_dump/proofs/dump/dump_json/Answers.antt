@@ -1,6 +1,4 @@
-use Rattle.std.proofs.Common.{◌≡◌, ◌<◌, length, map, ap, sym, ◌∙◌, arith, ℕ}
-use Rattle.pm_model.specs.Words.{reads}
-use Rattle.pm_model.specs.Moments.{State}
+use Rattle.std.proofs.Common.{◌<◌, length, map, ap, sym, ◌∙◌, arith, ℕ}
 use Rattle.pud_defs.specs.declared.space.TheConstants.{NEXT_SERIAL_WORD, ROOT_WORD}
 use Rattle.pud_defs.specs.Types.{types_of}
 use Rattle.pud_defs.specs.Graph.{pointee_at, named_by}
@@ -8,6 +6,7 @@ use Rattle.graph_read.specs.Reading.{table_in}
 use Rattle.graph_read.proofs.Held.{none_held}
 use Rattle.graph_read.proofs.Judging.{first_word, positive_length}
 use Rattle.graph_dump.proofs.Dumped.{dumped}
+use Rattle.pm_model.proofs.Reading.{still_reads}
 use Rattle.graph_dump.proofs.dump.dump_json.Goals as goal
 
 pub returns-then-is_empty-clause-text : goal.returns-then-is_empty-clause-text
@@ -18,10 +17,10 @@ returns-clause-text g c = λ t image same graph stored.
     let F = c.args.frames in
     let at = c.args.pool.now in
     let some : 0 < length at = positive_length at (sym c.is_empty.ensures ∙ c.if-is_empty.false) in
-    let second : reads (g.H.Host.state c.next_serial.new.h).now.words ≡ image = ap (λ (s : State). reads s.now.words) (c.next_serial.ensures.stays t) ∙ same in
-    let third : reads (g.H.Host.state c.root_value.new.h).now.words ≡ image = ap (λ (s : State). reads s.now.words) (c.root_value.ensures.stays t) ∙ second in
-    let fourth : reads (g.H.Host.state c.serial_behind.new.h).now.words ≡ image = ap (λ (s : State). reads s.now.words) (c.serial_behind.ensures.stays t) ∙ third in
-    let fifth : reads (g.H.Host.state c.live_places.new.h).now.words ≡ image = ap (λ (s : State). reads s.now.words) (c.live_places.ensures.stays t) ∙ fourth in
+    let second = still_reads c.next_serial.ensures.only_reads t same in
+    let third = still_reads c.root_value.ensures.only_reads t second in
+    let fourth = still_reads c.serial_behind.ensures.only_reads t third in
+    let fifth = still_reads c.live_places.ensures.only_reads t fourth in
     dumped F at image graph c.in_ok-next.next c.in_ok-root-2.root c.in_ok-places.places.entries c.in_ok-text.text.items c.dump_objects.new.text.items c.put_root.new.text.items stored
     (c.in_ok-next.ensures.word t image same ∙ first_word F at image NEXT_SERIAL_WORD some (omega arith))
     (c.in_ok-root-2.ensures.serial t image third

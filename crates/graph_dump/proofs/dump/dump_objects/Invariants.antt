@@ -1,10 +1,11 @@
-use Rattle.std.proofs.Common.{◌≡◌, ◌++◌, ◌<◌, map, All}
+use Rattle.std.proofs.Common.{None, ◌≡◌, ◌++◌, ◌<◌, map, All}
 use Rattle.std.specs.Map.{values_of}
 use Rattle.pm_model.specs.Words.{Image, reads}
 use Rattle.pud_defs.specs.DumpText.{joined}
 use Rattle.puddle_header.specs.Places.{places_in}
 use Rattle.graph_dump.specs.Read.{entry_text}
 use Rattle.graph_dump.proofs.Joining.{joined_from}
+use Rattle.pm_model.specs.Reads.{OnlyReads}
 use Rattle.graph_dump.proofs.dump.dump_objects.Given as goal
 
 abbrev pub invariant-loop-serial : goal.invariant-loop-serial
@@ -12,6 +13,5 @@ invariant-loop-serial g l = record {
   text : g.H.Host.tells → (image : Image) → reads (g.H.Host.state l.initial.h).now.words ≡ image
       → l.text.items ++ joined_from l.is_first (map (entry_text l.frames l.pool image) l.serial-iterator) ≡ l.initial.text.items ++ joined (map (entry_text l.frames l.pool image) l.places.entries);
   within : All (λ p. p < places_in l.pool) (values_of l.serial-iterator);
-  counts : g.H.Host.counts l.h ≡ g.H.Host.counts l.initial.h;
-  stays : g.H.Host.tells → g.H.Host.state l.h ≡ g.H.Host.state l.initial.h;
+  only_reads : OnlyReads g.H.Host.tells g.H.Host.state g.H.Host.counts None l.initial.h l.h;
 }

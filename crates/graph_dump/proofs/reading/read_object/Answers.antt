@@ -1,17 +1,16 @@
 use Rattle.std.proofs.Common.{◌≡◌, ap, sym, ◌∙◌, take, ℕ}
-use Rattle.pm_model.specs.Words.{reads}
-use Rattle.pm_model.specs.Moments.{State}
 use Rattle.pud_defs.specs.Types.{types_of, map_of}
 use Rattle.graph_dump.specs.Read.{field_values}
 use Rattle.graph_dump.proofs.Objects.{object_at-read}
+use Rattle.pm_model.proofs.Reading.{still_reads}
 use Rattle.graph_dump.proofs.reading.read_object.Goals as goal
 
 pub returns-in_ok-values-in-Some-clause-object : goal.returns-in_ok-values-in-Some-clause-object
 returns-in_ok-values-in-Some-clause-object g c = λ t image same.
     let F = c.args.frames in
     let pool = c.args.pool.now in
-    let first : reads (g.H.Host.state c.type_at.new.h).now.words ≡ image = ap (λ (s : State). reads s.now.words) (c.type_at.ensures.stays t) ∙ same in
-    let second : reads (g.H.Host.state c.find.new.h).now.words ≡ image = ap (λ (s : State). reads s.now.words) (c.find.ensures.stays t) ∙ first in
+    let first = still_reads c.type_at.ensures.only_reads t same in
+    let second = still_reads c.find.ensures.only_reads t first in
     let id = c.in_ok-type_id.ensures.id t image same in
     let defined = ap (λ i. map_of i (types_of image)) (sym id) ∙ sym (c.in_ok-map_word.ensures.map t image first) ∙ c.in-Some.is in
     let values : take c.field_count.result c.in_ok-values-in-Some.values ≡ field_values F pool image c.args.place c.in-Some.map_word =

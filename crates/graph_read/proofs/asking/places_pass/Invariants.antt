@@ -1,4 +1,4 @@
-use Rattle.std.proofs.Common.{◌≡◌, true, slice_index}
+use Rattle.std.proofs.Common.{None, ◌≡◌, true, slice_index}
 use Rattle.pm_model.specs.Words.{reads}
 use Rattle.pud_defs.specs.Graph.{table_of}
 use Rattle.pud_defs.specs.Image.{Image}
@@ -6,12 +6,12 @@ use Rattle.pud_defs.specs.Spaces.{all_below}
 use Rattle.pud_defs.specs.Stored.{stored_in}
 use Rattle.pud_defs.specs.Types.{types_of}
 use Rattle.graph_read.specs.Asking.{place_passes, with_serials}
+use Rattle.pm_model.specs.Reads.{OnlyReads}
 use Rattle.graph_read.proofs.asking.places_pass.Given as goal
 
 abbrev pub invariant-loop-place : goal.invariant-loop-place
 invariant-loop-place g l = record {
-  counts : g.H.Loads.counts l.h ≡ g.H.Loads.counts l.initial.h;
-  stays : g.H.Loads.tells → g.H.Loads.state l.h ≡ g.H.Loads.state l.initial.h;
+  only_reads : OnlyReads g.H.Loads.tells g.H.Loads.state g.H.Loads.counts None l.initial.h l.h;
   passed : g.H.Loads.tells → (image : Image) → reads (g.H.Loads.state l.initial.h).now.words ≡ image
       → all_below l.place (place_passes l.asked (with_serials (slice_index l.serials) (table_of (types_of image) (stored_in l.frames l.pool image)))) ≡ true;
 }

@@ -1,16 +1,15 @@
 use Rattle.std.proofs.Common.{◌≡◌, ℕ, ◌∙◌, ap, sym, subst, IfOk, Option, Some, option_map}
-use Rattle.pm_model.specs.Words.{reads}
-use Rattle.pm_model.specs.Moments.{State}
 use Rattle.pud_defs.specs.Graph.{Object, object_at}
 use Rattle.puddle_header.specs.Places.{place_of_slot}
 use Rattle.graph_read.specs.Reading.{table_in, place_in_pool, read_by}
 use Rattle.graph_read.proofs.Found.{object_in-place}
+use Rattle.pm_model.proofs.Reading.{still_reads}
 use Rattle.graph_read.proofs.fields.read_field.Goals as goal
 
 pub returns-in-Some-clause-read : goal.returns-in-Some-clause-read
 returns-in-Some-clause-read g c = λ t image same.
     let place : Some (place_of_slot c.in-Some.at) ≡ place_in_pool c.args.frames c.args.pool.now image c.args.s = ap (option_map place_of_slot) (sym c.in-Some.is) ∙ c.in_ok-at.ensures.found t image same in
-    let before : reads (g.H.Loads.state c.find_serial.new.h).now.words ≡ image = ap (λ (s : State). reads s.now.words) (c.find_serial.ensures.stays t) ∙ same in
+    let before = still_reads c.find_serial.ensures.only_reads t same in
     subst (λ (o : Option ℕ). IfOk c.field_at.result (λ read. read ≡ read_by (option_map (object_at (table_in c.args.frames c.args.pool.now image)) o) c.args.f)) place
     (c.field_at.ensures.read t image before)
 

@@ -1,8 +1,6 @@
 use Rattle.std.proofs.Common.{◌≡◌, ◌+◌, ◌∙◌, ap, sym, arith}
 use Rattle.std.specs.Prelude.{map}
 use Rattle.std.proofs.lemmas.Bool.{cond-true}
-use Rattle.pm_model.specs.Words.{reads}
-use Rattle.pm_model.specs.Moments.{State}
 use Rattle.pud_defs.specs.declared.space.TheConstants.{SLOT_FIELDS_WORD}
 use Rattle.pud_defs.specs.declared.objects.Val.TheVariants.{Ref}
 use Rattle.pud_defs.specs.Stored.{stored_in, place_word}
@@ -11,6 +9,7 @@ use Rattle.puddle_header.specs.Places.{place_of_slot}
 use Rattle.graph_read.specs.Reading.{table_in}
 use Rattle.puddle_header.proofs.Placed.{slot_at_place}
 use Rattle.graph_read.proofs.Fielded.{value_at-slot}
+use Rattle.pm_model.proofs.Reading.{still_reads}
 use Rattle.graph_read.proofs.fields.value_at.Goals as goal
 
 pub returns-in_ok-serial-clause-value : goal.returns-in_ok-serial-clause-value
@@ -20,7 +19,7 @@ returns-in_ok-serial-clause-value g c = λ t image same.
     let puddles = map (λ e. e.1) pool in
     let serial = (table_in c.args.frames pool image).serial in
     let word = place_word (stored_in c.args.frames pool image) (place_of_slot at) (SLOT_FIELDS_WORD + c.args.f) in
-    let read : reads (g.H.Loads.state c.slot_field.new.h).now.words ≡ image = ap (λ (s : State). reads s.now.words) (c.slot_field.ensures.stays t) ∙ same in
+    let read = still_reads c.slot_field.ensures.only_reads t same in
     let value : c.in_ok-value.value ≡ word = c.in_ok-value.ensures.word t image same ∙ slot_at_place c.args.frames pool image (SLOT_FIELDS_WORD + c.args.f) at c.requires.within (omega arith) in
     ap (λ s. Ref s) (c.in_ok-serial.ensures.serial t image read)
     ∙ ap (λ v. Ref (named_by serial (pointee_at puddles at.ordinal (at.slot + 1) v))) value

@@ -1,6 +1,4 @@
 use Rattle.std.proofs.Common.{◌<◌, length, slice_index, sym, ap, ◌∙◌}
-use Rattle.pm_model.specs.Words.{reads}
-use Rattle.pm_model.specs.Moments.{State}
 use Rattle.pud_defs.specs.Graph.{named_by, table_of}
 use Rattle.pud_defs.specs.Spaces.{all_below}
 use Rattle.pud_defs.specs.Stored.{stored_in}
@@ -9,6 +7,7 @@ use Rattle.graph_read.specs.declared.asking.Asked.TheVariants.{Spares}
 use Rattle.graph_read.specs.Asking.{content_of, place_passes, with_serials}
 use Rattle.graph_read.proofs.Held.{held, none_held}
 use Rattle.graph_read.proofs.Judging.{root_read, same_places, positive_length}
+use Rattle.pm_model.proofs.Reading.{still_reads}
 use Rattle.graph_read.proofs.holders.is_held.Goals as goal
 
 pub returns-then-is_empty-clause-held : goal.returns-then-is_empty-clause-held
@@ -20,8 +19,8 @@ returns-clause-held g c = λ t image same graph stored.
     let st = stored_in c.args.frames at image in
     let serial = slice_index c.in_ok-serials.serials in
     let some : 0 < length at = positive_length at (sym c.is_empty.ensures ∙ c.if-is_empty.false) in
-    let second = ap (λ (s : State). reads s.now.words) (c.root_value.ensures.stays t) ∙ same in
-    let third = ap (λ (s : State). reads s.now.words) (c.read_serials.ensures.stays t) ∙ second in
+    let second = still_reads c.root_value.ensures.only_reads t same in
+    let third = still_reads c.read_serials.ensures.only_reads t second in
     c.holds.ensures
     ∙ held (types_of image) st graph c.args.s serial c.named-root.result c.in_ok-slots.slots stored (c.in_ok-serials.ensures.serials t image second)
     (c.named-root.ensures ∙ ap (λ p. named_by serial (content_of p)) c.read_pointer.ensures.pointee ∙ ap (named_by serial) (root_read c.args.frames at image c.in_ok-root.root some (c.in_ok-root.ensures.word t image same)))

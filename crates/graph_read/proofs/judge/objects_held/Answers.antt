@@ -1,6 +1,4 @@
 use Rattle.std.proofs.Common.{◌&&◌, nat_cmp, ◌<◌, length, option_map, slice_index, sym, ap, ◌∙◌, arith}
-use Rattle.pm_model.specs.Words.{reads}
-use Rattle.pm_model.specs.Moments.{State}
 use Rattle.pud_defs.specs.declared.space.TheConstants.{NEXT_SERIAL_WORD}
 use Rattle.pud_defs.specs.Stored.{stored_in}
 use Rattle.pud_defs.specs.Types.{types_of}
@@ -11,6 +9,7 @@ use Rattle.graph_read.specs.declared.asking.Asked.TheVariants.{IsSound}
 use Rattle.graph_read.specs.Asking.{content_of, place_passes, with_serials}
 use Rattle.graph_read.proofs.Counted.{objects_counted}
 use Rattle.graph_read.proofs.Judging.{judged, first_word, root_read, same_places, positive_length, none_without_puddles}
+use Rattle.pm_model.proofs.Reading.{still_reads}
 use Rattle.graph_read.proofs.judge.objects_held.Goals as goal
 
 pub returns-then-is_empty-clause-held : goal.returns-then-is_empty-clause-held
@@ -23,10 +22,10 @@ returns-clause-held g c = λ t image same.
     let st = stored_in c.args.frames at image in
     let serial = slice_index c.in_ok-serials.serials in
     let some : 0 < length at = positive_length at (sym c.is_empty.ensures ∙ c.if-is_empty.false) in
-    let second = ap (λ (s : State). reads s.now.words) (c.headers_fit.ensures.stays t) ∙ same in
-    let third = ap (λ (s : State). reads s.now.words) (c.next_serial.ensures.stays t) ∙ second in
-    let fourth = ap (λ (s : State). reads s.now.words) (c.root_value.ensures.stays t) ∙ third in
-    let fifth = ap (λ (s : State). reads s.now.words) (c.read_serials.ensures.stays t) ∙ fourth in
+    let second = still_reads c.headers_fit.ensures.only_reads t same in
+    let third = still_reads c.next_serial.ensures.only_reads t second in
+    let fourth = still_reads c.root_value.ensures.only_reads t third in
+    let fifth = still_reads c.read_serials.ensures.only_reads t fourth in
     let places = same_places c.args.frames at image in
     let counted = c.places_among-places.ensures ∙ places in
     let sound = c.are_all-sound.ensures

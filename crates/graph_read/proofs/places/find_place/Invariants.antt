@@ -1,15 +1,15 @@
-use Rattle.std.proofs.Common.{◌≡◌}
+use Rattle.std.proofs.Common.{None, ◌≡◌}
 use Rattle.pm_model.specs.Words.{reads}
 use Rattle.pud_defs.specs.Image.{Image}
 use Rattle.puddle_header.specs.Places.{places_in}
 use Rattle.graph_read.specs.Reading.{table_in, place_in_pool}
 use Rattle.graph_read.proofs.Found.{place_from}
+use Rattle.pm_model.specs.Reads.{OnlyReads}
 use Rattle.graph_read.proofs.places.find_place.Given as goal
 
 abbrev pub invariant-loop-place : goal.invariant-loop-place
 invariant-loop-place g l = record {
-  counts : g.H.Loads.counts l.h ≡ g.H.Loads.counts l.initial.h;
-  stays : g.H.Loads.tells → g.H.Loads.state l.h ≡ g.H.Loads.state l.initial.h;
+  only_reads : OnlyReads g.H.Loads.tells g.H.Loads.state g.H.Loads.counts None l.initial.h l.h;
   found : g.H.Loads.tells → (image : Image) → reads (g.H.Loads.state l.initial.h).now.words ≡ image
       → place_in_pool l.frames l.pool image l.s ≡ place_from (table_in l.frames l.pool image) (places_in l.pool) l.s l.place;
 }

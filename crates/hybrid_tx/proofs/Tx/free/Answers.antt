@@ -1,9 +1,9 @@
-use Rattle.std.proofs.Common.{Option, None, IfSome, option_map, ap, sym, subst, refl, ◌∙◌}
+use Rattle.std.proofs.Common.{Option, IfSome, option_map, ap, sym, subst, refl, ◌∙◌}
 use Rattle.std.proofs.lemmas.Option.{none-some}
 use Rattle.std.proofs.lemmas.Result.{err_from_is_err_and}
 use Rattle.pm_model.specs.Words.{reads}
 use Rattle.pm_model.specs.Counts.{fault_of}
-use Rattle.pm_model.proofs.Changes.{Changes-still}
+use Rattle.pm_model.proofs.Reading.{Changes-read}
 use Rattle.pud_defs.specs.declared.records.Slot.{Slot}
 use Rattle.puddle_header.specs.Places.{place_of_slot, IsSlotOf}
 use Rattle.hybrid_tx.proofs.FieldsSet.{placed_if_live}
@@ -14,20 +14,20 @@ use Rattle.hybrid_tx.proofs.Tx.free.Goals as goal
 pub returns-in_err-at-clause-changes : goal.returns-in_err-at-clause-changes
 returns-in_err-at-clause-changes g c =
     let p = err_from_is_err_and c.from_residual.result c.from_residual.ensures.1 in
-    rw (p.1, p.2) (λ t. Changes-still _ _ _ _ c.in_err-at.ensures.never_cut (c.in_err-at.ensures.stays t))
+    rw (p.1, p.2) (λ t. Changes-read c.in_err-at.ensures.only_reads t)
 
 pub returns-in_err-at-clause-runs : goal.returns-in_err-at-clause-runs
 returns-in_err-at-clause-runs g c =
     let p = err_from_is_err_and c.from_residual.result c.from_residual.ensures.1 in
     rw (p.1, p.2) (λ t types before undone now laters placed is_open may unnamed.
-    RunsOn-stopped _ _ types c.args.self.now _ before undone now laters _ _ _ _ _ refl c.in_err-at.ensures.never_cut (c.in_err-at.ensures.stays t) is_open)
+    RunsOn-stopped _ _ types c.args.self.now.log _ before undone now laters _ _ _ refl c.in_err-at.ensures.only_reads t is_open)
 
 pub returns-in-Some-clause-runs : goal.returns-in-Some-clause-runs
 returns-in-Some-clause-runs g c = λ t types before undone now laters placed is_open may unnamed.
     let old = g.H.Host.state c.args.h.now in
     let of = subst (λ (o : Option Slot). IfSome o (IsSlotOf c.args.pool.now)) c.in-Some.is c.in_ok-at.ensures.within in
-    RunsOn-free c.args.frames c.args.pool.now types c.args.self.now _ before undone now laters old is_open _ c.args.s c.in-Some.at (fault_of c.free_at.result) _ _
-    may unnamed placed c.requires.device c.requires.place c.free_at.ensures.at (c.in_ok-at.ensures.stays t) of
+    RunsOn-free c.args.frames c.args.pool.now types c.args.self.now.log _ before undone now laters old is_open _ c.args.s c.in-Some.at (fault_of c.free_at.result) _ _
+    may unnamed placed c.requires.device c.requires.place c.free_at.ensures.at (c.in_ok-at.ensures.only_reads.stays t) of
     (sym (c.in_ok-at.ensures.found t (reads old.now.words) refl) ∙ ap (option_map place_of_slot) c.in-Some.is)
     (c.free_at.ensures.saves t placed before)
 
@@ -37,7 +37,7 @@ returns-in-Some-clause-nothing g c = λ t none.
     absurd (none-some _ (sym none ∙ sym (c.in_ok-at.ensures.found t image refl) ∙ ap (option_map place_of_slot) c.in-Some.is))
 
 pub returns-in-None-clause-changes : goal.returns-in-None-clause-changes
-returns-in-None-clause-changes g c = λ t. Changes-still _ None _ _ (λ cut. cc) (c.in_ok-at.ensures.stays t)
+returns-in-None-clause-changes g c = λ t. Changes-read c.in_ok-at.ensures.only_reads t
 
 pub returns-in-None-clause-runs : goal.returns-in-None-clause-runs
 returns-in-None-clause-runs g c = λ t types before undone now laters placed is_open may unnamed.

@@ -10,7 +10,7 @@ use Rattle.log_store.specs.Store.{OpenLog, InLog}
 use Rattle.object_alloc.specs.Alloc.{serial_word_at}
 use Rattle.word_transaction.specs.Running.{ByTransaction}
 use Rattle.hybrid_tx.specs.Grounds.{pool_ground}
-use Rattle.hybrid_tx.specs.Transactions.{Saves}
+use Rattle.hybrid_tx.specs.Transactions.{OpenTx, Saves}
 use Rattle.hybrid_tx.proofs.PoolGrounds.{all_there}
 use Rattle.hybrid_tx.proofs.SlotFreed.{Changes-freed, Saves-unfreed, Saves-freed}
 use Rattle.hybrid_tx.proofs.Tx.free_at.Goals as goal
@@ -25,7 +25,7 @@ returns-in_err-save-clause-saves g c =
     let p = err_from_is_err_and c.from_residual.result c.from_residual.ensures.1 in
     let at = c.args.at in
     let is_first : c.frame_at.result + (c.slot_begins-serial.result + 0) ≡ serial_word_at c.args.frames at = omega (arith, c.frame_at.ensures, c.slot_begins-serial.ensures) in
-    let apart = subst (λ (l : OpenLog). l.at + LOG_WORDS ≤ frames_at c.args.frames) (sym c.self.view_is) c.requires.place in
+    let apart = subst (λ (x : OpenTx). x.log.at + LOG_WORDS ≤ frames_at c.args.frames) (sym c.self.view_is) c.requires.place in
     rw (p.1, p.2, ← c.self.view_is) (λ t is_placed before redo s.
     Saves-unfreed c.args.frames _ c.args.pool.now at c.requires.within _ before redo _ _ _ is_placed c.requires.device apart (c.slot_address.ensures.address is_placed.legal) is_first s _ _ _ (ap (λ (l : OpenLog). l.at) c.in_err-save.ensures.failed)
     (λ es ground may place r. c.in_err-save.ensures.runs t _ refl (pool_ground c.args.frames c.args.pool.now) es before ground may place r))
@@ -45,7 +45,7 @@ returns-clause-saves g c =
     let pool = c.args.pool.now in
     let at = c.args.at in
     let is_first : c.frame_at.result + (c.slot_begins-serial.result + 0) ≡ serial_word_at F at = omega (arith, c.frame_at.ensures, c.slot_begins-serial.ensures) in
-    let apart = subst (λ (l : OpenLog). l.at + LOG_WORDS ≤ frames_at F) (sym c.self.view_is) c.requires.place in
+    let apart = subst (λ (x : OpenTx). x.log.at + LOG_WORDS ≤ frames_at F) (sym c.self.view_is) c.requires.place in
     rw (← c.self.view_is) (λ t is_placed before redo s.
     subst (λ (l : OpenLog). Saves F pool l before redo (placed (serial_word_at F at) (0 ∷ [])) (fault_of c.free_slot.result) (g.H.Host.state c.args.h.now) (g.H.Host.state c.free_slot.new.h)) (sym c.in_ok-save.ensures.saved)
     (Saves-freed F _ pool at c.requires.within _ before redo _ _ _ is_placed c.requires.device apart (c.slot_address.ensures.address is_placed.legal) is_first s (fault_of c.free_slot.result) _ _

@@ -1,6 +1,4 @@
 use Rattle.std.proofs.Common.{◌≡◌, inl, inr, true, false, option_map, sym, ap, subst, ◌∙◌}
-use Rattle.pm_model.specs.Words.{reads}
-use Rattle.pm_model.specs.Moments.{State}
 use Rattle.pud_defs.specs.Image.{Image}
 use Rattle.pud_defs.specs.Types.{types_of}
 use Rattle.pud_defs.specs.Entries.{Log, entries_of}
@@ -10,6 +8,7 @@ use Rattle.log_entry.proofs.Left.{IsReading-start, IsReading-more}
 use Rattle.puddle_header.specs.Places.{place_of_slot}
 use Rattle.hybrid_tx.specs.Transactions.{AreLaters}
 use Rattle.hybrid_tx.proofs.LatersNamed.{NamesRest-start, NamesRest-more, NamesRest-passed, NamesOne-decided, NamesRest-end, none_named}
+use Rattle.pm_model.proofs.Reading.{OnlyReads-then, still_reads}
 use Rattle.hybrid_tx.proofs.Tx.later_names.Goals as goal
 
 pub returns-in_default-clause-names : goal.returns-in_default-clause-names
@@ -22,25 +21,23 @@ pub loop-entry-init : goal.loop-entry-init
 loop-entry-init g c =
     let start = c.new-reader.ensures ∙ ap (λ k. record { log_at = k; passed = 0 }) c.at.ensures in
     record {
-      reading = IsReading-start c.args.self.now.at c.new-reader.result start;
-      counts = c.in_ok-at.ensures.cause;
-      stays = c.in_ok-at.ensures.stays;
+      reading = IsReading-start c.args.self.now.log.at c.new-reader.result start;
+      only_reads = c.in_ok-at.ensures.only_reads;
       names = λ t image same before undone now laters placed is_open used.
-          let spells = ap (λ (i : Image). entries_of i c.args.self.now.at) (sym same) ∙ ap (λ (l : Log). l.entries) is_open.saving.running.opened.says in
+          let spells = ap (λ (i : Image). entries_of i c.args.self.now.log.at) (sym same) ∙ ap (λ (l : Log). l.entries) is_open.saving.running.opened.says in
           let are = subst (λ (i : Image). AreLaters c.args.frames c.args.pool.now (types_of image) i now laters is_open.redo) same is_open.are in
-          NamesRest-start c.args.frames c.args.pool.now (types_of image) image now c.args.s c.args.self.now.at _ is_open.saving.es is_open.redo laters start spells is_open.saving.asks are;
+          NamesRest-start c.args.frames c.args.pool.now (types_of image) image now c.args.s c.args.self.now.log.at _ is_open.saving.es is_open.redo laters start spells is_open.saving.asks are;
     }
 
 pub loop-entry-preserved : goal.loop-entry-preserved
 loop-entry-preserved g c =
     let old = c.loop-entry.invariant in
     record {
-      reading = IsReading-more c.args.self.now.at _ c.in-Some-2.entry _ _ old.reading c.in-Some-2.is c.in_ok-entry.ensures.passes;
-      counts = c.in_ok-names.ensures.cause ∙ c.in_ok-entry.ensures.cause ∙ old.counts;
-      stays = λ t. c.in_ok-names.ensures.stays t ∙ c.in_ok-entry.ensures.stays t ∙ old.stays t;
+      reading = IsReading-more c.args.self.now.log.at _ c.in-Some-2.entry _ _ old.reading c.in-Some-2.is c.in_ok-entry.ensures.passes;
+      only_reads = OnlyReads-then old.only_reads (OnlyReads-then c.in_ok-entry.ensures.only_reads c.in_ok-names.ensures.only_reads);
       names = λ t image same before undone now laters placed is_open used.
-          let here = ap (λ (s : State). reads s.now.words) (old.stays t) ∙ same in
-          let behind = ap (λ (s : State). reads s.now.words) (c.in_ok-entry.ensures.stays t) ∙ here in
+          let here = still_reads old.only_reads t same in
+          let behind = still_reads c.in_ok-entry.ensures.only_reads t here in
           let is = ap (λ (i : Image). graph_of (types_of image) (stored_in c.args.frames c.args.pool.now i)) (sym same) ∙ is_open.is in
           let place = sym (c.in_ok-at.ensures.found t image same) ∙ ap (option_map place_of_slot) c.in-Some.is in
           elim (NamesRest-more c.args.frames c.args.pool.now (types_of image) image now c.args.s _ c.in-Some-2.entry _ _ _ (old.names t image same before undone now laters placed is_open used) c.in-Some-2.is
@@ -54,8 +51,8 @@ loop-entry-preserved g c =
 pub returns-then-branch-clause-names : goal.returns-then-branch-clause-names
 returns-then-branch-clause-names g c = λ t image same before undone now laters placed is_open used.
     let old = c.loop-entry.invariant in
-    let here = ap (λ (s : State). reads s.now.words) (old.stays t) ∙ same in
-    let behind = ap (λ (s : State). reads s.now.words) (c.in_ok-entry.ensures.stays t) ∙ here in
+    let here = still_reads old.only_reads t same in
+    let behind = still_reads c.in_ok-entry.ensures.only_reads t here in
     let is = ap (λ (i : Image). graph_of (types_of image) (stored_in c.args.frames c.args.pool.now i)) (sym same) ∙ is_open.is in
     let place = sym (c.in_ok-at.ensures.found t image same) ∙ ap (option_map place_of_slot) c.in-Some.is in
     elim (NamesRest-more c.args.frames c.args.pool.now (types_of image) image now c.args.s _ c.in-Some-2.entry _ _ _ (old.names t image same before undone now laters placed is_open used) c.in-Some-2.is
@@ -68,6 +65,6 @@ returns-then-branch-clause-names g c = λ t image same before undone now laters 
 pub returns-clause-names : goal.returns-clause-names
 returns-clause-names g c = λ t image same before undone now laters placed is_open used.
     let old = c.loop-entry.invariant in
-    let here = ap (λ (s : State). reads s.now.words) (old.stays t) ∙ same in
+    let here = still_reads old.only_reads t same in
     NamesRest-end c.args.frames c.args.pool.now (types_of image) image now c.args.s _ _ _ _ (old.names t image same before undone now laters placed is_open used) c.in_default-2.is
     (c.in_ok-entry.ensures.left t image here)

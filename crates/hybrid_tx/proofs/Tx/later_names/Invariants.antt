@@ -1,5 +1,6 @@
-use Rattle.std.proofs.Common.{◌≡◌, ◌≢◌, ◌-◌, List}
+use Rattle.std.proofs.Common.{◌≡◌, ◌≢◌, ◌-◌, List, None}
 use Rattle.pm_model.specs.Words.{reads}
+use Rattle.pm_model.specs.Reads.{OnlyReads}
 use Rattle.pud_defs.specs.declared.layout.TheConstants.{LOG_ENTRY_WORDS}
 use Rattle.pud_defs.specs.Image.{Image}
 use Rattle.pud_defs.specs.Types.{types_of}
@@ -13,11 +14,10 @@ use Rattle.hybrid_tx.proofs.Tx.later_names.Given as goal
 
 abbrev pub invariant-loop-entry : goal.invariant-loop-entry
 invariant-loop-entry g l = record {
-  reading : IsReading l.self.at l.reader;
-  counts : g.H.Host.counts l.h ≡ g.H.Host.counts l.fn.h;
-  stays : g.H.Host.tells → g.H.Host.state l.h ≡ g.H.Host.state l.fn.h;
+  reading : IsReading l.self.log.at l.reader;
+  only_reads : OnlyReads g.H.Host.tells g.H.Host.state g.H.Host.counts None l.fn.h l.h;
   names : g.H.Host.tells → (image : Image) → reads (g.H.Host.state l.fn.h).now.words ≡ image → (before : Image) (undone now : Graph) (laters : List Later)
-      → IsPlaced l.frames l.pool → IsOpenOn l.frames l.pool (types_of image) l.self before undone now laters (g.H.Host.state l.fn.h).now.words → l.s ≢ 0
+      → IsPlaced l.frames l.pool → IsOpenOn l.frames l.pool (types_of image) l.self.log before undone now laters (g.H.Host.state l.fn.h).now.words → l.s ≢ 0
       → NamesRest l.frames l.pool (types_of image) image now l.s l.reader (laters_name l.s laters);
 }
 

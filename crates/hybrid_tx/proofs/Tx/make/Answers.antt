@@ -2,7 +2,7 @@ use Rattle.std.proofs.Common.{None, refl, arith}
 use Rattle.std.proofs.lemmas.Option.{slice_get_within, slice_get-get_or}
 use Rattle.std.proofs.lemmas.Result.{err_from_is_err_and}
 use Rattle.pm_model.specs.Words.{reads}
-use Rattle.pm_model.proofs.Changes.{Changes-still}
+use Rattle.pm_model.proofs.Reading.{Changes-read}
 use Rattle.hybrid_tx.specs.Grounds.{pool_ground}
 use Rattle.hybrid_tx.proofs.FieldPut.{RunsOn-stopped}
 use Rattle.hybrid_tx.proofs.ObjectPut.{serial_is_next, Changes-made, MakesIn-stopped, MakesIn-unput, MakesIn-new, RunsOn-unput, RunsOn-new}
@@ -11,13 +11,13 @@ use Rattle.hybrid_tx.proofs.Tx.make.Goals as goal
 pub returns-in_err-serial-clause-changes : goal.returns-in_err-serial-clause-changes
 returns-in_err-serial-clause-changes g c =
     let p = err_from_is_err_and c.from_residual.result c.from_residual.ensures.1 in
-    rw (p.1, p.2) (λ t. Changes-still _ _ _ _ c.in_err-serial.ensures.never_cut (c.in_err-serial.ensures.stays t))
+    rw (p.1, p.2) (λ t. Changes-read c.in_err-serial.ensures.only_reads t)
 
 pub returns-in_err-serial-clause-runs : goal.returns-in_err-serial-clause-runs
 returns-in_err-serial-clause-runs g c =
     let p = err_from_is_err_and c.from_residual.result c.from_residual.ensures.1 in
     rw (p.1, p.2) (λ t types m before undone now laters placed is_open defined room free.
-    RunsOn-stopped _ _ types c.args.self.now _ before undone now laters _ _ _ _ _ refl c.in_err-serial.ensures.never_cut (c.in_err-serial.ensures.stays t) is_open)
+    RunsOn-stopped _ _ types c.args.self.now.log _ before undone now laters _ _ _ refl c.in_err-serial.ensures.only_reads t is_open)
 
 pub put_in_frame-requires-clause-there : goal.put_in_frame-requires-clause-there
 put_in_frame-requires-clause-there g c = slice_get_within c.args.pool.now c.args.at.now.ordinal (c.args.at.now.frame, c.requires.within.puddle) c.requires.within.there
@@ -26,33 +26,33 @@ pub returns-in_err-put_in_frame-clause-runs : goal.returns-in_err-put_in_frame-c
 returns-in_err-put_in_frame-clause-runs g c =
     let p = err_from_is_err_and c.from_residual-in_err-put_in_frame.result c.from_residual-in_err-put_in_frame.ensures.1 in
     rw (p.1, p.2) (λ t types m before undone now laters placed is_open defined room free.
-    RunsOn-unput c.args.frames c.args.pool.now types c.args.self.now before undone now laters _ is_open _ _ _ _ (c.args.at.now.frame, c.requires.within.puddle) _ _ _ _
-    (c.in_ok-serial.ensures.stays t) c.requires.within.there (c.in_err-put_in_frame.ensures.saves t placed))
+    RunsOn-unput c.args.frames c.args.pool.now types c.args.self.now.log before undone now laters _ is_open _ _ _ _ (c.args.at.now.frame, c.requires.within.puddle) _ _ _ _
+    (c.in_ok-serial.ensures.only_reads.stays t) c.requires.within.there (c.in_err-put_in_frame.ensures.saves t placed))
 
 pub returns-in_err-put_in_frame-2-clause-changes : goal.returns-in_err-put_in_frame-2-clause-changes
 returns-in_err-put_in_frame-2-clause-changes g c =
     let p = err_from_is_err_and c.from_residual-in_err-put_in_frame-2.result c.from_residual-in_err-put_in_frame-2.ensures.1 in
-    rw (p.1, p.2) (λ t. Changes-made (pool_ground c.args.frames c.args.pool.now) _ _ _ _ _ _ _ (c.in_ok-serial.ensures.stays t) c.in_ok-put_in_frame.ensures.at (c.in_ok-put_in_frame.ensures.changes t) (c.in_err-put_in_frame-2.ensures.changes t))
+    rw (p.1, p.2) (λ t. Changes-made (pool_ground c.args.frames c.args.pool.now) _ _ _ _ _ _ _ (c.in_ok-serial.ensures.only_reads.stays t) c.in_ok-put_in_frame.ensures.at (c.in_ok-put_in_frame.ensures.changes t) (c.in_err-put_in_frame-2.ensures.changes t))
 
 pub returns-in_err-put_in_frame-2-clause-runs : goal.returns-in_err-put_in_frame-2-clause-runs
 returns-in_err-put_in_frame-2-clause-runs g c =
     let p = err_from_is_err_and c.from_residual-in_err-put_in_frame-2.result c.from_residual-in_err-put_in_frame-2.ensures.1 in
     let some = slice_get_within c.args.pool.now c.args.at.now.ordinal (c.args.at.now.frame, c.requires.within.puddle) c.requires.within.there in
     rw (p.1, p.2) (λ t types m before undone now laters placed is_open defined room free.
-    RunsOn-new c.args.frames c.args.pool.now types c.args.self.now before undone now laters (g.H.Host.state c.args.h.now) is_open _ _ _ _ c.args.at.now c.in_ok-serial.serial _ c.args.t m _ _ _ _ _ _
-    placed c.requires.device c.requires.place c.in_ok-put_in_frame.ensures.at c.in_err-put_in_frame-2.ensures.at (c.in_ok-serial.ensures.stays t)
+    RunsOn-new c.args.frames c.args.pool.now types c.args.self.now.log before undone now laters (g.H.Host.state c.args.h.now) is_open _ _ _ _ c.args.at.now c.in_ok-serial.serial _ c.args.t m _ _ _ _ _ _
+    placed c.requires.device c.requires.place c.in_ok-put_in_frame.ensures.at c.in_err-put_in_frame-2.ensures.at (c.in_ok-serial.ensures.only_reads.stays t)
     (slice_get-get_or c.args.pool.now 0 _ (omega (arith, some))) c.requires.within free (c.in_ok-serial.ensures.word t (reads (g.H.Host.state c.args.h.now).now.words) refl) defined room
     c.slot_begins.ensures c.new_words-words.ensures (c.in_ok-put_in_frame.ensures.saves t placed) refl (c.in_err-put_in_frame-2.ensures.saves t placed))
 
 pub returns-clause-changes : goal.returns-clause-changes
 returns-clause-changes g c = λ t.
-    Changes-made (pool_ground c.args.frames c.args.pool.now) _ _ None _ _ _ _ (c.in_ok-serial.ensures.stays t) c.in_ok-put_in_frame.ensures.at (c.in_ok-put_in_frame.ensures.changes t) (c.in_ok-put_in_frame-2.ensures.changes t)
+    Changes-made (pool_ground c.args.frames c.args.pool.now) _ _ None _ _ _ _ (c.in_ok-serial.ensures.only_reads.stays t) c.in_ok-put_in_frame.ensures.at (c.in_ok-put_in_frame.ensures.changes t) (c.in_ok-put_in_frame-2.ensures.changes t)
 
 pub returns-clause-runs : goal.returns-clause-runs
 returns-clause-runs g c = λ t types m before undone now laters placed is_open defined room free.
     let some = slice_get_within c.args.pool.now c.args.at.now.ordinal (c.args.at.now.frame, c.requires.within.puddle) c.requires.within.there in
-    RunsOn-new c.args.frames c.args.pool.now types c.args.self.now before undone now laters (g.H.Host.state c.args.h.now) is_open _ _ _ _ c.args.at.now c.in_ok-serial.serial _ c.args.t m _ _ None _ _ _
-    placed c.requires.device c.requires.place c.in_ok-put_in_frame.ensures.at c.in_ok-put_in_frame-2.ensures.at (c.in_ok-serial.ensures.stays t)
+    RunsOn-new c.args.frames c.args.pool.now types c.args.self.now.log before undone now laters (g.H.Host.state c.args.h.now) is_open _ _ _ _ c.args.at.now c.in_ok-serial.serial _ c.args.t m _ _ None _ _ _
+    placed c.requires.device c.requires.place c.in_ok-put_in_frame.ensures.at c.in_ok-put_in_frame-2.ensures.at (c.in_ok-serial.ensures.only_reads.stays t)
     (slice_get-get_or c.args.pool.now 0 _ (omega (arith, some))) c.requires.within free (c.in_ok-serial.ensures.word t (reads (g.H.Host.state c.args.h.now).now.words) refl) defined room
     c.slot_begins.ensures c.new_words-words.ensures (c.in_ok-put_in_frame.ensures.saves t placed) refl (c.in_ok-put_in_frame-2.ensures.saves t placed)
 
@@ -71,7 +71,7 @@ returns-in_err-serial-clause-makes g c =
     rw (p.1, p.2) (λ t types before undone now laters placed is_open room.
     MakesIn-stopped c.args.frames c.args.pool.now _ c.args.at.now c.requires.within _ c.args.t _ _ _
     (slice_get-get_or c.args.pool.now 0 (c.args.at.now.frame, c.requires.within.puddle) (omega (arith, some)))
-    c.in_err-serial.ensures.never_cut (c.in_err-serial.ensures.stays t))
+    c.in_err-serial.ensures.only_reads.never_cut (c.in_err-serial.ensures.only_reads.stays t))
 
 pub returns-in_err-put_in_frame-clause-makes : goal.returns-in_err-put_in_frame-clause-makes
 returns-in_err-put_in_frame-clause-makes g c =
@@ -79,15 +79,15 @@ returns-in_err-put_in_frame-clause-makes g c =
     let some = slice_get_within c.args.pool.now c.args.at.now.ordinal (c.args.at.now.frame, c.requires.within.puddle) c.requires.within.there in
     rw (p.1, p.2) (λ t types before undone now laters placed is_open room.
     MakesIn-unput c.args.frames c.args.pool.now _ c.args.at.now c.requires.within _ c.args.t (g.H.Host.state c.args.h.now) c.in_ok-serial.serial _ _ _ _ _ (slice_get-get_or c.args.pool.now 0 _ (omega (arith, some)))
-    (c.in_ok-serial.ensures.stays t) (c.in_ok-serial.ensures.word t (reads (g.H.Host.state c.args.h.now).now.words) refl) c.slot_begins.ensures c.new_words-words.ensures (c.in_err-put_in_frame.ensures.puts t))
+    (c.in_ok-serial.ensures.only_reads.stays t) (c.in_ok-serial.ensures.word t (reads (g.H.Host.state c.args.h.now).now.words) refl) c.slot_begins.ensures c.new_words-words.ensures (c.in_err-put_in_frame.ensures.puts t))
 
 pub returns-in_err-put_in_frame-2-clause-makes : goal.returns-in_err-put_in_frame-2-clause-makes
 returns-in_err-put_in_frame-2-clause-makes g c =
     let p = err_from_is_err_and c.from_residual-in_err-put_in_frame-2.result c.from_residual-in_err-put_in_frame-2.ensures.1 in
     let some = slice_get_within c.args.pool.now c.args.at.now.ordinal (c.args.at.now.frame, c.requires.within.puddle) c.requires.within.there in
     rw (p.1, p.2) (λ t types before undone now laters placed is_open room.
-    MakesIn-new c.args.frames c.args.pool.now types c.args.self.now before undone now laters (g.H.Host.state c.args.h.now) is_open _ _ _ c.args.at.now c.in_ok-serial.serial _ c.args.t _ _ _ _ _ _
-    c.in_ok-put_in_frame.ensures.at c.in_err-put_in_frame-2.ensures.at (c.in_ok-serial.ensures.stays t)
+    MakesIn-new c.args.frames c.args.pool.now types c.args.self.now.log before undone now laters (g.H.Host.state c.args.h.now) is_open _ _ _ c.args.at.now c.in_ok-serial.serial _ c.args.t _ _ _ _ _ _
+    c.in_ok-put_in_frame.ensures.at c.in_err-put_in_frame-2.ensures.at (c.in_ok-serial.ensures.only_reads.stays t)
     (slice_get-get_or c.args.pool.now 0 _ (omega (arith, some))) c.requires.within (c.in_ok-serial.ensures.word t (reads (g.H.Host.state c.args.h.now).now.words) refl) room
     c.slot_begins.ensures c.new_words-words.ensures (c.in_ok-put_in_frame.ensures.saves t placed) (c.in_ok-put_in_frame.ensures.puts t) refl
     (c.in_err-put_in_frame-2.ensures.saves t placed) (c.in_err-put_in_frame-2.ensures.puts t))
@@ -95,8 +95,8 @@ returns-in_err-put_in_frame-2-clause-makes g c =
 pub returns-clause-makes : goal.returns-clause-makes
 returns-clause-makes g c = λ t types before undone now laters placed is_open room.
     let some = slice_get_within c.args.pool.now c.args.at.now.ordinal (c.args.at.now.frame, c.requires.within.puddle) c.requires.within.there in
-    MakesIn-new c.args.frames c.args.pool.now types c.args.self.now before undone now laters (g.H.Host.state c.args.h.now) is_open _ _ _ c.args.at.now c.in_ok-serial.serial _ c.args.t _ _ None _ _ _
-    c.in_ok-put_in_frame.ensures.at c.in_ok-put_in_frame-2.ensures.at (c.in_ok-serial.ensures.stays t)
+    MakesIn-new c.args.frames c.args.pool.now types c.args.self.now.log before undone now laters (g.H.Host.state c.args.h.now) is_open _ _ _ c.args.at.now c.in_ok-serial.serial _ c.args.t _ _ None _ _ _
+    c.in_ok-put_in_frame.ensures.at c.in_ok-put_in_frame-2.ensures.at (c.in_ok-serial.ensures.only_reads.stays t)
     (slice_get-get_or c.args.pool.now 0 _ (omega (arith, some))) c.requires.within (c.in_ok-serial.ensures.word t (reads (g.H.Host.state c.args.h.now).now.words) refl) room
     c.slot_begins.ensures c.new_words-words.ensures (c.in_ok-put_in_frame.ensures.saves t placed) (c.in_ok-put_in_frame.ensures.puts t) refl
     (c.in_ok-put_in_frame-2.ensures.saves t placed) (c.in_ok-put_in_frame-2.ensures.puts t)

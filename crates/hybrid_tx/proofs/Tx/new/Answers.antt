@@ -1,13 +1,12 @@
-use Rattle.std.proofs.Common.{◌≡◌, None, Some, Err, ap, subst, refl}
+use Rattle.std.proofs.Common.{Err, ap, subst, refl}
 use Rattle.pm_model.specs.Words.{reads}
 use Rattle.pm_model.specs.Counts.{fault_of}
 use Rattle.pm_model.specs.Moments.{State}
-use Rattle.pm_model.proofs.Changes.{Changes-still}
 use Rattle.pud_defs.specs.Stored.{stored_in, IsFreePlace}
 use Rattle.pud_defs.specs.declared.records.Slot.{Slot}
 use Rattle.object_alloc.specs.declared.AllocFault.{AllocFault}
 use Rattle.object_alloc.specs.Alloc.{alloc_fault}
-use Rattle.pm_model.specs.declared.host.HostFault.TheVariants.{Cut}
+use Rattle.pm_model.proofs.Reading.{Changes-read}
 use Rattle.pud_defs.specs.GraphChanges.{with_new, blank_object}
 use Rattle.puddle_header.specs.Places.{place_of_slot}
 use Rattle.hybrid_tx.specs.Transactions.{IsOpenOn, RunsOn, MakesIn}
@@ -23,19 +22,19 @@ returns-in-Ok-clause-runs g c = λ t types m before undone now laters placed is_
     let fault = fault_of c.make.result in
     let new = g.H.Host.state c.make.new.h in
     let free = (c.in-Ok.ensures.free t (reads (g.H.Host.state c.args.h.now).now.words) refl).free in
-    subst (λ (s : State). IsOpenOn F pool types c.args.self.now before undone now laters s.now.words → IsFreePlace (stored_in F pool (reads s.now.words)) (place_of_slot c.in-Ok.at)
-    → RunsOn F pool types c.make.new.self before undone (with_new (blank_object c.args.t m) now) laters fault s new)
-    (c.in-Ok.ensures.stays t) (λ still it. c.make.ensures.runs t types m before undone now laters placed still defined room it) is_open free
+    subst (λ (s : State). IsOpenOn F pool types c.args.self.now.log before undone now laters s.now.words → IsFreePlace (stored_in F pool (reads s.now.words)) (place_of_slot c.in-Ok.at)
+    → RunsOn F pool types c.make.new.self.log before undone (with_new (blank_object c.args.t m) now) laters fault s new)
+    (c.in-Ok.ensures.only_reads.stays t) (λ still it. c.make.ensures.runs t types m before undone now laters placed still defined room it) is_open free
 
 pub returns-in-Err-Full-clause-changes : goal.returns-in-Err-Full-clause-changes
-returns-in-Err-Full-clause-changes g c = λ t. Changes-still _ None _ _ (λ cut. cc) (c.in-Err-Full.ensures.stays t)
+returns-in-Err-Full-clause-changes g c = λ t. Changes-read (rw c.in-Err-Full.field-0-is at c.in-Err-Full.ensures.only_reads) t
 
 pub returns-in-Err-Host-clause-changes : goal.returns-in-Err-Host-clause-changes
-returns-in-Err-Host-clause-changes g c = λ t. Changes-still _ _ _ _ (subst (λ (e : AllocFault). alloc_fault {T = Slot} (Err e) ≡ Some Cut → ⊥) c.in-Err-Host.field-0-is c.in-Err-Host.ensures.never_cut) (c.in-Err-Host.ensures.stays t)
+returns-in-Err-Host-clause-changes g c = λ t. Changes-read (rw c.in-Err-Host.field-0-is at c.in-Err-Host.ensures.only_reads) t
 
 pub returns-in-Err-Host-clause-runs : goal.returns-in-Err-Host-clause-runs
 returns-in-Err-Host-clause-runs g c = λ t types m before undone now laters placed is_open defined room some.
-    RunsOn-stopped _ _ types c.args.self.now _ before undone now laters _ _ _ _ _ refl (subst (λ (e : AllocFault). alloc_fault {T = Slot} (Err e) ≡ Some Cut → ⊥) c.in-Err-Host.field-0-is c.in-Err-Host.ensures.never_cut) (c.in-Err-Host.ensures.stays t) is_open
+    RunsOn-stopped _ _ types c.args.self.now.log _ before undone now laters _ _ _ refl (rw c.in-Err-Host.field-0-is at c.in-Err-Host.ensures.only_reads) t is_open
 
 -- ---- which slot it is
 
@@ -43,14 +42,14 @@ pub returns-in-Ok-clause-makes : goal.returns-in-Ok-clause-makes
 returns-in-Ok-clause-makes g c = λ t types before undone now laters placed is_open room slot of lowest.
     let F = c.args.frames in
     let pool = c.args.pool.now in
-    let log = c.args.self.now in
+    let log = c.args.self.now.log in
     let fault = fault_of c.make.result in
     let old = g.H.Host.state c.args.h.now in
     let new = g.H.Host.state c.make.new.h in
     let found = c.in-Ok.ensures.free t (reads old.now.words) refl in
     let same = one_slot pool c.in-Ok.at slot c.in-Ok.ensures.within of (one_lowest (stored_in F pool (reads old.now.words)) (place_of_slot c.in-Ok.at) (place_of_slot slot) found lowest) in
     subst (λ (s : Slot). MakesIn F pool log.at s c.args.t fault old new) same
-    (subst (λ (s : State). IsOpenOn F pool types log before undone now laters s.now.words → MakesIn F pool log.at c.in-Ok.at c.args.t fault s new) (c.in-Ok.ensures.stays t)
+    (subst (λ (s : State). IsOpenOn F pool types log before undone now laters s.now.words → MakesIn F pool log.at c.in-Ok.at c.args.t fault s new) (c.in-Ok.ensures.only_reads.stays t)
     (λ still. c.make.ensures.makes t types before undone now laters placed still room) is_open)
 
 pub returns-in-Err-Full-clause-makes : goal.returns-in-Err-Full-clause-makes
@@ -61,5 +60,5 @@ returns-in-Err-Full-clause-makes g c = λ t types before undone now laters place
 pub returns-in-Err-Host-clause-makes : goal.returns-in-Err-Host-clause-makes
 returns-in-Err-Host-clause-makes g c = λ t types before undone now laters placed is_open room slot of lowest.
     let first = first_there c.args.pool.now slot (slot.frame, of.puddle) of in
-    MakesIn-stopped c.args.frames c.args.pool.now c.args.self.now.at slot of first.0 c.args.t _ _ _ first.1
-    (subst (λ (e : AllocFault). alloc_fault {T = Slot} (Err e) ≡ Some Cut → ⊥) c.in-Err-Host.field-0-is c.in-Err-Host.ensures.never_cut) (c.in-Err-Host.ensures.stays t)
+    let read = rw c.in-Err-Host.field-0-is at c.in-Err-Host.ensures.only_reads in
+    MakesIn-stopped c.args.frames c.args.pool.now c.args.self.now.log.at slot of first.0 c.args.t _ _ _ first.1 read.never_cut (read.stays t)

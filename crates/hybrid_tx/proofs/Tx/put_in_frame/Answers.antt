@@ -15,7 +15,7 @@ returns-clause-changes g c = λ t.
     let fault = fault_of c.put.result in
     let old = g.H.Host.state c.args.h.now in
     let new = g.H.Host.state c.put.new.h in
-    let log = c.args.self.now.at in
+    let log = c.args.self.now.log.at in
     let there = slice_get-get_or c.args.pool.now c.args.ordinal _ c.requires.there in
     ByPut-in_frame c.args.frames c.args.pool.now c.args.ordinal c.args.word log _ c.args.vals.now fault old new there c.requires.within
     (subst (λ (k : ℕ). Changes (ByPut log (k + c.args.word) c.args.vals.now) fault old new) c.frame_at.ensures (c.put.ensures.changes t))
@@ -23,9 +23,9 @@ returns-clause-changes g c = λ t.
 pub returns-clause-saves : goal.returns-clause-saves
 returns-clause-saves g c = λ t placed e there before redo s.
     let same = get_or_from_slice_get c.args.pool.now c.args.ordinal e _ there in
-    let long = longer (length c.args.vals.now + 2) c.args.self.now in
+    let long = longer (length c.args.vals.now + 2) c.args.self.now.log in
     Saves-behind c.args.frames c.args.pool.now long _ before redo _ c.put.result _ _ c.put.ensures.at c.put.ensures.done
-    (Saves-put c.args.frames _ c.args.pool.now c.args.ordinal c.args.word e c.args.self.now long before redo _ _ c.args.vals.now _ (fault_of c.put.result) _ _
+    (Saves-put c.args.frames _ c.args.pool.now c.args.ordinal c.args.word e c.args.self.now.log long before redo _ _ c.args.vals.now _ (fault_of c.put.result) _ _
     placed c.requires.device c.requires.place there c.requires.some c.requires.within
     (c.word_address-address.ensures ∙ ap (λ (d : ℕ × Puddle). (d.1.base + 8 * c.args.word) % 2 ^ 64) same)
     (ap (λ (k : ℕ). k + c.args.word) (c.frame_at.ensures ∙ ap (λ (d : ℕ × Puddle). frame_at c.args.frames d.0) same)) s
@@ -34,5 +34,5 @@ returns-clause-saves g c = λ t placed e there before redo s.
 pub returns-clause-puts : goal.returns-clause-puts
 returns-clause-puts g c = λ t e there.
     let same = get_or_from_slice_get c.args.pool.now c.args.ordinal e _ there in
-    subst (λ (k : ℕ). Changes (ByPut c.args.self.now.at (k + c.args.word) c.args.vals.now) (fault_of c.put.result) (g.H.Host.state c.args.h.now) (g.H.Host.state c.put.new.h))
+    subst (λ (k : ℕ). Changes (ByPut c.args.self.now.log.at (k + c.args.word) c.args.vals.now) (fault_of c.put.result) (g.H.Host.state c.args.h.now) (g.H.Host.state c.put.new.h))
     (c.frame_at.ensures ∙ ap (λ (d : ℕ × Puddle). frame_at c.args.frames d.0) same) (c.put.ensures.changes t)

@@ -1,11 +1,11 @@
 use Rattle.std.proofs.Common.{◌<◌, ap, ap₂, sym, ◌∙◌}
 use Rattle.std.proofs.lemmas.Option.{none-some, same_Some}
-use Rattle.pm_model.specs.Words.{Image, reads}
-use Rattle.pm_model.specs.Moments.{State}
+use Rattle.pm_model.specs.Words.{Image}
 use Rattle.pud_defs.specs.TypeMap.{is_pointer}
 use Rattle.pud_defs.specs.Types.{types_of}
 use Rattle.hybrid_tx.proofs.PoolGrounds.{all_there}
 use Rattle.hybrid_tx.proofs.LatersNamed.{names-object, address_of_later, read_of_later, map_of_later, names-value, names-neither, value_found}
+use Rattle.pm_model.proofs.Reading.{OnlyReads-then, still_reads}
 use Rattle.hybrid_tx.proofs.later.names.Goals as goal
 
 pub returns-in_default-clause-names : goal.returns-in_default-clause-names
@@ -27,7 +27,7 @@ pub returns-then-value-address-clause-names : goal.returns-then-value-address-cl
 returns-then-value-address-clause-names g c = λ t image same now l p placed is later used place address.
     let read = read_of_later c.args.frames c.args.pool.now (types_of image) image now l _ later _ c.in-Some.at c.in-Some.f c.in_ok-serial.serial (c.field_of.ensures.found placed.bases) c.in-Some.is c.in-Some.ensures.is.of
     (c.in_ok-serial.ensures.word t image same) in
-    let before = ap (λ (s : State). reads s.now.words) (c.in_ok-serial.ensures.stays t) ∙ same in
+    let before = still_reads c.in_ok-serial.ensures.only_reads t same in
     let value = c.in_ok-value.ensures.value t ∙ ap (λ (i : Image). i c.args.entry.now.at) before ∙ value_found image c.args.entry.now _ later.value later.is in
     sym (names-neither c.args.frames c.args.pool.now (types_of image) image now l _ later placed c.args.s p used place (λ own. c.if-serial-s.false (read.2 ∙ own))
     (λ there. c.if-value-address.true (value ∙ there ∙ sym address)))
@@ -42,10 +42,10 @@ returns-in-Some-2-clause-names g c = λ t image same now l p placed is later use
     let of = c.in-Some.ensures.is.of in
     let read = read_of_later c.args.frames c.args.pool.now (types_of image) image now l _ later _ c.in-Some.at c.in-Some.f c.in_ok-serial.serial (c.field_of.ensures.found placed.bases) c.in-Some.is of
     (c.in_ok-serial.ensures.word t image same) in
-    let before = ap (λ (s : State). reads s.now.words) (c.in_ok-serial.ensures.stays t) ∙ same in
+    let before = still_reads c.in_ok-serial.ensures.only_reads t same in
     let value = c.in_ok-value.ensures.value t ∙ ap (λ (i : Image). i c.args.entry.now.at) before ∙ value_found image c.args.entry.now _ later.value later.is in
-    let loaded = ap (λ (s : State). reads s.now.words) (c.in_ok-value.ensures.state t) ∙ before in
-    let typed = ap (λ (s : State). reads s.now.words) (c.in_ok-id.ensures.stays t) ∙ loaded in
+    let loaded = still_reads c.in_ok-value.ensures.only_reads t before in
+    let typed = still_reads c.in_ok-id.ensures.only_reads t loaded in
     let map = map_of_later c.args.frames c.args.pool.now (types_of image) image now l _ later c.in-Some.at c.in_ok-id.id is read.0 of (c.in_ok-id.ensures.word t image loaded) in
     c.map_is_pointer.ensures
     ∙ ap₂ is_pointer (same_Some _ _ (sym c.in-Some-2.is ∙ c.in_ok-map.ensures.map t image typed ∙ map)) read.1
@@ -57,7 +57,7 @@ returns-in-None-clause-names g c = λ t image same now l p placed is later used 
     let of = c.in-Some.ensures.is.of in
     let read = read_of_later c.args.frames c.args.pool.now (types_of image) image now l _ later _ c.in-Some.at c.in-Some.f c.in_ok-serial.serial (c.field_of.ensures.found placed.bases) c.in-Some.is of
     (c.in_ok-serial.ensures.word t image same) in
-    let loaded = ap (λ (s : State). reads s.now.words) (c.in_ok-value.ensures.state t ∙ c.in_ok-serial.ensures.stays t) ∙ same in
-    let typed = ap (λ (s : State). reads s.now.words) (c.in_ok-id.ensures.stays t) ∙ loaded in
+    let loaded = still_reads (OnlyReads-then c.in_ok-serial.ensures.only_reads c.in_ok-value.ensures.only_reads) t same in
+    let typed = still_reads c.in_ok-id.ensures.only_reads t loaded in
     let map = map_of_later c.args.frames c.args.pool.now (types_of image) image now l _ later c.in-Some.at c.in_ok-id.id is read.0 of (c.in_ok-id.ensures.word t image loaded) in
     absurd (none-some _ (sym c.in-None.is ∙ c.in_ok-map.ensures.map t image typed ∙ map))

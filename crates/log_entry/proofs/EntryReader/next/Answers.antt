@@ -28,7 +28,7 @@ returns-then-not-begins_entry-clause-next g c = λ t.
       within = omega arith;
       begun = omega arith;
       place = omega arith;
-      reads = c.in_ok-word.ensures.value t ∙ ap (λ (s : State). reads s.now.words (at + 1)) (c.load.ensures.state t);
+      reads = c.in_ok-word.ensures.value t ∙ ap (λ (s : State). reads s.now.words (at + 1)) (c.load.ensures.only_reads.stays t);
     } in
     sym (next-none image r c.gate_used-used.result at c.in_ok-word.word next (sym c.begins_entry.ensures ∙ c.if-not-begins_entry.true)) ∙ ap (entry_next image) c.self.view_is
 
@@ -42,9 +42,9 @@ returns-clause-next g c = λ t.
       within = omega arith;
       begun = omega arith;
       place = omega arith;
-      reads = c.in_ok-word.ensures.value t ∙ ap (λ (s : State). reads s.now.words (at + 1)) (c.load.ensures.state t);
+      reads = c.in_ok-word.ensures.value t ∙ ap (λ (s : State). reads s.now.words (at + 1)) (c.load.ensures.only_reads.stays t);
     } in
-    let address : c.in_ok-addr.addr ≡ image at = c.in_ok-addr.ensures.value t ∙ ap (λ (s : State). reads s.now.words at) (c.load-2.ensures.state t ∙ c.load.ensures.state t) in
+    let address : c.in_ok-addr.addr ≡ image at = c.in_ok-addr.ensures.value t ∙ ap (λ (s : State). reads s.now.words at) (c.load-2.ensures.only_reads.stays t ∙ c.load.ensures.only_reads.stays t) in
     sym (next-found image r c.gate_used-used.result at c.in_ok-word.word c.in_ok-addr.addr c.entry_n-n.result c.entry_seq.result c.entry_order.result next
     (sym c.begins_entry.ensures ∙ c.if-not-begins_entry.false) address c.entry_n-n.ensures c.entry_seq.ensures c.entry_order.ensures)
     ∙ ap (entry_next image) c.self.view_is

@@ -3,13 +3,13 @@ use Rattle.std.proofs.lemmas.List.{take_more_set, length-set}
 use Rattle.pm_model.specs.Words.{reads}
 use Rattle.pm_model.specs.Moments.{State}
 use Rattle.pud_defs.proofs.Entries.{words_from-more, words_from-none}
+use Rattle.pm_model.proofs.Reading.{OnlyReads-none, OnlyReads-then}
 use Rattle.log_entry.proofs.values.read_values.Goals as goal
 
 pub loop-i-init : goal.loop-i-init
 loop-i-init g c = record {
   room = refl;
-  counts = refl;
-  stays = λ t. refl;
+  only_reads = OnlyReads-none;
   taken = λ t. sym (words_from-none (reads (g.H.Host.state c.args.h.now).now.words) c.args.from 0 refl);
 }
 
@@ -19,11 +19,10 @@ loop-i-preserved g c =
     let room : length l.values ≡ 32 = l.invariant.room in
     record {
       room = length-set l.values l.i c.in_ok-values.field-0 ∙ room;
-      counts = ◌∙◌ {b = g.H.Host.counts l.h} c.in_ok-values.ensures.cause l.invariant.counts;
-      stays = λ t. c.in_ok-values.ensures.state t ∙ l.invariant.stays t;
+      only_reads = OnlyReads-then l.invariant.only_reads c.in_ok-values.ensures.only_reads;
       taken = λ t.
           let image = reads (g.H.Host.state c.args.h.now).now.words in
-          let value : c.in_ok-values.field-0 ≡ image (c.args.from + l.i) = c.in_ok-values.ensures.value t ∙ ap (λ (s : State). reads s.now.words (c.args.from + l.i)) (l.invariant.stays t) in
+          let value : c.in_ok-values.field-0 ≡ image (c.args.from + l.i) = c.in_ok-values.ensures.value t ∙ ap (λ (s : State). reads s.now.words (c.args.from + l.i)) (l.invariant.only_reads.stays t) in
           take_more_set l.values l.i c.in_ok-values.field-0 (omega arith)
           ∙ ap₂ (λ (xs : List ℕ) (v : ℕ). xs ++ v ∷ []) (l.invariant.taken t) value
           ∙ sym (words_from-more image c.args.from l.i);

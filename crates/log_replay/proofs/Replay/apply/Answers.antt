@@ -4,6 +4,7 @@ use Rattle.pm_model.specs.Words.{reads}
 use Rattle.pm_model.specs.Moments.{State}
 use Rattle.pm_model.specs.Counts.{fault_of}
 use Rattle.pm_model.specs.Changes.{placed, Writes}
+use Rattle.pm_model.proofs.Reading.{Changes-read}
 use Rattle.pud_defs.specs.Entries.{Entry as LoggedEntry, Log, words_from}
 use Rattle.pud_defs.specs.Image.{Image}
 use Rattle.pud_defs.specs.Replay.{Place, is_in_range, given_by}
@@ -12,7 +13,7 @@ use Rattle.pud_defs.proofs.Replay.{given_by-out, given_by-other}
 use Rattle.log_entry.specs.declared.Entry.{Entry}
 use Rattle.log_entry.specs.Reading.{entry_from}
 use Rattle.log_replay.specs.Replaying.{NamesApart}
-use Rattle.log_replay.proofs.Applying.{Applies-nothing, Applies-writes, Applies-failed_still, any_still, any_then, given_by-counts, GoesTo, goes_to}
+use Rattle.log_replay.proofs.Applying.{Applies-nothing, Applies-writes, Applies-failed_still, any_then, given_by-counts, GoesTo, goes_to}
 use Rattle.log_replay.proofs.Replay.apply.Goals as goal
 use Rattle.log_replay.proofs.Replay.apply.Goals.{then-entry-order-via-then-entry-order, then-entry-order-via-else-entry-order+then-not-counts}
 
@@ -37,7 +38,7 @@ returns-then-entry-order-clause-applies g c = λ t size same place places log e 
 pub returns-in_err-first-clause-applies : goal.returns-in_err-first-clause-applies
 returns-in_err-first-clause-applies g c =
     let p = err_from_is_err_and c.from_residual.result c.from_residual.ensures.1 in
-    rw (p.1, p.2) (λ t size same place places log e log_at range read apart. Applies-failed_still (given_by place log c.args.order e) _ _ _ c.in_err-first.ensures.never_cut (c.in_err-first.ensures.stays t))
+    rw (p.1, p.2) (λ t size same place places log e log_at range read apart. Applies-failed_still (given_by place log c.args.order e) _ _ _ (Changes-read c.in_err-first.ensures.only_reads t))
 
 pub returns-in-Some-clause-applies : goal.returns-in-Some-clause-applies
 returns-in-Some-clause-applies g c = λ t size same place places log e log_at range read apart.
@@ -50,7 +51,7 @@ returns-in-Some-clause-applies g c = λ t size same place places log e log_at ra
     let first : goes.first ≡ c.in-Some.first = let s = c.in-Some.is in let there = goes.there in cc in
     let end = g.H.Host.state c.copy_words.new.h in
     let writes = subst (λ (x : State). Writes (placed c.in-Some.first (words_from (reads x.now.words) c.args.entry.now.at c.args.entry.now.n)) (fault_of c.copy_words.result) x end)
-    (c.in_ok-first.ensures.stays t) (c.copy_words.ensures.writes t) in
+    (c.in_ok-first.ensures.only_reads.stays t) (c.copy_words.ensures.writes t) in
     Applies-writes (given_by place log c.args.order e) (placed c.in-Some.first e0.vals) (fault_of c.copy_words.result) _ _
     (λ w. ap (λ (x : LoggedEntry). given_by place log c.args.order x w) (sym read) ∙ given_by-counts place log c.args.order e0 c.in-Some.first w counts c.if-entry-order.false (goes.placed ∙ ap Some first))
     writes
@@ -67,11 +68,11 @@ returns-in-None-clause-applies g c = λ t size same place places log e log_at ra
 pub returns-in_err-first-clause-any : goal.returns-in_err-first-clause-any
 returns-in_err-first-clause-any g c =
     let p = err_from_is_err_and c.from_residual.result c.from_residual.ensures.1 in
-    rw (p.1, p.2) (λ t. any_still _ _ _ c.in_err-first.ensures.never_cut (c.in_err-first.ensures.stays t))
+    rw (p.1, p.2) (λ t. Changes-read c.in_err-first.ensures.only_reads t)
 
 pub returns-in-Some-clause-any : goal.returns-in-Some-clause-any
 returns-in-Some-clause-any g c = λ t.
-    any_then (fault_of c.copy_words.result) _ (g.H.Host.state c.first_word.new.h) _ (any_still None _ _ (λ cut. cc) (c.in_ok-first.ensures.stays t)) (c.copy_words.ensures.any t)
+    any_then (fault_of c.copy_words.result) _ (g.H.Host.state c.first_word.new.h) _ (Changes-read c.in_ok-first.ensures.only_reads t) (c.copy_words.ensures.any t)
 
 pub returns-in-None-clause-any : goal.returns-in-None-clause-any
-returns-in-None-clause-any g c = λ t. any_still None _ _ (λ cut. cc) (c.in_ok-first.ensures.stays t)
+returns-in-None-clause-any g c = λ t. Changes-read c.in_ok-first.ensures.only_reads t

@@ -7,7 +7,7 @@ use Rattle.pool_transaction.specs.Changing.{MayChange}
 use Rattle.pool_transaction.proofs.changing.carry_out.Goals as goal
 
 pub returns-in-Later-clause-changes : goal.returns-in-Later-clause-changes
-returns-in-Later-clause-changes g c = λ t. Changes-wider (InLog c.args.tx.now.at) (ByTransaction (pool_ground c.args.frames c.args.pool.now) c.args.tx.now.at) _ _ _ (λ k v inside. inl inside) (c.later.ensures.changes t)
+returns-in-Later-clause-changes g c = λ t. Changes-wider (InLog c.args.tx.now.log.at) (ByTransaction (pool_ground c.args.frames c.args.pool.now) c.args.tx.now.log.at) _ _ _ (λ k v inside. inl inside) (c.later.ensures.changes t)
 
 pub returns-in-Set-clause-counts : goal.returns-in-Set-clause-counts
 returns-in-Set-clause-counts g c = λ t types before undone running placed is_open may. c.set.ensures.counts t types before undone running.now running.laters placed is_open (subst (MayChange types running) c.in-Set.is may)

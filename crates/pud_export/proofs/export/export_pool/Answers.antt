@@ -1,7 +1,5 @@
 use Rattle.std.proofs.Common.{◌≡◌, ℕ, ◌*◌, List, length, Some, IfOk, ap, ap₂, subst, ◌∙◌}
 use Rattle.std.proofs.lemmas.List.{length-map}
-use Rattle.pm_model.specs.Words.{reads}
-use Rattle.pm_model.specs.Moments.{State}
 use Rattle.pud_defs.specs.declared.layout.TheConstants.{MACHINE_WORD}
 use Rattle.pud_defs.specs.ExportFile.{words_in, types_used, file_graph}
 use Rattle.pud_defs.specs.Exported.{exported_words}
@@ -12,13 +10,14 @@ use Rattle.pud_export.specs.Exporting.{types_among}
 use Rattle.pud_export.proofs.Both.{both_ok}
 use Rattle.pud_export.proofs.SlotsRead.{low_bases}
 use Rattle.pud_export.proofs.TypesUsed.{types_among-live}
+use Rattle.pm_model.proofs.Reading.{still_reads}
 use Rattle.pud_export.proofs.export.export_pool.Goals as goal
 
 pub returns-clause-words : goal.returns-clause-words
 returns-clause-words g c = λ t low image same graph is.
     let st = stored_in c.args.frames c.args.pool.now image in
-    let second = ap (λ (s : State). reads s.now.words) (c.read_types.ensures.stays t) ∙ same in
-    let third = ap (λ (s : State). reads s.now.words) (c.live_types.ensures.stays t) ∙ second in
+    let second = still_reads c.read_types.ensures.only_reads t same in
+    let third = still_reads c.live_types.ensures.only_reads t second in
     let types = c.in_ok-types.ensures.types t image same in
     let used : c.types_among-used.result.items ≡ types_used (types_of image) graph =
     c.types_among-used.ensures ∙ ap₂ types_among (c.as_slice.ensures.value ∙ types) (c.as_slice-2.ensures.value ∙ c.in_ok-ids.ensures.ids t image second) ∙ types_among-live (types_of image) st graph is in

@@ -1,4 +1,4 @@
-use Rattle.std.proofs.Common.{◌≡◌, ◌++◌}
+use Rattle.std.proofs.Common.{None, ◌≡◌, ◌++◌}
 use Rattle.std.specs.Prelude.{flat_map}
 use Rattle.std.specs.List.{range_with_len}
 use Rattle.pm_model.specs.Words.{reads}
@@ -6,12 +6,12 @@ use Rattle.pud_defs.specs.Exported.{exported_frame}
 use Rattle.pud_defs.specs.Image.{Image}
 use Rattle.pud_defs.specs.Stored.{stored_in}
 use Rattle.pud_export.specs.Exporting.{HasLowBases}
+use Rattle.pm_model.specs.Reads.{OnlyReads}
 use Rattle.pud_export.proofs.frames.push_frames.Given as goal
 
 abbrev pub invariant-loop-ordinal : goal.invariant-loop-ordinal
 invariant-loop-ordinal g l = record {
-  counts : g.H.Host.counts l.h ≡ g.H.Host.counts l.initial.h;
-  stays : g.H.Host.tells → g.H.Host.state l.h ≡ g.H.Host.state l.initial.h;
+  only_reads : OnlyReads g.H.Host.tells g.H.Host.state g.H.Host.counts None l.initial.h l.h;
   words : g.H.Host.tells → HasLowBases l.pool → (image : Image) → reads (g.H.Host.state l.initial.h).now.words ≡ image
       → l.words ≡ l.initial.words ++ flat_map (exported_frame l.types (stored_in l.frames l.pool image)) (range_with_len 0 l.ordinal);
 }

@@ -1,16 +1,16 @@
-use Rattle.std.proofs.Common.{◌≡◌, length}
+use Rattle.std.proofs.Common.{None, ◌≡◌, length}
 use Rattle.pm_model.specs.Words.{reads}
 use Rattle.pud_defs.specs.Image.{Image}
 use Rattle.pud_defs.specs.Stored.{stored_in}
 use Rattle.pud_export.specs.declared.slots.TheConstants.{SLOT}
 use Rattle.pud_export.specs.Exporting.{HasLowBases}
 use Rattle.pud_export.proofs.SlotsRead.{object_so_far}
+use Rattle.pm_model.specs.Reads.{OnlyReads}
 use Rattle.pud_export.proofs.slots.read_object.Given as goal
 
 abbrev pub invariant-loop-f : goal.invariant-loop-f
 invariant-loop-f g l = record {
-  counts : g.H.Host.counts l.h ≡ g.H.Host.counts l.initial.h;
-  stays : g.H.Host.tells → g.H.Host.state l.h ≡ g.H.Host.state l.initial.h;
+  only_reads : OnlyReads g.H.Host.tells g.H.Host.state g.H.Host.counts None l.initial.h l.h;
   whole : length l.words ≡ SLOT;
   words : g.H.Host.tells → HasLowBases l.pool → (image : Image) → reads (g.H.Host.state l.initial.h).now.words ≡ image
       → l.words ≡ object_so_far (stored_in l.frames l.pool image) l.place l.type_map l.serial l.id l.f;

@@ -1,11 +1,10 @@
 use Rattle.std.proofs.Common.{◌≡◌, ◌≢◌, Some, None, IfOk, sym, ap, subst, ◌∙◌}
 use Rattle.std.proofs.lemmas.Bool.{eqb-true, eqb-false}
-use Rattle.pm_model.specs.Words.{reads}
-use Rattle.pm_model.specs.Moments.{State}
 use Rattle.pud_defs.specs.declared.space.TheConstants.{SLOT_SERIAL_WORD}
 use Rattle.pud_defs.specs.Stored.{stored_in, place_word}
 use Rattle.pud_defs.specs.Types.{map_of}
 use Rattle.pud_export.proofs.SlotsRead.{exported_slot-free, exported_slot-live}
+use Rattle.pm_model.proofs.Reading.{still_reads}
 use Rattle.pud_export.proofs.slots.read_slot.Goals as goal
 
 pub returns-then-is_free-clause-words : goal.returns-then-is_free-clause-words
@@ -18,8 +17,8 @@ pub returns-in-Some-clause-words : goal.returns-in-Some-clause-words
 returns-in-Some-clause-words g c = λ t low image same.
     let st = stored_in c.args.frames c.args.pool.now image in
     let serial = c.in_ok-serial.ensures.serial t image same in
-    let second = ap (λ (s : State). reads s.now.words) (c.serial_at.ensures.stays t) ∙ same in
-    let third = ap (λ (s : State). reads s.now.words) (c.type_at.ensures.stays t) ∙ second in
+    let second = still_reads c.serial_at.ensures.only_reads t same in
+    let third = still_reads c.type_at.ensures.only_reads t second in
     let id = c.in_ok-id.ensures.id t image second in
     let not_free = eqb-false c.in_ok-serial.serial 0 (sym c.is_free.ensures ∙ c.if-is_free.false) in
     let live : place_word st c.args.place SLOT_SERIAL_WORD ≢ 0 = λ free. not_free (serial ∙ free) in
@@ -31,7 +30,7 @@ pub returns-in-None-clause-words : goal.returns-in-None-clause-words
 returns-in-None-clause-words g c = λ t low image same.
     let st = stored_in c.args.frames c.args.pool.now image in
     let serial = c.in_ok-serial.ensures.serial t image same in
-    let second = ap (λ (s : State). reads s.now.words) (c.serial_at.ensures.stays t) ∙ same in
+    let second = still_reads c.serial_at.ensures.only_reads t same in
     let id = c.in_ok-id.ensures.id t image second in
     let not_free = eqb-false c.in_ok-serial.serial 0 (sym c.is_free.ensures ∙ c.if-is_free.false) in
     let live : place_word st c.args.place SLOT_SERIAL_WORD ≢ 0 = λ free. not_free (serial ∙ free) in

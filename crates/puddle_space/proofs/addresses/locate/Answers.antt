@@ -1,15 +1,13 @@
-use Rattle.std.proofs.Common.{◌≡◌, ℕ, ◌-◌, Some, None, refl, ap, sym, ◌∙◌, arith}
-use Rattle.pm_model.specs.Words.{reads}
-use Rattle.pm_model.specs.Moments.{State}
+use Rattle.std.proofs.Common.{◌≡◌, ℕ, ◌-◌, Some, None, ap, sym, ◌∙◌, arith}
 use Rattle.pud_defs.specs.Puddles.{puddle_at}
 use Rattle.pud_defs.specs.Places.{first_some, place_by}
 use Rattle.puddle_space.proofs.Located.{located_by_records, first_some-passed, first_some-found, first_some-none}
+use Rattle.pm_model.proofs.Reading.{OnlyReads-none, OnlyReads-then, still_reads}
 use Rattle.puddle_space.proofs.addresses.locate.Goals as goal
 
 pub loop-frame-init : goal.loop-frame-init
 loop-frame-init g c = record {
-  counts = refl;
-  stays = λ t. refl;
+  only_reads = OnlyReads-none;
   passed = λ t image same.
       let place = λ (k : ℕ). place_by c.args.address k (puddle_at image k) in
       let count : c.args.frames ≡ c.args.frames - 0 = omega arith in
@@ -18,11 +16,10 @@ loop-frame-init g c = record {
 
 pub loop-frame-preserved : goal.loop-frame-preserved
 loop-frame-preserved g c = record {
-  counts = c.in_ok-place.ensures.cause ∙ c.loop-frame.invariant.counts;
-  stays = λ t. c.place_in.ensures.stays t ∙ c.loop-frame.invariant.stays t;
+  only_reads = OnlyReads-then c.loop-frame.invariant.only_reads c.in_ok-place.ensures.only_reads;
   passed = λ t image same.
       let place = λ (k : ℕ). place_by c.args.address k (puddle_at image k) in
-      let before = ap (λ (s : State). reads s.now.words) (c.loop-frame.invariant.stays t) ∙ same in
+      let before = still_reads c.loop-frame.invariant.only_reads t same in
       let here : place c.loop-frame.frame ≡ None = sym (c.in_ok-place.ensures.place t image before) ∙ c.in_default.is in
       let within = c.loop-frame-test.true in
       c.loop-frame.invariant.passed t image same ∙ first_some-passed place c.loop-frame.frame c.args.frames (omega arith) here;
@@ -31,7 +28,7 @@ loop-frame-preserved g c = record {
 pub returns-in-Some-clause-located : goal.returns-in-Some-clause-located
 returns-in-Some-clause-located g c = λ t image same.
     let place = λ (k : ℕ). place_by c.args.address k (puddle_at image k) in
-    let before = ap (λ (s : State). reads s.now.words) (c.loop-frame.invariant.stays t) ∙ same in
+    let before = still_reads c.loop-frame.invariant.only_reads t same in
     let here : place c.loop-frame.frame ≡ Some c.in-Some.place = sym (c.in_ok-place.ensures.place t image before) ∙ c.in-Some.is in
     let within = c.loop-frame-test.true in
     sym (c.loop-frame.invariant.passed t image same ∙ first_some-found place c.loop-frame.frame c.args.frames c.in-Some.place (omega arith) here)

@@ -1,6 +1,5 @@
 use Rattle.std.proofs.Common.{◌≡◌, ℕ, ◌+◌, ap, sym, ◌∙◌, option_map, arith}
-use Rattle.pm_model.specs.Words.{reads}
-use Rattle.pm_model.specs.Moments.{State}
+use Rattle.pm_model.proofs.Reading.{still_reads}
 use Rattle.pud_defs.specs.declared.records.TheConstants.{PUDDLE_BASE_WORD}
 use Rattle.pud_defs.specs.Image.{Image}
 use Rattle.pud_defs.specs.Puddles.{puddle_record_at}
@@ -19,7 +18,7 @@ returns-in-Some-clause-place g c = λ t image same.
     let record_word = puddle_record_at c.args.frame in
     let word : c.in_ok-load.field-0 ≡ image record_word = c.in_ok-load.ensures.value t ∙ ap (λ (i : Image). i record_word) same in
     let base : c.in_ok-base.base ≡ image (record_word + PUDDLE_BASE_WORD) =
-    c.in_ok-base.ensures.value t ∙ ap (λ (s : State). reads s.now.words (record_word + PUDDLE_BASE_WORD)) (c.load.ensures.state t) ∙ ap (λ (i : Image). i (record_word + PUDDLE_BASE_WORD)) same in
+    c.in_ok-base.ensures.value t ∙ ap (λ (i : Image). i (record_word + PUDDLE_BASE_WORD)) (still_reads c.load.ensures.only_reads t same) in
     let found = ap (λ b. word_in b c.args.address) (sym base) ∙ sym c.word_in.ensures.word ∙ c.in-Some.is in
     sym (ap (place_by c.args.address c.args.frame) (used_record image c.args.frame (λ zero. absurd (omega arith))) ∙ ap (option_map (λ (word : ℕ). (c.args.frame, word))) found)
 
@@ -28,6 +27,6 @@ returns-in-None-clause-place g c = λ t image same.
     let record_word = puddle_record_at c.args.frame in
     let word : c.in_ok-load.field-0 ≡ image record_word = c.in_ok-load.ensures.value t ∙ ap (λ (i : Image). i record_word) same in
     let base : c.in_ok-base.base ≡ image (record_word + PUDDLE_BASE_WORD) =
-    c.in_ok-base.ensures.value t ∙ ap (λ (s : State). reads s.now.words (record_word + PUDDLE_BASE_WORD)) (c.load.ensures.state t) ∙ ap (λ (i : Image). i (record_word + PUDDLE_BASE_WORD)) same in
+    c.in_ok-base.ensures.value t ∙ ap (λ (i : Image). i (record_word + PUDDLE_BASE_WORD)) (still_reads c.load.ensures.only_reads t same) in
     let found = ap (λ b. word_in b c.args.address) (sym base) ∙ sym c.word_in.ensures.word ∙ c.in-None.is in
     sym (ap (place_by c.args.address c.args.frame) (used_record image c.args.frame (λ zero. absurd (omega arith))) ∙ ap (option_map (λ (word : ℕ). (c.args.frame, word))) found)

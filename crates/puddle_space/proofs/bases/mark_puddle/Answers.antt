@@ -1,6 +1,5 @@
 use Rattle.std.proofs.Common.{◌≡◌, ◌+◌, not, ◌&&◌, eqb, ap, ap₂, sym, ◌∙◌, arith}
 use Rattle.pm_model.specs.Words.{reads}
-use Rattle.pm_model.specs.Moments.{State}
 use Rattle.pud_defs.specs.declared.records.TheConstants.{PUDDLE_BASE_WORD, PUDDLE_OLD_BASE_WORD}
 use Rattle.pud_defs.specs.Image.{Image}
 use Rattle.pud_defs.specs.Bases.{base_at}
@@ -9,6 +8,7 @@ use Rattle.pud_defs.specs.Places.{has_other_bases}
 use Rattle.pud_defs.proofs.TablesOf.{puddle_at-free}
 use Rattle.puddle_space.proofs.Records.{used_record}
 use Rattle.puddle_space.proofs.Kept.{LeavesFree-all, LeavesFree-then}
+use Rattle.pm_model.proofs.Reading.{still_reads}
 use Rattle.puddle_space.proofs.bases.mark_puddle.Goals as goal
 
 pub returns-then-branch-eq0-clause-left : goal.returns-then-branch-eq0-clause-left
@@ -19,8 +19,8 @@ returns-then-branch-eq0-clause-left g c = λ t image same.
 pub returns-clause-left : goal.returns-clause-left
 returns-clause-left g c = λ t image same.
     let record_word = puddle_record_at c.args.frame in
-    let first : reads (g.H.Host.state c.load.new.self).now.words ≡ image = ap (λ (s : State). reads s.now.words) (c.load.ensures.state t) ∙ same in
-    let second : reads (g.H.Host.state c.load-2.new.self).now.words ≡ image = ap (λ (s : State). reads s.now.words) (c.load-2.ensures.state t) ∙ first in
+    let first : reads (g.H.Host.state c.load.new.self).now.words ≡ image = still_reads c.load.ensures.only_reads t same in
+    let second : reads (g.H.Host.state c.load-2.new.self).now.words ≡ image = still_reads c.load-2.ensures.only_reads t first in
     let word : c.in_ok-load.field-0 ≡ image record_word = c.in_ok-load.ensures.value t ∙ ap (λ (i : Image). i record_word) same in
     let base : c.in_ok-base.base ≡ image (record_word + PUDDLE_BASE_WORD) = c.in_ok-base.ensures.value t ∙ ap (λ (i : Image). i (record_word + PUDDLE_BASE_WORD)) first in
     let old_base : c.in_ok-old_base.old_base ≡ image (record_word + PUDDLE_OLD_BASE_WORD) = c.in_ok-old_base.ensures.value t ∙ ap (λ (i : Image). i (record_word + PUDDLE_OLD_BASE_WORD)) second in

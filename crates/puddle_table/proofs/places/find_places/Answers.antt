@@ -1,11 +1,11 @@
-use Rattle.std.proofs.Common.{◌≡◌, ℕ, ◌-◌, refl, sym, ap, ◌∙◌, subst, arith}
+use Rattle.std.proofs.Common.{◌≡◌, ℕ, ◌-◌, sym, ap, ◌∙◌, subst, arith}
 use Rattle.pm_model.specs.Words.{reads}
 use Rattle.pm_model.specs.Moments.{State}
-use Rattle.pm_model.specs.Counts.{after_fault, fault_of}
 use Rattle.pud_defs.specs.Image.{Image}
 use Rattle.pud_defs.specs.Puddles.{puddle_record_at}
 use Rattle.puddle_table.specs.Placed.{Placed}
 use Rattle.puddle_table.proofs.Placing.{HoldsFrom, few_used, HoldsFrom-start, HoldsFrom-next, HoldsPlaces-end}
+use Rattle.pm_model.proofs.Reading.{OnlyReads-none, OnlyReads-then}
 use Rattle.puddle_table.proofs.places.find_places.Goals as goal
 
 pub loop-frame-init : goal.loop-frame-init
@@ -16,8 +16,7 @@ loop-frame-init g c =
     record {
       count = ap (λ (p : Placed). p.count) none;
       few = omega (arith, used);
-      counts = refl;
-      stays = λ t. refl;
+      only_reads = OnlyReads-none;
       placed = λ t. subst (HoldsFrom c.args.frames image c.args.frames) (sym none) (HoldsFrom-start c.args.frames image);
     }
 
@@ -28,12 +27,11 @@ loop-frame-preserved g c =
     record {
       count = c.put.ensures.count ∙ c.loop-frame.invariant.count;
       few = few_used c.args.frames next c.in_ok-member.member c.loop-frame.found c.put.new.self (omega (arith, some)) c.put.ensures c.loop-frame.invariant.few;
-      counts = c.load.ensures.cause ∙ ap (λ r. after_fault (fault_of r) (g.H.Host.counts c.loop-frame.h)) c.in_ok-member.was ∙ c.loop-frame.invariant.counts;
-      stays = λ t. c.load.ensures.state t ∙ c.loop-frame.invariant.stays t;
+      only_reads = OnlyReads-then c.loop-frame.invariant.only_reads c.in_ok-member.ensures.only_reads;
       placed = λ t.
           let image = reads (g.H.Host.state c.args.h.now).now.words in
           let word : c.in_ok-member.member ≡ image (puddle_record_at (next - 1)) =
-          c.in_ok-member.ensures.value t ∙ ap (λ (s : State). reads s.now.words c.record_at.result) (c.loop-frame.invariant.stays t) ∙ ap image c.record_at.ensures in
+          c.in_ok-member.ensures.value t ∙ ap (λ (s : State). reads s.now.words c.record_at.result) (c.loop-frame.invariant.only_reads.stays t) ∙ ap image c.record_at.ensures in
           HoldsFrom-next c.args.frames image next c.in_ok-member.member c.loop-frame.found c.put.new.self (omega (arith, some)) c.loop-frame.auto.frame word c.put.ensures (c.loop-frame.invariant.placed t);
     }
 

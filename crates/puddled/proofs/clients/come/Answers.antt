@@ -14,7 +14,7 @@ pub returns-in_err-is_registered-clause-applies : goal.returns-in_err-is_registe
 returns-in_err-is_registered-clause-applies g c =
     let p = err_from_is_err_and c.from_residual.result c.from_residual.ensures.1 in
     rw (p.1, p.2) (λ t size e w memory frames ready.
-    Applies-failed size w (world_by w (Some (Client c.args.client c.args.uid c.args.gid))) memory c.in_err-is_registered.field-0.0 _ _ ready (c.in_err-is_registered.ensures.stays t) c.in_err-is_registered.ensures.never_cut)
+    Applies-failed size w (world_by w (Some (Client c.args.client c.args.uid c.args.gid))) memory c.in_err-is_registered.field-0.0 _ _ ready (c.in_err-is_registered.ensures.only_reads.stays t) c.in_err-is_registered.ensures.only_reads.never_cut)
 
 pub returns-then-branch-clause-reply : goal.returns-then-branch-clause-reply
 returns-then-branch-clause-reply g c = λ t size e w memory frames ready.
@@ -24,7 +24,7 @@ pub returns-then-branch-clause-applies : goal.returns-then-branch-clause-applies
 returns-then-branch-clause-applies g c = λ t size e w memory frames ready.
     Applies-refused size w memory (Client c.args.client c.args.uid c.args.gid) refusals.Taken _ _ ready
     (taken w c.args.client c.args.uid c.args.gid (sym c.if-branch.true ∙ presence_read size w memory _ c.args.client _ c.requires.known ready (c.in_ok-is_registered.ensures.registered t)))
-    (c.in_ok-is_registered.ensures.stays t)
+    (c.in_ok-is_registered.ensures.only_reads.stays t)
 
 pub returns-clause-reply : goal.returns-clause-reply
 returns-clause-reply g c = λ t size e w memory frames ready.
@@ -35,15 +35,15 @@ returns-in_err-admit-clause-applies g c =
     let p = err_from_is_err_and c.from_residual-in_err-admit.result c.from_residual-in_err-admit.ensures.1 in
     rw (p.1, p.2) (λ t size e w memory frames ready.
     let absent = sym c.if-branch.false ∙ presence_read size w memory _ c.args.client _ c.requires.known ready (c.in_ok-is_registered.ensures.registered t) in
-    let after = e ∙ sym (ap (λ (n : Counts). n.size) c.in_ok-is_registered.ensures.cause) in
+    let after = e ∙ sym (ap (λ (n : Counts). n.size) c.in_ok-is_registered.ensures.only_reads.cause) in
     Applies-accepted size w memory (Client c.args.client c.args.uid c.args.gid) (Some c.in_err-admit.field-0.0) _ _ _
     (is_new w c.args.client c.args.uid c.args.gid absent)
-    (c.in_ok-is_registered.ensures.stays t) (λ ready_b. c.in_err-admit.ensures.applies t size after w memory frames ready_b (others_absent w memory.held ready.mask _ c.args.client ready.held absent)) ready)
+    (c.in_ok-is_registered.ensures.only_reads.stays t) (λ ready_b. c.in_err-admit.ensures.applies t size after w memory frames ready_b (others_absent w memory.held ready.mask _ c.args.client ready.held absent)) ready)
 
 pub returns-clause-applies : goal.returns-clause-applies
 returns-clause-applies g c = λ t size e w memory frames ready.
     let absent = sym c.if-branch.false ∙ presence_read size w memory _ c.args.client _ c.requires.known ready (c.in_ok-is_registered.ensures.registered t) in
-    let after = e ∙ sym (ap (λ (n : Counts). n.size) c.in_ok-is_registered.ensures.cause) in
+    let after = e ∙ sym (ap (λ (n : Counts). n.size) c.in_ok-is_registered.ensures.only_reads.cause) in
     Applies-accepted size w memory (Client c.args.client c.args.uid c.args.gid) _ _ _ _
     (is_new w c.args.client c.args.uid c.args.gid absent)
-    (c.in_ok-is_registered.ensures.stays t) (λ ready_b. c.in_ok-admit.ensures.applies t size after w memory frames ready_b (others_absent w memory.held ready.mask _ c.args.client ready.held absent)) ready
+    (c.in_ok-is_registered.ensures.only_reads.stays t) (λ ready_b. c.in_ok-admit.ensures.applies t size after w memory frames ready_b (others_absent w memory.held ready.mask _ c.args.client ready.held absent)) ready

@@ -44,11 +44,10 @@ returns-in-Pool-clause-carries g c = λ t size e w ready.
 pub returns-in-Chmod-clause-carries : goal.returns-in-Chmod-clause-carries
 returns-in-Chmod-clause-carries g c = λ t size e w ready.
     let chmod = Chmod c.in-Chmod.client c.in-Chmod.name c.in-Chmod.mode in
-    let sessions = sym (ap (λ (m : Memory). m.sessions) c.daemon-in-Chmod.view_is) in
     let legal = subst IsLegalCommand c.in-Chmod.is c.requires.legal in
-    CarriesOut-as size w c.args.daemon.now _ _ _ _ c.args.command chmod c.with_reply-in-Chmod.result c.change.result c.in-Chmod.is c.with_reply-in-Chmod.ensures
-    (CarriesOut-plain size w c.args.daemon.now _ _ _ _ chmod c.change.result refl refl (c.change.ensures.reply t size w _ sessions ready) (c.change.ensures.applies t size e w _ sessions ready legal)
-    (ClosesLogs-other w _ _ _ (λ client no. cc)) (c.change.ensures.rest t) c.change.ensures.cause)
+    CarriesOut-as size w c.change_for.new.self _ _ _ _ c.args.command chmod c.with_reply-in-Chmod.result c.change_for.result c.in-Chmod.is c.with_reply-in-Chmod.ensures
+    (CarriesOut-plain size w c.change_for.new.self _ _ _ _ chmod c.change_for.result refl refl (c.change_for.ensures.reply t size w ready) (c.change_for.ensures.applies t size e w ready legal)
+    (ClosesLogs-other w _ _ _ (λ client no. cc)) (c.change_for.ensures.rest t) c.change_for.ensures.cause)
 
 pub returns-in-Drop-clause-carries : goal.returns-in-Drop-clause-carries
 returns-in-Drop-clause-carries g c = λ t size e w ready.
@@ -62,7 +61,7 @@ returns-in-Get-clause-carries g c = λ t size e w ready.
     let get = Get c.in-Get.client c.in-Get.name c.in-Get.s c.in-Get.f in
     CarriesOut-as size w c.get_for.new.self _ _ _ _ c.args.command get c.with_reply-in-Get.result c.get_for.result c.in-Get.is c.with_reply-in-Get.ensures
     (CarriesOut-plain size w c.get_for.new.self _ _ _ _ get c.get_for.result refl refl (c.get_for.ensures.reply t size w ready) (c.get_for.ensures.applies t size w ready)
-    (ClosesLogs-other w _ _ _ (λ client no. cc)) (KeepsRest-still _ _ (c.get_for.ensures.stays t)) c.get_for.ensures.cause)
+    (ClosesLogs-other w _ _ _ (λ client no. cc)) (KeepsRest-still _ _ (c.get_for.ensures.only_reads.stays t)) c.get_for.ensures.only_reads.cause)
 
 pub returns-in-Begin-clause-carries : goal.returns-in-Begin-clause-carries
 returns-in-Begin-clause-carries g c = λ t size e w ready.
@@ -86,23 +85,23 @@ returns-in-New-clause-carries g c = λ t size e w ready.
 
 pub returns-in-Set-clause-carries : goal.returns-in-Set-clause-carries
 returns-in-Set-clause-carries g c = λ t size e w ready.
-    CarriesOut-as size w c.set.new.self _ _ _ _ c.args.command (Set c.in-Set.client c.in-Set.name c.in-Set.s c.in-Set.f c.in-Set.x) c.with_reply-in-Set.result c.set.result c.in-Set.is c.with_reply-in-Set.ensures
-    (c.set.ensures.carries t size e w ready)
+    CarriesOut-as size w c.change_own.new.self _ _ _ _ c.args.command (Set c.in-Set.client c.in-Set.name c.in-Set.s c.in-Set.f c.in-Set.x) c.with_reply-in-Set.result c.change_own.result c.in-Set.is c.with_reply-in-Set.ensures
+    (c.change_own.ensures.carries t size e w ready)
 
 pub returns-in-Later-clause-carries : goal.returns-in-Later-clause-carries
 returns-in-Later-clause-carries g c = λ t size e w ready.
-    CarriesOut-as size w c.later.new.self _ _ _ _ c.args.command (Later c.in-Later.client c.in-Later.name c.in-Later.s c.in-Later.f c.in-Later.x) c.with_reply-in-Later.result c.later.result c.in-Later.is c.with_reply-in-Later.ensures
-    (c.later.ensures.carries t size e w ready)
+    CarriesOut-as size w c.change_own-in-Later.new.self _ _ _ _ c.args.command (Later c.in-Later.client c.in-Later.name c.in-Later.s c.in-Later.f c.in-Later.x) c.with_reply-in-Later.result c.change_own-in-Later.result c.in-Later.is c.with_reply-in-Later.ensures
+    (c.change_own-in-Later.ensures.carries t size e w ready)
 
 pub returns-in-Root-clause-carries : goal.returns-in-Root-clause-carries
 returns-in-Root-clause-carries g c = λ t size e w ready.
-    CarriesOut-as size w c.root.new.self _ _ _ _ c.args.command (Root c.in-Root.client c.in-Root.name c.in-Root.s) c.with_reply-in-Root.result c.root.result c.in-Root.is c.with_reply-in-Root.ensures
-    (c.root.ensures.carries t size e w ready)
+    CarriesOut-as size w c.change_own-in-Root.new.self _ _ _ _ c.args.command (Root c.in-Root.client c.in-Root.name c.in-Root.s) c.with_reply-in-Root.result c.change_own-in-Root.result c.in-Root.is c.with_reply-in-Root.ensures
+    (c.change_own-in-Root.ensures.carries t size e w ready)
 
 pub returns-in-Free-clause-carries : goal.returns-in-Free-clause-carries
 returns-in-Free-clause-carries g c = λ t size e w ready.
-    CarriesOut-as size w c.free.new.self _ _ _ _ c.args.command (Free c.in-Free.client c.in-Free.name c.in-Free.s) c.with_reply-in-Free.result c.free.result c.in-Free.is c.with_reply-in-Free.ensures
-    (c.free.ensures.carries t size e w ready)
+    CarriesOut-as size w c.change_own-in-Free.new.self _ _ _ _ c.args.command (Free c.in-Free.client c.in-Free.name c.in-Free.s) c.with_reply-in-Free.result c.change_own-in-Free.result c.in-Free.is c.with_reply-in-Free.ensures
+    (c.change_own-in-Free.ensures.carries t size e w ready)
 
 pub returns-in-Pools-clause-carries : goal.returns-in-Pools-clause-carries
 returns-in-Pools-clause-carries g c = λ t size e w ready.

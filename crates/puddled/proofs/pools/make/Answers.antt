@@ -18,7 +18,7 @@ pub returns-in_err-who-clause-applies : goal.returns-in_err-who-clause-applies
 returns-in_err-who-clause-applies g c =
     let p = err_from_is_err_and c.from_residual.result c.from_residual.ensures.1 in
     rw (p.1, p.2) (λ t size e w memory frames ready legal.
-    Applies-failed size w (world_by w (Some (commands.Pool c.args.client c.args.name c.args.mode))) memory c.in_err-who.field-0.0 _ _ ready (c.in_err-who.ensures.stays t) c.in_err-who.ensures.never_cut)
+    Applies-failed size w (world_by w (Some (commands.Pool c.args.client c.args.name c.args.mode))) memory c.in_err-who.field-0.0 _ _ ready (c.in_err-who.ensures.only_reads.stays t) c.in_err-who.ensures.only_reads.never_cut)
 
 pub returns-in_default-clause-reply : goal.returns-in_default-clause-reply
 returns-in_default-clause-reply g c = λ t size e w memory frames ready.
@@ -28,23 +28,23 @@ returns-in_default-clause-reply g c = λ t size e w memory frames ready.
 pub returns-in_default-clause-applies : goal.returns-in_default-clause-applies
 returns-in_default-clause-applies g c = λ t size e w memory frames ready legal.
     Applies-refused size w memory (commands.Pool c.args.client c.args.name c.args.mode) refusals.Client _ _ ready
-    (refused_pool_client w c.args.client c.args.mode c.args.name (absent size w memory _ ready c.args.client c.requires.known (sym c.in_default.is ∙ c.in_ok-who.ensures.owner t _ refl))) (c.owner.ensures.stays t)
+    (refused_pool_client w c.args.client c.args.mode c.args.name (absent size w memory _ ready c.args.client c.requires.known (sym c.in_default.is ∙ c.in_ok-who.ensures.owner t _ refl))) (c.owner.ensures.only_reads.stays t)
 
 pub returns-clause-reply : goal.returns-clause-reply
 returns-clause-reply g c = λ t size e w memory frames ready.
     let who = acting size w memory _ ready c.args.client c.in-Some.who c.requires.known (sym c.in-Some.is ∙ c.in_ok-who.ensures.owner t _ refl) in
-    let read = ap (λ (s : State). reads s.now.words) (c.owner.ensures.stays t) in
+    let read = ap (λ (s : State). reads s.now.words) (c.owner.ensures.only_reads.stays t) in
     reply_making size w memory c.args.client c.in-Some.who.uid c.in-Some.who.gid c.args.mode c.args.frames c.args.name c.make_pool.result c.reply_of.result _ (g.H.Host.state c.make_pool.new.h) ready who (sym frames ∙ ready.frames) c.reply_of.ensures
     (c.make_pool.ensures.refusal t _ read)
 
 pub returns-clause-applies : goal.returns-clause-applies
 returns-clause-applies g c = λ t size e w memory frames ready legal.
     let who = acting size w memory _ ready c.args.client c.in-Some.who c.requires.known (sym c.in-Some.is ∙ c.in_ok-who.ensures.owner t _ refl) in
-    let then = e ∙ sym (ap (λ (n : Counts). n.size) c.in_ok-who.ensures.cause) in
+    let then = e ∙ sym (ap (λ (n : Counts). n.size) c.in_ok-who.ensures.only_reads.cause) in
     let same = sym frames ∙ ready.frames in
     let b = g.H.Host.state c.owner.new.h in
     let d = g.H.Host.state c.make_pool.new.h in
-    Applies-behind size w (world_by w (Some (commands.Pool c.args.client c.args.name c.args.mode))) memory memory (fault_of c.reply_of.result) (g.H.Host.state c.args.h.now) b d (c.owner.ensures.stays t)
+    Applies-behind size w (world_by w (Some (commands.Pool c.args.client c.args.name c.args.mode))) memory memory (fault_of c.reply_of.result) (g.H.Host.state c.args.h.now) b d (c.owner.ensures.only_reads.stays t)
     (λ ready_then.
     Applies-making size w memory c.args.client c.in-Some.who.uid c.in-Some.who.gid c.args.mode c.args.frames c.args.name c.make_pool.result c.reply_of.result b d ready_then who same c.reply_of.ensures
     (λ n. HasFreshFrame (tables_of n (reads b.now.words)) (w.stored.next_number + 1))
@@ -62,4 +62,4 @@ returns-clause-applies g c = λ t size e w memory frames ready legal.
     (c.make_pool.ensures.any t).rests) ready
 
 pub returns-clause-rest : goal.returns-clause-rest
-returns-clause-rest g c = λ t. KeepsRest-then _ _ _ (KeepsRest-still _ _ (c.in_ok-who.ensures.stays t)) (KeepsRest-changes _ _ _ _ (c.make_pool.ensures.any t))
+returns-clause-rest g c = λ t. KeepsRest-then _ _ _ (KeepsRest-still _ _ (c.in_ok-who.ensures.only_reads.stays t)) (KeepsRest-changes _ _ _ _ (c.make_pool.ensures.any t))

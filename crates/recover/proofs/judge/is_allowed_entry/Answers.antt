@@ -1,8 +1,6 @@
 use Rattle.std.proofs.Common.{◌≡◌, ◌&&◌, ◌+◌, ◌%◌, ◌<◌, leb, length, ℕ, Bool, true, sym, ap, ◌∙◌, arith}
 use Rattle.std.proofs.lemmas.Bool.{and_left, le-leb, lt-leb}
 use Rattle.std.proofs.lemmas.Result.{IfOk-weaker}
-use Rattle.pm_model.specs.Words.{reads}
-use Rattle.pm_model.specs.Moments.{State}
 use Rattle.pud_defs.specs.declared.layout.TheConstants.{FRAME_WORDS}
 use Rattle.pud_defs.specs.declared.space.TheConstants.{WORD_BYTES}
 use Rattle.pud_defs.specs.Tables.{tables_of}
@@ -11,6 +9,7 @@ use Rattle.pud_defs.proofs.Entries.{words_from-length}
 use Rattle.log_entry.specs.Reading.{entry_from}
 use Rattle.recover.specs.Verdicts.{owner_by_record}
 use Rattle.recover.proofs.Writable.{allowed_by_place}
+use Rattle.pm_model.proofs.Reading.{still_reads}
 use Rattle.recover.proofs.judge.is_allowed_entry.Goals as goal
 
 pub returns-then-entry-word-clause-allowed : goal.returns-then-entry-word-clause-allowed
@@ -31,7 +30,7 @@ returns-clause-allowed g c = λ t image same.
     let e = entry_from image c.args.entry.now in
     let whole : c.args.entry.now.addr % WORD_BYTES ≡ 0 = ap (λ (n : ℕ). c.args.entry.now.addr % n) (sym c.from.ensures) ∙ c.if-entry-from-ne0.false in
     let there = sym (c.in_ok-frame.ensures.located t image same) ∙ c.in-Some.is in
-    let behind = ap (λ (s : State). reads s.now.words) (c.locate.ensures.stays t) ∙ same in
+    let behind = still_reads c.locate.ensures.only_reads t same in
     let many : length e.vals ≡ c.args.entry.now.n = words_from-length image c.args.entry.now.at c.args.entry.now.n in
     let known = (rw c.in-Some.is at c.in_ok-frame.ensures.within) in
     let frame : c.in-Some.frame < c.args.frames = known.frame in

@@ -1,12 +1,11 @@
 use Rattle.std.proofs.Common.{◌≡◌, ◌+◌, ◌-◌, ◌*◌, ◌<◌, inl, inr, ℕ, List, length, get_or, None, Option, sym, ap, ◌∙◌, arith}
 use Rattle.std.proofs.lemmas.Bool.{cases_lt}
 use borrow.Rule.Slice.PartMut.{put_mid}
-use Rattle.pm_model.specs.Words.{reads}
-use Rattle.pm_model.specs.Moments.{State}
 use Rattle.pud_defs.specs.declared.layout.TheConstants.{CLIENT_LOGS}
 use Rattle.recover.specs.declared.judge.Mark.{Mark}
 use Rattle.recover.specs.Verdicts.{verdict_of}
 use Rattle.recover.proofs.Judged.{length-placed, before_placed, placed_there}
+use Rattle.pm_model.proofs.Reading.{OnlyReads-then, still_reads}
 use Rattle.recover.proofs.judge.judge.Goals as goal
 
 pub loop-client-preserved : goal.loop-client-preserved
@@ -19,10 +18,9 @@ loop-client-preserved g c =
     let count : CLIENT_LOGS ≡ at + 4 - at = omega arith in
     record {
       all = length-placed at (at + 4 - at) found copied (all ∙ count) (omega arith) ∙ old.all;
-      counts = c.in_ok-marks.ensures.cause ∙ old.counts;
-      stays = λ t. c.judge_client.ensures.stays t ∙ old.stays t;
+      only_reads = OnlyReads-then old.only_reads c.in_ok-marks.ensures.only_reads;
       marks = λ t image same k below.
-          let before = ap (λ (s : State). reads s.now.words) (old.stays t) ∙ same in
+          let before = still_reads old.only_reads t same in
           elim (cases_lt k at) [
             | inl lower ↦ before_placed at (at + 4 - at) k found copied None lower (omega arith) ∙ old.marks t image same k lower
             | inr behind ↦

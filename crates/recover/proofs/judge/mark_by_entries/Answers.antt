@@ -1,7 +1,5 @@
-use Rattle.std.proofs.Common.{◌<◌, ◌≤◌, refl, sym, ap, ◌∙◌, arith}
+use Rattle.std.proofs.Common.{◌<◌, ◌≤◌, sym, ap, ◌∙◌, arith}
 use Rattle.std.proofs.lemmas.Bool.{cond-true, cond-false, le-leb, lt-leb}
-use Rattle.pm_model.specs.Words.{reads}
-use Rattle.pm_model.specs.Moments.{State}
 use Rattle.pud_defs.specs.Entries.{log_of, gate_lo, gate_hi, gate_used}
 use Rattle.pud_defs.specs.Tables.{tables_of}
 use Rattle.log_entry.specs.Reading.{Reading, entry_from, entries_left, PassesOne}
@@ -10,14 +8,14 @@ use Rattle.log_entry.proofs.Left.{IsReading-start, IsReading-more, entries_left-
 use Rattle.recover.specs.declared.judge.Mark.TheVariants.{Closed}
 use Rattle.recover.specs.Verdicts.{owner_by_record}
 use Rattle.recover.proofs.Marked.{mark_left, mark_left-passed, mark_left-allowed, mark_left-refused, mark_left-whole, left_with, mark_left-behind}
+use Rattle.pm_model.proofs.Reading.{OnlyReads-none, OnlyReads-then, still_reads}
 use Rattle.recover.proofs.judge.mark_by_entries.Goals as goal
 
 pub loop-entry-init : goal.loop-entry-init
 loop-entry-init g c = record {
   reading = IsReading-start c.args.log_at c.new-reader.result c.new-reader.ensures;
   passed = sym (ap (λ (r : Reading). r.passed) c.new-reader.ensures);
-  counts = refl;
-  stays = λ t. refl;
+  only_reads = OnlyReads-none;
   marks = λ t image same is.
       let tables = tables_of c.args.frames image in
       let who = owner_by_record c.args.who in
@@ -32,14 +30,13 @@ loop-entry-preserved-then-not-counts g c =
     record {
       reading = IsReading-more c.args.log_at _ c.in-Some.entry _ _ old.reading c.in-Some.is c.in_ok-entry.ensures.passes;
       passed = let before = old.passed in let now = passes.passed in omega arith;
-      counts = c.in_ok-entry.ensures.cause ∙ old.counts;
-      stays = λ t. c.next.ensures.stays t ∙ old.stays t;
+      only_reads = OnlyReads-then old.only_reads c.in_ok-entry.ensures.only_reads;
       marks = λ t image same is.
           let tables = tables_of c.args.frames image in
           let who = owner_by_record c.args.who in
           let log = log_of image c.args.log_at in
           let e = entry_from image c.in-Some.entry in
-          let before = ap (λ (s : State). reads s.now.words) (old.stays t) ∙ same in
+          let before = still_reads old.only_reads t same in
           let range : HasRange _ log = record { lo = c.gate_lo.ensures ∙ ap gate_lo is; hi = c.gate_hi.ensures ∙ ap gate_hi is } in
           let out = sym (c.counts.ensures image log range) ∙ c.if-not-counts.true in
           let left = left_with image _ c.in-Some.entry _ _ c.in-Some.is (c.in_ok-entry.ensures.left t image before) in
@@ -53,8 +50,8 @@ returns-then-not-branch-clause-mark g c = λ t image same is legal.
     let who = owner_by_record c.args.who in
     let log = log_of image c.args.log_at in
     let e = entry_from image c.in-Some.entry in
-    let before = ap (λ (s : State). reads s.now.words) (old.stays t) ∙ same in
-    let behind = ap (λ (s : State). reads s.now.words) (c.next.ensures.stays t) ∙ before in
+    let before = still_reads old.only_reads t same in
+    let behind = still_reads c.next.ensures.only_reads t before in
     let range : HasRange _ log = record { lo = c.gate_lo.ensures ∙ ap gate_lo is; hi = c.gate_hi.ensures ∙ ap gate_hi is } in
     let counts = sym (c.counts.ensures image log range) ∙ c.if-not-counts.false in
     let other = sym (c.in_ok-is_allowed_entry.ensures.allowed t image behind) ∙ c.if-not-branch.true in
@@ -68,15 +65,14 @@ loop-entry-preserved g c =
     record {
       reading = IsReading-more c.args.log_at _ c.in-Some.entry _ _ old.reading c.in-Some.is c.in_ok-entry.ensures.passes;
       passed = let before = old.passed in let now = passes.passed in omega arith;
-      counts = c.in_ok-is_allowed_entry.ensures.cause ∙ c.in_ok-entry.ensures.cause ∙ old.counts;
-      stays = λ t. c.is_allowed_entry.ensures.stays t ∙ c.next.ensures.stays t ∙ old.stays t;
+      only_reads = OnlyReads-then (OnlyReads-then old.only_reads c.in_ok-entry.ensures.only_reads) c.in_ok-is_allowed_entry.ensures.only_reads;
       marks = λ t image same is.
           let tables = tables_of c.args.frames image in
           let who = owner_by_record c.args.who in
           let log = log_of image c.args.log_at in
           let e = entry_from image c.in-Some.entry in
-          let before = ap (λ (s : State). reads s.now.words) (old.stays t) ∙ same in
-          let behind = ap (λ (s : State). reads s.now.words) (c.next.ensures.stays t) ∙ before in
+          let before = still_reads old.only_reads t same in
+          let behind = still_reads c.next.ensures.only_reads t before in
           let range : HasRange _ log = record { lo = c.gate_lo.ensures ∙ ap gate_lo is; hi = c.gate_hi.ensures ∙ ap gate_hi is } in
           let counts = sym (c.counts.ensures image log range) ∙ c.if-not-counts.false in
           let allowed = sym (c.in_ok-is_allowed_entry.ensures.allowed t image behind) ∙ c.if-not-branch.false in
@@ -87,7 +83,7 @@ loop-entry-preserved g c =
 pub returns-then-passed-gate_used-clause-mark : goal.returns-then-passed-gate_used-clause-mark
 returns-then-passed-gate_used-clause-mark g c = λ t image same is legal.
     let old = c.loop-entry.invariant in
-    let before = ap (λ (s : State). reads s.now.words) (old.stays t) ∙ same in
+    let before = still_reads old.only_reads t same in
     let used = c.gate_used.ensures in
     let fewer : c.loop-entry.passed < gate_used c.args.gate = omega arith in
     sym (mark_left-behind (tables_of c.args.frames image) (owner_by_record c.args.who) (log_of image c.args.log_at) c.loop-entry.mark image _ _ c.next.new.self c.args.log_at c.args.gate c.loop-entry.passed
@@ -98,7 +94,7 @@ returns-then-passed-gate_used-clause-mark g c = λ t image same is legal.
 pub returns-clause-mark : goal.returns-clause-mark
 returns-clause-mark g c = λ t image same is legal.
     let old = c.loop-entry.invariant in
-    let before = ap (λ (s : State). reads s.now.words) (old.stays t) ∙ same in
+    let before = still_reads old.only_reads t same in
     let used = c.gate_used.ensures in
     let all : gate_used c.args.gate ≤ c.loop-entry.passed = omega arith in
     sym (mark_left-behind (tables_of c.args.frames image) (owner_by_record c.args.who) (log_of image c.args.log_at) c.loop-entry.mark image _ _ c.next.new.self c.args.log_at c.args.gate c.loop-entry.passed

@@ -1,7 +1,5 @@
 use Rattle.std.proofs.Common.{◌≡◌, true, ◌&&◌, ◌+◌, ◌-◌, not, eqb, ℕ, Bool, sym, ap, ap₂, ◌∙◌, arith, ne_eqb, eq-eqb}
 use Rattle.std.proofs.lemmas.Bool.{and_right}
-use Rattle.pm_model.specs.Words.{reads}
-use Rattle.pm_model.specs.Moments.{State}
 use Rattle.pud_defs.specs.declared.records.TheConstants.{POOL_OWNER_WORD, POOL_MODE_WORD}
 use Rattle.pud_defs.specs.Image.{Image}
 use Rattle.pud_defs.specs.Pools.{owner_uid, owner_gid, pool_record_at}
@@ -11,6 +9,7 @@ use Rattle.pud_defs.specs.Tables.{tables_of}
 use Rattle.pud_defs.specs.Allowed.{may_write_record}
 use Rattle.recover.specs.Verdicts.{owner_by_record}
 use Rattle.recover.proofs.Writable.{may_write_used, may_write_free, may_write_beyond}
+use Rattle.pm_model.proofs.Reading.{still_reads}
 use Rattle.recover.proofs.judge.may_write_pool.Goals as goal
 use Rattle.recover.proofs.judge.may_write_pool.Goals.{then-pool-eq0-via-then-pool-eq0, then-pool-eq0-via-else-pool-eq0+then-pool-gt-POOL_RECORDS}
 
@@ -35,8 +34,8 @@ returns-clause-may g c = λ t image same F.
     let at = pool_record_at slot in
     let who = owner_by_record c.args.who in
     let word : c.in_ok-load.field-0 ≡ image at = c.in_ok-load.ensures.value t ∙ ap (λ (i : Image). i at) same in
-    let behind = ap (λ (s : State). reads s.now.words) (c.load.ensures.state t) ∙ same in
-    let then = ap (λ (s : State). reads s.now.words) (c.load-2.ensures.state t) ∙ behind in
+    let behind = still_reads c.load.ensures.only_reads t same in
+    let then = still_reads c.load-2.ensures.only_reads t behind in
     let owner_word : c.in_ok-owner.owner ≡ image (at + POOL_OWNER_WORD) = c.in_ok-owner.ensures.value t ∙ ap (λ (i : Image). i (at + POOL_OWNER_WORD)) behind in
     let mode_word : c.in_ok-mode.mode ≡ image (at + POOL_MODE_WORD) = c.in_ok-mode.ensures.value t ∙ ap (λ (i : Image). i (at + POOL_MODE_WORD)) then in
     let named : not (eqb c.args.pool 0) ≡ true = ap not (ne_eqb c.args.pool 0 c.if-pool-eq0.false) in

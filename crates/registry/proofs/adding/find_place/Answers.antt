@@ -1,11 +1,10 @@
 use Rattle.std.proofs.Common.{refl, ap, ◌∙◌}
 use Rattle.std.proofs.lemmas.Result.{err_from_is_err_and}
-use Rattle.pm_model.specs.Words.{reads}
-use Rattle.pm_model.specs.Moments.{State}
 use Rattle.pud_defs.specs.Keyed.{first_free}
 use Rattle.pud_defs.specs.Tables.{tables_of}
 use Rattle.puddle_table.proofs.Search.{frame_found}
 use Rattle.registry.proofs.Placed.{all_frames, no_frame_found}
+use Rattle.pm_model.proofs.Reading.{still_reads}
 use Rattle.registry.proofs.adding.find_place.Goals as goal
 
 pub returns-in_err-frame-clause-no_space : goal.returns-in_err-frame-clause-no_space
@@ -17,7 +16,7 @@ returns-in_err-frame-clause-no_space g c =
 
 pub returns-clause-place : goal.returns-clause-place
 returns-clause-place g c = λ t image same.
-    let frame_read = ap (λ (s : State). reads s.now.words) (c.free_frame.ensures.stays t) ∙ same in
+    let frame_read = still_reads c.free_frame.ensures.only_reads t same in
     record {
       frame = ap (first_free (tables_of c.args.frames image).puddles 0) (all_frames c.args.frames image) ∙ frame_found _ c.in_ok-frame.frame (c.in_ok-frame.ensures.frame t image same refl);
       base = c.in_ok-base.ensures.lowest t image frame_read;

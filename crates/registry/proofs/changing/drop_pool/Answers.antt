@@ -22,19 +22,19 @@ pub returns-in_err-dropping-clause-changes : goal.returns-in_err-dropping-clause
 returns-in_err-dropping-clause-changes g c =
     let p = err_from_is_err_and c.from_residual.result c.from_residual.ensures.1 in
     rw (p.1, p.2) (λ t size same s frames mask keeps off settled r at.
-    ChangesPools-still size s _ _ (Some c.in_err-dropping.field-0.0) (masked_state mask (g.H.Host.state c.args.h.now)) (masked_state mask (g.H.Host.state c.dropping.new.h)) settled c.in_err-dropping.ensures.never_cut (λ none. cc)
-    (ap (masked_state mask) (c.in_err-dropping.ensures.stays t)))
+    ChangesPools-still size s _ _ (Some c.in_err-dropping.field-0.0) (masked_state mask (g.H.Host.state c.args.h.now)) (masked_state mask (g.H.Host.state c.dropping.new.h)) settled c.in_err-dropping.ensures.only_reads.never_cut (λ none. cc)
+    (ap (masked_state mask) (c.in_err-dropping.ensures.only_reads.stays t)))
 
 pub returns-clause-commits : goal.returns-clause-commits
 returns-clause-commits g c = λ t size same image read idle few.
-    let then = same ∙ sym (ap (λ (n : Counts). n.size) c.in_ok-dropping.ensures.cause) in
-    inr (Commits-puts c.args.frames size (dropping (tables_of c.args.frames image) c.args.slot) c.in_ok-dropping.field-0 _ (g.H.Host.state c.args.h.now) (g.H.Host.state c.dropping.new.h) _ (c.in_ok-dropping.ensures.stays t)
+    let then = same ∙ sym (ap (λ (n : Counts). n.size) c.in_ok-dropping.ensures.only_reads.cause) in
+    inr (Commits-puts c.args.frames size (dropping (tables_of c.args.frames image) c.args.slot) c.in_ok-dropping.field-0 _ (g.H.Host.state c.args.h.now) (g.H.Host.state c.dropping.new.h) _ (c.in_ok-dropping.ensures.only_reads.stays t)
     (omega (arith, same)) (dropping_of c.args.frames (tables_of c.args.frames image) c.args.slot c.requires.known (omega (arith, frames_of_tables c.args.frames image))) (c.in_ok-dropping.ensures.batch t image read few)
     (c.commit.ensures.commits t size then) idle)
 
 pub returns-clause-changes : goal.returns-clause-changes
 returns-clause-changes g c = λ t size same s frames mask keeps off settled r at.
-    let then = same ∙ sym (ap (λ (n : Counts). n.size) c.in_ok-dropping.ensures.cause) in
+    let then = same ∙ sym (ap (λ (n : Counts). n.size) c.in_ok-dropping.ensures.only_reads.cause) in
     let F = c.args.frames in
     let slot = c.args.slot in
     let a = g.H.Host.state c.args.h.now in
@@ -44,7 +44,7 @@ returns-clause-changes g c = λ t size same s frames mask keeps off settled r at
     let tables : tables_of F (reads (masked mask a.now.words)) ≡ tables_of F (reads a.now.words) = ap (tables_of F) (reads-masked mask a.now.words) ∙ keeps.tables in
     let gathered : count_used (members (tables_of F (reads (masked mask a.now.words))) slot) 0 F ≤ MAX_PUDDLES → batch ≡ puts_batch (dropping (tables_of F (reads (masked mask a.now.words))) slot) =
     subst (λ (u : Tables). count_used (members u slot) 0 F ≤ MAX_PUDDLES → batch ≡ puts_batch (dropping u slot)) (sym tables) (λ few. c.in_ok-dropping.ensures.batch t (reads a.now.words) refl few) in
-    ChangesPools-dropped size s F slot r batch (fault_of c.commit.result) (masked_state mask a) (masked_state mask b) (masked_state mask d) (ap (masked_state mask) (c.in_ok-dropping.ensures.stays t)) frames c.requires.known settled at
+    ChangesPools-dropped size s F slot r batch (fault_of c.commit.result) (masked_state mask a) (masked_state mask b) (masked_state mask d) (ap (masked_state mask) (c.in_ok-dropping.ensures.only_reads.stays t)) frames c.requires.known settled at
     gathered
     (λ settled_then moves. c.commit.ensures.moves t size then s _ mask
     (subst (λ (es : List Entry). IsOff mask (ByBatch DAEMON_LOG es)) (sym (whole_batch size s F slot r mask a batch frames c.requires.known settled at tables (λ few. c.in_ok-dropping.ensures.batch t (reads a.now.words) refl few))) off)

@@ -1,46 +1,34 @@
-use Rattle.std.proofs.Common.{◌+◌, ◌≤◌, Some, refl, sym, ap, subst, ◌∙◌, arith}
-use Rattle.std.proofs.lemmas.Result.{err_from_is_err_and}
-use Rattle.pm_model.specs.Counts.{Counts, after_fault}
-use Rattle.pm_model.specs.Words.{reads}
-use Rattle.pm_model.specs.Moments.{State}
+use Rattle.std.proofs.Common.{◌+◌, ◌≤◌, sym, ap, subst, ◌∙◌, arith}
+use Rattle.pm_model.specs.Counts.{Counts}
 use Rattle.pud_defs.specs.declared.records.TheConstants.{MAX_PUDDLES}
 use Rattle.pud_defs.specs.Keyed.{count_used}
 use Rattle.pud_defs.specs.Tables.{tables_of, members}
 use Rattle.pud_defs.specs.Puts.{free_pool_put, free_puddle_put}
 use Rattle.pud_defs.proofs.TablesOf.{frames_of_tables}
 use Rattle.registry.proofs.Gathered.{Gathers, Gathers-start, Gathers-other, Gathers-more, Gathers-end, Gathers-room, first_put, next_put, of_table}
+use Rattle.pm_model.proofs.Reading.{OnlyReads-none, OnlyReads-then, still_reads}
 use Rattle.registry.proofs.changing.dropping.Goals.{then-branch, else-branch}
 use Rattle.registry.proofs.changing.dropping.Goals as goal
 
 pub loop-frame-init : goal.loop-frame-init
 loop-frame-init g c = record {
   within = omega arith;
-  counts = refl;
-  stays = λ t. refl;
+  only_reads = OnlyReads-none;
   gathers = λ t image same few. Gathers-start (tables_of c.args.frames image) c.args.slot c.add_put.new.batch
       (first_put c.new-batch.result c.add_put.new.batch c.remove.result (free_pool_put c.args.slot) c.new-batch.ensures c.remove.ensures.put (omega arith) c.add_put.ensures);
 }
 
 pub is_of_pool-requires-clause-record : goal.is_of_pool-requires-clause-record
-is_of_pool-requires-clause-record g c = omega (arith, ap (λ (n : Counts). n.size) c.loop-frame.invariant.counts)
-
-pub returns-in_err-is_of_pool-clause-stays : goal.returns-in_err-is_of_pool-clause-stays
-returns-in_err-is_of_pool-clause-stays g c = λ t. c.is_of_pool.ensures.stays t ∙ c.loop-frame.invariant.stays t
-
-pub returns-in_err-is_of_pool-clause-cause : goal.returns-in_err-is_of_pool-clause-cause
-returns-in_err-is_of_pool-clause-cause g c =
-    let p = err_from_is_err_and c.from_residual.result c.from_residual.ensures.1 in
-    rw (p.1, p.2) (c.in_err-is_of_pool.ensures.cause ∙ ap (after_fault (Some c.in_err-is_of_pool.field-0.0)) c.loop-frame.invariant.counts)
+is_of_pool-requires-clause-record g c = omega (arith, ap (λ (n : Counts). n.size) c.loop-frame.invariant.only_reads.cause)
 
 pub loop-frame-preserved : goal.loop-frame-preserved
 loop-frame-preserved g c = record {
   within = omega arith;
-  counts = c.in_ok-is_of_pool.ensures.cause ∙ c.loop-frame.invariant.counts;
-  stays = λ t. c.is_of_pool.ensures.stays t ∙ c.loop-frame.invariant.stays t;
+  only_reads = OnlyReads-then c.loop-frame.invariant.only_reads c.in_ok-is_of_pool.ensures.only_reads;
   gathers = λ t image same few.
       let tables = tables_of c.args.frames image in
       let frames = frames_of_tables c.args.frames image in
-      let before = ap (λ (s : State). reads s.now.words) (c.loop-frame.invariant.stays t) ∙ same in
+      let before = still_reads c.loop-frame.invariant.only_reads t same in
       let of = c.in_ok-is_of_pool.ensures.of t image before in
       let was = c.loop-frame.invariant.gathers t image same few in
       elim c.if-branch.branch [
@@ -60,9 +48,3 @@ loop-frame-preserved g c = record {
 pub returns-clause-batch : goal.returns-clause-batch
 returns-clause-batch g c = λ t image same few.
     Gathers-end (tables_of c.args.frames image) c.args.slot c.loop-frame.frame c.loop-frame.batch (omega (arith, frames_of_tables c.args.frames image)) (c.loop-frame.invariant.gathers t image same few)
-
-pub returns-clause-stays : goal.returns-clause-stays
-returns-clause-stays g c = λ t. c.loop-frame.invariant.stays t
-
-pub returns-clause-cause : goal.returns-clause-cause
-returns-clause-cause g c = c.loop-frame.invariant.counts

@@ -1,19 +1,18 @@
-use Rattle.std.proofs.Common.{◌&&◌, ap, ◌∙◌}
-use Rattle.pm_model.specs.Words.{reads}
-use Rattle.pm_model.specs.Moments.{State}
+use Rattle.std.proofs.Common.{◌&&◌, ◌∙◌}
 use Rattle.pud_defs.specs.declared.layout.TheConstants.{DAEMON_LOG}
 use Rattle.pud_defs.specs.Replay.{settled_by}
 use Rattle.pud_defs.specs.Tables.{tables_of}
 use Rattle.pud_defs.specs.SoundTables.{has_distinct_bases, has_distinct_old_bases, has_distinct_ordinals, has_counted_puddles}
 use Rattle.soundness.proofs.Marks.{bases_by_numbers, old_bases_by_numbers, in_groups}
+use Rattle.pm_model.proofs.Reading.{still_reads}
 use Rattle.soundness.proofs.distinct.are_distinct_puddles.Goals as goal
 
 pub returns-clause-distinct : goal.returns-clause-distinct
 returns-clause-distinct g c = λ t image same over next legal.
     let settled = settled_by DAEMON_LOG image in
     let tables = tables_of c.args.frames settled in
-    let behind = ap (λ (s : State). reads s.now.words) (c.has_distinct_numbers.ensures.stays t) ∙ same in
-    let later = ap (λ (s : State). reads s.now.words) (c.has_distinct_numbers-2.ensures.stays t) ∙ behind in
+    let behind = still_reads c.has_distinct_numbers.ensures.only_reads t same in
+    let later = still_reads c.has_distinct_numbers-2.ensures.only_reads t behind in
     let bases = c.in_ok-bases.ensures.distinct t image same over ∙ bases_by_numbers tables in
     let old_bases = c.in_ok-old_bases.ensures.distinct t image behind over ∙ old_bases_by_numbers c.args.frames settled next legal in
     let ordinals = c.in_ok-ordinals.ensures.counted t image later over next legal in

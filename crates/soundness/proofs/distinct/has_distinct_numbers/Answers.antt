@@ -1,13 +1,12 @@
-use Rattle.std.proofs.Common.{◌-◌, ℕ, List, drop, refl, sym, ap, ap₂, ◌∙◌, arith, length-drop, take_all}
+use Rattle.std.proofs.Common.{◌-◌, ℕ, List, drop, refl, sym, ap₂, ◌∙◌, arith, length-drop, take_all}
 use Rattle.std.specs.Prelude.{option_map}
-use Rattle.pm_model.specs.Words.{reads}
-use Rattle.pm_model.specs.Moments.{State}
 use Rattle.pud_defs.specs.declared.layout.TheConstants.{DAEMON_LOG, MAX_FRAMES}
 use Rattle.pud_defs.specs.Replay.{settled_by}
 use Rattle.pud_defs.specs.Tables.{tables_of}
 use Rattle.soundness.specs.Distinct.{number_of, with_number}
 use Rattle.soundness.proofs.Numbers.{no_numbers, more_numbers}
 use Rattle.soundness.proofs.Marks.{decided}
+use Rattle.pm_model.proofs.Reading.{OnlyReads-none, OnlyReads-then, still_reads}
 use Rattle.soundness.proofs.distinct.has_distinct_numbers.Goals as goal
 
 pub loop-done-init : goal.loop-done-init
@@ -15,8 +14,7 @@ loop-done-init g c = record {
   size = refl;
   most = omega arith;
   room = omega arith;
-  counts = refl;
-  stays = λ t. refl;
+  only_reads = OnlyReads-none;
   list = λ t image same over. sym (no_numbers _ _);
 }
 
@@ -25,10 +23,9 @@ loop-done-preserved g c = record {
   size = omega arith;
   most = omega arith;
   room = omega arith;
-  counts = c.in_ok-number.ensures.cause ∙ c.loop-done.invariant.counts;
-  stays = λ t. c.number_at.ensures.stays t ∙ c.loop-done.invariant.stays t;
+  only_reads = OnlyReads-then c.loop-done.invariant.only_reads c.in_ok-number.ensures.only_reads;
   list = λ t image same over.
-      let before = ap (λ (s : State). reads s.now.words) (c.loop-done.invariant.stays t) ∙ same in
+      let before = still_reads c.loop-done.invariant.only_reads t same in
       let number = c.in_ok-number.ensures.number t image before over c.args.frames (omega arith) in
       c.put-left.ensures.numbers
       ∙ ap₂ with_number number (c.loop-done.invariant.list t image same over)

@@ -1,18 +1,16 @@
-use Rattle.std.proofs.Common.{◌-◌, ℕ, Option, refl, ap, subst, ◌∙◌, arith}
-use Rattle.pm_model.specs.Words.{reads}
-use Rattle.pm_model.specs.Moments.{State}
+use Rattle.std.proofs.Common.{◌-◌, ℕ, Option, refl, subst, arith}
 use Rattle.pud_defs.specs.declared.layout.TheConstants.{DAEMON_LOG}
 use Rattle.pud_defs.specs.Replay.{settled_by}
 use Rattle.pud_defs.specs.Tables.{tables_of}
 use Rattle.soundness.specs.Distinct.{MarksMore}
 use Rattle.soundness.proofs.Marks.{unmarked, none_apart, marked_step, distinct_step, not_distinct, are_marked, not_marked}
+use Rattle.pm_model.proofs.Reading.{OnlyReads-none, OnlyReads-then, still_reads}
 use Rattle.soundness.proofs.distinct.marked_places.Goals as goal
 
 pub loop-done-init : goal.loop-done-init
 loop-done-init g c = record {
   size = refl;
-  counts = refl;
-  stays = λ t. refl;
+  only_reads = OnlyReads-none;
   marked = λ t image same over. unmarked (tables_of c.args.frames (settled_by DAEMON_LOG image)) (c.args.frames - 0) 1024;
   apart = λ t image same over. none_apart (tables_of c.args.frames (settled_by DAEMON_LOG image)) (c.args.frames - 0);
 }
@@ -20,16 +18,15 @@ loop-done-init g c = record {
 pub loop-done-preserved : goal.loop-done-preserved
 loop-done-preserved g c = record {
   size = omega arith;
-  counts = c.in_ok-place.ensures.cause ∙ c.loop-done.invariant.counts;
-  stays = λ t. c.place_at.ensures.stays t ∙ c.loop-done.invariant.stays t;
+  only_reads = OnlyReads-then c.loop-done.invariant.only_reads c.in_ok-place.ensures.only_reads;
   marked = λ t image same over.
-      let before = ap (λ (s : State). reads s.now.words) (c.loop-done.invariant.stays t) ∙ same in
+      let before = still_reads c.loop-done.invariant.only_reads t same in
       let place = c.in_ok-place.ensures.place t image before over c.args.frames (omega arith) in
       let more = subst (λ (v : Option ℕ). MarksMore c.loop-done.marks v c.mark.result c.mark.new.marks) place c.mark.ensures in
       marked_step (tables_of c.args.frames (settled_by DAEMON_LOG image)) c.args.frames c.loop-done.done c.loop-done.marks c.mark.new.marks c.mark.result (omega arith) c.loop-done.invariant.size
       (c.loop-done.invariant.marked t image same over) more c.if-not-mark.false;
   apart = λ t image same over.
-      let before = ap (λ (s : State). reads s.now.words) (c.loop-done.invariant.stays t) ∙ same in
+      let before = still_reads c.loop-done.invariant.only_reads t same in
       let place = c.in_ok-place.ensures.place t image before over c.args.frames (omega arith) in
       let more = subst (λ (v : Option ℕ). MarksMore c.loop-done.marks v c.mark.result c.mark.new.marks) place c.mark.ensures in
       distinct_step (tables_of c.args.frames (settled_by DAEMON_LOG image)) c.args.frames c.loop-done.done c.loop-done.marks c.mark.new.marks c.mark.result (omega arith)
@@ -38,7 +35,7 @@ loop-done-preserved g c = record {
 
 pub returns-then-not-mark-clause-marks : goal.returns-then-not-mark-clause-marks
 returns-then-not-mark-clause-marks g c = λ t image same over.
-    let before = ap (λ (s : State). reads s.now.words) (c.loop-done.invariant.stays t) ∙ same in
+    let before = still_reads c.loop-done.invariant.only_reads t same in
     let place = c.in_ok-place.ensures.place t image before over c.args.frames (omega arith) in
     let more = subst (λ (v : Option ℕ). MarksMore c.loop-done.marks v c.mark.result c.mark.new.marks) place c.mark.ensures in
     not_marked c.args.frames (settled_by DAEMON_LOG image)

@@ -1,4 +1,4 @@
-use Rattle.std.proofs.Common.{◌≡◌, ◌-◌, true, length}
+use Rattle.std.proofs.Common.{None, ◌≡◌, ◌-◌, true, length}
 use Rattle.std.specs.Ordering.{nat_cmp}
 use Rattle.pm_model.specs.Words.{reads}
 use Rattle.pud_defs.specs.declared.layout.TheConstants.{DAEMON_LOG}
@@ -9,13 +9,13 @@ use Rattle.pud_defs.specs.Tables.{tables_of}
 use Rattle.soundness.specs.declared.distinct.TheConstants.{PLACES}
 use Rattle.soundness.specs.Overlaying.{IsOverlay}
 use Rattle.soundness.specs.Distinct.{place_of, by_number, IsMarked}
+use Rattle.pm_model.specs.Reads.{OnlyReads}
 use Rattle.soundness.proofs.distinct.marked_places.Given as goal
 
 abbrev pub invariant-loop-done : goal.invariant-loop-done
 invariant-loop-done g l = record {
   size : length l.marks ≡ PLACES;
-  counts : g.H.Host.counts l.h ≡ g.H.Host.counts l.initial.h;
-  stays : g.H.Host.tells → g.H.Host.state l.h ≡ g.H.Host.state l.initial.h;
+  only_reads : OnlyReads g.H.Host.tells g.H.Host.state g.H.Host.counts None l.initial.h l.h;
   marked : g.H.Host.tells → (image : Image) → reads (g.H.Host.state l.initial.h).now.words ≡ image → IsOverlay l.overlay image
       → IsMarked (tables_of l.frames (settled_by DAEMON_LOG image)) (l.frames - l.done) l.done l.marks;
   apart : g.H.Host.tells → (image : Image) → reads (g.H.Host.state l.initial.h).now.words ≡ image → IsOverlay l.overlay image

@@ -1,13 +1,12 @@
 use Rattle.std.proofs.Common.{inr, ℕ, ◌+◌, Some, sym, ap, ◌∙◌, arith}
 use Rattle.std.specs.Prelude.{option_map}
-use Rattle.pm_model.specs.Words.{reads}
-use Rattle.pm_model.specs.Moments.{State}
 use Rattle.pud_defs.specs.declared.layout.TheConstants.{DAEMON_LOG}
 use Rattle.pud_defs.specs.Replay.{settled_by}
 use Rattle.pud_defs.specs.Puddles.{puddle_record_at}
 use Rattle.pud_defs.proofs.Replay.{outside_log}
 use Rattle.soundness.specs.Distinct.{number_by, number_of}
 use Rattle.soundness.proofs.Marks.{free_record, number_used}
+use Rattle.pm_model.proofs.Reading.{still_reads}
 use Rattle.soundness.proofs.distinct.number_at.Goals as goal
 
 pub returns-then-member-eq0-clause-number : goal.returns-then-member-eq0-clause-number
@@ -19,7 +18,7 @@ pub returns-clause-number : goal.returns-clause-number
 returns-clause-number g c = λ t image same over frames below.
     let settled = settled_by DAEMON_LOG image in
     let read = c.in_ok-member.ensures.value t image same over (outside_log DAEMON_LOG (puddle_record_at c.args.frame) (inr (omega arith))) in
-    let behind = ap (λ (s : State). reads s.now.words) (c.word.ensures.stays t) ∙ same in
+    let behind = still_reads c.word.ensures.only_reads t same in
     let base = c.in_ok-base.ensures.value t image behind over (outside_log DAEMON_LOG (puddle_record_at c.args.frame + c.word-2.result) (inr (omega arith))) in
     ap Some (c.number.ensures ∙ ap (λ (p : ℕ). number_by c.args.key p c.in_ok-base.base) c.member_pool.ensures)
     ∙ number_used c.args.key frames settled c.args.frame c.in_ok-member.member c.in_ok-base.base below read c.if-member-eq0.false

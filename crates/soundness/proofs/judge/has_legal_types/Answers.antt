@@ -2,7 +2,6 @@ use Rattle.std.proofs.Common.{◌≡◌, ◌≢◌, inr, ◌+◌, ◌-◌, ◌<�
 use Rattle.std.specs.List.{list_any}
 use Rattle.std.proofs.Math.ListN.{length-set}
 use Rattle.pm_model.specs.Words.{reads}
-use Rattle.pm_model.specs.Moments.{State}
 use Rattle.pud_defs.specs.declared.layout.TheConstants.{DAEMON_LOG, TYPE_RECORDS}
 use Rattle.pud_defs.specs.Image.{Image}
 use Rattle.pud_defs.specs.Replay.{settled_by}
@@ -11,13 +10,13 @@ use Rattle.pud_defs.proofs.Replay.{outside_log}
 use Rattle.soundness.specs.Overlaying.{IsOverlay}
 use Rattle.soundness.specs.Judging.{with_one_more, are_legal_last}
 use Rattle.soundness.proofs.Records.{no_records, legal_more, legal_last}
+use Rattle.pm_model.proofs.Reading.{OnlyReads-none, OnlyReads-then, still_reads}
 use Rattle.soundness.proofs.judge.has_legal_types.Goals as goal
 
 pub loop-done-init : goal.loop-done-init
 loop-done-init g c = record {
   size = refl;
-  counts = refl;
-  stays = λ t. refl;
+  only_reads = OnlyReads-none;
   legal = λ t image same over. sym (no_records (settled_by DAEMON_LOG image));
   ids = λ t image same over k below. absurd (omega arith);
 }
@@ -28,13 +27,12 @@ loop-done-preserved g c =
     let ids = c.loop-done.ids in
     let fits : n < length ids = omega arith in
     let id : g.H.Host.tells → (image : Image) → reads (g.H.Host.state c.args.h.now).now.words ≡ image → IsOverlay c.args.overlay.now image → c.in_ok-id.id ≡ settled_by DAEMON_LOG image (type_record_at (63 - n)) =
-    λ t image same over. c.in_ok-id.ensures.value t image (ap (λ (s : State). reads s.now.words) (c.loop-done.invariant.stays t) ∙ same) over (outside_log DAEMON_LOG (type_record_at (63 - n)) (inr (omega arith))) in
+    λ t image same over. c.in_ok-id.ensures.value t image (still_reads c.loop-done.invariant.only_reads t same) over (outside_log DAEMON_LOG (type_record_at (63 - n)) (inr (omega arith))) in
     let map : g.H.Host.tells → (image : Image) → reads (g.H.Host.state c.args.h.now).now.words ≡ image → IsOverlay c.args.overlay.now image → c.in_ok-map.map ≡ settled_by DAEMON_LOG image (type_record_at (63 - n) + 1) =
-    λ t image same over. c.in_ok-map.ensures.value t image (ap (λ (s : State). reads s.now.words) (c.word.ensures.stays t ∙ c.loop-done.invariant.stays t) ∙ same) over (outside_log DAEMON_LOG (type_record_at (63 - n) + 1) (inr (omega arith))) in
+    λ t image same over. c.in_ok-map.ensures.value t image (still_reads c.word.ensures.only_reads t (still_reads c.loop-done.invariant.only_reads t same)) over (outside_log DAEMON_LOG (type_record_at (63 - n) + 1) (inr (omega arith))) in
     record {
       size = length-set ids n c.in_ok-id.id ∙ c.loop-done.invariant.size;
-      counts = c.in_ok-map.ensures.cause ∙ c.in_ok-id.ensures.cause ∙ c.loop-done.invariant.counts;
-      stays = λ t. c.word-in-loop-done.ensures.stays t ∙ c.word.ensures.stays t ∙ c.loop-done.invariant.stays t;
+      only_reads = OnlyReads-then (OnlyReads-then c.loop-done.invariant.only_reads c.in_ok-id.ensures.only_reads) c.in_ok-map.ensures.only_reads;
       legal = λ t image same over.
           let settled = settled_by DAEMON_LOG image in
           let these : with_one_more c.in_ok-id.id c.in_ok-map.map (list_any (λ y. eqb y c.in_ok-id.id) (take n ids)) c.loop-done.legal ≡ are_legal_last settled (n + 1) =

@@ -1,6 +1,6 @@
-use Rattle.std.proofs.Common.{sym, ap, ◌∙◌, arith}
+use Rattle.std.proofs.Common.{refl, sym, ◌∙◌, arith}
 use Rattle.pm_model.specs.Words.{reads}
-use Rattle.pm_model.specs.Moments.{State}
+use Rattle.pm_model.proofs.Reading.{still_reads}
 use Rattle.soundness.proofs.Judged.{unsound_small, unsound_header}
 use Rattle.soundness.proofs.judge.sound_frames.Goals as goal
 
@@ -12,10 +12,10 @@ returns-in_default-clause-sound g c = λ t. sym (unsound_header _ _ (sym (c.in_o
 
 pub returns-then-not-branch-clause-sound : goal.returns-then-not-branch-clause-sound
 returns-then-not-branch-clause-sound g c = λ t.
-    let behind = ap (λ (s : State). reads s.now.words) (c.described_frames.ensures.stays t) in
+    let behind = still_reads c.described_frames.ensures.only_reads t refl in
     sym c.if-not-branch.true ∙ c.in_ok-is_sound.ensures.sound t _ behind _ (sym (c.in_ok-frames.ensures.frames t) ∙ c.in-Some.is)
 
 pub returns-clause-sound : goal.returns-clause-sound
 returns-clause-sound g c = λ t.
-    let behind = ap (λ (s : State). reads s.now.words) (c.described_frames.ensures.stays t) in
+    let behind = still_reads c.described_frames.ensures.only_reads t refl in
     sym c.if-not-branch.false ∙ c.in_ok-is_sound.ensures.sound t _ behind _ (sym (c.in_ok-frames.ensures.frames t) ∙ c.in-Some.is)

@@ -1,4 +1,4 @@
-use Rattle.std.proofs.Common.{◌≡◌, ◌<◌, ℕ, length, slice_index_or}
+use Rattle.std.proofs.Common.{None, ◌≡◌, ◌<◌, ℕ, length, slice_index_or}
 use Rattle.pm_model.specs.Words.{reads}
 use Rattle.pud_defs.specs.declared.layout.TheConstants.{DAEMON_LOG}
 use Rattle.pud_defs.specs.declared.records.TheConstants.{POOL_RECORDS}
@@ -6,13 +6,13 @@ use Rattle.pud_defs.specs.Image.{Image}
 use Rattle.pud_defs.specs.Replay.{settled_by}
 use Rattle.soundness.specs.Overlaying.{IsOverlay}
 use Rattle.soundness.specs.Named.{IsNameOf, no_name}
+use Rattle.pm_model.specs.Reads.{OnlyReads}
 use Rattle.soundness.proofs.names.read_names.Given as goal
 
 abbrev pub invariant-loop-slot : goal.invariant-loop-slot
 invariant-loop-slot g l = record {
   all : length l.names ≡ POOL_RECORDS;
-  counts : g.H.Host.counts l.h ≡ g.H.Host.counts l.initial.h;
-  stays : g.H.Host.tells → g.H.Host.state l.h ≡ g.H.Host.state l.initial.h;
+  only_reads : OnlyReads g.H.Host.tells g.H.Host.state g.H.Host.counts None l.initial.h l.h;
   names : g.H.Host.tells → (image : Image) → reads (g.H.Host.state l.initial.h).now.words ≡ image → IsOverlay l.overlay image
       → (k : ℕ) → k < l.slot → IsNameOf (settled_by DAEMON_LOG image) k (slice_index_or l.names k no_name);
 }

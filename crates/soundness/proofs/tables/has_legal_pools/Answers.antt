@@ -1,6 +1,4 @@
-use Rattle.std.proofs.Common.{◌≡◌, ℕ, refl, sym, ap, ◌∙◌, arith}
-use Rattle.pm_model.specs.Words.{reads}
-use Rattle.pm_model.specs.Moments.{State}
+use Rattle.std.proofs.Common.{◌≡◌, ℕ, sym, ap, ◌∙◌, arith}
 use Rattle.pud_defs.specs.declared.layout.TheConstants.{DAEMON_LOG}
 use Rattle.pud_defs.specs.declared.records.TheConstants.{POOL_RECORDS}
 use Rattle.pud_defs.specs.Replay.{settled_by}
@@ -8,21 +6,20 @@ use Rattle.pud_defs.specs.Spaces.{all_below}
 use Rattle.pud_defs.specs.Tables.{tables_of}
 use Rattle.pud_defs.specs.SoundTables.{is_sound_pool, has_legal_pools}
 use Rattle.pud_defs.proofs.Spaces.{all_below-from, all_below-more, all_below-fails}
+use Rattle.pm_model.proofs.Reading.{OnlyReads-none, OnlyReads-then, still_reads}
 use Rattle.soundness.proofs.tables.has_legal_pools.Goals as goal
 
 pub loop-slot-init : goal.loop-slot-init
 loop-slot-init g c = record {
-  counts = refl;
-  stays = λ t. refl;
+  only_reads = OnlyReads-none;
   legal = λ t image same over F. all_below-from 0 (λ slot. is_sound_pool c.args.next ((tables_of F (settled_by DAEMON_LOG image)).pools slot)) (λ k below. absurd (omega arith));
 }
 
 pub loop-slot-preserved : goal.loop-slot-preserved
 loop-slot-preserved g c = record {
-  counts = c.in_ok-is_sound_slot.ensures.cause ∙ c.loop-slot.invariant.counts;
-  stays = λ t. c.is_sound_slot.ensures.stays t ∙ c.loop-slot.invariant.stays t;
+  only_reads = OnlyReads-then c.loop-slot.invariant.only_reads c.in_ok-is_sound_slot.ensures.only_reads;
   legal = λ t image same over F.
-      let before = ap (λ (s : State). reads s.now.words) (c.loop-slot.invariant.stays t) ∙ same in
+      let before = still_reads c.loop-slot.invariant.only_reads t same in
       all_below-more c.loop-slot.slot (λ slot. is_sound_pool c.args.next ((tables_of F (settled_by DAEMON_LOG image)).pools slot)) (c.loop-slot.invariant.legal t image same over F)
       (sym (c.in_ok-is_sound_slot.ensures.sound t image before over F) ∙ c.if-not-branch.false);
 }
@@ -30,7 +27,7 @@ loop-slot-preserved g c = record {
 pub returns-then-not-branch-clause-legal : goal.returns-then-not-branch-clause-legal
 unfolding has_legal_pools
 returns-then-not-branch-clause-legal g c = λ t image same over F.
-    let before = ap (λ (s : State). reads s.now.words) (c.loop-slot.invariant.stays t) ∙ same in
+    let before = still_reads c.loop-slot.invariant.only_reads t same in
     sym (all_below-fails POOL_RECORDS c.loop-slot.slot (λ slot. is_sound_pool c.args.next ((tables_of F (settled_by DAEMON_LOG image)).pools slot)) (omega arith)
     (sym (c.in_ok-is_sound_slot.ensures.sound t image before over F) ∙ c.if-not-branch.true))
 

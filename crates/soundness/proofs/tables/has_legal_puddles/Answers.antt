@@ -1,18 +1,16 @@
-use Rattle.std.proofs.Common.{◌≡◌, ℕ, refl, sym, ap, ◌∙◌, arith}
-use Rattle.pm_model.specs.Words.{reads}
-use Rattle.pm_model.specs.Moments.{State}
+use Rattle.std.proofs.Common.{◌≡◌, ℕ, sym, ap, ◌∙◌, arith}
 use Rattle.pud_defs.specs.declared.layout.TheConstants.{DAEMON_LOG}
 use Rattle.pud_defs.specs.Replay.{settled_by}
 use Rattle.pud_defs.specs.Spaces.{all_below}
 use Rattle.pud_defs.specs.Tables.{tables_of}
 use Rattle.pud_defs.specs.SoundTables.{is_sound_puddle, has_legal_puddles}
 use Rattle.pud_defs.proofs.Spaces.{all_below-from, all_below-more, all_below-fails}
+use Rattle.pm_model.proofs.Reading.{OnlyReads-none, OnlyReads-then, still_reads}
 use Rattle.soundness.proofs.tables.has_legal_puddles.Goals as goal
 
 pub loop-frame-init : goal.loop-frame-init
 loop-frame-init g c = record {
-  counts = refl;
-  stays = λ t. refl;
+  only_reads = OnlyReads-none;
   legal = λ t image same over.
       let tables = tables_of c.args.frames (settled_by DAEMON_LOG image) in
       all_below-from 0 (λ frame. is_sound_puddle c.args.next tables (tables.puddles frame)) (λ k below. absurd (omega arith));
@@ -20,11 +18,10 @@ loop-frame-init g c = record {
 
 pub loop-frame-preserved : goal.loop-frame-preserved
 loop-frame-preserved g c = record {
-  counts = c.in_ok-is_sound_frame.ensures.cause ∙ c.loop-frame.invariant.counts;
-  stays = λ t. c.is_sound_frame.ensures.stays t ∙ c.loop-frame.invariant.stays t;
+  only_reads = OnlyReads-then c.loop-frame.invariant.only_reads c.in_ok-is_sound_frame.ensures.only_reads;
   legal = λ t image same over.
       let tables = tables_of c.args.frames (settled_by DAEMON_LOG image) in
-      let before = ap (λ (s : State). reads s.now.words) (c.loop-frame.invariant.stays t) ∙ same in
+      let before = still_reads c.loop-frame.invariant.only_reads t same in
       all_below-more c.loop-frame.frame (λ frame. is_sound_puddle c.args.next tables (tables.puddles frame)) (c.loop-frame.invariant.legal t image same over)
       (sym (c.in_ok-is_sound_frame.ensures.sound t image before over) ∙ c.if-not-branch.false);
 }
@@ -33,7 +30,7 @@ pub returns-then-not-branch-clause-legal : goal.returns-then-not-branch-clause-l
 unfolding has_legal_puddles tables_of
 returns-then-not-branch-clause-legal g c = λ t image same over.
     let tables = tables_of c.args.frames (settled_by DAEMON_LOG image) in
-    let before = ap (λ (s : State). reads s.now.words) (c.loop-frame.invariant.stays t) ∙ same in
+    let before = still_reads c.loop-frame.invariant.only_reads t same in
     sym (all_below-fails c.args.frames c.loop-frame.frame (λ frame. is_sound_puddle c.args.next tables (tables.puddles frame)) (omega arith)
     (sym (c.in_ok-is_sound_frame.ensures.sound t image before over) ∙ c.if-not-branch.true))
 

@@ -1,4 +1,4 @@
-use Rattle.std.proofs.Common.{◌≡◌, true}
+use Rattle.std.proofs.Common.{None, ◌≡◌, true}
 use Rattle.pm_model.specs.Words.{reads}
 use Rattle.pud_defs.specs.declared.layout.TheConstants.{DAEMON_LOG}
 use Rattle.pud_defs.specs.Image.{Image}
@@ -7,12 +7,12 @@ use Rattle.pud_defs.specs.Spaces.{all_below}
 use Rattle.pud_defs.specs.Tables.{tables_of}
 use Rattle.pud_defs.specs.SoundTables.{is_sound_puddle}
 use Rattle.soundness.specs.Overlaying.{IsOverlay}
+use Rattle.pm_model.specs.Reads.{OnlyReads}
 use Rattle.soundness.proofs.tables.has_legal_puddles.Given as goal
 
 abbrev pub invariant-loop-frame : goal.invariant-loop-frame
 invariant-loop-frame g l = record {
-  counts : g.H.Host.counts l.h ≡ g.H.Host.counts l.initial.h;
-  stays : g.H.Host.tells → g.H.Host.state l.h ≡ g.H.Host.state l.initial.h;
+  only_reads : OnlyReads g.H.Host.tells g.H.Host.state g.H.Host.counts None l.initial.h l.h;
   legal : g.H.Host.tells → (image : Image) → reads (g.H.Host.state l.initial.h).now.words ≡ image → IsOverlay l.overlay image
       → all_below l.frame (λ frame. is_sound_puddle l.next (tables_of l.frames (settled_by DAEMON_LOG image)) ((tables_of l.frames (settled_by DAEMON_LOG image)).puddles frame)) ≡ true;
 }

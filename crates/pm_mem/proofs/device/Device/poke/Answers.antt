@@ -1,4 +1,4 @@
-use Rattle.std.proofs.Common.{rules, arith, ◌∙◌, sym, ap, subst, set}
+use Rattle.std.proofs.Common.{rules, arith, ◌∙◌, sym, ap, subst}
 use Rattle.pm_model.specs.Moments.{State}
 use Rattle.pm_mem.specs.Rows.{AreOf, AreSingle}
 use Rattle.pm_mem.specs.Events.{told_events}

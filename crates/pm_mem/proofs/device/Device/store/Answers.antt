@@ -1,4 +1,4 @@
-use Rattle.std.proofs.Common.{rules, set, arith, sym, ap, subst, ◌∙◌}
+use Rattle.std.proofs.Common.{rules, arith, sym, ap, subst, ◌∙◌}
 use Rattle.pm_model.specs.Moments.{State}
 use Rattle.pm_mem.specs.declared.event.Event.TheVariants.{Store}
 use Rattle.pm_mem.specs.Events.{told_events}

@@ -6,7 +6,7 @@ use Rattle.pool_transaction.specs.Changing.{line_of}
 use Rattle.ready_daemon.specs.Memory.{Held, held_under, with_held}
 use Rattle.ready_daemon.specs.Held.{IsHeldWithin}
 use Rattle.ready_daemon.specs.Ready.{Applies}
-use Rattle.pool_transaction.proofs.HeldRuns.{is_held}
+use Rattle.pool_transaction.proofs.HeldRuns.{with_tx, is_held}
 use Rattle.pool_transaction.proofs.HeldSets.{Applies-line}
 use Rattle.ready_daemon.proofs.Keeping.{KeepsRest-changes}
 use Rattle.pool_transaction.proofs.opened.Opened.change.Goals as goal
@@ -14,13 +14,13 @@ use Rattle.pool_transaction.proofs.opened.Opened.change.Goals as goal
 pub returns-clause-applies : goal.returns-clause-applies
 returns-clause-applies g c = λ t size e w memory frames there ready rewritten free.
     let i = c.self.inside in
-    let held : Held = record { client = i.client; name = i.name; slot = i.slot; at = i.puddles; number = i.number; log = i.tx } in
+    let held : Held = record { client = i.client; name = i.name; slot = i.slot; at = i.puddles; number = i.number; log = i.tx.log; units = i.tx.units } in
     let old = g.H.Host.state c.args.h.now in
     let new = g.H.Host.state c.carry_out-done.new.h in
     let change = c.args.change in
     subst (λ (o : Held).
     held_under memory.held o.number ≡ Some o → IsRewritten o.at → refusal_of w (line_of change o.client o.name) ≡ None
-    → Applies size w (after w (line_of change o.client o.name)) (with_held o.number (Some (record held { log = c.carry_out-done.new.tx })) memory) (fault_of c.carry_out-done.result) old new)
+    → Applies size w (after w (line_of change o.client o.name)) (with_held o.number (Some (with_tx c.carry_out-done.new.tx held)) memory) (fault_of c.carry_out-done.result) old new)
     c.self.view_is
     (λ there rewritten free.
     Applies-line size w memory held old held.number there ready c.args.frames c.as_slice.result.now (sym frames ∙ ready.frames) c.as_slice.ensures.puddles c.carry_out-done.new.tx new c.carry_out-done.ensures.at change c.carry_out-done.result rewritten free
@@ -31,7 +31,7 @@ returns-clause-applies g c = λ t size e w memory frames there ready rewritten f
 pub returns-clause-within : goal.returns-clause-within
 returns-clause-within g c =
     let was = subst (IsHeldWithin c.args.frames) (sym c.self.view_is) c.requires.within in
-    let counted = c.units-units.ensures.used in
+    let counted = c.units-units.ensures.units in
     let few = c.units-units.ensures.within in
     record {
       slot = was.slot;
@@ -39,7 +39,7 @@ returns-clause-within g c =
       client = was.client;
       number = was.number;
       gate = c.carry_out-done.ensures.at ∙ was.gate;
-      used = omega (arith, counted, few);
+      units = omega (arith, counted, few);
     }
 
 pub returns-clause-rest : goal.returns-clause-rest

@@ -19,7 +19,7 @@ returns-in_err-refusal-clause-applies g c =
     rw (p.1, p.2) (λ t size e w memory frames there ready.
     let line = line_of c.args.change c.args.self.now.client c.args.self.now.name in
     Applies-failed size w (world_by w (Some line)) (with_held c.args.self.now.number (Some c.args.self.now) memory) c.in_err-refusal.field-0.0 _ _
-    (subst (λ (m : Memory). IsReady size w m (g.H.Host.state c.args.h.now)) (sym (held_same memory c.args.self.now.number c.args.self.now there)) ready) (c.in_err-refusal.ensures.stays t) c.in_err-refusal.ensures.never_cut)
+    (subst (λ (m : Memory). IsReady size w m (g.H.Host.state c.args.h.now)) (sym (held_same memory c.args.self.now.number c.args.self.now there)) ready) (c.in_err-refusal.ensures.only_reads.stays t) c.in_err-refusal.ensures.only_reads.never_cut)
 
 pub returns-in-Some-clause-reply : goal.returns-in-Some-clause-reply
 returns-in-Some-clause-reply g c = λ t size w memory frames there ready.
@@ -28,7 +28,7 @@ returns-in-Some-clause-reply g c = λ t size w memory frames there ready.
 pub returns-in-Some-clause-applies : goal.returns-in-Some-clause-applies
 returns-in-Some-clause-applies g c = λ t size e w memory frames there ready.
     Applies-refused size w (with_held c.args.self.now.number (Some c.args.self.now) memory) (line_of c.args.change c.args.self.now.client c.args.self.now.name) c.in-Some.refusal _ _
-    (subst (λ (m : Memory). IsReady size w m (g.H.Host.state c.args.h.now)) (sym (held_same memory c.args.self.now.number c.args.self.now there)) ready) (sym (c.in_ok-refusal.ensures.refusal t size w memory frames there ready) ∙ c.in-Some.is) (c.in_ok-refusal.ensures.stays t)
+    (subst (λ (m : Memory). IsReady size w m (g.H.Host.state c.args.h.now)) (sym (held_same memory c.args.self.now.number c.args.self.now there)) ready) (sym (c.in_ok-refusal.ensures.refusal t size w memory frames there ready) ∙ c.in-Some.is) (c.in_ok-refusal.ensures.only_reads.stays t)
 
 pub returns-clause-reply : goal.returns-clause-reply
 returns-clause-reply g c = λ t size w memory frames there ready.
@@ -41,9 +41,9 @@ returns-in_err-change-clause-applies g c =
     let line = line_of c.args.change c.args.self.now.client c.args.self.now.name in
     let k = c.in_ok-refusal.ensures in
     let free = sym (k.refusal t size w memory frames there ready) ∙ c.in_default.is in
-    let then = subst (λ (s : State). IsReady size w memory s) (sym (k.stays t)) ready in
-    Applies-behind_reads size w (with_held c.args.self.now.number (Some c.change.new.self) memory) line (Some c.in_err-change.field-0.0) _ _ _ free (k.stays t)
-    (c.in_err-change.ensures.applies t size (e ∙ sym (ap (λ (m : Counts). m.size) k.cause)) w memory frames there then (held_rewritten size w memory _ then c.args.self.now.number c.args.self.now there)
+    let then = subst (λ (s : State). IsReady size w memory s) (sym (k.only_reads.stays t)) ready in
+    Applies-behind_reads size w (with_held c.args.self.now.number (Some c.change.new.self) memory) line (Some c.in_err-change.field-0.0) _ _ _ free (k.only_reads.stays t)
+    (c.in_err-change.ensures.applies t size (e ∙ sym (ap (λ (m : Counts). m.size) k.only_reads.cause)) w memory frames there then (held_rewritten size w memory _ then c.args.self.now.number c.args.self.now there)
     free))
 
 pub returns-clause-applies : goal.returns-clause-applies
@@ -51,7 +51,7 @@ returns-clause-applies g c = λ t size e w memory frames there ready.
     let line = line_of c.args.change c.args.self.now.client c.args.self.now.name in
     let k = c.in_ok-refusal.ensures in
     let free = sym (k.refusal t size w memory frames there ready) ∙ c.in_default.is in
-    let then = subst (λ (s : State). IsReady size w memory s) (sym (k.stays t)) ready in
-    Applies-behind_reads size w (with_held c.args.self.now.number (Some c.change.new.self) memory) line _ _ _ _ free (k.stays t)
-    (c.in_ok-change.ensures.applies t size (e ∙ sym (ap (λ (m : Counts). m.size) k.cause)) w memory frames there then (held_rewritten size w memory _ then c.args.self.now.number c.args.self.now there)
+    let then = subst (λ (s : State). IsReady size w memory s) (sym (k.only_reads.stays t)) ready in
+    Applies-behind_reads size w (with_held c.args.self.now.number (Some c.change.new.self) memory) line _ _ _ _ free (k.only_reads.stays t)
+    (c.in_ok-change.ensures.applies t size (e ∙ sym (ap (λ (m : Counts). m.size) k.only_reads.cause)) w memory frames there then (held_rewritten size w memory _ then c.args.self.now.number c.args.self.now there)
     free)

@@ -23,7 +23,7 @@ returns-in_err-self-inside-clause-grows g c =
     let p = err_from_is_err_and c.from_residual-in_err-self-inside.result c.from_residual-in_err-self-inside.ensures.1 in
     rw (p.1, p.2) (λ t size e w memory frames there ready by.
     let i = c.self.inside in
-    let held : Held = record { client = i.client; name = i.name; slot = i.slot; at = i.puddles; number = i.number; log = i.tx } in
+    let held : Held = record { client = i.client; name = i.name; slot = i.slot; at = i.puddles; number = i.number; log = i.tx.log; units = i.tx.units } in
     let old = g.H.Host.state c.args.h.now in
     let mid = g.H.Host.state c.grow_pool.new.h in
     let image = reads old.now.words in
@@ -37,13 +37,13 @@ returns-in_err-self-inside-clause-grows g c =
     grows_unread size w memory held old held.number there ready c.args.added c.args.frames n by (with_held held.number (Some held) memory) c.in_err-self-inside.field-0.0 mid new
     (λ idle. c.in_ok-grow_pool.ensures.commits t idle)
     (λ mask at. c.in_ok-grow_pool.ensures.grows t size e w.stored _ mask at)
-    (c.in_err-self-inside.ensures.stays t) c.in_err-self-inside.ensures.never_cut)
+    (c.in_err-self-inside.ensures.only_reads.stays t) c.in_err-self-inside.ensures.only_reads.never_cut)
     there by)
 
 pub returns-clause-grows : goal.returns-clause-grows
 returns-clause-grows g c = λ t size e w memory frames there ready by.
     let i = c.self.inside in
-    let held : Held = record { client = i.client; name = i.name; slot = i.slot; at = i.puddles; number = i.number; log = i.tx } in
+    let held : Held = record { client = i.client; name = i.name; slot = i.slot; at = i.puddles; number = i.number; log = i.tx.log; units = i.tx.units } in
     let old = g.H.Host.state c.args.h.now in
     let mid = g.H.Host.state c.grow_pool.new.h in
     let image = reads old.now.words in
@@ -57,14 +57,14 @@ returns-clause-grows g c = λ t size e w memory frames there ready by.
     grows_done size w memory held old held.number there ready c.args.added c.args.frames n by c.in_ok-self-inside.field-0 mid new
     (λ idle. c.in_ok-grow_pool.ensures.commits t idle)
     (λ mask at. c.in_ok-grow_pool.ensures.grows t size e w.stored _ mask at)
-    (c.in_ok-self-inside.ensures.stays t) (c.in_ok-self-inside.ensures.found t _ refl))
+    (c.in_ok-self-inside.ensures.only_reads.stays t) (c.in_ok-self-inside.ensures.found t _ refl))
     there by
 
 pub returns-in_err-grow_pool-clause-rest : goal.returns-in_err-grow_pool-clause-rest
 returns-in_err-grow_pool-clause-rest g c = λ t. KeepsRest-changes _ _ _ _ (c.in_err-grow_pool.ensures.any t)
 
 pub returns-in_err-self-inside-clause-rest : goal.returns-in_err-self-inside-clause-rest
-returns-in_err-self-inside-clause-rest g c = λ t. KeepsRest-then _ _ _ (KeepsRest-changes _ _ _ _ (c.in_ok-grow_pool.ensures.any t)) (KeepsRest-still _ _ (c.in_err-self-inside.ensures.stays t))
+returns-in_err-self-inside-clause-rest g c = λ t. KeepsRest-then _ _ _ (KeepsRest-changes _ _ _ _ (c.in_ok-grow_pool.ensures.any t)) (KeepsRest-still _ _ (c.in_err-self-inside.ensures.only_reads.stays t))
 
 pub returns-clause-rest : goal.returns-clause-rest
-returns-clause-rest g c = λ t. KeepsRest-then _ _ _ (KeepsRest-changes _ _ _ _ (c.in_ok-grow_pool.ensures.any t)) (KeepsRest-still _ _ (c.in_ok-self-inside.ensures.stays t))
+returns-clause-rest g c = λ t. KeepsRest-then _ _ _ (KeepsRest-changes _ _ _ _ (c.in_ok-grow_pool.ensures.any t)) (KeepsRest-still _ _ (c.in_ok-self-inside.ensures.only_reads.stays t))

@@ -6,24 +6,25 @@ use Rattle.pud_defs.specs.PoolChanges.{pool_named}
 use Rattle.pud_defs.specs.Stored.{stored_in}
 use Rattle.graph_laws.specs.Slots.{IsLowestFreeSlot}
 use Rattle.puddle_header.specs.Places.{place_of_slot, IsSlotOf}
-use Rattle.hybrid_tx.specs.Transactions.{MakesIn}
+use Rattle.hybrid_tx.specs.Transactions.{OpenTx, MakesIn}
 use Rattle.pud_defs.specs.Step.{graph_seen, next_in, grows}
 use Rattle.ready_daemon.specs.Memory.{Held, held_under, with_held}
 use Rattle.pool_transaction.specs.Changing.{refusal_by_world, with_made}
 use Rattle.ready_daemon.specs.Ready.{Applies}
 use Rattle.ready_daemon.proofs.Keeping.{KeepsRest-changes}
+use Rattle.pool_transaction.proofs.HeldRuns.{with_tx}
 use Rattle.pool_transaction.proofs.HeldMakes.{all_live, made_lowest, Applies-made, serial_made}
 use Rattle.pool_transaction.proofs.opened.Opened.make.Goals as goal
 
 pub returns-clause-makes : goal.returns-clause-makes
 returns-clause-makes g c = λ t size w memory frames there ready none less.
     let i = c.self.inside in
-    let held : Held = record { client = i.client; name = i.name; slot = i.slot; at = i.puddles; number = i.number; log = i.tx } in
+    let held : Held = record { client = i.client; name = i.name; slot = i.slot; at = i.puddles; number = i.number; log = i.tx.log; units = i.tx.units } in
     let old = g.H.Host.state c.args.h.now in
     let new = g.H.Host.state c.new-made.new.h in
     subst (λ (o : Held).
     held_under memory.held o.number ≡ Some o → refusal_by_world w o c.args.t ≡ None → grows w o.name ≡ false
-    → Applies size w (with_made o.name c.args.t w) (with_held o.number (Some (record held { log = c.new-made.new.self })) memory) (fault_of c.new-made.result) old new)
+    → Applies size w (with_made o.name c.args.t w) (with_held o.number (Some (with_tx c.new-made.new.self held)) memory) (fault_of c.new-made.result) old new)
     c.self.view_is
     (λ there none less.
     Applies-made size w memory held old held.number there ready c.args.frames c.as_slice.result.now (sym frames ∙ ready.frames) c.as_slice.ensures.puddles c.args.t none c.new-made.new.self new c.new-made.ensures.at c.new-made.result less
@@ -34,7 +35,7 @@ returns-clause-makes g c = λ t size w memory frames there ready none less.
 pub returns-clause-serial : goal.returns-clause-serial
 returns-clause-serial g c = λ t size w memory frames there ready less.
     let i = c.self.inside in
-    let held : Held = record { client = i.client; name = i.name; slot = i.slot; at = i.puddles; number = i.number; log = i.tx } in
+    let held : Held = record { client = i.client; name = i.name; slot = i.slot; at = i.puddles; number = i.number; log = i.tx.log; units = i.tx.units } in
     let old = g.H.Host.state c.args.h.now in
     subst (λ (o : Held).
     held_under memory.held o.number ≡ Some o → grows w o.name ≡ false
@@ -47,16 +48,16 @@ returns-clause-serial g c = λ t size w memory frames there ready less.
 pub returns-clause-full : goal.returns-clause-full
 returns-clause-full g c = λ t size w memory frames there ready more.
     let i = c.self.inside in
-    let held : Held = record { client = i.client; name = i.name; slot = i.slot; at = i.puddles; number = i.number; log = i.tx } in
+    let held : Held = record { client = i.client; name = i.name; slot = i.slot; at = i.puddles; number = i.number; log = i.tx.log; units = i.tx.units } in
     let old = g.H.Host.state c.args.h.now in
     let new = g.H.Host.state c.new-made.new.h in
     subst (λ (o : Held).
     held_under memory.held o.number ≡ Some o → grows w o.name ≡ true
-    → IfOk c.new-made.result (λ serial. serial ≡ 0) × (new ≡ old) × (record held { log = c.new-made.new.self } ≡ o))
+    → IfOk c.new-made.result (λ serial. serial ≡ 0) × (new ≡ old) × (with_tx c.new-made.new.self held ≡ o))
     c.self.view_is
     (λ there more.
     let full = c.new-made.ensures.full t (all_live size w memory held old held.number there ready c.args.frames c.as_slice.result.now (sym frames ∙ ready.frames) c.as_slice.ensures.puddles more) in
-    (full.0, full.1, ap (λ log. record held { log = log }) full.2))
+    (full.0, full.1, ap (λ (x : OpenTx). with_tx x held) full.2))
     there more
 
 pub returns-clause-rest : goal.returns-clause-rest
@@ -65,7 +66,7 @@ returns-clause-rest g c = λ t. KeepsRest-changes _ _ _ _ (c.new-made.ensures.ch
 pub returns-clause-lowest : goal.returns-clause-lowest
 returns-clause-lowest g c = λ t size w memory frames there ready none slot of lowest.
     let i = c.self.inside in
-    let held : Held = record { client = i.client; name = i.name; slot = i.slot; at = i.puddles; number = i.number; log = i.tx } in
+    let held : Held = record { client = i.client; name = i.name; slot = i.slot; at = i.puddles; number = i.number; log = i.tx.log; units = i.tx.units } in
     let old = g.H.Host.state c.args.h.now in
     let new = g.H.Host.state c.new-made.new.h in
     let fault = fault_of c.new-made.result in

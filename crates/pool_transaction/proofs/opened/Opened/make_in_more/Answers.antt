@@ -12,7 +12,7 @@ pub returns-in_err-added-clause-applies : goal.returns-in_err-added-clause-appli
 returns-in_err-added-clause-applies g c =
     let p = err_from_is_err_and c.from_residual.result c.from_residual.ensures.1 in
     rw (p.1, p.2) (λ t size e w memory frames there ready none more.
-    new_failed size w memory c.args.self.now (g.H.Host.state c.args.h.now) c.args.self.now.number there ready c.args.t c.args.self.now c.in_err-added.field-0.0 _ (c.in_err-added.ensures.stays t) c.in_err-added.ensures.never_cut)
+    new_failed size w memory c.args.self.now (g.H.Host.state c.args.h.now) c.args.self.now.number there ready c.args.t c.args.self.now c.in_err-added.field-0.0 _ (c.in_err-added.ensures.only_reads.stays t) c.in_err-added.ensures.only_reads.never_cut)
 
 pub returns-in-Err-clause-reply : goal.returns-in-Err-clause-reply
 returns-in-Err-clause-reply g c = λ t size e w memory frames there ready none more.
@@ -28,18 +28,18 @@ returns-in-Err-clause-applies g c = λ t size e w memory frames there ready none
     let found : Some c.in-Err.refusal ≡ refusal_by_tables c.args.frames c.args.self.now (reads old.now.words) =
     sym (ap refusal_in c.in-Err.is) ∙ c.in_ok-added.ensures.refusal t (reads old.now.words) refl (units_fit w c.args.self.now c.args.t none) in
     new_refused size w memory c.args.self.now old c.args.self.now.number there ready c.args.t c.in-Err.refusal _
-    (refused_by_tables size w memory c.args.self.now old c.args.self.now.number there ready c.args.t none more c.args.frames (sym frames ∙ ready.frames) c.in-Err.refusal found) (c.in_ok-added.ensures.stays t)
+    (refused_by_tables size w memory c.args.self.now old c.args.self.now.number there ready c.args.t none more c.args.frames (sym frames ∙ ready.frames) c.in-Err.refusal found) (c.in_ok-added.ensures.only_reads.stays t)
 
 pub returns-in_err-grow-clause-applies : goal.returns-in_err-grow-clause-applies
 returns-in_err-grow-clause-applies g c =
     let p = err_from_is_err_and c.from_residual-in_err-grow.result c.from_residual-in_err-grow.ensures.1 in
     rw (p.1, p.2) (λ t size e w memory frames there ready none more.
     let old = g.H.Host.state c.args.h.now in
-    let same : size ≡ (g.H.Host.counts c.find_growth.new.h).size = e ∙ sym (ap (λ (n : Counts). n.size) c.in_ok-added.ensures.cause) in
+    let same : size ≡ (g.H.Host.counts c.find_growth.new.h).size = e ∙ sym (ap (λ (n : Counts). n.size) c.in_ok-added.ensures.only_reads.cause) in
     let found : None ≡ refusal_by_tables c.args.frames c.args.self.now (reads old.now.words) =
     sym (ap refusal_in c.in-Ok.is) ∙ c.in_ok-added.ensures.refusal t (reads old.now.words) refl (units_fit w c.args.self.now c.args.t none) in
     let by = subst (λ found. IfOk found (GrowsBy c.args.frames c.args.self.now (reads old.now.words))) c.in-Ok.is (c.in_ok-added.ensures.growth t (reads old.now.words) refl) in
-    new_ungrown size w memory c.args.self.now old c.args.self.now.number there ready c.args.t none more c.args.frames (sym frames ∙ ready.frames) found c.in-Ok.added by c.grow.new.self c.in_err-grow.field-0.0 _ _ (c.in_ok-added.ensures.stays t)
+    new_ungrown size w memory c.args.self.now old c.args.self.now.number there ready c.args.t none more c.args.frames (sym frames ∙ ready.frames) found c.in-Ok.added by c.grow.new.self c.in_err-grow.field-0.0 _ _ (c.in_ok-added.ensures.only_reads.stays t)
     (λ ready_then may. c.in_err-grow.ensures.grows t size same w memory frames there ready_then may))
 
 pub returns-in_err-serial-clause-applies : goal.returns-in_err-serial-clause-applies
@@ -47,11 +47,11 @@ returns-in_err-serial-clause-applies g c =
     let p = err_from_is_err_and c.from_residual-in_err-serial.result c.from_residual-in_err-serial.ensures.1 in
     rw (p.1, p.2) (λ t size e w memory frames there ready none more.
     let old = g.H.Host.state c.args.h.now in
-    let same : size ≡ (g.H.Host.counts c.find_growth.new.h).size = e ∙ sym (ap (λ (n : Counts). n.size) c.in_ok-added.ensures.cause) in
+    let same : size ≡ (g.H.Host.counts c.find_growth.new.h).size = e ∙ sym (ap (λ (n : Counts). n.size) c.in_ok-added.ensures.only_reads.cause) in
     let found : None ≡ refusal_by_tables c.args.frames c.args.self.now (reads old.now.words) =
     sym (ap refusal_in c.in-Ok.is) ∙ c.in_ok-added.ensures.refusal t (reads old.now.words) refl (units_fit w c.args.self.now c.args.t none) in
     let by = subst (λ found. IfOk found (GrowsBy c.args.frames c.args.self.now (reads old.now.words))) c.in-Ok.is (c.in_ok-added.ensures.growth t (reads old.now.words) refl) in
-    new_in_more size w memory c.args.self.now old c.args.self.now.number there ready c.args.t none more c.args.frames (sym frames ∙ ready.frames) found c.in-Ok.added by c.grow.new.self c.in_ok-grow.ensures.stays.name c.in_ok-grow.ensures.log c.in_ok-grow.ensures.stays.number _ _ (c.in_ok-added.ensures.stays t)
+    new_in_more size w memory c.args.self.now old c.args.self.now.number there ready c.args.t none more c.args.frames (sym frames ∙ ready.frames) found c.in-Ok.added by c.grow.new.self c.in_ok-grow.ensures.stays.name c.in_ok-grow.ensures.tx c.in_ok-grow.ensures.stays.number _ _ (c.in_ok-added.ensures.only_reads.stays t)
     (λ ready_then may. c.in_ok-grow.ensures.grows t size same w memory frames there ready_then may)
     c.make.new.self (Some c.in_err-serial.field-0.0) _
     (λ ready_grown refused less. c.in_err-serial.ensures.makes t size (with_more c.args.self.now.name w) (memory_with size w memory c.args.self.now old c.args.self.now.number there ready c.args.t c.grow.new.self) frames (now_there size w memory c.args.self.now old c.args.self.now.number there ready c.args.t c.grow.new.self c.in_ok-grow.ensures.stays.number) ready_grown refused less))
@@ -59,11 +59,11 @@ returns-in_err-serial-clause-applies g c =
 pub returns-clause-reply : goal.returns-clause-reply
 returns-clause-reply g c = λ t size e w memory frames there ready none more.
     let old = g.H.Host.state c.args.h.now in
-    let same : size ≡ (g.H.Host.counts c.find_growth.new.h).size = e ∙ sym (ap (λ (n : Counts). n.size) c.in_ok-added.ensures.cause) in
+    let same : size ≡ (g.H.Host.counts c.find_growth.new.h).size = e ∙ sym (ap (λ (n : Counts). n.size) c.in_ok-added.ensures.only_reads.cause) in
     let found : None ≡ refusal_by_tables c.args.frames c.args.self.now (reads old.now.words) =
     sym (ap refusal_in c.in-Ok.is) ∙ c.in_ok-added.ensures.refusal t (reads old.now.words) refl (units_fit w c.args.self.now c.args.t none) in
     let by = subst (λ found. IfOk found (GrowsBy c.args.frames c.args.self.now (reads old.now.words))) c.in-Ok.is (c.in_ok-added.ensures.growth t (reads old.now.words) refl) in
-    reply_in_more size w memory c.args.self.now old c.args.self.now.number there ready c.args.t none more c.args.frames (sym frames ∙ ready.frames) found c.in-Ok.added by c.grow.new.self c.in_ok-grow.ensures.stays.name c.in_ok-grow.ensures.log c.in_ok-grow.ensures.stays.number _ _ (c.in_ok-added.ensures.stays t)
+    reply_in_more size w memory c.args.self.now old c.args.self.now.number there ready c.args.t none more c.args.frames (sym frames ∙ ready.frames) found c.in-Ok.added by c.grow.new.self c.in_ok-grow.ensures.stays.name c.in_ok-grow.ensures.tx c.in_ok-grow.ensures.stays.number _ _ (c.in_ok-added.ensures.only_reads.stays t)
     (λ ready_then may. c.in_ok-grow.ensures.grows t size same w memory frames there ready_then may)
     c.in_ok-serial.serial
     (λ ready_grown less. c.in_ok-serial.ensures.serial t size (with_more c.args.self.now.name w) (memory_with size w memory c.args.self.now old c.args.self.now.number there ready c.args.t c.grow.new.self) frames (now_there size w memory c.args.self.now old c.args.self.now.number there ready c.args.t c.grow.new.self c.in_ok-grow.ensures.stays.number) ready_grown less)
@@ -71,11 +71,11 @@ returns-clause-reply g c = λ t size e w memory frames there ready none more.
 pub returns-clause-applies : goal.returns-clause-applies
 returns-clause-applies g c = λ t size e w memory frames there ready none more.
     let old = g.H.Host.state c.args.h.now in
-    let same : size ≡ (g.H.Host.counts c.find_growth.new.h).size = e ∙ sym (ap (λ (n : Counts). n.size) c.in_ok-added.ensures.cause) in
+    let same : size ≡ (g.H.Host.counts c.find_growth.new.h).size = e ∙ sym (ap (λ (n : Counts). n.size) c.in_ok-added.ensures.only_reads.cause) in
     let found : None ≡ refusal_by_tables c.args.frames c.args.self.now (reads old.now.words) =
     sym (ap refusal_in c.in-Ok.is) ∙ c.in_ok-added.ensures.refusal t (reads old.now.words) refl (units_fit w c.args.self.now c.args.t none) in
     let by = subst (λ found. IfOk found (GrowsBy c.args.frames c.args.self.now (reads old.now.words))) c.in-Ok.is (c.in_ok-added.ensures.growth t (reads old.now.words) refl) in
-    new_in_more size w memory c.args.self.now old c.args.self.now.number there ready c.args.t none more c.args.frames (sym frames ∙ ready.frames) found c.in-Ok.added by c.grow.new.self c.in_ok-grow.ensures.stays.name c.in_ok-grow.ensures.log c.in_ok-grow.ensures.stays.number _ _ (c.in_ok-added.ensures.stays t)
+    new_in_more size w memory c.args.self.now old c.args.self.now.number there ready c.args.t none more c.args.frames (sym frames ∙ ready.frames) found c.in-Ok.added by c.grow.new.self c.in_ok-grow.ensures.stays.name c.in_ok-grow.ensures.tx c.in_ok-grow.ensures.stays.number _ _ (c.in_ok-added.ensures.only_reads.stays t)
     (λ ready_then may. c.in_ok-grow.ensures.grows t size same w memory frames there ready_then may)
     c.make.new.self None _
     (λ ready_grown refused less. c.in_ok-serial.ensures.makes t size (with_more c.args.self.now.name w) (memory_with size w memory c.args.self.now old c.args.self.now.number there ready c.args.t c.grow.new.self) frames (now_there size w memory c.args.self.now old c.args.self.now.number there ready c.args.t c.grow.new.self c.in_ok-grow.ensures.stays.number) ready_grown refused less)

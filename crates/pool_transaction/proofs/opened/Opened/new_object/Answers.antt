@@ -18,7 +18,7 @@ pub returns-in_err-refusal-clause-applies : goal.returns-in_err-refusal-clause-a
 returns-in_err-refusal-clause-applies g c =
     let p = err_from_is_err_and c.from_residual.result c.from_residual.ensures.1 in
     rw (p.1, p.2) (λ t size e w memory frames there ready.
-    new_failed size w memory c.args.self.now (g.H.Host.state c.args.h.now) c.args.self.now.number there ready c.args.t c.args.self.now c.in_err-refusal.field-0.0 _ (c.in_err-refusal.ensures.stays t) c.in_err-refusal.ensures.never_cut)
+    new_failed size w memory c.args.self.now (g.H.Host.state c.args.h.now) c.args.self.now.number there ready c.args.t c.args.self.now c.in_err-refusal.field-0.0 _ (c.in_err-refusal.ensures.only_reads.stays t) c.in_err-refusal.ensures.only_reads.never_cut)
 
 pub returns-in-Some-clause-reply : goal.returns-in-Some-clause-reply
 returns-in-Some-clause-reply g c = λ t size e w memory frames there ready.
@@ -34,7 +34,7 @@ returns-in-Some-clause-applies g c = λ t size e w memory frames there ready.
     let held = c.args.self.now in
     let by_world =
     refusal_found size w memory held old held.number there ready c.args.t c.args.frames (sym frames ∙ ready.frames) c.in_ok-refusal.field-0 (Some c.in-Some.refusal) (c.in_ok-refusal.ensures.refusal t (reads old.now.words) refl) c.in-Some.is in
-    new_refused size w memory held old held.number there ready c.args.t c.in-Some.refusal _ (refused_whatever size w memory held old held.number there ready c.args.t c.in-Some.refusal by_world) (c.in_ok-refusal.ensures.stays t)
+    new_refused size w memory held old held.number there ready c.args.t c.in-Some.refusal _ (refused_whatever size w memory held old held.number there ready c.args.t c.in-Some.refusal by_world) (c.in_ok-refusal.ensures.only_reads.stays t)
 
 pub returns-in_err-serial-clause-applies : goal.returns-in_err-serial-clause-applies
 returns-in_err-serial-clause-applies g c =
@@ -44,7 +44,7 @@ returns-in_err-serial-clause-applies g c =
     let held = c.args.self.now in
     let start = g.H.Host.state c.find_refusal_to_make.new.h in
     let new = g.H.Host.state c.make.new.h in
-    let still = c.in_ok-refusal.ensures.stays t in
+    let still = c.in_ok-refusal.ensures.only_reads.stays t in
     let none =
     refusal_found size w memory held old held.number there ready c.args.t c.args.frames (sym frames ∙ ready.frames) c.in_ok-refusal.field-0 None (c.in_ok-refusal.ensures.refusal t (reads old.now.words) refl) c.in_default.is in
     let then = subst (λ (s : State). IsReady size w memory s) (sym still) ready in
@@ -61,7 +61,7 @@ returns-then-serial-gt0-clause-reply g c = λ t size e w memory frames there rea
     let start = g.H.Host.state c.find_refusal_to_make.new.h in
     let none =
     refusal_found size w memory held old held.number there ready c.args.t c.args.frames (sym frames ∙ ready.frames) c.in_ok-refusal.field-0 None (c.in_ok-refusal.ensures.refusal t (reads old.now.words) refl) c.in_default.is in
-    let then = subst (λ (s : State). IsReady size w memory s) (sym (c.in_ok-refusal.ensures.stays t)) ready in
+    let then = subst (λ (s : State). IsReady size w memory s) (sym (c.in_ok-refusal.ensures.only_reads.stays t)) ready in
     let less = was_free size w memory held start held.number there then c.args.t none c.in_ok-serial.serial c.if-serial-gt0.true (λ more. (c.in_ok-serial.ensures.full t size w memory frames there then more).0) in
     reply_made size w memory held start held.number there then c.args.t none c.in_ok-serial.serial less (c.in_ok-serial.ensures.serial t size w memory frames there then less)
 
@@ -71,7 +71,7 @@ returns-then-serial-gt0-clause-applies g c = λ t size e w memory frames there r
     let held = c.args.self.now in
     let start = g.H.Host.state c.find_refusal_to_make.new.h in
     let new = g.H.Host.state c.make.new.h in
-    let still = c.in_ok-refusal.ensures.stays t in
+    let still = c.in_ok-refusal.ensures.only_reads.stays t in
     let none =
     refusal_found size w memory held old held.number there ready c.args.t c.args.frames (sym frames ∙ ready.frames) c.in_ok-refusal.field-0 None (c.in_ok-refusal.ensures.refusal t (reads old.now.words) refl) c.in_default.is in
     let then = subst (λ (s : State). IsReady size w memory s) (sym still) ready in
@@ -87,12 +87,12 @@ returns-clause-reply g c = λ t size e w memory frames there ready.
     let mid = g.H.Host.state c.make.new.h in
     let none =
     refusal_found size w memory held old held.number there ready c.args.t c.args.frames (sym frames ∙ ready.frames) c.in_ok-refusal.field-0 None (c.in_ok-refusal.ensures.refusal t (reads old.now.words) refl) c.in_default.is in
-    let then = subst (λ (s : State). IsReady size w memory s) (sym (c.in_ok-refusal.ensures.stays t)) ready in
+    let then = subst (λ (s : State). IsReady size w memory s) (sym (c.in_ok-refusal.ensures.only_reads.stays t)) ready in
     let more = was_full size w memory held start held.number there then c.args.t none c.in_ok-serial.serial c.if-serial-gt0.false (λ less. c.in_ok-serial.ensures.serial t size w memory frames there then less) in
     let full = c.in_ok-serial.ensures.full t size w memory frames there then more in
     let after = subst (λ (s : State). IsReady size w memory s) (sym full.1) then in
     let same : size ≡ (g.H.Host.counts c.make.new.h).size =
-    e ∙ sym (ap (λ (n : Counts). n.size) c.in_ok-refusal.ensures.cause) ∙ sym (ap (λ (n : Counts). n.size) c.in_ok-serial.ensures.cause) in
+    e ∙ sym (ap (λ (n : Counts). n.size) c.in_ok-refusal.ensures.only_reads.cause) ∙ sym (ap (λ (n : Counts). n.size) c.in_ok-serial.ensures.cause) in
     subst (λ (o : Held). held_under memory.held o.number ≡ Some o → refusal_by_world w o c.args.t ≡ None → grows w o.name ≡ true → IfOk c.make_in_more.result (λ reply. of_reply reply ≡ answer_by w (Some (New o.client o.name c.args.t)))) full.2
     (λ there none more. c.make_in_more.ensures.reply t size same w memory frames there after none more) there none more
 
@@ -103,7 +103,7 @@ returns-clause-applies g c = λ t size e w memory frames there ready.
     let start = g.H.Host.state c.find_refusal_to_make.new.h in
     let mid = g.H.Host.state c.make.new.h in
     let new = g.H.Host.state c.make_in_more.new.h in
-    let still = c.in_ok-refusal.ensures.stays t in
+    let still = c.in_ok-refusal.ensures.only_reads.stays t in
     let none =
     refusal_found size w memory held old held.number there ready c.args.t c.args.frames (sym frames ∙ ready.frames) c.in_ok-refusal.field-0 None (c.in_ok-refusal.ensures.refusal t (reads old.now.words) refl) c.in_default.is in
     let then = subst (λ (s : State). IsReady size w memory s) (sym still) ready in
@@ -111,7 +111,7 @@ returns-clause-applies g c = λ t size e w memory frames there ready.
     let full = c.in_ok-serial.ensures.full t size w memory frames there then more in
     let after = subst (λ (s : State). IsReady size w memory s) (sym full.1) then in
     let same : size ≡ (g.H.Host.counts c.make.new.h).size =
-    e ∙ sym (ap (λ (n : Counts). n.size) c.in_ok-refusal.ensures.cause) ∙ sym (ap (λ (n : Counts). n.size) c.in_ok-serial.ensures.cause) in
+    e ∙ sym (ap (λ (n : Counts). n.size) c.in_ok-refusal.ensures.only_reads.cause) ∙ sym (ap (λ (n : Counts). n.size) c.in_ok-serial.ensures.cause) in
     subst (λ (s : State). Applies size w (world_by w (Some (New held.client held.name c.args.t))) (with_held held.number (Some c.make_in_more.new.self) memory) (fault_of c.make_in_more.result) s new) (full.1 ∙ still)
     (subst (λ (o : Held). held_under memory.held o.number ≡ Some o → refusal_by_world w o c.args.t ≡ None → grows w o.name ≡ true
     → Applies size w (world_by w (Some (New o.client o.name c.args.t))) (with_held o.number (Some c.make_in_more.new.self) memory) (fault_of c.make_in_more.result) mid new) full.2

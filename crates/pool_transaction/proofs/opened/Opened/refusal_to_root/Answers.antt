@@ -10,4 +10,4 @@ returns-clause-refusal g c = λ t size w memory frames held ready.
     ∙ refused_to_root size w memory _ ready c.args.self.now c.args.self.now.number held c.args.frames c.args.s c.units.result c.as_slice-pool.result.now c.in_ok-missed.missed (sym frames ∙ ready.frames)
     (c.as_slice-pool.ensures.puddles ∙ ap (λ (h : Held). h.at) c.self.view_is)
     (λ graph stored. c.in_ok-missed.ensures.missed t (reads (g.H.Host.state c.args.h.now).now.words) refl graph stored)
-    (c.units.ensures.used ∙ ap (λ (h : Held). h.log.used) c.self.view_is)
+    (c.units.ensures.units ∙ ap (λ (h : Held). h.units) c.self.view_is)

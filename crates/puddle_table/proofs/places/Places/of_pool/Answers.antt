@@ -1,10 +1,9 @@
-use Rattle.std.proofs.Common.{rules, ◌≡◌, ℕ, ◌+◌, ◌<◌, ◌≤◌, List, All, Some, None, slice_index_or, length, sym, ap, ◌∙◌, subst}
-use Rattle.pm_model.specs.Words.{reads}
-use Rattle.pm_model.specs.Moments.{State}
+use Rattle.std.proofs.Common.{◌≡◌, ℕ, ◌+◌, ◌<◌, ◌≤◌, List, All, Some, None, slice_index_or, length, sym, ap, ◌∙◌, subst}
 use Rattle.pud_defs.specs.declared.records.Puddle.{Puddle}
 use Rattle.pud_defs.specs.Tables.{tables_of}
 use Rattle.puddle_table.specs.Placed.{Placed, frame_at}
 use Rattle.puddle_table.proofs.Turning.{ReadsOn, ReadsOn-none, ReadsOn-more, ReadsOn-end, frame_below, frames_more, one_more}
+use Rattle.pm_model.proofs.Reading.{OnlyReads-then, still_reads}
 use Rattle.puddle_table.proofs.places.Places.of_pool.Goals as goal
 
 pub returns-in-None-clause-found : goal.returns-in-None-clause-found
@@ -24,12 +23,11 @@ loop-ordinal-preserved g c =
           let below : frame < c.args.self.now.count = subst (λ (n : ℕ). frame < n) (ap (λ (p : Placed). p.count) c.self.view_is) (frame_below c.self.inside.count c.self.inside.frames c.place.result frame c.self.invariant.2 c.in-Some.is) in
           subst (λ (es : List (ℕ × Puddle)). All (λ e. e.0 < c.args.self.now.count) es) (sym c.push.ensures)
           (frames_more c.args.self.now.count frame c.in_ok-read_puddle-in-Some.field-0 c.loop-ordinal.found below c.loop-ordinal.invariant.frames);
-      counts = search rules;
-      stays = search rules;
+      only_reads = OnlyReads-then c.loop-ordinal.invariant.only_reads c.in_ok-read_puddle-in-Some.ensures.only_reads;
       found = λ t image e holds.
           let here : frame_at c.args.self.now.frames c.args.pool ordinal ≡ Some frame =
           ap (λ (p : Placed). frame_at p.frames c.args.pool ordinal) (sym c.self.view_is) ∙ ap (λ (i : ℕ). slice_index_or c.self.inside.frames i None) (sym c.place.ensures.place) ∙ c.in-Some.is in
-          let read = c.in_ok-read_puddle-in-Some.ensures.puddle t image (ap (λ (s : State). reads s.now.words) (c.loop-ordinal.invariant.stays t) ∙ e) in
+          let read = c.in_ok-read_puddle-in-Some.ensures.puddle t image (still_reads c.loop-ordinal.invariant.only_reads t e) in
           subst (ReadsOn (tables_of c.args.self.now.count image) c.args.pool (ordinal + 1)) (sym c.push.ensures)
           (ReadsOn-more c.args.self.now.count image c.args.self.now holds c.args.pool ordinal c.requires.pool c.loop-ordinal-test.true c.loop-ordinal.found frame c.in_ok-read_puddle-in-Some.field-0 here read
           (c.loop-ordinal.invariant.found t image e holds));

@@ -15,38 +15,38 @@ returns-in_err-refusal-clause-carries g c =
     let p = err_from_is_err_and c.from_residual.result c.from_residual.ensures.1 in
     rw (p.1, p.2) (λ t size e w ready.
     let k = c.in_err-refusal.ensures in
-    let known = ready_read size w c.args.self.now c.find_own.new.self _ _ ready (k.stays t) k.frames k.held k.sessions (k.judged t) (k.apart t size w ready) in
-    CarriesOut-unread size w c.find_own.new.self _ _ _ _ (Abort c.args.client c.args.name) (abort_is_plain c.args.client c.args.name) (k.stays t) known c.in_err-refusal.field-0.0 k.never_cut k.cause)
+    let known = ready_read size w c.find_own.new.self _ _ (k.only_reads.stays t) (k.ready t size w ready) in
+    CarriesOut-unread size w c.find_own.new.self _ _ _ _ (Abort c.args.client c.args.name) (abort_is_plain c.args.client c.args.name) (k.only_reads.stays t) known c.in_err-refusal.field-0.0 k.only_reads.never_cut k.only_reads.cause)
 
 pub returns-in-Err-clause-carries : goal.returns-in-Err-clause-carries
 returns-in-Err-clause-carries g c = λ t size e w ready.
     let k = c.in_ok-refusal.ensures in
-    let known = ready_read size w c.args.self.now c.find_own.new.self _ _ ready (k.stays t) k.frames k.held k.sessions (k.judged t) (k.apart t size w ready) in
+    let known = ready_read size w c.find_own.new.self _ _ (k.only_reads.stays t) (k.ready t size w ready) in
     let refused = refusal_of-abort w c.args.client c.args.name ∙ sym (k.refusal t size w ready) ∙ ap refusal_found c.in-Err.is in
-    CarriesOut-refused size w c.find_own.new.self _ _ _ _ (Abort c.args.client c.args.name) (abort_is_plain c.args.client c.args.name) (k.stays t) known c.in-Err.refusal refused k.cause
+    CarriesOut-refused size w c.find_own.new.self _ _ _ _ (Abort c.args.client c.args.name) (abort_is_plain c.args.client c.args.name) (k.only_reads.stays t) known c.in-Err.refusal refused k.only_reads.cause
 
 pub returns-in_err-undo-clause-carries : goal.returns-in_err-undo-clause-carries
 returns-in_err-undo-clause-carries g c =
     let p = err_from_is_err_and c.from_residual-in_err-undo.result c.from_residual-in_err-undo.ensures.1 in
     rw (p.1, p.2) (λ t size e w ready.
     let k = c.in_ok-refusal.ensures in
-    let known = ready_read size w c.args.self.now c.find_own.new.self _ _ ready (k.stays t) k.frames k.held k.sessions (k.judged t) (k.apart t size w ready) in
+    let known = ready_read size w c.find_own.new.self _ _ (k.only_reads.stays t) (k.ready t size w ready) in
     let free = refusal_of-abort w c.args.client c.args.name ∙ sym (k.refusal t size w ready) ∙ ap refusal_found c.in-Ok.is in
     let own = rw c.in-Ok.is at (k.own t size w ready) in
     let n = c.in_err-undo.ensures in
     let fault = Some c.in_err-undo.field-0.0 in
-    CarriesOut-stopped size w c.undo.new.self _ _ _ _ _ _ (Abort c.args.client c.args.name) (abort_is_plain c.args.client c.args.name) free (k.stays t) k.cause (n.rest t) c.in_err-undo.field-0.0
+    CarriesOut-stopped size w c.undo.new.self _ _ _ _ _ _ (Abort c.args.client c.args.name) (abort_is_plain c.args.client c.args.name) free (k.only_reads.stays t) k.only_reads.cause (n.rest t) c.in_err-undo.field-0.0
     (Applies-own size w c.args.client c.args.name c.in-Ok.own.number c.args.self.now c.find_own.new.self c.undo.new.self fault _ _ own.own k.held
-    (n.applies t size (e ∙ sym (ap (λ (m : Counts). m.size) k.cause)) w known)) n.cause)
+    (n.applies t size (e ∙ sym (ap (λ (m : Counts). m.size) k.only_reads.cause)) w known)) n.cause)
 
 pub returns-clause-carries : goal.returns-clause-carries
 returns-clause-carries g c = λ t size e w ready.
     let k = c.in_ok-refusal.ensures in
-    let known = ready_read size w c.args.self.now c.find_own.new.self _ _ ready (k.stays t) k.frames k.held k.sessions (k.judged t) (k.apart t size w ready) in
+    let known = ready_read size w c.find_own.new.self _ _ (k.only_reads.stays t) (k.ready t size w ready) in
     let free = refusal_of-abort w c.args.client c.args.name ∙ sym (k.refusal t size w ready) ∙ ap refusal_found c.in-Ok.is in
     let own = rw c.in-Ok.is at (k.own t size w ready) in
     let n = c.in_ok-undo.ensures in
-    CarriesOut-done size w c.undo.new.self _ _ _ _ _ _ (Abort c.args.client c.args.name) (abort_is_plain c.args.client c.args.name) free (k.stays t) k.cause (n.rest t) replies.Ok
+    CarriesOut-done size w c.undo.new.self _ _ _ _ _ _ (Abort c.args.client c.args.name) (abort_is_plain c.args.client c.args.name) free (k.only_reads.stays t) k.only_reads.cause (n.rest t) replies.Ok
     (sym (answer_is_ok w (Abort c.args.client c.args.name) refl refl free))
     (Applies-own size w c.args.client c.args.name c.in-Ok.own.number c.args.self.now c.find_own.new.self c.undo.new.self None _ _ own.own k.held
-    (n.applies t size (e ∙ sym (ap (λ (m : Counts). m.size) k.cause)) w known)) n.cause
+    (n.applies t size (e ∙ sym (ap (λ (m : Counts). m.size) k.only_reads.cause)) w known)) n.cause

@@ -12,9 +12,9 @@ use Rattle.pud_defs.specs.declared.records.Puddle.{Puddle}
 use Rattle.pud_defs.specs.Step.{after}
 use Rattle.pud_defs.specs.Settled.{log_number_at}
 use Rattle.log_space.specs.FreeLogs.{IsLogOf}
-use Rattle.log_store.specs.Store.{OpenLog}
 use Rattle.word_transaction.specs.Running.{IsIdle, nothing, begun, Runs}
 use Rattle.hybrid_tx.specs.Grounds.{pool_ground}
+use Rattle.hybrid_tx.specs.Transactions.{OpenTx}
 use Rattle.nesting.specs.Sessions.{session_in, count_of, entered, AreSessions}
 use Rattle.ready_daemon.specs.Beginning.{MayBegin}
 use Rattle.ready_daemon.specs.Ready.{IsReady, Applies}
@@ -33,7 +33,7 @@ pub returns-in_err-number-clause-begins : goal.returns-in_err-number-clause-begi
 returns-in_err-number-clause-begins g c =
     let p = err_from_is_err_and c.from_residual.result c.from_residual.ensures.1 in
     rw (p.1, p.2) (λ t size e w sessions ready are unheld few begun shut may.
-    (tt, Applies-stopped size w (after w (Begin c.args.client c.args.name)) (record c.args.self.now { sessions = sessions }) _ c.in_err-number.field-0.0 _ _ ready (c.in_err-number.ensures.stays t) (λ cut. absurd (c.in_err-number.ensures.never_cut cut))))
+    (tt, Applies-stopped size w (after w (Begin c.args.client c.args.name)) (record c.args.self.now { sessions = sessions }) _ c.in_err-number.field-0.0 _ _ ready (c.in_err-number.ensures.only_reads.stays t) (λ cut. absurd (c.in_err-number.ensures.only_reads.never_cut cut))))
 
 pub returns-in_default-clause-begins : goal.returns-in_default-clause-begins
 returns-in_default-clause-begins g c = λ t size e w sessions ready are unheld few begun shut may. absurd
@@ -61,8 +61,8 @@ invariant_of-self-2 g c =
             puddles = i.3.each c.args.slot c.in-Some-take.puddles (sym c.take.ensures.puddles ∙ c.in-Some-take.is);
             client = few;
             number = omega arith;
-            gate = ap (λ (l : OpenLog). l.at) opened;
-            used = omega (arith, ap (λ (l : OpenLog). l.used) opened);
+            gate = ap (λ (x : OpenTx). x.log.at) opened;
+            units = omega (arith, ap (λ (x : OpenTx). x.units) opened);
           }))),
       subst (AreOnDevice frames) (sym c.take.ensures.forgotten) (AreOnDevice-forgotten frames c.self.inside.judged c.args.slot i.3),
     )
@@ -86,9 +86,9 @@ returns-in_err-tx-clause-begins g c =
       Applies-begins size w (record { frames = i.frames; held = i.opened; sessions = sessions; judged = i.judged }) behind c.args.client c.args.name c.args.slot c.in-Some.number _ fault old new
           c.requires.slot c.requires.present (λ none. let it : None ≡ fault = sym none in cc) (omega (arith, are.slots, c.requires.slot))
           (subst (λ (o : Option ℕ). IfSome o (IsLogOf c.args.client)) c.in-Some.is c.in_ok-number.ensures.within) (sym c.in-Some.is ∙ c.in_ok-number.ensures.lowest t) unheld shut (λ none. let it : None ≡ fault = sym none in cc)
-          (subst (λ (s : State). Persists (only (log_number_at i.frames c.in-Some.number) RUNNING_GATE) fault s new) (c.in_ok-number.ensures.stays t) (n.persists t))
-          (λ pool before on idle. subst (λ (s : State). Runs (pool_ground i.frames pool) (begun (log_number_at i.frames c.in-Some.number)) [] before nothing fault s new) (c.in_ok-number.ensures.stays t)
-          (n.runs t pool before on (subst (λ (s : State). IsIdle (pool_ground i.frames pool) (log_number_at i.frames c.in-Some.number) before s.now.words) (sym (c.in_ok-number.ensures.stays t)) idle)))
+          (subst (λ (s : State). Persists (only (log_number_at i.frames c.in-Some.number) RUNNING_GATE) fault s new) (c.in_ok-number.ensures.only_reads.stays t) (n.persists t))
+          (λ pool before on idle. subst (λ (s : State). Runs (pool_ground i.frames pool) (begun (log_number_at i.frames c.in-Some.number)) [] before nothing fault s new) (c.in_ok-number.ensures.only_reads.stays t)
+          (n.runs t pool before on (subst (λ (s : State). IsIdle (pool_ground i.frames pool) (log_number_at i.frames c.in-Some.number) before s.now.words) (sym (c.in_ok-number.ensures.only_reads.stays t)) idle)))
           ready may,
     )))
 
@@ -100,8 +100,8 @@ returns-clause-begins g c = λ t size e w sessions.
     let n = c.in_ok-tx.ensures in
     let at : List (ℕ × Puddle) = unwrap_or (known_in i.judged c.args.slot) [] in
     let found : at ≡ c.in-Some-take.puddles = ap (λ (o : Option (List (ℕ × Puddle))). unwrap_or o []) (sym c.take.ensures.puddles ∙ c.in-Some-take.is) in
-    let with : List (ℕ × Puddle) → OpenLog → List (Option Held) = λ puddles log.
-    set i.opened c.in-Some.number (Some (record { client = c.args.client; name = c.args.name; slot = c.args.slot; at = puddles; number = c.in-Some.number; log = log })) in
+    let with : List (ℕ × Puddle) → OpenTx → List (Option Held) = λ puddles tx.
+    set i.opened c.in-Some.number (Some (record { client = c.args.client; name = c.args.name; slot = c.args.slot; at = puddles; number = c.in-Some.number; log = tx.log; units = tx.units })) in
     let holds = c.hold.ensures.held ∙ ap₂ with (sym found) n.opened in
     subst (λ (m : Memory).
     IsReady size w (record m { sessions = sessions }) old → AreSessions sessions → session_in sessions c.args.slot ≡ None → count_of c.args.client sessions < CLIENT_LOGS → m.sessions ≡ entered c.args.client c.args.slot sessions
@@ -113,14 +113,14 @@ returns-clause-begins g c = λ t size e w sessions.
           c.requires.slot c.requires.present (λ none. c.hold.ensures.within) (omega (arith, are.slots, c.requires.slot))
           (subst (λ (o : Option ℕ). IfSome o (IsLogOf c.args.client)) c.in-Some.is c.in_ok-number.ensures.within) (sym c.in-Some.is ∙ c.in_ok-number.ensures.lowest t) unheld shut
           (λ none p. record { frames = i.frames; held = holds p; sessions = entered_is p; judged = c.take.ensures.forgotten p })
-          (subst (λ (s : State). Persists (only (log_number_at i.frames c.in-Some.number) RUNNING_GATE) None s new) (c.in_ok-number.ensures.stays t) (n.persists t))
-          (λ pool before on idle. subst (λ (s : State). Runs (pool_ground i.frames pool) (begun (log_number_at i.frames c.in-Some.number)) [] before nothing None s new) (c.in_ok-number.ensures.stays t)
-          (n.runs t pool before on (subst (λ (s : State). IsIdle (pool_ground i.frames pool) (log_number_at i.frames c.in-Some.number) before s.now.words) (sym (c.in_ok-number.ensures.stays t)) idle)))
+          (subst (λ (s : State). Persists (only (log_number_at i.frames c.in-Some.number) RUNNING_GATE) None s new) (c.in_ok-number.ensures.only_reads.stays t) (n.persists t))
+          (λ pool before on idle. subst (λ (s : State). Runs (pool_ground i.frames pool) (begun (log_number_at i.frames c.in-Some.number)) [] before nothing None s new) (c.in_ok-number.ensures.only_reads.stays t)
+          (n.runs t pool before on (subst (λ (s : State). IsIdle (pool_ground i.frames pool) (log_number_at i.frames c.in-Some.number) before s.now.words) (sym (c.in_ok-number.ensures.only_reads.stays t)) idle)))
           ready may,
     ))
 
 pub returns-in_err-tx-clause-rest : goal.returns-in_err-tx-clause-rest
-returns-in_err-tx-clause-rest g c = λ t. KeepsRest-then _ _ _ (KeepsRest-still _ _ (c.in_ok-number.ensures.stays t)) (KeepsRest-changes _ _ _ _ ((c.in_err-tx.ensures.persists t).changes))
+returns-in_err-tx-clause-rest g c = λ t. KeepsRest-then _ _ _ (KeepsRest-still _ _ (c.in_ok-number.ensures.only_reads.stays t)) (KeepsRest-changes _ _ _ _ ((c.in_err-tx.ensures.persists t).changes))
 
 pub returns-clause-rest : goal.returns-clause-rest
-returns-clause-rest g c = λ t. KeepsRest-then _ _ _ (KeepsRest-still _ _ (c.in_ok-number.ensures.stays t)) (KeepsRest-changes _ _ _ _ ((c.in_ok-tx.ensures.persists t).changes))
+returns-clause-rest g c = λ t. KeepsRest-then _ _ _ (KeepsRest-still _ _ (c.in_ok-number.ensures.only_reads.stays t)) (KeepsRest-changes _ _ _ _ ((c.in_ok-tx.ensures.persists t).changes))

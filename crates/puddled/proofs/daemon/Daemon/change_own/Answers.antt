@@ -20,17 +20,17 @@ returns-in_err-refusal-clause-carries g c =
     let p = err_from_is_err_and c.from_residual.result c.from_residual.ensures.1 in
     rw (p.1, p.2) (λ t size e w ready.
     let k = c.in_err-refusal.ensures in
-    let known = ready_read size w c.args.self.now c.find_own.new.self _ _ ready (k.stays t) k.frames k.held k.sessions (k.judged t) (k.apart t size w ready) in
-    CarriesOut-unread size w c.find_own.new.self _ _ _ _ (line_of c.args.change c.args.client c.args.name) (change_is_plain c.args.client c.args.name c.args.change) (k.stays t) known
-    c.in_err-refusal.field-0.0 k.never_cut k.cause)
+    let known = ready_read size w c.find_own.new.self _ _ (k.only_reads.stays t) (k.ready t size w ready) in
+    CarriesOut-unread size w c.find_own.new.self _ _ _ _ (line_of c.args.change c.args.client c.args.name) (change_is_plain c.args.client c.args.name c.args.change) (k.only_reads.stays t) known
+    c.in_err-refusal.field-0.0 k.only_reads.never_cut k.only_reads.cause)
 
 pub returns-in-Err-clause-carries : goal.returns-in-Err-clause-carries
 returns-in-Err-clause-carries g c = λ t size e w ready.
     let k = c.in_ok-refusal.ensures in
-    let known = ready_read size w c.args.self.now c.find_own.new.self _ _ ready (k.stays t) k.frames k.held k.sessions (k.judged t) (k.apart t size w ready) in
+    let known = ready_read size w c.find_own.new.self _ _ (k.only_reads.stays t) (k.ready t size w ready) in
     let refused = sym (k.refusal t size w ready) ∙ ap refusal_found c.in-Err.is in
-    CarriesOut-refused size w c.find_own.new.self _ _ _ _ (line_of c.args.change c.args.client c.args.name) (change_is_plain c.args.client c.args.name c.args.change) (k.stays t) known
-    c.in-Err.refusal (refused_change w c.args.client c.args.name c.in-Err.refusal refused c.args.change) k.cause
+    CarriesOut-refused size w c.find_own.new.self _ _ _ _ (line_of c.args.change c.args.client c.args.name) (change_is_plain c.args.client c.args.name c.args.change) (k.only_reads.stays t) known
+    c.in-Err.refusal (refused_change w c.args.client c.args.name c.in-Err.refusal refused c.args.change) k.only_reads.cause
 
 pub change_or_refuse-requires-clause-within : goal.change_or_refuse-requires-clause-within
 change_or_refuse-requires-clause-within g c =
@@ -54,7 +54,7 @@ returns-clause-carries g c = λ t size e w ready.
     let found = rw c.in-Ok.is at k.finds in
     let known : number < ALL_LOGS = found.number in
     let there : held_under i.opened number ≡ Some opened = read_there i.opened number _ c.index-self-own.result opened (search rules) refl c.in-Some.is in
-    let read = ready_read size w c.args.self.now c.find_own.new.self _ _ ready (k.stays t) k.frames k.held k.sessions (k.judged t) (k.apart t size w ready) in
+    let read = ready_read size w c.find_own.new.self _ _ (k.only_reads.stays t) (k.ready t size w ready) in
     let then = subst (λ (m : Memory). IsReady size w m (g.H.Host.state c.find_own.new.h)) (sym c.self.view_is) read in
     let its : opened.number ≡ number = (then.held.each number opened there).number_is in
     let here : held_under i.opened opened.number ≡ Some opened = ap (held_under i.opened) its ∙ there in
@@ -62,8 +62,8 @@ returns-clause-carries g c = λ t size e w ready.
     let owned = subst (λ (held : List (Option Held)). IsOwn c.args.client c.args.name number held) (sym (ap (λ (m : Memory). m.held) c.self.view_is ∙ k.held)) own.own in
     let line : ℕ → List ℕ → Command = λ client name. line_of c.args.change client name in
     let n = c.change_or_refuse.ensures in
-    let same = e ∙ sym (ap (λ (m : Counts). m.size) k.cause) in
+    let same = e ∙ sym (ap (λ (m : Counts). m.size) k.only_reads.cause) in
     let applies = subst (λ (m : ℕ). Applies size w (world_by w (Some (line opened.client opened.name))) (with_held m (Some c.change_or_refuse.new.self) view) (fault_of c.change_or_refuse.result) (g.H.Host.state c.find_own.new.h) (g.H.Host.state c.change_or_refuse.new.h)) its
     (n.applies t size same w view refl here then) in
-    CarriesOut-own size w (with_held number (Some c.change_or_refuse.new.self) view) _ _ _ _ _ _ line c.args.client c.args.name (change_is_plain c.args.client c.args.name c.args.change) (k.stays t) k.cause
+    CarriesOut-own size w (with_held number (Some c.change_or_refuse.new.self) view) _ _ _ _ _ _ line c.args.client c.args.name (change_is_plain c.args.client c.args.name c.args.change) (k.only_reads.stays t) k.only_reads.cause
     i.opened number opened c.change_or_refuse.result owned there (n.reply t size w view refl here then) applies (n.rest t) n.cause

@@ -16,57 +16,57 @@ returns-in_err-refusal-clause-carries g c =
     let p = err_from_is_err_and c.from_residual.result c.from_residual.ensures.1 in
     rw (p.1, p.2) (λ t size e w ready.
     let k = c.in_err-refusal.ensures in
-    let known = ready_read size w c.args.self.now c.find_own.new.self _ _ ready (k.stays t) k.frames k.held k.sessions (k.judged t) (k.apart t size w ready) in
-    CarriesOut-unread size w c.find_own.new.self _ _ _ _ (Commit c.args.client c.args.name) (commit_is_plain c.args.client c.args.name) (k.stays t) known c.in_err-refusal.field-0.0 k.never_cut k.cause)
+    let known = ready_read size w c.find_own.new.self _ _ (k.only_reads.stays t) (k.ready t size w ready) in
+    CarriesOut-unread size w c.find_own.new.self _ _ _ _ (Commit c.args.client c.args.name) (commit_is_plain c.args.client c.args.name) (k.only_reads.stays t) known c.in_err-refusal.field-0.0 k.only_reads.never_cut k.only_reads.cause)
 
 pub returns-in-Err-clause-carries : goal.returns-in-Err-clause-carries
 returns-in-Err-clause-carries g c = λ t size e w ready.
     let k = c.in_ok-refusal.ensures in
-    let known = ready_read size w c.args.self.now c.find_own.new.self _ _ ready (k.stays t) k.frames k.held k.sessions (k.judged t) (k.apart t size w ready) in
+    let known = ready_read size w c.find_own.new.self _ _ (k.only_reads.stays t) (k.ready t size w ready) in
     let refused = sym (k.refusal t size w ready) ∙ ap refusal_found c.in-Err.is in
-    CarriesOut-refused size w c.find_own.new.self _ _ _ _ (Commit c.args.client c.args.name) (commit_is_plain c.args.client c.args.name) (k.stays t) known c.in-Err.refusal refused k.cause
+    CarriesOut-refused size w c.find_own.new.self _ _ _ _ (Commit c.args.client c.args.name) (commit_is_plain c.args.client c.args.name) (k.only_reads.stays t) known c.in-Err.refusal refused k.only_reads.cause
 
 pub returns-in_err-commit_own-clause-carries : goal.returns-in_err-commit_own-clause-carries
 returns-in_err-commit_own-clause-carries g c =
     let p = err_from_is_err_and c.from_residual-in_err-commit_own.result c.from_residual-in_err-commit_own.ensures.1 in
     rw (p.1, p.2) (λ t size e w ready.
     let k = c.in_ok-refusal.ensures in
-    let known = ready_read size w c.args.self.now c.find_own.new.self _ _ ready (k.stays t) k.frames k.held k.sessions (k.judged t) (k.apart t size w ready) in
+    let known = ready_read size w c.find_own.new.self _ _ (k.only_reads.stays t) (k.ready t size w ready) in
     let free = sym (k.refusal t size w ready) ∙ ap refusal_found c.in-Ok.is in
     let found = rw c.in-Ok.is at (k.own t size w ready) in
     let own = subst (λ (held : List (Option Held)). IsOwnOn c.args.client c.args.name c.in-Ok.own.slot c.in-Ok.own.number held) (sym k.held) found in
     let n = c.in_err-commit_own.ensures in
-    CarriesOut-stopped size w c.commit_own.new.self _ _ _ _ _ _ (Commit c.args.client c.args.name) (commit_is_plain c.args.client c.args.name) free (k.stays t) k.cause (n.rest t) c.in_err-commit_own.field-0.0
-    (n.applies t size (e ∙ sym (ap (λ (m : Counts). m.size) k.cause)) w c.args.name known own) n.cause)
+    CarriesOut-stopped size w c.commit_own.new.self _ _ _ _ _ _ (Commit c.args.client c.args.name) (commit_is_plain c.args.client c.args.name) free (k.only_reads.stays t) k.only_reads.cause (n.rest t) c.in_err-commit_own.field-0.0
+    (n.applies t size (e ∙ sym (ap (λ (m : Counts). m.size) k.only_reads.cause)) w c.args.name known own) n.cause)
 
 pub returns-clause-carries : goal.returns-clause-carries
 returns-clause-carries g c = λ t size e w ready.
     let k = c.in_ok-refusal.ensures in
-    let known = ready_read size w c.args.self.now c.find_own.new.self _ _ ready (k.stays t) k.frames k.held k.sessions (k.judged t) (k.apart t size w ready) in
+    let known = ready_read size w c.find_own.new.self _ _ (k.only_reads.stays t) (k.ready t size w ready) in
     let free = sym (k.refusal t size w ready) ∙ ap refusal_found c.in-Ok.is in
     let found = rw c.in-Ok.is at (k.own t size w ready) in
     let own = subst (λ (held : List (Option Held)). IsOwnOn c.args.client c.args.name c.in-Ok.own.slot c.in-Ok.own.number held) (sym k.held) found in
     let n = c.in_ok-commit_own.ensures in
-    CarriesOut-done size w c.commit_own.new.self _ _ _ _ _ _ (Commit c.args.client c.args.name) (commit_is_plain c.args.client c.args.name) free (k.stays t) k.cause (n.rest t) replies.Ok
+    CarriesOut-done size w c.commit_own.new.self _ _ _ _ _ _ (Commit c.args.client c.args.name) (commit_is_plain c.args.client c.args.name) free (k.only_reads.stays t) k.only_reads.cause (n.rest t) replies.Ok
     (sym (answer_is_ok w (Commit c.args.client c.args.name) refl refl free))
-    (n.applies t size (e ∙ sym (ap (λ (m : Counts). m.size) k.cause)) w c.args.name known own) n.cause
+    (n.applies t size (e ∙ sym (ap (λ (m : Counts). m.size) k.only_reads.cause)) w c.args.name known own) n.cause
 
 -- ---- begun more often than once
 
 pub returns-in_err-commit_own-clause-nested : goal.returns-in_err-commit_own-clause-nested
 returns-in_err-commit_own-clause-nested g c = λ t size w ready running is deep.
     let k = c.in_ok-refusal.ensures in
-    let known = ready_read size w c.args.self.now c.find_own.new.self _ _ ready (k.stays t) k.frames k.held k.sessions (k.judged t) (k.apart t size w ready) in
+    let known = ready_read size w c.find_own.new.self _ _ (k.only_reads.stays t) (k.ready t size w ready) in
     let found = rw c.in-Ok.is at (k.own t size w ready) in
     let own = subst (λ (held : List (Option Held)). IsOwnOn c.args.client c.args.name c.in-Ok.own.slot c.in-Ok.own.number held) (sym k.held) found in
     let depth = depth_by_world size w c.find_own.new.self _ c.args.client c.args.name c.in-Ok.own.slot c.in-Ok.own.number known own running is in
-    ap (λ h. g.H.Host.state h) (c.in_err-commit_own.ensures.nested (omega (arith, depth, deep))) ∙ k.stays t
+    ap (λ h. g.H.Host.state h) (c.in_err-commit_own.ensures.nested (omega (arith, depth, deep))) ∙ k.only_reads.stays t
 
 pub returns-clause-nested : goal.returns-clause-nested
 returns-clause-nested g c = λ t size w ready running is deep.
     let k = c.in_ok-refusal.ensures in
-    let known = ready_read size w c.args.self.now c.find_own.new.self _ _ ready (k.stays t) k.frames k.held k.sessions (k.judged t) (k.apart t size w ready) in
+    let known = ready_read size w c.find_own.new.self _ _ (k.only_reads.stays t) (k.ready t size w ready) in
     let found = rw c.in-Ok.is at (k.own t size w ready) in
     let own = subst (λ (held : List (Option Held)). IsOwnOn c.args.client c.args.name c.in-Ok.own.slot c.in-Ok.own.number held) (sym k.held) found in
     let depth = depth_by_world size w c.find_own.new.self _ c.args.client c.args.name c.in-Ok.own.slot c.in-Ok.own.number known own running is in
-    ap (λ h. g.H.Host.state h) (c.in_ok-commit_own.ensures.nested (omega (arith, depth, deep))) ∙ k.stays t
+    ap (λ h. g.H.Host.state h) (c.in_ok-commit_own.ensures.nested (omega (arith, depth, deep))) ∙ k.only_reads.stays t

@@ -3,7 +3,7 @@ use Rattle.std.specs.Prelude.{IfSome}
 use Rattle.pm_model.specs.Counts.{fault_of}
 use Rattle.pud_defs.specs.declared.layout.TheConstants.{LOG_WORDS}
 use Rattle.pud_defs.specs.Layout.{frames_at}
-use Rattle.log_store.specs.Store.{OpenLog}
+use Rattle.hybrid_tx.specs.Transactions.{OpenTx}
 use Rattle.nesting.specs.declared.Session.{Session}
 use Rattle.nesting.specs.Sessions.{depth_in, left}
 use Rattle.ready_daemon.specs.Memory.{Memory}
@@ -26,7 +26,7 @@ returns-then-depth-gt1-clause-applies g c = λ t size e w name ready own.
 -- its log lies in the device
 pub commit-requires : goal.commit-requires
 commit-requires g c =
-    let place = subst (λ o. IfSome o (λ (log : OpenLog). log.at + LOG_WORDS ≤ frames_at c.args.self.now.frames)) c.in-Some.is c.release.ensures.place in
+    let place = subst (λ o. IfSome o (λ (tx : OpenTx). tx.log.at + LOG_WORDS ≤ frames_at c.args.self.now.frames)) c.in-Some.is c.release.ensures.place in
     let room = c.requires.room in
     omega (arith, place, room)
 
@@ -42,7 +42,7 @@ returns-in-Some-clause-applies g c = λ t size e w name ready own.
     let fault = fault_of c.commit.result in
     let released : IsReleased c.args.own.number c.args.self.now c.release.new.self = record { frames = r.frames; held = r.held; sessions = r.sessions; judged = r.judged } in
     Applies-kept size w c.args.self.now c.release.new.self c.args.own.number fault old new released ready sz c.args.client name c.args.own.slot c.in-Some.tx e own (sym r.tx ∙ c.in-Some.is) (omega (arith, depth, is, last))
-    (subst (λ (m : Memory). Commits m.frames sz c.in-Some.tx fault old new) c.self.view_is (c.commit.ensures.ends t))
+    (subst (λ (m : Memory). Commits m.frames sz c.in-Some.tx.log fault old new) c.self.view_is (c.commit.ensures.ends t))
 
 pub returns-in-Some-clause-rest : goal.returns-in-Some-clause-rest
 returns-in-Some-clause-rest g c = λ t. KeepsRest-changes _ _ _ _ (c.commit.ensures.any t)

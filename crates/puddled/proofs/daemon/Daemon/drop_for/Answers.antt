@@ -1,14 +1,122 @@
-use Rattle.std.proofs.Common.{refl, sym, ap, subst}
+use Rattle.std.proofs.Common.{ℕ, List, Option, Some, None, Result, refl, sym, ap, subst, ◌∙◌}
+use Rattle.std.specs.Prelude.{IfOk, set}
+use Rattle.std.proofs.lemmas.Option.{none-some}
+use Rattle.std.proofs.lemmas.Result.{err_from_is_err_and}
+use Rattle.pm_model.specs.Counts.{Counts}
+use Rattle.pm_model.specs.Words.{reads}
+use Rattle.pm_model.specs.Moments.{State}
+use Rattle.pud_defs.specs.declared.machine.Command.TheVariants as commands
+use Rattle.pud_defs.specs.declared.machine.Refusal.{Refusal}
+use Rattle.pud_defs.specs.declared.records.Puddle.{Puddle}
+use Rattle.pud_defs.specs.Step.{world_by}
+use Rattle.pud_defs.proofs.Steps.{refused_answer, answer_is_ok}
 use Rattle.ready_daemon.specs.Memory.{Memory}
-use Rattle.ready_daemon.specs.Ready.{IsReady}
+use Rattle.ready_daemon.specs.Judged.{AreOnDevice}
+use Rattle.ready_daemon.specs.Owning.{refusal_found, IsSlotOf}
+use Rattle.ready_daemon.specs.Ready.{IsReady, Applies}
+use Rattle.ready_daemon.proofs.Known.{AreOnDevice-forgotten}
+use Rattle.ready_daemon.proofs.Applying.{Applies-failed, Applies-refused}
+use Rattle.ready_daemon.proofs.Pooling.{Applies-behind, Applies-drop}
+use Rattle.ready_daemon.proofs.Keeping.{KeepsRest-changes, KeepsRest-still, KeepsRest-then}
 use Rattle.puddled.proofs.daemon.Daemon.drop_for.Goals as goal
+
+pub returns-in_err-refusal-clause-applies : goal.returns-in_err-refusal-clause-applies
+returns-in_err-refusal-clause-applies g c =
+    let p = err_from_is_err_and c.from_residual.result c.from_residual.ensures.1 in
+    rw (p.1, p.2) (λ t size e w ready.
+    let k = c.in_err-refusal.ensures in
+    Applies-failed size w (world_by w (Some (commands.Drop c.args.client c.args.name))) c.find_owned.new.self c.in_err-refusal.field-0.0 _ _ (k.ready t size w ready) (k.only_reads.stays t) k.only_reads.never_cut)
+
+pub returns-in-Err-clause-reply : goal.returns-in-Err-clause-reply
+returns-in-Err-clause-reply g c = λ t size w ready.
+    sym (refused_answer w (commands.Drop c.args.client c.args.name) c.in-Err.refusal (sym (c.in_ok-refusal.ensures.refusal t size w ready) ∙ ap refusal_found c.in-Err.is))
+
+pub returns-in-Err-clause-applies : goal.returns-in-Err-clause-applies
+returns-in-Err-clause-applies g c = λ t size e w ready.
+    let k = c.in_ok-refusal.ensures in
+    Applies-refused size w c.find_owned.new.self (commands.Drop c.args.client c.args.name) c.in-Err.refusal _ _ (k.ready t size w ready) (sym (k.refusal t size w ready) ∙ ap refusal_found c.in-Err.is) (k.only_reads.stays t)
 
 pub returns-clause-reply : goal.returns-clause-reply
 returns-clause-reply g c = λ t size w ready.
-    c.drop_owned.ensures.reply t size w _ (sym (ap (λ (m : Memory). m.sessions) c.self.view_is)) ready
+    sym (answer_is_ok w (commands.Drop c.args.client c.args.name) refl refl (sym (c.in_ok-refusal.ensures.refusal t size w ready) ∙ ap refusal_found c.in-Ok.is))
+
+-- ---- it was to be dropped
+
+pub returns-in_err-drop_pool-clause-applies : goal.returns-in_err-drop_pool-clause-applies
+returns-in_err-drop_pool-clause-applies g c =
+    let p = err_from_is_err_and c.from_residual-in_err-drop_pool.result c.from_residual-in_err-drop_pool.ensures.1 in
+    rw (p.1, p.2) (λ t size e w ready.
+    let k = c.in_ok-refusal.ensures in
+    let n = c.in_err-drop_pool.ensures in
+    let i = c.self.inside in
+    let now : Memory = record { frames = i.frames; held = i.opened; sessions = i.sessions; judged = i.judged } in
+    let old = g.H.Host.state c.args.h.now in
+    let mid = g.H.Host.state c.find_owned.new.h in
+    let there = subst (λ (m : Memory). IsReady size w m old) (sym c.self.view_is) (k.ready t size w ready) in
+    let then = e ∙ sym (ap (λ (m : Counts). m.size) k.only_reads.cause) in
+    let free = sym (k.refusal t size w ready) ∙ ap refusal_found c.in-Ok.is in
+    let at = subst (λ (r : Result ℕ Refusal). IfOk r (IsSlotOf w.stored.frames c.args.name (reads old.now.words))) c.in-Ok.is (k.slot t size w ready) in
+    subst (λ (js : List (Option (List (ℕ × Puddle)))). Applies size w (world_by w (Some (commands.Drop c.args.client c.args.name))) (record now { judged = js }) (Some c.in_err-drop_pool.field-0.0) old (g.H.Host.state c.drop_pool.new.h)) (sym c.forget.ensures)
+    (Applies-behind size w (world_by w (Some (commands.Drop c.args.client c.args.name))) now (record now { judged = set now.judged c.in-Ok.slot None }) (Some c.in_err-drop_pool.field-0.0) old mid (g.H.Host.state c.drop_pool.new.h)
+    (k.only_reads.stays t)
+    (λ ready_then.
+    Applies-drop size w now c.args.client c.in-Ok.slot c.args.name (Some c.in_err-drop_pool.field-0.0) mid (g.H.Host.state c.drop_pool.new.h) ready_then free
+    (subst (λ (s : State). IsSlotOf w.stored.frames c.args.name (reads s.now.words) c.in-Ok.slot) (sym (k.only_reads.stays t)) at) i.frames there.frames
+    (n.any t).rests (λ idle few. n.commits t size then _ refl idle few) (λ keeps off settled r here. n.changes t size then w.stored there.frames ready_then.mask keeps off settled r here)) there))
 
 pub returns-clause-applies : goal.returns-clause-applies
 returns-clause-applies g c = λ t size e w ready.
-    let view : Memory = record { frames = c.self.inside.frames; held = c.self.inside.opened; sessions = c.self.inside.sessions; judged = c.self.inside.judged } in
-    let there = subst (λ (m : Memory). IsReady size w m (g.H.Host.state c.args.h.now)) (sym c.self.view_is) ready in
-    c.drop_owned.ensures.applies t size e w view refl refl refl there
+    let k = c.in_ok-refusal.ensures in
+    let n = c.in_ok-drop_pool.ensures in
+    let i = c.self.inside in
+    let now : Memory = record { frames = i.frames; held = i.opened; sessions = i.sessions; judged = i.judged } in
+    let old = g.H.Host.state c.args.h.now in
+    let mid = g.H.Host.state c.find_owned.new.h in
+    let there = subst (λ (m : Memory). IsReady size w m old) (sym c.self.view_is) (k.ready t size w ready) in
+    let then = e ∙ sym (ap (λ (m : Counts). m.size) k.only_reads.cause) in
+    let free = sym (k.refusal t size w ready) ∙ ap refusal_found c.in-Ok.is in
+    let at = subst (λ (r : Result ℕ Refusal). IfOk r (IsSlotOf w.stored.frames c.args.name (reads old.now.words))) c.in-Ok.is (k.slot t size w ready) in
+    subst (λ (js : List (Option (List (ℕ × Puddle)))). Applies size w (world_by w (Some (commands.Drop c.args.client c.args.name))) (record now { judged = js }) None old (g.H.Host.state c.drop_pool.new.h)) (sym c.forget.ensures)
+    (Applies-behind size w (world_by w (Some (commands.Drop c.args.client c.args.name))) now (record now { judged = set now.judged c.in-Ok.slot None }) None old mid (g.H.Host.state c.drop_pool.new.h)
+    (k.only_reads.stays t)
+    (λ ready_then.
+    Applies-drop size w now c.args.client c.in-Ok.slot c.args.name None mid (g.H.Host.state c.drop_pool.new.h) ready_then free
+    (subst (λ (s : State). IsSlotOf w.stored.frames c.args.name (reads s.now.words) c.in-Ok.slot) (sym (k.only_reads.stays t)) at) i.frames there.frames
+    (n.any t).rests (λ idle few. n.commits t size then _ refl idle few) (λ keeps off settled r here. n.changes t size then w.stored there.frames ready_then.mask keeps off settled r here)) there)
+
+-- ---- what is known of pools
+
+pub returns-in-Err-clause-forgets : goal.returns-in-Err-clause-forgets
+returns-in-Err-clause-forgets g c = λ t size w ready free.
+    absurd (none-some c.in-Err.refusal (sym free ∙ sym (c.in_ok-refusal.ensures.refusal t size w ready) ∙ ap refusal_found c.in-Err.is))
+
+pub returns-in_err-drop_pool-clause-keeps : goal.returns-in_err-drop_pool-clause-keeps
+returns-in_err-drop_pool-clause-keeps g c = λ t size w ready refused.
+    absurd (refused (sym (c.in_ok-refusal.ensures.refusal t size w ready) ∙ ap refusal_found c.in-Ok.is))
+
+pub returns-clause-keeps : goal.returns-clause-keeps
+returns-clause-keeps g c = λ t size w ready refused.
+    absurd (refused (sym (c.in_ok-refusal.ensures.refusal t size w ready) ∙ ap refusal_found c.in-Ok.is))
+
+pub returns-clause-forgets : goal.returns-clause-forgets
+returns-clause-forgets g c = λ t size w ready free. record {
+  slot = c.in-Ok.slot;
+  is = subst (λ (r : Result ℕ Refusal). IfOk r (IsSlotOf w.stored.frames c.args.name (reads (g.H.Host.state c.args.h.now).now.words))) c.in-Ok.is (c.in_ok-refusal.ensures.slot t size w ready);
+  forgotten = c.forget.ensures ∙ ap (λ (m : Memory). set m.judged c.in-Ok.slot None) c.self.view_is ∙ ap (λ (js : List (Option (List (ℕ × Puddle)))). set js c.in-Ok.slot None) c.in_ok-refusal.ensures.judged;
+}
+
+pub invariant_of-self : goal.invariant_of-self
+invariant_of-self g c =
+    let i = c.self.invariant in
+    (i.0, i.1, i.2, subst (AreOnDevice c.self.inside.frames) (sym c.forget.ensures) (AreOnDevice-forgotten c.self.inside.frames c.self.inside.judged c.in-Ok.slot i.3))
+
+pub invariant_of-self-2 : goal.invariant_of-self-2
+invariant_of-self-2 g c =
+    let i = c.self.invariant in
+    (i.0, i.1, i.2, subst (AreOnDevice c.self.inside.frames) (sym c.forget.ensures) (AreOnDevice-forgotten c.self.inside.frames c.self.inside.judged c.in-Ok.slot i.3))
+
+pub returns-in_err-drop_pool-clause-rest : goal.returns-in_err-drop_pool-clause-rest
+returns-in_err-drop_pool-clause-rest g c = λ t. KeepsRest-then _ _ _ (KeepsRest-still _ _ (c.in_ok-refusal.ensures.only_reads.stays t)) (KeepsRest-changes _ _ _ _ (c.in_err-drop_pool.ensures.any t))
+
+pub returns-clause-rest : goal.returns-clause-rest
+returns-clause-rest g c = λ t. KeepsRest-then _ _ _ (KeepsRest-still _ _ (c.in_ok-refusal.ensures.only_reads.stays t)) (KeepsRest-changes _ _ _ _ (c.in_ok-drop_pool.ensures.any t))

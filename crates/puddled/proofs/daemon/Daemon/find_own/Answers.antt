@@ -1,79 +1,50 @@
-use Rattle.std.proofs.Common.{Bool, Some, cond, not, refl, sym, ap, subst, ◌∙◌}
-use Rattle.pm_model.specs.Words.{reads}
-use Rattle.pm_model.specs.Moments.{State}
-use Rattle.pud_defs.specs.declared.machine.Refusal.TheVariants as refusals
-use Rattle.pud_defs.specs.Spaces.{owner}
-use Rattle.nesting.specs.Sessions.{holder_in}
-use Rattle.ready_daemon.specs.Memory.{Memory}
-use Rattle.ready_daemon.specs.Judged.{known_in, AreJudged}
-use Rattle.puddled.proofs.Commanding.{judged_ready}
-use Rattle.ready_daemon.proofs.Pooling.{acting, absent}
-use Rattle.puddled.proofs.Readable.{apart_from}
-use Rattle.puddled.proofs.RefusedLines.{commit_client, commit_pool, commit_found, own_by_found, commit_shut}
+use Rattle.std.proofs.Common.{◌≡◌, ℕ, List, Option, true, false, sym, ap, subst, ◌∙◌}
+use Rattle.std.proofs.lemmas.Bool.{not-false, not-true}
+use Rattle.ready_daemon.specs.Memory.{Held, Memory, held_under}
+use Rattle.ready_daemon.specs.Holding.{is_held_on, IsOwnOn}
+use Rattle.ready_daemon.specs.Owning.{refusal_found}
+use Rattle.puddled.specs.declared.finding.Need.TheVariants as needs
+use Rattle.puddled.proofs.Found.{finds, own_number, own_missed}
+use Rattle.puddled.proofs.Needs.{own_refused, own_none}
+use Rattle.pool_transaction.proofs.TransactionRefusals.{own_is_open}
 use Rattle.puddled.proofs.daemon.Daemon.find_own.Goals as goal
+use Rattle.puddled.proofs.daemon.Daemon.find_own.Goals.{in-Some, in-None}
 
-pub returns-in_default-clause-refusal : goal.returns-in_default-clause-refusal
-returns-in_default-clause-refusal g c = λ t size w ready.
-    sym (commit_client size w _ _ ready c.args.client c.args.name (absent size w _ _ ready c.args.client c.requires.known (sym c.in_default.is ∙ c.in_ok-owner.ensures.owner t _ refl)))
+pub returns-in-Err-clause-refusal : goal.returns-in-Err-clause-refusal
+returns-in-Err-clause-refusal g c = λ t size w ready.
+    sym (own_refused w c.args.client c.args.name c.in-Err.refusal (sym (c.in_ok-refusal.ensures.refusal t size w ready) ∙ ap refusal_found c.in-Err.is))
 
-pub returns-in_default-2-clause-refusal : goal.returns-in_default-2-clause-refusal
-returns-in_default-2-clause-refusal g c = λ t size w ready.
-    let who = acting size w _ _ ready c.args.client c.in-Some.field-0 c.requires.known (sym c.in-Some.is ∙ c.in_ok-owner.ensures.owner t _ refl) in
-    let read = ap (λ (s : State). reads s.now.words) (c.owner.ensures.stays t) in
-    sym (commit_pool size w _ _ ready c.args.client c.args.name (owner c.in-Some.field-0.uid c.in-Some.field-0.gid) who.is (sym c.in_default-2.is ∙ c.in_ok-slot.ensures.found t _ read w.stored.frames))
+pub returns-then-not-found-clause-refusal : goal.returns-then-not-found-clause-refusal
+returns-then-not-found-clause-refusal g c = λ t size w ready.
+    let k = c.in_ok-refusal.ensures in
+    let here = finds size w needs.Graph c.args.client c.args.name c.args.self.now c.find_pool.new.self _ _ _ c.in-Ok.found c.in-Ok.is (k.only_reads.stays t) k.sessions (k.ready t size w ready) (k.refusal t size w ready) (k.found t size w ready) k.whose in
+    sym (own_none w c.args.client c.args.name here.free (here.is.none (not-true c.in-Ok.found.is_open c.if-not-found.true)))
 
--- ---- a transaction is open on the pool
-
-pub returns-in-Some-holder-clause-refusal : goal.returns-in-Some-holder-clause-refusal
-returns-in-Some-holder-clause-refusal g c = λ t size w ready.
-    let who = acting size w _ _ ready c.args.client c.in-Some.field-0 c.requires.known (sym c.in-Some.is ∙ c.in_ok-owner.ensures.owner t _ refl) in
-    let there = sym c.in-Some-2.is ∙ c.in_ok-slot.ensures.found t _ (ap (λ (s : State). reads s.now.words) (c.owner.ensures.stays t)) w.stored.frames in
-    let opened = ap (λ (m : Memory). holder_in m.sessions c.in-Some-2.slot) (sym c.self.view_is) ∙ sym c.holder.ensures.holder ∙ c.in-Some-holder.is in
-    commit_found size w _ _ ready c.args.client c.args.name (owner c.in-Some.field-0.uid c.in-Some.field-0.gid) who.is c.in-Some-2.slot _ there c.in-Some-holder.other opened
-    c.own_on.result c.own_on.ensures.busy c.own_on.ensures.none
-
-pub returns-in-Some-holder-clause-own : goal.returns-in-Some-holder-clause-own
-returns-in-Some-holder-clause-own g c = λ t size w ready.
-    let who = acting size w _ _ ready c.args.client c.in-Some.field-0 c.requires.known (sym c.in-Some.is ∙ c.in_ok-owner.ensures.owner t _ refl) in
-    let there = sym c.in-Some-2.is ∙ c.in_ok-slot.ensures.found t _ (ap (λ (s : State). reads s.now.words) (c.owner.ensures.stays t)) w.stored.frames in
-    let opened = ap (λ (m : Memory). holder_in m.sessions c.in-Some-2.slot) (sym c.self.view_is) ∙ sym c.holder.ensures.holder ∙ c.in-Some-holder.is in
-    own_by_found size w _ _ ready c.args.client c.args.name (owner c.in-Some.field-0.uid c.in-Some.field-0.gid) who.is c.in-Some-2.slot _ there c.in-Some-holder.other opened
-    c.own_on.result c.own_on.ensures.busy c.own_on.ensures.found
-
--- ---- none is
-
-pub returns-then-not-branch-clause-refusal : goal.returns-then-not-branch-clause-refusal
-returns-then-not-branch-clause-refusal g c = λ t size w ready.
-    let who = acting size w _ _ ready c.args.client c.in-Some.field-0 c.requires.known (sym c.in-Some.is ∙ c.in_ok-owner.ensures.owner t _ refl) in
-    let first = c.owner.ensures.stays t in
-    let there = sym c.in-Some-2.is ∙ c.in_ok-slot.ensures.found t _ (ap (λ (s : State). reads s.now.words) first) w.stored.frames in
-    let shut = ap (λ (m : Memory). holder_in m.sessions c.in-Some-2.slot) (sym c.self.view_is) ∙ sym c.holder.ensures.holder ∙ c.in_default-holder.is in
-    let judged = judged_ready size w _ _ ready in
-    let sound = c.in_ok-judge.ensures.sound t _ (ap (λ (s : State). reads s.now.words) (c.find.ensures.stays t ∙ first)) (subst (λ (m : Memory). AreJudged m.frames m.judged (reads (g.H.Host.state c.args.h.now).now.words)) (sym c.self.view_is) judged) in
-    sym (commit_shut size w _ _ ready c.args.client c.args.name (owner c.in-Some.field-0.uid c.in-Some.field-0.gid) who.is c.in-Some-2.slot _ there c.self.inside.frames (ap (λ (m : Memory). m.frames) c.self.view_is ∙ ready.frames) shut c.in_ok-judge.field-0 sound
-    ∙ ap (λ (b : Bool). cond (not b) (Some refusals.Wild) (Some refusals.Tx)) c.if-not-branch.true)
+-- ---- the client's own is open on the pool
 
 pub returns-clause-refusal : goal.returns-clause-refusal
 returns-clause-refusal g c = λ t size w ready.
-    let who = acting size w _ _ ready c.args.client c.in-Some.field-0 c.requires.known (sym c.in-Some.is ∙ c.in_ok-owner.ensures.owner t _ refl) in
-    let first = c.owner.ensures.stays t in
-    let there = sym c.in-Some-2.is ∙ c.in_ok-slot.ensures.found t _ (ap (λ (s : State). reads s.now.words) first) w.stored.frames in
-    let shut = ap (λ (m : Memory). holder_in m.sessions c.in-Some-2.slot) (sym c.self.view_is) ∙ sym c.holder.ensures.holder ∙ c.in_default-holder.is in
-    let judged = judged_ready size w _ _ ready in
-    let sound = c.in_ok-judge.ensures.sound t _ (ap (λ (s : State). reads s.now.words) (c.find.ensures.stays t ∙ first)) (subst (λ (m : Memory). AreJudged m.frames m.judged (reads (g.H.Host.state c.args.h.now).now.words)) (sym c.self.view_is) judged) in
-    sym (commit_shut size w _ _ ready c.args.client c.args.name (owner c.in-Some.field-0.uid c.in-Some.field-0.gid) who.is c.in-Some-2.slot _ there c.self.inside.frames (ap (λ (m : Memory). m.frames) c.self.view_is ∙ ready.frames) shut c.in_ok-judge.field-0 sound
-    ∙ ap (λ (b : Bool). cond (not b) (Some refusals.Wild) (Some refusals.Tx)) c.if-not-branch.false)
+    let k = c.in_ok-refusal.ensures in
+    let now = c.find_pool.new.self in
+    let here = finds size w needs.Graph c.args.client c.args.name c.args.self.now now _ _ _ c.in-Ok.found c.in-Ok.is (k.only_reads.stays t) k.sessions (k.ready t size w ready) (k.refusal t size w ready) (k.found t size w ready) k.whose in
+    let mine = here.is.own (not-false c.in-Ok.found.is_open c.if-not-found.false) in
+    let held = ap (λ (m : Memory). m.held) c.self.view_is in
+    elim c.match-number_on.branch [
+      | in-Some b ↦ rw b.result-is (sym (own_is_open w now.held here.ready.mask _ c.args.client c.args.name mine.0 here.ready.held mine.1.own))
+      | in-None b ↦ absurd (own_missed size w now _ here.ready c.args.client c.args.name c.in-Ok.found.slot mine.0 mine.1 (subst (λ (xs : List (Option Held)). (number : ℕ) → is_held_on c.in-Ok.found.slot (held_under xs number) ≡ false) held (c.number_on.ensures.none b.in-None.is)))
+    ]
 
--- ---- of a pool on which a transaction is open nothing comes to be known
-
-pub returns-in_err-judge-clause-apart : goal.returns-in_err-judge-clause-apart
-returns-in_err-judge-clause-apart g c = λ t size w ready number mine is.
-    let shut = ap (λ (m : Memory). holder_in m.sessions c.in-Some-2.slot) (sym c.self.view_is) ∙ sym c.holder.ensures.holder ∙ c.in_default-holder.is in
-    c.in_err-judge.ensures.others mine.slot (apart_from size w _ _ ready c.in-Some-2.slot shut number mine is)
-    ∙ ap (λ (m : Memory). known_in m.judged mine.slot) c.self.view_is
-
-pub returns-clause-apart : goal.returns-clause-apart
-returns-clause-apart g c = λ t size w ready number mine is.
-    let shut = ap (λ (m : Memory). holder_in m.sessions c.in-Some-2.slot) (sym c.self.view_is) ∙ sym c.holder.ensures.holder ∙ c.in_default-holder.is in
-    c.in_ok-judge.ensures.others mine.slot (apart_from size w _ _ ready c.in-Some-2.slot shut number mine is)
-    ∙ ap (λ (m : Memory). known_in m.judged mine.slot) c.self.view_is
+pub returns-clause-own : goal.returns-clause-own
+returns-clause-own g c = λ t size w ready.
+    let k = c.in_ok-refusal.ensures in
+    let now = c.find_pool.new.self in
+    let here = finds size w needs.Graph c.args.client c.args.name c.args.self.now now _ _ _ c.in-Ok.found c.in-Ok.is (k.only_reads.stays t) k.sessions (k.ready t size w ready) (k.refusal t size w ready) (k.found t size w ready) k.whose in
+    let mine = here.is.own (not-false c.in-Ok.found.is_open c.if-not-found.false) in
+    let held = ap (λ (m : Memory). m.held) c.self.view_is in
+    elim c.match-number_on.branch [
+      | in-Some b ↦
+          let there = rw b.in-Some.is at c.number_on.ensures.there in
+          rw b.result-is (subst (λ (xs : List (Option Held)). IsOwnOn c.args.client c.args.name c.in-Ok.found.slot b.in-Some.number xs) k.held
+          (own_number size w now _ here.ready c.args.client c.args.name c.in-Ok.found.slot mine.0 mine.1 b.in-Some.number (subst (λ (xs : List (Option Held)). is_held_on c.in-Ok.found.slot (held_under xs b.in-Some.number) ≡ true) held there)))
+      | in-None b ↦ rw b.result-is tt
+    ]

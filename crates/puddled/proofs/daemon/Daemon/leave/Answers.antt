@@ -14,7 +14,7 @@ pub returns-in_err-is_registered-clause-applies : goal.returns-in_err-is_registe
 returns-in_err-is_registered-clause-applies g c =
     let p = err_from_is_err_and c.from_residual.result c.from_residual.ensures.1 in
     rw (p.1, p.2) (λ t size e w ready.
-    Applies-failed size w (world_by w (Some (Leave c.args.client))) c.args.self.now c.in_err-is_registered.field-0.0 _ _ ready (c.in_err-is_registered.ensures.stays t) c.in_err-is_registered.ensures.never_cut)
+    Applies-failed size w (world_by w (Some (Leave c.args.client))) c.args.self.now c.in_err-is_registered.field-0.0 _ _ ready (c.in_err-is_registered.ensures.only_reads.stays t) c.in_err-is_registered.ensures.only_reads.never_cut)
 
 pub returns-then-not-branch-clause-reply : goal.returns-then-not-branch-clause-reply
 returns-then-not-branch-clause-reply g c = λ t size e w ready.
@@ -24,7 +24,7 @@ pub returns-then-not-branch-clause-applies : goal.returns-then-not-branch-clause
 returns-then-not-branch-clause-applies g c = λ t size e w ready.
     Applies-refused size w c.args.self.now (Leave c.args.client) refusals.Client _ _ ready
     (is_absent w c.args.client 0 0 (sym c.if-not-branch.true ∙ presence_of size w c.args.self.now _ c.args.client _ _ c.from.ensures c.requires.known ready (c.in_ok-is_registered.ensures.registered t)))
-    (c.in_ok-is_registered.ensures.stays t)
+    (c.in_ok-is_registered.ensures.only_reads.stays t)
 
 pub returns-clause-reply : goal.returns-clause-reply
 returns-clause-reply g c = λ t size e w ready.
@@ -34,21 +34,21 @@ pub returns-in_err-let_go-clause-applies : goal.returns-in_err-let_go-clause-app
 returns-in_err-let_go-clause-applies g c =
     let p = err_from_is_err_and c.from_residual-in_err-let_go.result c.from_residual-in_err-let_go.ensures.1 in
     rw (p.1, p.2) (λ t size e w ready.
-    let after = e ∙ sym (ap (λ (n : Counts). n.size) c.in_ok-is_registered.ensures.cause) in
+    let after = e ∙ sym (ap (λ (n : Counts). n.size) c.in_ok-is_registered.ensures.only_reads.cause) in
     Applies-accepted_by size w c.args.self.now c.let_go.new.self (Leave c.args.client) (Some c.in_err-let_go.field-0.0) _ _ _
     (is_there w c.args.client 0 0 (sym c.if-not-branch.false ∙ presence_of size w c.args.self.now _ c.args.client _ _ c.from.ensures c.requires.known ready (c.in_ok-is_registered.ensures.registered t)))
-    (c.in_ok-is_registered.ensures.stays t) (λ ready_b. c.in_err-let_go.ensures.applies t size after w ready_b) ready)
+    (c.in_ok-is_registered.ensures.only_reads.stays t) (λ ready_b. c.in_err-let_go.ensures.applies t size after w ready_b) ready)
 
 pub returns-clause-applies : goal.returns-clause-applies
 returns-clause-applies g c = λ t size e w ready.
-    let after = e ∙ sym (ap (λ (n : Counts). n.size) c.in_ok-is_registered.ensures.cause) in
+    let after = e ∙ sym (ap (λ (n : Counts). n.size) c.in_ok-is_registered.ensures.only_reads.cause) in
     Applies-accepted_by size w c.args.self.now c.let_go.new.self (Leave c.args.client) _ _ _ _
     (is_there w c.args.client 0 0 (sym c.if-not-branch.false ∙ presence_of size w c.args.self.now _ c.args.client _ _ c.from.ensures c.requires.known ready (c.in_ok-is_registered.ensures.registered t)))
-    (c.in_ok-is_registered.ensures.stays t) (λ ready_b. c.in_ok-let_go.ensures.applies t size after w ready_b) ready
+    (c.in_ok-is_registered.ensures.only_reads.stays t) (λ ready_b. c.in_ok-let_go.ensures.applies t size after w ready_b) ready
 
 pub returns-in_err-is_registered-clause-closes_first : goal.returns-in_err-is_registered-clause-closes_first
 returns-in_err-is_registered-clause-closes_first g c = λ t size e w ready present.
-    ClosesBefore-idle size w c.args.self.now c.args.client c.requires.known present _ _ ready (c.in_err-is_registered.ensures.stays t)
+    ClosesBefore-idle size w c.args.self.now c.args.client c.requires.known present _ _ ready (c.in_err-is_registered.ensures.only_reads.stays t)
 
 pub returns-then-not-branch-clause-closes_first : goal.returns-then-not-branch-clause-closes_first
 returns-then-not-branch-clause-closes_first g c = λ t size e w ready present.
@@ -56,10 +56,10 @@ returns-then-not-branch-clause-closes_first g c = λ t size e w ready present.
 
 pub returns-in_err-let_go-clause-closes_first : goal.returns-in_err-let_go-clause-closes_first
 returns-in_err-let_go-clause-closes_first g c = λ t size e w ready present.
-    let after = e ∙ sym (ap (λ (n : Counts). n.size) c.in_ok-is_registered.ensures.cause) in
-    ClosesBefore-behind size w c.args.self.now c.args.client c.requires.known present _ _ _ ready (c.in_ok-is_registered.ensures.stays t) (λ ready_b. c.in_err-let_go.ensures.closes_first t size after w ready_b present)
+    let after = e ∙ sym (ap (λ (n : Counts). n.size) c.in_ok-is_registered.ensures.only_reads.cause) in
+    ClosesBefore-behind size w c.args.self.now c.args.client c.requires.known present _ _ _ ready (c.in_ok-is_registered.ensures.only_reads.stays t) (λ ready_b. c.in_err-let_go.ensures.closes_first t size after w ready_b present)
 
 pub returns-clause-closes_first : goal.returns-clause-closes_first
 returns-clause-closes_first g c = λ t size e w ready present.
-    let after = e ∙ sym (ap (λ (n : Counts). n.size) c.in_ok-is_registered.ensures.cause) in
-    ClosesBefore-behind size w c.args.self.now c.args.client c.requires.known present _ _ _ ready (c.in_ok-is_registered.ensures.stays t) (λ ready_b. c.in_ok-let_go.ensures.closes_first t size after w ready_b present)
+    let after = e ∙ sym (ap (λ (n : Counts). n.size) c.in_ok-is_registered.ensures.only_reads.cause) in
+    ClosesBefore-behind size w c.args.self.now c.args.client c.requires.known present _ _ _ ready (c.in_ok-is_registered.ensures.only_reads.stays t) (λ ready_b. c.in_ok-let_go.ensures.closes_first t size after w ready_b present)

@@ -14,7 +14,7 @@ returns-in-Some-clause-applies g c = λ t size e w ready.
     let r = c.release.ensures in
     let released : IsReleased c.args.number c.args.self.now c.release.new.self = record { frames = r.frames; held = r.held; sessions = r.sessions; judged = r.judged } in
     Applies-undone size w c.args.self.now c.release.new.self c.args.number fault old new released ready sz c.in-Some.tx e (sym r.tx ∙ c.in-Some.is)
-    (subst (λ (m : Memory). Undoes m.frames sz c.in-Some.tx fault old new) c.self.view_is (c.abort.ensures.closes t))
+    (subst (λ (m : Memory). Undoes m.frames sz c.in-Some.tx.log fault old new) c.self.view_is (c.abort.ensures.closes t))
 
 pub returns-in-Some-clause-behind : goal.returns-in-Some-clause-behind
 returns-in-Some-clause-behind g c = λ t size e w ready.
@@ -25,7 +25,7 @@ returns-in-Some-clause-behind g c = λ t size e w ready.
     let r = c.release.ensures in
     let released : IsReleased c.args.number c.args.self.now c.release.new.self = record { frames = r.frames; held = r.held; sessions = r.sessions; judged = r.judged } in
     behind_undone size w c.args.self.now c.release.new.self c.args.number fault old new released ready sz c.in-Some.tx e (sym r.tx ∙ c.in-Some.is)
-    (subst (λ (m : Memory). Undoes m.frames sz c.in-Some.tx fault old new) c.self.view_is (c.abort.ensures.closes t))
+    (subst (λ (m : Memory). Undoes m.frames sz c.in-Some.tx.log fault old new) c.self.view_is (c.abort.ensures.closes t))
 
 pub returns-in-None-clause-applies : goal.returns-in-None-clause-applies
 returns-in-None-clause-applies g c = λ t size e w ready.

@@ -1,10 +1,9 @@
 use Rattle.std.proofs.Common.{ℕ, ◌+◌, Option, sym, ap, ◌∙◌}
 use Rattle.std.specs.Prelude.{unwrap_or}
 use Rattle.std.proofs.lemmas.Bool.{leb-true}
-use Rattle.pm_model.specs.Words.{reads}
-use Rattle.pm_model.specs.Moments.{State}
 use Rattle.pud_defs.specs.Image.{Image}
 use Rattle.soundness.proofs.Overlaid.{word_uncounted, word_given}
+use Rattle.pm_model.proofs.Reading.{still_reads}
 use Rattle.soundness.proofs.overlay.Overlay.word.Goals as goal
 
 pub returns-then-counts_none-clause-value : goal.returns-then-counts_none-clause-value
@@ -15,7 +14,7 @@ returns-then-counts_none-clause-value g c = λ t image same over outside.
 
 pub returns-clause-value : goal.returns-clause-value
 returns-clause-value g c = λ t image same over outside.
-    let behind = ap (λ (s : State). reads s.now.words) (c.load.ensures.state t) ∙ same in
+    let behind = still_reads c.load.ensures.only_reads t same in
     word_given c.args.self.now image c.args.w c.in_ok-before.before c.unwrap_or.result c.in_ok-given.given over outside
     (c.in_ok-before.ensures.value t ∙ ap (λ (i : Image). i c.args.w) same)
     (c.in_ok-given.ensures.given t image behind over.entries over.are over.range)

@@ -1,0 +1,31 @@
+-- Calls that only read, one after the other.
+use Rattle.std.proofs.Common.{◌≡◌, Option, None, refl, ap, ◌∙◌}
+use Rattle.std.proofs.lemmas.Option.{none-some}
+use Rattle.pm_model.specs.declared.host.HostFault.{HostFault}
+use Rattle.pm_model.specs.declared.host.HostFault.TheVariants.{Cut}
+use Rattle.pm_model.specs.Words.{Image, reads}
+use Rattle.pm_model.specs.Moments.{State}
+use Rattle.pm_model.specs.Counts.{Counts, after_fault}
+use Rattle.pm_model.specs.Changes.{Footprint, Changes}
+use Rattle.pm_model.specs.Reads.{OnlyReads}
+use Rattle.pm_model.proofs.Changes.{Changes-still}
+
+-- nothing was called
+pub OnlyReads-none : {H : Type 0} {tells : Type 0} {state : H → State} {counts : H → Counts} {h : H} → OnlyReads tells state counts None h h
+OnlyReads-none = record { stays = λ t. refl; cause = refl; never_cut = none-some Cut }
+
+-- a call that was done, and one more
+pub OnlyReads-then : {H : Type 0} {tells : Type 0} {state : H → State} {counts : H → Counts} {fault : Option HostFault} {a b c : H} → OnlyReads tells state counts None a b → OnlyReads tells state counts fault b c → OnlyReads tells state counts fault a c
+OnlyReads-then {fault = fault} first second = record {
+  stays = λ t. second.stays t ∙ first.stays t;
+  cause = second.cause ∙ ap (after_fault fault) first.cause;
+  never_cut = second.never_cut;
+}
+
+-- the image that is read stays
+pub still_reads : {H : Type 0} {tells : Type 0} {state : H → State} {counts : H → Counts} {fault : Option HostFault} {old new : H} {image : Image} → OnlyReads tells state counts fault old new → tells → reads (state old).now.words ≡ image → reads (state new).now.words ≡ image
+still_reads only t same = ap (λ (s : State). reads s.now.words) (only.stays t) ∙ same
+
+-- no word changes
+pub Changes-read : {H : Type 0} {tells : Type 0} {state : H → State} {counts : H → Counts} {fault : Option HostFault} {old new : H} {may : Footprint} → OnlyReads tells state counts fault old new → tells → Changes may fault (state old) (state new)
+Changes-read {state = state} {fault = fault} {old = old} {new = new} {may = may} only t = Changes-still may fault (state old) (state new) only.never_cut (only.stays t)

@@ -1,0 +1,488 @@
+-- The pool that a line names: why the line is refused, and what is found.
+use Rattle.std.proofs.Common.{◌≡◌, ◌≢◌, ℕ, ◌<◌, Bool, true, false, not, cond, List, length, Option, Some, None, Result, Ok, Err, is_some, is_none, option_map, eqb, eqb-true, eq-eqb, refl, sym, ap, ap₂, subst, ◌∙◌}
+use Rattle.std.specs.Prelude.{IfOk, IfSome}
+use Rattle.std.specs.FinMap.Entries.{find}
+use Rattle.std.proofs.lemmas.Bool.{not-false}
+use Rattle.std.proofs.lemmas.Option.{none-some, same_Some}
+use Rattle.std.proofs.lemmas.List.{length-map}
+use Rattle.pm_model.specs.Words.{reads}
+use Rattle.pm_model.specs.Masks.{masked}
+use Rattle.pm_model.proofs.Masks.{reads-masked}
+use Rattle.pm_model.specs.Moments.{State}
+use Rattle.pud_defs.specs.declared.layout.TheConstants.{CLIENTS}
+use Rattle.pud_defs.specs.declared.records.PoolRec.{PoolRec}
+use Rattle.pud_defs.specs.declared.records.Puddle.{Puddle}
+use Rattle.pud_defs.specs.declared.machine.Refusal.{Refusal}
+use Rattle.pud_defs.specs.declared.machine.Refusal.TheVariants as refusals
+use Rattle.pud_defs.specs.Image.{Image}
+use Rattle.pud_defs.specs.Spaces.{Owner, owner}
+use Rattle.pud_defs.specs.Names.{name_cmp}
+use Rattle.pud_defs.specs.Rights.{may_read, may_write}
+use Rattle.pud_defs.specs.Types.{types_of}
+use Rattle.pud_defs.specs.Stored.{Stored, stored_in}
+use Rattle.pud_defs.specs.Graph.{Graph, graph_of}
+use Rattle.pud_defs.specs.Exported.{IsExportable}
+use Rattle.pud_defs.specs.Holdings.{held_as, graph_held, holding_in}
+use Rattle.pud_defs.specs.SoundTables.{is_sound_pool, HasSoundTables}
+use Rattle.pud_defs.specs.Tables.{Tables, Pool, Reader, tables_of, records_of, pool_in, puddles_of, puddles_in_turn, listed, pool_of}
+use Rattle.pud_defs.specs.PoolChanges.{pool_named}
+use Rattle.pud_defs.specs.World.{Transaction, World}
+use Rattle.pud_defs.specs.Transactions.{is_others}
+use Rattle.pud_defs.specs.Step.{writes, graph_in, graph_seen}
+use Rattle.pud_defs.proofs.PuddlesListed.{puddles_in_turn-listed}
+use Rattle.pud_defs.proofs.Exportable.{exportable as pool_exportable}
+use Rattle.pud_defs.proofs.PoolRefusals.{pool_by_record, found_record}
+use Rattle.pud_defs.proofs.RecordsPlaced.{legal_mode, mode_read}
+use Rattle.pud_defs.proofs.SoundChanged.{legal_pool}
+use Rattle.nesting.specs.declared.Session.{Session}
+use Rattle.nesting.specs.Sessions.{client_in, holder_in, depth_in}
+use Rattle.nesting.proofs.Holders.{session_in-no_holder, session_in-holder}
+use Rattle.ready_daemon.specs.Memory.{Held, Memory, held_under}
+use Rattle.ready_daemon.specs.Held.{IsHeld}
+use Rattle.ready_daemon.specs.Holding.{is_held_on, IsOwnOn}
+use Rattle.ready_daemon.specs.Judged.{known_in, AreJudged, puddles_with_graph}
+use Rattle.ready_daemon.specs.Owning.{refusal_found, IsSlotOf}
+use Rattle.ready_daemon.specs.Beginning.{MayBegin}
+use Rattle.ready_daemon.specs.Ready.{IsReady}
+use Rattle.ready_daemon.proofs.Applying.{IsReady-beside}
+use Rattle.ready_daemon.proofs.Beside.{held_is}
+use Rattle.ready_daemon.proofs.Known.{judged_puddles}
+use Rattle.ready_daemon.proofs.JudgedOpen.{KnowsPools-read}
+use Rattle.ready_daemon.proofs.PoolsBeside.{one_slot}
+use Rattle.ready_daemon.proofs.OpenBeside.{not_named, pool_unmasked}
+use Rattle.ready_daemon.proofs.Sessions.{IsSessionOf, own_on, none_held, session_open, session_shut}
+use Rattle.ready_daemon.proofs.TablesBeside.{types_read, sound_read}
+use Rattle.ready_daemon.proofs.Pooling.{IsNamed, no_record, named_by, pool_there}
+use Rattle.pool_transaction.proofs.TransactionRefusals.{unless}
+use Rattle.puddled.specs.declared.finding.Need.{Need}
+use Rattle.puddled.specs.declared.finding.Need.TheVariants as needs
+use Rattle.puddled.specs.declared.finding.Found.{Found}
+use Rattle.puddled.specs.Files.{IsStoredPool}
+use Rattle.puddled.specs.Finding.{needs_graph, lacks_graph, has_right, right_by, need_refusal, refusal_to, beside, holder_found, IsRecordOf, IsFound}
+use Rattle.puddled.specs.Reading.{HoldsGraph}
+
+-- ---- puddles that are judged as they were read
+
+kept_with_graph : (puddles : List (ℕ × Puddle)) (g : Option Graph) → option_map (λ graph. puddles) g ≡ cond (is_some g) (Some puddles) None
+kept_with_graph puddles None = refl
+kept_with_graph puddles (Some graph) = refl
+
+pub puddles_judged : (frames slot : ℕ) (image : Image) (puddles slice : List (ℕ × Puddle)) (sound : Bool) → puddles ≡ puddles_in_turn (tables_of frames image) slot → slice ≡ puddles
+    → sound ≡ is_some (graph_of (types_of image) (stored_in frames slice image)) → puddles_with_graph frames image slot ≡ cond sound (Some puddles) None
+unfolding puddles_with_graph
+puddles_judged frames slot image puddles slice sound turned same judged =
+    ap (λ at. option_map (λ graph. at) (graph_of (types_of image) (stored_in frames at image))) (sym turned)
+    ∙ kept_with_graph puddles (graph_of (types_of image) (stored_in frames puddles image))
+    ∙ ap (λ b. cond b (Some puddles) None) (sym (judged ∙ ap (λ at. is_some (graph_of (types_of image) (stored_in frames at image))) same))
+
+-- what a ready daemon knows of pools is so
+pub judged_ready : (size : ℕ) (w : World) (memory : Memory) (s : State) → IsReady size w memory s → AreJudged memory.frames memory.judged (reads s.now.words)
+judged_ready size w memory s ready = subst (λ (n : ℕ). AreJudged n memory.judged (reads s.now.words)) (sym ready.frames) ready.knows.judged
+
+-- no transaction is held on the pool in a slot that no client holds
+apart_from : (size : ℕ) (w : World) (memory : Memory) (s : State) (ready : IsReady size w memory s) (slot : ℕ) → holder_in memory.sessions slot ≡ None → (number : ℕ) (mine : Held) → held_under memory.held number ≡ Some mine
+    → mine.slot ≢ slot
+apart_from size w memory s ready slot shut = none_held w memory.held ready.mask s.now.words ready.held memory.sessions ready.sessions slot (session_in-no_holder memory.sessions slot shut)
+
+-- ---- by whose a transaction is
+
+-- it is nobody's
+nobody_by : (o : Option ℕ) → is_some o ≡ false → o ≡ None
+nobody_by None none = refl
+nobody_by (Some holder) none = absurd (let no : true ≡ false = none in cc)
+
+pub nobody : (sessions : List (Option Session)) (slot : ℕ) → is_some (holder_in sessions slot) ≡ false → holder_in sessions slot ≡ None
+nobody sessions slot = nobody_by (holder_in sessions slot)
+
+-- it is the client's own, or none is open
+pub whose_found : (o : Option ℕ) (client slot number : ℕ) → IfOk (beside o client slot number) (λ found. o ≡ holder_found found client)
+whose_found None client slot number = refl
+whose_found (Some other) client slot number = by_own (eqb other client) refl
+  where
+    by_own : (own : Bool) → eqb other client ≡ own → IfOk (cond own (Ok (record { slot = slot; number = number; is_open = true })) (Err refusals.Busy)) (λ found. Some other ≡ holder_found found client)
+    by_own false e = tt
+    by_own true e = ap (λ (n : ℕ). Some n) (eqb-true other client e)
+
+-- ---- whether a graph is lacking
+
+unless_some : {A : Type 0} (o : Option A) → not (is_some o) ≡ is_none o
+unless_some None = refl
+unless_some (Some x) = refl
+
+none_needed : (need : Need) → needs_graph need ≡ true → (g : Option Graph) (found : Option Pool) → graph_in found ≡ g → not (is_some g) ≡ lacks_graph need found
+none_needed needs.Owner needed g found is = absurd (let no : false ≡ true = needed in cc)
+none_needed needs.Read needed g found is = unless_some g ∙ ap is_none (sym is)
+none_needed needs.Write needed g found is = unless_some g ∙ ap is_none (sym is)
+none_needed needs.Graph needed g found is = unless_some g ∙ ap is_none (sym is)
+
+none_lacking : (need : Need) (g : Graph) (found : Option Pool) → graph_in found ≡ Some g → false ≡ lacks_graph need found
+none_lacking needs.Owner g found is = refl
+none_lacking needs.Read g found is = ap is_none (sym is)
+none_lacking needs.Write g found is = ap is_none (sym is)
+none_lacking needs.Graph g found is = ap is_none (sym is)
+
+-- where none is needed
+pub none_unneeded : (need : Need) (found : Option Pool) → needs_graph need ≡ false → false ≡ lacks_graph need found
+none_unneeded needs.Owner found off = refl
+none_unneeded needs.Read found off = absurd (let it : true ≡ false = off in cc)
+none_unneeded needs.Write found off = absurd (let it : true ≡ false = off in cc)
+none_unneeded needs.Graph found off = absurd (let it : true ≡ false = off in cc)
+
+some_mapped : {A B : Type 0} (f : A → B) (o : Option A) → is_some (option_map f o) ≡ is_some o
+some_mapped f None = refl
+some_mapped f (Some x) = refl
+
+has_graph : (F slot : ℕ) (image : Image) → is_some (puddles_with_graph F image slot) ≡ is_some (graph_of (types_of image) (stored_in F (puddles_in_turn (tables_of F image) slot) image))
+unfolding puddles_with_graph
+has_graph F slot image = some_mapped (λ (graph : Graph). puddles_in_turn (tables_of F image) slot) (graph_of (types_of image) (stored_in F (puddles_in_turn (tables_of F image) slot) image))
+
+-- puddles that are known of a pool are those that it has, and have a graph
+record AreWithGraph (F slot : ℕ) (image : Image) (at : List (ℕ × Puddle)) : Type 0 where
+  graph : Graph
+  turned : puddles_in_turn (tables_of F image) slot ≡ at
+  stored : graph_of (types_of image) (stored_in F at image) ≡ Some graph
+
+with_graph : (F : ℕ) (image : Image) (at had : List (ℕ × Puddle)) (g : Option Graph) → graph_of (types_of image) (stored_in F had image) ≡ g → option_map (λ (graph : Graph). had) g ≡ Some at
+    → (graph : Graph) × (had ≡ at) × (graph_of (types_of image) (stored_in F at image) ≡ Some graph)
+with_graph F image at had None is some = absurd (none-some at some)
+with_graph F image at had (Some g) is some = let same = same_Some had at some in (g, same, ap (λ puddles. graph_of (types_of image) (stored_in F puddles image)) (sym same) ∙ is)
+
+are_with_graph : (F slot : ℕ) (image : Image) (at : List (ℕ × Puddle)) → puddles_with_graph F image slot ≡ Some at → AreWithGraph F slot image at
+unfolding puddles_with_graph
+are_with_graph F slot image at is =
+    let found = with_graph F image at (puddles_in_turn (tables_of F image) slot) (graph_of (types_of image) (stored_in F (puddles_in_turn (tables_of F image) slot) image)) refl is in
+    record { graph = found.0; turned = found.1; stored = found.2 }
+
+-- ---- what is held on the pool in a slot
+
+held_on_slot : (slot : ℕ) (o : Option Held) → is_held_on slot o ≡ true → (h : Held) × (o ≡ Some h) × (h.slot ≡ slot)
+held_on_slot slot None on = absurd (let no : false ≡ true = on in cc)
+held_on_slot slot (Some h) on = (h, refl, eqb-true h.slot slot on)
+
+-- ---- what a client has that may write a pool
+
+record MayWrite (who : Option Owner) (found : Option Pool) : Type 0 where
+  owner_is : Owner
+  there : who ≡ Some owner_is
+  right : writes who found ≡ true
+
+may_write_by : (who : Option Owner) (found : Option Pool) (client : ℕ) (opened : Option Transaction) → need_refusal needs.Write who found client opened ≡ None → MayWrite who found
+may_write_by None found client opened none = absurd (none-some refusals.Client (sym none))
+may_write_by (Some who) None client opened none = absurd (none-some refusals.Pool (sym none))
+may_write_by (Some who) (Some pool) client opened none =
+    let graph = unless (is_none (graph_in (Some pool))) refusals.Wild _ none in
+    let right = unless (not (writes (Some who) (Some pool))) refusals.Denied _ graph.1 in
+    record { owner_is = who; there = refl; right = not-false (writes (Some who) (Some pool)) right.0 }
+
+-- ---- what a pool that was found holds
+
+graph_held-as : (st : Stored) (g : Option Graph) → graph_held (held_as st g) ≡ g
+graph_held-as st None = refl
+graph_held-as st (Some g) = refl
+
+module _ (size : ℕ) (w : World) (memory : Memory) (s : State) (ready : IsReady size w memory s) (client : ℕ) (name : List ℕ) where
+  abbrev image : Image
+  image = reads s.now.words
+
+  -- as it is with the words masked
+  abbrev under : Image
+  under = reads (masked ready.mask s.now.words)
+
+  abbrev F : ℕ
+  F = w.stored.frames
+
+  abbrev t : Tables
+  t = tables_of F image
+
+  abbrev hold : Reader
+  hold = holding_in w.stored.types F under
+
+  sound : HasSoundTables w.stored.next_number t
+  sound = sound_read size w memory s ready
+
+  there_by : pool_named name w.stored ≡ option_map (pool_by_record hold t) (find name_cmp name (records_of t))
+  there_by = pool_there size w memory s ready name
+
+  -- the client is not there
+  pub need_client : (need : Need) → w.clients client ≡ None → refusal_to w need client name ≡ Some refusals.Client
+  need_client need none = ap (λ who. need_refusal need who (pool_named name w.stored) client (w.transactions name)) none
+
+  -- no pool has the name
+  pub need_pool : (need : Need) (who : Owner) → w.clients client ≡ Some who → None ≡ pool_in t name → refusal_to w need client name ≡ Some refusals.Pool
+  need_pool need who there none =
+      ap₂ (λ (acts : Option Owner) (found : Option Pool). need_refusal need acts found client (w.transactions name)) there
+      (there_by ∙ ap (option_map (pool_by_record hold t)) (no_record (find name_cmp name (records_of t)) none))
+
+  module _ (slot : ℕ) (rec : PoolRec) (is : IsRecordOf F name image slot rec) where
+    pub found : IsNamed t name slot rec
+    found = named_by t name slot rec (find name_cmp name (records_of t)) refl is
+
+    pub named : pool_named name w.stored ≡ Some (pool_by_record hold t (slot, found.r))
+    named = there_by ∙ ap (option_map (pool_by_record hold t)) found.found
+
+    pub slot_is : IsSlotOf F name image slot
+    slot_is = let at = found_record t name slot found.r found.found in record { rec = found.r; used = at.used; name_is = at.name_is }
+
+    -- its puddles as they are read one by one are those that it has
+    puddles_are : puddles_in_turn t slot ≡ listed (puddles_of t slot)
+    puddles_are =
+        let at = found_record t name slot found.r found.found in
+        puddles_in_turn-listed w.stored.next_number t slot found.r sound at.below at.used
+
+    -- the mode as it was read lets the same be read
+    pub mode_same : rec.mode ≡ found.r.mode
+    mode_same =
+        let at = found_record t name slot found.r found.found in
+        ap (λ (x : PoolRec). x.mode) found.same
+        ∙ mode_read found.r.mode (legal_mode w.stored.next_number found.r (ap (is_sound_pool w.stored.next_number) (sym at.used) ∙ legal_pool w.stored.next_number t sound slot at.below))
+
+    uid_same : rec.uid ≡ found.r.uid
+    uid_same = ap (λ (x : PoolRec). x.uid) found.same
+
+    gid_same : rec.gid ≡ found.r.gid
+    gid_same = ap (λ (x : PoolRec). x.gid) found.same
+
+    -- who acts so has the right that is needed, by what was read
+    right_there : (need : Need) (uid gid : ℕ) → has_right need (Some (owner uid gid)) (Some (pool_by_record hold t (slot, found.r))) ≡ right_by need rec (owner uid gid)
+    unfolding pool_of
+    right_there needs.Owner uid gid = ap (eqb uid) (sym uid_same)
+    right_there needs.Read uid gid = λ p. may_read (sym mode_same p) (owner (sym uid_same p) (sym gid_same p)) (owner uid gid)
+    right_there needs.Write uid gid = λ p. may_write (sym mode_same p) (owner (sym uid_same p) (sym gid_same p)) (owner uid gid)
+    right_there needs.Graph uid gid = refl
+
+    -- why it is refused, by what was read of it and what is open on it
+    module _ (need : Need) (uid gid : ℕ) (there : w.clients client ≡ Some (owner uid gid)) where
+      by_parts : (lacks right : Bool) → lacks ≡ lacks_graph need (pool_named name w.stored) → right ≡ right_by need rec (owner uid gid)
+          → refusal_to w need client name ≡ cond lacks (Some refusals.Wild) (cond (not right) (Some refusals.Denied) (cond (is_others client (w.transactions name)) (Some refusals.Busy) None))
+      by_parts lacks right no_graph is_right =
+          (λ p. need_refusal need (there p) (named p) client (w.transactions name))
+          ∙ ap₂ (λ (b r : Bool). cond b (Some refusals.Wild) (cond (not r) (Some refusals.Denied) (cond (is_others client (w.transactions name)) (Some refusals.Busy) None)))
+          (ap (lacks_graph need) (sym named) ∙ sym no_graph) (right_there need uid gid ∙ sym is_right)
+
+      pub need_wild : true ≡ lacks_graph need (pool_named name w.stored) → refusal_to w need client name ≡ Some refusals.Wild
+      need_wild no_graph = by_parts true (right_by need rec (owner uid gid)) no_graph refl
+
+      pub need_denied : false ≡ lacks_graph need (pool_named name w.stored) → false ≡ right_by need rec (owner uid gid) → refusal_to w need client name ≡ Some refusals.Denied
+      need_denied graph no_right = by_parts false false graph no_right
+
+      pub need_beside : false ≡ lacks_graph need (pool_named name w.stored) → true ≡ right_by need rec (owner uid gid)
+          → refusal_to w need client name ≡ cond (is_others client (w.transactions name)) (Some refusals.Busy) None
+      need_beside graph right = by_parts false true graph right
+
+    -- ---- none is open on it
+
+    pub shut_by : holder_in memory.sessions slot ≡ None → w.transactions name ≡ None
+    shut_by shut = session_shut size w memory s ready name slot slot_is (session_in-no_holder memory.sessions slot shut)
+
+    module _ (shut : w.transactions name ≡ None) where
+      stored_read : stored_in F (puddles_in_turn t slot) under ≡ stored_in F (puddles_in_turn t slot) image
+      stored_read =
+          let at = found_record t name slot found.r found.found in
+          ap (stored_in F (puddles_in_turn t slot)) (reads-masked ready.mask s.now.words)
+          ∙ pool_unmasked w memory.held ready.mask s.now.words name slot found.r ready.held (not_named w memory.held ready.mask s.now.words name ready.held shut) at.used at.name_is
+
+      -- so it has the graph that these puddles have
+      graph_read : graph_in (pool_named name w.stored) ≡ graph_of (types_of image) (stored_in F (puddles_in_turn t slot) image)
+      unfolding pool_of
+      graph_read =
+          ap graph_in named
+          ∙ graph_held-as (stored_in F (listed (puddles_of t slot)) under) (graph_of w.stored.types (stored_in F (listed (puddles_of t slot)) under))
+          ∙ ap₂ (λ types at. graph_of types (stored_in F at under)) (sym (types_read size w memory s ready).types) (sym puddles_are)
+          ∙ ap (graph_of (types_of image)) stored_read
+
+      holds_by : (had puddles : List (ℕ × Puddle)) (g : Option Graph) → graph_of (types_of image) (stored_in F had image) ≡ g → graph_in (pool_named name w.stored) ≡ g
+          → Some puddles ≡ option_map (λ graph. had) g → HoldsGraph w F name image puddles
+      holds_by had puddles None stored there some = absurd (none-some puddles (sym some))
+      holds_by had puddles (Some graph) stored there some = record {
+        graph = graph;
+        stored = ap (λ at. graph_of (types_of image) (stored_in F at image)) (same_Some puddles had some) ∙ stored;
+        is = ap (λ (o : Option Transaction). graph_seen o (pool_named name w.stored)) shut ∙ there;
+      }
+
+      -- the puddles that were found with a graph hold that of the pool
+      pub holds_graph : (puddles : List (ℕ × Puddle)) → Some puddles ≡ puddles_with_graph F image slot → HoldsGraph w F name image puddles
+      unfolding puddles_with_graph
+      holds_graph puddles some = holds_by (puddles_in_turn t slot) puddles _ refl graph_read some
+
+      had : (holds : HoldsGraph w F name image (puddles_in_turn t slot)) → graph_in (pool_named name w.stored) ≡ Some holds.graph
+      had holds = sym (ap (λ (o : Option Transaction). graph_seen o (pool_named name w.stored)) shut) ∙ holds.is
+
+      known_are : (puddles : List (ℕ × Puddle)) (g : Option Graph) → Some puddles ≡ option_map (λ graph. puddles_in_turn t slot) g → puddles_in_turn t slot ≡ puddles
+      known_are puddles None some = absurd (none-some puddles (sym some))
+      known_are puddles (Some graph) some = same_Some (puddles_in_turn t slot) puddles (sym some)
+
+      -- the pool as it is known, which can be written into a file
+      pub stored_pool : (puddles : List (ℕ × Puddle)) → Some puddles ≡ puddles_with_graph F image slot → IsStoredPool w F name image rec.number puddles
+      unfolding puddles_with_graph pool_of
+      stored_pool puddles some =
+          let at = found_record t name slot found.r found.found in
+          let are : puddles_in_turn t slot ≡ puddles = known_are puddles _ some in
+          let holds = subst (λ (p : List (ℕ × Puddle)). HoldsGraph w F name image p) (sym are) (holds_graph puddles some) in
+          let types = types_read size w memory s ready in
+          record {
+            pool = pool_by_record hold t (slot, found.r);
+            there = named;
+            graph = holds.graph;
+            holds = ap graph_in (sym named) ∙ had holds;
+            stored = ap (λ (p : List (ℕ × Puddle)). graph_of (types_of image) (stored_in F p image)) (sym are) ∙ holds.stored;
+            number_is = ap (λ (x : PoolRec). x.number) found.same;
+            count = ap length (sym are ∙ puddles_are) ∙ length-map (puddles_of t slot) (λ e. e.1);
+            types = types.types;
+            exportable = subst (λ (p : List (ℕ × Puddle)). IsExportable (types_of image) (stored_in F p image)) are
+                (pool_exportable w.stored.next_number image F slot found.r types.legal sound at.below at.used);
+          }
+
+      -- it lacks a graph that is needed where it was judged to have none
+      pub lacks_judged : (need : Need) (judged_sound : Bool) → needs_graph need ≡ true → judged_sound ≡ is_some (puddles_with_graph F image slot) → not judged_sound ≡ lacks_graph need (pool_named name w.stored)
+      lacks_judged need judged_sound needed judged =
+          ap not (judged ∙ has_graph F slot image ∙ ap is_some (sym graph_read)) ∙ none_needed need needed (graph_in (pool_named name w.stored)) (pool_named name w.stored) refl
+
+    -- ---- one is open on it
+
+    module _ (other : ℕ) (at : holder_in memory.sessions slot ≡ Some other) where
+      pub open_on : IsSessionOf w memory.held name slot (record { client = other; depth = depth_in memory.sessions slot })
+      open_on = session_open size w memory s ready name slot slot_is (record { client = other; depth = depth_in memory.sessions slot }) (session_in-holder memory.sessions slot other at)
+
+      pub its_client : open_on.transaction.client ≡ other
+      its_client = sym (ap client_in open_on.session_is)
+
+      pub its : IsHeld w open_on.mine ready.mask s.now.words
+      its = held_is w memory.held ready.mask s.now.words ready.held open_on.number open_on.mine open_on.is
+
+      pub its_graph : graph_in (pool_named name w.stored) ≡ Some its.undone
+      its_graph = ap (λ (n : List ℕ). graph_in (pool_named n w.stored)) (sym open_on.name_is) ∙ its.stored
+
+      -- so it lacks none
+      pub lacks_none : (need : Need) → false ≡ lacks_graph need (pool_named name w.stored)
+      lacks_none need = none_lacking need _ (pool_named name w.stored) its_graph
+
+      -- the client's own is held on it
+      module _ (own : eqb other client ≡ true) where
+        pub own_there : (number : ℕ) × IsOwnOn client name slot number memory.held
+        own_there = (open_on.number, own_on w memory.held client name slot (record { client = other; depth = depth_in memory.sessions slot }) open_on (eqb-true other client own))
+
+    -- ---- by whose it is
+
+    open_lacks_none : (need : Need) (o : Option ℕ) → holder_in memory.sessions slot ≡ o → is_some o ≡ true → false ≡ lacks_graph need (pool_named name w.stored)
+    open_lacks_none need None at some = absurd (let no : false ≡ true = some in cc)
+    open_lacks_none need (Some other) at some = lacks_none other at need
+
+    -- where one is open it lacks no graph
+    pub none_lacking_open : (need : Need) → is_some (holder_in memory.sessions slot) ≡ true → false ≡ lacks_graph need (pool_named name w.stored)
+    none_lacking_open need = open_lacks_none need (holder_in memory.sessions slot) refl
+
+    others_by : (o : Option ℕ) → holder_in memory.sessions slot ≡ o → (number : ℕ) → refusal_found (beside o client slot number) ≡ cond (is_others client (w.transactions name)) (Some refusals.Busy) None
+    others_by None at number = ap (λ (t : Option Transaction). cond (is_others client t) (Some refusals.Busy) None) (sym (shut_by at))
+    others_by (Some other) at number =
+        busy_by (eqb other client)
+        ∙ ap (λ (n : ℕ). cond (not (eqb n client)) (Some refusals.Busy) None) (sym (its_client other at))
+        ∙ ap (λ (t : Option Transaction). cond (is_others client t) (Some refusals.Busy) None) (sym (open_on other at).there)
+      where
+        busy_by : (own : Bool) → refusal_found {A = Found} (cond own (Ok (record { slot = slot; number = number; is_open = true })) (Err refusals.Busy)) ≡ cond (not own) (Some refusals.Busy) None
+        busy_by true = refl
+        busy_by false = refl
+
+    pub refusal_beside_it : (number : ℕ) → refusal_found (beside (holder_in memory.sessions slot) client slot number) ≡ cond (is_others client (w.transactions name)) (Some refusals.Busy) None
+    refusal_beside_it = others_by (holder_in memory.sessions slot) refl
+
+    -- what is known of it, where it was judged
+    module _ (need : Need) (known : needs_graph need ≡ true → holder_in memory.sessions slot ≡ None → true ≡ is_some (known_in memory.judged slot)) where
+      judged_here : AreJudged F memory.judged image
+      judged_here = ready.knows.judged
+
+      found_by : (o : Option ℕ) → holder_in memory.sessions slot ≡ o → IfOk (beside o client slot rec.number) (IsFound w need client name image memory)
+      found_by None at = record {
+        rec = rec;
+        is = is;
+        number_is = refl;
+        own = λ open_here. absurd (let no : false ≡ true = open_here in cc);
+        none = λ shut. shut_by at;
+        known = λ shut needed. judged_puddles F slot image memory.judged (known needed at) judged_here;
+      }
+      found_by (Some other) at = own_by (eqb other client) refl
+        where
+          own_by : (own : Bool) → eqb other client ≡ own → IfOk (cond own (Ok (record { slot = slot; number = rec.number; is_open = true })) (Err refusals.Busy)) (IsFound w need client name image memory)
+          own_by false e = tt
+          own_by true e = record {
+            rec = rec;
+            is = is;
+            number_is = refl;
+            own = λ open_here. own_there other at e;
+            none = λ shut. absurd (let no : true ≡ false = shut in cc);
+            known = λ shut. absurd (let no : true ≡ false = shut in cc);
+          }
+
+      pub found_beside : IfOk (beside (holder_in memory.sessions slot) client slot rec.number) (IsFound w need client name image memory)
+      found_beside = found_by (holder_in memory.sessions slot) refl
+
+    -- a transaction of a client that may write it may begin
+    pub may_begin : (at : List (ℕ × Puddle)) → client < CLIENTS → refusal_to w needs.Write client name ≡ None → Some at ≡ puddles_with_graph F image slot → MayBegin F client name image slot at
+    unfolding pool_of
+    may_begin at known free some =
+        let here = found_record t name slot found.r found.found in
+        let puddles = are_with_graph F slot image at (sym some) in
+        let may = may_write_by (w.clients client) (pool_named name w.stored) client (w.transactions name) free in
+        record {
+          rec = found.r;
+          who = may.owner_is;
+          graph = puddles.graph;
+          used = here.used;
+          name_is = here.name_is;
+          puddles = puddles.turned;
+          stored = puddles.stored;
+          owned = ready.clients client known ∙ may.there;
+          right = (λ p. writes (sym may.there p) (sym named p)) ∙ may.right;
+        }
+
+-- ---- the client's own transaction is held on the pool in a slot
+
+module _ (size : ℕ) (w : World) (memory : Memory) (s : State) (ready : IsReady size w memory s) (client : ℕ) (name : List ℕ) (slot its_number : ℕ) (its : IsOwnOn client name slot its_number memory.held) where
+  -- whatever is held on it is that
+  pub own_number : (number : ℕ) → is_held_on slot (held_under memory.held number) ≡ true → IsOwnOn client name slot number memory.held
+  own_number number on =
+      let mine = held_on_slot slot (held_under memory.held number) on in
+      let same : its_number ≡ number =
+      one_slot w memory.held ready.mask s.now.words ready.held its_number number its.own.mine mine.0 its.own.is mine.1 (its.slot_is ∙ sym mine.2) in
+      subst (λ (n : ℕ). IsOwnOn client name slot n memory.held) same its
+
+  -- it is not missed
+  pub own_missed : ((number : ℕ) → is_held_on slot (held_under memory.held number) ≡ false) → ⊥
+  own_missed none =
+      let it : true ≡ false = sym (ap (is_held_on slot) its.own.is ∙ eq-eqb its.own.mine.slot slot its.slot_is) ∙ none its_number in
+      cc
+
+-- ---- more is known of pools
+
+-- by a call that judges one on which no transaction is open
+pub judged_more : (size : ℕ) (w : World) (memory : Memory) (judged : List (Option (List (ℕ × Puddle)))) (old : State) (slot : ℕ) → IsReady size w memory old → AreJudged memory.frames judged (reads old.now.words)
+    → holder_in memory.sessions slot ≡ None → ((i : ℕ) → i ≢ slot → known_in judged i ≡ known_in memory.judged i) → IsReady size w (record memory { judged = judged }) old
+judged_more size w memory judged old slot ready right shut others =
+    let there = subst (λ (n : ℕ). AreJudged n judged (reads old.now.words)) ready.frames right in
+    let apart : (number : ℕ) (h : Held) → held_under memory.held number ≡ Some h → known_in judged h.slot ≡ known_in memory.judged h.slot = λ number h is. others h.slot (apart_from size w memory old ready slot shut number h is) in
+    let knows = KnowsPools-read w.stored.frames memory.judged judged memory.held (reads old.now.words) there apart ready.knows in
+    IsReady-beside size w memory (record memory { judged = judged }) old refl refl refl knows ready
+
+-- ---- behind the call that finds a pool
+
+-- no other client has a session on the pool
+pub own_session : (o : Option Session) (client : ℕ) (is_open : Bool) → option_map client_in o ≡ cond is_open (Some client) None → IfSome o (λ session. session.client ≡ client)
+own_session None client is_open e = tt
+own_session (Some session) client true e = same_Some session.client client e
+own_session (Some session) client false e = absurd (none-some session.client (sym e))
+
+-- The daemon is ready, what was found is the pool of the name, and no line of the client that needs so much is refused for the pool.
+pub record Finds (size : ℕ) (w : World) (need : Need) (client : ℕ) (name : List ℕ) (memory : Memory) (s : State) (found : Found) : Type 0 where
+  pub ready : IsReady size w memory s
+  pub is : IsFound w need client name (reads s.now.words) memory found
+  pub whose : holder_in memory.sessions found.slot ≡ holder_found found client
+  pub free : refusal_to w need client name ≡ None
+
+pub finds : (size : ℕ) (w : World) (need : Need) (client : ℕ) (name : List ℕ) (old now : Memory) (a b : State) (result : Result Found Refusal) (found : Found) → result ≡ Ok found → b ≡ a
+    → now.sessions ≡ old.sessions → IsReady size w now a → refusal_found result ≡ refusal_to w need client name → IfOk result (IsFound w need client name (reads a.now.words) now)
+    → IfOk result (λ f. holder_in old.sessions f.slot ≡ holder_found f client) → Finds size w need client name now b found
+finds size w need client name old now a b result found ok same sessions ready refusal is whose = record {
+  ready = subst (IsReady size w now) (sym same) ready;
+  is = subst (λ (s : State). IsFound w need client name (reads s.now.words) now found) (sym same) (subst (λ (r : Result Found Refusal). IfOk r (IsFound w need client name (reads a.now.words) now)) ok is);
+  whose = ap (λ (ss : List (Option Session)). holder_in ss found.slot) sessions ∙ subst (λ (r : Result Found Refusal). IfOk r (λ f. holder_in old.sessions f.slot ≡ holder_found f client)) ok whose;
+  free = sym refusal ∙ ap refusal_found ok;
+}

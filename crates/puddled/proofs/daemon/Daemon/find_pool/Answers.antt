@@ -1,0 +1,75 @@
+use Rattle.std.proofs.Common.{◌≡◌, ℕ, Option, Result, true, is_some, refl, sym, ap, subst, ◌∙◌}
+use Rattle.std.specs.Prelude.{IfOk}
+use Rattle.pm_model.specs.Words.{reads}
+use Rattle.pm_model.specs.Moments.{State}
+use Rattle.pm_model.proofs.Reading.{still_reads}
+use Rattle.pud_defs.specs.declared.machine.Refusal.{Refusal}
+use Rattle.pud_defs.specs.Spaces.{owner}
+use Rattle.nesting.specs.Sessions.{holder_in}
+use Rattle.ready_daemon.specs.Memory.{Memory}
+use Rattle.ready_daemon.specs.Judged.{known_in}
+use Rattle.ready_daemon.specs.Owning.{refusal_found}
+use Rattle.ready_daemon.specs.Ready.{IsReady}
+use Rattle.ready_daemon.proofs.Pooling.{acting, absent}
+use Rattle.puddled.specs.declared.finding.Found.{Found}
+use Rattle.puddled.specs.Finding.{beside, IsRecordOf, IsFound}
+use Rattle.puddled.proofs.Commanding.{ready_read}
+use Rattle.puddled.proofs.Found.{need_client, need_pool, need_wild, need_denied, need_beside, refusal_beside_it, found_beside}
+use Rattle.puddled.proofs.daemon.Daemon.find_pool.Goals as goal
+
+pub returns-in_default-clause-refusal : goal.returns-in_default-clause-refusal
+returns-in_default-clause-refusal g c = λ t size w ready.
+    sym (need_client size w _ _ ready c.args.client c.args.name c.args.need (absent size w _ _ ready c.args.client c.requires.known (sym c.in_default.is ∙ c.in_ok-who.ensures.owner t _ refl)))
+
+pub returns-in_default-2-clause-refusal : goal.returns-in_default-2-clause-refusal
+returns-in_default-2-clause-refusal g c = λ t size w ready.
+    let who = acting size w _ _ ready c.args.client c.in-Some.who c.requires.known (sym c.in-Some.is ∙ c.in_ok-who.ensures.owner t _ refl) in
+    sym (need_pool size w _ _ ready c.args.client c.args.name c.args.need (owner c.in-Some.who.uid c.in-Some.who.gid) who.is
+    (sym c.in_default-2.is ∙ c.in_ok-slot.ensures.found t _ (still_reads c.owner.ensures.only_reads t refl) w.stored.frames))
+
+-- ---- by what was read of the pool
+
+pub returns-then-branch-clause-refusal : goal.returns-then-branch-clause-refusal
+returns-then-branch-clause-refusal g c = λ t size w ready.
+    let who = acting size w _ _ ready c.args.client c.in-Some.who c.requires.known (sym c.in-Some.is ∙ c.in_ok-who.ensures.owner t _ refl) in
+    let there = sym c.in-Some-2.is ∙ c.in_ok-slot.ensures.found t _ (still_reads c.owner.ensures.only_reads t refl) w.stored.frames in
+    let same = c.find.ensures.only_reads.stays t ∙ c.owner.ensures.only_reads.stays t in
+    let lacks = c.in_ok-lacks_graph.ensures.lacks t size w (ready_read size w _ _ _ same ready) c.args.name c.in-Some-2.rec (subst (λ (s : State). IsRecordOf w.stored.frames c.args.name (reads s.now.words) c.in-Some-2.slot c.in-Some-2.rec) (sym same) there) in
+    sym (need_wild size w _ _ ready c.args.client c.args.name c.in-Some-2.slot c.in-Some-2.rec there c.args.need c.in-Some.who.uid c.in-Some.who.gid who.is (sym c.if-branch.true ∙ lacks))
+
+pub returns-then-not-has_right-clause-refusal : goal.returns-then-not-has_right-clause-refusal
+returns-then-not-has_right-clause-refusal g c = λ t size w ready.
+    let who = acting size w _ _ ready c.args.client c.in-Some.who c.requires.known (sym c.in-Some.is ∙ c.in_ok-who.ensures.owner t _ refl) in
+    let there = sym c.in-Some-2.is ∙ c.in_ok-slot.ensures.found t _ (still_reads c.owner.ensures.only_reads t refl) w.stored.frames in
+    let same = c.find.ensures.only_reads.stays t ∙ c.owner.ensures.only_reads.stays t in
+    let lacks = c.in_ok-lacks_graph.ensures.lacks t size w (ready_read size w _ _ _ same ready) c.args.name c.in-Some-2.rec (subst (λ (s : State). IsRecordOf w.stored.frames c.args.name (reads s.now.words) c.in-Some-2.slot c.in-Some-2.rec) (sym same) there) in
+    sym (need_denied size w _ _ ready c.args.client c.args.name c.in-Some-2.slot c.in-Some-2.rec there c.args.need c.in-Some.who.uid c.in-Some.who.gid who.is (sym c.if-branch.false ∙ lacks) (sym c.if-not-has_right.true ∙ c.has_right.ensures))
+
+pub returns-clause-refusal : goal.returns-clause-refusal
+returns-clause-refusal g c = λ t size w ready.
+    let i = c.self.inside in
+    let view : Memory = record { frames = i.frames; held = i.opened; sessions = i.sessions; judged = i.judged } in
+    let who = acting size w _ _ ready c.args.client c.in-Some.who c.requires.known (sym c.in-Some.is ∙ c.in_ok-who.ensures.owner t _ refl) in
+    let there = sym c.in-Some-2.is ∙ c.in_ok-slot.ensures.found t _ (still_reads c.owner.ensures.only_reads t refl) w.stored.frames in
+    let same = c.find.ensures.only_reads.stays t ∙ c.owner.ensures.only_reads.stays t in
+    let before = ready_read size w _ _ _ same ready in
+    let now = subst (λ (m : Memory). IsReady size w m (g.H.Host.state c.args.h.now)) (sym c.self.view_is) (ready_read size w _ _ _ (sym same) (c.in_ok-lacks_graph.ensures.ready t size w before)) in
+    let lacks = c.in_ok-lacks_graph.ensures.lacks t size w before c.args.name c.in-Some-2.rec (subst (λ (s : State). IsRecordOf w.stored.frames c.args.name (reads s.now.words) c.in-Some-2.slot c.in-Some-2.rec) (sym same) there) in
+    ap refusal_found (c.beside.ensures ∙ ap (λ (o : Option ℕ). beside o c.args.client c.in-Some-2.slot c.in-Some-2.rec.number) c.holder.ensures.holder)
+    ∙ refusal_beside_it size w view _ now c.args.client c.args.name c.in-Some-2.slot c.in-Some-2.rec there c.in-Some-2.rec.number
+    ∙ sym (need_beside size w view _ now c.args.client c.args.name c.in-Some-2.slot c.in-Some-2.rec there c.args.need c.in-Some.who.uid c.in-Some.who.gid who.is (sym c.if-branch.false ∙ lacks) (sym c.if-not-has_right.false ∙ c.has_right.ensures))
+
+pub returns-clause-found : goal.returns-clause-found
+returns-clause-found g c = λ t size w ready.
+    let i = c.self.inside in
+    let view : Memory = record { frames = i.frames; held = i.opened; sessions = i.sessions; judged = i.judged } in
+    let there = sym c.in-Some-2.is ∙ c.in_ok-slot.ensures.found t _ (still_reads c.owner.ensures.only_reads t refl) w.stored.frames in
+    let same = c.find.ensures.only_reads.stays t ∙ c.owner.ensures.only_reads.stays t in
+    let now = subst (λ (m : Memory). IsReady size w m (g.H.Host.state c.args.h.now)) (sym c.self.view_is) (ready_read size w _ _ _ (sym same) (c.in_ok-lacks_graph.ensures.ready t size w (ready_read size w _ _ _ same ready))) in
+    let sessions = ap (λ (m : Memory). m.sessions) c.self.view_is ∙ c.in_ok-lacks_graph.ensures.sessions in
+    let judged = ap (λ (m : Memory). m.judged) c.self.view_is in
+    subst (λ (m : Memory). IfOk c.beside.result (IsFound w c.args.need c.args.client c.args.name (reads (g.H.Host.state c.args.h.now).now.words) m)) c.self.view_is
+    (subst (λ (r : Result Found Refusal). IfOk r (IsFound w c.args.need c.args.client c.args.name (reads (g.H.Host.state c.args.h.now).now.words) view))
+    (sym (c.beside.ensures ∙ ap (λ (o : Option ℕ). beside o c.args.client c.in-Some-2.slot c.in-Some-2.rec.number) c.holder.ensures.holder))
+    (found_beside size w view _ now c.args.client c.args.name c.in-Some-2.slot c.in-Some-2.rec there c.args.need
+    (λ needed shut. subst (λ js. true ≡ is_some (known_in js c.in-Some-2.slot)) (sym judged) (c.in_ok-lacks_graph.ensures.known c.if-branch.false needed (ap (λ ss. holder_in ss c.in-Some-2.slot) (sym sessions) ∙ shut)))))
