@@ -9,26 +9,15 @@ use Rattle.pud_defs.specs.Graph.{Content, Table, Object, Graph, stands, names_se
 use Rattle.pud_defs.specs.Keyed.{keyed, are_distinct}
 use Rattle.pud_defs.specs.Spaces.{all_below}
 use Rattle.pud_defs.specs.Stored.{Stored, stored_in, places_of}
-use Rattle.pud_defs.proofs.Keyed.{HasDistinctKeys-keys, distinct_keys}
+use Rattle.pud_defs.proofs.Keyed.{distinct_keys}
 use Rattle.pud_defs.proofs.KeyedEach.{passes_there, any-keyed}
-use Rattle.pud_defs.proofs.Spaces.{all_below-same}
+use Rattle.pud_defs.proofs.Spaces.{all_below-same, any-range}
 use Rattle.graph_read.specs.declared.asking.Asked.TheVariants.{Spares}
 use Rattle.graph_read.specs.Asking.{contents_pass, place_passes, serials_in, with_serials}
-use Rattle.graph_read.proofs.Passing.{list_all-below}
 use Rattle.graph_read.proofs.Judging.{none_without_puddles}
 use Rattle.pud_defs.specs.declared.records.Puddle.{Puddle}
 use Rattle.pud_defs.specs.Image.{Image}
-
--- ---- a test of each number of a range
-
-any_by_all : {X : Type 0} (test : X → Bool) (xs : List X) → list_any test xs ≡ not (list_all (λ x. not (test x)) xs)
-any_by_all test [] = refl
-any_by_all test (x ∷ xs) = elim (test x) as (λ b. (b || list_any test xs) ≡ not (not b && list_all (λ y. not (test y)) xs)) [ true ↦ refl | false ↦ any_by_all test xs ]
-
-pub any-range : (test : ℕ → Bool) (n : ℕ) → list_any test (range_with_len 0 n) ≡ not (all_below n (λ k. not (test k)))
-any-range test n =
-    any_by_all test (range_with_len 0 n)
-    ∙ ap not (sym (list_all-map (λ x. not (test x)) (λ (x : ℕ). x) (range_with_len 0 n)) ∙ list_all-below (λ x. not (test x)) (λ x. x) n)
+use Rattle.pud_defs.proofs.Graphs.{distinct_live}
 
 -- ---- who names a serial
 
@@ -51,15 +40,10 @@ spared_place s t p =
     elim (eqb (t.serial p) 0)
     as (λ b. not (passes_there (names s) (cond (not b) (Some (t.serial p, object_at t p)) None)) ≡ (b || contents_pass (Spares s) t.serial (t.contents p))) [ true ↦ refl | false ↦ spared_contents s t.serial (t.contents p) ]
 
-same_keys : (t : Table) (p : ℕ) → option_map (λ (e : ℕ × ℕ). e.0) (placed t p) ≡ option_map (λ (e : ℕ × Object). e.0) (live t p)
-same_keys t p =
-    elim (eqb (t.serial p) 0)
-    as (λ b. option_map (λ (e : ℕ × ℕ). e.0) (cond (not b) (Some (t.serial p, p)) None) ≡ option_map (λ (e : ℕ × Object). e.0) (cond (not b) (Some (t.serial p, object_at t p)) None)) [ true ↦ refl | false ↦ refl ]
-
 -- an object names the serial where a slot does
 any_names : (s : ℕ) (t : Table) (n : ℕ) → are_distinct nat_cmp (placed t) 0 n ≡ true → not (all_below n (place_passes (Spares s) t)) ≡ list_any (names s) (keyed nat_cmp (live t) 0 n)
 any_names s t n distinct =
-    sym (any-keyed nat_cmp (names s) nat_cmp_total (live t) 0 n (HasDistinctKeys-keys nat_cmp (placed t) (live t) 0 n (same_keys t) (distinct_keys nat_cmp (placed t) 0 n distinct))
+    sym (any-keyed nat_cmp (names s) nat_cmp_total (live t) 0 n (distinct_live t n (distinct_keys nat_cmp (placed t) 0 n distinct))
     ∙ any-range (λ j. passes_there (names s) (live t j)) n
     ∙ ap not (all_below-same n (λ j. not (passes_there (names s) (live t j))) (place_passes (Spares s) t) (λ k below. spared_place s t k)))
 

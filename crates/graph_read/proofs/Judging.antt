@@ -5,7 +5,7 @@ use Rattle.std.proofs.lemmas.Bool.{cases_eq}
 use Rattle.std.proofs.lemmas.Bool.Decides.{nat_tests}
 use Rattle.std.proofs.lemmas.Option.{slice_get-map, slice_get-get_or}
 use Rattle.std.proofs.lemmas.List.{length-map}
-use Rattle.pud_defs.proofs.DistinctKeys.{some_or, none_by_some, some_under}
+use Rattle.pud_defs.proofs.DistinctKeys.{some_or, none_by_some, some_under, eqb_turned}
 use Rattle.puddle_header.proofs.Fits.{is_header-words}
 use Rattle.puddle_header.proofs.Placed.{stored_word}
 use Rattle.pud_defs.specs.declared.layout.TheConstants.{FRAME_WORDS}
@@ -54,14 +54,11 @@ headers_fit-each F at image = ap (λ n. all_below n (header_at (stored_in F at i
 
 -- ---- distinct serials, from the front
 
-turned : (a b : ℕ) → eqb a b ≡ eqb b a
-turned a b = grind (arith, nat_tests)
-
 -- whether a place has this serial
 under_here : (f : ℕ → ℕ) (s p : ℕ) → s ≢ 0 → is_some (under nat_cmp s (under_serial f (λ q. q) p)) ≡ eqb (f p) s
 under_here f s p live = elim (cases_eq (f p) 0) [
   | inl free ↦ ap (λ b. is_some (under nat_cmp s (cond (not b) (Some (f p, p)) None))) (eq-eqb _ _ free) ∙ sym (ne_eqb (f p) s (λ e. live (sym e ∙ free)))
-  | inr used ↦ ap (λ b. is_some (under nat_cmp s (cond (not b) (Some (f p, p)) None))) (ne_eqb _ _ used) ∙ some_under s (f p) p ∙ turned s (f p)
+  | inr used ↦ ap (λ b. is_some (under nat_cmp s (cond (not b) (Some (f p, p)) None))) (ne_eqb _ _ used) ∙ some_under s (f p) p ∙ eqb_turned s (f p)
 ]
 
 -- the serial stands in a part of the list where it stands at a place of that part
@@ -85,15 +82,6 @@ is_apart-live xs place n live within =
     ap not (listed xs (slice_index xs place) (place + 1) n live within)
     ∙ sym (none_by_some (first_from nat_cmp (slice_index xs place) (under_serial (slice_index xs) (λ p. p)) (place + 1) n))
     ∙ sym (ap (λ b. is_apart nat_cmp (cond (not b) (Some (slice_index xs place, place)) None) (under_serial (slice_index xs) (λ p. p)) (place + 1) n) (ne_eqb _ _ live))
-
-pub are_distinct-step : (f : ℕ → Option (ℕ × ℕ)) (from end : ℕ) → from < end
-    → are_distinct nat_cmp f from (end - from) ≡ (is_apart nat_cmp (f from) f (from + 1) (end - (from + 1)) && are_distinct nat_cmp f (from + 1) (end - (from + 1)))
-unfolding are_distinct
-are_distinct-step f from end below = let e : end - from ≡ suc (end - (from + 1)) = omega arith in ap (are_distinct nat_cmp f from) e
-
-pub are_distinct-end : (f : ℕ → Option (ℕ × ℕ)) (from end : ℕ) → end ≤ from → are_distinct nat_cmp f from (end - from) ≡ true
-unfolding are_distinct
-are_distinct-end f from end past = let e : end - from ≡ 0 = omega arith in ap (are_distinct nat_cmp f from) e
 
 -- ---- all of it
 

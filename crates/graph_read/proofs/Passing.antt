@@ -15,6 +15,7 @@ use Rattle.pud_defs.specs.Stored.{Stored, place_word}
 use Rattle.graph_read.specs.declared.asking.Asked.{Asked}
 use Rattle.graph_read.specs.Reading.{pointee_of}
 use Rattle.graph_read.specs.Asking.{content_of, passes, serial_passes, contents_pass, place_passes}
+use Rattle.pud_defs.proofs.Spaces.{list_all-below}
 
 -- a field of the slot at a place passes
 abbrev pub field_passes : Asked → (ℕ → ℕ) → Stored → (place type_map f : ℕ) → Bool
@@ -27,20 +28,6 @@ field_passes-read asked serial st place type_map f v pass word is = is ∙ ap (�
 
 pub field_count-least : (m : ℕ) → min (map_fields m) MAX_FIELDS ≡ field_count m
 field_count-least m = grind (arith, nat_tests)
-
-and_true : (a : Bool) → (a && true) ≡ a
-and_true true = refl
-and_true false = refl
-
--- a list of what f gives from 0 on, number by number
-pub list_all-below : {X : Type 0} (test : X → Bool) (f : ℕ → X) (n : ℕ) → list_all test (map f (range_with_len 0 n)) ≡ all_below n (λ k. test (f k))
-unfolding all_below
-list_all-below test f zero = refl
-list_all-below test f (suc n) =
-    ap (λ k. list_all test (map f (range_with_len 0 k))) (sym (add-one n))
-    ∙ ap (list_all test) (map-range_with_len_more f 0 n n (omega arith))
-    ∙ list_all-append test (map f (range_with_len 0 n)) (f n ∷ [])
-    ∙ ap₂ (λ (a b : Bool). a && b) (list_all-below test f n) (and_true (test (f n)))
 
 -- the fields of a slot whose type has this map
 pub fields_pass-each : (asked : Asked) (serial : ℕ → ℕ) (st : Stored) (place type_map : ℕ)
@@ -67,7 +54,3 @@ content_read v (Some p) =
 pub pointee_read : (puddles : List Puddle) (ordinal step v : ℕ) → content_of (pointee_of (pointee_at puddles ordinal step v)) ≡ pointee_at puddles ordinal step v
 unfolding target
 pointee_read puddles ordinal step v = content_read v (place_in 0 (puddles_by puddles (slice_get puddles ordinal) step) v)
-
-pub all_below-none : (test : ℕ → Bool) → all_below 0 test ≡ true
-unfolding all_below
-all_below-none test = refl

@@ -14,6 +14,7 @@ use Rattle.pud_defs.specs.Graph.{Content, slot_in, place_in, at_place, target, o
 use Rattle.pud_defs.specs.Graph.Content.{Null, At, Nowhere}
 use Rattle.graph_read.specs.Reading.{pointee_of}
 use Rattle.puddle_header.proofs.Placed.{place_ordinal, place_slot}
+use Rattle.std.proofs.lemmas.Simd.{map-map}
 
 -- what an ordinal beyond the last one reads
 abbrev pub no_puddle : ℕ × Puddle
@@ -27,13 +28,9 @@ read_over rewritten e = cond rewritten e.1 (over_old e.1)
 unfoldable pub pointer_from : List (ℕ × Puddle) → (rewritten : Bool) → (v i : ℕ) → Content
 pointer_from pool rewritten v i = at_place (place_in (places_among i) (drop i (map (read_over rewritten) pool)) v)
 
-map_twice : {A B C : Type 0} (f : B → C) (g : A → B) (xs : List A) → map f (map g xs) ≡ map (λ x. f (g x)) xs
-map_twice f g [] = refl
-map_twice f g (x ∷ xs) = ap (λ ys. f (g x) ∷ ys) (map_twice f g xs)
-
 same_puddles : (pool : List (ℕ × Puddle)) (b : Bool) → cond b (map (λ (e : ℕ × Puddle). e.1) pool) (map over_old (map (λ (e : ℕ × Puddle). e.1) pool)) ≡ map (read_over b) pool
 same_puddles pool true = refl
-same_puddles pool false = map_twice over_old (λ (e : ℕ × Puddle). e.1) pool
+same_puddles pool false = map-map over_old (λ (e : ℕ × Puddle). e.1) pool
 
 -- a null pointer leads to nothing
 pub pointer-null : (pool : List (ℕ × Puddle)) (o step v : ℕ) → v ≡ 0 → pointee_at (map (λ e. e.1) pool) o step v ≡ Null

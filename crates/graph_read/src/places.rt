@@ -2,7 +2,7 @@
 //!
 //! A place is a slot of a pool, counted over its puddles by their ordinals.
 
-ghost use Rattle.std.specs.Prelude.{◌≡◌, ◌*◌, ◌<◌, ◌≤◌, length, Option, IfOk, IfSome, is_none, option_map};
+ghost use Rattle.std.specs.Prelude.{◌≡◌, ◌<◌, ◌≤◌, Option, IfOk, IfSome, is_none, option_map};
 ghost use Rattle.pm_model.specs.Words.{Image, reads};
 ghost use Rattle.pm_model.specs.Counts.{fault_of};
 ghost use Rattle.pm_model.specs.Reads.{OnlyReads};
@@ -10,9 +10,9 @@ ghost use Rattle.pud_defs.specs.declared.records.Slot.{Slot};
 ghost use Rattle.pud_defs.specs.Layout.{device_words};
 ghost use Rattle.pud_defs.specs.Types.{types_of};
 ghost use Rattle.pud_defs.specs.Stored.{IsOnDevice, stored_in};
-ghost use Rattle.pud_defs.specs.Graph.{Graph, table_of, place_of, graph_of, object_in};
+ghost use Rattle.pud_defs.specs.Graph.{Graph, graph_of, object_in};
 ghost use Rattle.puddle_header.specs.Places.{places_in, place_of_slot, IsSlotOf};
-ghost use Rattle.graph_read.specs.Reading.{table_in, place_in_pool};
+ghost use Rattle.graph_read.specs.Reading.{place_in_pool};
 
 use pm_model::{HostFault, Loads};
 use pud_defs::layout::MAX_FRAMES;

@@ -1,5 +1,5 @@
 //! The device: its words, the file behind them, the armed cut and the counts.
-ghost use Rattle.std.specs.Prelude.{◌≡◌, ◌≢◌, ℕ, ◌*◌, ◌<◌, true, false, not, Option, IfOk, slice_index};
+ghost use Rattle.std.specs.Prelude.{◌≡◌, ◌≢◌, ◌*◌, ◌<◌, true, false, not, Option, IfOk, slice_index};
 ghost use Rattle.pm_model.specs.Counts.{counts_of, fresh_counts, after_fault, after_arm, after_loss_of, fault_of};
 ghost use Rattle.pm_model.specs.Calls.{IsDue, CountsDown, counted_down};
 ghost use Rattle.pm_rows.specs.Rows.{TakesLine, AreSame};

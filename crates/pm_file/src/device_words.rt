@@ -1,5 +1,5 @@
 //! The words of the device, of which those are kept that reach as far as a word was stored; the others are zero.
-ghost use Rattle.std.specs.Prelude.{◌≡◌, ℕ, ◌+◌, ◌-◌, ◌*◌, ◌<◌, ◌≤◌, ◌^◌, ◌++◌, false, replicate, slice_index, vec_len, vec_capacity, IfOk, OnOk, OnErr};
+ghost use Rattle.std.specs.Prelude.{◌≡◌, ◌+◌, ◌-◌, ◌*◌, ◌<◌, ◌≤◌, ◌^◌, ◌++◌, false, replicate, slice_index, vec_len, vec_capacity, IfOk, OnOk, OnErr};
 ghost use Rattle.pm_rows.specs.Rows.{AreSame, TakesLine};
 ghost use Rattle.pm_file.specs.Reach.{KeepsWords, HasRoom, TakesWord};
 

@@ -1,8 +1,6 @@
 //! The host over real files.
-ghost use Rattle.std.specs.Prelude.{◌≡◌, ◌≢◌, ℕ, ◌*◌, ◌/◌, ◌<◌, ◌≤◌, Option, Result, IfOk, [], None, vec_len};
-ghost use Rattle.pm_model.specs.Words.{single};
-ghost use Rattle.pm_model.specs.Moments.{State};
-ghost use Rattle.pm_model.specs.Counts.{Counts, counts_of, fresh_counts, after_fault, file_fault_of};
+ghost use Rattle.std.specs.Prelude.{◌≡◌, ◌≢◌, ◌*◌, ◌<◌, Option, Result, IfOk};
+ghost use Rattle.pm_model.specs.Counts.{counts_of, fresh_counts};
 ghost use Rattle.pm_file.specs.Silence.{silent};
 
 use crate::device::Device;

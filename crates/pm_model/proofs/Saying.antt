@@ -17,10 +17,6 @@ all_said-append (b ∷ front) rest s = all_said-append front rest (one_said b s)
 pub Says-nothing : (old new : State) → new ≡ old → Says [] None old new
 Says-nothing old new e = record { count = 0; within = omega arith; is = e; whole = λ none. refl }
 
--- the fault comes before a byte is said
-pub Says-unsaid : (bytes : List ℕ) (fault : HostFault) (old new : State) → new ≡ old → Says bytes (Some fault) old new
-Says-unsaid bytes fault old new e = record { count = 0; within = omega arith; is = e; whole = λ none. absurd (some_is_not_none fault none) }
-
 -- all of the front is said, and then the rest
 pub Says-then : (front rest : List ℕ) (fault : Option HostFault) (a b c : State) → Says front None a b → Says rest fault b c → Says (front ++ rest) fault a c
 Says-then front rest fault a b c p q =

@@ -1,5 +1,5 @@
 //! The one way to a device, its script, its replies and its files.
-ghost use Rattle.std.specs.Prelude.{◌≡◌, ◌≢◌, ◌<◌, ◌≤◌, ◌/◌, ◌%◌, ℕ, Option, Result, option_map, take, IfOk, OnErr, IsSome};
+ghost use Rattle.std.specs.Prelude.{◌≡◌, ◌≢◌, ◌<◌, ◌≤◌, ◌/◌, ◌%◌, Option, Result, option_map, take, IfOk, OnErr, IsSome};
 ghost use Rattle.pm_model.specs.Words.{after_store, after_flush, after_fence};
 ghost use Rattle.pm_model.specs.Moments.{State, with_shelf};
 ghost use Rattle.pm_model.specs.Counts.{Counts, after_fault, after_arm, after_loss_of, fault_of, file_fault_of};

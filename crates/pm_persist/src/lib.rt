@@ -4,7 +4,7 @@
 //! may leave. No other word gets a value. A range costs one store a word, one flush a line and one fence.
 #![tactic(auto)]
 
-ghost use Rattle.std.specs.Prelude.{◌≡◌, ◌+◌, ◌/◌, ◌<◌, ◌≤◌, ◌^◌, length, slice_index};
+ghost use Rattle.std.specs.Prelude.{◌≡◌, ◌+◌, ◌/◌, ◌<◌, ◌≤◌, length};
 ghost use Rattle.pm_model.specs.Counts.{after_fault, fault_of};
 ghost use Rattle.pm_model.specs.Changes.{only, placed, Writes, Persists};
 ghost use Rattle.pm_persist.specs.Ranges.{zeroed, StoresBelow, FlushesLines};

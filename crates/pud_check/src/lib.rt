@@ -5,8 +5,7 @@ mod check;
 mod laws;
 mod text;
 
-ghost use Rattle.std.specs.Prelude.{◌≡◌, ◌≢◌, ◌≤◌, ◌<◌, ◌++◌, ℕ, Option, All, decimal, flat_map};
-ghost use Rattle.std.specs.List.{range_with_len};
+ghost use Rattle.std.specs.Prelude.{◌≡◌, ◌≢◌, ◌≤◌, ◌<◌, ℕ, Option, All, flat_map};
 ghost use Rattle.pm_model.specs.Words.{reads};
 ghost use Rattle.pm_model.specs.Counts.{after_fault, fault_of};
 ghost use Rattle.pm_model.specs.Calls.{Says};
@@ -17,7 +16,7 @@ ghost use Rattle.pud_defs.specs.Layout.{tables_end};
 ghost use Rattle.pud_defs.specs.LayoutText.{layout_text};
 ghost use Rattle.pud_defs.specs.Registry.{frames_of};
 ghost use Rattle.pud_defs.specs.SoundTables.{HasSoundTables};
-ghost use Rattle.pud_defs.specs.Tables.{tables_of, puddle_in};
+ghost use Rattle.pud_defs.specs.Tables.{tables_of};
 ghost use Rattle.pool_table.specs.InOrder.{IsInSlot};
 ghost use Rattle.puddle_table.specs.Placed.{HoldsPlaces};
 ghost use Rattle.pud_check.specs.LayoutListed.{puddle_listed, puddles_listed, pool_listed, listed_layout};

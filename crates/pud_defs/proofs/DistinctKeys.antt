@@ -8,7 +8,7 @@ use Rattle.std.specs.Cmp.{unsigned_tied}
 use Rattle.std.specs.FinMap.Entries.{find, below_all, is_sorted}
 use Rattle.std.proofs.lemmas.Cmp.{nat_cmp_total}
 use Rattle.std.proofs.lemmas.Bool.{and_parts, and_from, or_cases, or_left, or_right, or_from, cases_Bool, cases_eq, cases_lt, cond-false, eqb-true, ltb-true, leb-true, lt-ltb, le-ltb, le-leb, not_from_false, not-true, false_from_ne_true}
-use Rattle.std.proofs.lemmas.Bool.Decides.{same_from_decides}
+use Rattle.std.proofs.lemmas.Bool.Decides.{same_from_decides, nat_tests}
 use Rattle.std.proofs.lemmas.Option.{none-some}
 use Rattle.pud_defs.specs.declared.records.TheConstants.{POOL_RECORDS, MAX_PUDDLES}
 use Rattle.pud_defs.specs.declared.records.Puddle.{Puddle}
@@ -24,12 +24,16 @@ use Rattle.pud_defs.specs.SoundTables.{is_pool, is_legal_member, is_sound_puddle
 use Rattle.pud_defs.proofs.Spaces.{all_below-from, all_below-each}
 use Rattle.pud_defs.proofs.Keyed.{find-keyed, is_sorted-keyed}
 use Rattle.pud_defs.proofs.TablesOf.{puddles_beyond}
+use Rattle.std.proofs.Math.Bool.{or-false}
 
 -- ---- tests
 
 -- two tests of one fact
 pub same_tests : (a b : Bool) → (a ≡ true → b ≡ true) → (b ≡ true → a ≡ true) → a ≡ b
 same_tests a b to back = let P : Type 0 = b ≡ true in same_from_decides {P = P} a b (to, back) ((λ h. h), (λ h. h))
+
+pub eqb_turned : (x y : ℕ) → eqb x y ≡ eqb y x
+eqb_turned x y = grind (arith, nat_tests)
 
 pub some_or : {A : Type 0} (o later : Option A) → is_some (option_or o later) ≡ (is_some o || is_some later)
 some_or None later = refl
@@ -38,10 +42,6 @@ some_or (Some x) later = refl
 some_cond : {A : Type 0} (b : Bool) (x : A) (later : Option A) → is_some (cond b (Some x) later) ≡ (b || is_some later)
 some_cond true x later = refl
 some_cond false x later = refl
-
-or_none : (b : Bool) → (b || false) ≡ b
-or_none true = refl
-or_none false = refl
 
 pub none_by_some : {A : Type 0} (o : Option A) → is_none o ≡ not (is_some o)
 none_by_some None = refl
@@ -64,7 +64,7 @@ all_below-one n k f below others = same_tests (all_below n f) (f k)
 -- ---- records under a number
 
 pub some_under : {Y : Type 0} (q k : ℕ) (y : Y) → is_some (under nat_cmp q (Some (k, y))) ≡ eqb q k
-some_under q k y = some_cond (eq_by_cmp nat_cmp q k) y None ∙ or_none (eq_by_cmp nat_cmp q k) ∙ unsigned_tied q k
+some_under q k y = some_cond (eq_by_cmp nat_cmp q k) y None ∙ or-false (eq_by_cmp nat_cmp q k) ∙ unsigned_tied q k
 
 -- tables that have something under two numbers at the same places
 pub first_from-alike : {X Y : Type 0} (p q : ℕ) (f : ℕ → Option (ℕ × X)) (g : ℕ → Option (ℕ × Y)) (from count : ℕ)

@@ -1,14 +1,15 @@
 -- Laws of tables that are read by their keys: look-up, and what a change of one record changes.
-use Rattle.std.proofs.Common.{◌≡◌, ◌⊎◌, inl, inr, ℕ, zero, suc, ◌+◌, ◌-◌, ◌<◌, ◌≤◌, Bool, true, false, not, cond, T, List, [], length, Option, Some, None, is_some, is_none, option_map, refl, sym, ap, ap₂, ◌∙◌, arith, add-one, zero-le, true≢false}
+use Rattle.std.proofs.Common.{◌≡◌, ◌⊎◌, inl, inr, ℕ, zero, suc, ◌+◌, ◌-◌, ◌<◌, ◌≤◌, Bool, true, false, not, cond, T, List, [], length, Option, Some, None, is_some, is_none, option_map, refl, sym, ap, ap₂, ◌∙◌, arith, add-one, zero-le, true≢false, ◌&&◌, ◌∷◌}
 use Rattle.std.specs.declared.cmp.Ordering.{Ordering}
 use Rattle.std.specs.declared.cmp.Ordering.TheVariants.{Less, Equal, Greater}
-use Rattle.std.specs.Ordering.{is_eq, eq_by_cmp}
+use Rattle.std.specs.Ordering.{is_eq, eq_by_cmp, match_ordering}
 use Rattle.std.specs.Cmp.{IsTotalOrder, Equal-is, alike_right, tied_back, tied_itself}
 use Rattle.std.specs.Option.{option_or}
-use Rattle.std.specs.FinMap.Entries.{put, find, is_sorted, find-put, is_sorted-put, find-where_key, is_sorted-where_key, length-put, same_entries}
+use Rattle.std.specs.FinMap.Entries.{put, find, is_sorted, find-put, is_sorted-put, find-where_key, is_sorted-where_key, length-put, same_entries, by_order}
 use Rattle.std.proofs.lemmas.Bool.{cases_eq, cases_lt, cond-true, cond-false, and_parts, and_from}
 use Rattle.std.proofs.lemmas.Option.{none-some, same_Some}
 use Rattle.pud_defs.specs.Keyed.{first_free, count_used, put_entry, keyed, under, first_from, is_apart, are_distinct, without}
+use Rattle.std.specs.BTreeMap.{insert_entry}
 
 -- ---- small facts
 
@@ -53,6 +54,16 @@ chosen false x later = refl
 pub chosen_some : {A : Type 0} (b : Bool) (x y : A) → cond b (Some x) None ≡ Some y → x ≡ y
 chosen_some true x y e = same_Some x y e
 chosen_some false x y e = absurd (none-some y e)
+
+-- a map takes an entry as a table that is read by its keys does
+pub insert_entry-put : {K X : Type 0} (R : K → K → Ordering) (k : K) (v : X) (es : List (K × X)) → insert_entry R es k v ≡ put R k v es
+insert_entry-put R k v [] = refl
+insert_entry-put R k v (e ∷ es) =
+    elim (R k e.0) as (λ o. match_ordering o ((k, v) ∷ e ∷ es) ((e.0, v) ∷ es) (e ∷ insert_entry R es k v) ≡ by_order o ((k, v) ∷ e ∷ es) ((e.0, v) ∷ es) (e ∷ put R k v es)) [
+      | Less ↦ refl
+      | Equal ↦ refl
+      | Greater ↦ ap (λ others. e ∷ others) (insert_entry-put R k v es)
+    ]
 
 -- ---- keys that tie
 
@@ -207,6 +218,16 @@ module _ {K X : Type 0} (R : K → K → Ordering) where
       and_from _ _
       (apart_from (at from) at (from + 1) count (λ e is. first_from_none e.0 at (from + 1) count (λ j low high. h.apart from j (omega arith) (omega arith) (omega arith) e is)))
       (are_distinct_keys at (from + 1) count (record { apart = λ i j low less high. h.apart i j (omega arith) less (omega arith) }))
+
+  -- the test from a place on, by the place behind the last one
+  pub are_distinct-step : (at : ℕ → Option (K × X)) (from end : ℕ) → from < end
+      → are_distinct R at from (end - from) ≡ (is_apart R (at from) at (from + 1) (end - (from + 1)) && are_distinct R at (from + 1) (end - (from + 1)))
+  unfolding are_distinct
+  are_distinct-step at from end below = let e : end - from ≡ suc (end - (from + 1)) = omega arith in ap (are_distinct R at from) e
+
+  pub are_distinct-end : (at : ℕ → Option (K × X)) (from end : ℕ) → end ≤ from → are_distinct R at from (end - from) ≡ true
+  unfolding are_distinct
+  are_distinct-end at from end past = let e : end - from ≡ 0 = omega arith in ap (are_distinct R at from) e
 
   -- fewer records have distinct keys too
   pub HasDistinctKeys-fewer : (f g : ℕ → Option (K × X)) (from count : ℕ) → ((j : ℕ) → from ≤ j → j < from + count → (g j ≡ f j) ⊎ (g j ≡ None)) → HasDistinctKeys f from count → HasDistinctKeys g from count

@@ -1,5 +1,5 @@
 -- The log-space table: images that agree on what is read of it and of the clients' logs.
-use Rattle.std.proofs.Common.{◌≡◌, ℕ, zero, suc, ◌+◌, ◌^◌, ◌<◌, ◌≤◌, Bool, true, false, ◌&&◌, ◌||◌, eqb, leb, ltb, refl, sym, ap, ap₂, ◌∙◌, ⊎_elim, inl, inr, arith, add-one, eq-eqb}
+use Rattle.std.proofs.Common.{◌≡◌, ℕ, zero, suc, ◌+◌, ◌^◌, ◌<◌, ◌≤◌, Bool, true, false, ◌&&◌, ◌||◌, eqb, leb, ltb, refl, sym, ap, ap₂, ◌∙◌, ⊎_elim, inl, inr, arith, add-one, eq-eqb, not, List, [], ◌∷◌, map}
 use Rattle.std.specs.Prelude.{cond, Some, None, is_some}
 use Rattle.std.proofs.lemmas.Bool.{and_parts, and_from, cond-false, cases_Bool, cases_eq, or_left, leb-true}
 use Rattle.pud_defs.specs.declared.layout.TheConstants.{SPACE_TABLE, CLIENTS, CLIENT_LOGS, LOG_ENTRY_WORDS, PUDDLE_TABLE}
@@ -9,6 +9,10 @@ use Rattle.pud_defs.specs.Entries.{gate_lo, gate_hi, gate_used, is_legal_gate, e
 use Rattle.pud_defs.specs.Replay.{IsInLog}
 use Rattle.pud_defs.specs.Spaces.{Owner, owner, space_record_at, owner_by, all_below, is_space, is_legal_space, is_closed_range, is_closed_log, has_closed_logs, are_legal_spaces, are_closed_logs, owner_of}
 use Rattle.pud_defs.proofs.Entries.{entries_of-same}
+use Rattle.std.specs.List.{list_all, list_any, range_with_len}
+use Rattle.std.proofs.Math.Bool.{and-true}
+use Rattle.std.proofs.lemmas.List.Folds.{list_all-append, list_all-map}
+use Rattle.std.proofs.lemmas.List.FromFn.{map-range_with_len_more}
 
 pub all_below-same : (n : ℕ) (f g : ℕ → Bool) → ((k : ℕ) → k < n → f k ≡ g k) → all_below n f ≡ all_below n g
 unfolding all_below
@@ -38,6 +42,30 @@ all_below-fails n k f below fails = elim (cases_Bool (all_below n f)) [
   | inl all ↦ absurd (let it : true ≡ false = sym (all_below-each n f all k below) ∙ fails in cc)
   | inr some ↦ some
 ]
+
+pub all_below-none : (test : ℕ → Bool) → all_below 0 test ≡ true
+unfolding all_below
+all_below-none test = refl
+
+-- a list of what f gives from 0 on, number by number
+pub list_all-below : {X : Type 0} (test : X → Bool) (f : ℕ → X) (n : ℕ) → list_all test (map f (range_with_len 0 n)) ≡ all_below n (λ k. test (f k))
+unfolding all_below
+list_all-below test f zero = refl
+list_all-below test f (suc n) =
+    ap (λ k. list_all test (map f (range_with_len 0 k))) (sym (add-one n))
+    ∙ ap (list_all test) (map-range_with_len_more f 0 n n (omega arith))
+    ∙ list_all-append test (map f (range_with_len 0 n)) (f n ∷ [])
+    ∙ ap₂ (λ (a b : Bool). a && b) (list_all-below test f n) (and-true (test (f n)))
+
+any_by_all : {X : Type 0} (test : X → Bool) (xs : List X) → list_any test xs ≡ not (list_all (λ x. not (test x)) xs)
+any_by_all test [] = refl
+any_by_all test (x ∷ xs) = elim (test x) as (λ b. (b || list_any test xs) ≡ not (not b && list_all (λ y. not (test y)) xs)) [ true ↦ refl | false ↦ any_by_all test xs ]
+
+-- some number below n passes the test where not each fails it
+pub any-range : (test : ℕ → Bool) (n : ℕ) → list_any test (range_with_len 0 n) ≡ not (all_below n (λ k. not (test k)))
+any-range test n =
+    any_by_all test (range_with_len 0 n)
+    ∙ ap not (sym (list_all-map (λ x. not (test x)) (λ (x : ℕ). x) (range_with_len 0 n)) ∙ list_all-below (λ x. not (test x)) (λ x. x) n)
 
 -- ---- one record
 

@@ -3,7 +3,7 @@
 //! An owner word has the uid in bits 0 to 31 and the gid in bits 32 to 63. A member word has the pool's slot plus 1 in
 //! bits 0 to 31, 0 in a free record, and the ordinal in bits 32 to 63. The readers answer for every word, legal or not.
 
-ghost use Rattle.std.specs.Prelude.{◌≡◌, ◌<◌, ◌^◌};
+ghost use Rattle.std.specs.Prelude.{◌≡◌, ◌<◌};
 ghost use Rattle.pud_defs.specs.Modes.{is_legal_mode};
 ghost use Rattle.pud_defs.specs.Names.{name_by, is_name_byte};
 ghost use Rattle.pud_defs.specs.Pools.{owner_uid, owner_gid, owner_word};

@@ -9,12 +9,9 @@ use Rattle.pud_defs.specs.declared.records.Puddle.{Puddle}
 use Rattle.pud_defs.specs.Bases.{is_legal_base}
 use Rattle.pud_defs.specs.Keyed.{first_from, under, is_apart, are_distinct}
 use Rattle.pud_defs.specs.ExportFile.{under_base, are_file_bases}
-use Rattle.graph_read.proofs.Judging.{are_distinct-step}
 use Rattle.graph_read.proofs.Pointed.{no_puddle}
-use Rattle.pud_defs.proofs.DistinctKeys.{some_or, none_by_some, some_under}
-
-turned : (a b : ℕ) → eqb a b ≡ eqb b a
-turned a b = grind (arith, nat_tests)
+use Rattle.pud_defs.proofs.DistinctKeys.{some_or, none_by_some, some_under, eqb_turned}
+use Rattle.pud_defs.proofs.Keyed.{are_distinct-step}
 
 module _ (at : List (ℕ × Puddle)) where
   abbrev by_base : ℕ → Option (ℕ × ℕ)
@@ -35,7 +32,7 @@ module _ (at : List (ℕ × Puddle)) where
       let below : from < length at = omega arith in
       ap (list_any (λ e. eqb e.1.base base)) (drop-cons at from no_puddle below)
       ∙ ap₂ (λ (a b : Bool). a || b)
-      (turned (entry from).1.base base ∙ sym (some_under base (entry from).1.base from) ∙ ap (λ e. is_some (under nat_cmp base e)) (sym (based from below)))
+      (eqb_turned (entry from).1.base base ∙ sym (some_under base (entry from).1.base from) ∙ ap (λ e. is_some (under nat_cmp base e)) (sym (based from below)))
       (ap (λ k. list_any (λ e. eqb e.1.base base) (drop k at)) (sym (add-one from)) ∙ listed base (from + 1) n (omega arith))
       ∙ sym (some_or (under nat_cmp base (by_base from)) (first_from nat_cmp base by_base (from + 1) n))
 
@@ -51,7 +48,7 @@ module _ (at : List (ℕ × Puddle)) where
     behind = take_all (length at - (o + 1)) (drop (o + 1) at) (omega (arith, length-drop (o + 1) at))
 
     step : are_distinct nat_cmp by_base o (length at - o) ≡ (not found && are_distinct nat_cmp by_base (o + 1) (length at - (o + 1)))
-    step = are_distinct-step by_base o (length at) below ∙ ap (λ b. b && are_distinct nat_cmp by_base (o + 1) (length at - (o + 1))) (is_apart-base o found below (is ∙ ap (list_any (λ e. eqb e.1.base (entry o).1.base)) behind))
+    step = are_distinct-step nat_cmp by_base o (length at) below ∙ ap (λ b. b && are_distinct nat_cmp by_base (o + 1) (length at - (o + 1))) (is_apart-base o found below (is ∙ ap (list_any (λ e. eqb e.1.base (entry o).1.base)) behind))
 
     pub are_distinct-more : found ≡ false → are_distinct nat_cmp by_base o (length at - o) ≡ are_distinct nat_cmp by_base (o + 1) (length at - (o + 1))
     are_distinct-more other = step ∙ ap (λ b. not b && are_distinct nat_cmp by_base (o + 1) (length at - (o + 1))) other

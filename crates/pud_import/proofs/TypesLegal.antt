@@ -10,8 +10,7 @@ use Rattle.pud_defs.specs.Image.{Image}
 use Rattle.pud_defs.specs.TypeMap.{is_legal_map, is_legal_type_id}
 use Rattle.pud_defs.specs.Types.{is_sound_type}
 use Rattle.pud_defs.specs.ExportFile.{file_type, file_types, are_file_types}
-use Rattle.pud_defs.proofs.Spaces.{all_below-each}
-use Rattle.graph_read.proofs.Passing.{list_all-below}
+use Rattle.pud_defs.proofs.Spaces.{all_below-each, list_all-below}
 use Rattle.pud_import.proofs.Numbered.{from_number, from_number-more}
 
 abbrev sound : ℕ × ℕ → Bool

@@ -6,9 +6,8 @@ use Rattle.pud_defs.specs.Image.{Image}
 use Rattle.pud_defs.specs.Spaces.{all_below}
 use Rattle.pud_defs.specs.Stored.{Stored, places_of}
 use Rattle.pud_defs.specs.ExportFile.{file_puddle, file_stored}
-use Rattle.pud_defs.proofs.Spaces.{all_below-from, all_below-each, all_below-fails}
+use Rattle.pud_defs.proofs.Spaces.{all_below-from, all_below-each, all_below-fails, any-range}
 use Rattle.graph_laws.specs.Slots.{is_of_type}
-use Rattle.graph_read.proofs.Held.{any-range}
 use Rattle.pud_import.specs.Contents.{is_used_in}
 
 -- how many puddles a file has, and how many places

@@ -1,5 +1,5 @@
 //! A script is run: the daemon starts, and each line is answered as it is read.
-ghost use Rattle.std.specs.Prelude.{◌≡◌, ◌≢◌, ◌⊎◌, ◌↔◌, ◌+◌, ◌≤◌, ℕ, List, [], take, true, false, IfOk, IfErr, OnOk, Option, Result};
+ghost use Rattle.std.specs.Prelude.{◌≡◌, ◌≢◌, ◌⊎◌, ◌↔◌, ◌≤◌, ℕ, List, [], take, true, false, IfOk, IfErr, OnOk, Option, Result};
 ghost use Rattle.pm_model.specs.Words.{IsRested, reads};
 ghost use Rattle.pm_model.specs.Moments.{State};
 ghost use Rattle.pm_model.specs.Counts.{Counts, Rose};

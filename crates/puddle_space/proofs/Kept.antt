@@ -23,10 +23,6 @@ LeavesFree-then p q r old middle new first second join = record {
       ∙ ap (λ b. is_free old k && b) (sym (join k tried));
 }
 
--- the same by another test
-pub LeavesFree-same : (p q : ℕ → Bool) (old new : List Bool) → LeavesFree p old new → ((k : ℕ) → k < TRIED → p (base_at k) ≡ q (base_at k)) → LeavesFree q old new
-LeavesFree-same p q old new left same = record { each = λ k tried. left.each k tried ∙ ap (λ b. is_free old k && b) (same k tried) }
-
 -- one range is marked
 pub LeavesFree-one : (base k : ℕ) (free : List Bool) → IsRange base k → k < length free → LeavesFree (λ other. not (eqb base other)) free (set free k false)
 LeavesFree-one base k free range within = record {

@@ -60,6 +60,7 @@ use Rattle.puddled.specs.declared.finding.Found.{Found}
 use Rattle.puddled.specs.Files.{IsStoredPool}
 use Rattle.puddled.specs.Finding.{needs_graph, lacks_graph, has_right, right_by, need_refusal, refusal_to, beside, holder_found, IsRecordOf, IsFound}
 use Rattle.puddled.specs.Reading.{HoldsGraph}
+use Rattle.pud_defs.proofs.DistinctKeys.{none_by_some}
 
 -- ---- puddles that are judged as they were read
 
@@ -105,15 +106,11 @@ whose_found (Some other) client slot number = by_own (eqb other client) refl
 
 -- ---- whether a graph is lacking
 
-unless_some : {A : Type 0} (o : Option A) → not (is_some o) ≡ is_none o
-unless_some None = refl
-unless_some (Some x) = refl
-
 none_needed : (need : Need) → needs_graph need ≡ true → (g : Option Graph) (found : Option Pool) → graph_in found ≡ g → not (is_some g) ≡ lacks_graph need found
 none_needed needs.Owner needed g found is = absurd (let no : false ≡ true = needed in cc)
-none_needed needs.Read needed g found is = unless_some g ∙ ap is_none (sym is)
-none_needed needs.Write needed g found is = unless_some g ∙ ap is_none (sym is)
-none_needed needs.Graph needed g found is = unless_some g ∙ ap is_none (sym is)
+none_needed needs.Read needed g found is = sym (none_by_some g) ∙ ap is_none (sym is)
+none_needed needs.Write needed g found is = sym (none_by_some g) ∙ ap is_none (sym is)
+none_needed needs.Graph needed g found is = sym (none_by_some g) ∙ ap is_none (sym is)
 
 none_lacking : (need : Need) (g : Graph) (found : Option Pool) → graph_in found ≡ Some g → false ≡ lacks_graph need found
 none_lacking needs.Owner g found is = refl

@@ -7,7 +7,7 @@ ghost use Rattle.pud_defs.specs.declared.layout.TheConstants.{MIN_FRAMES};
 ghost use Rattle.pud_defs.specs.Layout.{device_words};
 ghost use Rattle.pud_defs.specs.Registry.{frames_of};
 ghost use Rattle.pud_defs.specs.World.{World, world_of, closed, restart};
-ghost use Rattle.puddled.specs.Faults.{start_fault, run_fault, kind_of, CountsReply, CountsCommand, behind_loss, HasLostPower};
+ghost use Rattle.puddled.specs.Faults.{start_fault, kind_of, CountsReply, CountsCommand, behind_loss, HasLostPower};
 ghost use Rattle.pud_defs.specs.Grammar.{command_of, IsLegalCommand};
 ghost use Rattle.pud_defs.specs.Changing.{file_of, file_in};
 ghost use Rattle.ready_daemon.specs.Memory.{Memory};

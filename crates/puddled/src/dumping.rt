@@ -1,6 +1,6 @@
 //! Lines that ask for the graph of a pool as a text.
-ghost use Rattle.std.specs.Prelude.{◌≡◌, ◌≢◌, ◌<◌, ◌≤◌, ℕ, Option};
-ghost use Rattle.pm_model.specs.Counts.{after_fault, fault_of};
+ghost use Rattle.std.specs.Prelude.{◌≡◌, ◌<◌, ◌≤◌, ℕ, Option};
+ghost use Rattle.pm_model.specs.Counts.{fault_of};
 ghost use Rattle.pm_model.specs.Reads.{OnlyReads};
 ghost use Rattle.pud_defs.specs.declared.layout.TheConstants.{CLIENTS};
 ghost use Rattle.pud_defs.specs.declared.machine.Command.TheVariants.{Dump};

@@ -227,16 +227,3 @@ AppliesLog-failed size s fault a b rested world same =
       idle = λ none. absurd (let it : None ≡ Some fault = sym none in cc);
       rested = λ none. absurd (let it : None ≡ Some fault = sym none in cc);
     }
-
--- ---- where each registered log is closed
-
--- the device is settled then
-pub IsSettled-applied : (size : ℕ) (s : StoredWorld) (a b : State) → Changes Anything None a b → idle_world_of size (reads a.now.words) ≡ Some s → AppliesLog size s None a b → IsSettled size s b.now.words
-IsSettled-applied size s a b changes world applied =
-    let before = reads a.now.words in
-    record {
-      stands = λ image picked.
-          let still = (Leaves-now (Silently (StillStands size s before)) [] a b (Changes-said Anything None a b changes ∙ sym (append-nil a.now.said)) applied.moments image picked).1 in
-          idle_world_of-settled size before image (legal_log_of_idle_world size before s world) (legal_log_of_world size image s still.stands) still.settled ∙ world;
-      idle = (applied.idle refl).each;
-    }

@@ -180,10 +180,6 @@ decided number F image answer xs done low high are decides =
 
 -- ---- the marks of one pool
 
-pub none_counted : (test : ℕ → Bool) → all_below 0 test ≡ true
-unfolding all_below
-none_counted test = refl
-
 follows : (marks : List Bool) (slot k a b : ℕ) (answer : Bool) → a ≡ (slot + 1) * 16 + k → b ≡ (slot + 1) * 16 + (k + 1) → answer ≡ (get_or marks a false || not (get_or marks b false))
     → answer ≡ (mark_of marks slot k || not (mark_of marks slot (k + 1)))
 follows marks slot k a b answer here next is = is ∙ ap₂ (λ (i j : ℕ). get_or marks i false || not (get_or marks j false)) here next
@@ -275,23 +271,3 @@ bases_by_numbers t = refl
 
 pub in_groups : (a b c d : Bool) → (a && b && (c && d)) ≡ (a && b && c && d)
 in_groups a b c d = elim (a && b) as (λ x. (x && (c && d)) ≡ (x && c && d)) [ true ↦ refl | false ↦ refl ]
-
--- ---- the whole rule
-
-in_one : (x a b c d : Bool) → (x && (a && b && c && d)) ≡ (x && a && b && c && d)
-in_one true a b c d = refl
-in_one false a b c d = refl
-
--- what is distinct matters only where the puddle records are legal
-pub sound_when_distinct : (next : ℕ) (t : Tables) (distinct : Bool) → (has_legal_puddles next t ≡ true → distinct ≡ are_distinct_puddles t)
-    → (has_legal_pools next t && has_distinct_names t && has_legal_puddles next t && distinct) ≡ are_sound_tables next t
-unfolding are_sound_tables
-sound_when_distinct next t distinct is =
-    let first = has_legal_pools next t && has_distinct_names t in
-    let both : (first && has_legal_puddles next t && distinct) ≡ (first && has_legal_puddles next t && are_distinct_puddles t) = elim (cases_Bool (has_legal_puddles next t)) [
-      | inl legal ↦ ap (λ (b : Bool). first && has_legal_puddles next t && b) (is legal)
-      | inr spoilt ↦
-          let none = and_right first (has_legal_puddles next t) spoilt in
-          and_left (first && has_legal_puddles next t) distinct none ∙ sym (and_left (first && has_legal_puddles next t) (are_distinct_puddles t) none)
-    ] in
-    both ∙ in_one (first && has_legal_puddles next t) (has_distinct_bases t) (has_distinct_old_bases t) (has_distinct_ordinals t) (has_counted_puddles t)

@@ -12,7 +12,7 @@ use Rattle.std.proofs.lemmas.Map.Keys.{IsDistinct-head, IsDistinct-tail, IsDisti
 use Rattle.std.proofs.Math.Nat.{mod-eq_of_lt}
 use Rattle.pud_defs.specs.Keyed.{under, first_from, is_apart, are_distinct}
 use Rattle.pud_defs.specs.Puddles.{Member}
-use Rattle.pud_defs.proofs.DistinctKeys.{same_tests, none_by_some, some_or, some_under}
+use Rattle.pud_defs.proofs.DistinctKeys.{same_tests, none_by_some, some_or, some_under, eqb_turned}
 use Rattle.soundness.specs.declared.distinct.TheConstants.{POOL_NUMBERS, OLD_BASES, PLACES}
 use Rattle.soundness.specs.Distinct.{joined, place_of, with_number}
 
@@ -132,9 +132,6 @@ module _ (at : ℕ → Option Member) (number : Member → ℕ) where
       (λ h. listed_distinct 0 count (decides.0 h)) (λ h. decides.1 (distinct_listed 0 count h))
 
 -- ---- a sorted list
-
-eqb_turned : (x y : ℕ) → eqb x y ≡ eqb y x
-eqb_turned x y = same_tests (eqb x y) (eqb y x) (λ h. eq-eqb y x (sym (eqb-true x y h))) (λ h. eq-eqb x y (sym (eqb-true y x h)))
 
 -- where each is below the next, all differ
 pub differ_by_rise : (xs ys : List ℕ) → IsPermutation xs ys → ((k : ℕ) → k + 1 < length ys → get_or ys k 0 < get_or ys (k + 1) 0) → IsDistinct eqb xs

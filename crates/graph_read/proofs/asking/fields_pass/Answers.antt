@@ -2,8 +2,8 @@ use Rattle.std.proofs.Common.{◌≡◌, ◌<◌, slice_index, sym, ap, ◌∙�
 use Rattle.pud_defs.specs.Graph.{field_count}
 use Rattle.pud_defs.specs.Spaces.{all_below}
 use Rattle.pud_defs.specs.Stored.{stored_in}
-use Rattle.pud_defs.proofs.Spaces.{all_below-more, all_below-fails}
-use Rattle.graph_read.proofs.Passing.{field_passes, field_passes-read, field_count-least, fields_pass-each, all_below-none}
+use Rattle.pud_defs.proofs.Spaces.{all_below-more, all_below-fails, all_below-none}
+use Rattle.graph_read.proofs.Passing.{field_passes, field_passes-read, field_count-least, fields_pass-each}
 use Rattle.pm_model.proofs.Reading.{OnlyReads-none, OnlyReads-then, still_reads}
 use Rattle.graph_read.proofs.asking.fields_pass.Goals as goal
 

@@ -3,9 +3,8 @@ use Rattle.pud_defs.specs.Geometry.{places_among}
 use Rattle.pud_defs.specs.Graph.{table_of}
 use Rattle.pud_defs.specs.Stored.{stored_in}
 use Rattle.pud_defs.specs.Types.{types_of}
-use Rattle.pud_defs.proofs.Spaces.{all_below-more, all_below-fails}
+use Rattle.pud_defs.proofs.Spaces.{all_below-more, all_below-fails, all_below-none}
 use Rattle.graph_read.specs.Asking.{place_passes, with_serials}
-use Rattle.graph_read.proofs.Passing.{all_below-none}
 use Rattle.pm_model.proofs.Reading.{OnlyReads-none, OnlyReads-then, still_reads}
 use Rattle.graph_read.proofs.asking.places_pass.Goals as goal
 

@@ -1,8 +1,8 @@
-use Rattle.std.proofs.Common.{map, length, sym, ◌∙◌, arith}
+use Rattle.std.proofs.Common.{map, length, sym, ◌∙◌, arith, nat_cmp}
 use Rattle.pud_defs.specs.ExportFile.{under_base}
-use Rattle.graph_read.proofs.Judging.{are_distinct-end}
 use Rattle.pud_import.proofs.BasesApart.{are_distinct-more, are_distinct-fails}
 use Rattle.pud_import.proofs.bases.are_apart.Goals as goal
+use Rattle.pud_defs.proofs.Keyed.{are_distinct-end}
 
 pub returns-then-has_base : goal.returns-then-has_base
 returns-then-has_base c = sym (c.loop-ordinal.invariant ∙ are_distinct-fails c.args.pool.now c.loop-ordinal.ordinal c.has_base.result c.loop-ordinal-test.true c.has_base.ensures c.if-has_base.true)
@@ -13,4 +13,4 @@ loop-ordinal-preserved c = c.loop-ordinal.invariant ∙ are_distinct-more c.args
 pub returns : goal.returns
 returns c =
     let past = c.loop-ordinal-test.false in
-    sym (c.loop-ordinal.invariant ∙ are_distinct-end (under_base (map (λ e. e.1) c.args.pool.now)) c.loop-ordinal.ordinal (length c.args.pool.now) (omega arith))
+    sym (c.loop-ordinal.invariant ∙ are_distinct-end nat_cmp (under_base (map (λ e. e.1) c.args.pool.now)) c.loop-ordinal.ordinal (length c.args.pool.now) (omega arith))

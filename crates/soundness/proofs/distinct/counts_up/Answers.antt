@@ -1,9 +1,10 @@
 use Rattle.std.proofs.Common.{◌+◌, ◌*◌, arith}
-use Rattle.soundness.proofs.Marks.{none_counted, counts_stop, counts_more}
+use Rattle.soundness.proofs.Marks.{counts_stop, counts_more}
 use Rattle.soundness.proofs.distinct.counts_up.Goals as goal
+use Rattle.pud_defs.proofs.Spaces.{all_below-none}
 
 pub loop-k-init : goal.loop-k-init
-loop-k-init c = none_counted _
+loop-k-init c = all_below-none _
 
 pub loop-k-preserved : goal.loop-k-preserved
 loop-k-preserved c =

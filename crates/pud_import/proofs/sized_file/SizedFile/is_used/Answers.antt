@@ -1,7 +1,6 @@
 use Rattle.std.proofs.Common.{not, sym, ap, ◌∙◌, arith}
-use Rattle.pud_defs.proofs.Spaces.{all_below-more}
+use Rattle.pud_defs.proofs.Spaces.{all_below-more, all_below-none}
 use Rattle.graph_laws.specs.Slots.{is_of_type}
-use Rattle.graph_read.proofs.Passing.{all_below-none}
 use Rattle.pud_import.specs.Sized.{words_of, stored_of}
 use Rattle.pud_import.proofs.UsedPlaces.{places-file, is_used-there, is_used-none}
 use Rattle.pud_import.proofs.sized_file.SizedFile.is_used.Goals as goal
