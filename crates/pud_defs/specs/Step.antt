@@ -32,84 +32,7 @@ pub data Answer : Type 0 where
   of_reply : Reply → Answer
   of_text : List ℕ → Answer
 
--- the refusals that a command may meet, in the order in which they are tested
-abbrev pub causes : Command → List Refusal
-causes (Client client uid gid) = refusals.Taken ∷ []
-causes (Leave client) = refusals.Client ∷ []
-causes (Define id map) = refusals.Clash ∷ refusals.Full ∷ []
-causes (commands.Pool client name mode) = refusals.Client ∷ refusals.Exists ∷ refusals.Full ∷ refusals.Space ∷ []
-causes (Chmod client name mode) = refusals.Client ∷ refusals.Pool ∷ refusals.Denied ∷ refusals.Busy ∷ refusals.OpenHere ∷ []
-causes (commands.Drop client name) = refusals.Client ∷ refusals.Pool ∷ refusals.Denied ∷ refusals.Busy ∷ refusals.OpenHere ∷ []
-causes (Get client name s f) = refusals.Client ∷ refusals.Pool ∷ refusals.Wild ∷ refusals.Denied ∷ refusals.Busy ∷ refusals.Object ∷ refusals.Field ∷ []
-causes (Begin client name) = refusals.Client ∷ refusals.Pool ∷ refusals.Wild ∷ refusals.Denied ∷ refusals.Busy ∷ refusals.Deep ∷ refusals.Logs ∷ []
-causes (Commit client name) = refusals.Client ∷ refusals.Pool ∷ refusals.Wild ∷ refusals.Busy ∷ refusals.Tx ∷ []
-causes (Abort client name) = refusals.Client ∷ refusals.Pool ∷ refusals.Wild ∷ refusals.Busy ∷ refusals.Tx ∷ []
-causes (New client name t) = refusals.Client ∷ refusals.Pool ∷ refusals.Wild ∷ refusals.Busy ∷ refusals.Tx ∷ refusals.NoType ∷ refusals.TooBig ∷ refusals.Full ∷ refusals.Space ∷ []
-causes (Set client name s f x) = refusals.Client ∷ refusals.Pool ∷ refusals.Wild ∷ refusals.Busy ∷ refusals.Tx ∷ refusals.Object ∷ refusals.Field ∷ refusals.Kind ∷ refusals.TooBig ∷ []
-causes (Later client name s f x) = refusals.Client ∷ refusals.Pool ∷ refusals.Wild ∷ refusals.Busy ∷ refusals.Tx ∷ refusals.Object ∷ refusals.Field ∷ refusals.Kind ∷ refusals.TooBig ∷ []
-causes (Root client name s) = refusals.Client ∷ refusals.Pool ∷ refusals.Wild ∷ refusals.Busy ∷ refusals.Tx ∷ refusals.Object ∷ refusals.TooBig ∷ []
-causes (Free client name s) = refusals.Client ∷ refusals.Pool ∷ refusals.Wild ∷ refusals.Busy ∷ refusals.Tx ∷ refusals.Object ∷ refusals.Held ∷ refusals.TooBig ∷ []
-causes (Dump client name) = refusals.Client ∷ refusals.Pool ∷ refusals.Wild ∷ refusals.Denied ∷ refusals.Busy ∷ refusals.Memory ∷ []
-causes (Export client name file) = refusals.Client ∷ refusals.Pool ∷ refusals.Wild ∷ refusals.Denied ∷ refusals.Busy ∷ refusals.OpenHere ∷ refusals.Memory ∷ []
-causes Pools = []
-causes (Cut pick) = []
-causes (Arm step pick) = []
-
--- the client that a command names
-abbrev pub client_of : Command → Option ℕ
-client_of (Client client uid gid) = Some client
-client_of (Leave client) = Some client
-client_of (Define id map) = None
-client_of (commands.Pool client name mode) = Some client
-client_of (Chmod client name mode) = Some client
-client_of (commands.Drop client name) = Some client
-client_of (Get client name s f) = Some client
-client_of (Begin client name) = Some client
-client_of (Commit client name) = Some client
-client_of (Abort client name) = Some client
-client_of (New client name t) = Some client
-client_of (Set client name s f x) = Some client
-client_of (Later client name s f x) = Some client
-client_of (Root client name s) = Some client
-client_of (Free client name s) = Some client
-client_of (Dump client name) = Some client
-client_of (Export client name file) = Some client
-client_of Pools = None
-client_of (Cut pick) = None
-client_of (Arm step pick) = None
-
--- whether the client, where one is named, is present
-abbrev pub is_present : (ℕ → Option Owner) → Option ℕ → Bool
-is_present clients None = false
-is_present clients (Some client) = is_some (clients client)
-
--- the owner as whom the client acts, where one is named that is present
-abbrev pub acting : (ℕ → Option Owner) → Option ℕ → Option Owner
-acting clients None = None
-acting clients (Some client) = clients client
-
--- the name of the pool that a command names
-abbrev pub name_in : Command → Option (List ℕ)
-name_in (commands.Pool client name mode) = Some name
-name_in (Chmod client name mode) = Some name
-name_in (commands.Drop client name) = Some name
-name_in (Get client name s f) = Some name
-name_in (Begin client name) = Some name
-name_in (Commit client name) = Some name
-name_in (Abort client name) = Some name
-name_in (New client name t) = Some name
-name_in (Set client name s f x) = Some name
-name_in (Later client name s f x) = Some name
-name_in (Root client name s) = Some name
-name_in (Free client name s) = Some name
-name_in (Dump client name) = Some name
-name_in (Export client name file) = Some name
-name_in c = None
-
--- the pool of the name, where one is named and is there
-abbrev pub pool_by_name : StoredWorld → Option (List ℕ) → Option Pool
-pool_by_name s None = None
-pool_by_name s (Some name) = pool_named name s
+-- ---- what is asked of a command, one row a command
 
 -- the user is the owner of the pool
 abbrev pub owns : Option Owner → Option Pool → Bool
@@ -129,13 +52,109 @@ writes None pool = false
 writes (Some who) None = false
 writes (Some who) (Some pool) = may_write pool.mode pool.owner who
 
--- the command is allowed: one that reads a pool, or begins to write it, by the pool's mode, any other by its owner
+-- The client that it names and the name of a pool; the refusals that it may meet, in the order in which they are tested; the right that it needs of the
+-- pool, where it may be denied; and how many units it uses.
+pub record Rule : Type 0 where
+  pub client : Option ℕ
+  pub pool : Option (List ℕ)
+  pub causes : List Refusal
+  pub right : Option Owner → Option Pool → Bool
+  pub charge : ℕ
+
+-- a command that names no client and no pool
+abbrev pub rule_of_none : List Refusal → Rule
+rule_of_none causes = record { client = None; pool = None; causes = causes; right = owns; charge = 0 }
+
+-- one of a client, who has to be present but to come
+abbrev pub rule_of_client : (client : ℕ) → List Refusal → Rule
+rule_of_client client causes = record { client = Some client; pool = None; causes = causes; right = owns; charge = 0 }
+
+-- one of the owner of a pool on which no transaction is open
+abbrev pub rule_of_owner : (client : ℕ) → List ℕ → Rule
+rule_of_owner client name = record {
+  client = Some client;
+  pool = Some name;
+  causes = refusals.Client ∷ refusals.Pool ∷ refusals.Denied ∷ refusals.Busy ∷ refusals.OpenHere ∷ [];
+  right = owns;
+  charge = 0;
+}
+
+-- one that reads a pool, or begins to write it, as its mode lets the client
+abbrev pub rule_by_mode : (client : ℕ) → List ℕ → (right : Option Owner → Option Pool → Bool) → List Refusal → Rule
+rule_by_mode client name right later = record {
+  client = Some client;
+  pool = Some name;
+  causes = refusals.Client ∷ refusals.Pool ∷ refusals.Wild ∷ refusals.Denied ∷ refusals.Busy ∷ later;
+  right = right;
+  charge = 0;
+}
+
+-- one in the client's own transaction
+abbrev pub rule_of_own : (client : ℕ) → List ℕ → (charge : ℕ) → List Refusal → Rule
+rule_of_own client name charge later = record {
+  client = Some client;
+  pool = Some name;
+  causes = refusals.Client ∷ refusals.Pool ∷ refusals.Wild ∷ refusals.Busy ∷ refusals.Tx ∷ later;
+  right = owns;
+  charge = charge;
+}
+
+abbrev pub rule_of : Command → Rule
+rule_of (Client client uid gid) = rule_of_client client (refusals.Taken ∷ [])
+rule_of (Leave client) = rule_of_client client (refusals.Client ∷ [])
+rule_of (Define id map) = rule_of_none (refusals.Clash ∷ refusals.Full ∷ [])
+rule_of (commands.Pool client name mode) = record (rule_of_client client (refusals.Client ∷ refusals.Exists ∷ refusals.Full ∷ refusals.Space ∷ [])) { pool = Some name }
+rule_of (Chmod client name mode) = rule_of_owner client name
+rule_of (commands.Drop client name) = rule_of_owner client name
+rule_of (Get client name s f) = rule_by_mode client name reads (refusals.Object ∷ refusals.Field ∷ [])
+rule_of (Begin client name) = rule_by_mode client name writes (refusals.Deep ∷ refusals.Logs ∷ [])
+rule_of (Commit client name) = rule_of_own client name 0 []
+rule_of (Abort client name) = rule_of_own client name 0 []
+rule_of (New client name t) = rule_of_own client name NEW_UNITS (refusals.NoType ∷ refusals.TooBig ∷ refusals.Full ∷ refusals.Space ∷ [])
+rule_of (Set client name s f x) = rule_of_own client name SET_UNITS (refusals.Object ∷ refusals.Field ∷ refusals.Kind ∷ refusals.TooBig ∷ [])
+rule_of (Later client name s f x) = rule_of_own client name SET_UNITS (refusals.Object ∷ refusals.Field ∷ refusals.Kind ∷ refusals.TooBig ∷ [])
+rule_of (Root client name s) = rule_of_own client name SET_UNITS (refusals.Object ∷ refusals.TooBig ∷ [])
+rule_of (Free client name s) = rule_of_own client name SET_UNITS (refusals.Object ∷ refusals.Held ∷ refusals.TooBig ∷ [])
+rule_of (Dump client name) = rule_by_mode client name reads (refusals.Memory ∷ [])
+rule_of (Export client name file) = rule_by_mode client name reads (refusals.OpenHere ∷ refusals.Memory ∷ [])
+rule_of Pools = rule_of_none []
+rule_of (Cut pick) = rule_of_none []
+rule_of (Arm step pick) = rule_of_none []
+
+-- the refusals that a command may meet, in the order in which they are tested
+abbrev pub causes : Command → List Refusal
+causes c = (rule_of c).causes
+
+-- the client that a command names
+abbrev pub client_of : Command → Option ℕ
+client_of c = (rule_of c).client
+
+-- the name of the pool that a command names
+abbrev pub name_in : Command → Option (List ℕ)
+name_in c = (rule_of c).pool
+
+-- the command is allowed to who acts so, by the right that it needs
 abbrev pub is_allowed : Command → Option Owner → Option Pool → Bool
-is_allowed (Get client name s f) who pool = reads who pool
-is_allowed (Dump client name) who pool = reads who pool
-is_allowed (Export client name file) who pool = reads who pool
-is_allowed (Begin client name) who pool = writes who pool
-is_allowed c who pool = owns who pool
+is_allowed c = (rule_of c).right
+
+-- how many units a command uses
+abbrev pub charge : Command → ℕ
+charge c = (rule_of c).charge
+
+-- whether the client, where one is named, is present
+abbrev pub is_present : (ℕ → Option Owner) → Option ℕ → Bool
+is_present clients None = false
+is_present clients (Some client) = is_some (clients client)
+
+-- the owner as whom the client acts, where one is named that is present
+abbrev pub acting : (ℕ → Option Owner) → Option ℕ → Option Owner
+acting clients None = None
+acting clients (Some client) = clients client
+
+-- the pool of the name, where one is named and is there
+abbrev pub pool_by_name : StoredWorld → Option (List ℕ) → Option Pool
+pool_by_name s None = None
+pool_by_name s (Some name) = pool_named name s
 
 -- the graph of the pool, where there is one that is not wild
 abbrev pub graph_in : Option Pool → Option Graph
@@ -261,15 +280,6 @@ is_held_in s (Some g) = is_held s g
 abbrev pub frees_held : World → Command → Bool
 frees_held w (Free client name s) = is_held_in s (graph_for w (Free client name s)) || laters_name s (laters_of (open_for w (Free client name s)))
 frees_held w c = false
-
--- how many units a command uses
-abbrev pub charge : Command → ℕ
-charge (New client name t) = NEW_UNITS
-charge (Set client name s f x) = SET_UNITS
-charge (Later client name s f x) = SET_UNITS
-charge (Root client name s) = SET_UNITS
-charge (Free client name s) = SET_UNITS
-charge c = 0
 
 -- ---- room for one object more
 
