@@ -1,9 +1,8 @@
 -- Who holds an object, by what was read of each slot.
-use Rattle.std.proofs.Common.{◌≡◌, ℕ, Bool, true, false, not, ◌&&◌, ◌||◌, cond, eqb, nat_cmp, List, [], ◌∷◌, map, length, Option, Some, None, option_map, refl, sym, ap, ap₂, ◌∙◌}
-use Rattle.std.specs.List.{list_any, list_all, range_with_len}
+use Rattle.std.proofs.Common.{◌≡◌, ℕ, Bool, true, false, not, ◌&&◌, ◌||◌, cond, eqb, nat_cmp, List, [], ◌∷◌, map, length, Option, Some, None, refl, sym, ap, ap₂, ◌∙◌}
+use Rattle.std.specs.List.{list_any, list_all}
 use Rattle.std.proofs.lemmas.Bool.{and_parts}
 use Rattle.std.proofs.lemmas.Cmp.{nat_cmp_total}
-use Rattle.std.proofs.lemmas.List.Folds.{list_all-map}
 use Rattle.std.proofs.lemmas.Option.{cond_some, none-some}
 use Rattle.pud_defs.specs.Graph.{Content, Table, Object, Graph, stands, names_serial, named_by, value_of, contents_or_none, object_at, live, placed, headers_fit, is_graph, is_next_serial, is_sound_place, graph_of, graph_stored, has_graph, is_held, table_of, next_serial_of, root_of}
 use Rattle.pud_defs.specs.Keyed.{keyed, are_distinct}

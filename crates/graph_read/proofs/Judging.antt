@@ -2,7 +2,6 @@
 use Rattle.std.proofs.Common.{◌≡◌, ◌≢◌, ℕ, zero, suc, ◌+◌, ◌-◌, ◌<◌, ◌≤◌, Bool, true, false, not, ◌&&◌, ◌||◌, cond, eqb, ltb, nat_cmp, List, [], ◌∷◌, map, length, get_or, take, drop, slice_get, slice_index, Option, Some, None, is_some, option_map, eq-eqb, eqb-true, ne_eqb, inl, inr, refl, sym, ap, ap₂, ◌∙◌, arith, add-one, drop-cons}
 use Rattle.std.specs.List.{list_any}
 use Rattle.std.proofs.lemmas.Bool.{cases_eq}
-use Rattle.std.proofs.lemmas.Bool.Decides.{nat_tests}
 use Rattle.std.proofs.lemmas.Option.{slice_get-map, slice_get-get_or}
 use Rattle.std.proofs.lemmas.List.{length-map}
 use Rattle.pud_defs.proofs.DistinctKeys.{some_or, none_by_some, some_under, eqb_turned}

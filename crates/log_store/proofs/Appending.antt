@@ -17,7 +17,9 @@ use Rattle.pud_defs.specs.Entries.{Entry, IsLegalEntry, log_of, gate_word, spell
 use Rattle.pud_defs.proofs.Entries.{words_from-add, words_from-same, words_from-holds, entries_in-one_more}
 use Rattle.log_store.specs.Store.{OpenLog, longer, saying, InLog, IsOpen, entry_write, with_last, HasGrown, Appends}
 use Rattle.log_store.specs.declared.AppendFault.TheVariants.{Host}
-use Rattle.log_store.proofs.Open.{IsCounted, log_of-is, IsOpen-fits, IsOpen-words, IsOpen-log, IsOpen-log_by, IsOpen-kept_by, only_here, only_value}
+use Rattle.log_store.proofs.Open.{IsCounted, log_of-is, IsOpen-fits, IsOpen-words, IsOpen-log, IsOpen-log_by, IsOpen-kept_by, only_here}
+use Rattle.std.proofs.lemmas.Option.{same_Some}
+use Rattle.pm_model.proofs.OneWord.{value_of_only}
 
 -- the word behind those that count
 abbrev pub behind : OpenLog → ℕ
@@ -33,9 +35,6 @@ next_gate log e = gate_word log.lo log.hi (log.used + entry_size e)
 
 -- ---- which words are written
 
-is_some : (x v : ℕ) (o : Option ℕ) → o ≡ Some x → o ≡ Some v → x ≡ v
-is_some x v o is so = cc
-
 write_gate : (log : OpenLog) (e : Entry) (k : ℕ) → k ≡ log.at → entry_write log e k ≡ Some (next_gate log e)
 write_gate log e k is = rw (eq-eqb k log.at is) refl
 
@@ -50,7 +49,7 @@ entry_is_written log e k v is =
 pub gate_is_written : (log : OpenLog) (e : Entry) (k v : ℕ) → written (only log.at (next_gate log e)) k v → written (entry_write log e) k v
 gate_is_written log e k v is =
     let here = only_at log.at (next_gate log e) k v is in
-    let value = only_value log.at (next_gate log e) v (subst (λ (n : ℕ). only log.at (next_gate log e) n ≡ Some v) here is) in
+    let value = value_of_only log.at (next_gate log e) v (subst (λ (n : ℕ). only log.at (next_gate log e) n ≡ Some v) here is) in
     write_gate log e k here ∙ ap Some (sym value)
 
 -- only words of the log, and none that counts but the gate
@@ -84,7 +83,7 @@ Persists-both log e fault s t u first second =
           (Changes-wider (written (only log.at (next_gate log e))) (written (entry_write log e)) fault t u (gate_is_written log e) second.changes);
       durable = λ none k v is. elim (cases_eq k log.at) [
         | inl here ↦
-            let value = is_some v (next_gate log e) (entry_write log e k) is (write_gate log e k here) in
+            let value = same_Some v (next_gate log e) (sym is ∙ write_gate log e k here) in
             second.durable none k v (ap (only log.at (next_gate log e)) here ∙ only_here log.at (next_gate log e) ∙ ap Some (sym value))
         | inr apart ↦
             HasOnly-kept (written (only log.at (next_gate log e))) fault t u k v second.changes (λ x may. apart (only_at log.at (next_gate log e) k x may))
@@ -193,7 +192,7 @@ second_images log es e fault s t u legal within open_log first second =
         | inl same ↦
             inl (IsOpen-log_by log es t.now.words image still (same ∙ still.gate.each (half log.at) (picked.each log.at)) counted ∙ sym was)
         | inr new ↦
-            inr (log_of-grown log es e t.now.words image still legal within (only_value log.at g (image log.at) new) counted
+            inr (log_of-grown log es e t.now.words image still legal within (value_of_only log.at g (image log.at) new) counted
             (λ i h. other (behind log + i) (λ here. absurd (omega arith))
             ∙ (first.durable refl (behind log + i) (get_or (spelled e) i 0) (placed_at (behind log) i (behind log + i) (spelled e) refl h)).each (half (behind log + i)) (picked.each (behind log + i)))
             ∙ sym (ap (with_last e) was))

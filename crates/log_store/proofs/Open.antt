@@ -13,6 +13,7 @@ use Rattle.pud_defs.specs.Image.{Image}
 use Rattle.pud_defs.specs.Entries.{Entry, Log, log_of, gate_lo, gate_hi, gate_used, gate_word, entries_in, words_from, entries_of}
 use Rattle.pud_defs.proofs.Entries.{gate_lo-of, gate_hi-of, gate_used-of, is_legal_gate-of, words_from-same, words_from-none, entries_of-is, spells}
 use Rattle.log_store.specs.Store.{OpenLog, saying, InLog, IsOpen}
+use Rattle.pm_model.proofs.OneWord.{value_of_only}
 
 -- ---- one log, by its parts
 
@@ -109,12 +110,6 @@ IsOpen-kept may fault old new log es changes apart open_log =
 pub only_here : (w v : ℕ) → only w v w ≡ Some v
 only_here w v = rw (eq-eqb w w refl) refl
 
-is_some : (x v : ℕ) (o : Option ℕ) → o ≡ Some x → o ≡ Some v → x ≡ v
-is_some x v o is so = cc
-
-pub only_value : (w v x : ℕ) → only w v w ≡ Some x → x ≡ v
-only_value w v x e = is_some x v (only w v w) e (only_here w v)
-
 -- the gate of a running log alone makes it an open one without entries
 pub IsOpen-running : (at : ℕ) (old new : State) → Persists (only at RUNNING_GATE) None old new
     → IsOpen (record { at = at; lo = RUNNING_LO; hi = RUNNING_HI; used = 0 }) [] new.now.words
@@ -162,7 +157,7 @@ log_of-moving lo hi log es words before image lo_fits hi_fits open_log picked fr
       | inl same ↦ inl (IsOpen-log_by log es words image open_log (same ∙ open_log.gate.each (before log.at) (picked.each log.at)) counted)
       | inr new ↦ inr (log_of-is image (record log { lo = lo; hi = hi }) _ es
           (record { lo_fits = lo_fits; hi_fits = hi_fits; used_within = (IsOpen-fits log es words open_log).used_within })
-          (only_value log.at g (image log.at) new) (words_from-same image (reads words) (log.at + LOG_HEADER_WORDS) log.used counted) (IsOpen-words log es words open_log))
+          (value_of_only log.at g (image log.at) new) (words_from-same image (reads words) (log.at + LOG_HEADER_WORDS) log.used counted) (IsOpen-words log es words open_log))
     ]
 
 -- the gate of a closed log says the range (4,4) and no entry, whatever its other words hold

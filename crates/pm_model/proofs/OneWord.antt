@@ -13,7 +13,7 @@ pub record IsWith (w v : ℕ) (before image : Image) : Type 0 where
   pub there : image w ≡ v
   pub others : (k : ℕ) → (k ≡ w → ⊥) → image k ≡ before k
 
-value_of_only : (w v x : ℕ) → only w v w ≡ Some x → x ≡ v
+pub value_of_only : (w v x : ℕ) → only w v w ≡ Some x → x ≡ v
 value_of_only w v x e = let here : only w v w ≡ Some v = rw (eq-eqb w w refl) refl in cc
 
 -- while one word is written an image is as it was, or has the word's new value

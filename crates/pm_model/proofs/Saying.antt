@@ -1,13 +1,13 @@
--- How what is said composes: some bytes and then others, a fault that comes first, and calls that say nothing.
-use Rattle.std.proofs.Common.{◌≡◌, ℕ, ◌+◌, List, [], ◌∷◌, ◌++◌, length, take, Option, Some, None, refl, sym, ap, ◌∙◌, subst, arith, length-append}
+-- How what is said composes: some bytes and then others, a fault that comes first, calls that say nothing, and a file that stays.
+use Rattle.std.proofs.Common.{◌≡◌, ℕ, ◌+◌, List, [], ◌∷◌, ◌++◌, length, take, Option, Some, None, refl, sym, ap, ◌∙◌, subst, arith, length-append, Bool, true, false, cond}
 use Rattle.std.proofs.Math.Seq.{take-length, take-append-add}
 use Rattle.std.proofs.lemmas.List.{take-append-le}
 use Rattle.pm_model.specs.declared.host.HostFault.{HostFault}
-use Rattle.pm_model.specs.Moments.{State, one_said, all_said}
-use Rattle.pm_model.specs.Calls.{Says}
-
-some_is_not_none : (fault : HostFault) → Some fault ≡ None → ⊥
-some_is_not_none fault e = cc
+use Rattle.pm_model.specs.Moments.{State, one_said, all_said, Shelf, with_shelf}
+use Rattle.pm_model.specs.Calls.{Says, shelved, LeavesFile}
+use Rattle.std.proofs.lemmas.Option.{none-some}
+use Rattle.std.specs.Str.{bytes_eq}
+use Rattle.std.proofs.lemmas.Slice.Eq.{bytes_eq-Decides}
 
 all_said-append : (front rest : List ℕ) (s : State) → all_said (front ++ rest) s ≡ all_said rest (all_said front s)
 all_said-append [] rest s = refl
@@ -37,9 +37,21 @@ Says-front front rest fault old new p =
       count = p.count;
       within = omega (arith, length-append front rest);
       is = p.is ∙ ap (λ bytes. all_said bytes old) (sym (take-append-le p.count front rest p.within));
-      whole = λ none. absurd (some_is_not_none fault none);
+      whole = λ none. absurd (none-some fault (sym none));
     }
 
 -- calls in front leave the state as it was
 pub Says-behind : (bytes : List ℕ) (fault : Option HostFault) (a b c : State) → b ≡ a → Says bytes fault b c → Says bytes fault a c
 Says-behind bytes fault a b c e p = subst (λ (s : State). Says bytes fault s c) e p
+
+-- ---- a file that stays
+
+shelved_here : (b : Bool) (shelf : Shelf) (name other : List ℕ) → (b ≡ true → other ≡ name) → shelf other ≡ cond b (shelf name) (shelf other)
+shelved_here true shelf name other same = ap shelf (same refl)
+shelved_here false shelf name other same = refl
+
+shelved-same : (name : List ℕ) (shelf : Shelf) → shelf ≡ shelved name (shelf name) shelf
+shelved-same name shelf = λ i other. (shelved_here (bytes_eq other name) shelf name other (bytes_eq-Decides other name).0) i
+
+pub LeavesFile-same : (name : List ℕ) (old new : State) → new ≡ old → LeavesFile name old new
+LeavesFile-same name old new same = record { entry = old.shelf name; is = same ∙ ap (λ (shelf : Shelf). with_shelf shelf old) (shelved-same name old.shelf) }

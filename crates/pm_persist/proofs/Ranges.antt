@@ -2,7 +2,7 @@
 use Rattle.std.proofs.Common.{◌≡◌, inl, inr, ℕ, ◌+◌, ◌-◌, ◌/◌, ◌<◌, ◌≤◌, Bool, true, cond, leb, List, [], length, get_or, Option, Some, None, refl, sym, ap, subst, ◌∙◌, arith}
 use Rattle.std.proofs.lemmas.Bool.{cases_eq, eq-eqb, le-leb, lt-ltb}
 use Rattle.std.proofs.lemmas.Bool.Decides.{leb_tells, nat_tests}
-use Rattle.std.proofs.lemmas.Option.{slice_get-get_or, slice_get_within}
+use Rattle.std.proofs.lemmas.Option.{slice_get-get_or, slice_get_within, none-some}
 use Rattle.std.specs.List.{slice_get}
 use Rattle.pm_model.specs.declared.host.HostFault.{HostFault}
 use Rattle.pm_model.specs.declared.host.HostFault.TheVariants.{Cut}
@@ -14,18 +14,12 @@ use Rattle.pm_model.proofs.Words.{stored_newest, flushed_marked, only_at}
 use Rattle.pm_model.proofs.Changes.{Changes-still, Changes-store, Changes-flush, Changes-then, Changes-wider}
 use Rattle.pm_persist.specs.Ranges.{Nothing, zeroed, StoresBelow, FlushesLines}
 
-some_is_not_none : (fault : HostFault) → Some fault ≡ None → ⊥
-some_is_not_none fault e = cc
-
-none_is_not_some : {X : Type 0} (x : X) → None ≡ Some x → ⊥
-none_is_not_some x e = cc
-
 pub FlushesLines-start : (from : ℕ) (s t : State) → t ≡ s → FlushesLines from from None s t
 FlushesLines-start from s t same =
     record { changes = Changes-still Nothing None s t (λ e. cc) same; marked = λ e k low high. absurd (omega arith) }
 
 pub FlushesLines-failed : (from to : ℕ) (fault : HostFault) (s t : State) → Changes Nothing (Some fault) s t → FlushesLines from to (Some fault) s t
-FlushesLines-failed from to fault s t c = record { changes = c; marked = λ e. absurd (some_is_not_none fault e) }
+FlushesLines-failed from to fault s t c = record { changes = c; marked = λ e. absurd (none-some fault (sym e)) }
 
 pub FlushesLines-failed_step : (from at to : ℕ) (fault : HostFault) (s t u : State) → FlushesLines from at None s t → Steps (after_flush at) (Some fault) t u → FlushesLines from to (Some fault) s u
 FlushesLines-failed_step from at to fault s t u so_far step =
@@ -58,7 +52,7 @@ pub StoresBelow-failed : (write : Write) (at v below : ℕ) (fault : HostFault) 
     → StoresBelow write at None s t → Steps (after_store at v) (Some fault) t u → StoresBelow write below (Some fault) s u
 StoresBelow-failed write at v below fault s t u is so_far step =
     let one = Changes-wider (written (only at v)) (written write) (Some fault) t u (only_of write at v is) (Changes-store at v (Some fault) t u step) in
-    record { changes = Changes-then (written write) (Some fault) s t u so_far.changes one; newest = λ e. absurd (some_is_not_none fault e) }
+    record { changes = Changes-then (written write) (Some fault) s t u so_far.changes one; newest = λ e. absurd (none-some fault (sym e)) }
 
 -- one word more
 pub StoresBelow-more : (write : Write) (at v : ℕ) (s t u : State) → write at ≡ Some v
@@ -87,7 +81,7 @@ Writes-flushed write below from to fault s t u under lines stores flushes =
     record {
       changes = Changes-then (written write) fault s t u stores.changes (Changes-wider Nothing (written write) fault t u (λ k v none. absurd none) flushes.changes);
       newest = λ e k v is.
-          (flushes.changes.keeps (λ cut. let no : None ≡ Some Cut = sym e ∙ cut in none_is_not_some Cut no) k (λ x none. none)).newest ∙ stores.newest refl k v (under k v is) is;
+          (flushes.changes.keeps (λ cut. let no : None ≡ Some Cut = sym e ∙ cut in none-some Cut no) k (λ x none. none)).newest ∙ stores.newest refl k v (under k v is) is;
       marked = λ e k v is. flushes.marked e k (lines k v is).0 (lines k v is).1;
     }
 
@@ -103,7 +97,7 @@ placed_within w k v vals is = elim (leb_tells w k) [
   | inl low ↦
       let inside = slice_get_within vals (k - w) v (sym (ap (λ (b : Bool). cond b (slice_get vals (k - w)) None) low.0) ∙ is) in
       (low.1, omega arith)
-  | inr high ↦ absurd (none_is_not_some v (sym (ap (λ (b : Bool). cond b (slice_get vals (k - w)) None) high.0) ∙ is))
+  | inr high ↦ absurd (none-some v (sym (ap (λ (b : Bool). cond b (slice_get vals (k - w)) None) high.0) ∙ is))
 ]
 
 pub zeroed_at : (w n k : ℕ) → w ≤ k → k < w + n → zeroed w n k ≡ Some 0

@@ -3,7 +3,7 @@ use Rattle.std.proofs.Common.{◌≡◌, ℕ, zero, suc, ◌+◌, ◌<◌, ◌�
 use Rattle.std.specs.Prelude.{All, option_map, nat_le}
 use Rattle.std.specs.List.{list_all, list_any}
 use Rattle.std.specs.Option.{option_or}
-use Rattle.std.proofs.lemmas.Bool.{and_parts, cond-true, cond-false}
+use Rattle.std.proofs.lemmas.Bool.{and_parts, cond-true, cond-false, or_parts}
 use Rattle.std.proofs.lemmas.Option.{none-some}
 use Rattle.std.proofs.lemmas.List.Elements.{All-nil, All-cons}
 use Rattle.pud_defs.specs.declared.layout.TheConstants.{FRAME_WORDS}
@@ -37,20 +37,16 @@ accepted_not_refused t (Some who) log accepted = ap not accepted
 
 -- ---- a log none of whose entries counts
 
-neither : (a b : Bool) → (a || b) ≡ false → (a ≡ false) × (b ≡ false)
-neither true b fails = absurd (let it : true ≡ false = fails in cc)
-neither false b fails = (refl, fails)
-
 undone-none_counts : (place : Place) (log : Log) (es : List Entry) (w : ℕ) → list_any (is_in_range log) es ≡ false → undone place log es w ≡ None
 undone-none_counts place log [] w none = undone-none place log w
 undone-none_counts place log (e ∷ es) w none =
-    let parts = neither (is_in_range log e) (list_any (is_in_range log) es) none in
+    let parts = or_parts (is_in_range log e) (list_any (is_in_range log) es) none in
     undone-first place log e es w ∙ ap₂ option_or (given_by-out place log _ e w parts.0) (undone-none_counts place log es w parts.1)
 
 redone-none_counts : (place : Place) (log : Log) (es : List Entry) (w : ℕ) → list_any (is_in_range log) es ≡ false → redone place log es w ≡ None
 redone-none_counts place log [] w none = redone-none place log w
 redone-none_counts place log (e ∷ es) w none =
-    let parts = neither (is_in_range log e) (list_any (is_in_range log) es) none in
+    let parts = or_parts (is_in_range log e) (list_any (is_in_range log) es) none in
     redone-first place log e es w ∙ ap₂ option_or (redone-none_counts place log es w parts.1) (given_by-out place log _ e w parts.0)
 
 -- it gives no word a value

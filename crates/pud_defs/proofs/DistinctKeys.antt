@@ -1,5 +1,5 @@
 -- Puddles told apart by one number each: one test serves all pools, and the marks of a pool's ordinals tell whether they are counted.
-use Rattle.std.proofs.Common.{◌≡◌, inl, inr, ℕ, zero, suc, ◌+◌, ◌-◌, ◌%◌, ◌^◌, ◌<◌, ◌≤◌, Bool, true, false, not, ◌&&◌, ◌||◌, cond, leb, ltb, eqb, T, List, [], ◌∷◌, map, length, Option, Some, None, is_some, is_none, refl, sym, ap, ap₂, ◌∙◌, arith, eq-eqb, ne_eqb, true≢false}
+use Rattle.std.proofs.Common.{◌≡◌, inl, inr, ℕ, zero, suc, ◌+◌, ◌-◌, ◌%◌, ◌^◌, ◌<◌, ◌≤◌, Bool, true, false, not, ◌&&◌, ◌||◌, cond, leb, ltb, eqb, List, [], ◌∷◌, map, length, Option, Some, None, is_some, is_none, refl, sym, ap, ap₂, ◌∙◌, arith, eq-eqb, ne_eqb, true≢false}
 use Rattle.std.specs.Prelude.{option_map}
 use Rattle.std.specs.Option.{option_or}
 use Rattle.std.specs.Ordering.{nat_cmp, eq_by_cmp, is_lt}
@@ -25,6 +25,7 @@ use Rattle.pud_defs.proofs.Spaces.{all_below-from, all_below-each}
 use Rattle.pud_defs.proofs.Keyed.{find-keyed, is_sorted-keyed}
 use Rattle.pud_defs.proofs.TablesOf.{puddles_beyond}
 use Rattle.std.proofs.Math.Bool.{or-false}
+use Rattle.pud_defs.proofs.TypeLists.{true_when}
 
 -- ---- tests
 
@@ -197,10 +198,6 @@ found_ordinal t number slot k p h =
 
 -- ---- counted ordinals
 
-T_true : (b : Bool) → T b → b ≡ true
-T_true true h = refl
-T_true false h = absurd h
-
 no_less : (b : Bool) → is_lt (cond b Equal Greater) ≡ false
 no_less true = refl
 no_less false = refl
@@ -343,7 +340,7 @@ unfolding puddles_of
 counted_by_marks t slot mark keys =
     let es = keyed nat_cmp (members t slot) 0 t.frames in
     let same : (k : ℕ) → is_some (find nat_cmp k es) ≡ is_some (first_from nat_cmp k (members t slot) 0 t.frames) = λ k. ap is_some (find-keyed nat_cmp nat_cmp_total k (members t slot) 0 t.frames) in
-    counted_by_keys {X = ℕ × Puddle} mark es (T_true (is_sorted nat_cmp es) (is_sorted-keyed nat_cmp nat_cmp_total (members t slot) 0 t.frames))
+    counted_by_keys {X = ℕ × Puddle} mark es (true_when (is_sorted nat_cmp es) (is_sorted-keyed nat_cmp nat_cmp_total (members t slot) 0 t.frames))
     (record { same = λ k below. same k ∙ keys.same k below; none = λ k high. same k ∙ keys.none k high })
 
 -- ---- legal records

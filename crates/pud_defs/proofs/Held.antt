@@ -24,6 +24,7 @@ use Rattle.pud_defs.proofs.Keyed.{keyed-same}
 use Rattle.pud_defs.proofs.KeyedEach.{each-keyed, each-weaker}
 use Rattle.pud_defs.proofs.KeyedMaps.{of_entry, keyed-mapped}
 use Rattle.pud_defs.proofs.TypeMore.{held_by-more, held_by-settled}
+use Rattle.pud_defs.proofs.TablesOf.{frames_of_tables}
 
 -- ---- where the puddles of a pool stand
 
@@ -94,10 +95,6 @@ unfolding pools_of
 pools_of-same hold other t same =
     keyed-same name_cmp (entries hold t) (entries other t) 0 POOL_RECORDS (λ slot low high. entry_same hold other (puddles_of t slot) (t.pools slot) (same slot (omega arith)))
 
-pub frames_are : (F : ℕ) (image : Image) → (tables_of F image).frames ≡ F
-unfolding tables_of
-frames_are F image = refl
-
 -- each frame that has a puddle stays
 pub pools_of-held : (types : List (ℕ × ℕ)) (F : ℕ) (i j : Image) (t : Tables) → ((frame : ℕ) → frame < t.frames → is_some (t.puddles frame) ≡ true → HasSameFrame F i j frame)
     → pools_of (holding_in types F j) t ≡ pools_of (holding_in types F i) t
@@ -110,7 +107,7 @@ pools_of-held types F i j t same =
 pub pools_in-same : (types : List (ℕ × ℕ)) (F : ℕ) (i j : Image) → tables_of F j ≡ tables_of F i
     → ((frame : ℕ) → frame < F → is_some ((tables_of F i).puddles frame) ≡ true → HasSameFrame F i j frame) → pools_in types F j ≡ pools_in types F i
 pools_in-same types F i j tables same =
-    ap (pools_of (holding_in types F j)) tables ∙ pools_of-held types F i j (tables_of F i) (λ frame below used. same frame (omega (arith, frames_are F i)) used)
+    ap (pools_of (holding_in types F j)) tables ∙ pools_of-held types F i j (tables_of F i) (λ frame below used. same frame (omega (arith, frames_of_tables F i)) used)
 
 -- ---- one type more
 

@@ -23,16 +23,13 @@ use Rattle.pud_defs.proofs.Parts.{HoldsWorld, HoldsWorld-same, holds_standing, s
 use Rattle.pud_defs.proofs.Parts.Part.{Spaces}
 use Rattle.pud_defs.proofs.Worlds.{legal_log_of_world, frames_of_world, holding_of_world, world_of_holding}
 use Rattle.pud_defs.proofs.IdleWorlds.{standing_of_idle_world, idle_world_of_standing, legal_log_of_idle_world, frames_of_idle_world}
+use Rattle.pud_defs.proofs.Keyed.{some_there}
 
 -- ---- a closed log
 
 -- a closed log has no entry in its range
-closed_gate : (v : ℕ) → is_closed_range v ≡ true → gate_hi v ≤ gate_lo v + 1
+pub closed_gate : (v : ℕ) → is_closed_range v ≡ true → gate_hi v ≤ gate_lo v + 1
 closed_gate v closed = let same = eqb-true _ _ (and_parts (eqb (gate_lo v) (gate_hi v)) _ closed).0 in omega arith
-
-entries_there : (o : Option (List Entry)) → is_some o ≡ true → (es : List Entry) × (o ≡ Some es)
-entries_there None e = absurd (let it : false ≡ true = e in cc)
-entries_there (Some es) e = (es, refl)
 
 none_counts : (t : Tables) (who : Owner) (log : Log) (es : List Entry) → log.hi ≤ log.lo + 1 → list_all (λ e. not (is_in_range log e) || is_allowed_entry t who e) es ≡ true
 none_counts t who log [] closed = refl
@@ -43,7 +40,7 @@ pub closed_is_allowed : (t : Tables) (who : Owner) (image : Image) (at : ℕ) �
 unfolding is_allowed_log
 closed_is_allowed t who image at closed =
     let parts = and_parts (is_closed_range (image at)) (is_some (entries_of image at)) closed in
-    let es = entries_there (entries_of image at) parts.1 in
+    let es = some_there (entries_of image at) parts.1 in
     ap (are_allowed_entries t who (log_of image at)) es.1 ∙ none_counts t who (log_of image at) es.0 (closed_gate (image at) parts.0)
 
 -- ---- by whether there is an owner

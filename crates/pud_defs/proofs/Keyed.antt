@@ -17,6 +17,14 @@ pub none_when : {A : Type 0} (o : Option A) → is_none o ≡ true → o ≡ Non
 none_when None e = refl
 none_when (Some x) e = cc
 
+pub some_there : {A : Type 0} (o : Option A) → is_some o ≡ true → (x : A) × (o ≡ Some x)
+some_there None e = cc
+some_there (Some x) e = (x, refl)
+
+pub option_or-none : {A : Type 0} (o : Option A) → option_or o None ≡ o
+option_or-none None = refl
+option_or-none (Some x) = refl
+
 -- what is mapped to a value
 pub record IsMapped {A B : Type 0} (g : A → B) (o : Option A) (y : B) : Type 0 where
   pub value : A

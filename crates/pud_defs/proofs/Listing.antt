@@ -19,7 +19,7 @@ use Rattle.pud_defs.specs.Run.{newlines}
 use Rattle.pud_defs.specs.Texts.{in_one_line, reply_text}
 use Rattle.pud_defs.specs.Listing.{name_text, octal_digit, mode_text, space, colon, described, pool_text, pools_text}
 use Rattle.pud_defs.proofs.Lines.{newlines-append, newlines_one, newlines_other}
-use Rattle.pud_defs.proofs.Said.{newlines-reply_text}
+use Rattle.pud_defs.proofs.Said.{newlines-reply_text, glyph_is_no_newline}
 use Rattle.pud_defs.proofs.KeyedEach.{each-keyed}
 use Rattle.pud_defs.proofs.PoolsChanged.{same_name, entry_of}
 use Rattle.pud_defs.proofs.SoundChanged.{legal_pool}
@@ -100,14 +100,10 @@ octal_byte n e = omega arith
 of_mode : (mode : ℕ) → HasNoNewline (mode_text mode)
 of_mode mode = behind_byte _ _ (octal_byte (mode / 64)) (behind_byte _ _ (octal_byte (mode / 8)) (behind_byte _ _ (octal_byte mode) nothing))
 
-hex_byte : (d : ℕ) (small : Bool) → cond small (48 + d) (87 + d) ≡ 10 → ⊥
-hex_byte d true e = omega arith
-hex_byte d false e = omega arith
-
 of_hex_digits : (count low u : ℕ) → HasNoNewline (hex_digits count low u)
 unfolding hex_digits
 of_hex_digits zero low u = nothing
-of_hex_digits (suc n) low u = let d = u / 16 ^ (low + n) % 16 in behind_byte (hex_digit d) (hex_digits n low u) (hex_byte d (ltb d 10)) (of_hex_digits n low u)
+of_hex_digits (suc n) low u = let d = u / 16 ^ (low + n) % 16 in behind_byte (hex_digit d) (hex_digits n low u) (glyph_is_no_newline d (ltb d 10)) (of_hex_digits n low u)
 
 behind_hyphen : (front rest : List ℕ) → HasNoNewline front → HasNoNewline rest → HasNoNewline (front ++ hyphen ∷ rest)
 behind_hyphen front rest h k = joined front (hyphen ∷ rest) h (behind_byte hyphen rest (λ e. absurd (omega arith)) k)

@@ -17,7 +17,7 @@ newlines-cons b bytes other = omega (arith, newlines-append (b ∷ []) bytes, ne
 
 -- ---- decimal digits have none
 
-glyph_is_no_newline : (d : ℕ) (small : Bool) → cond small (48 + d) (87 + d) ≡ 10 → ⊥
+pub glyph_is_no_newline : (d : ℕ) (small : Bool) → cond small (48 + d) (87 + d) ≡ 10 → ⊥
 glyph_is_no_newline d true e = omega arith
 glyph_is_no_newline d false e = omega arith
 

@@ -16,7 +16,7 @@ use Rattle.pud_defs.specs.Settled.{gives_to, ALL_LOGS, client_of_log, log_number
 use Rattle.pud_defs.proofs.Keyed.{or_none}
 use Rattle.pud_defs.proofs.Spaces.{log_of-within}
 use Rattle.pud_defs.proofs.Replay.{value_at-apart, new_value-closed, new_value-nowhere, overwritten-nothing}
-use Rattle.pud_defs.proofs.Held.{frames_are}
+use Rattle.pud_defs.proofs.TablesOf.{frames_of_tables}
 
 -- ---- what one log gives
 
@@ -124,7 +124,7 @@ settled_over-own F image w outside none =
 pub settled_over-below : (F : ℕ) (image : Image) (w : ℕ) → w < tables_end F → settled_over F image w ≡ image w
 settled_over-below F image w below =
     settled_over-own F image w (and_left (leb (tables_end F) w) (ltb w (frames_at F)) (lt-leb (tables_end F) w below))
-    (λ number known. gives_to-below (tables_of F image) (owner_of image (client_of_log number)) (log_of image (log_number_at F number)) w (omega (arith, frames_are F image)))
+    (λ number known. gives_to-below (tables_of F image) (owner_of image (client_of_log number)) (log_of image (log_number_at F number)) w (omega (arith, frames_of_tables F image)))
 
 -- ---- one log and the others
 

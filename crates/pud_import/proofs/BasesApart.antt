@@ -1,7 +1,6 @@
 -- Bases, told apart from the front.
 use Rattle.std.proofs.Common.{◌≡◌, ℕ, zero, suc, ◌+◌, ◌-◌, ◌<◌, Bool, true, false, not, eqb, List, map, length, get_or, take, drop, Option, Some, is_some, option_map, nat_cmp, sym, ap, ap₂, ◌∙◌, ◌&&◌, ◌||◌, arith, add-one, drop-cons}
 use Rattle.std.specs.List.{list_all, list_any}
-use Rattle.std.proofs.lemmas.Bool.Decides.{nat_tests}
 use Rattle.std.proofs.lemmas.List.{take_all, drop_all, length-drop, length-map}
 use Rattle.std.proofs.lemmas.List.Folds.{list_all-map}
 use Rattle.std.proofs.lemmas.Option.{slice_get-map, slice_get-get_or}

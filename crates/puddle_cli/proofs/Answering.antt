@@ -1,6 +1,6 @@
 -- A script is answered line by line.
 use Rattle.std.proofs.Common.{◌≡◌, ℕ, zero, suc, ◌+◌, ◌<◌, ◌≤◌, Bool, true, false, List, [], ◌∷◌, ◌++◌, length, map, take, Option, Some, None, Result, Err, inl, inr, ⊎_elim, refl, sym, ap, subst, ◌∙◌, arith, append_assoc, length-append}
-use Rattle.std.proofs.lemmas.List.{append-nil, map-append}
+use Rattle.std.proofs.lemmas.List.{append-nil, map-append, nil_from_length}
 use Rattle.pm_model.specs.declared.host.HostFault.{HostFault}
 use Rattle.pm_model.specs.declared.host.HostFault.TheVariants as hosts
 use Rattle.pm_model.specs.Counts.{Counts, after_fault}
@@ -39,10 +39,6 @@ pub nothing_from_take : (line : List ℕ) → take 129 line ≡ [] → line ≡ 
 nothing_from_take [] e = refl
 nothing_from_take (b ∷ line) e = absurd (cc)
 
-pub nothing_long : (line : List ℕ) → length line ≡ 0 → line ≡ []
-nothing_long [] e = refl
-nothing_long (b ∷ line) e = absurd (omega arith)
-
 kept_shorter : (n : ℕ) (xs : List ℕ) (byte : ℕ) → take n (take n xs ++ byte ∷ []) ≡ take n (xs ++ byte ∷ [])
 kept_shorter zero xs byte = refl
 kept_shorter (suc n) [] byte = refl
@@ -79,7 +75,7 @@ AnswersLine-turn size w memory piece line result before after old new some kept 
     let same : command_of piece ≡ command_of line = ap command_of kept ∙ command_of-front line in
     let counts : CountsLine (command_of line) (run_fault result) (cuts_of (t ∷ [])) before after =
     subst (λ (c : Option Command). CountsLine c (run_fault result) (cuts_of (t ∷ [])) before after) same a.counted in
-    let longer : length line ≡ 0 → ⊥ = λ none. some (kept ∙ ap (λ (l : List ℕ). take 129 l) (nothing_long line none)) in
+    let longer : length line ≡ 0 → ⊥ = λ none. some (kept ∙ ap (λ (l : List ℕ). take 129 l) (nil_from_length line none)) in
     record {
       turns = t ∷ [];
       few = omega arith;

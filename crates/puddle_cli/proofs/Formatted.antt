@@ -1,6 +1,6 @@
 -- A device is formatted, and it is said.
-use Rattle.std.proofs.Common.{◌≡◌, ◌≢◌, ◌⊎◌, inl, inr, ⊎_elim, ℕ, ◌≤◌, Bool, true, false, ◌||◌, ltb, List, [], ◌++◌, Option, Some, None, refl, sym, ap, subst, ◌∙◌, arith}
-use Rattle.std.proofs.lemmas.Bool.{eqb-false}
+use Rattle.std.proofs.Common.{◌≡◌, ◌≢◌, ◌⊎◌, inl, inr, ⊎_elim, ℕ, ◌≤◌, true, false, ltb, List, [], ◌++◌, Option, Some, None, refl, sym, ap, subst, ◌∙◌, arith}
+use Rattle.std.proofs.lemmas.Bool.{eqb-false, or_parts}
 use Rattle.std.proofs.lemmas.List.{append-nil}
 use Rattle.pm_model.specs.declared.host.HostFault.{HostFault}
 use Rattle.pm_model.specs.declared.host.HostFault.TheVariants.{Cut}
@@ -29,10 +29,6 @@ IsBlankOrNone size F id said image = (world_of size image ≡ None) ⊎ (world_o
 -- nothing was said, or the image stands for the empty world
 abbrev IsBlankOrUnsaid : (size F id : ℕ) → List ℕ → Image → Type 0
 IsBlankOrUnsaid size F id said image = (said ≡ []) ⊎ (world_of size image ≡ Some (blank_world F id))
-
-neither : (a b : Bool) → (a || b) ≡ false → (a ≡ false) × (b ≡ false)
-neither true b e = absurd (let no : true ≡ false = e in cc)
-neither false b e = (refl, e)
 
 pub no_magic_when_rested : (words : Words) → IsRested words → has_magic (reads words) ≡ false → HasNoMagic words
 no_magic_when_rested words rested without =
@@ -140,4 +136,4 @@ Formats-none size F id fault old new same =
 
 -- what it says that formatting is not refused
 pub not_refused : (size F : ℕ) (image : Image) → is_refused size F image ≡ false → has_magic image ≡ false
-not_refused size F image e = (neither (ltb size (device_words F)) (has_magic image) e).1
+not_refused size F image e = (or_parts (ltb size (device_words F)) (has_magic image) e).1

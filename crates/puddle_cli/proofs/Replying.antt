@@ -2,7 +2,7 @@
 use Rattle.std.proofs.Common.{◌≡◌, ℕ, zero, suc, ◌+◌, Bool, true, false, List, [], ◌∷◌, ◌++◌, length, take, Option, Some, None, Result, inl, inr, refl, sym, ap, subst, ◌∙◌, arith, append_assoc, length-append}
 use Rattle.std.specs.Prelude.{All}
 use Rattle.std.specs.List.{concat}
-use Rattle.std.proofs.lemmas.List.{append-nil}
+use Rattle.std.proofs.lemmas.List.{append-nil, nil_from_length}
 use Rattle.std.proofs.lemmas.List.Elements.{All-append}
 use Rattle.std.proofs.lemmas.List.Folds.{concat-append}
 use Rattle.pm_model.specs.Words.{reads}
@@ -19,7 +19,7 @@ use Rattle.puddled.specs.Daemon.{IsAnswerText, SaysAnswer}
 use Rattle.puddled.proofs.Lines.{is_answer_text}
 use Rattle.puddle_cli.specs.Status.{run_fault_at}
 use Rattle.puddle_cli.specs.Replying.{HearsLine, Hears, IsReplied, Heard, RunSays}
-use Rattle.puddle_cli.proofs.Answering.{nothing_from_take, nothing_long, kept_more}
+use Rattle.puddle_cli.proofs.Answering.{nothing_from_take, kept_more}
 
 no_answer : All IsAnswerText []
 no_answer k d below = absurd (omega arith)
@@ -34,7 +34,7 @@ pub HearsLine-turn : (frames : ℕ) (piece line : List ℕ) (result : Result Boo
     → HearsLine line (run_fault result) old new
 HearsLine-turn frames piece line result old new some kept says script =
     let text = says.text in
-    let longer : length line ≡ 0 → ⊥ = λ none. some (kept ∙ ap (λ (l : List ℕ). take 129 l) (nothing_long line none)) in
+    let longer : length line ≡ 0 → ⊥ = λ none. some (kept ∙ ap (λ (l : List ℕ). take 129 l) (nil_from_length line none)) in
     record {
       texts = text ∷ [];
       few = omega arith;

@@ -1,7 +1,7 @@
 -- Lines that read a pool whole: why they are refused, and what they owe.
 use Rattle.std.proofs.Common.{◌≡◌, inl, inr, ℕ, ◌*◌, true, cond, List, ◌++◌, length, codes, Option, Some, None, is_none, option_map, Result, Ok, Err, refl, sym, ap, subst, ◌∙◌}
 use Rattle.std.specs.Prelude.{IfOk, bytes_eq}
-use Rattle.std.proofs.lemmas.Bool.{cases_Bool, cond-true, cond-false}
+use Rattle.std.proofs.lemmas.Bool.{cases_Bool, cond-false}
 use Rattle.std.proofs.lemmas.Slice.Eq.{bytes_eq-Decides}
 use Rattle.std.specs.Option.{option_or}
 use Rattle.pm_model.specs.declared.host.HostFault.{HostFault}
@@ -9,7 +9,7 @@ use Rattle.pm_model.specs.declared.host.FileFault.{FileFault}
 use Rattle.pm_model.specs.declared.host.HostFault.TheVariants as hosts
 use Rattle.pm_model.specs.Counts.{Counts, after_fault, fault_of}
 use Rattle.pm_model.specs.Moments.{State, Shelf, with_shelf}
-use Rattle.pm_model.specs.Calls.{shelved, LeavesFile}
+use Rattle.pm_model.specs.Calls.{shelved}
 use Rattle.pm_model.specs.Changes.{Leaves, Silently}
 use Rattle.pm_model.proofs.Leaves.{Leaves-still}
 use Rattle.pm_model.proofs.Changes.{Changes-still}
@@ -298,16 +298,6 @@ pub dump_failed : (fault : DumpFault) (host : HostFault) (first mid last : Count
 dump_failed fault host first mid last is cause same = cause ∙ (λ p. after_fault (dump_fault (is p)) (same p))
 
 -- ---- a file that is written
-
--- none was
-pub LeavesFile-still : (file : List ℕ) (old new : State) → new ≡ old → LeavesFile file old new
-LeavesFile-still file old new same = record { entry = old.shelf file; is = same ∙ ap (λ (s : Shelf). with_shelf s old) (λ i name. sym (itself name) i) }
-  where
-    itself : (name : List ℕ) → shelved file (old.shelf file) old.shelf name ≡ old.shelf name
-    itself name = elim (cases_Bool (bytes_eq name file)) [
-      | inl same ↦ cond-true (bytes_eq name file) (old.shelf file) (old.shelf name) same ∙ ap old.shelf (sym ((bytes_eq-Decides name file).0 same))
-      | inr apart ↦ cond-false (bytes_eq name file) (old.shelf file) (old.shelf name) apart
-    ]
 
 -- the bytes of a pool were put into it
 pub HoldsPool-put : (result : Result (Unit {0}) FileFault) (F number : ℕ) (puddles : List (ℕ × Puddle)) (g : Graph) (image : Image) (file bytes slice : List ℕ) (old mid new : State) → slice ≡ bytes → mid ≡ old

@@ -19,10 +19,10 @@ use Rattle.pud_defs.specs.Spaces.{Owner, owner}
 use Rattle.pud_defs.specs.Names.{name_cmp}
 use Rattle.pud_defs.specs.Rights.{may_read, may_write}
 use Rattle.pud_defs.specs.Types.{types_of}
-use Rattle.pud_defs.specs.Stored.{Stored, stored_in}
+use Rattle.pud_defs.specs.Stored.{stored_in}
 use Rattle.pud_defs.specs.Graph.{Graph, graph_of}
 use Rattle.pud_defs.specs.Exported.{IsExportable}
-use Rattle.pud_defs.specs.Holdings.{held_as, graph_held, holding_in}
+use Rattle.pud_defs.specs.Holdings.{holding_in}
 use Rattle.pud_defs.specs.SoundTables.{is_sound_pool, HasSoundTables}
 use Rattle.pud_defs.specs.Tables.{Tables, Pool, Reader, tables_of, records_of, pool_in, puddles_of, puddles_in_turn, listed, pool_of}
 use Rattle.pud_defs.specs.PoolChanges.{pool_named}
@@ -61,6 +61,7 @@ use Rattle.puddled.specs.Files.{IsStoredPool}
 use Rattle.puddled.specs.Finding.{needs_graph, lacks_graph, has_right, right_by, need_refusal, refusal_to, beside, holder_found, IsRecordOf, IsFound}
 use Rattle.puddled.specs.Reading.{HoldsGraph}
 use Rattle.pud_defs.proofs.DistinctKeys.{none_by_some}
+use Rattle.ready_daemon.proofs.GraphLonger.{graph_as}
 
 -- ---- puddles that are judged as they were read
 
@@ -173,10 +174,6 @@ may_write_by (Some who) (Some pool) client opened none =
 
 -- ---- what a pool that was found holds
 
-graph_held-as : (st : Stored) (g : Option Graph) → graph_held (held_as st g) ≡ g
-graph_held-as st None = refl
-graph_held-as st (Some g) = refl
-
 module _ (size : ℕ) (w : World) (memory : Memory) (s : State) (ready : IsReady size w memory s) (client : ℕ) (name : List ℕ) where
   abbrev image : Image
   image = reads s.now.words
@@ -283,7 +280,7 @@ module _ (size : ℕ) (w : World) (memory : Memory) (s : State) (ready : IsReady
       unfolding pool_of
       graph_read =
           ap graph_in named
-          ∙ graph_held-as (stored_in F (listed (puddles_of t slot)) under) (graph_of w.stored.types (stored_in F (listed (puddles_of t slot)) under))
+          ∙ graph_as (stored_in F (listed (puddles_of t slot)) under) (graph_of w.stored.types (stored_in F (listed (puddles_of t slot)) under))
           ∙ ap₂ (λ types at. graph_of types (stored_in F at under)) (sym (types_read size w memory s ready).types) (sym puddles_are)
           ∙ ap (graph_of (types_of image)) stored_read
 

@@ -37,9 +37,7 @@ use Rattle.puddled.specs.Daemon.{KeepsAllBut, KeepsLine, Settles, spoken, IsAnsw
 use Rattle.puddled.proofs.Listed.{said_when_ready}
 use Rattle.puddled.proofs.Settling.{Between}
 use Rattle.pud_defs.proofs.Changing.{KeepsFiles-still, KeepsFiles-then}
-
-some_is_not_none : (fault : HostFault) → Some fault ≡ None → ⊥
-some_is_not_none fault e = cc
+use Rattle.std.proofs.lemmas.Option.{none-some}
 
 -- bytes that were said are the front of the text, and all of it without a fault
 pub SaysPart-says : (text : List ℕ) (fault : Option HostFault) (old new : State) → Says text fault old new → SaysPart text fault old new
@@ -54,7 +52,7 @@ SaysPart-says text fault old new s =
 
 pub SaysPart-nothing : (text : List ℕ) (fault : HostFault) (old new : State) → new.now.said ≡ old.now.said → SaysPart text (Some fault) old new
 SaysPart-nothing text fault old new quiet =
-    record { bytes = []; rest = text; part = refl; said = quiet ∙ sym (append-nil old.now.said); whole = λ none. absurd (some_is_not_none fault none) }
+    record { bytes = []; rest = text; part = refl; said = quiet ∙ sym (append-nil old.now.said); whole = λ none. absurd (none-some fault (sym none)) }
 
 -- without a fault all of it was said
 pub said_all : (text : List ℕ) (old new : State) → Says text None old new → new.now.said ≡ old.now.said ++ text

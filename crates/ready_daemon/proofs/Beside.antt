@@ -3,7 +3,6 @@ use Rattle.std.proofs.Common.{◌≡◌, ◌≢◌, ◌⊎◌, inl, inr, ℕ, �
 use Rattle.std.proofs.lemmas.Bool.{and_from, le-leb, lt-ltb, or_left, or_right}
 use Rattle.std.proofs.lemmas.Option.{none-some, same_Some}
 use Rattle.pm_model.specs.declared.host.HostFault.{HostFault}
-use Rattle.pm_model.specs.declared.host.HostFault.TheVariants.{Cut}
 use Rattle.pm_model.specs.Words.{Has, Cell, values, Words, reads, Picks, HasOnly}
 use Rattle.pm_model.specs.Moments.{State}
 use Rattle.pm_model.specs.Changes.{Write, Footprint, Changes, Leaves, Silently}
@@ -43,6 +42,7 @@ use Rattle.ready_daemon.specs.Memory.{Held, Memory, held_under}
 use Rattle.ready_daemon.specs.Held.{pool_held, open_held, puddles_in, IsHeld, IsHeldUnder, Holds, HasSessions, HasDurableFrames, ByOthers, NamesNone, StaysSingle, KeepsHeld}
 use Rattle.ready_daemon.specs.KnownPools.{KnowsPools}
 use Rattle.ready_daemon.specs.Ready.{IsReady, RefusesNone, StandsBetween, AppliesMasked, Applies}
+use Rattle.batch.proofs.Tables.{reads_kept}
 
 -- ---- moments
 
@@ -151,9 +151,6 @@ module _ (w : World) (held : Held) (mask : Write) (words : Words) (is : IsHeld w
 
 -- ---- what is held stays
 
-pub kept_word : (may : Footprint) (old new : State) (k : ℕ) → Changes may None old new → ((v : ℕ) → may k v → ⊥) → reads new.now.words k ≡ reads old.now.words k
-kept_word may old new k c never = (c.keeps (λ cut. absurd (let no : None ≡ Some Cut = cut in cc)) k never).newest
-
 module _ (w next : World) (held : Held) (mask anew : Write) (old new : State) (is : IsHeld w held mask old.now.words) (keeps : KeepsOne w next held) (may : Footprint)
     (apart : IsApart w.stored.frames held (pool_held held is.rec is.who) may) (c : Changes may None old new)
     (masked_so : (k v : ℕ) → open_mask w.stored.frames (pool_held held is.rec is.who) is.before k ≡ Some v → anew k ≡ Some v) where
@@ -161,7 +158,7 @@ module _ (w next : World) (held : Held) (mask anew : Write) (old new : State) (i
   n = w.stored.frames
 
   stored_still : stored_in n held.at (reads new.now.words) ≡ stored_in n held.at (reads old.now.words)
-  stored_still = stored_in-mine n held.at (reads old.now.words) (reads new.now.words) (λ k mine. kept_word may old new k c (λ v wrote. apart.mine k v wrote mine))
+  stored_still = stored_in-mine n held.at (reads old.now.words) (reads new.now.words) (λ k mine. reads_kept may old new k c (λ v wrote. apart.mine k v wrote mine))
 
   pub still_running : IsOpenOn n held.at next.stored.types held.log is.before is.undone is.transaction.now is.transaction.laters new.now.words
   still_running =
@@ -202,7 +199,7 @@ module _ (w next : World) (held : Held) (mask anew : Write) (old new : State) (i
         stored = keeps.stored ∙ is.stored;
         count = keeps.puddles ∙ is.count;
         pool = subst (λ (m : ℕ). IsOpenPool m (pool_held held is.rec is.who) is.before) back is.pool;
-        records = λ k of. kept_word may old new k c (λ v wrote. apart.records k v wrote of) ∙ is.records k of;
+        records = λ k of. reads_kept may old new k c (λ v wrote. apart.records k v wrote of) ∙ is.records k of;
         running = subst (λ (m : ℕ). IsOpenOn m held.at next.stored.types held.log is.before is.undone is.transaction.now is.transaction.laters new.now.words) back still_running;
         masked = subst (λ (m : ℕ). (k v : ℕ) → open_mask m (pool_held held is.rec is.who) is.before k ≡ Some v → anew k ≡ Some v) back masked_so;
       }

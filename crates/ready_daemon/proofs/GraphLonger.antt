@@ -19,7 +19,7 @@ use Rattle.graph_read.specs.Reading.{place_in_pool}
 use Rattle.registry.proofs.Grown.{still_holds}
 use Rattle.hybrid_tx.proofs.LatersKept.{KeepsPlaces}
 
-graph_as : (st : Stored) (o : Option Graph) → graph_held (held_as st o) ≡ o
+pub graph_as : (st : Stored) (o : Option Graph) → graph_held (held_as st o) ≡ o
 graph_as st None = refl
 graph_as st (Some g) = refl
 

@@ -1,8 +1,7 @@
 -- Pools that have a graph keep it, and their puddles, where a pool is made, changed or dropped, and where another one grows.
-use Rattle.std.proofs.Common.{◌≡◌, ◌≢◌, ◌⊎◌, inl, inr, ℕ, zero, suc, ◌+◌, ◌-◌, ◌^◌, ◌<◌, ◌≤◌, true, false, eqb, List, [], ◌∷◌, length, Option, Some, None, refl, sym, ap, subst, ◌∙◌, arith, eqb-true, ne_eqb, eq-eqb}
+use Rattle.std.proofs.Common.{◌≡◌, ◌≢◌, ◌⊎◌, inl, inr, ℕ, zero, suc, ◌+◌, ◌-◌, ◌^◌, ◌<◌, ◌≤◌, true, false, eqb, List, [], ◌∷◌, Option, Some, None, refl, sym, ap, subst, ◌∙◌, arith, eqb-true, ne_eqb, eq-eqb}
 use Rattle.std.specs.Prelude.{slice_get}
 use Rattle.std.proofs.lemmas.Bool.{cases_eq, cases_Bool, cond-true, cond-false}
-use Rattle.std.proofs.lemmas.List.{length-replicate}
 use Rattle.std.proofs.lemmas.Option.{none-some, same_Some}
 use Rattle.pm_model.specs.declared.host.HostFault.{HostFault}
 use Rattle.pm_model.specs.Words.{reads}
@@ -45,6 +44,7 @@ use Rattle.registry.proofs.Made.{making_of}
 use Rattle.registry.proofs.Changed.{changing_of, dropping_of}
 use Rattle.registry.proofs.NewPuddles.{adding_of}
 use Rattle.ready_daemon.proofs.JudgedKept.{HasGraphIn, KeepsPools, KeepsPools-each, KeepsPools-still, KeepsPools-changes, KeepsGraphs-same, types_same, puddles_same, own_word}
+use Rattle.registry.proofs.Filled.{length-fresh_frame}
 
 -- ---- a batch of changes
 
@@ -91,15 +91,11 @@ module _ (F : ℕ) (puts : List Put) (old new : State) (of : AreOfPools F puts) 
 -- a free frame is filled, which is none of a pool's
 module _ (F frame number ordinal : ℕ) (old mid : State) (free : (tables_of F (reads old.now.words)).puddles frame ≡ None)
     (fills : Persists (frame_write (tables_of F (reads old.now.words)).frames frame number ordinal) None old mid) where
-  length-fresh : length (fresh_frame number ordinal) ≡ FRAME_WORDS
-  unfolding fresh_frame
-  length-fresh = omega (arith, length-replicate {A = ℕ} (FRAME_WORDS - 4) 0)
-
   filled_within : (k v : ℕ) → written (frame_write (tables_of F (reads old.now.words)).frames frame number ordinal) k v → (frame_at F frame ≤ k) × (k < frame_at F frame + FRAME_WORDS)
   filled_within k v may =
       let within = placed_within (frame_at (tables_of F (reads old.now.words)).frames frame) k v (fresh_frame number ordinal) may in
       let low = within.0 in let high = within.1 in
-      (omega (arith, frames_of_tables F (reads old.now.words)), omega (arith, frames_of_tables F (reads old.now.words), length-fresh))
+      (omega (arith, frames_of_tables F (reads old.now.words)), omega (arith, frames_of_tables F (reads old.now.words), length-fresh_frame number ordinal))
 
   pub KeepsPools-filled : KeepsPools F None (reads old.now.words) (reads mid.now.words)
   KeepsPools-filled =

@@ -1,12 +1,10 @@
 -- Changes of pools that write no word of an open transaction: what they do with the words of all masked, they do beside them.
-use Rattle.std.proofs.Common.{◌≡◌, ◌⊎◌, inl, inr, ℕ, zero, suc, ◌+◌, ◌-◌, ◌<◌, ◌≤◌, true, false, not, List, [], ◌∷◌, length, take, Option, Some, None, refl, sym, ap, subst, ◌∙◌, arith, length-take-le, eqb-true, ne_eqb}
+use Rattle.std.proofs.Common.{◌≡◌, ◌⊎◌, inl, inr, ℕ, zero, suc, ◌+◌, ◌-◌, ◌<◌, ◌≤◌, true, false, not, List, [], ◌∷◌, take, Option, Some, None, refl, sym, ap, subst, ◌∙◌, arith, length-take-le, eqb-true, ne_eqb}
 use Rattle.std.specs.Prelude.{⊤}
-use Rattle.std.specs.Option.{option_or}
 use Rattle.std.specs.Ordering.{eq_by_cmp}
 use Rattle.std.specs.Cmp.{Equal-is}
 use Rattle.std.specs.Cmp.Lexicographic.{nat_list_cmp_total}
 use Rattle.std.specs.FinMap.Entries.{find, put, find-put, find-where_key}
-use Rattle.std.proofs.lemmas.List.{length-replicate}
 use Rattle.std.proofs.lemmas.Bool.{cases_Bool, cond-true, cond-false}
 use Rattle.pm_model.specs.declared.host.HostFault.{HostFault}
 use Rattle.pm_model.specs.declared.host.HostFault.TheVariants.{Cut}
@@ -17,7 +15,7 @@ use Rattle.pm_model.specs.Masks.{masked, masked_state, IsOff}
 use Rattle.pm_model.proofs.Leaves.{Leaves-still, Leaves-weaker}
 use Rattle.pm_model.proofs.Masks.{masked-elsewhere, reads-masked}
 use Rattle.pm_persist.proofs.Ranges.{placed_within}
-use Rattle.pud_defs.specs.declared.layout.TheConstants.{DAEMON_LOG, SPACE_TABLE, PUDDLE_TABLE, TYPE_TABLE, FRAME_WORDS}
+use Rattle.pud_defs.specs.declared.layout.TheConstants.{DAEMON_LOG, SPACE_TABLE, PUDDLE_TABLE, TYPE_TABLE}
 use Rattle.pud_defs.specs.declared.records.TheConstants.{POOL_RECORDS}
 use Rattle.pud_defs.specs.declared.records.Put.{Put}
 use Rattle.pud_defs.specs.Image.{Image}
@@ -43,11 +41,11 @@ use Rattle.pud_defs.proofs.TablesOf.{frames_of_tables}
 use Rattle.batch.specs.Batches.{batch_write, AreBatched, HasIdleGate, ByBatch}
 use Rattle.batch.specs.Tables.{HasDurableTables}
 use Rattle.batch.proofs.Tables.{StaysDurable, HasDurableTables-changed, reads_kept}
-use Rattle.registry.specs.Puts.{puts_batch, AreOfPools, IsOfPools, ByPools}
+use Rattle.registry.specs.Puts.{puts_batch, AreOfPools, ByPools}
 use Rattle.registry.specs.declared.adding.Added.{Added}
 use Rattle.registry.specs.Adding.{frame_write, filling, PersistsThenCommits, IsOffAdding}
 use Rattle.registry.specs.Pools.{making, new_record, changing, freeing, dropping, OrStill, CommitsPuts, MakesSomewhere, IsOffMaking, MayStand, ChangesPools}
-use Rattle.registry.proofs.PutBatches.{puts_batched}
+use Rattle.registry.proofs.PutBatches.{puts_batched, lies_fit, either_some}
 use Rattle.registry.proofs.Made.{making_of}
 use Rattle.registry.proofs.Changed.{changing_of, dropping_of}
 use Rattle.ready_daemon.specs.Memory.{Held, Memory, held_under}
@@ -56,6 +54,7 @@ use Rattle.ready_daemon.specs.Ready.{IsReady, AppliesMasked}
 use Rattle.ready_daemon.proofs.Beside.{unmasked_front, names_none_idle}
 use Rattle.ready_daemon.proofs.Beneath.{IsBeside-changes, IsBeside-commits, IsBeside-then, table_reads, table_reads-kept, persisted_single, logs_kept}
 use Rattle.ready_daemon.proofs.PoolsBeside.{IsOfOthers, unmasked_pool, unmasked_puddle, unmasked_frame, held_pool}
+use Rattle.registry.proofs.Filled.{length-fresh_frame}
 
 -- ---- changes of records that write no masked word
 
@@ -63,15 +62,6 @@ use Rattle.ready_daemon.proofs.PoolsBeside.{IsOfOthers, unmasked_pool, unmasked_
 abbrev pub AreOff : Write → List Put → Type 0
 AreOff mask [] = ⊤
 AreOff mask (p ∷ puts) = ((k : ℕ) → p.w ≤ k → k < p.w + p.n → mask k ≡ None) × AreOff mask puts
-
-put_fits : (F : ℕ) (p : Put) → IsOfPools F p → p.n ≤ length p.vals
-put_fits F p (inl of) = of.fits
-put_fits F p (inr (inl of)) = of.fits
-put_fits F p (inr (inr of)) = of.fits
-
-either_some : (first later : Option ℕ) (v : ℕ) → option_or later first ≡ Some v → (later ≡ Some v) ⊎ (first ≡ Some v)
-either_some first None v is = inr is
-either_some first (Some x) v is = inl is
 
 -- what their batch writes is not masked
 puts_off : (F : ℕ) (mask : Write) (puts : List Put) (k v : ℕ) → AreOfPools F puts → AreOff mask puts → batch_write (puts_batch puts) k ≡ Some v → mask k ≡ None
@@ -82,7 +72,7 @@ puts_off F mask (p ∷ puts) k v of off is = elim (either_some (value_at p.w (ta
   | inr first ↦
       let within = placed_within p.w k v (take p.n p.vals) first in
       let high = within.1 in
-      off.0 k within.0 (omega (arith, length-take-le p.n p.vals (put_fits F p of.0)))
+      off.0 k within.0 (omega (arith, length-take-le p.n p.vals (lies_fit F p of.0)))
 ]
 
 masked_not : (mask : Write) (k x : ℕ) → mask k ≡ Some x → mask k ≡ None → ⊥
@@ -115,10 +105,6 @@ module _ (w : World) (held : List (Option Held)) (mask : Write) (words : Words) 
   free_others : (frame : ℕ) → t.puddles frame ≡ None → IsOfOthers held (t.puddles frame)
   free_others frame free number h there = ap (is_of_pool h.slot) free
 
-  length-fresh : (number ordinal : ℕ) → length (fresh_frame number ordinal) ≡ FRAME_WORDS
-  unfolding fresh_frame
-  length-fresh number ordinal = omega (arith, length-replicate {A = ℕ} (FRAME_WORDS - 4) 0)
-
   -- the lowest free slot
   module _ (slot : ℕ) (first : first_free t.pools 0 POOL_RECORDS ≡ Some slot) where
     slot_below : slot < POOL_RECORDS
@@ -145,7 +131,7 @@ module _ (w : World) (held : List (Option Held)) (mask : Write) (words : Words) 
           let low = within.0 in
           let high = within.1 in
           masked_not mask k x is (unmasked_frame w held mask words holds frame k frame_below (free_others frame frame_free)
-          (omega (arith, frames_of_tables F (reads words))) (omega (arith, frames_of_tables F (reads words), length-fresh number ordinal)));
+          (omega (arith, frames_of_tables F (reads words))) (omega (arith, frames_of_tables F (reads words), length-fresh_frame number ordinal)));
     }
 
   pub off_making : (next : ℕ) (name : List ℕ) (uid gid mode : ℕ) → IsOffMaking mask t next name uid gid mode

@@ -1,8 +1,8 @@
 -- Pools made, changed and dropped beside open transactions: which words of the tables these mask, and what stays of the pool of each.
-use Rattle.std.proofs.Common.{◌≡◌, ◌⊎◌, inl, inr, ℕ, ◌+◌, ◌<◌, ◌≤◌, Bool, true, false, ◌||◌, leb, ltb, List, Option, Some, None, refl, sym, ap, subst, ◌∙◌, arith, eq-eqb}
+use Rattle.std.proofs.Common.{◌≡◌, ◌⊎◌, inl, inr, ℕ, ◌+◌, ◌<◌, ◌≤◌, true, false, ◌||◌, leb, ltb, List, Option, Some, None, sym, ap, subst, ◌∙◌, arith, eq-eqb}
 use Rattle.std.specs.Prelude.{slice_get}
 use Rattle.std.specs.List.{list_any}
-use Rattle.std.proofs.lemmas.Bool.{and_parts, and_from, or_cases, or_left, or_right, leb-true, ltb-true, le-leb, lt-ltb}
+use Rattle.std.proofs.lemmas.Bool.{and_parts, and_from, or_cases, or_left, or_right, leb-true, ltb-true, le-leb, lt-ltb, false_from_ne_true}
 use Rattle.pm_model.specs.Words.{Words, reads}
 use Rattle.pm_model.specs.Changes.{Write}
 use Rattle.pud_defs.specs.declared.records.TheConstants.{POOL_RECORDS}
@@ -30,10 +30,6 @@ use Rattle.ready_daemon.specs.Held.{pool_held, open_held, IsHeld, Holds}
 use Rattle.ready_daemon.proofs.Beside.{held_is, unmasked_by_all}
 
 -- ---- which words are masked
-
-not_true : (b : Bool) → (b ≡ true → ⊥) → b ≡ false
-not_true true never = absurd (never refl)
-not_true false never = refl
 
 -- a word of the record of one of these puddles
 record IsOfPuddle (at : List (ℕ × Puddle)) (k : ℕ) : Type 0 where
@@ -87,7 +83,7 @@ module _ (w : World) (held : Held) (mask : Write) (words : Words) (is : IsHeld w
   -- a word of the tables that is none of its records
   not_record : (k : ℕ) → k < tables_end F → (is_open_record p k ≡ true → ⊥) → open_mask F p is.before k ≡ None
   not_record k below never =
-      mask_of_others F p is.before k (outside_log (log_number_at F held.number) k (inl (omega arith))) (mine_behind F held.at k (omega arith)) (not_true (is_open_record p k) never)
+      mask_of_others F p is.before k (outside_log (log_number_at F held.number) k (inl (omega arith))) (mine_behind F held.at k (omega arith)) (false_from_ne_true (is_open_record p k) never)
 
   -- its record is read as it was
   pub used_still : now.pools held.slot ≡ Some is.rec
@@ -137,11 +133,11 @@ module _ (w : World) (held : Held) (mask : Write) (words : Words) (is : IsHeld w
       let few = is.pool.known in
       let slot = is.pool.slot in
       mask_of_others F p is.before k (outside_log (log_number_at F held.number) k (inr (omega arith)))
-      (not_true (pool_mine F held.at k) (λ mine.
+      (false_from_ne_true (pool_mine F held.at k) (λ mine.
       let m = pool_mine-each F held.at k mine in
       let from = m.low in let to = m.high in
       not_its_own frame m.ordinal m.puddle other m.there (omega arith)))
-      (not_true (is_open_record p k) (λ of. elim (open_record_of p k of) [
+      (false_from_ne_true (is_open_record p k) (λ of. elim (open_record_of p k of) [
         | inl pool ↦ let to = pool.high in absurd (omega arith)
         | inr (inl space) ↦ let to = space.high in absurd (omega arith)
         | inr (inr puddle) ↦

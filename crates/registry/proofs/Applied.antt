@@ -1,18 +1,16 @@
 -- The daemon log of a device applied: what is read then stands for the same world, and on a rested device so does each image left.
 use Rattle.std.proofs.Common.{◌≡◌, inl, inr, ℕ, ◌≤◌, true, false, List, get_or, Option, Some, None, refl, sym, ap, subst, ◌∙◌, arith}
-use Rattle.std.specs.Prelude.{[]}
 use Rattle.std.specs.List.{list_all}
 use Rattle.std.proofs.lemmas.Bool.{cases_eq, cases_Bool}
-use Rattle.std.proofs.lemmas.List.{append-nil}
 use Rattle.std.proofs.lemmas.List.Sums.{AllPass-from_list_all}
 use Rattle.pm_model.specs.declared.host.HostFault.{HostFault}
 use Rattle.pm_model.specs.declared.host.HostFault.TheVariants.{Cut}
 use Rattle.pm_model.specs.Words.{reads, HasOnly, IsRested}
 use Rattle.pm_model.specs.Moments.{State}
-use Rattle.pm_model.specs.Changes.{Changes, Leaves, Silently}
+use Rattle.pm_model.specs.Changes.{Leaves, Silently}
 use Rattle.pm_model.proofs.Words.{HasOnly-own, HasOnly-newest, reads_only}
-use Rattle.pm_model.proofs.Changes.{Changes-said, Changes-still, Changes-then, HasOnly-kept}
-use Rattle.pm_model.proofs.Leaves.{Leaves-weaker, Leaves-still, Leaves-now}
+use Rattle.pm_model.proofs.Changes.{Changes-still, Changes-then, HasOnly-kept}
+use Rattle.pm_model.proofs.Leaves.{Leaves-weaker, Leaves-still}
 use Rattle.pud_defs.specs.declared.layout.TheConstants.{DAEMON_LOG, FRAMES_WORD, MACHINE_WORD}
 use Rattle.pud_defs.specs.declared.log_words.TheConstants.{CLOSED_GATE}
 use Rattle.pud_defs.specs.Image.{Image}
@@ -21,16 +19,15 @@ use Rattle.pud_defs.specs.Entries.{Entry, log_of, is_idle_gate}
 use Rattle.pud_defs.specs.Replay.{device_word, new_value, is_in_log, settled_by}
 use Rattle.pud_defs.specs.Registry.{frames_of, is_allowed, are_allowed, has_legal_log, is_sound}
 use Rattle.pud_defs.specs.Settled.{settled}
-use Rattle.pud_defs.specs.World.{StoredWorld, stored_by, world_of, idle_world_of}
+use Rattle.pud_defs.specs.World.{StoredWorld, stored_by, world_of}
 use Rattle.pud_defs.proofs.Replay.{outside_log, settled_by-inside, settled_by-outside, settled_by-idle}
 use Rattle.pud_defs.proofs.Logged.{legal_entries, allowed_in_range, has_legal_log-of, new_value-unlogged}
 use Rattle.pud_defs.proofs.Worlds.{settled-below, legal_log_of_world, holding_of_world, frames_of_world, world_of-settled, world_of-sound}
-use Rattle.pud_defs.proofs.IdleWorlds.{legal_log_idle, legal_log_of_idle_world, idle_world_of-settled}
+use Rattle.pud_defs.proofs.IdleWorlds.{legal_log_idle}
 use Rattle.log_replay.specs.declared.Target.TheVariants as targets
-use Rattle.log_replay.specs.Replaying.{Anything, IsReplayable, HasDurableLog, ByLog, SettlesSame, SettlesLog}
+use Rattle.log_replay.specs.Replaying.{IsReplayable, HasDurableLog, ByLog, SettlesSame, SettlesLog}
 use Rattle.log_replay.proofs.Closing.{gate_apart}
 use Rattle.batch.specs.Batches.{HasIdleGate}
-use Rattle.batch.specs.Worlds.{IsSettled}
 use Rattle.batch.proofs.Worlds.{names_apart}
 use Rattle.registry.specs.Registry.{StillStands, AppliesLog}
 

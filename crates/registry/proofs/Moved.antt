@@ -18,9 +18,9 @@ use Rattle.pud_defs.specs.Holdings.{holding_in}
 use Rattle.pud_defs.specs.SoundTables.{are_sound_tables, HasSoundTables}
 use Rattle.pud_defs.specs.World.{StoredWorld, pools_in, idle_registry}
 use Rattle.pud_defs.proofs.Replay.{settled_by-idle, outside_log}
-use Rattle.pud_defs.proofs.TablesOf.{tables_of-same}
+use Rattle.pud_defs.proofs.TablesOf.{tables_of-same, frames_of_tables}
 use Rattle.pud_defs.proofs.SoundChanged.{sound_from, sound_test}
-use Rattle.pud_defs.proofs.Held.{HasSameFrame, frame_among, frames_are, pools_of-held, pools_in-same}
+use Rattle.pud_defs.proofs.Held.{HasSameFrame, frame_among, pools_of-held, pools_in-same}
 use Rattle.pud_defs.proofs.Parts.{HasPools, standing_with_pools}
 use Rattle.pud_defs.proofs.Parts.Part.{Header, Pools}
 use Rattle.pud_defs.proofs.IdleWorlds.{standing_of_idle_world, idle_registry_standing}
@@ -101,7 +101,7 @@ module _ (size : ℕ) (s : StoredWorld) (number : ℕ) (ps : List (List ℕ × P
       let tables_now = m.tables i tables_before in
       let hold = holding_in s.types s.frames in
       let kept : (frame : ℕ) → frame < m.now.frames → is_some (m.now.puddles frame) ≡ true → HasSameFrame s.frames i j frame = λ frame below used.
-      frame_among s.frames frame i j (let F = frames_are s.frames j in let same = ap (λ (t : Tables). t.frames) tables_now in omega (arith, F, same))
+      frame_among s.frames frame i j (let F = frames_of_tables s.frames j in let same = ap (λ (t : Tables). t.frames) tables_now in omega (arith, F, same))
       (λ k low high. with_puts-stays s.frames puts i k m.of (frames_apart s.frames k low)) in
       let pools_now : pools_of (hold i) m.now ≡ ps = m.pools i (besides image picked) (ap (pools_of (hold i)) (sym tables_before) ∙ (stands.holds Pools).pools) in
       let pools : HasPools s.types s.frames number ps j = record { pools = ap (pools_of (hold j)) tables_now ∙ pools_of-held s.types s.frames i j m.now kept ∙ pools_now; sound = ap (are_sound_tables number) tables_now ∙ sound_test number m.now m.sound } in

@@ -44,7 +44,7 @@ overwritten-put put image k fits =
       ]
     ]
 
-lies_fit : (F : ℕ) (put : Put) → IsOfPools F put → put.n ≤ length put.vals
+pub lies_fit : (F : ℕ) (put : Put) → IsOfPools F put → put.n ≤ length put.vals
 lies_fit F put (inl of) = of.fits
 lies_fit F put (inr (inl of)) = of.fits
 lies_fit F put (inr (inr of)) = of.fits
@@ -101,7 +101,7 @@ named_word F put k v of is =
       ]
     ]
 
-either_some : (first later : Option ℕ) (v : ℕ) → option_or later first ≡ Some v → (later ≡ Some v) ⊎ (first ≡ Some v)
+pub either_some : (first later : Option ℕ) (v : ℕ) → option_or later first ≡ Some v → (later ≡ Some v) ⊎ (first ≡ Some v)
 either_some first None v is = inr is
 either_some first (Some x) v is = inl is
 

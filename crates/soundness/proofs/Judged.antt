@@ -20,12 +20,9 @@ use Rattle.soundness.specs.declared.overlay.Overlay.{Overlay}
 use Rattle.soundness.specs.Overlaying.{IsOverlay}
 use Rattle.soundness.specs.Distinct.{are_distinct_puddles}
 use Rattle.soundness.specs.Judging.{frames_described, has_sound_records}
+use Rattle.pud_defs.proofs.Keyed.{some_there}
 
 -- ---- a legal log
-
-some_of : (o : Option (List Entry)) → is_some o ≡ true → (es : List Entry) × (o ≡ Some es)
-some_of None e = absurd (let it : false ≡ true = e in cc)
-some_of (Some es) e = (es, refl)
 
 none_of : (o : Option (List Entry)) → is_some o ≡ false → o ≡ None
 none_of None e = refl
@@ -44,12 +41,12 @@ pub record IsWellFormed (image : Image) : Type 0 where
 pub is_well_formed : (image : Image) → is_some (entries_of image DAEMON_LOG) ≡ true → IsWellFormed image
 unfolding has_legal_log
 is_well_formed image some =
-    let es = some_of (entries_of image DAEMON_LOG) some in
+    let es = some_there (entries_of image DAEMON_LOG) some in
     record { entries = es.0; are = es.1; legal = sym (ap (are_allowed (frames_of image) (log_of image DAEMON_LOG)) es.1) }
 
 pub is_overlay : (o : Overlay) (image : Image) → HasRange o.range (log_of image DAEMON_LOG) → has_legal_log image ≡ true → IsOverlay o image
 is_overlay o image range legal = elim (cases_Bool (is_some (entries_of image DAEMON_LOG))) [
-  | inl formed ↦ let es = some_of (entries_of image DAEMON_LOG) formed in record { range = range; entries = es.0; are = es.1 }
+  | inl formed ↦ let es = some_there (entries_of image DAEMON_LOG) formed in record { range = range; entries = es.0; are = es.1 }
   | inr spoilt ↦ absurd (let it : true ≡ false = sym legal ∙ not_legal image spoilt in cc)
 ]
 

@@ -5,7 +5,7 @@ use Rattle.std.specs.List.{list_any}
 use Rattle.std.specs.Option.{option_or}
 use Rattle.std.specs.Ordering.{eq_by_cmp}
 use Rattle.std.specs.Int.{from_le_bytes, w64}
-use Rattle.std.proofs.lemmas.Bool.{eq-eqb, ne_eqb, eqb-true, eqb-false, cases_eq}
+use Rattle.std.proofs.lemmas.Bool.{eq-eqb, ne_eqb, eqb-true, eqb-false, cases_eq, false_from_ne_true}
 use Rattle.std.proofs.lemmas.Cmp.{nat_list_cmp_total, eq_by_cmp_equiv}
 use Rattle.std.proofs.lemmas.Map.Lookups.{exact_bytes}
 use Rattle.std.proofs.lemmas.Map.Views.{tells_apart}
@@ -51,10 +51,6 @@ high_tied n m fn fm tied =
     let same = tells_apart exact_bytes (spelled n) (spelled m) tied in
     sym (name_high m.low m.high fm.high) ∙ ap (λ (bytes : List ℕ). from_le_bytes w64 (drop 8 bytes)) (sym same) ∙ name_high n.low n.high fn.high
 
-untied : (b : Bool) → (b ≡ true → ⊥) → b ≡ false
-untied true h = absurd (h refl)
-untied false h = refl
-
 tied_by : (n m : NameWords) → Fits n → Fits m → eq_by_cmp name_cmp (spelled n) (spelled m) ≡ is_name n m
 tied_by n m fn fm = elim (cases_eq m.low n.low) [
   | inl low ↦ elim (cases_eq m.high n.high) [
@@ -63,11 +59,11 @@ tied_by n m fn fm = elim (cases_eq m.low n.low) [
         ∙ (eq_by_cmp_equiv nat_list_cmp_total).refl (spelled n)
         ∙ sym (ap₂ (λ (a b : Bool). a && b) (eq-eqb m.low n.low low) (eq-eqb m.high n.high high))
     | inr other ↦
-        untied _ (λ tied. other (high_tied n m fn fm tied))
+        false_from_ne_true _ (λ tied. other (high_tied n m fn fm tied))
         ∙ sym (ap₂ (λ (a b : Bool). a && b) (eq-eqb m.low n.low low) (ne_eqb m.high n.high other))
   ]
   | inr other ↦
-      untied _ (λ tied. other (low_tied n m fn fm tied))
+      false_from_ne_true _ (λ tied. other (low_tied n m fn fm tied))
       ∙ sym (ap (λ (a : Bool). a && eqb m.high n.high) (ne_eqb m.low n.low other))
 ]
 

@@ -1,6 +1,6 @@
 -- The tables of an image by the words of their records.
-use Rattle.std.proofs.Common.{◌≡◌, ℕ, ◌-◌, ◌<◌, ◌≤◌, Bool, true, false, not, ◌&&◌, cond, eqb, ltb, List, Option, Some, None, is_some, slice_index, inl, inr, refl, ap, ◌∙◌, sym, arith}
-use Rattle.std.proofs.lemmas.Bool.{cond-true, cond-false, eq-eqb, ne_eqb, lt-ltb, ltb-true, cases_Bool}
+use Rattle.std.proofs.Common.{◌≡◌, ℕ, ◌-◌, ◌<◌, ◌≤◌, Bool, true, false, not, ◌&&◌, cond, eqb, ltb, List, Option, Some, None, is_some, slice_index, refl, ap, ◌∙◌, sym, arith}
+use Rattle.std.proofs.lemmas.Bool.{cond-true, eq-eqb, ne_eqb, lt-ltb}
 use Rattle.pud_defs.specs.declared.records.TheConstants.{POOL_RECORDS, MAX_PUDDLES}
 use Rattle.pud_defs.specs.declared.records.PoolRec.{PoolRec}
 use Rattle.pud_defs.specs.Image.{Image}
@@ -9,6 +9,7 @@ use Rattle.pud_defs.specs.Puddles.{puddle_at, puddle_by, puddle_record_at, membe
 use Rattle.pud_defs.specs.Tables.{Tables, tables_of}
 use Rattle.pud_defs.specs.SoundTables.{is_pool, is_sound_puddle}
 use Rattle.soundness.specs.Tables.{record_words, pool_by_words, puddle_by_words, member_of_words, is_legal_but_pool}
+use Rattle.pud_defs.proofs.TablesOf.{pools_beyond}
 
 -- ---- which record a place of a table has
 
@@ -35,17 +36,10 @@ pool_there F image pool some few =
 pub pool_zero : (F : ℕ) (image : Image) (pool : ℕ) → pool ≡ 0 → is_pool (tables_of F image) pool ≡ false
 pool_zero F image pool zero = ap (λ (b : Bool). not b && is_some ((tables_of F image).pools (pool - 1))) (eq-eqb pool 0 zero)
 
-beyond_table : (F : ℕ) (image : Image) (slot : ℕ) → POOL_RECORDS ≤ slot → (tables_of F image).pools slot ≡ None
-unfolding tables_of
-beyond_table F image slot beyond = elim (cases_Bool (ltb slot POOL_RECORDS)) [
-  | inl within ↦ absurd (let low : slot < POOL_RECORDS = ltb-true slot POOL_RECORDS within in omega arith)
-  | inr not ↦ cond-false _ _ _ not
-]
-
 pub pool_beyond : (F : ℕ) (image : Image) (pool : ℕ) → POOL_RECORDS < pool → is_pool (tables_of F image) pool ≡ false
 pool_beyond F image pool beyond =
     ap (λ (b : Bool). not b && is_some ((tables_of F image).pools (pool - 1))) (ne_eqb pool 0 (λ zero. omega arith))
-    ∙ ap (λ (o : Option PoolRec). is_some o) (beyond_table F image (pool - 1) (omega arith))
+    ∙ ap (λ (o : Option PoolRec). is_some o) (pools_beyond F image (pool - 1) (omega arith))
 
 -- ---- a puddle record by its words
 

@@ -9,7 +9,7 @@ use Rattle.pud_defs.specs.declared.layout.TheConstants.{TYPE_RECORDS}
 use Rattle.pud_defs.specs.Image.{Image}
 use Rattle.pud_defs.specs.Keyed.{first_free, first_from, under}
 use Rattle.pud_defs.specs.Types.{type_record_at, type_at, types_of, free_type, used_types, map_of}
-use Rattle.pud_defs.proofs.Keyed.{find-keyed, first_from_here, first_from_other, first_from_end, first_free_here, first_free_used, first_free_end, first_free_some, count_used_full, count_used_room}
+use Rattle.pud_defs.proofs.Keyed.{find-keyed, first_from_here, first_from_other, first_from_end, first_free_here, first_free_used, first_free_end, first_free_some, count_used_full, count_used_room, option_or-none}
 use Rattle.pud_defs.proofs.TypeTable.{type_at-free, type_at-used, type_here, type_other}
 use Rattle.type_maps.specs.declared.Place.{Place}
 use Rattle.type_maps.specs.declared.Place.TheVariants as places
@@ -43,10 +43,6 @@ place_from-here image id free i below used here =
     let above : 0 < id = omega arith in
     ap (λ (m : Option ℕ). place_by m (option_or free (first_free (type_at image) i (TYPE_RECORDS - i))))
     (first_from_here nat_cmp id (type_at image) i TYPE_RECORDS (image (type_record_at i + 1)) below (type_here image id i above here))
-
-option_or-none : (free : Option ℕ) → option_or free None ≡ free
-option_or-none None = refl
-option_or-none (Some r) = refl
 
 pub place_from-end : (image : Image) (id : ℕ) (free : Option ℕ) (i : ℕ) → TYPE_RECORDS ≤ i → place_from image id free i ≡ place_by None free
 place_from-end image id free i past =

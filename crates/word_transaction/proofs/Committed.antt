@@ -11,7 +11,7 @@ use Rattle.pm_model.proofs.Has.{Has-append_right}
 use Rattle.pm_model.proofs.Words.{HasOnly-newest, HasOnly-fenced, values-fenced, only_at}
 use Rattle.pm_model.proofs.Changes.{now_among, Changes-still, Changes-fence, Changes-then, Changes-wider, Changes-said, HasOnly-kept}
 use Rattle.pm_model.proofs.Leaves.{Leaves-still, Leaves-changes, Leaves-then}
-use Rattle.pm_model.proofs.OneWord.{one_word}
+use Rattle.pm_model.proofs.OneWord.{one_word, value_of_only}
 use Rattle.pud_defs.specs.declared.log_words.TheConstants.{COMMITTING_LO, COMMITTING_HI, CLOSED_GATE}
 use Rattle.pud_defs.specs.Image.{Image}
 use Rattle.pud_defs.specs.Entries.{Entry, Log, log_of, gate_lo, gate_hi, gate_word, is_idle_gate}
@@ -19,7 +19,7 @@ use Rattle.pud_defs.specs.Replay.{overwritten}
 use Rattle.pud_defs.proofs.Entries.{gate_lo-of, gate_hi-of}
 use Rattle.pud_defs.proofs.Replay.{not_inside, overwritten-stays}
 use Rattle.log_store.specs.Store.{OpenLog, IsOpen, saying, committing}
-use Rattle.log_store.proofs.Open.{IsOpen-fits, IsOpen-log, IsOpen-kept, IsOpen-moved, log_of-moving, only_here, only_value}
+use Rattle.log_store.proofs.Open.{IsOpen-fits, IsOpen-log, IsOpen-kept, IsOpen-moved, log_of-moving, only_here}
 use Rattle.word_transaction.specs.Ground.{Ground, IsGround, asks, pending}
 use Rattle.word_transaction.specs.Running.{IsRunning, SettlesTo, HasRange, SettlesByRange, ByTransaction, ByCommit, Closes, MovesRange, Ends}
 use Rattle.word_transaction.proofs.Images.{SettlesTo-running, SettlesTo-idle, IsRunning-settles}
@@ -41,7 +41,7 @@ gate_by g at gate k v new = let here = only_at at gate k v new in inl (record { 
 written_gate : {A : Type 0} → (w x k v : ℕ) → written (only w x) k v → (k ≡ w → v ≡ x → A) → A
 written_gate w x k v new make =
     let here = only_at w x k v new in
-    make here (only_value w x v (subst (λ (n : ℕ). only w x n ≡ Some v) here new))
+    make here (value_of_only w x v (subst (λ (n : ℕ). only w x n ≡ Some v) here new))
 
 -- ---- the log is closed
 

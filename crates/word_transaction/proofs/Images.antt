@@ -1,10 +1,10 @@
 -- What an image says of a transaction on words, by its log's words and the transaction's own.
-use Rattle.std.proofs.Common.{◌≡◌, ℕ, ◌+◌, ◌≤◌, true, false, ◌&&◌, ◌||◌, eqb, List, [], get_or, Option, Some, None, is_some, refl, sym, ap, ap₂, subst, ◌∙◌, arith}
+use Rattle.std.proofs.Common.{◌≡◌, ℕ, ◌+◌, ◌≤◌, true, false, ◌&&◌, List, [], get_or, Option, Some, None, is_some, refl, sym, ap, ap₂, subst, ◌∙◌, arith}
 use Rattle.std.specs.Prelude.{All, unwrap_or}
-use Rattle.std.proofs.lemmas.Bool.{eqb-true, and_parts}
+use Rattle.std.proofs.lemmas.Bool.{and_parts}
 use Rattle.std.proofs.lemmas.List.Elements.{All-nil}
 use Rattle.pm_model.specs.Words.{Words, Picks}
-use Rattle.pud_defs.specs.declared.log_words.TheConstants.{RUNNING_LO, RUNNING_HI, COMMITTING_HI, CLOSED_GATE}
+use Rattle.pud_defs.specs.declared.log_words.TheConstants.{RUNNING_LO, RUNNING_HI, CLOSED_GATE}
 use Rattle.pud_defs.specs.Image.{Image}
 use Rattle.pud_defs.specs.Entries.{Entry, Log, log_of, gate_lo, gate_hi, entries_of, is_idle_gate}
 use Rattle.pud_defs.specs.Replay.{is_in_range, new_value, IsInLog}
@@ -16,6 +16,8 @@ use Rattle.log_store.proofs.Open.{IsOpen-log, log_of-closed}
 use Rattle.word_transaction.specs.Ground.{Ground, IsOwn, saved}
 use Rattle.word_transaction.specs.Running.{IsRunning, SettlesTo}
 use Rattle.word_transaction.proofs.Saved.{new_value-running}
+use Rattle.pud_defs.proofs.Keyed.{some_there}
+use Rattle.pud_defs.proofs.Idle.{closed_gate}
 
 -- it has to do with those words alone
 pub SettlesTo-local : (g : Ground) (at : ℕ) (values i j : Image) → ((k : ℕ) → IsInLog at k → j k ≡ i k) → ((k : ℕ) → g.mine k ≡ true → j k ≡ i k) → SettlesTo g at values i → SettlesTo g at values j
@@ -74,22 +76,12 @@ SettlesTo-idle g at before image idle same =
 
 -- ---- images with a closed log
 
-some_entries : (o : Option (List Entry)) → is_some o ≡ true → (es : List Entry) × (o ≡ Some es)
-some_entries None is = absurd (let it : false ≡ true = is in cc)
-some_entries (Some es) is = (es, refl)
-
--- a closed range has no number in it
-closed_range_of : (v : ℕ) → is_closed_range v ≡ true → gate_hi v ≤ gate_lo v + 1
-closed_range_of v closed =
-    let same : gate_lo v ≡ gate_hi v = eqb-true _ _ (and_parts (eqb (gate_lo v) (gate_hi v)) (eqb (gate_hi v) COMMITTING_HI || eqb (gate_hi v) 0) closed).0 in
-    omega arith
-
--- so none of its entries is the transaction's, and the words are as they are
+-- none of its entries is the transaction's, and the words are as they are
 pub SettlesTo-closed : (g : Ground) (at : ℕ) (before image : Image) → is_closed_log image at ≡ true → ((k : ℕ) → g.mine k ≡ true → image k ≡ before k) → SettlesTo g at before image
 SettlesTo-closed g at before image closed same =
     let parts = and_parts (is_closed_range (image at)) (is_some (entries_of image at)) closed in
-    let range : gate_hi (image at) ≤ gate_lo (image at) + 1 = closed_range_of (image at) parts.0 in
-    let entries = some_entries (entries_of image at) parts.1 in
+    let range : gate_hi (image at) ≤ gate_lo (image at) + 1 = closed_gate (image at) parts.0 in
+    let entries = some_there (entries_of image at) parts.1 in
     record {
       es = entries.0;
       spells = entries.1;

@@ -1,6 +1,7 @@
 use Rattle.pud_export.proofs.SlotsRead.{low_bases}
-use Rattle.puddled.proofs.FileLines.{HoldsPool-put, LeavesFile-still}
+use Rattle.puddled.proofs.FileLines.{HoldsPool-put}
 use Rattle.puddled.proofs.exporting.write_file.Goals as goal
+use Rattle.pm_model.proofs.Saying.{LeavesFile-same}
 
 pub returns-in-Ok-clause-written : goal.returns-in-Ok-clause-written
 returns-in-Ok-clause-written g c = λ t image same graph is fits.
@@ -9,7 +10,7 @@ returns-in-Ok-clause-written g c = λ t image same graph is fits.
     (c.put_file.ensures.put t)
 
 pub returns-in-Err-Memory-clause-failed : goal.returns-in-Err-Memory-clause-failed
-returns-in-Err-Memory-clause-failed g c = λ t. LeavesFile-still _ _ _ (c.in-Err-Memory.ensures.only_reads.stays t)
+returns-in-Err-Memory-clause-failed g c = λ t. LeavesFile-same _ _ _ (c.in-Err-Memory.ensures.only_reads.stays t)
 
 pub returns-in-Err-Host-clause-failed : goal.returns-in-Err-Host-clause-failed
-returns-in-Err-Host-clause-failed g c = λ t. LeavesFile-still _ _ _ (c.in-Err-Host.ensures.only_reads.stays t)
+returns-in-Err-Host-clause-failed g c = λ t. LeavesFile-same _ _ _ (c.in-Err-Host.ensures.only_reads.stays t)

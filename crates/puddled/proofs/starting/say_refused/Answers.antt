@@ -1,12 +1,9 @@
-use Rattle.std.proofs.Common.{◌≡◌, ℕ, List, [], ◌∷◌, length, refl, sym, subst, ◌∙◌, eqb-true}
+use Rattle.std.proofs.Common.{◌≡◌, ℕ, List, length, sym, subst, ◌∙◌, eqb-true}
 use Rattle.pm_model.specs.Counts.{fault_of}
 use Rattle.pm_model.specs.Calls.{Says}
 use Rattle.puddled.proofs.Beginning.{text_by_marks, Says-nothing}
 use Rattle.puddled.proofs.starting.say_refused.Goals as goal
-
-empty_text : (text : List ℕ) → length text ≡ 0 → text ≡ []
-empty_text [] none = refl
-empty_text (byte ∷ text) none = absurd (cc)
+use Rattle.std.proofs.lemmas.List.{nil_from_length}
 
 pub returns-clause-says : goal.returns-clause-says
 returns-clause-says g c = λ t image marks.
@@ -17,4 +14,4 @@ pub returns-then-is_empty-clause-says : goal.returns-then-is_empty-clause-says
 returns-then-is_empty-clause-says g c = λ t image marks.
     let lines = c.refused_text-text.result.bytes in
     let none : length lines ≡ 0 = eqb-true (length lines) 0 (sym c.is_empty.ensures ∙ c.if-is_empty.true) in
-    Says-nothing _ (g.H.Host.state c.args.h.now) (sym (text_by_marks image c.args.marks.now lines marks c.refused_text-text.ensures) ∙ empty_text lines none)
+    Says-nothing _ (g.H.Host.state c.args.h.now) (sym (text_by_marks image c.args.marks.now lines marks c.refused_text-text.ensures) ∙ nil_from_length lines none)

@@ -2,8 +2,8 @@ use Rattle.std.proofs.Common.{drop, ap, ◌∙◌}
 use Rattle.pm_model.specs.Moments.{Shelf}
 use Rattle.pm_mem.specs.Device.{device_state}
 use Rattle.pm_mem.specs.MemHost.{told}
-use Rattle.pm_mem.proofs.Told.{LeavesFile-same}
 use Rattle.pm_mem.proofs.mem_host.MemHostHost.file_put.Goals as goal
+use Rattle.pm_model.proofs.Saying.{LeavesFile-same}
 
 pub returns-in-Err-clause-failed : goal.returns-in-Err-clause-failed
 returns-in-Err-clause-failed c = λ _. LeavesFile-same _ _ _ c.call.ensures.state
