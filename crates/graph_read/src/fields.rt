@@ -89,8 +89,8 @@ pub fn value_at<H: Loads>(
     }
 }
 
-/// What is read of field `f` of the object in a slot.
-fn field_at<H: Loads>(
+/// What is read of field `f`, 0 to 29, of the object in a slot, as `read_field` of its serial; nothing is searched.
+pub fn field_at<H: Loads>(
     h: &mut H,
     frames: u32,
     pool: &[(u32, Puddle)],

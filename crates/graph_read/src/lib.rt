@@ -15,7 +15,7 @@ mod pointers;
 mod serials;
 
 pub use asking::{field_word, type_at};
-pub use fields::{FieldRead, read_field, serial_behind, value_at};
+pub use fields::{FieldRead, field_at, read_field, serial_behind, value_at};
 pub use holders::is_held;
 pub use judge::{objects_held, pool_is_sound};
 pub use places::{find_place, find_serial};

@@ -1,7 +1,7 @@
 -- A field is set within a transaction, or its value is asked for.
-use Rattle.std.proofs.Common.{◌≡◌, ℕ, ◌+◌, ◌*◌, ◌%◌, ◌^◌, ◌≤◌, true, List, [], ◌∷◌, ◌++◌, All, map, Option, Some, None, option_map, refl, sym, ap, subst, ◌∙◌, arith}
+use Rattle.std.proofs.Common.{◌≡◌, inl, inr, ℕ, ◌+◌, ◌*◌, ◌%◌, ◌^◌, ◌≤◌, true, List, [], ◌∷◌, ◌++◌, All, map, Option, Some, None, option_map, refl, sym, ap, subst, ◌∙◌, arith}
 use Rattle.std.specs.Prelude.{slice_get}
-use Rattle.std.proofs.lemmas.Option.{slice_get-map}
+use Rattle.std.proofs.lemmas.Option.{none-some, slice_get-map}
 use Rattle.pm_model.specs.declared.host.HostFault.{HostFault}
 use Rattle.pm_model.specs.Words.{reads}
 use Rattle.pm_model.specs.Moments.{State}
@@ -35,7 +35,7 @@ use Rattle.word_transaction.specs.Ground.{redo_entry}
 use Rattle.word_transaction.specs.Running.{nothing}
 use Rattle.word_transaction.proofs.Calls.{Runs-stopped, some_fault}
 use Rattle.hybrid_tx.specs.Grounds.{pool_ground, IsPlaced}
-use Rattle.hybrid_tx.specs.Stores.{address_at, word_for, field_word}
+use Rattle.hybrid_tx.specs.Stores.{address_at, word_for, IsPlaceAndWord, LacksPlaceOrWord, field_word}
 use Rattle.hybrid_tx.specs.Transactions.{MaySet, IsRewrittenFor, IsLater, AreLaters, IsSaving, IsOpenOn, Saves, RunsOn}
 use Rattle.hybrid_tx.proofs.PoolGrounds.{all_there}
 use Rattle.hybrid_tx.proofs.FieldsSet.{placed_if_live, word_if_held, set_value}
@@ -43,6 +43,10 @@ use Rattle.hybrid_tx.proofs.LatersKept.{AreLaters-kept, AreLaters-more}
 use Rattle.hybrid_tx.proofs.LatersBehind.{KeepsObjects-field, KeepsPlaces-field}
 use Rattle.hybrid_tx.proofs.Opening.{RunsOn-write}
 use Rattle.hybrid_tx.proofs.InFrames.{no_wrap}
+
+-- what was found is there
+pub found_there : (F : ℕ) (at : List (ℕ × Puddle)) (image : Image) (s : ℕ) (x : Val) (found : Slot × ℕ) → IsPlaceAndWord F at image s x found → LacksPlaceOrWord F at image s x → ⊥
+found_there F at image s x found there lacks = elim lacks [ inl none ↦ none-some _ (sym none ∙ there.0) | inr none ↦ none-some _ (sym none ∙ there.1) ]
 
 -- the address of a slot, by its ordinal
 pub slot_address-read : (at : List (ℕ × Puddle)) (slot : Slot) (of : IsSlotOf at slot) (e : ℕ × Puddle) → (slot.frame, of.puddle) ≡ e → All (λ d. is_legal_base d.1.base ≡ true) at
@@ -77,11 +81,14 @@ module _ (F : ℕ) (at : List (ℕ × Puddle)) (types : List (ℕ × ℕ)) (log 
       }
 
   module _ (s f : ℕ) (x : Val) (old : State) (is_open : IsOpenOn F at types log before undone now laters old.now.words) (may : MaySet types now s f x) where
-    pub no_place : place_in_pool F at (reads old.now.words) s ≡ None → ⊥
+    no_place : place_in_pool F at (reads old.now.words) s ≡ None → ⊥
     no_place = placed_if_live types F at (reads old.now.words) now is_open.is s may.object may.live
 
-    pub no_value : word_for F at (reads old.now.words) x ≡ None → ⊥
+    no_value : word_for F at (reads old.now.words) x ≡ None → ⊥
     no_value = word_if_held types F at (reads old.now.words) now is_open.is may.map f x may.holds
+
+    pub lacks_none : LacksPlaceOrWord F at (reads old.now.words) s x → ⊥
+    lacks_none lacks = elim lacks [ inl none ↦ no_place none | inr none ↦ no_value none ]
 
     pub RunsOn-set : (size word : ℕ) (slot : Slot) (v : ℕ) (fault : Option HostFault) (mid new : State) → IsPlaced F at → IsRewrittenFor F at (reads old.now.words) s → device_words F ≤ size → log.at + LOG_WORDS ≤ frames_at F
         → behind.at ≡ log.at → mid ≡ old → IsSlotOf at slot → place_in_pool F at (reads old.now.words) s ≡ Some (place_of_slot slot) → word_for F at (reads old.now.words) x ≡ Some v → word ≡ field_word slot f

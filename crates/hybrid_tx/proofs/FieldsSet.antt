@@ -82,12 +82,16 @@ module _ (types : List (ℕ × ℕ)) (F : ℕ) (at : List (ℕ × Puddle)) (imag
   pub place_is : (s : ℕ) → place_of s (table_of types st) (places_of st) ≡ place_in_pool F at image s
   place_is s = ap (λ n. place_of s (table_of types st) (places_among n)) (length-map at (λ (e : ℕ × Puddle). e.1))
 
+  -- the object of a serial is the one at its place
+  pub object_by_place : (s : ℕ) → object_in s g ≡ option_map (object_at (table_of types st)) (place_in_pool F at image s)
+  object_by_place s = object_in-place types st g s is ∙ ap (option_map (object_at (table_of types st))) (place_is s)
+
   pub object_at_place : (s p : ℕ) → place_in_pool F at image s ≡ Some p → object_in s g ≡ Some (object_at (table_of types st) p)
-  object_at_place s p found = object_in-place types st g s is ∙ ap (option_map (object_at (table_of types st))) (place_is s ∙ found)
+  object_at_place s p found = object_by_place s ∙ ap (option_map (object_at (table_of types st))) found
 
   -- a live object has a place
   pub placed_if_live : (s : ℕ) (o : Object) → object_in s g ≡ Some o → place_in_pool F at image s ≡ None → ⊥
-  placed_if_live s o live none = none-some o (sym (object_in-place types st g s is ∙ ap (option_map (object_at (table_of types st))) (place_is s ∙ none)) ∙ live)
+  placed_if_live s o live none = none-some o (sym (object_by_place s ∙ ap (option_map (object_at (table_of types st))) none) ∙ live)
 
   no_word : (r : ℕ) (o : Option ℕ) → (r ≡ 0 → ⊥) → cond (eqb r 0) (Some 0) (option_map (address_at at) o) ≡ None → o ≡ None
   no_word r None other none = refl

@@ -1,5 +1,5 @@
 -- Which words are stored for what is set or made.
-use Rattle.std.specs.Prelude.{◌≡◌, ◌⊎◌, ℕ, ◌+◌, ◌-◌, ◌==◌, cond, List, [], ◌∷◌, map, replicate, Option, Some, option_map}
+use Rattle.std.specs.Prelude.{◌≡◌, ◌⊎◌, ℕ, ◌+◌, ◌-◌, ◌==◌, cond, List, [], ◌∷◌, map, replicate, Option, Some, None, option_map}
 use Rattle.pm_model.specs.Changes.{Footprint, Write, placed}
 use Rattle.pud_defs.specs.declared.space.TheConstants.{SLOT_FIELDS_WORD, NEXT_SERIAL_WORD}
 use Rattle.pud_defs.specs.declared.records.Puddle.{Puddle}
@@ -12,6 +12,7 @@ use Rattle.pud_defs.specs.Frames.{frame_at}
 use Rattle.pud_defs.specs.Replay.{over, IsInLog}
 use Rattle.pud_defs.specs.Graph.{At}
 use Rattle.pud_defs.specs.Exported.{address_of}
+use Rattle.puddle_header.specs.Places.{place_of_slot}
 use Rattle.graph_read.specs.Reading.{place_in_pool}
 
 -- the address of the slot at a place, over the pool's bases
@@ -22,6 +23,14 @@ address_at at p = address_of (map (λ e. e.1) at) (At p)
 abbrev pub word_for : (F : ℕ) → List (ℕ × Puddle) → Image → Val → Option ℕ
 word_for F at image (Num v) = Some v
 word_for F at image (Ref r) = cond (r == 0) (Some 0) (option_map (address_at at) (place_in_pool F at image r))
+
+-- the slot is that of the object of a serial, and the word the one that stands for a value
+abbrev pub IsPlaceAndWord : (F : ℕ) → List (ℕ × Puddle) → Image → (s : ℕ) → Val → Slot × ℕ → Type 0
+IsPlaceAndWord F at image s x found = (place_in_pool F at image s ≡ Some (place_of_slot found.0)) × (word_for F at image x ≡ Some found.1)
+
+-- there is no such object, or no word that stands for the value
+abbrev pub LacksPlaceOrWord : (F : ℕ) → List (ℕ × Puddle) → Image → (s : ℕ) → Val → Type 0
+LacksPlaceOrWord F at image s x = (place_in_pool F at image s ≡ None) ⊎ (word_for F at image x ≡ None)
 
 -- the word of a frame that holds field f of a slot
 abbrev pub field_word : Slot → (f : ℕ) → ℕ

@@ -1,7 +1,7 @@
 //! What a transaction changes of objects: a field or the root is set, and an object is made or freed.
 #![tactic(auto)]
 
-ghost use Rattle.std.specs.Prelude.{◌≡◌, ◌⊎◌, ◌+◌, ◌*◌, ◌<◌, ◌≤◌, ℕ, List, [], ◌∷◌, true, false, All, Option, Result, IfOk, OnErr, length};
+ghost use Rattle.std.specs.Prelude.{◌≡◌, ◌⊎◌, ◌+◌, ◌*◌, ◌<◌, ◌≤◌, ℕ, List, [], ◌∷◌, true, false, All, Option, Result, IfOk, IfSome, OnErr, length};
 ghost use Rattle.pm_model.specs.Words.{reads};
 ghost use Rattle.pm_model.specs.Counts.{after_fault, fault_of};
 ghost use Rattle.pm_model.specs.Reads.{OnlyReads};
@@ -23,7 +23,7 @@ ghost use Rattle.object_alloc.specs.Alloc.{serial_word_at};
 ghost use Rattle.word_transaction.specs.Running.{ByTransaction};
 ghost use Rattle.hybrid_tx.specs.Grounds.{pool_ground, IsPlaced, IsRewrittenAt};
 ghost use Rattle.pud_defs.specs.Laters.{Later, laters_name};
-ghost use Rattle.hybrid_tx.specs.Stores.{address_at, word_for, new_words};
+ghost use Rattle.hybrid_tx.specs.Stores.{address_at, word_for, IsPlaceAndWord, LacksPlaceOrWord, new_words};
 ghost use Rattle.hybrid_tx.specs.Transactions.{MayName, MaySet, IsRewrittenFor, MayFree, IsSaving, IsOpenOn, Saves, RunsOn, MakesIn};
 
 use crate::Tx;
@@ -50,7 +50,7 @@ pub(crate) fn slot_address(pool: &[(u32, Puddle)], at: &Slot) -> u64
 
 /// The word that stands for a value: the number, 0 for null, or the address of the serial's object, None exactly where there
 /// is none.
-pub(crate) fn word_for<H: Host>(
+pub fn word_for<H: Host>(
     h: &mut H,
     frames: u32,
     pool: &[(u32, Puddle)],
@@ -74,6 +74,34 @@ pub(crate) fn word_for<H: Host>(
                 None => Ok(None),
             }
         }
+    }
+}
+
+/// The slot of the object of serial `s`, and the word that stands for the value, None exactly where there is no such object, or none that the value
+/// is to name. The value is looked up first, and each of the two once.
+pub fn place_and_word<H: Host>(
+    h: &mut H,
+    frames: u32,
+    pool: &[(u32, Puddle)],
+    s: u64,
+    x: Val,
+) -> Result<Option<(Slot, u64)>, HostFault>
+    requires few { frames ≤ MAX_FRAMES }
+    requires room { device_words frames ≤ (H.counts h.old).size }
+    requires known { IsOnDevice frames pool.now }
+    ensures found { H.tells → All (λ e. is_legal_base e.1.base ≡ true) pool.now → (image : Image) → reads (H.state h.old).now.words ≡ image
+        → IfOk result (λ found. IfSome found (IsPlaceAndWord frames pool.now image s x)) }
+    ensures none { H.tells → All (λ e. is_legal_base e.1.base ≡ true) pool.now → (image : Image) → reads (H.state h.old).now.words ≡ image
+        → IfOk result (λ found. found ≡ Option.None → LacksPlaceOrWord frames pool.now image s x) }
+    ensures within { IfOk result (λ found. IfSome found (λ at. IsSlotOf pool.now at.0)) }
+    ensures only_reads { OnlyReads H.tells H.state H.counts (fault_of result) h.old h.new }
+{
+    let Some(word) = word_for(h, frames, pool, x)? else {
+        return Ok(None);
+    };
+    match find_serial(h, frames, pool, s)? {
+        Some(at) => Ok(Some((at, word))),
+        None => Ok(None),
     }
 }
 
@@ -124,15 +152,43 @@ impl Tx {
             → (H.state h.new ≡ H.state h.old) × (self.new ≡ self.old) }
         ensures cause { H.counts h.new ≡ after_fault (fault_of result) (H.counts h.old) }
     {
-        let found = find_serial(h, frames, pool, s)?;
-        let word = word_for(h, frames, pool, x)?;
-        match (found, word) {
-            (Some(at), Some(v)) => {
-                let field = slot_begins(&at) + SLOT_FIELDS_WORD + f;
-                self.put_in_frame(h, frames, pool, at.ordinal, field, &[v])
-            }
-            _ => Ok(()),
+        match place_and_word(h, frames, pool, s, x)? {
+            Some((at, word)) => self.set_at(h, frames, pool, &at, f, word),
+            None => Ok(()),
         }
+    }
+
+    /// Gives field `f` of the object in a slot the value for which the word stands, as `set` does, but for the search.
+    ///
+    /// The field is below 30, the log lies before the frames, and three units are left. What it does to the pool's graph is said for each serial
+    /// that the slot has, and each value for which the word stands. Two fences.
+    pub fn set_at<H: Host>(
+        &mut self,
+        h: &mut H,
+        frames: u32,
+        pool: &[(u32, Puddle)],
+        at: &Slot,
+        f: u32,
+        word: u64,
+    ) -> Result<(), HostFault>
+        requires few { frames ≤ MAX_FRAMES }
+        requires device { device_words frames ≤ (H.counts h.old).size }
+        requires known { IsOnDevice frames pool.now }
+        requires place { (self.old).log.at + LOG_WORDS ≤ frames_at frames }
+        requires within { IsSlotOf pool.now at.now }
+        requires field { f < MAX_FIELDS }
+        requires room { (self.old).units + SET_UNITS ≤ LOG_ENTRY_WORDS }
+        ensures at { (self.new).log.at ≡ (self.old).log.at }
+        ensures changes { H.tells → Changes (ByTransaction (pool_ground frames pool.now) (self.old).log.at) (fault_of result) (H.state h.old) (H.state h.new) }
+        ensures runs { H.tells → (types : List (ℕ × ℕ)) (before : Image) (undone : Graph) (now : Graph) (laters : List Later) (s : ℕ) (x : Val) → IsPlaced frames pool.now
+            → IsRewrittenFor frames pool.now (reads (H.state h.old).now.words) s → IsOpenOn frames pool.now types (self.old).log before undone now laters (H.state h.old).now.words → MaySet types now s f x
+            → place_in_pool frames pool.now (reads (H.state h.old).now.words) s ≡ Option.Some (place_of_slot at.now) → word_for frames pool.now (reads (H.state h.old).now.words) x ≡ Option.Some word
+            → RunsOn frames pool.now types (self.new).log before undone (with_field s f x now) laters (fault_of result) (H.state h.old) (H.state h.new) }
+        ensures counts { IfOk result (λ _. (self.new).units ≡ (self.old).units + SET_UNITS) }
+        ensures cause { H.counts h.new ≡ after_fault (fault_of result) (H.counts h.old) }
+    {
+        let field = slot_begins(at) + SLOT_FIELDS_WORD + f;
+        self.put_in_frame(h, frames, pool, at.ordinal, field, &[word])
     }
 
     /// Makes an object of type `t` in a slot, under the next serial, and counts that one up. The answer is the serial.
@@ -223,7 +279,7 @@ impl Tx {
     }
 
     /// Keeps in the log the serial of a slot, and then frees the slot.
-    fn free_at<H: Host>(
+    fn clear<H: Host>(
         &mut self,
         h: &mut H,
         frames: u32,
@@ -248,6 +304,35 @@ impl Tx {
         self.words.save(h, slot_address(pool, &at), first, 1)?;
         self.units += SET_UNITS;
         free_slot(h, frames, at)
+    }
+
+    /// Frees the object in a slot, as `free` does, but for the search.
+    ///
+    /// The log lies before the frames, and three units are left. What it does to the pool's graph is said for each serial that the slot has. Two
+    /// fences.
+    pub fn free_at<H: Host>(
+        &mut self,
+        h: &mut H,
+        frames: u32,
+        pool: &[(u32, Puddle)],
+        at: &Slot,
+    ) -> Result<(), HostFault>
+        requires few { frames ≤ MAX_FRAMES }
+        requires device { device_words frames ≤ (H.counts h.old).size }
+        requires known { IsOnDevice frames pool.now }
+        requires place { (self.old).log.at + LOG_WORDS ≤ frames_at frames }
+        requires within { IsSlotOf pool.now at.now }
+        requires room { (self.old).units + SET_UNITS ≤ LOG_ENTRY_WORDS }
+        ensures at { (self.new).log.at ≡ (self.old).log.at }
+        ensures changes { H.tells → Changes (ByTransaction (pool_ground frames pool.now) (self.old).log.at) (fault_of result) (H.state h.old) (H.state h.new) }
+        ensures runs { H.tells → (types : List (ℕ × ℕ)) (before : Image) (undone : Graph) (now : Graph) (laters : List Later) (s : ℕ) → IsPlaced frames pool.now
+            → IsOpenOn frames pool.now types (self.old).log before undone now laters (H.state h.old).now.words → MayFree now s → laters_name s laters ≡ false
+            → place_in_pool frames pool.now (reads (H.state h.old).now.words) s ≡ Option.Some (place_of_slot at.now)
+            → RunsOn frames pool.now types (self.new).log before undone (without_object s now) laters (fault_of result) (H.state h.old) (H.state h.new) }
+        ensures counts { IfOk result (λ _. (self.new).units ≡ (self.old).units + SET_UNITS) }
+        ensures cause { H.counts h.new ≡ after_fault (fault_of result) (H.counts h.old) }
+    {
+        self.clear(h, frames, pool, *at)
     }
 
     /// Frees the object of serial `s`: its slot may hold a new one from then on.
@@ -281,7 +366,7 @@ impl Tx {
         ensures cause { H.counts h.new ≡ after_fault (fault_of result) (H.counts h.old) }
     {
         match find_serial(h, frames, pool, s)? {
-            Some(at) => self.free_at(h, frames, pool, at),
+            Some(at) => self.free_at(h, frames, pool, &at),
             None => Ok(()),
         }
     }
@@ -317,12 +402,42 @@ impl Tx {
             → (H.state h.new ≡ H.state h.old) × (self.new ≡ self.old) }
         ensures cause { H.counts h.new ≡ after_fault (fault_of result) (H.counts h.old) }
     {
+        match word_for(h, frames, pool, Val::Ref(s))? {
+            Some(word) => self.root_at(h, frames, pool, word),
+            None => Ok(()),
+        }
+    }
+
+    /// Makes the object for which the word stands the pool's root, or takes the root away with 0, as `root` does, but for the search.
+    ///
+    /// The log lies before the frames, and three units are left. What it does to the pool's graph is said for each serial for which the word
+    /// stands. Where the pool has no puddle, nothing is done. Two fences.
+    pub fn root_at<H: Host>(
+        &mut self,
+        h: &mut H,
+        frames: u32,
+        pool: &[(u32, Puddle)],
+        word: u64,
+    ) -> Result<(), HostFault>
+        requires few { frames ≤ MAX_FRAMES }
+        requires device { device_words frames ≤ (H.counts h.old).size }
+        requires known { IsOnDevice frames pool.now }
+        requires place { (self.old).log.at + LOG_WORDS ≤ frames_at frames }
+        requires room { (self.old).units + SET_UNITS ≤ LOG_ENTRY_WORDS }
+        ensures at { (self.new).log.at ≡ (self.old).log.at }
+        ensures changes { H.tells → Changes (ByTransaction (pool_ground frames pool.now) (self.old).log.at) (fault_of result) (H.state h.old) (H.state h.new) }
+        ensures runs { H.tells → (types : List (ℕ × ℕ)) (before : Image) (undone : Graph) (now : Graph) (laters : List Later) (s : ℕ) → IsPlaced frames pool.now
+            → IsRewrittenAt pool.now 0 → IsOpenOn frames pool.now types (self.old).log before undone now laters (H.state h.old).now.words
+            → word_for frames pool.now (reads (H.state h.old).now.words) (Val.Ref s) ≡ Option.Some word
+            → RunsOn frames pool.now types (self.new).log before undone (with_root s now) laters (fault_of result) (H.state h.old) (H.state h.new) }
+        ensures counts { H.tells → (types : List (ℕ × ℕ)) (before : Image) (undone : Graph) (now : Graph) (laters : List Later)
+            → IsOpenOn frames pool.now types (self.old).log before undone now laters (H.state h.old).now.words → IfOk result (λ _. (self.new).units ≡ (self.old).units + SET_UNITS) }
+        ensures nothing { length pool.now ≡ 0 → (H.state h.new ≡ H.state h.old) × (self.new ≡ self.old) }
+        ensures cause { H.counts h.new ≡ after_fault (fault_of result) (H.counts h.old) }
+    {
         if pool.is_empty() {
             return Ok(());
         }
-        match word_for(h, frames, pool, Val::Ref(s))? {
-            Some(v) => self.put_in_frame(h, frames, pool, 0, ROOT_WORD, &[v]),
-            None => Ok(()),
-        }
+        self.put_in_frame(h, frames, pool, 0, ROOT_WORD, &[word])
     }
 }

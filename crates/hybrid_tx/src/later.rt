@@ -19,7 +19,7 @@ ghost use Rattle.pud_defs.specs.Laters.{Later, later_names, laters_name};
 ghost use Rattle.log_entry.specs.Reading.{entry_from};
 ghost use Rattle.log_store.specs.Store.{InLog};
 ghost use Rattle.graph_laws.specs.Changes.{AreBases};
-ghost use Rattle.puddle_header.specs.Places.{IsSlotOf};
+ghost use Rattle.puddle_header.specs.Places.{place_of_slot, IsSlotOf};
 ghost use Rattle.graph_read.specs.Reading.{place_in_pool};
 ghost use Rattle.hybrid_tx.specs.Grounds.{IsPlaced};
 ghost use Rattle.hybrid_tx.specs.Laters.{IsFieldAddress, IsFieldOf};
@@ -27,7 +27,7 @@ ghost use Rattle.hybrid_tx.specs.Stores.{address_at, word_for};
 ghost use Rattle.hybrid_tx.specs.Transactions.{MaySet, IsLater, IsOpenOn, RunsOn};
 
 use crate::Tx;
-use crate::changing::{slot_address, word_for};
+use crate::changing::{place_and_word, slot_address};
 use graph_read::find_serial;
 use log_entry::{Entry, EntryReader};
 use pm_model::{Host, HostFault};
@@ -163,15 +163,43 @@ impl Tx {
             → (H.state h.new ≡ H.state h.old) × (self.new ≡ self.old) }
         ensures cause { H.counts h.new ≡ after_fault (fault_of result) (H.counts h.old) }
     {
-        let found = find_serial(h, frames, pool, s)?;
-        let word = word_for(h, frames, pool, x)?;
-        match (found, word) {
-            (Some(at), Some(v)) => {
-                let field = slot_begins(&at) + SLOT_FIELDS_WORD + f;
-                self.ask_in_frame(h, pool, at.ordinal, field, v)
-            }
-            _ => Ok(()),
+        match place_and_word(h, frames, pool, s, x)? {
+            Some((at, word)) => self.later_at(h, frames, pool, &at, f, word),
+            None => Ok(()),
         }
+    }
+
+    /// Asks for the value for which the word stands, of field `f` of the object in a slot, as `later` does, but for the search.
+    ///
+    /// The field is below 30, the log lies before the frames, and three units are left. What it asks for is said for each serial that the slot
+    /// has, and each value for which the word stands. Two fences.
+    pub fn later_at<H: Host>(
+        &mut self,
+        h: &mut H,
+        frames: u32,
+        pool: &[(u32, Puddle)],
+        at: &Slot,
+        f: u32,
+        word: u64,
+    ) -> Result<(), HostFault>
+        requires few { frames ≤ MAX_FRAMES }
+        requires device { device_words frames ≤ (H.counts h.old).size }
+        requires known { IsOnDevice frames pool.now }
+        requires place { (self.old).log.at + LOG_WORDS ≤ frames_at frames }
+        requires within { IsSlotOf pool.now at.now }
+        requires field { f < MAX_FIELDS }
+        requires room { (self.old).units + SET_UNITS ≤ LOG_ENTRY_WORDS }
+        ensures at { (self.new).log.at ≡ (self.old).log.at }
+        ensures changes { H.tells → Changes (InLog (self.old).log.at) (fault_of result) (H.state h.old) (H.state h.new) }
+        ensures runs { H.tells → (types : List (ℕ × ℕ)) (before : Image) (undone : Graph) (now : Graph) (laters : List Later) (s : ℕ) (x : Val) → IsPlaced frames pool.now
+            → IsOpenOn frames pool.now types (self.old).log before undone now laters (H.state h.old).now.words → MaySet types now s f x
+            → place_in_pool frames pool.now (reads (H.state h.old).now.words) s ≡ Option.Some (place_of_slot at.now) → word_for frames pool.now (reads (H.state h.old).now.words) x ≡ Option.Some word
+            → RunsOn frames pool.now types (self.new).log before undone now (laters ++ record { s = s; f = f; x = x } ∷ []) (fault_of result) (H.state h.old) (H.state h.new) }
+        ensures counts { IfOk result (λ _. (self.new).units ≡ (self.old).units + SET_UNITS) }
+        ensures cause { H.counts h.new ≡ after_fault (fault_of result) (H.counts h.old) }
+    {
+        let field = slot_begins(at) + SLOT_FIELDS_WORD + f;
+        self.ask_in_frame(h, pool, at.ordinal, field, word)
     }
 
     /// Whether a value that is asked for later is one of a field of the object of serial `s`, or names that object.
@@ -193,10 +221,32 @@ impl Tx {
             → IsOpenOn frames pool.now (types_of image) (self.now).log before undone now laters (H.state h.old).now.words → s ≢ 0 → IfOk result (λ named. named ≡ laters_name s laters) }
         ensures only_reads { OnlyReads H.tells H.state H.counts (fault_of result) h.old h.new }
     {
-        let Some(at) = find_serial(h, frames, pool, s)? else {
-            return Ok(false);
-        };
-        let address = slot_address(pool, &at);
+        match find_serial(h, frames, pool, s)? {
+            Some(at) => self.later_names_at(h, frames, pool, s, &at),
+            None => Ok(false),
+        }
+    }
+
+    /// The same of the object of serial `s`, not 0, that is in a slot, but for the search.
+    pub fn later_names_at<H: Host>(
+        &self,
+        h: &mut H,
+        frames: u32,
+        pool: &[(u32, Puddle)],
+        s: u64,
+        at: &Slot,
+    ) -> Result<bool, HostFault>
+        requires few { frames ≤ MAX_FRAMES }
+        requires device { device_words frames ≤ (H.counts h.old).size }
+        requires known { IsOnDevice frames pool.now }
+        requires place { (self.now).log.at + LOG_WORDS ≤ (H.counts h.old).size }
+        requires within { IsSlotOf pool.now at.now }
+        ensures names { H.tells → (image : Image) → reads (H.state h.old).now.words ≡ image → (before : Image) (undone : Graph) (now : Graph) (laters : List Later) → IsPlaced frames pool.now
+            → IsOpenOn frames pool.now (types_of image) (self.now).log before undone now laters (H.state h.old).now.words → s ≢ 0
+            → place_in_pool frames pool.now image s ≡ Option.Some (place_of_slot at.now) → IfOk result (λ named. named ≡ laters_name s laters) }
+        ensures only_reads { OnlyReads H.tells H.state H.counts (fault_of result) h.old h.new }
+    {
+        let address = slot_address(pool, at);
         let mut reader = EntryReader::new(self.at());
         while let Some(entry) = reader.next(h)? {
             if names(h, frames, pool, s, address, &entry)? {

@@ -1,36 +1,40 @@
 -- Lines on a transaction that is held: which of them are refused.
-use Rattle.std.proofs.Common.{◌≡◌, ℕ, ◌+◌, Bool, true, false, cond, ◌||◌, ltb, Option, Some, None, is_none, refl, sym, ap, subst, ◌∙◌}
-use Rattle.std.specs.Prelude.{slice_get, List}
+use Rattle.std.proofs.Common.{◌≡◌, inl, inr, ℕ, ◌+◌, Bool, true, false, not, cond, ◌&&◌, ◌||◌, ltb, eqb, Option, Some, None, is_none, option_map, refl, sym, ap, subst, ◌∙◌}
+use Rattle.std.specs.Prelude.{slice_get, List, IfSome}
 use Rattle.std.specs.Option.{option_or}
 use Rattle.pm_model.specs.Words.{reads}
 use Rattle.pm_model.specs.Moments.{State}
 use Rattle.pud_defs.specs.declared.layout.TheConstants.{LOG_ENTRY_WORDS, SET_UNITS}
 use Rattle.pud_defs.specs.declared.objects.Val.{Val}
 use Rattle.pud_defs.specs.declared.records.Puddle.{Puddle}
-use Rattle.pud_defs.specs.declared.objects.Val.TheVariants.{Ref}
+use Rattle.pud_defs.specs.declared.records.Slot.{Slot}
+use Rattle.pud_defs.specs.declared.objects.Val.TheVariants.{Num, Ref}
 use Rattle.pud_defs.specs.declared.machine.Command.TheVariants.{Commit, Set, Root, Free}
 use Rattle.pud_defs.specs.declared.machine.Refusal.{Refusal}
 use Rattle.pud_defs.specs.declared.machine.Refusal.TheVariants as refusals
 use Rattle.pud_defs.specs.Image.{Image}
 use Rattle.pud_defs.specs.Types.{types_of}
 use Rattle.pud_defs.specs.Stored.{stored_in}
-use Rattle.pud_defs.specs.Graph.{Graph, Object, object_in, is_held, graph_of}
+use Rattle.pud_defs.specs.Graph.{Graph, Object, object_at, object_in, is_held, graph_of}
 use Rattle.pud_defs.specs.Laters.{laters_name}
 use Rattle.pud_defs.specs.PoolChanges.{pool_named}
 use Rattle.pud_defs.specs.World.{Transaction, World}
 use Rattle.pud_defs.specs.Transactions.{units_of, laters_of}
 use Rattle.pud_defs.specs.Step.{graph_seen, field_of, misses, are_of_two_kinds, refusal_of}
+use Rattle.puddle_header.specs.Places.{place_of_slot}
 use Rattle.graph_read.specs.declared.fields.FieldRead.{FieldRead}
-use Rattle.graph_read.specs.Reading.{read_value, read_by}
+use Rattle.graph_read.specs.Reading.{table_in, place_in_pool, read_value, read_by}
 use Rattle.ready_daemon.specs.Memory.{Held, Memory, held_under}
 use Rattle.ready_daemon.specs.Held.{IsHeld}
 use Rattle.log_store.specs.Store.{OpenLog}
 use Rattle.hybrid_tx.specs.Grounds.{IsPlaced}
+use Rattle.hybrid_tx.specs.Stores.{address_at, word_for, IsPlaceAndWord, LacksPlaceOrWord}
 use Rattle.hybrid_tx.specs.Transactions.{IsOpenOn}
+use Rattle.hybrid_tx.proofs.FieldsSet.{object_by_place}
 use Rattle.pool_transaction.specs.declared.changing.Change.{Change}
 use Rattle.pool_transaction.specs.declared.changing.Change.TheVariants as changes
 use Rattle.pool_transaction.specs.Changing.{line_of}
-use Rattle.pool_transaction.specs.Refusing.{field_refusal, refusal_to_set, refusal_to_root, refusal_to_free}
+use Rattle.pool_transaction.specs.Refusing.{room_refusal, field_refusal, refusal_to_free}
 use Rattle.ready_daemon.specs.Ready.{IsReady}
 use Rattle.ready_daemon.proofs.Beside.{held_is}
 use Rattle.pool_transaction.proofs.HeldRuns.{held_placed}
@@ -44,12 +48,22 @@ by_field : (o : Option Val) (x : Val) (units : ℕ)
 by_field None x units = refl
 by_field (Some v) x units = refl
 
-by_object : (missed : Bool) (o : Option Object) (f : ℕ) (x : Val) (units : ℕ)
-    → refusal_to_set missed (read_by o f) x units
-    ≡ cond (missed || is_none o) (Some refusals.Object) (cond (is_none (field_of f o)) (Some refusals.Field) (cond (are_of_two_kinds (field_of f o) x) (Some refusals.Kind) (cond (ltb LOG_ENTRY_WORDS (units + SET_UNITS)) (Some refusals.TooBig) None)))
-by_object true o f x units = refl
-by_object false None f x units = refl
-by_object false (Some o) f x units = by_field (slice_get o.fields f) x units
+-- what is read where the object stands, if it does, and where the value's does
+abbrev by_places : (missed : Bool) (o : Option Object) (f : ℕ) (x : Val) (units : ℕ) → Option Refusal
+by_places missed o f x units =
+    cond (missed || is_none o) (Some refusals.Object)
+    (cond (is_none (field_of f o)) (Some refusals.Field)
+    (cond (are_of_two_kinds (field_of f o) x) (Some refusals.Kind)
+    (cond (ltb LOG_ENTRY_WORDS (units + SET_UNITS)) (Some refusals.TooBig) None)))
+
+missing : (missed : Bool) (f : ℕ) (x : Val) (units : ℕ) → Some refusals.Object ≡ by_places missed None f x units
+missing true f x units = refl
+missing false f x units = refl
+
+missed_when : {A : Type 0} (null : Bool) (place : Option ℕ) (object : ℕ → A) (address : ℕ → ℕ) → (not null && is_none (option_map object place)) ≡ is_none (cond null (Some 0) (option_map address place))
+missed_when true place object address = refl
+missed_when false None object address = refl
+missed_when false (Some p) object address = refl
 
 -- ---- on a ready device
 
@@ -65,8 +79,12 @@ module _ (size : ℕ) (w : World) (memory : Memory) (s : State) (ready : IsReady
   own_held = own_is_open w memory.held ready.mask s.now.words held.client held.name number ready.held (record { mine = held; is = there; whose = refl; pool = refl })
 
   -- its puddles have the graph that its client sees
-  pub graph_held : (frames : ℕ) → frames ≡ w.stored.frames → graph_of (types_of image) (stored_in frames held.at image) ≡ Some is.transaction.now
+  graph_held : (frames : ℕ) → frames ≡ w.stored.frames → graph_of (types_of image) (stored_in frames held.at image) ≡ Some is.transaction.now
   graph_held frames on = (λ p. graph_of ((types_read size w memory s ready).types p) (stored_in (on p) held.at image)) ∙ is.running.is
+
+  -- and lie as those of a ground
+  pub placed_at : (frames : ℕ) → frames ≡ w.stored.frames → IsPlaced frames held.at
+  placed_at frames on = subst (λ (n : ℕ). IsPlaced n held.at) (sym on) (held_placed size w memory held s number there ready)
 
   -- a change of it is refused by its own causes alone
   refused_by : (change : Change) → change_refusal change (Some is.transaction.now) is.transaction.laters is.transaction.units ≡ refusal_of w (line_of change held.client held.name)
@@ -75,35 +93,73 @@ module _ (size : ℕ) (w : World) (memory : Memory) (s : State) (ready : IsReady
       ∙ ap (λ (r : Option Refusal). option_or r (change_refusal change (graph_seen (w.transactions held.name) (pool_named held.name w.stored)) (laters_of (w.transactions held.name)) (units_of (w.transactions held.name)))) (sym own_held)
       ∙ sym (refusal_of-change w held.client held.name change)
 
-  -- why a field of it is not set, by what was read of that
-  pub refused_to_set : (frames serial f units : ℕ) (x : Val) (at : List (ℕ × Puddle)) (missed : Bool) (read : FieldRead) → frames ≡ w.stored.frames → at ≡ held.at
-      → ((g : Graph) → graph_of (types_of image) (stored_in frames at image) ≡ Some g → missed ≡ misses (Some g) x)
-      → ((g : Graph) → graph_of (types_of image) (stored_in frames at image) ≡ Some g → read ≡ read_by (object_in serial g) f)
-      → units ≡ held.units → refusal_to_set missed read x units ≡ refusal_of w (Set held.client held.name serial f x)
-  refused_to_set frames serial f units x at missed read on same names fields used =
-      let graph = ap (λ puddles. graph_of (types_of image) (stored_in frames puddles image)) same ∙ graph_held frames on in
-      let now : Graph = is.transaction.now in
-      (λ p. refusal_to_set (names now graph p) (fields now graph p) x ((used ∙ sym is.units) p))
-      ∙ by_object (misses (Some now) x) (object_in serial now) f x is.transaction.units
-      ∙ refused_by (changes.Set serial f x)
+  module _ (frames : ℕ) (at : List (ℕ × Puddle)) (on : frames ≡ w.stored.frames) (same : at ≡ held.at) where
+    abbrev now : Graph
+    now = is.transaction.now
 
-  -- why an object is not made the root
-  pub refused_to_root : (frames serial units : ℕ) (at : List (ℕ × Puddle)) (missed : Bool) → frames ≡ w.stored.frames → at ≡ held.at
-      → ((g : Graph) → graph_of (types_of image) (stored_in frames at image) ≡ Some g → missed ≡ misses (Some g) (Ref serial))
-      → units ≡ held.units → refusal_to_root missed units ≡ refusal_of w (Root held.client held.name serial)
-  refused_to_root frames serial units at missed on same names used =
-      let graph = ap (λ puddles. graph_of (types_of image) (stored_in frames puddles image)) same ∙ graph_held frames on in
-      (λ p. refusal_to_root (names is.transaction.now graph p) ((used ∙ sym is.units) p))
-      ∙ refused_by (changes.Root serial)
+    graph_at : graph_of (types_of image) (stored_in frames at image) ≡ Some now
+    graph_at = ap (λ puddles. graph_of (types_of image) (stored_in frames puddles image)) same ∙ graph_held frames on
 
-  -- why an object is not freed: there is none
-  pub refused_none_to_free : (frames serial : ℕ) (at : List (ℕ × Puddle)) → frames ≡ w.stored.frames → at ≡ held.at
-      → ((g : Graph) → graph_of (types_of image) (stored_in frames at image) ≡ Some g → is_none (object_in serial g) ≡ true) → Some refusals.Object ≡ refusal_of w (Free held.client held.name serial)
-  refused_none_to_free frames serial at on same none =
-      let graph = ap (λ puddles. graph_of (types_of image) (stored_in frames puddles image)) same ∙ graph_held frames on in
-      let now : Graph = is.transaction.now in
-      ap (λ (b : Bool). cond b (Some refusals.Object) (refusal_to_free (is_held serial now) (laters_name serial is.transaction.laters) is.transaction.units)) (sym (none now graph))
-      ∙ refused_by (changes.Free serial)
+    object_is : (serial : ℕ) → object_in serial now ≡ option_map (object_at (table_in frames at image)) (place_in_pool frames at image serial)
+    object_is = object_by_place (types_of image) frames at image now graph_at
+
+    -- an object is missed where no word stands for the value
+    missed_is : (x : Val) → misses (Some now) x ≡ is_none (word_for frames at image x)
+    missed_is (Num v) = refl
+    missed_is (Ref r) =
+        ap (λ (o : Option Object). not (eqb r 0) && is_none o) (object_is r) ∙ missed_when (eqb r 0) (place_in_pool frames at image r) (object_at (table_in frames at image)) (address_at at)
+
+    -- why a field of it is not set, by where the object stands, and by the word of the value
+    by_found : (serial f units : ℕ) (x : Val) → units ≡ held.units
+        → by_places (is_none (word_for frames at image x)) (option_map (object_at (table_in frames at image)) (place_in_pool frames at image serial)) f x units ≡ refusal_of w (Set held.client held.name serial f x)
+    by_found serial f units x used =
+        (λ p. by_places (sym (missed_is x) p) (sym (object_is serial) p) f x ((used ∙ sym is.units) p)) ∙ refused_by (changes.Set serial f x)
+
+    abbrev Placed : Type 0
+    Placed = IsPlaced frames at
+
+    placed : Placed
+    placed = subst (IsPlaced frames) (sym same) (placed_at frames on)
+
+    -- one of the two is not there
+    pub refused_unfound : (serial f : ℕ) (x : Val) → (Placed → LacksPlaceOrWord frames at image serial x) → Some refusals.Object ≡ refusal_of w (Set held.client held.name serial f x)
+    refused_unfound serial f x lacks =
+        elim (lacks placed) [
+          | inl none ↦
+              missing (is_none (word_for frames at image x)) f x held.units
+              ∙ ap (λ (p : Option ℕ). by_places (is_none (word_for frames at image x)) (option_map (object_at (table_in frames at image)) p) f x held.units) (sym none)
+          | inr none ↦ ap (λ (v : Option ℕ). by_places (is_none v) (option_map (object_at (table_in frames at image)) (place_in_pool frames at image serial)) f x held.units) (sym none)
+        ]
+        ∙ by_found serial f held.units x refl
+
+    -- both are: by what was read of the field
+    pub refused_to_set : (serial f units : ℕ) (x : Val) (slot : Slot) (word : ℕ) (read : FieldRead) (found : Option (Slot × ℕ)) → found ≡ Some (slot, word)
+        → (Placed → IfSome found (IsPlaceAndWord frames at image serial x)) → read ≡ read_by (Some (object_at (table_in frames at image) (place_of_slot slot))) f → units ≡ held.units
+        → field_refusal read x units ≡ refusal_of w (Set held.client held.name serial f x)
+    refused_to_set serial f units x slot word read found is_found found_so is_read used =
+        let there = subst (λ (o : Option (Slot × ℕ)). IfSome o (IsPlaceAndWord frames at image serial x)) is_found (found_so placed) in
+        ap (λ (r : FieldRead). field_refusal r x units) is_read
+        ∙ by_field (slice_get (object_at (table_in frames at image) (place_of_slot slot)).fields f) x units
+        ∙ (λ p. by_places (is_none (sym there.1 p)) (option_map (object_at (table_in frames at image)) (sym there.0 p)) f x units)
+        ∙ by_found serial f units x used
+
+    -- why an object is not made the root: no word stands for it
+    by_word : (serial : ℕ) → cond (is_none (word_for frames at image (Ref serial))) (Some refusals.Object) (room_refusal held.units) ≡ refusal_of w (Root held.client held.name serial)
+    by_word serial = (λ p. cond (sym (missed_is (Ref serial)) p) (Some refusals.Object) (room_refusal (sym is.units p))) ∙ refused_by (changes.Root serial)
+
+    pub refused_unrooted : (serial : ℕ) → (Placed → word_for frames at image (Ref serial) ≡ None) → Some refusals.Object ≡ refusal_of w (Root held.client held.name serial)
+    refused_unrooted serial none = (λ p. cond (is_none (sym (none placed) p)) (Some refusals.Object) (room_refusal held.units)) ∙ by_word serial
+
+    -- or one does
+    pub refused_to_root : (serial units word : ℕ) → (Placed → word_for frames at image (Ref serial) ≡ Some word) → units ≡ held.units → room_refusal units ≡ refusal_of w (Root held.client held.name serial)
+    refused_to_root serial units word is_word used = (λ p. cond (is_none (sym (is_word placed) p)) (Some refusals.Object) (room_refusal (used p))) ∙ by_word serial
+
+    -- why an object is not freed: there is none
+    pub refused_none_to_free : (serial : ℕ) → place_in_pool frames at image serial ≡ None → Some refusals.Object ≡ refusal_of w (Free held.client held.name serial)
+    refused_none_to_free serial none =
+        ap (λ (o : Option Object). cond (is_none o) (Some refusals.Object) (refusal_to_free (is_held serial now) (laters_name serial is.transaction.laters) is.transaction.units))
+        (sym (object_is serial ∙ ap (option_map (object_at (table_in frames at image))) none))
+        ∙ refused_by (changes.Free serial)
 
   -- it is open on these puddles, by these types and with this log, in a state
   abbrev pub IsOpenIn : State → ℕ → List (ℕ × Puddle) → List (ℕ × ℕ) → OpenLog → Type 0
@@ -119,14 +175,14 @@ module _ (size : ℕ) (w : World) (memory : Memory) (s : State) (ready : IsReady
       (subst (λ (puddles : List (ℕ × Puddle)). IsPlaced w.stored.frames puddles × IsOpenIn then w.stored.frames puddles (types_of image) log) (sym same) (held_placed size w memory held s number there ready, opened))
 
   -- or by what names one that is there
-  pub refused_to_free : (then : State) (frames serial units : ℕ) (at : List (ℕ × Puddle)) (log : OpenLog) (named asked : Bool) → then ≡ s → frames ≡ w.stored.frames → at ≡ held.at → log ≡ held.log
-      → ((g : Graph) → graph_of (types_of image) (stored_in frames at image) ≡ Some g → is_none (object_in serial g) ≡ false)
+  pub refused_to_free : (then : State) (frames serial units place : ℕ) (at : List (ℕ × Puddle)) (log : OpenLog) (named asked : Bool) → then ≡ s → (on : frames ≡ w.stored.frames) (same : at ≡ held.at) → log ≡ held.log
+      → place_in_pool frames at image serial ≡ Some place
       → ((g : Graph) → graph_of (types_of image) (stored_in frames at image) ≡ Some g → named ≡ is_held serial g)
       → (IsPlaced frames at → IsOpenIn then frames at (types_of image) log → asked ≡ laters_name serial is.transaction.laters) → units ≡ held.units
       → refusal_to_free named asked units ≡ refusal_of w (Free held.client held.name serial)
-  refused_to_free then frames serial units at log named asked still on same logged is_there names laters used =
-      let graph = ap (λ puddles. graph_of (types_of image) (stored_in frames puddles image)) same ∙ graph_held frames on in
+  refused_to_free then frames serial units place at log named asked still on same logged found names laters used =
       let now : Graph = is.transaction.now in
+      let object = object_is frames at on same serial ∙ ap (option_map (object_at (table_in frames at image))) found in
       let opened = open_read then frames at log still on same logged in
-      (λ p. cond (sym (is_there now graph) p) (Some refusals.Object) (refusal_to_free (names now graph p) (laters opened.0 opened.1 p) ((used ∙ sym is.units) p)))
+      (λ p. cond (is_none (sym object p)) (Some refusals.Object) (refusal_to_free (names now (graph_at frames at on same) p) (laters opened.0 opened.1 p) ((used ∙ sym is.units) p)))
       ∙ refused_by (changes.Free serial)

@@ -77,9 +77,9 @@ module _ (size : ℕ) (w : World) (memory : Memory) (held : Held) (old : State) 
     -- a line that is not refused is carried out by a call that makes its change, where it may be made
     pub Applies-line : (change : Change) (done : Result Unit HostFault) → IsRewritten held.at → refusal_of w (line_of change held.client held.name) ≡ None
         → (IsRewritten at → MayChange w.stored.types is.transaction change → OwesRuns F at (changed_by change) (fault_of done))
-        → (MayChange w.stored.types is.transaction change → OwesUsed F at SET_UNITS done)
+        → OwesUsed F at SET_UNITS done
         → Applies size w (after w (line_of change held.client held.name)) (with_held number (Some (with_tx tx held)) memory) (fault_of done) old new
     Applies-line change done rewritten free runs used =
         let may = may_change_unrefused w held.client held.name change (stored_in w.stored.frames held.at (reads old.now.words)) is.transaction is.is is.running.is free in
         subst (λ (v : World). Applies size w v (with_held number (Some (with_tx tx held)) memory) (fault_of done) old new) (sym (after_line w held.client held.name change))
-        (Applies-changed SET_UNITS (changed_by change) (Charges-change change) done (runs (subst IsRewritten (sym listed) rewritten) may) (used may))
+        (Applies-changed SET_UNITS (changed_by change) (Charges-change change) done (runs (subst IsRewritten (sym listed) rewritten) may) used)

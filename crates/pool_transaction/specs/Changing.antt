@@ -1,10 +1,14 @@
 -- What a line changes in a transaction that is held, and what stays of it while it goes on; why an object is not made in it, and what making one leaves.
-use Rattle.std.specs.Prelude.{◌≡◌, ℕ, ◌+◌, ◌<◌, ◌≤◌, false, nat_le, nat_lt, cond, List, length, Option, Some, None, is_none}
+use Rattle.std.specs.Prelude.{◌≡◌, ℕ, Bool, ◌+◌, ◌<◌, ◌≤◌, false, nat_le, nat_lt, cond, List, length, Option, Some, None, is_none}
 use Rattle.pud_defs.specs.declared.layout.TheConstants.{LOG_ENTRY_WORDS, MAX_FIELDS, SET_UNITS, NEW_UNITS, NUMBER_LIMIT, NEXT_NUMBER_WORD}
 use Rattle.pud_defs.specs.declared.machine.Command.{Command}
 use Rattle.pud_defs.specs.declared.machine.Command.TheVariants as commands
 use Rattle.pud_defs.specs.declared.machine.Refusal.{Refusal}
 use Rattle.pud_defs.specs.declared.machine.Refusal.TheVariants as refusals
+use Rattle.pud_defs.specs.declared.objects.Val.{Val}
+use Rattle.pud_defs.specs.declared.objects.Val.TheVariants.{Ref}
+use Rattle.pud_defs.specs.declared.records.Puddle.{Puddle}
+use Rattle.pud_defs.specs.declared.records.Slot.{Slot}
 use Rattle.pud_defs.specs.GraphChanges.{with_field, with_root, without_object, with_new}
 use Rattle.pud_defs.specs.Image.{Image}
 use Rattle.pud_defs.specs.Laters.{laters_name}
@@ -16,9 +20,14 @@ use Rattle.pud_defs.specs.Types.{map_of}
 use Rattle.pud_defs.specs.World.{Transaction, World}
 use Rattle.registry.specs.declared.adding.Added.{Added}
 use Rattle.registry.specs.Growth.{grow_refusal, IsGrowthFor}
+use Rattle.puddle_header.specs.Places.{place_of_slot, IsSlotOf}
+use Rattle.graph_read.specs.Reading.{place_in_pool}
+use Rattle.hybrid_tx.specs.Stores.{word_for, IsPlaceAndWord}
 use Rattle.hybrid_tx.specs.Transactions.{MayName, MaySet, MayFree}
 use Rattle.pool_transaction.specs.declared.changing.Change.{Change}
 use Rattle.pool_transaction.specs.declared.changing.Change.TheVariants.{Set, Later, Root, Free}
+use Rattle.pool_transaction.specs.declared.changing.Found.{Found}
+use Rattle.pool_transaction.specs.declared.changing.Found.TheVariants as founds
 use Rattle.ready_daemon.specs.Memory.{Held}
 
 -- ---- a line of three units
@@ -50,6 +59,43 @@ MayChange types t (Set s f x) = MaySet types t.now s f x
 MayChange types t (Later s f x) = MaySet types t.now s f x
 MayChange types t (Root s) = MayName t.now s
 MayChange types t (Free s) = MayFree t.now s × (laters_name s t.laters ≡ false)
+
+-- ---- what was found of it
+
+-- the change of a field, at once or at the commit
+abbrev pub field_change : (later : Bool) → (s f : ℕ) → Val → Change
+field_change later s f x = cond later (Later s f x) (Set s f x)
+
+-- A field is to be set, or its value asked for: by this image of the pool the slot is that of its object, and the word stands for the value.
+pub record IsFieldFound (F : ℕ) (at : List (ℕ × Puddle)) (image : Image) (change : Change) (slot : Slot) (f word : ℕ) (later : Bool) : Type 0 where
+  pub s : ℕ
+  pub x : Val
+  pub is : change ≡ field_change later s f x
+  pub found : IsPlaceAndWord F at image s x (slot, word)
+
+-- The root is to be set: the word stands for a pointer to it.
+pub record IsRootFound (F : ℕ) (at : List (ℕ × Puddle)) (image : Image) (change : Change) (word : ℕ) : Type 0 where
+  pub s : ℕ
+  pub is : change ≡ Root s
+  pub found : word_for F at image (Ref s) ≡ Some word
+
+-- An object is to be freed: the slot is its.
+pub record IsObjectFound (F : ℕ) (at : List (ℕ × Puddle)) (image : Image) (change : Change) (slot : Slot) : Type 0 where
+  pub s : ℕ
+  pub is : change ≡ Free s
+  pub found : place_in_pool F at image s ≡ Some (place_of_slot slot)
+
+-- what was found is so of the change
+abbrev pub IsFoundBy : ℕ → List (ℕ × Puddle) → Image → Change → Found → Type 0
+IsFoundBy F at image change (founds.Field slot f word later) = IsFieldFound F at image change slot f word later
+IsFoundBy F at image change (founds.Root word) = IsRootFound F at image change word
+IsFoundBy F at image change (founds.Object slot) = IsObjectFound F at image change slot
+
+-- its slot is one of these puddles, and its field one that an object may have
+abbrev pub IsFoundWithin : List (ℕ × Puddle) → Found → Type 0
+IsFoundWithin at (founds.Field slot f word later) = IsSlotOf at slot × (f < MAX_FIELDS)
+IsFoundWithin at (founds.Root word) = Unit {0}
+IsFoundWithin at (founds.Object slot) = IsSlotOf at slot
 
 -- ---- a transaction goes on
 

@@ -22,14 +22,6 @@ field_refusal NoObject x units = Some refusals.Object
 field_refusal NoField x units = Some refusals.Field
 field_refusal (Value was) x units = cond (are_of_two_kinds (Some was) x) (Some refusals.Kind) (room_refusal units)
 
--- the same, by whether the value names an object that is not there
-abbrev pub refusal_to_set : (missed : Bool) → FieldRead → Val → (units : ℕ) → Option Refusal
-refusal_to_set missed read x units = cond missed (Some refusals.Object) (field_refusal read x units)
-
--- why an object is not made the root, by whether there is none of its serial
-abbrev pub refusal_to_root : (missed : Bool) → (units : ℕ) → Option Refusal
-refusal_to_root missed units = cond missed (Some refusals.Object) (room_refusal units)
-
 -- why an object that is there is not freed, by whether the root or a field names it, and whether what is asked for later does
 abbrev pub refusal_to_free : (held asked : Bool) → (units : ℕ) → Option Refusal
 refusal_to_free held asked units = cond (held || asked) (Some refusals.Held) (room_refusal units)

@@ -12,6 +12,7 @@ ghost use Rattle.pud_defs.specs.Layout.{device_words, frames_at};
 ghost use Rattle.pud_defs.specs.Types.{map_of, types_of};
 ghost use Rattle.pud_defs.specs.Stored.{IsOnDevice, stored_in};
 ghost use Rattle.pud_defs.specs.Graph.{Graph, next_serial_of};
+ghost use Rattle.pud_defs.specs.Laters.{Later};
 ghost use Rattle.pud_defs.specs.PoolChanges.{pool_named};
 ghost use Rattle.pud_defs.specs.Step.{refusal_of, after, graph_seen, next_in, grows, answer_by, world_by};
 ghost use Rattle.pud_defs.specs.Step.Answer.{of_reply};
@@ -26,7 +27,7 @@ ghost use Rattle.ready_daemon.specs.Memory.{Memory, held_under, with_held};
 ghost use Rattle.ready_daemon.specs.Held.{IsHeldWithin};
 ghost use Rattle.registry.specs.Adding.{IsAddedWithin};
 ghost use Rattle.registry.specs.Places.{refusal_in};
-ghost use Rattle.pool_transaction.specs.Changing.{line_of, changed_by, IsLegalChange, MayChange, StaysOpen, refusal_to_make, refusal_by_tables, GrowsBy, refusal_by_world, with_more, with_made};
+ghost use Rattle.pool_transaction.specs.Changing.{line_of, changed_by, IsLegalChange, IsFoundWithin, IsFoundBy, MayChange, StaysOpen, refusal_to_make, refusal_by_tables, GrowsBy, refusal_by_world, with_more, with_made};
 ghost use Rattle.ready_daemon.specs.Ready.{KeepsRest, IsReady, Applies};
 
 use crate::opened::Opened;
@@ -35,7 +36,7 @@ use pm_model::{Host, HostFault};
 use pud_defs::layout::{LOG_ENTRY_WORDS, NEW_UNITS, NUMBER_LIMIT};
 use pud_defs::machine::{Refusal, Reply};
 use pud_defs::objects::Val;
-use pud_defs::records::Puddle;
+use pud_defs::records::{Puddle, Slot};
 use puddle_header::next_serial;
 use puddle_table::find_puddles;
 use registry::{Added, grow_pool};
@@ -52,6 +53,26 @@ pub enum Change {
     Root { s: u64 },
     /// The object of serial `s` is freed.
     Free { s: u64 },
+}
+
+/// A change that may be made, with what was found of the objects that its line names.
+#[derive(Clone, Copy)]
+pub(crate) enum Found {
+    /// Field `f` of the object in the slot gets the word of the value: at once, or at the commit.
+    Field {
+        at: Slot,
+        f: u32,
+        word: u64,
+        later: bool,
+    },
+    /// The root gets the word of the object, or 0.
+    Root {
+        word: u64,
+    },
+    /// The object in the slot is freed.
+    Object {
+        at: Slot,
+    },
 }
 
 /// The next serial of the pool of these puddles, 0 where there are none.
@@ -86,49 +107,56 @@ fn refusal_to_make(map: Option<u64>, units: u32, next: u64) -> Option<Refusal>
     }
 }
 
-/// Makes the change within the transaction on the pool of these puddles, where it may be made.
+/// Makes the change that was found within the transaction on the pool of these puddles. Nothing is searched.
 fn carry_out<H: Host>(
     tx: &mut Tx,
     h: &mut H,
     frames: u32,
     pool: &[(u32, Puddle)],
-    change: Change,
+    found: Found,
 ) -> Result<(), HostFault>
     requires few { frames ≤ MAX_FRAMES }
     requires device { device_words frames ≤ (H.counts h.old).size }
     requires known { IsOnDevice frames pool.now }
     requires place { (tx.old).log.at + LOG_WORDS ≤ frames_at frames }
-    requires legal { IsLegalChange change }
+    requires within { IsFoundWithin pool.now found }
     requires room { (tx.old).units + SET_UNITS ≤ LOG_ENTRY_WORDS }
     ensures at { (tx.new).log.at ≡ (tx.old).log.at }
     ensures changes { H.tells → Changes (ByTransaction (pool_ground frames pool.now) (tx.old).log.at) (fault_of result) (H.state h.old) (H.state h.new) }
-    ensures runs { H.tells → (types : List (ℕ × ℕ)) (before : Image) (undone : Graph) (t : Transaction) → IsPlaced frames pool.now → IsRewritten pool.now
+    ensures runs { H.tells → (types : List (ℕ × ℕ)) (before : Image) (undone : Graph) (t : Transaction) (change : Change) → IsPlaced frames pool.now → IsRewritten pool.now
         → IsOpenOn frames pool.now types (tx.old).log before undone t.now t.laters (H.state h.old).now.words → MayChange types t change
+        → IsFoundBy frames pool.now (reads (H.state h.old).now.words) change found
         → RunsOn frames pool.now types (tx.new).log before undone (changed_by change t).now (changed_by change t).laters (fault_of result) (H.state h.old) (H.state h.new) }
-    ensures counts { H.tells → (types : List (ℕ × ℕ)) (before : Image) (undone : Graph) (t : Transaction) → IsPlaced frames pool.now
-        → IsOpenOn frames pool.now types (tx.old).log before undone t.now t.laters (H.state h.old).now.words → MayChange types t change → IfOk result (λ _. (tx.new).units ≡ (tx.old).units + SET_UNITS) }
+    ensures counts { H.tells → (types : List (ℕ × ℕ)) (before : Image) (undone : Graph) (now : Graph) (laters : List Later)
+        → IsOpenOn frames pool.now types (tx.old).log before undone now laters (H.state h.old).now.words → IfOk result (λ _. (tx.new).units ≡ (tx.old).units + SET_UNITS) }
     ensures cause { H.counts h.new ≡ after_fault (fault_of result) (H.counts h.old) }
 {
-    match change {
-        Change::Set { s, f, x } => tx.set(h, frames, pool, s, f, x),
-        Change::Later { s, f, x } => tx.later(h, frames, pool, s, f, x),
-        Change::Root { s } => tx.root(h, frames, pool, s),
-        Change::Free { s } => tx.free(h, frames, pool, s),
+    match found {
+        Found::Field { at, f, word, later } => {
+            if later {
+                tx.later_at(h, frames, pool, &at, f, word)
+            } else {
+                tx.set_at(h, frames, pool, &at, f, word)
+            }
+        }
+        Found::Root { word } => tx.root_at(h, frames, pool, word),
+        Found::Object { at } => tx.free_at(h, frames, pool, &at),
     }
 }
 
 impl Opened {
-    /// Makes the change, where the line that asks for it is not refused.
+    /// Makes the change that was found, where the line that asks for it is not refused.
     ///
     /// The device has so many frames, and three units are left. Two fences.
-    fn change<H: Host>(&mut self, h: &mut H, frames: u32, change: Change) -> Result<(), HostFault>
+    fn change<H: Host>(&mut self, h: &mut H, frames: u32, found: Found) -> Result<(), HostFault>
         requires few { frames ≤ MAX_FRAMES }
         requires room { device_words frames ≤ (H.counts h.old).size }
         requires within { IsHeldWithin frames self.old }
-        requires legal { IsLegalChange change }
+        requires found { IsFoundWithin (self.old).at found }
         requires units { (self.old).units + SET_UNITS ≤ LOG_ENTRY_WORDS }
-        ensures applies { H.tells → (size : ℕ) → size ≡ (H.counts h.old).size → (w : World) → (memory : Memory) → memory.frames ≡ frames → held_under memory.held (self.old).number ≡ Option.Some self.old
+        ensures applies { H.tells → (change : Change) → (size : ℕ) → size ≡ (H.counts h.old).size → (w : World) → (memory : Memory) → memory.frames ≡ frames → held_under memory.held (self.old).number ≡ Option.Some self.old
             → IsReady size w memory (H.state h.old) → IsRewritten (self.old).at → refusal_of w (line_of change (self.old).client (self.old).name) ≡ Option.None
+            → IsFoundBy frames (self.old).at (reads (H.state h.old).now.words) change found
             → Applies size w (after w (line_of change (self.old).client (self.old).name)) (with_held (self.old).number (Option.Some self.new) memory) (fault_of result) (H.state h.old) (H.state h.new) }
         ensures within { IsHeldWithin frames self.new }
         ensures stays { StaysOpen self.old self.new }
@@ -137,7 +165,8 @@ impl Opened {
         ensures rests { H.tells → fault_of result ≡ Option.Some HostFault.Cut → IsRested (H.state h.new).now.words }
         ensures cause { H.counts h.new ≡ after_fault (fault_of result) (H.counts h.old) }
     {
-        let done = carry_out(&mut self.tx, h, frames, self.puddles.as_slice(), change);
+        let done = carry_out(&mut self.tx, h, frames, self.puddles.as_slice(), found);
+        // With a use of `tx` the proof has its invariant behind the call: what was charged is at most what a log has.
         let _units = self.tx.units();
         done
     }
@@ -162,15 +191,17 @@ impl Opened {
             → Applies size w (world_by w (Option.Some (line_of change (self.old).client (self.old).name))) (with_held (self.old).number (Option.Some self.new) memory) (fault_of result)
             (H.state h.old) (H.state h.new) }
         ensures within { IsHeldWithin frames self.new }
-        ensures number { (self.new).number ≡ (self.old).number }
+        ensures stays { StaysOpen self.old self.new }
+        ensures puddles { self.new.at ≡ self.old.at }
         ensures rest { H.tells → KeepsRest (H.state h.old) (H.state h.new) }
         ensures rests { H.tells → fault_of result ≡ Option.Some HostFault.Cut → IsRested (H.state h.new).now.words }
         ensures cause { H.counts h.new ≡ after_fault (fault_of result) (H.counts h.old) }
     {
-        if let Some(refusal) = self.refusal_to_change(h, frames, change)? {
-            return Ok(Reply::No(refusal));
-        }
-        self.change(h, frames, change)?;
+        let found = match self.find_change(h, frames, change)? {
+            Ok(found) => found,
+            Err(refusal) => return Ok(Reply::No(refusal)),
+        };
+        self.change(h, frames, found)?;
         Ok(Reply::Ok)
     }
 
@@ -247,6 +278,7 @@ impl Opened {
         ensures cause { H.counts h.new ≡ after_fault (fault_of result) (H.counts h.old) }
     {
         let made = self.tx.new(h, frames, self.puddles.as_slice(), t);
+        // As in `change`.
         let _units = self.tx.units();
         made
     }

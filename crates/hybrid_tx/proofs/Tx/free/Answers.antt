@@ -1,14 +1,11 @@
-use Rattle.std.proofs.Common.{Option, IfSome, option_map, ap, sym, subst, refl, ◌∙◌}
+use Rattle.std.proofs.Common.{option_map, sym, ap, refl, ◌∙◌}
 use Rattle.std.proofs.lemmas.Option.{none-some}
 use Rattle.std.proofs.lemmas.Result.{err_from_is_err_and}
 use Rattle.pm_model.specs.Words.{reads}
-use Rattle.pm_model.specs.Counts.{fault_of}
 use Rattle.pm_model.proofs.Reading.{Changes-read}
-use Rattle.pud_defs.specs.declared.records.Slot.{Slot}
-use Rattle.puddle_header.specs.Places.{place_of_slot, IsSlotOf}
+use Rattle.puddle_header.specs.Places.{place_of_slot}
 use Rattle.hybrid_tx.proofs.FieldsSet.{placed_if_live}
 use Rattle.hybrid_tx.proofs.FieldPut.{RunsOn-stopped}
-use Rattle.hybrid_tx.proofs.SlotFreed.{RunsOn-free}
 use Rattle.hybrid_tx.proofs.Tx.free.Goals as goal
 
 pub returns-in_err-at-clause-changes : goal.returns-in_err-at-clause-changes
@@ -22,19 +19,9 @@ returns-in_err-at-clause-runs g c =
     rw (p.1, p.2) (λ t types before undone now laters placed is_open may unnamed.
     RunsOn-stopped _ _ types c.args.self.now.log _ before undone now laters _ _ _ refl c.in_err-at.ensures.only_reads t is_open)
 
-pub returns-in-Some-clause-runs : goal.returns-in-Some-clause-runs
-returns-in-Some-clause-runs g c = λ t types before undone now laters placed is_open may unnamed.
-    let old = g.H.Host.state c.args.h.now in
-    let of = subst (λ (o : Option Slot). IfSome o (IsSlotOf c.args.pool.now)) c.in-Some.is c.in_ok-at.ensures.within in
-    RunsOn-free c.args.frames c.args.pool.now types c.args.self.now.log _ before undone now laters old is_open _ c.args.s c.in-Some.at (fault_of c.free_at.result) _ _
-    may unnamed placed c.requires.device c.requires.place c.free_at.ensures.at (c.in_ok-at.ensures.only_reads.stays t) of
-    (sym (c.in_ok-at.ensures.found t (reads old.now.words) refl) ∙ ap (option_map place_of_slot) c.in-Some.is)
-    (c.free_at.ensures.saves t placed before)
-
 pub returns-in-Some-clause-nothing : goal.returns-in-Some-clause-nothing
 returns-in-Some-clause-nothing g c = λ t none.
-    let image = reads (g.H.Host.state c.args.h.now).now.words in
-    absurd (none-some _ (sym none ∙ sym (c.in_ok-at.ensures.found t image refl) ∙ ap (option_map place_of_slot) c.in-Some.is))
+    absurd (none-some _ (sym none ∙ sym (c.in_ok-at.ensures.found t _ refl) ∙ ap (option_map place_of_slot) c.in-Some.is))
 
 pub returns-in-None-clause-changes : goal.returns-in-None-clause-changes
 returns-in-None-clause-changes g c = λ t. Changes-read c.in_ok-at.ensures.only_reads t

@@ -1,53 +1,9 @@
-use Rattle.std.proofs.Common.{◌≡◌, inl, ℕ, ◌+◌, ◌<◌, ◌≤◌, [], ◌∷◌, refl, sym, ap, subst, arith}
-use Rattle.std.proofs.lemmas.Result.{err_from_is_err_and}
+use Rattle.std.proofs.Common.{refl}
 use Rattle.pm_model.specs.Counts.{fault_of}
-use Rattle.pm_model.specs.Changes.{placed}
-use Rattle.pm_model.proofs.Changes.{Changes-wider}
-use Rattle.pud_defs.specs.declared.layout.TheConstants.{LOG_WORDS}
-use Rattle.pud_defs.specs.declared.records.Puddle.{Puddle}
-use Rattle.pud_defs.specs.Layout.{frames_at}
-use Rattle.log_store.specs.Store.{OpenLog, InLog}
-use Rattle.object_alloc.specs.Alloc.{serial_word_at}
-use Rattle.word_transaction.specs.Running.{ByTransaction}
-use Rattle.hybrid_tx.specs.Grounds.{pool_ground}
-use Rattle.hybrid_tx.specs.Transactions.{OpenTx, Saves}
-use Rattle.hybrid_tx.proofs.PoolGrounds.{all_there}
-use Rattle.hybrid_tx.proofs.SlotFreed.{Changes-freed, Saves-unfreed, Saves-freed}
+use Rattle.hybrid_tx.proofs.SlotFreed.{RunsOn-free}
 use Rattle.hybrid_tx.proofs.Tx.free_at.Goals as goal
 
-pub returns-in_err-save-clause-changes : goal.returns-in_err-save-clause-changes
-returns-in_err-save-clause-changes g c =
-    let p = err_from_is_err_and c.from_residual.result c.from_residual.ensures.1 in
-    rw (p.1, p.2, ← c.self.view_is) (λ t. Changes-wider (InLog _) (ByTransaction (pool_ground c.args.frames c.args.pool.now) _) _ _ _ (λ k v may. inl may) (c.in_err-save.ensures.changes t))
-
-pub returns-in_err-save-clause-saves : goal.returns-in_err-save-clause-saves
-returns-in_err-save-clause-saves g c =
-    let p = err_from_is_err_and c.from_residual.result c.from_residual.ensures.1 in
-    let at = c.args.at in
-    let is_first : c.frame_at.result + (c.slot_begins-serial.result + 0) ≡ serial_word_at c.args.frames at = omega (arith, c.frame_at.ensures, c.slot_begins-serial.ensures) in
-    let apart = subst (λ (x : OpenTx). x.log.at + LOG_WORDS ≤ frames_at c.args.frames) (sym c.self.view_is) c.requires.place in
-    rw (p.1, p.2, ← c.self.view_is) (λ t is_placed before redo s.
-    Saves-unfreed c.args.frames _ c.args.pool.now at c.requires.within _ before redo _ _ _ is_placed c.requires.device apart (c.slot_address.ensures.address is_placed.legal) is_first s _ _ _ (ap (λ (l : OpenLog). l.at) c.in_err-save.ensures.failed)
-    (λ es ground may place r. c.in_err-save.ensures.runs t _ refl (pool_ground c.args.frames c.args.pool.now) es before ground may place r))
-
-pub free_slot-requires-clause-known : goal.free_slot-requires-clause-known
-free_slot-requires-clause-known g c =
-    all_there (λ (e : ℕ × Puddle). e.0 < c.args.frames) c.args.pool.now c.args.at.ordinal (c.args.at.frame, c.requires.within.puddle) c.requires.known.frames c.requires.within.there
-
-pub returns-clause-changes : goal.returns-clause-changes
-returns-clause-changes g c =
-    rw (← c.self.view_is) (λ t.
-    Changes-freed c.args.frames c.args.pool.now c.args.at c.requires.within _ (fault_of c.free_slot.result) _ _ _ (c.in_ok-save.ensures.changes t) (c.free_slot.ensures.writes t))
-
-pub returns-clause-saves : goal.returns-clause-saves
-returns-clause-saves g c =
-    let F = c.args.frames in
-    let pool = c.args.pool.now in
-    let at = c.args.at in
-    let is_first : c.frame_at.result + (c.slot_begins-serial.result + 0) ≡ serial_word_at F at = omega (arith, c.frame_at.ensures, c.slot_begins-serial.ensures) in
-    let apart = subst (λ (x : OpenTx). x.log.at + LOG_WORDS ≤ frames_at F) (sym c.self.view_is) c.requires.place in
-    rw (← c.self.view_is) (λ t is_placed before redo s.
-    subst (λ (l : OpenLog). Saves F pool l before redo (placed (serial_word_at F at) (0 ∷ [])) (fault_of c.free_slot.result) (g.H.Host.state c.args.h.now) (g.H.Host.state c.free_slot.new.h)) (sym c.in_ok-save.ensures.saved)
-    (Saves-freed F _ pool at c.requires.within _ before redo _ _ _ is_placed c.requires.device apart (c.slot_address.ensures.address is_placed.legal) is_first s (fault_of c.free_slot.result) _ _
-    (λ es ground may place r. c.in_ok-save.ensures.runs t _ refl (pool_ground F pool) es before ground may place r)
-    (c.free_slot.ensures.writes t)))
+pub returns-clause-runs : goal.returns-clause-runs
+returns-clause-runs g c = λ t types before undone now laters s placed is_open may unnamed place.
+    RunsOn-free c.args.frames c.args.pool.now types c.args.self.now.log _ before undone now laters (g.H.Host.state c.args.h.now) is_open _ s c.args.at.now (fault_of c.clear.result) _ _
+    may unnamed placed c.requires.device c.requires.place c.clear.ensures.at refl c.requires.within place (c.clear.ensures.saves t placed before)

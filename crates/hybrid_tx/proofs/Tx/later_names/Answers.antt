@@ -1,70 +1,22 @@
-use Rattle.std.proofs.Common.{◌≡◌, inl, inr, true, false, option_map, sym, ap, subst, ◌∙◌}
+use Rattle.std.proofs.Common.{option_map, sym, ap, subst, ◌∙◌}
+use Rattle.pm_model.specs.Moments.{State}
 use Rattle.pud_defs.specs.Image.{Image}
 use Rattle.pud_defs.specs.Types.{types_of}
-use Rattle.pud_defs.specs.Entries.{Log, entries_of}
-use Rattle.pud_defs.specs.Stored.{stored_in}
-use Rattle.pud_defs.specs.Graph.{graph_of}
-use Rattle.log_entry.proofs.Left.{IsReading-start, IsReading-more}
+use Rattle.pm_model.proofs.Reading.{still_reads}
 use Rattle.puddle_header.specs.Places.{place_of_slot}
-use Rattle.hybrid_tx.specs.Transactions.{AreLaters}
-use Rattle.hybrid_tx.proofs.LatersNamed.{NamesRest-start, NamesRest-more, NamesRest-passed, NamesOne-decided, NamesRest-end, none_named}
-use Rattle.pm_model.proofs.Reading.{OnlyReads-then, still_reads}
+use Rattle.hybrid_tx.specs.Transactions.{AreLaters, IsOpenOn}
+use Rattle.hybrid_tx.proofs.LatersNamed.{none_named}
 use Rattle.hybrid_tx.proofs.Tx.later_names.Goals as goal
 
-pub returns-in_default-clause-names : goal.returns-in_default-clause-names
-returns-in_default-clause-names g c = λ t image same before undone now laters placed is_open used.
-    let none = sym (c.in_ok-at.ensures.found t image same) ∙ ap (option_map place_of_slot) c.in_default.is in
+pub returns-in-Some-clause-names : goal.returns-in-Some-clause-names
+returns-in-Some-clause-names g c = λ t image same before undone now laters placed is_open used.
+    let k = c.in_ok-at.ensures in
+    c.later_names_at.ensures.names t image (still_reads k.only_reads t same) before undone now laters placed
+    (subst (λ (s : State). IsOpenOn c.args.frames c.args.pool.now (types_of image) c.args.self.now.log before undone now laters s.now.words) (sym (k.only_reads.stays t)) is_open) used
+    (sym (k.found t image same) ∙ ap (option_map place_of_slot) c.in-Some.is)
+
+pub returns-in-None-clause-names : goal.returns-in-None-clause-names
+returns-in-None-clause-names g c = λ t image same before undone now laters placed is_open used.
+    let none = sym (c.in_ok-at.ensures.found t image same) ∙ ap (option_map place_of_slot) c.in-None.is in
     let are = subst (λ (i : Image). AreLaters c.args.frames c.args.pool.now (types_of image) i now laters is_open.redo) same is_open.are in
     sym (none_named c.args.frames c.args.pool.now (types_of image) image now c.args.s used none laters is_open.redo are)
-
-pub loop-entry-init : goal.loop-entry-init
-loop-entry-init g c =
-    let start = c.new-reader.ensures ∙ ap (λ k. record { log_at = k; passed = 0 }) c.at.ensures in
-    record {
-      reading = IsReading-start c.args.self.now.log.at c.new-reader.result start;
-      only_reads = c.in_ok-at.ensures.only_reads;
-      names = λ t image same before undone now laters placed is_open used.
-          let spells = ap (λ (i : Image). entries_of i c.args.self.now.log.at) (sym same) ∙ ap (λ (l : Log). l.entries) is_open.saving.running.opened.says in
-          let are = subst (λ (i : Image). AreLaters c.args.frames c.args.pool.now (types_of image) i now laters is_open.redo) same is_open.are in
-          NamesRest-start c.args.frames c.args.pool.now (types_of image) image now c.args.s c.args.self.now.log.at _ is_open.saving.es is_open.redo laters start spells is_open.saving.asks are;
-    }
-
-pub loop-entry-preserved : goal.loop-entry-preserved
-loop-entry-preserved g c =
-    let old = c.loop-entry.invariant in
-    record {
-      reading = IsReading-more c.args.self.now.log.at _ c.in-Some-2.entry _ _ old.reading c.in-Some-2.is c.in_ok-entry.ensures.passes;
-      only_reads = OnlyReads-then old.only_reads (OnlyReads-then c.in_ok-entry.ensures.only_reads c.in_ok-names.ensures.only_reads);
-      names = λ t image same before undone now laters placed is_open used.
-          let here = still_reads old.only_reads t same in
-          let behind = still_reads c.in_ok-entry.ensures.only_reads t here in
-          let is = ap (λ (i : Image). graph_of (types_of image) (stored_in c.args.frames c.args.pool.now i)) (sym same) ∙ is_open.is in
-          let place = sym (c.in_ok-at.ensures.found t image same) ∙ ap (option_map place_of_slot) c.in-Some.is in
-          elim (NamesRest-more c.args.frames c.args.pool.now (types_of image) image now c.args.s _ c.in-Some-2.entry _ _ _ (old.names t image same before undone now laters placed is_open used) c.in-Some-2.is
-          (c.in_ok-entry.ensures.left t image here)) [
-            | inl one ↦ NamesRest-passed c.args.frames c.args.pool.now (types_of image) image now c.args.s _ _ _ one
-                (λ l later. sym c.if-branch.false ∙ c.in_ok-names.ensures.names t image behind now l _ placed is later used place (c.slot_address-address.ensures.address placed.legal))
-            | inr other ↦ other.1
-          ];
-    }
-
-pub returns-then-branch-clause-names : goal.returns-then-branch-clause-names
-returns-then-branch-clause-names g c = λ t image same before undone now laters placed is_open used.
-    let old = c.loop-entry.invariant in
-    let here = still_reads old.only_reads t same in
-    let behind = still_reads c.in_ok-entry.ensures.only_reads t here in
-    let is = ap (λ (i : Image). graph_of (types_of image) (stored_in c.args.frames c.args.pool.now i)) (sym same) ∙ is_open.is in
-    let place = sym (c.in_ok-at.ensures.found t image same) ∙ ap (option_map place_of_slot) c.in-Some.is in
-    elim (NamesRest-more c.args.frames c.args.pool.now (types_of image) image now c.args.s _ c.in-Some-2.entry _ _ _ (old.names t image same before undone now laters placed is_open used) c.in-Some-2.is
-    (c.in_ok-entry.ensures.left t image here)) [
-      | inl one ↦ NamesOne-decided c.args.frames c.args.pool.now (types_of image) image now c.args.s _ _ _ one
-          (λ l later. sym c.if-branch.true ∙ c.in_ok-names.ensures.names t image behind now l _ placed is later used place (c.slot_address-address.ensures.address placed.legal))
-      | inr other ↦ absurd (let it : true ≡ false = sym c.if-branch.true ∙ c.in_ok-names.ensures.saves other.0 in cc)
-    ]
-
-pub returns-clause-names : goal.returns-clause-names
-returns-clause-names g c = λ t image same before undone now laters placed is_open used.
-    let old = c.loop-entry.invariant in
-    let here = still_reads old.only_reads t same in
-    NamesRest-end c.args.frames c.args.pool.now (types_of image) image now c.args.s _ _ _ _ (old.names t image same before undone now laters placed is_open used) c.in_default-2.is
-    (c.in_ok-entry.ensures.left t image here)

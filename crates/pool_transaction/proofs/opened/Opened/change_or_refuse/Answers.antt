@@ -1,57 +1,62 @@
-use Rattle.std.proofs.Common.{Some, sym, ap, subst, ◌∙◌}
+use Rattle.std.proofs.Common.{Some, refl, sym, ap, subst, ◌∙◌}
 use Rattle.std.proofs.lemmas.Result.{err_from_is_err_and}
 use Rattle.pm_model.specs.Counts.{Counts}
+use Rattle.pm_model.proofs.Reading.{still_reads}
 use Rattle.pm_model.specs.Moments.{State}
 use Rattle.pud_defs.specs.Step.{world_by}
 use Rattle.pud_defs.proofs.Steps.{refused_answer}
+use Rattle.registry.specs.Places.{refusal_in}
 use Rattle.pool_transaction.specs.Changing.{line_of}
 use Rattle.ready_daemon.specs.Memory.{Memory, with_held}
 use Rattle.ready_daemon.specs.Ready.{IsReady}
 use Rattle.ready_daemon.proofs.Applying.{Applies-failed, Applies-refused, Applies-behind_reads}
 use Rattle.pool_transaction.proofs.ChangeAnswers.{change_answer}
+use Rattle.pool_transaction.proofs.HeldRefusals.{placed_at}
 use Rattle.ready_daemon.proofs.HeldUnder.{held_same}
 use Rattle.ready_daemon.proofs.Rewritten.{held_rewritten}
 use Rattle.pool_transaction.proofs.opened.Opened.change_or_refuse.Goals as goal
 
-pub returns-in_err-refusal-clause-applies : goal.returns-in_err-refusal-clause-applies
-returns-in_err-refusal-clause-applies g c =
+pub returns-in_err-found-clause-applies : goal.returns-in_err-found-clause-applies
+returns-in_err-found-clause-applies g c =
     let p = err_from_is_err_and c.from_residual.result c.from_residual.ensures.1 in
     rw (p.1, p.2) (λ t size e w memory frames there ready.
     let line = line_of c.args.change c.args.self.now.client c.args.self.now.name in
-    Applies-failed size w (world_by w (Some line)) (with_held c.args.self.now.number (Some c.args.self.now) memory) c.in_err-refusal.field-0.0 _ _
-    (subst (λ (m : Memory). IsReady size w m (g.H.Host.state c.args.h.now)) (sym (held_same memory c.args.self.now.number c.args.self.now there)) ready) (c.in_err-refusal.ensures.only_reads.stays t) c.in_err-refusal.ensures.only_reads.never_cut)
+    Applies-failed size w (world_by w (Some line)) (with_held c.args.self.now.number (Some c.args.self.now) memory) c.in_err-found.field-0.0 _ _
+    (subst (λ (m : Memory). IsReady size w m (g.H.Host.state c.args.h.now)) (sym (held_same memory c.args.self.now.number c.args.self.now there)) ready) (c.in_err-found.ensures.only_reads.stays t) c.in_err-found.ensures.only_reads.never_cut)
 
-pub returns-in-Some-clause-reply : goal.returns-in-Some-clause-reply
-returns-in-Some-clause-reply g c = λ t size w memory frames there ready.
-    sym (refused_answer w (line_of c.args.change c.args.self.now.client c.args.self.now.name) c.in-Some.refusal (sym (c.in_ok-refusal.ensures.refusal t size w memory frames there ready) ∙ c.in-Some.is))
+pub returns-in-Err-clause-reply : goal.returns-in-Err-clause-reply
+returns-in-Err-clause-reply g c = λ t size w memory frames there ready.
+    sym (refused_answer w (line_of c.args.change c.args.self.now.client c.args.self.now.name) c.in-Err.refusal (sym (c.in_ok-found.ensures.refusal t size w memory frames there ready) ∙ ap refusal_in c.in-Err.is))
 
-pub returns-in-Some-clause-applies : goal.returns-in-Some-clause-applies
-returns-in-Some-clause-applies g c = λ t size e w memory frames there ready.
-    Applies-refused size w (with_held c.args.self.now.number (Some c.args.self.now) memory) (line_of c.args.change c.args.self.now.client c.args.self.now.name) c.in-Some.refusal _ _
-    (subst (λ (m : Memory). IsReady size w m (g.H.Host.state c.args.h.now)) (sym (held_same memory c.args.self.now.number c.args.self.now there)) ready) (sym (c.in_ok-refusal.ensures.refusal t size w memory frames there ready) ∙ c.in-Some.is) (c.in_ok-refusal.ensures.only_reads.stays t)
+pub returns-in-Err-clause-applies : goal.returns-in-Err-clause-applies
+returns-in-Err-clause-applies g c = λ t size e w memory frames there ready.
+    Applies-refused size w (with_held c.args.self.now.number (Some c.args.self.now) memory) (line_of c.args.change c.args.self.now.client c.args.self.now.name) c.in-Err.refusal _ _
+    (subst (λ (m : Memory). IsReady size w m (g.H.Host.state c.args.h.now)) (sym (held_same memory c.args.self.now.number c.args.self.now there)) ready) (sym (c.in_ok-found.ensures.refusal t size w memory frames there ready) ∙ ap refusal_in c.in-Err.is) (c.in_ok-found.ensures.only_reads.stays t)
 
 pub returns-clause-reply : goal.returns-clause-reply
 returns-clause-reply g c = λ t size w memory frames there ready.
-    change_answer c.args.self.now.client c.args.self.now.name w c.args.change (sym (c.in_ok-refusal.ensures.refusal t size w memory frames there ready) ∙ c.in_default.is)
+    change_answer c.args.self.now.client c.args.self.now.name w c.args.change (sym (c.in_ok-found.ensures.refusal t size w memory frames there ready) ∙ ap refusal_in c.in-Ok.is)
 
 pub returns-in_err-change-clause-applies : goal.returns-in_err-change-clause-applies
 returns-in_err-change-clause-applies g c =
     let p = err_from_is_err_and c.from_residual-in_err-change.result c.from_residual-in_err-change.ensures.1 in
     rw (p.1, p.2) (λ t size e w memory frames there ready.
     let line = line_of c.args.change c.args.self.now.client c.args.self.now.name in
-    let k = c.in_ok-refusal.ensures in
-    let free = sym (k.refusal t size w memory frames there ready) ∙ c.in_default.is in
+    let k = c.in_ok-found.ensures in
+    let free = sym (k.refusal t size w memory frames there ready) ∙ ap refusal_in c.in-Ok.is in
     let then = subst (λ (s : State). IsReady size w memory s) (sym (k.only_reads.stays t)) ready in
     Applies-behind_reads size w (with_held c.args.self.now.number (Some c.change.new.self) memory) line (Some c.in_err-change.field-0.0) _ _ _ free (k.only_reads.stays t)
-    (c.in_err-change.ensures.applies t size (e ∙ sym (ap (λ (m : Counts). m.size) k.only_reads.cause)) w memory frames there then (held_rewritten size w memory _ then c.args.self.now.number c.args.self.now there)
-    free))
+    (c.in_err-change.ensures.applies t c.args.change size (e ∙ sym (ap (λ (m : Counts). m.size) k.only_reads.cause)) w memory frames there then (held_rewritten size w memory _ then c.args.self.now.number c.args.self.now there)
+    free
+    (rw c.in-Ok.is at (k.found t _ (sym (still_reads k.only_reads t refl)) (placed_at size w memory _ ready c.args.self.now c.args.self.now.number there c.args.frames (sym frames ∙ ready.frames))))))
 
 pub returns-clause-applies : goal.returns-clause-applies
 returns-clause-applies g c = λ t size e w memory frames there ready.
     let line = line_of c.args.change c.args.self.now.client c.args.self.now.name in
-    let k = c.in_ok-refusal.ensures in
-    let free = sym (k.refusal t size w memory frames there ready) ∙ c.in_default.is in
+    let k = c.in_ok-found.ensures in
+    let free = sym (k.refusal t size w memory frames there ready) ∙ ap refusal_in c.in-Ok.is in
     let then = subst (λ (s : State). IsReady size w memory s) (sym (k.only_reads.stays t)) ready in
     Applies-behind_reads size w (with_held c.args.self.now.number (Some c.change.new.self) memory) line _ _ _ _ free (k.only_reads.stays t)
-    (c.in_ok-change.ensures.applies t size (e ∙ sym (ap (λ (m : Counts). m.size) k.only_reads.cause)) w memory frames there then (held_rewritten size w memory _ then c.args.self.now.number c.args.self.now there)
-    free)
+    (c.in_ok-change.ensures.applies t c.args.change size (e ∙ sym (ap (λ (m : Counts). m.size) k.only_reads.cause)) w memory frames there then (held_rewritten size w memory _ then c.args.self.now.number c.args.self.now there)
+    free
+    (rw c.in-Ok.is at (k.found t _ (sym (still_reads k.only_reads t refl)) (placed_at size w memory _ ready c.args.self.now c.args.self.now.number there c.args.frames (sym frames ∙ ready.frames)))))
