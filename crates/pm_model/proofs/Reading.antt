@@ -1,5 +1,5 @@
 -- Calls that only read, one after the other.
-use Rattle.std.proofs.Common.{◌≡◌, Option, None, refl, ap, ◌∙◌}
+use Rattle.std.proofs.Common.{◌≡◌, ℕ, Option, None, refl, ap, sym, ◌∙◌}
 use Rattle.std.proofs.lemmas.Option.{none-some}
 use Rattle.pm_model.specs.declared.host.HostFault.{HostFault}
 use Rattle.pm_model.specs.declared.host.HostFault.TheVariants.{Cut}
@@ -25,6 +25,10 @@ OnlyReads-then {fault = fault} first second = record {
 -- the image that is read stays
 pub still_reads : {H : Type 0} {tells : Type 0} {state : H → State} {counts : H → Counts} {fault : Option HostFault} {old new : H} {image : Image} → OnlyReads tells state counts fault old new → tells → reads (state old).now.words ≡ image → reads (state new).now.words ≡ image
 still_reads only t same = ap (λ (s : State). reads s.now.words) (only.stays t) ∙ same
+
+-- the device has as many words as it had
+pub still_size : {H : Type 0} {tells : Type 0} {state : H → State} {counts : H → Counts} {old new : H} {size : ℕ} → OnlyReads tells state counts None old new → size ≡ (counts old).size → size ≡ (counts new).size
+still_size only same = same ∙ sym (ap (λ (c : Counts). c.size) only.cause)
 
 -- no word changes
 pub Changes-read : {H : Type 0} {tells : Type 0} {state : H → State} {counts : H → Counts} {fault : Option HostFault} {old new : H} {may : Footprint} → OnlyReads tells state counts fault old new → tells → Changes may fault (state old) (state new)

@@ -33,7 +33,7 @@ use Rattle.pud_defs.specs.Stored.{Stored, IsOnDevice, stored_in}
 use Rattle.pud_defs.specs.Tables.{tables_of, puddles_of, listed, pool_of, puddles_in_turn}
 use Rattle.pud_defs.specs.Transactions as transactions
 use Rattle.pud_defs.specs.Transactions.{with_open}
-use Rattle.pud_defs.specs.World.{Transaction, World, world_of, idle_world_of}
+use Rattle.pud_defs.specs.World.{Transaction, World, world_of, idle_world_of, open_on}
 use Rattle.pud_defs.proofs.Replay.{outside_log, within_log}
 use Rattle.pud_defs.proofs.Idle.{registered_is_closed}
 use Rattle.pud_defs.proofs.IdleWorlds.{standing_beside, standing_idle}
@@ -98,7 +98,7 @@ pub record IsVacant (w : World) (memory : Memory) (client : ℕ) (name : List �
   pub fits : slot < length memory.sessions
   pub free : held_under memory.held number ≡ None
   pub unheld : session_in memory.sessions slot ≡ None
-  pub shut : w.transactions name ≡ None
+  pub shut : open_on name w ≡ None
 
 module _ (size : ℕ) (w : World) (memory : Memory) (old : State) (ready : IsReady size w memory old) (client : ℕ) (name : List ℕ) (slot number : ℕ) (at : List (ℕ × Puddle))
     (vacant : IsVacant w memory client name slot number) (may : MayBegin w.stored.frames client name (reads old.now.words) slot at) where
@@ -496,7 +496,7 @@ module _ (size : ℕ) (w : World) (memory : Memory) (old : State) (ready : IsRea
 
 pub Applies-begins : (size : ℕ) (w : World) (memory behind : Memory) (client : ℕ) (name : List ℕ) (slot number : ℕ) (at : List (ℕ × Puddle)) (fault : Option HostFault) (old new : State) → slot < POOL_RECORDS → client < CLIENTS
     → (fault ≡ None → number < length memory.held) → slot < length memory.sessions → IsLogOf client number → Some number ≡ first_closed (reads old.now.words) memory.frames client
-    → session_in memory.sessions slot ≡ None → w.transactions name ≡ None
+    → session_in memory.sessions slot ≡ None → open_on name w ≡ None
     → (fault ≡ None → behind ≡ record {
       frames = memory.frames;
       held = set memory.held number (Some (begins_as client name slot at memory.frames number));

@@ -22,7 +22,7 @@ use Rattle.pud_defs.specs.Stored.{Stored, places_of, place_word}
 use Rattle.pud_defs.specs.Graph.{Content, Number, Null, at_place, place_in, target, puddles_by, content, field_count, Table, table_of, contents_by, contents_or_none, value_of, object_at, live, all_stand, Graph, Object, object_in, is_held, graph_of}
 use Rattle.pud_defs.specs.Laters.{laters_name}
 use Rattle.pud_defs.specs.Step.{misses, are_of_two_kinds, refusal_of}
-use Rattle.pud_defs.specs.World.{Transaction, World}
+use Rattle.pud_defs.specs.World.{Transaction, World, open_on}
 use Rattle.pud_defs.proofs.Keyed.{find-keyed, first_from_some}
 use Rattle.pud_defs.proofs.Graphs.{graph_of-each, under_serial-free, under_serial-used}
 use Rattle.hybrid_tx.specs.Transactions.{MayHold, MaySet, MayFree}
@@ -165,6 +165,6 @@ may_change types st t (Root s) is none = live_or_null s (object_in s t.now) (unl
 may_change types st t (Free s) is none = may_free t s none
 
 -- a line that is not refused changes what may be changed
-pub may_change_unrefused : (w : World) (client : ℕ) (name : List ℕ) (change : Change) (st : Stored) (t : Transaction) → w.transactions name ≡ Some t → graph_of w.stored.types st ≡ Some t.now
+pub may_change_unrefused : (w : World) (client : ℕ) (name : List ℕ) (change : Change) (st : Stored) (t : Transaction) → open_on name w ≡ Some t → graph_of w.stored.types st ≡ Some t.now
     → refusal_of w (line_of change client name) ≡ None → MayChange w.stored.types t change
 may_change_unrefused w client name change st t there is none = may_change w.stored.types st t change is (change_parts w client name t there change none)

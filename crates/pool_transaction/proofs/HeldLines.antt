@@ -13,7 +13,7 @@ use Rattle.pud_defs.specs.declared.machine.Refusal.{Refusal}
 use Rattle.pud_defs.specs.PoolChanges.{pool_named}
 use Rattle.pud_defs.specs.Step.{graph_seen, next_in, grows, refusal_of, answer_by, world_by}
 use Rattle.pud_defs.specs.Step.Answer.{of_reply}
-use Rattle.pud_defs.specs.World.{World, closed}
+use Rattle.pud_defs.specs.World.{World, closed, open_on}
 use Rattle.pud_defs.proofs.Steps.{refused_answer}
 use Rattle.ready_daemon.specs.Beginning.{tx_held}
 use Rattle.ready_daemon.specs.Memory.{Held, Memory, held_under, with_held}
@@ -69,7 +69,7 @@ module _ (size : ℕ) (w : World) (memory : Memory) (held : Held) (old : State) 
         subst (λ (v : World). Applies size w v (memory_with behind) fault old new)
         (sym (world_less size w memory held old number there ready id (refused_less size w memory held old number there ready id none less) less)) a
 
-    pub reply_made : (serial : ℕ) → grows w held.name ≡ false → serial ≡ next_in (graph_seen (w.transactions held.name) (pool_named held.name w.stored)) → of_reply (replies.Ref serial) ≡ answer_by w (Some line)
+    pub reply_made : (serial : ℕ) → grows w held.name ≡ false → serial ≡ next_in (graph_seen (open_on held.name w) (pool_named held.name w.stored)) → of_reply (replies.Ref serial) ≡ answer_by w (Some line)
     reply_made serial less is =
         ap (λ (n : ℕ). of_reply (replies.Ref n)) is ∙ sym (answer_new size w memory held old number there ready id (refused_less size w memory held old number there ready id none less))
 
@@ -88,7 +88,7 @@ module _ (size : ℕ) (w : World) (memory : Memory) (held : Held) (old : State) 
       | inr less ↦ less
     ]
 
-    pub was_full : (serial : ℕ) → serial ≤ 0 → (grows w held.name ≡ false → serial ≡ next_in (graph_seen (w.transactions held.name) (pool_named held.name w.stored))) → grows w held.name ≡ true
+    pub was_full : (serial : ℕ) → serial ≤ 0 → (grows w held.name ≡ false → serial ≡ next_in (graph_seen (open_on held.name w) (pool_named held.name w.stored))) → grows w held.name ≡ true
     was_full serial few made = elim (cases_Bool (grows w held.name)) [
       | inl more ↦ more
       | inr less ↦ let is = made less in let some = serial_is_some size w memory held old number there ready id in absurd (omega arith)
@@ -142,10 +142,10 @@ module _ (size : ℕ) (w : World) (memory : Memory) (held : Held) (old : State) 
               (subst (λ n. Applies size grown (with_made n id grown) (memory_with behind) fault mid new) name
               (subst (λ (m : Memory). Applies size grown (with_made now.name id grown) m fault mid new) (instead now behind its) made)))
 
-          pub reply_in_more : (serial : ℕ) → (IsReady size grown (memory_with now) mid → grows grown now.name ≡ false → serial ≡ next_in (graph_seen (grown.transactions now.name) (pool_named now.name grown.stored)))
+          pub reply_in_more : (serial : ℕ) → (IsReady size grown (memory_with now) mid → grows grown now.name ≡ false → serial ≡ next_in (graph_seen (open_on now.name grown) (pool_named now.name grown.stored)))
               → of_reply (replies.Ref serial) ≡ answer_by w (Some line)
           reply_in_more serial told =
               let is = told (after_growth.ready refl) less_then in
               ap (λ (n : ℕ). of_reply (replies.Ref n))
-              (is ∙ ap (λ n. next_in (graph_seen (grown.transactions n) (pool_named n grown.stored))) name ∙ grown_next size w memory held old number there ready id)
+              (is ∙ ap (λ n. next_in (graph_seen (open_on n grown) (pool_named n grown.stored))) name ∙ grown_next size w memory held old number there ready id)
               ∙ sym (answer_new size w memory held old number there ready id free)

@@ -19,7 +19,7 @@ use Rattle.pud_defs.specs.Step.{graph_seen, next_in, grows, object_made}
 use Rattle.pud_defs.specs.Stored.{stored_in}
 use Rattle.pud_defs.specs.Transactions.{charged}
 use Rattle.pud_defs.specs.Types.{map_of}
-use Rattle.pud_defs.specs.World.{Transaction, World}
+use Rattle.pud_defs.specs.World.{Transaction, World, open_on}
 use Rattle.graph_laws.specs.Slots.{AreAllLive, IsLowestFreeSlot}
 use Rattle.puddle_header.specs.Places.{place_of_slot, IsSlotOf}
 use Rattle.hybrid_tx.specs.Grounds.{IsPlaced}
@@ -60,14 +60,14 @@ may_make map units next none =
 
 -- the units of what is not refused fit
 pub units_fit : (w : World) (held : Held) (id : ℕ) → refusal_by_world w held id ≡ None → held.units + NEW_UNITS ≤ LOG_ENTRY_WORDS
-units_fit w held id none = (may_make (map_of id w.stored.types) held.units (next_in (graph_seen (w.transactions held.name) (pool_named held.name w.stored))) none).fits
+units_fit w held id none = (may_make (map_of id w.stored.types) held.units (next_in (graph_seen (open_on held.name w) (pool_named held.name w.stored))) none).fits
 
 module _ (size : ℕ) (w : World) (memory : Memory) (held : Held) (old : State) (number : ℕ) (there : held_under memory.held number ≡ Some held) (ready : IsReady size w memory old) where
   abbrev is : IsHeld w held ready.mask old.now.words
   is = is_held size w memory held old number there ready
 
   -- the next serial is that of its graph
-  pub next_serial : next_in (graph_seen (w.transactions held.name) (pool_named held.name w.stored)) ≡ is.transaction.now.next_serial
+  pub next_serial : next_in (graph_seen (open_on held.name w) (pool_named held.name w.stored)) ≡ is.transaction.now.next_serial
   next_serial = ap (λ (o : Option Transaction). next_in (graph_seen o (pool_named held.name w.stored))) is.is
 
   module _ (F : ℕ) (at : List (ℕ × Puddle)) (same : F ≡ w.stored.frames) (listed : at ≡ held.at) where
@@ -87,7 +87,7 @@ module _ (size : ℕ) (w : World) (memory : Memory) (held : Held) (old : State) 
     -- the serial that is given is the next one
     pub serial_made : (done : Result ℕ HostFault) → grows w held.name ≡ false
         → (graph_of w.stored.types (stored_in F at (reads old.now.words)) ≡ Some is.transaction.now → (AreAllLive (stored_in F at (reads old.now.words)) → ⊥) → IfOk done (λ serial. serial ≡ is.transaction.now.next_serial))
-        → IfOk done (λ serial. serial ≡ next_in (graph_seen (w.transactions held.name) (pool_named held.name w.stored)))
+        → IfOk done (λ serial. serial ≡ next_in (graph_seen (open_on held.name w) (pool_named held.name w.stored)))
     serial_made done less told =
         let graph = subst (λ (puddles : List (ℕ × Puddle)). graph_of w.stored.types (stored_in F puddles (reads old.now.words)) ≡ Some is.transaction.now) (sym listed)
         (subst (λ (n : ℕ). graph_of w.stored.types (stored_in n held.at (reads old.now.words)) ≡ Some is.transaction.now) (sym same) is.running.is) in
@@ -103,15 +103,15 @@ module _ (size : ℕ) (w : World) (memory : Memory) (held : Held) (old : State) 
     pub made_lowest : (id : ℕ) → refusal_by_world w held id ≡ None → (fault : Option HostFault) (new : State) (slot : Slot) → OwesMakes slot id fault new at → IsSlotOf held.at slot
         → IsLowestFreeSlot (stored_in F held.at (reads old.now.words)) (place_of_slot slot) → MakesIn F held.at held.log.at slot id fault old new
     made_lowest id none fault new slot owes of lowest =
-        let may = may_make (map_of id w.stored.types) held.units (next_in (graph_seen (w.transactions held.name) (pool_named held.name w.stored))) none in
+        let may = may_make (map_of id w.stored.types) held.units (next_in (graph_seen (open_on held.name w) (pool_named held.name w.stored))) none in
         subst (λ (puddles : List (ℕ × Puddle)). OwesMakes slot id fault new puddles) listed owes
         (subst (λ (n : ℕ). IsPlaced n held.at) (sym same) (held_placed size w memory held old number there ready))
         (subst (λ (n : ℕ). IsOpenOn n held.at w.stored.types held.log is.before is.undone is.transaction.now is.transaction.laters old.now.words) (sym same) is.running)
         (subst (λ (n : ℕ). n < NUMBER_LIMIT) next_serial may.left) of lowest
 
     module _ (id : ℕ) (none : refusal_by_world w held id ≡ None) (tx : OpenTx) (new : State) (gate : tx.log.at ≡ held.log.at) where
-      may : MayMake (map_of id w.stored.types) held.units (next_in (graph_seen (w.transactions held.name) (pool_named held.name w.stored)))
-      may = may_make (map_of id w.stored.types) held.units (next_in (graph_seen (w.transactions held.name) (pool_named held.name w.stored))) none
+      may : MayMake (map_of id w.stored.types) held.units (next_in (graph_seen (open_on held.name w) (pool_named held.name w.stored)))
+      may = may_make (map_of id w.stored.types) held.units (next_in (graph_seen (open_on held.name w) (pool_named held.name w.stored))) none
 
       the_object : with_new (blank_object id may.is) ≡ with_new (object_made w id)
       the_object = ap (λ (o : Option ℕ). with_new (blank_object id (unwrap_or o 0))) (sym may.defined)

@@ -25,7 +25,7 @@ use Rattle.pud_defs.specs.Tables.{Tables, Pool, Reader, tables_of}
 use Rattle.pud_defs.specs.Transactions.{units_of, with_changed, charged}
 use Rattle.pud_defs.specs.GraphChanges.{with_new}
 use Rattle.pud_defs.specs.Types.{map_of, types_of}
-use Rattle.pud_defs.specs.World.{Transaction, World}
+use Rattle.pud_defs.specs.World.{Transaction, World, open_on}
 use Rattle.pud_defs.proofs.Graphs.{graph_of-each}
 use Rattle.pud_defs.proofs.PoolRefusals.{space_by_table}
 use Rattle.pud_defs.proofs.Steps.{done_answer, done_world}
@@ -114,7 +114,7 @@ module _ (size : ℕ) (w : World) (memory : Memory) (held : Held) (s : State) (n
   own : refusal_of w (Commit held.client held.name) ≡ None
   own = own_is_open w memory.held ready.mask s.now.words held.client held.name number ready.held (record { mine = held; is = there; whose = refl; pool = refl })
 
-  opened : w.transactions held.name ≡ Some is.transaction
+  opened : open_on held.name w ≡ Some is.transaction
   opened = is.is
 
   abbrev many : Bool
@@ -135,12 +135,12 @@ module _ (size : ℕ) (w : World) (memory : Memory) (held : Held) (s : State) (n
   -- Its refusals are those that count whatever slots there are, and behind them, where each slot is live, those of a puddle more.
   pub refusal_new : refusal_of w line ≡ option_or (refusal_by_world w held id) (cond (grows w held.name) (refusal_by_tables F held image) None)
   refusal_new =
-      let units : units_of (w.transactions held.name) ≡ held.units = ap units_of opened ∙ is.units in
-      let full : is_full_graph (graph_seen (w.transactions held.name) (pool_named held.name w.stored)) ≡ (leb NUMBER_LIMIT is.transaction.now.next_serial || many) =
+      let units : units_of (open_on held.name w) ≡ held.units = ap units_of opened ∙ is.units in
+      let full : is_full_graph (graph_seen (open_on held.name w) (pool_named held.name w.stored)) ≡ (leb NUMBER_LIMIT is.transaction.now.next_serial || many) =
       ap (λ (o : Option Transaction). is_full_graph (graph_seen o (pool_named held.name w.stored))) opened in
       let next = next_serial size w memory held s number there ready in
       refusal_of-new w held.client held.name id
-      ∙ ap (λ (first : Option Refusal). option_or first (making_refusal (map_of id w.stored.types) (units_of (w.transactions held.name)) (lacks_room w held.name) (grows w held.name && lacks_frames w.stored 1))) own
+      ∙ ap (λ (first : Option Refusal). option_or first (making_refusal (map_of id w.stored.types) (units_of (open_on held.name w)) (lacks_room w held.name) (grows w held.name && lacks_frames w.stored 1))) own
       ∙ (λ p. cond (is_none (map_of id w.stored.types)) (Some refusals.NoType) (cond (ltb LOG_ENTRY_WORDS (units p + NEW_UNITS)) (Some refusals.TooBig)
       (cond (full p || (grows w held.name && lacks_a_number w.stored.next_number)) (Some refusals.Full) (cond (grows w held.name && lacks_frames w.stored 1) (Some refusals.Space) None))))
       ∙ joined (is_none (map_of id w.stored.types)) (ltb LOG_ENTRY_WORDS (held.units + NEW_UNITS)) (leb NUMBER_LIMIT is.transaction.now.next_serial) many (lacks_a_number w.stored.next_number) (lacks_frames w.stored 1)
@@ -152,7 +152,7 @@ module _ (size : ℕ) (w : World) (memory : Memory) (held : Held) (s : State) (n
   refusal_read n same =
       let has = graph_of-each w.stored.types (stored_in F held.at image) is.transaction.now is.running.is in
       let types : types_of image ≡ w.stored.types = (types_read size w memory s ready).types in
-      let serial : next_serial_of (stored_in n held.at image) ≡ next_in (graph_seen (w.transactions held.name) (pool_named held.name w.stored)) =
+      let serial : next_serial_of (stored_in n held.at image) ≡ next_in (graph_seen (open_on held.name w) (pool_named held.name w.stored)) =
       ap (λ (m : ℕ). next_serial_of (stored_in m held.at image)) same ∙ ap (λ (g : Graph). g.next_serial) has.is ∙ sym (next_serial size w memory held s number there ready) in
       ap₂ (λ (ts : List (ℕ × ℕ)) (v : ℕ). refusal_to_make (map_of id ts) held.units v) types serial
 
@@ -176,7 +176,7 @@ module _ (size : ℕ) (w : World) (memory : Memory) (held : Held) (s : State) (n
     refused_more more = behind_it ∙ ap (λ (b : Bool). cond b (refusal_by_tables F held image) None) more
 
   -- the reply is the serial
-  pub answer_new : refusal_of w line ≡ None → answer_by w (Some line) ≡ of_reply (replies.Ref (next_in (graph_seen (w.transactions held.name) (pool_named held.name w.stored))))
+  pub answer_new : refusal_of w line ≡ None → answer_by w (Some line) ≡ of_reply (replies.Ref (next_in (graph_seen (open_on held.name w) (pool_named held.name w.stored))))
   unfolding answer
   answer_new none = done_answer w line none
 
@@ -199,7 +199,7 @@ module _ (size : ℕ) (w : World) (memory : Memory) (held : Held) (s : State) (n
   world_more none more = done_world w line none ∙ ap given more
 
   -- there is a next serial
-  pub serial_is_some : 1 ≤ next_in (graph_seen (w.transactions held.name) (pool_named held.name w.stored))
+  pub serial_is_some : 1 ≤ next_in (graph_seen (open_on held.name w) (pool_named held.name w.stored))
   serial_is_some =
       let has = graph_of-each w.stored.types (stored_in F held.at image) is.transaction.now is.running.is in
       let n = next_serial_of (stored_in F held.at image) in
@@ -222,12 +222,12 @@ module _ (size : ℕ) (w : World) (memory : Memory) (held : Held) (s : State) (n
   pub grown_refusal : (now : Held) → now.name ≡ held.name → tx_held now ≡ tx_held held → refusal_by_world w held id ≡ None → refusal_by_world (with_more held.name w) now id ≡ None
   unfolding with_grown_pool
   grown_refusal now name tx none =
-      ap₂ (λ (n : List ℕ) (x : OpenTx). refusal_to_make (map_of id w.stored.types) x.units (next_in (graph_seen (w.transactions n) (pool_named n (with_grown_pool held.name w.stored))))) name tx
+      ap₂ (λ (n : List ℕ) (x : OpenTx). refusal_to_make (map_of id w.stored.types) x.units (next_in (graph_seen (open_on n w) (pool_named n (with_grown_pool held.name w.stored))))) name tx
       ∙ ap (λ (o : Option Transaction). refusal_to_make (map_of id w.stored.types) held.units (next_in (graph_seen o (pool_named held.name (with_grown_pool held.name w.stored))))) opened
       ∙ sym (ap (λ (o : Option Transaction). refusal_to_make (map_of id w.stored.types) held.units (next_in (graph_seen o (pool_named held.name w.stored)))) opened)
       ∙ none
 
-  pub grown_next : next_in (graph_seen ((with_more held.name w).transactions held.name) (pool_named held.name (with_more held.name w).stored)) ≡ next_in (graph_seen (w.transactions held.name) (pool_named held.name w.stored))
+  pub grown_next : next_in (graph_seen (open_on held.name (with_more held.name w)) (pool_named held.name (with_more held.name w).stored)) ≡ next_in (graph_seen (open_on held.name w) (pool_named held.name w.stored))
   grown_next =
       ap (λ (o : Option Transaction). next_in (graph_seen o (pool_named held.name (with_more held.name w).stored))) opened
       ∙ sym (ap (λ (o : Option Transaction). next_in (graph_seen o (pool_named held.name w.stored))) opened)

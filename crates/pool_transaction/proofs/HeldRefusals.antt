@@ -18,7 +18,7 @@ use Rattle.pud_defs.specs.Stored.{stored_in}
 use Rattle.pud_defs.specs.Graph.{Graph, Object, object_at, object_in, is_held, graph_of}
 use Rattle.pud_defs.specs.Laters.{laters_name}
 use Rattle.pud_defs.specs.PoolChanges.{pool_named}
-use Rattle.pud_defs.specs.World.{Transaction, World}
+use Rattle.pud_defs.specs.World.{Transaction, World, open_on}
 use Rattle.pud_defs.specs.Transactions.{units_of, laters_of}
 use Rattle.pud_defs.specs.Step.{graph_seen, field_of, misses, are_of_two_kinds, refusal_of}
 use Rattle.puddle_header.specs.Places.{place_of_slot}
@@ -90,7 +90,7 @@ module _ (size : ℕ) (w : World) (memory : Memory) (s : State) (ready : IsReady
   refused_by : (change : Change) → change_refusal change (Some is.transaction.now) is.transaction.laters is.transaction.units ≡ refusal_of w (line_of change held.client held.name)
   refused_by change =
       ap (λ (o : Option Transaction). change_refusal change (graph_seen o (pool_named held.name w.stored)) (laters_of o) (units_of o)) (sym is.is)
-      ∙ ap (λ (r : Option Refusal). option_or r (change_refusal change (graph_seen (w.transactions held.name) (pool_named held.name w.stored)) (laters_of (w.transactions held.name)) (units_of (w.transactions held.name)))) (sym own_held)
+      ∙ ap (λ (r : Option Refusal). option_or r (change_refusal change (graph_seen (open_on held.name w) (pool_named held.name w.stored)) (laters_of (open_on held.name w)) (units_of (open_on held.name w)))) (sym own_held)
       ∙ sym (refusal_of-change w held.client held.name change)
 
   module _ (frames : ℕ) (at : List (ℕ × Puddle)) (on : frames ≡ w.stored.frames) (same : at ≡ held.at) where

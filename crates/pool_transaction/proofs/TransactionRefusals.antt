@@ -19,7 +19,7 @@ use Rattle.pud_defs.specs.Graph.{Graph, Object, object_in}
 use Rattle.pud_defs.specs.Laters.{Later, laters_name}
 use Rattle.pud_defs.specs.Tables.{Pool}
 use Rattle.pud_defs.specs.PoolChanges.{pool_named, lacks_frames}
-use Rattle.pud_defs.specs.World.{Transaction, World}
+use Rattle.pud_defs.specs.World.{Transaction, World, open_on}
 use Rattle.pud_defs.specs.Transactions.{is_own, is_others, units_of, laters_of}
 use Rattle.pud_defs.specs.Step.{graph_in, graph_seen, object_of, field_of, misses, are_of_two_kinds, is_held_in, grows, lacks_room, holds, refusal_of}
 use Rattle.pool_transaction.specs.declared.changing.Change.{Change}
@@ -93,7 +93,7 @@ module _ (w : World) (client : ℕ) (name : List ℕ) where
   found = pool_named name w.stored
 
   abbrev opened : Option Transaction
-  opened = w.transactions name
+  opened = open_on name w
 
   pub refusal_of-commit : refusal_of w (Commit client name) ≡ own_refusal acts found client opened
   unfolding refusal_of holds
@@ -217,7 +217,7 @@ settable_by g units s f x none =
       fits = ltb-false LOG_ENTRY_WORDS (units + SET_UNITS) big.0;
     }
 
-module _ (w : World) (client : ℕ) (name : List ℕ) (t : Transaction) (open_there : w.transactions name ≡ Some t) where
+module _ (w : World) (client : ℕ) (name : List ℕ) (t : Transaction) (open_there : open_on name w ≡ Some t) where
   -- nothing of its own refuses it
   pub change_parts : (change : Change) → refusal_of w (line_of change client name) ≡ None → change_refusal change (Some t.now) t.laters t.units ≡ None
   change_parts change none =

@@ -17,7 +17,7 @@ use Rattle.pud_defs.specs.Step.{graph_seen, next_in, object_made}
 use Rattle.pud_defs.specs.Tables.{tables_of}
 use Rattle.pud_defs.specs.Transactions.{with_changed, charged, asked}
 use Rattle.pud_defs.specs.Types.{map_of}
-use Rattle.pud_defs.specs.World.{Transaction, World}
+use Rattle.pud_defs.specs.World.{Transaction, World, open_on}
 use Rattle.registry.specs.declared.adding.Added.{Added}
 use Rattle.registry.specs.Growth.{grow_refusal, IsGrowthFor}
 use Rattle.puddle_header.specs.Places.{place_of_slot, IsSlotOf}
@@ -124,7 +124,7 @@ GrowsBy F held image a = IsGrowthFor (tables_of F image) (image NEXT_NUMBER_WORD
 
 -- by the world, of an object of this type
 abbrev pub refusal_by_world : World → Held → ℕ → Option Refusal
-refusal_by_world w held id = refusal_to_make (map_of id w.stored.types) held.units (next_in (graph_seen (w.transactions held.name) (pool_named held.name w.stored)))
+refusal_by_world w held id = refusal_to_make (map_of id w.stored.types) held.units (next_in (graph_seen (open_on held.name w) (pool_named held.name w.stored)))
 
 -- the world with a puddle more in the pool of the name
 abbrev pub with_more : List ℕ → World → World

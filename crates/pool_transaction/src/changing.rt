@@ -16,7 +16,7 @@ ghost use Rattle.pud_defs.specs.Laters.{Later};
 ghost use Rattle.pud_defs.specs.PoolChanges.{pool_named};
 ghost use Rattle.pud_defs.specs.Step.{refusal_of, after, graph_seen, next_in, grows, answer_by, world_by};
 ghost use Rattle.pud_defs.specs.Step.Answer.{of_reply};
-ghost use Rattle.pud_defs.specs.World.{Transaction, World};
+ghost use Rattle.pud_defs.specs.World.{Transaction, World, open_on};
 ghost use Rattle.graph_laws.specs.Slots.{IsLowestFreeSlot};
 ghost use Rattle.puddle_header.specs.Places.{place_of_slot, IsSlotOf};
 ghost use Rattle.word_transaction.specs.Running.{ByTransaction};
@@ -263,7 +263,7 @@ impl Opened {
             → Applies size w (with_made (self.old).name t w) (with_held (self.old).number (Option.Some self.new) memory) (fault_of result) (H.state h.old) (H.state h.new) }
         ensures serial { H.tells → (size : ℕ) → (w : World) → (memory : Memory) → memory.frames ≡ frames → held_under memory.held (self.old).number ≡ Option.Some self.old
             → IsReady size w memory (H.state h.old) → grows w (self.old).name ≡ false
-            → IfOk result (λ serial. serial ≡ next_in (graph_seen (w.transactions (self.old).name) (pool_named (self.old).name w.stored))) }
+            → IfOk result (λ serial. serial ≡ next_in (graph_seen (open_on (self.old).name w) (pool_named (self.old).name w.stored))) }
         ensures full { H.tells → (size : ℕ) → (w : World) → (memory : Memory) → memory.frames ≡ frames → held_under memory.held (self.old).number ≡ Option.Some self.old
             → IsReady size w memory (H.state h.old) → grows w (self.old).name ≡ true
             → IfOk result (λ serial. serial ≡ 0) × (H.state h.new ≡ H.state h.old) × (self.new ≡ self.old) }

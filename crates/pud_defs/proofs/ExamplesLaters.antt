@@ -4,7 +4,7 @@ use Rattle.pud_defs.specs.declared.objects.Val.{Val}
 use Rattle.pud_defs.specs.declared.objects.Val.TheVariants.{Num, Ref}
 use Rattle.pud_defs.specs.Graph.{Object, Graph, empty_graph}
 use Rattle.pud_defs.specs.Laters.{Later}
-use Rattle.pud_defs.specs.World.{Transaction, World, no_clients}
+use Rattle.pud_defs.specs.World.{Transaction, World, no_clients, open_on}
 use Rattle.pud_defs.proofs.Opened.{opened}
 use Rattle.pud_defs.proofs.ExamplesPools.{said, behind, lines_said}
 use Rattle.pud_defs.proofs.ExamplesTransactions.{name_of, nodes, stored_with, world_with, under_way}
@@ -51,7 +51,7 @@ unfolding opened said
 in_turn = refl
 
 -- oldest first, three units each
-asked_for : (behind one (codes "begin 0 a" ∷ codes "later 0 a 1.0 12" ∷ codes "later 0 a 1.1 @1" ∷ [])).transactions (name_of 97)
+asked_for : open_on (name_of 97) (behind one (codes "begin 0 a" ∷ codes "later 0 a 1.0 12" ∷ codes "later 0 a 1.1 @1" ∷ []))
     ≡ asking 6 (nodes 1 10 0) (later 1 0 (Num 12) ∷ later 1 1 (Ref 1) ∷ [])
 unfolding opened behind
 asked_for = refl
@@ -108,7 +108,7 @@ null_of_an_empty_pool : said (begun_on empty_graph) (codes "root 0 a 1" ∷ code
 unfolding opened said
 null_of_an_empty_pool = refl
 
-root_is_seen : (behind one (codes "begin 0 a" ∷ codes "root 0 a 1" ∷ [])).transactions (name_of 97) ≡ under_way 1 3 (record (nodes 1 10 0) { root = 1 })
+root_is_seen : open_on (name_of 97) (behind one (codes "begin 0 a" ∷ codes "root 0 a 1" ∷ [])) ≡ under_way 1 3 (record (nodes 1 10 0) { root = 1 })
 unfolding opened behind
 root_is_seen = refl
 

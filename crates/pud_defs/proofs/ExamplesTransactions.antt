@@ -6,7 +6,7 @@ use Rattle.pud_defs.specs.Spaces.{owner}
 use Rattle.pud_defs.specs.Graph.{Graph, empty_graph}
 use Rattle.pud_defs.specs.Holdings.Holding.{Sound}
 use Rattle.pud_defs.specs.Tables.{Pool}
-use Rattle.pud_defs.specs.World.{StoredWorld, Transaction, World, nothing_open, blank_world}
+use Rattle.pud_defs.specs.World.{StoredWorld, Transaction, World, nothing_open, blank_world, open_on}
 use Rattle.pud_defs.specs.Transactions.{with_open}
 use Rattle.pud_defs.proofs.Opened.{opened}
 use Rattle.pud_defs.proofs.ExamplesPools.{said, behind, lines_said}
@@ -54,7 +54,7 @@ not_stored_yet : (behind start (codes "begin 0 a" ∷ codes "new 0 a 1" ∷ code
 unfolding opened behind
 not_stored_yet = refl
 
-units_are_counted : (behind start (codes "begin 0 a" ∷ codes "new 0 a 1" ∷ codes "set 0 a 1.0 10" ∷ codes "set 0 a 1.1 @1" ∷ [])).transactions (name_of 97) ≡ under_way 1 43 (nodes 1 10 1)
+units_are_counted : open_on (name_of 97) (behind start (codes "begin 0 a" ∷ codes "new 0 a 1" ∷ codes "set 0 a 1.0 10" ∷ codes "set 0 a 1.1 @1" ∷ [])) ≡ under_way 1 43 (nodes 1 10 1)
 unfolding opened behind
 units_are_counted = refl
 
@@ -69,7 +69,7 @@ committed_twice : said start (codes "begin 0 a" ∷ codes "begin 0 a" ∷ codes 
 unfolding opened said
 committed_twice = refl
 
-still_open : (behind start (codes "begin 0 a" ∷ codes "begin 0 a" ∷ codes "new 0 a 1" ∷ codes "commit 0 a" ∷ [])).transactions (name_of 97) ≡ under_way 1 37 (nodes 1 0 0)
+still_open : open_on (name_of 97) (behind start (codes "begin 0 a" ∷ codes "begin 0 a" ∷ codes "new 0 a 1" ∷ codes "commit 0 a" ∷ [])) ≡ under_way 1 37 (nodes 1 0 0)
 unfolding opened behind
 still_open = refl
 

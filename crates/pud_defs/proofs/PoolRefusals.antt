@@ -17,7 +17,7 @@ use Rattle.pud_defs.specs.Keyed.{under, keyed, first_free}
 use Rattle.pud_defs.specs.Spaces.{Owner}
 use Rattle.pud_defs.specs.Tables.{Tables, Pool, Reader, named, records_of, pool_in, pool_of, puddles_of, entries, pools_of}
 use Rattle.pud_defs.specs.SoundTables.{HasSoundTables}
-use Rattle.pud_defs.specs.World.{World}
+use Rattle.pud_defs.specs.World.{World, open_on}
 use Rattle.pud_defs.specs.PoolChanges.{pool_named, is_full_of_pools, lacks_frames}
 use Rattle.pud_defs.specs.Transactions.{is_own, is_others}
 use Rattle.pud_defs.specs.Step.{owns, holds, refusal_of}
@@ -50,11 +50,11 @@ owning_refusal who found busy own =
     (cond busy (Some refusals.Busy)
     (cond own (Some refusals.OpenHere) None))))
 
-pub refusal_of-chmod : (w : World) (client mode : ℕ) (name : List ℕ) → refusal_of w (Chmod client name mode) ≡ owning_refusal (w.clients client) (pool_named name w.stored) (is_others client (w.transactions name)) (is_own client (w.transactions name))
+pub refusal_of-chmod : (w : World) (client mode : ℕ) (name : List ℕ) → refusal_of w (Chmod client name mode) ≡ owning_refusal (w.clients client) (pool_named name w.stored) (is_others client (open_on name w)) (is_own client (open_on name w))
 unfolding refusal_of holds
 refusal_of-chmod w client mode name = refl
 
-pub refusal_of-drop : (w : World) (client : ℕ) (name : List ℕ) → refusal_of w (commands.Drop client name) ≡ owning_refusal (w.clients client) (pool_named name w.stored) (is_others client (w.transactions name)) (is_own client (w.transactions name))
+pub refusal_of-drop : (w : World) (client : ℕ) (name : List ℕ) → refusal_of w (commands.Drop client name) ≡ owning_refusal (w.clients client) (pool_named name w.stored) (is_others client (open_on name w)) (is_own client (open_on name w))
 unfolding refusal_of holds
 refusal_of-drop w client name = refl
 

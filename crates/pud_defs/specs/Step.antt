@@ -20,7 +20,7 @@ use Rattle.pud_defs.specs.GraphChanges.{blank_object, with_field, with_root, wit
 use Rattle.pud_defs.specs.Laters.{laters_name}
 use Rattle.pud_defs.specs.Holdings.{graph_held}
 use Rattle.pud_defs.specs.Tables.{Pool}
-use Rattle.pud_defs.specs.World.{StoredWorld, Transaction, World, restart}
+use Rattle.pud_defs.specs.World.{StoredWorld, Transaction, World, restart, open_on}
 use Rattle.pud_defs.specs.PoolChanges.{pool_named, is_full_of_pools, lacks_frames, lacks_a_number, changed_pool, with_puddle_more, with_new_pool, with_pool_mode, without_pool, with_type_defined}
 use Rattle.pud_defs.specs.Transactions.{is_own, is_others, units_of, depth_of, laters_of, with_open, with_changed, without_client, begun, charged, asked, lowered, committed_pools}
 use Rattle.pud_defs.specs.Listing.{pools_text}
@@ -198,7 +198,7 @@ pool_for w c = pool_by_name w.stored (name_in c)
 -- the transaction that is open on it
 abbrev pub open_by_name : World → Option (List ℕ) → Option Transaction
 open_by_name w None = None
-open_by_name w (Some name) = w.transactions name
+open_by_name w (Some name) = open_on name w
 
 abbrev pub open_for : World → Command → Option Transaction
 open_for w c = open_by_name w (name_in c)
@@ -226,16 +226,16 @@ holds_others (Some client) t = is_others client t
 
 -- how many transactions the client has open on pools of other names
 abbrev pub open_elsewhere : World → (client : ℕ) → List ℕ → ℕ
-open_elsewhere w client name = count_by (λ e. not (bytes_eq e.0 name) && is_own client (w.transactions e.0)) w.stored.pools
+open_elsewhere w client name = count_by (λ e. not (bytes_eq e.0 name) && is_own client (open_on e.0 w)) w.stored.pools
 
 -- the client's transaction on the pool was begun as often as it may be
 abbrev pub is_deep : World → Command → Bool
-is_deep w (Begin client name) = is_own client (w.transactions name) && nat_le MAX_DEPTH (depth_of (w.transactions name))
+is_deep w (Begin client name) = is_own client (open_on name w) && nat_le MAX_DEPTH (depth_of (open_on name w))
 is_deep w c = false
 
 -- the client has none open on the pool, and as many on others as it has logs
 abbrev pub lacks_logs : World → Command → Bool
-lacks_logs w (Begin client name) = not (is_own client (w.transactions name)) && nat_le CLIENT_LOGS (open_elsewhere w client name)
+lacks_logs w (Begin client name) = not (is_own client (open_on name w)) && nat_le CLIENT_LOGS (open_elsewhere w client name)
 lacks_logs w c = false
 
 -- the type of the object that a command makes
@@ -296,11 +296,11 @@ is_full_graph (Some g) = nat_le NUMBER_LIMIT g.next_serial || nat_le (slots_amon
 
 -- what makes an object adds a puddle to the pool of the name
 abbrev pub grows : World → List ℕ → Bool
-grows w name = is_all_live (graph_seen (w.transactions name) (pool_named name w.stored)) (pool_named name w.stored)
+grows w name = is_all_live (graph_seen (open_on name w) (pool_named name w.stored)) (pool_named name w.stored)
 
 -- there is no room for an object more
 abbrev pub lacks_room : World → List ℕ → Bool
-lacks_room w name = is_full_graph (graph_seen (w.transactions name) (pool_named name w.stored)) || (grows w name && lacks_a_number w.stored.next_number)
+lacks_room w name = is_full_graph (graph_seen (open_on name w) (pool_named name w.stored)) || (grows w name && lacks_a_number w.stored.next_number)
 
 abbrev pub is_other : ℕ → Option ℕ → Bool
 is_other map None = false
@@ -383,8 +383,8 @@ after w (commands.Pool client name mode) = record w { stored = with_new_pool nam
 after w (Chmod client name mode) = record w { stored = with_pool_mode name mode w.stored }
 after w (commands.Drop client name) = record w { stored = without_pool name w.stored }
 after w (Get client name s f) = w
-after w (Begin client name) = record w { transactions = with_open name (begun client (graph_at_begin w name) (w.transactions name)) w.transactions }
-after w (Commit client name) = record w { stored = record w.stored { pools = committed_pools name (w.transactions name) w.stored.pools }; transactions = with_open name (lowered (w.transactions name)) w.transactions }
+after w (Begin client name) = record w { transactions = with_open name (begun client (graph_at_begin w name) (open_on name w)) w.transactions }
+after w (Commit client name) = record w { stored = record w.stored { pools = committed_pools name (open_on name w) w.stored.pools }; transactions = with_open name (lowered (open_on name w)) w.transactions }
 after w (Abort client name) = record w { transactions = with_open name None w.transactions }
 after w (New client name t) = record w {
   stored = record w.stored {

@@ -70,6 +70,10 @@ pub record World : Type 0 where
   pub shelf : List ℕ → Option (List ℕ)
   pub transactions : List ℕ → Option Transaction
 
+-- the transaction that is open on the pool of the name, where one is
+abbrev pub open_on : List ℕ → World → Option Transaction
+open_on name w = w.transactions name
+
 -- no client is present
 abbrev pub no_clients : ℕ → Option Owner
 no_clients client = None

@@ -8,7 +8,7 @@ use Rattle.pud_defs.specs.declared.machine.Command.TheVariants as commands
 use Rattle.pud_defs.specs.Step.{after}
 use Rattle.pud_defs.specs.Tables.{Pool}
 use Rattle.pud_defs.specs.Transactions.{with_open, lowered, committed_pools}
-use Rattle.pud_defs.specs.World.{Transaction, World}
+use Rattle.pud_defs.specs.World.{Transaction, World, open_on}
 use Rattle.nesting.specs.declared.Session.{Session}
 use Rattle.nesting.specs.Sessions.{lowered_session, depth_in, left}
 use Rattle.ready_daemon.specs.Memory.{Held, Memory, held_under}
@@ -64,7 +64,7 @@ Applies-rises size w memory behind s client name slot number deep same ready on 
 
 -- the session of the client's own says how often it was begun in the world
 pub depth_by_world : (size : ℕ) (w : World) (memory : Memory) (s : State) (client : ℕ) (name : List ℕ) (slot number : ℕ) → IsReady size w memory s → IsOwnOn client name slot number memory.held
-    → (running : Transaction) → w.transactions name ≡ Some running → depth_in memory.sessions slot ≡ running.depth
+    → (running : Transaction) → open_on name w ≡ Some running → depth_in memory.sessions slot ≡ running.depth
 depth_by_world size w memory s client name slot number ready on running found =
     let mine = on.own.mine in
     let there = on.own.is in

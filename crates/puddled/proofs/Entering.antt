@@ -9,7 +9,7 @@ use Rattle.pud_defs.specs.declared.machine.Command.TheVariants.{Begin}
 use Rattle.pud_defs.specs.declared.machine.Refusal.{Refusal}
 use Rattle.pud_defs.specs.declared.machine.Refusal.TheVariants as refusals
 use Rattle.pud_defs.specs.Step.{open_elsewhere, refusal_of}
-use Rattle.pud_defs.specs.World.{Transaction, World}
+use Rattle.pud_defs.specs.World.{Transaction, World, open_on}
 use Rattle.nesting.specs.declared.EnterFault.{EnterFault}
 use Rattle.nesting.specs.declared.EnterFault.TheVariants.{Deep, Logs}
 use Rattle.nesting.specs.declared.Session.{Session}
@@ -55,20 +55,20 @@ module _ (size : ℕ) (w : World) (memory : Memory) (s : State) (client : ℕ) (
     | inr off ↦ absurd (let no : true ≡ false = some ∙ ap is_some (session_shut off) in cc)
   ]
 
-  writes : session ≡ None → w.transactions name ≡ None
+  writes : session ≡ None → open_on name w ≡ None
   writes none = elim (cases_Bool found.is_open) [
     | inl on ↦ absurd (none-some (record { client = client; depth = depth_in memory.sessions slot }) (sym none ∙ session_open on))
     | inr off ↦ finds.is.none off
   ]
 
-  by_entering : refusal_of w (Begin client name) ≡ entering_refusal client (w.transactions name) (open_elsewhere w client name)
-  by_entering = refusal_of-begin w client name ∙ ap (λ (r : Option Refusal). option_or r (entering_refusal client (w.transactions name) (open_elsewhere w client name))) finds.free
+  by_entering : refusal_of w (Begin client name) ≡ entering_refusal client (open_on name w) (open_elsewhere w client name)
+  by_entering = refusal_of-begin w client name ∙ ap (λ (r : Option Refusal). option_or r (entering_refusal client (open_on name w) (open_elsewhere w client name))) finds.free
 
   -- ---- it is open, and the client's own
 
   record IsOpenAt (depth : ℕ) : Type 0 where
     t : Transaction
-    there : w.transactions name ≡ Some t
+    there : open_on name w ≡ Some t
     whose : t.client ≡ client
     begun : t.depth ≡ depth
 

@@ -14,7 +14,7 @@ use Rattle.pud_defs.specs.declared.machine.Reply.TheVariants as replies
 use Rattle.pud_defs.specs.declared.machine.Refusal.TheVariants as refusals
 use Rattle.pud_defs.specs.declared.records.Puddle.{Puddle}
 use Rattle.pud_defs.specs.ExportFile.{file_graph}
-use Rattle.pud_defs.specs.World.{World}
+use Rattle.pud_defs.specs.World.{World, open_on}
 use Rattle.pud_defs.specs.Transactions.{is_own}
 use Rattle.pud_defs.specs.Listing.{name_text}
 use Rattle.pud_defs.specs.Step.{refusal_of}
@@ -36,7 +36,7 @@ use Rattle.puddled.proofs.FileLines.{memory_of-export, memory_step, some_step, e
 
 -- ---- the client's own transaction is open on the pool
 
-pub own_is_open : (size : ℕ) (w : World) (memory : Memory) (s : State) → IsReady size w memory s → (client : ℕ) (name : List ℕ) → (number : ℕ) → IsOwn client name number memory.held → is_own client (w.transactions name) ≡ true
+pub own_is_open : (size : ℕ) (w : World) (memory : Memory) (s : State) → IsReady size w memory s → (client : ℕ) (name : List ℕ) → (number : ℕ) → IsOwn client name number memory.held → is_own client (open_on name w) ≡ true
 own_is_open size w memory s ready client name number own =
     let here = open_here w memory.held ready.mask s.now.words name client number ready.held own in
     ap (is_own client) here.is ∙ eq-eqb here.transaction.client client here.whose

@@ -28,7 +28,7 @@ use Rattle.pud_defs.specs.Stored.{stored_in}
 use Rattle.pud_defs.specs.ExportFile.{FileContents, words_in, types_used, file_graph}
 use Rattle.pud_defs.specs.Exported.{exported_words}
 use Rattle.pud_defs.specs.PoolChanges.{pool_named}
-use Rattle.pud_defs.specs.World.{Transaction, World, closed}
+use Rattle.pud_defs.specs.World.{Transaction, World, closed, open_on}
 use Rattle.pud_defs.specs.Transactions.{is_own}
 use Rattle.pud_defs.specs.Listing.{name_text}
 use Rattle.pud_defs.specs.Step.{Answer, refusal_of, holds, after, answer, world_by}
@@ -73,16 +73,16 @@ module _ (w : World) (client : ℕ) (name file : List ℕ) where
   memory_of-export = refl
 
   abbrev opened_own : Option Refusal
-  opened_own = cond (is_own client (w.transactions name)) (Some refusals.OpenHere) None
+  opened_own = cond (is_own client (open_on name w)) (Some refusals.OpenHere) None
 
   pub export_unread : (r : Refusal) → refusal_to w needs.Read client name ≡ Some r → refusal_of w (Export client name file) ≡ Some r
   export_unread r is = refusal_of-export w client name file ∙ ap (λ (o : Option Refusal). option_or o opened_own) is
 
   -- the client's own transaction is open on it
-  pub export_open : refusal_to w needs.Read client name ≡ None → is_own client (w.transactions name) ≡ true → refusal_of w (Export client name file) ≡ Some refusals.OpenHere
+  pub export_open : refusal_to w needs.Read client name ≡ None → is_own client (open_on name w) ≡ true → refusal_of w (Export client name file) ≡ Some refusals.OpenHere
   export_open none own = refusal_of-export w client name file ∙ ap (λ (o : Option Refusal). option_or o opened_own) none ∙ ap (λ b. cond b (Some refusals.OpenHere) None) own
 
-  pub export_free : refusal_to w needs.Read client name ≡ None → w.transactions name ≡ None → refusal_of w (Export client name file) ≡ None
+  pub export_free : refusal_to w needs.Read client name ≡ None → open_on name w ≡ None → refusal_of w (Export client name file) ≡ None
   export_free none shut =
       refusal_of-export w client name file ∙ ap (λ (o : Option Refusal). option_or o opened_own) none ∙ ap (λ (o : Option Transaction). cond (is_own client o) (Some refusals.OpenHere) None) shut
 

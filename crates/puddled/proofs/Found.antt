@@ -26,7 +26,7 @@ use Rattle.pud_defs.specs.Holdings.{holding_in}
 use Rattle.pud_defs.specs.SoundTables.{is_sound_pool, HasSoundTables}
 use Rattle.pud_defs.specs.Tables.{Tables, Pool, Reader, tables_of, records_of, pool_in, puddles_of, puddles_in_turn, listed, pool_of}
 use Rattle.pud_defs.specs.PoolChanges.{pool_named}
-use Rattle.pud_defs.specs.World.{Transaction, World}
+use Rattle.pud_defs.specs.World.{Transaction, World, open_on}
 use Rattle.pud_defs.specs.Transactions.{is_others}
 use Rattle.pud_defs.specs.Step.{writes, graph_in, graph_seen}
 use Rattle.pud_defs.proofs.PuddlesListed.{puddles_in_turn-listed}
@@ -199,12 +199,12 @@ module _ (size : ℕ) (w : World) (memory : Memory) (s : State) (ready : IsReady
 
   -- the client is not there
   pub need_client : (need : Need) → w.clients client ≡ None → refusal_to w need client name ≡ Some refusals.Client
-  need_client need none = ap (λ who. need_refusal need who (pool_named name w.stored) client (w.transactions name)) none
+  need_client need none = ap (λ who. need_refusal need who (pool_named name w.stored) client (open_on name w)) none
 
   -- no pool has the name
   pub need_pool : (need : Need) (who : Owner) → w.clients client ≡ Some who → None ≡ pool_in t name → refusal_to w need client name ≡ Some refusals.Pool
   need_pool need who there none =
-      ap₂ (λ (acts : Option Owner) (found : Option Pool). need_refusal need acts found client (w.transactions name)) there
+      ap₂ (λ (acts : Option Owner) (found : Option Pool). need_refusal need acts found client (open_on name w)) there
       (there_by ∙ ap (option_map (pool_by_record hold t)) (no_record (find name_cmp name (records_of t)) none))
 
   module _ (slot : ℕ) (rec : PoolRec) (is : IsRecordOf F name image slot rec) where
@@ -247,10 +247,10 @@ module _ (size : ℕ) (w : World) (memory : Memory) (s : State) (ready : IsReady
     -- why it is refused, by what was read of it and what is open on it
     module _ (need : Need) (uid gid : ℕ) (there : w.clients client ≡ Some (owner uid gid)) where
       by_parts : (lacks right : Bool) → lacks ≡ lacks_graph need (pool_named name w.stored) → right ≡ right_by need rec (owner uid gid)
-          → refusal_to w need client name ≡ cond lacks (Some refusals.Wild) (cond (not right) (Some refusals.Denied) (cond (is_others client (w.transactions name)) (Some refusals.Busy) None))
+          → refusal_to w need client name ≡ cond lacks (Some refusals.Wild) (cond (not right) (Some refusals.Denied) (cond (is_others client (open_on name w)) (Some refusals.Busy) None))
       by_parts lacks right no_graph is_right =
-          (λ p. need_refusal need (there p) (named p) client (w.transactions name))
-          ∙ ap₂ (λ (b r : Bool). cond b (Some refusals.Wild) (cond (not r) (Some refusals.Denied) (cond (is_others client (w.transactions name)) (Some refusals.Busy) None)))
+          (λ p. need_refusal need (there p) (named p) client (open_on name w))
+          ∙ ap₂ (λ (b r : Bool). cond b (Some refusals.Wild) (cond (not r) (Some refusals.Denied) (cond (is_others client (open_on name w)) (Some refusals.Busy) None)))
           (ap (lacks_graph need) (sym named) ∙ sym no_graph) (right_there need uid gid ∙ sym is_right)
 
       pub need_wild : true ≡ lacks_graph need (pool_named name w.stored) → refusal_to w need client name ≡ Some refusals.Wild
@@ -260,15 +260,15 @@ module _ (size : ℕ) (w : World) (memory : Memory) (s : State) (ready : IsReady
       need_denied graph no_right = by_parts false false graph no_right
 
       pub need_beside : false ≡ lacks_graph need (pool_named name w.stored) → true ≡ right_by need rec (owner uid gid)
-          → refusal_to w need client name ≡ cond (is_others client (w.transactions name)) (Some refusals.Busy) None
+          → refusal_to w need client name ≡ cond (is_others client (open_on name w)) (Some refusals.Busy) None
       need_beside graph right = by_parts false true graph right
 
     -- ---- none is open on it
 
-    pub shut_by : holder_in memory.sessions slot ≡ None → w.transactions name ≡ None
+    pub shut_by : holder_in memory.sessions slot ≡ None → open_on name w ≡ None
     shut_by shut = session_shut size w memory s ready name slot slot_is (session_in-no_holder memory.sessions slot shut)
 
-    module _ (shut : w.transactions name ≡ None) where
+    module _ (shut : open_on name w ≡ None) where
       stored_read : stored_in F (puddles_in_turn t slot) under ≡ stored_in F (puddles_in_turn t slot) image
       stored_read =
           let at = found_record t name slot found.r found.found in
@@ -365,7 +365,7 @@ module _ (size : ℕ) (w : World) (memory : Memory) (s : State) (ready : IsReady
     pub none_lacking_open : (need : Need) → is_some (holder_in memory.sessions slot) ≡ true → false ≡ lacks_graph need (pool_named name w.stored)
     none_lacking_open need = open_lacks_none need (holder_in memory.sessions slot) refl
 
-    others_by : (o : Option ℕ) → holder_in memory.sessions slot ≡ o → (number : ℕ) → refusal_found (beside o client slot number) ≡ cond (is_others client (w.transactions name)) (Some refusals.Busy) None
+    others_by : (o : Option ℕ) → holder_in memory.sessions slot ≡ o → (number : ℕ) → refusal_found (beside o client slot number) ≡ cond (is_others client (open_on name w)) (Some refusals.Busy) None
     others_by None at number = ap (λ (t : Option Transaction). cond (is_others client t) (Some refusals.Busy) None) (sym (shut_by at))
     others_by (Some other) at number =
         busy_by (eqb other client)
@@ -376,7 +376,7 @@ module _ (size : ℕ) (w : World) (memory : Memory) (s : State) (ready : IsReady
         busy_by true = refl
         busy_by false = refl
 
-    pub refusal_beside_it : (number : ℕ) → refusal_found (beside (holder_in memory.sessions slot) client slot number) ≡ cond (is_others client (w.transactions name)) (Some refusals.Busy) None
+    pub refusal_beside_it : (number : ℕ) → refusal_found (beside (holder_in memory.sessions slot) client slot number) ≡ cond (is_others client (open_on name w)) (Some refusals.Busy) None
     refusal_beside_it = others_by (holder_in memory.sessions slot) refl
 
     -- what is known of it, where it was judged
@@ -415,7 +415,7 @@ module _ (size : ℕ) (w : World) (memory : Memory) (s : State) (ready : IsReady
     may_begin at known free some =
         let here = found_record t name slot found.r found.found in
         let puddles = are_with_graph F slot image at (sym some) in
-        let may = may_write_by (w.clients client) (pool_named name w.stored) client (w.transactions name) free in
+        let may = may_write_by (w.clients client) (pool_named name w.stored) client (open_on name w) free in
         record {
           rec = found.r;
           who = may.owner_is;

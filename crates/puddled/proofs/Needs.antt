@@ -11,7 +11,7 @@ use Rattle.pud_defs.specs.Spaces.{Owner}
 use Rattle.pud_defs.specs.Step.{owns, reads, writes, graph_in, graph_seen, object_of, field_of, open_elsewhere, refusal_of, holds}
 use Rattle.pud_defs.specs.Tables.{Pool}
 use Rattle.pud_defs.specs.Transactions.{is_own, is_others, depth_of}
-use Rattle.pud_defs.specs.World.{Transaction, World}
+use Rattle.pud_defs.specs.World.{Transaction, World, open_on}
 use Rattle.pool_transaction.proofs.TransactionRefusals.{behind}
 use Rattle.puddled.specs.declared.finding.Need.TheVariants as needs
 use Rattle.puddled.specs.Finding.{refusal_to}
@@ -30,7 +30,7 @@ module _ (w : World) (client : ℕ) (name : List ℕ) where
   found = pool_named name w.stored
 
   abbrev opened : Option Transaction
-  opened = w.transactions name
+  opened = open_on name w
 
   -- a line on the client's own transaction
   pub refusal_of-own : refusal_of w (Commit client name) ≡ option_or (refusal_to w needs.Graph client name) (cond (not (is_own client opened)) (Some refusals.Tx) None)

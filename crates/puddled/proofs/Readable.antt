@@ -19,7 +19,7 @@ use Rattle.pud_defs.specs.Types.{types_of}
 use Rattle.pud_defs.specs.Stored.{stored_in}
 use Rattle.pud_defs.specs.Graph.{Graph, Object, graph_of, object_in}
 use Rattle.pud_defs.specs.PoolChanges.{pool_named}
-use Rattle.pud_defs.specs.World.{Transaction, World}
+use Rattle.pud_defs.specs.World.{Transaction, World, open_on}
 use Rattle.pud_defs.specs.Step.{graph_seen, object_of, field_of, value_or_ok, text_or, refusal_of, after, answer, answer_by, answer_unless, unless_refused, world_by}
 use Rattle.pud_defs.specs.Step.Answer.{of_reply}
 use Rattle.graph_read.specs.declared.fields.FieldRead.{FieldRead}
@@ -77,7 +77,7 @@ module _ (w : World) (client : ℕ) (name : List ℕ) (serial f : ℕ) where
   c = Get client name serial f
 
   abbrev object : Option Object
-  object = object_of serial (graph_seen (w.transactions name) (pool_named name w.stored))
+  object = object_of serial (graph_seen (open_on name w) (pool_named name w.stored))
 
   refusal_of-get : refusal_of w c ≡ option_or (refusal_to w needs.Read client name) (lacking object (field_of f object))
   refusal_of-get = refusal_by_need w client name serial f
@@ -107,7 +107,7 @@ module _ (w : World) (client : ℕ) (name : List ℕ) (serial f : ℕ) where
       ap (λ (x : FieldRead). of_reply (reply_of_read x)) (e ∙ ap read_value same)
       ∙ sym (ap (answer_unless (refusal_of w c)) answer_of-get ∙ (λ p. answer_unless ((refusal_of-get ∙ (λ q. option_or (free q) (lacking (is q) (there q)))) p) (text_or (value_or_ok (there p)) None)))
 
-  pub reply_read : (g : Graph) (read : FieldRead) → graph_seen (w.transactions name) (pool_named name w.stored) ≡ Some g → read ≡ read_by (object_in serial g) f → refusal_to w needs.Read client name ≡ None
+  pub reply_read : (g : Graph) (read : FieldRead) → graph_seen (open_on name w) (pool_named name w.stored) ≡ Some g → read ≡ read_by (object_in serial g) f → refusal_to w needs.Read client name ≡ None
       → of_reply (reply_of_read read) ≡ answer_by w (Some c)
   reply_read g read is e free =
       let there : object ≡ object_in serial g = ap (object_of serial) is in

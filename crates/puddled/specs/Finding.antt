@@ -12,7 +12,7 @@ use Rattle.pud_defs.specs.Step.{owns, reads, writes, graph_in}
 use Rattle.pud_defs.specs.Tables.{Pool, tables_of, pool_in}
 use Rattle.pud_defs.specs.PoolChanges.{pool_named}
 use Rattle.pud_defs.specs.Transactions.{is_others}
-use Rattle.pud_defs.specs.World.{Transaction, World}
+use Rattle.pud_defs.specs.World.{Transaction, World, open_on}
 use Rattle.nesting.specs.declared.EnterFault.{EnterFault}
 use Rattle.nesting.specs.declared.EnterFault.TheVariants.{Deep, Logs}
 use Rattle.nesting.specs.Sessions.{client_in, session_in}
@@ -67,7 +67,7 @@ need_refusal need who found client opened =
 
 -- the same of a client and a name
 abbrev pub refusal_to : World → Need → (client : ℕ) → List ℕ → Option Refusal
-refusal_to w need client name = need_refusal need (w.clients client) (pool_named name w.stored) client (w.transactions name)
+refusal_to w need client name = need_refusal need (w.clients client) (pool_named name w.stored) client (open_on name w)
 
 -- ---- what is found
 
@@ -91,7 +91,7 @@ pub record IsFound (w : World) (need : Need) (client : ℕ) (name : List ℕ) (i
   pub is : IsRecordOf w.stored.frames name image found.slot rec
   pub number_is : found.number ≡ rec.number
   pub own : found.is_open ≡ true → (number : ℕ) × IsOwnOn client name found.slot number memory.held
-  pub none : found.is_open ≡ false → w.transactions name ≡ None
+  pub none : found.is_open ≡ false → open_on name w ≡ None
   pub known : found.is_open ≡ false → needs_graph need ≡ true → Some (unwrap_or (known_in memory.judged found.slot) []) ≡ puddles_with_graph w.stored.frames image found.slot
 
 -- What was found of the client's own transaction lies within the tables, and is the client's by its session.

@@ -10,7 +10,7 @@ use Rattle.pud_defs.specs.Types.{types_of}
 use Rattle.pud_defs.specs.Stored.{stored_in}
 use Rattle.pud_defs.specs.Graph.{Graph, graph_of}
 use Rattle.pud_defs.specs.PoolChanges.{pool_named}
-use Rattle.pud_defs.specs.World.{World}
+use Rattle.pud_defs.specs.World.{World, open_on}
 use Rattle.pud_defs.specs.Step.{graph_seen}
 use Rattle.graph_read.specs.declared.fields.FieldRead.{FieldRead}
 use Rattle.graph_read.specs.declared.fields.FieldRead.TheVariants.{NoObject, NoField, Value}
@@ -19,7 +19,7 @@ use Rattle.graph_read.specs.declared.fields.FieldRead.TheVariants.{NoObject, NoF
 pub record HoldsGraph (w : World) (F : ℕ) (name : List ℕ) (image : Image) (puddles : List (ℕ × Puddle)) : Type 0 where
   pub graph : Graph
   pub stored : graph_of (types_of image) (stored_in F puddles image) ≡ Some graph
-  pub is : graph_seen (w.transactions name) (pool_named name w.stored) ≡ Some graph
+  pub is : graph_seen (open_on name w) (pool_named name w.stored) ≡ Some graph
 
 -- what is replied, by what was read of a field
 abbrev pub reply_of_read : FieldRead → Reply

@@ -6,7 +6,7 @@ ghost use Rattle.pm_model.specs.Counts.{after_fault, fault_of};
 ghost use Rattle.pud_defs.specs.declared.layout.TheConstants.{CLIENTS};
 ghost use Rattle.pud_defs.specs.declared.machine.Command.TheVariants as commands;
 ghost use Rattle.pud_defs.specs.Layout.{device_words};
-ghost use Rattle.pud_defs.specs.World.{Transaction, World};
+ghost use Rattle.pud_defs.specs.World.{Transaction, World, open_on};
 ghost use Rattle.puddled.specs.Answered.{as_answered};
 ghost use Rattle.pool_transaction.specs.Changing.{line_of, IsLegalChange};
 ghost use Rattle.ready_daemon.specs.Ready.{KeepsRest, IsReady};
@@ -39,7 +39,7 @@ impl Daemon {
         ensures carries { H.tells → (size : ℕ) → size ≡ (H.counts h.old).size → (w : World) → IsReady size w self.old (H.state h.old)
             → CarriesOut size w self.new (Option.Some (commands.Begin client name)) (as_answered result) (H.counts h.old) (H.counts h.new) (H.state h.old) (H.state h.new) }
         // Where a transaction is open on the pool, nothing of the device changes: the client's own is begun once more, or the line is refused.
-        ensures nested { H.tells → (size : ℕ) → (w : World) → IsReady size w self.old (H.state h.old) → (t : Transaction) → w.transactions name ≡ Option.Some t → H.state h.new ≡ H.state h.old }
+        ensures nested { H.tells → (size : ℕ) → (w : World) → IsReady size w self.old (H.state h.old) → (t : Transaction) → open_on name w ≡ Option.Some t → H.state h.new ≡ H.state h.old }
         ensures frames { (self.new).frames ≡ (self.old).frames }
         ensures rest { H.tells → KeepsRest (H.state h.old) (H.state h.new) }
         ensures rests { H.tells → fault_of result ≡ Option.Some HostFault.Cut → IsRested (H.state h.new).now.words }
@@ -77,7 +77,7 @@ impl Daemon {
         ensures carries { H.tells → (size : ℕ) → size ≡ (H.counts h.old).size → (w : World) → IsReady size w self.old (H.state h.old)
             → CarriesOut size w self.new (Option.Some (commands.Commit client name)) (as_answered result) (H.counts h.old) (H.counts h.new) (H.state h.old) (H.state h.new) }
         // Where it was begun more often than once, nothing of the device changes.
-        ensures nested { H.tells → (size : ℕ) → (w : World) → IsReady size w self.old (H.state h.old) → (t : Transaction) → w.transactions name ≡ Option.Some t → 1 < t.depth
+        ensures nested { H.tells → (size : ℕ) → (w : World) → IsReady size w self.old (H.state h.old) → (t : Transaction) → open_on name w ≡ Option.Some t → 1 < t.depth
             → H.state h.new ≡ H.state h.old }
         ensures frames { (self.new).frames ≡ (self.old).frames }
         ensures rest { H.tells → KeepsRest (H.state h.old) (H.state h.new) }

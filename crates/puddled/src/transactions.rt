@@ -8,7 +8,7 @@ ghost use Rattle.pud_defs.specs.declared.records.TheConstants.{POOL_RECORDS};
 ghost use Rattle.pud_defs.specs.declared.machine.Command.TheVariants as commands;
 ghost use Rattle.pud_defs.specs.Layout.{device_words, frames_at};
 ghost use Rattle.pud_defs.specs.Settled.{ALL_LOGS};
-ghost use Rattle.pud_defs.specs.World.{World};
+ghost use Rattle.pud_defs.specs.World.{World, open_on};
 ghost use Rattle.pud_defs.specs.Step.{after};
 ghost use Rattle.nesting.specs.declared.Session.{Session};
 ghost use Rattle.nesting.specs.Sessions.{AreSessions, client_in, session_in, depth_in, count_of, entered};
@@ -55,7 +55,7 @@ impl Daemon {
         requires known { true ≡ is_some (known_in (self.old).judged slot) }
         // The device was ready before the session began.
         ensures begins { H.tells → (size : ℕ) → size ≡ (H.counts h.old).size → (w : World) → (sessions : List (Option Session)) → IsReady size w (record self.old { sessions = sessions }) (H.state h.old)
-            → AreSessions sessions → session_in sessions slot ≡ Option.None → count_of client sessions < CLIENT_LOGS → (self.old).sessions ≡ entered client slot sessions → w.transactions name ≡ Option.None
+            → AreSessions sessions → session_in sessions slot ≡ Option.None → count_of client sessions < CLIENT_LOGS → (self.old).sessions ≡ entered client slot sessions → open_on name w ≡ Option.None
             → MayBegin (self.old).frames client name (reads (H.state h.old).now.words) slot (unwrap_or (known_in (self.old).judged slot) [])
             → IfOk result (λ reply. reply ≡ Reply.Ok) × Applies size w (after w (commands.Begin client name)) self.new (fault_of result) (H.state h.old) (H.state h.new) }
         ensures frames { (self.new).frames ≡ (self.old).frames }

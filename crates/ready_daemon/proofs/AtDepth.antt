@@ -11,7 +11,7 @@ use Rattle.pud_defs.specs.Graph.{Graph}
 use Rattle.pud_defs.specs.Laters.{Later}
 use Rattle.pud_defs.specs.Step.{graph_at_begin, after}
 use Rattle.pud_defs.specs.Transactions.{with_open, begun}
-use Rattle.pud_defs.specs.World.{Transaction, World}
+use Rattle.pud_defs.specs.World.{Transaction, World, open_on}
 use Rattle.hybrid_tx.specs.Transactions.{IsOpenOn}
 use Rattle.nesting.specs.declared.Session.{Session}
 use Rattle.nesting.specs.Sessions.{session_in, session_depth, entered}
@@ -57,7 +57,7 @@ module _ (size : ℕ) (w : World) (memory : Memory) (s : State) (ready : IsReady
     next = record w { transactions = with_open held.name (Some (record t { depth = depth })) w.transactions }
 
     -- each is held as it was
-    under_as : (m : ℕ) (h : Held) (u : IsHeldUnder w ready.held.opens ready.mask s.now.words m h) (x : Transaction) → next.transactions h.name ≡ Some x → x.client ≡ u.is.transaction.client
+    under_as : (m : ℕ) (h : Held) (u : IsHeldUnder w ready.held.opens ready.mask s.now.words m h) (x : Transaction) → open_on h.name next ≡ Some x → x.client ≡ u.is.transaction.client
         → x.units ≡ u.is.transaction.units → u.is.transaction.now ≡ x.now → u.is.transaction.laters ≡ x.laters → IsHeldUnder next ready.held.opens ready.mask s.now.words m h
     under_as m h u x is client units now laters =
         let i : IsHeld w h ready.mask s.now.words = u.is in
@@ -87,7 +87,7 @@ module _ (size : ℕ) (w : World) (memory : Memory) (s : State) (ready : IsReady
           opened = u.opened;
         }
 
-    known_still : (name : List ℕ) (x : Transaction) → next.transactions name ≡ Some x → IsOpenUnder memory.held name
+    known_still : (name : List ℕ) (x : Transaction) → open_on name next ≡ Some x → IsOpenUnder memory.held name
     known_still name x is = elim (cases_Bool (bytes_eq name held.name)) [
       | inl same ↦ record { number = number; mine = held; is = there; name_is = sym ((bytes_eq-Decides name held.name).0 same) }
       | inr other ↦
@@ -116,7 +116,7 @@ module _ (size : ℕ) (w : World) (memory : Memory) (s : State) (ready : IsReady
 
     has_sessions_at : HasSessions next memory.held sessions_at
     has_sessions_at = record {
-      each = λ m h x is open_on. each_of (λ i g. next.transactions g.name ≡ Some x → session_in sessions_at g.slot ≡ Some (record { client = x.client; depth = x.depth }))
+      each = λ m h x is there. each_of (λ i g. open_on g.name next ≡ Some x → session_in sessions_at g.slot ≡ Some (record { client = x.client; depth = x.depth }))
           (λ on.
           let one : record t { depth = depth } ≡ x = same_Some (record t { depth = depth }) x (sym (open_there held.name w.transactions (Some (record t { depth = depth }))) ∙ on) in
           get_or-set_same memory.sessions held.slot (Some (record { client = t.client; depth = depth })) None session_within
@@ -124,7 +124,7 @@ module _ (size : ℕ) (w : World) (memory : Memory) (s : State) (ready : IsReady
           (λ i g was apart on.
           get_or-set_other memory.sessions held.slot g.slot (Some (record { client = t.client; depth = depth })) None (other_slot i g was apart)
           ∙ ready.sessions.each i g x was (sym (open_elsewhere held.name w.transactions (Some (record t { depth = depth })) g.name (other_name i g was apart)) ∙ on))
-          m h is open_on;
+          m h is there;
       only = λ slot session is. elim (cases_eq slot held.slot) [
         | inl same ↦ record { number = number; mine = held; is = there; slot_is = sym same }
         | inr apart ↦ ready.sessions.only slot session (sym (get_or-set_other memory.sessions held.slot slot (Some (record { client = t.client; depth = depth })) None apart) ∙ is)

@@ -20,7 +20,7 @@ use Rattle.pud_defs.specs.PoolChanges.{pool_named}
 use Rattle.pud_defs.specs.Step.{graph_in}
 use Rattle.pud_defs.specs.Settled.{log_number_at}
 use Rattle.pud_defs.specs.Types.{map_of}
-use Rattle.pud_defs.specs.World.{Transaction, World, StoredWorld, world_of, idle_world_of, closed}
+use Rattle.pud_defs.specs.World.{Transaction, World, StoredWorld, world_of, idle_world_of, closed, open_on}
 use Rattle.pud_defs.proofs.Replay.{empty_range_of, new_value-closed, outside_log}
 use Rattle.hybrid_tx.specs.Grounds.{pool_mine, pool_ground}
 use Rattle.hybrid_tx.specs.Masks.{OpenPool, is_open_record, open_mask, IsOpenPool, IsLeftOpen}
@@ -72,7 +72,7 @@ pub record IsApart (F : ℕ) (held : Held) (p : OpenPool) (may : Footprint) : Ty
 -- The next world has the same of one transaction that is held.
 pub record KeepsOne (w next : World) (held : Held) : Type 0 where
   pub frames : next.stored.frames ≡ w.stored.frames
-  pub transaction : next.transactions held.name ≡ w.transactions held.name
+  pub transaction : open_on held.name next ≡ open_on held.name w
   pub present : next.clients held.client ≡ w.clients held.client
   pub stored : graph_in (pool_named held.name next.stored) ≡ graph_in (pool_named held.name w.stored)
   pub puddles : puddles_in (pool_named held.name next.stored) ≡ puddles_in (pool_named held.name w.stored)

@@ -23,7 +23,7 @@ use Rattle.pud_defs.specs.Spaces.{Owner, owner_of, is_closed_range, is_closed_lo
 use Rattle.pud_defs.specs.Step.{open_elsewhere}
 use Rattle.pud_defs.specs.Tables.{Tables, Pool, Reader, tables_of, puddles_of, entries, pools_of}
 use Rattle.pud_defs.specs.Transactions.{is_own}
-use Rattle.pud_defs.specs.World.{Transaction, World}
+use Rattle.pud_defs.specs.World.{Transaction, World, open_on}
 use Rattle.pud_defs.proofs.Idle.{registered_is_closed}
 use Rattle.pud_defs.proofs.Parts.Part.{Spaces}
 use Rattle.pud_defs.proofs.PoolsChanged.{entry_of, distinct_entries}
@@ -61,7 +61,7 @@ same_owner : (client : ℕ) (o : Option Transaction) → is_of client (option_ma
 same_owner client None = refl
 same_owner client (Some t) = refl
 
-module _ (size : ℕ) (w : World) (memory : Memory) (s : State) (ready : IsReady size w memory s) (client : ℕ) (name : List ℕ) (shut : w.transactions name ≡ None) where
+module _ (size : ℕ) (w : World) (memory : Memory) (s : State) (ready : IsReady size w memory s) (client : ℕ) (name : List ℕ) (shut : open_on name w ≡ None) where
   abbrev F : ℕ
   F = w.stored.frames
 
@@ -73,14 +73,14 @@ module _ (size : ℕ) (w : World) (memory : Memory) (s : State) (ready : IsReady
 
   -- what a pool counts
   abbrev counts : List ℕ × Pool → ℕ
-  counts e = number_of (not (bytes_eq e.0 name) && is_own client (w.transactions e.0))
+  counts e = number_of (not (bytes_eq e.0 name) && is_own client (open_on e.0 w))
 
   abbrev session : (slot : ℕ) → Option Session
   session slot = session_in memory.sessions slot
 
   -- none is open on the pool of the name
-  own_elsewhere : (other : List ℕ) (here : Bool) → bytes_eq other name ≡ here → (not here && is_own client (w.transactions other)) ≡ is_own client (w.transactions other)
-  own_elsewhere other true e = sym (ap (λ (n : List ℕ). is_own client (w.transactions n)) ((bytes_eq-Decides other name).0 e) ∙ ap (is_own client) shut)
+  own_elsewhere : (other : List ℕ) (here : Bool) → bytes_eq other name ≡ here → (not here && is_own client (open_on other w)) ≡ is_own client (open_on other w)
+  own_elsewhere other true e = sym (ap (λ (n : List ℕ). is_own client (open_on n w)) ((bytes_eq-Decides other name).0 e) ∙ ap (is_own client) shut)
   own_elsewhere other false e = refl
 
   -- a slot of no pool has no session
@@ -95,7 +95,7 @@ module _ (size : ℕ) (w : World) (memory : Memory) (s : State) (ready : IsReady
   each_slot slot None free = ap number_of (sym (free_slot slot (session slot) free refl))
   each_slot slot (Some r) used =
       let here = session_is size w memory s ready r.name slot (record { rec = r; used = used; name_is = refl }) in
-      ap number_of (own_elsewhere r.name (bytes_eq r.name name) refl ∙ sym (ap (is_of client) here ∙ same_owner client (w.transactions r.name)))
+      ap number_of (own_elsewhere r.name (bytes_eq r.name name) refl ∙ sym (ap (is_of client) here ∙ same_owner client (open_on r.name w)))
 
   -- so the client has as many sessions as transactions on other pools
   pub counted : length memory.sessions ≡ POOL_RECORDS → open_elsewhere w client name ≡ count_of client memory.sessions

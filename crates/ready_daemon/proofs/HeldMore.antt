@@ -8,7 +8,7 @@ use Rattle.std.proofs.lemmas.Slice.Eq.{bytes_eq-Decides}
 use Rattle.pm_model.specs.Changes.{Write}
 use Rattle.pm_model.specs.Words.{Words}
 use Rattle.pud_defs.specs.Transactions.{with_open}
-use Rattle.pud_defs.specs.World.{Transaction, World}
+use Rattle.pud_defs.specs.World.{Transaction, World, open_on}
 use Rattle.hybrid_tx.specs.ManyOpen.{Opens, MasksAll, AreOpenPools}
 use Rattle.nesting.specs.declared.Session.{Session}
 use Rattle.nesting.specs.Sessions.{session_in, session_depth, entered}
@@ -21,7 +21,7 @@ use Rattle.ready_daemon.proofs.OpenNames.{open_there, open_elsewhere}
 use Rattle.ready_daemon.proofs.Sessions.{none_held}
 
 module _ (w : World) (held : List (Option Held)) (mask : Write) (words : Words) (holds : Holds w held mask words) (number : ℕ) (begun : Held) (t : Transaction)
-    (within : number < length held) (free : held_under held number ≡ None) (shut : w.transactions begun.name ≡ None) where
+    (within : number < length held) (free : held_under held number ≡ None) (shut : open_on begun.name w ≡ None) where
   abbrev next : World
   next = record w { transactions = with_open begun.name (Some t) w.transactions }
 
@@ -65,7 +65,7 @@ module _ (w : World) (held : List (Option Held)) (mask : Write) (words : Words) 
     | inr apart ↦ (apart, sym (held_there held number (Some begun) m apart) ∙ none)
   ]
 
-  known_more : (name : List ℕ) (x : Transaction) → next.transactions name ≡ Some x → IsOpenUnder all name
+  known_more : (name : List ℕ) (x : Transaction) → open_on name next ≡ Some x → IsOpenUnder all name
   known_more name x is = elim (cases_Bool (bytes_eq name begun.name)) [
     | inl same ↦ record { number = number; mine = begun; is = begun_there; name_is = sym ((bytes_eq-Decides name begun.name).0 same) }
     | inr other ↦
@@ -113,7 +113,7 @@ module _ (w : World) (held : List (Option Held)) (mask : Write) (words : Words) 
 
     pub HasSessions-more : HasSessions next all then_sessions
     HasSessions-more = record {
-      each = λ m h x there is. each_more (λ i y. next.transactions y.name ≡ Some x → session_in then_sessions y.slot ≡ Some (record { client = x.client; depth = x.depth }))
+      each = λ m h x there is. each_more (λ i y. open_on y.name next ≡ Some x → session_in then_sessions y.slot ≡ Some (record { client = x.client; depth = x.depth }))
           (λ open_on.
           let one : t ≡ x = same_Some t x (sym (open_there begun.name w.transactions (Some t)) ∙ open_on) in
           let its : its_session ≡ record { client = x.client; depth = x.depth } =

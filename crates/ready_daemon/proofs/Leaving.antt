@@ -20,7 +20,7 @@ use Rattle.pud_defs.specs.Settled.{client_of_log}
 use Rattle.pud_defs.specs.Spaces.{owner_of}
 use Rattle.pud_defs.specs.Step.{after, refusal_of, unless_refused, world_by}
 use Rattle.pud_defs.specs.Transactions.{Opened, is_own, with_open, without_client}
-use Rattle.pud_defs.specs.World.{Transaction, World, closed}
+use Rattle.pud_defs.specs.World.{Transaction, World, closed, open_on}
 use Rattle.ready_daemon.specs.Memory.{Held, Memory, held_under}
 use Rattle.ready_daemon.specs.Held.{IsHeld, IsOthers}
 use Rattle.ready_daemon.specs.Leaving.{world_without, world_without_log, BehindTables}
@@ -62,7 +62,7 @@ pub others_left : (size : ℕ) (w : World) (client : ℕ) (memory : Memory) (s :
 others_left size w client memory s ready = record {
   each = λ number h there own.
       let is : IsHeld (world_without client w) h ready.mask s.now.words = held_is (world_without client w) memory.held ready.mask s.now.words ready.held number h there in
-      left_by client (w.transactions h.name) is.transaction is.is (is.client ∙ own);
+      left_by client (open_on h.name w) is.transaction is.is (is.client ∙ own);
 }
 
 -- ---- one call behind another
@@ -193,7 +193,7 @@ once_more client o = once_more_by client o (is_own client o) refl
 pub gone_world : (w : World) (client : ℕ) → after (world_without client w) (Leave client) ≡ after w (Leave client)
 unfolding after
 gone_world w client =
-    let each : (name : List ℕ) → without_client client (without_client client w.transactions) name ≡ without_client client w.transactions name = λ name. once_more client (w.transactions name) in
+    let each : (name : List ℕ) → without_client client (without_client client w.transactions) name ≡ without_client client w.transactions name = λ name. once_more client (open_on name w) in
     ap (λ (o : Opened). record (after w (Leave client)) { transactions = o }) (λ p name. each name p)
 
 -- ---- the client goes

@@ -14,7 +14,7 @@ use Rattle.pud_defs.specs.Settled.{log_number_at}
 use Rattle.pud_defs.specs.Step.{graph_in}
 use Rattle.pud_defs.specs.Stored.{stored_in}
 use Rattle.pud_defs.specs.Tables.{Tables, tables_of, puddles_in_turn}
-use Rattle.pud_defs.specs.World.{Transaction, World}
+use Rattle.pud_defs.specs.World.{Transaction, World, open_on}
 use Rattle.pud_defs.proofs.PoolMembers.{members_in_turn}
 use Rattle.pud_defs.proofs.Replay.{outside_log}
 use Rattle.hybrid_tx.specs.Grounds.{pool_mine}
@@ -34,7 +34,7 @@ use Rattle.ready_daemon.proofs.PoolsBeside.{used_still, members_still}
 -- A transaction of this client is open on the pool of the name, which had a graph when it began, and has by what is read the one that it shows.
 pub record IsOpenHere (w : World) (at : List (ℕ × Puddle)) (image : Image) (name : List ℕ) (client : ℕ) : Type 0 where
   pub transaction : Transaction
-  pub is : w.transactions name ≡ Some transaction
+  pub is : open_on name w ≡ Some transaction
   pub whose : transaction.client ≡ client
   pub undone : Graph
   pub stored : graph_in (pool_named name w.stored) ≡ Some undone
@@ -55,7 +55,7 @@ open_here w held mask words name client number holds own =
     }
 
 -- none is held on a name under which none is open
-pub not_named : (w : World) (held : List (Option Held)) (mask : Write) (words : Words) (name : List ℕ) → Holds w held mask words → w.transactions name ≡ None
+pub not_named : (w : World) (held : List (Option Held)) (mask : Write) (words : Words) (name : List ℕ) → Holds w held mask words → open_on name w ≡ None
     → (number : ℕ) (h : Held) → held_under held number ≡ Some h → h.name ≢ name
 not_named w held mask words name holds none number h there same =
     let is = held_is w held mask words holds number h there in

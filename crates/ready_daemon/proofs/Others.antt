@@ -15,7 +15,7 @@ use Rattle.pud_defs.specs.Spaces.{Owner, space_record_at, with_owner}
 use Rattle.pud_defs.specs.Settled.{client_of_log, log_number_at}
 use Rattle.pud_defs.specs.Stored.{IsOnDevice}
 use Rattle.pud_defs.specs.Transactions.{Opened, is_own, without_client}
-use Rattle.pud_defs.specs.World.{Transaction, World}
+use Rattle.pud_defs.specs.World.{Transaction, World, open_on}
 use Rattle.pud_defs.specs.declared.machine.Command.TheVariants.{Leave}
 use Rattle.pud_defs.specs.Step.{after}
 use Rattle.pud_defs.proofs.Replay.{outside_log}
@@ -141,7 +141,7 @@ still_open : (client : ℕ) (o : Option Transaction) → is_own client o ≡ fal
 still_open client o others = cond-false _ _ _ others
 
 module _ (w : World) (held : List (Option Held)) (mask : Write) (words : Words) (client : ℕ) (holds : Holds w held mask words) (others : IsOthers client held) where
-  not_own : (name : List ℕ) (o : Option Transaction) → w.transactions name ≡ o → is_own client o ≡ false
+  not_own : (name : List ℕ) (o : Option Transaction) → open_on name w ≡ o → is_own client o ≡ false
   not_own name None e = refl
   not_own name (Some t) e =
       let known = holds.known name t e in
@@ -150,7 +150,7 @@ module _ (w : World) (held : List (Option Held)) (mask : Write) (words : Words) 
       ne_eqb t.client client (λ own. others.each known.number known.mine known.is (sym is.client ∙ ap (λ (x : Transaction). x.client) same ∙ own))
 
   pub without_others : without_client client w.transactions ≡ w.transactions
-  without_others = λ i name. still_open client (w.transactions name) (not_own name (w.transactions name) refl) i
+  without_others = λ i name. still_open client (open_on name w) (not_own name (open_on name w) refl) i
 
   -- so that the world that it leaves is this one
   pub gone : after w (Leave client) ≡ record w { clients = with_owner client None w.clients }

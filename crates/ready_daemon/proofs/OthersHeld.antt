@@ -11,7 +11,7 @@ use Rattle.pud_defs.specs.PoolChanges.{pool_named}
 use Rattle.pud_defs.specs.Step.{graph_in}
 use Rattle.pud_defs.specs.Tables.{Pool}
 use Rattle.pud_defs.specs.Transactions.{Opened, with_open}
-use Rattle.pud_defs.specs.World.{Transaction, World}
+use Rattle.pud_defs.specs.World.{Transaction, World, open_on}
 use Rattle.hybrid_tx.specs.Grounds.{pool_ground}
 use Rattle.hybrid_tx.specs.ManyOpen.{OpenTransaction, Opens, with_transaction, open_masks, AreOpenPools, MasksAll, IsOneMore}
 use Rattle.hybrid_tx.proofs.ManyIdle.{one_ended, others_open, others_records}
@@ -96,7 +96,7 @@ module _ (w : World) (list : List (Option Held)) (mask : Write) (old : State) (h
       graphs = λ st g is. is;
     }
 
-    known_still : (name : List ℕ) (t : Transaction) → next.transactions name ≡ Some t → IsOpenUnder (set list number None) name
+    known_still : (name : List ℕ) (t : Transaction) → open_on name next ≡ Some t → IsOpenUnder (set list number None) name
     known_still name t is =
         let apart = open_beside held.name name w.transactions t is in
         let u = holds.known name t (sym (open_elsewhere held.name w.transactions None name apart) ∙ is) in

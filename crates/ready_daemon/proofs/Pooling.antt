@@ -32,7 +32,7 @@ use Rattle.pud_defs.specs.Spaces as spaces
 use Rattle.pud_defs.specs.Spaces.{owner, owner_by, owner_of, is_space, is_legal_space, space_record_at}
 use Rattle.pud_defs.specs.Tables.{Tables, Pool, Reader, tables_of, members, records_of, pool_in, pool_of}
 use Rattle.pud_defs.specs.PoolChanges.{pool_named, lacks_numbers, is_full_of_pools, lacks_frames, new_pool, with_new_pool, with_pool_mode, without_pool}
-use Rattle.pud_defs.specs.World.{StoredWorld, Transaction, World}
+use Rattle.pud_defs.specs.World.{StoredWorld, Transaction, World, open_on}
 use Rattle.pud_defs.specs.Step.{graph_in, owns, refusal_of, after, answer_by, world_by}
 use Rattle.pud_defs.specs.Step.Answer.{of_reply}
 use Rattle.pud_defs.proofs.PoolsCounted.{IsMasked}
@@ -451,7 +451,7 @@ module _ (size : ℕ) (w : World) (memory : Memory) (s : State) (ready : IsReady
   asked = commands.Drop client name
 
   abbrev beside_open : Option Refusal
-  beside_open = open_refusal client (w.transactions name)
+  beside_open = open_refusal client (open_on name w)
 
   abbrev owned : Option spaces.Owner → Option Pool → Option Refusal
   owned who found = cond (not (is_some who)) (Some refusals.Client) (cond (is_none found) (Some refusals.Pool) (cond (not (owns who found)) (Some refusals.Denied) beside_open))
@@ -463,7 +463,7 @@ module _ (size : ℕ) (w : World) (memory : Memory) (s : State) (ready : IsReady
   pub held_apart : refusal_of w asked ≡ None → IsNotNamed name memory.held
   held_apart free =
       not_named w memory.held ready.mask s.now.words name ready.held
-      (none_open client (w.transactions name)
+      (none_open client (open_on name w)
       (all_free (not (is_some (w.clients client))) (is_none (pool_named name w.stored)) (not (owns (w.clients client) (pool_named name w.stored))) beside_open (sym owned_refusal ∙ free)))
 
   pub refused_client : w.clients client ≡ None → refusal_of w asked ≡ Some refusals.Client
@@ -496,7 +496,7 @@ module _ (size : ℕ) (w : World) (memory : Memory) (s : State) (ready : IsReady
     pub not_denied : eqb uid rec.uid ≡ true → refusal_of w asked ≡ refusal_beside (holder_in memory.sessions slot) client
     not_denied same =
         by_uid ∙ ap (λ b. cond (not b) (Some refusals.Denied) beside_open) same
-        ∙ open_beside client (w.transactions name) (session_in memory.sessions slot) (session_is size w memory s ready name slot slot_is)
+        ∙ open_beside client (open_on name w) (session_in memory.sessions slot) (session_is size w memory s ready name slot slot_is)
 
 -- ---- a pool that was found is changed, or dropped
 

@@ -13,7 +13,7 @@ use Rattle.pud_defs.specs.Image.{Image}
 use Rattle.pud_defs.specs.Names.{name_cmp}
 use Rattle.pud_defs.specs.SoundTables.{has_distinct_names, HasSoundTables}
 use Rattle.pud_defs.specs.Tables.{Tables, tables_of, named, records_of}
-use Rattle.pud_defs.specs.World.{Transaction, World}
+use Rattle.pud_defs.specs.World.{Transaction, World, open_on}
 use Rattle.pud_defs.proofs.Keyed.{HasDistinctKeys, distinct_keys, find-keyed_place}
 use Rattle.pud_defs.proofs.TablesOf.{pools_beyond}
 use Rattle.nesting.specs.declared.Session.{Session}
@@ -39,7 +39,7 @@ pub record IsSessionOf (w : World) (held : List (Option Held)) (name : List ℕ)
   pub slot_is : mine.slot ≡ slot
   pub name_is : mine.name ≡ name
   pub transaction : Transaction
-  pub there : w.transactions name ≡ Some transaction
+  pub there : open_on name w ≡ Some transaction
   pub session_is : session ≡ session_of transaction
   pub client : transaction.client ≡ mine.client
 
@@ -118,7 +118,7 @@ module _ (w : World) (held : List (Option Held)) (mask : Write) (words : Words) 
         }
 
     shut_by : (next : ℕ) → HasSoundTables next t → (name : List ℕ) (slot : ℕ) (r : PoolRec) → t.pools slot ≡ Some r → r.name ≡ name → session_in sessions slot ≡ None
-        → (o : Option Transaction) → w.transactions name ≡ o → o ≡ None
+        → (o : Option Transaction) → open_on name w ≡ o → o ≡ None
     shut_by next sound name slot r used named none None e = refl
     shut_by next sound name slot r used named none (Some x) e =
         let open_on = holds.known name x e in
@@ -129,8 +129,8 @@ module _ (w : World) (held : List (Option Held)) (mask : Write) (words : Words) 
         absurd (none_held slot none open_on.number open_on.mine open_on.is here)
 
     -- and none is open where it has none
-    pub no_session : (next : ℕ) → HasSoundTables next t → (name : List ℕ) (slot : ℕ) (r : PoolRec) → t.pools slot ≡ Some r → r.name ≡ name → session_in sessions slot ≡ None → w.transactions name ≡ None
-    no_session next sound name slot r used named none = shut_by next sound name slot r used named none (w.transactions name) refl
+    pub no_session : (next : ℕ) → HasSoundTables next t → (name : List ℕ) (slot : ℕ) (r : PoolRec) → t.pools slot ≡ Some r → r.name ≡ name → session_in sessions slot ≡ None → open_on name w ≡ None
+    no_session next sound name slot r used named none = shut_by next sound name slot r used named none (open_on name w) refl
 
 -- ---- a daemon that is ready
 
@@ -140,16 +140,16 @@ module _ (size : ℕ) (w : World) (memory : Memory) (s : State) (ready : IsReady
   session_open session there = session_there w memory.held ready.mask s.now.words ready.held memory.sessions ready.sessions name slot at.rec session at.used at.name_is there
 
   -- none is open where there is none
-  pub session_shut : session_in memory.sessions slot ≡ None → w.transactions name ≡ None
+  pub session_shut : session_in memory.sessions slot ≡ None → open_on name w ≡ None
   session_shut none =
       no_session w memory.held ready.mask s.now.words ready.held memory.sessions ready.sessions w.stored.next_number (sound_read size w memory s ready) name slot at.rec at.used at.name_is none
 
-  session_by : (o : Option Session) → session_in memory.sessions slot ≡ o → session_in memory.sessions slot ≡ option_map session_of (w.transactions name)
+  session_by : (o : Option Session) → session_in memory.sessions slot ≡ o → session_in memory.sessions slot ≡ option_map session_of (open_on name w)
   session_by None e = e ∙ ap (option_map session_of) (sym (session_shut e))
   session_by (Some session) e =
       let of = session_open session e in
       e ∙ ap (λ (x : Session). Some x) of.session_is ∙ ap (option_map session_of) (sym of.there)
 
   -- so it tells what is open on the pool
-  pub session_is : session_in memory.sessions slot ≡ option_map session_of (w.transactions name)
+  pub session_is : session_in memory.sessions slot ≡ option_map session_of (open_on name w)
   session_is = session_by (session_in memory.sessions slot) refl

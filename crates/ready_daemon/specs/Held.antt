@@ -19,7 +19,7 @@ use Rattle.pud_defs.specs.Tables.{Pool}
 use Rattle.pud_defs.specs.PoolChanges.{pool_named}
 use Rattle.pud_defs.specs.Step.{graph_in}
 use Rattle.pud_defs.specs.Types.{map_of}
-use Rattle.pud_defs.specs.World.{Transaction, World}
+use Rattle.pud_defs.specs.World.{Transaction, World, open_on}
 use Rattle.batch.specs.Batches.{HasIdleGate}
 use Rattle.hybrid_tx.specs.Masks.{OpenPool, is_open_record, IsOpenPool, open_mask}
 use Rattle.hybrid_tx.specs.ManyOpen.{OpenTransaction, Opens, MasksAll, AreOpenPools}
@@ -50,7 +50,7 @@ pub record IsHeld (w : World) (held : Held) (mask : Write) (words : Words) : Typ
   pub before : Image
   pub undone : Graph
   pub transaction : Transaction
-  pub is : w.transactions held.name ≡ Some transaction
+  pub is : open_on held.name w ≡ Some transaction
   pub client : transaction.client ≡ held.client
   pub units : transaction.units ≡ held.units
   pub present : w.clients held.client ≡ Some who
@@ -84,7 +84,7 @@ pub record Holds (w : World) (held : List (Option Held)) (mask : Write) (words :
   pub masks : MasksAll w.stored.frames opens mask
   pub each : (number : ℕ) (h : Held) → held_under held number ≡ Some h → IsHeldUnder w opens mask words number h
   pub none : (number : ℕ) → held_under held number ≡ None → opens number ≡ None
-  pub known : (name : List ℕ) (t : Transaction) → w.transactions name ≡ Some t → IsOpenUnder held name
+  pub known : (name : List ℕ) (t : Transaction) → open_on name w ≡ Some t → IsOpenUnder held name
   pub names : (n m : ℕ) (h g : Held) → held_under held n ≡ Some h → held_under held m ≡ Some g → h.name ≡ g.name → n ≡ m
 
 -- one is held on the pool whose record has this slot
@@ -96,7 +96,7 @@ pub record IsHeldOn (held : List (Option Held)) (slot : ℕ) : Type 0 where
 
 -- Each transaction that is held has the session of its pool, of its client and begun as often as it was; and there is no other.
 pub record HasSessions (w : World) (held : List (Option Held)) (sessions : List (Option Session)) : Type 0 where
-  pub each : (number : ℕ) (h : Held) (t : Transaction) → held_under held number ≡ Some h → w.transactions h.name ≡ Some t → session_in sessions h.slot ≡ Some (record { client = t.client; depth = t.depth })
+  pub each : (number : ℕ) (h : Held) (t : Transaction) → held_under held number ≡ Some h → open_on h.name w ≡ Some t → session_in sessions h.slot ≡ Some (record { client = t.client; depth = t.depth })
   pub only : (slot : ℕ) (s : Session) → session_in sessions slot ≡ Some s → IsHeldOn held slot
 
 -- A transaction that is held lies in a device of so many frames: its pool's slot is one of the table, its puddles stand in frames, and its log is that

@@ -3,7 +3,7 @@ use Rattle.std.specs.Prelude.{is_some}
 use Rattle.std.proofs.lemmas.Result.{err_from_is_err_and}
 use Rattle.pm_model.specs.Words.{reads}
 use Rattle.pm_model.specs.Counts.{Counts}
-use Rattle.pm_model.proofs.Reading.{Changes-read}
+use Rattle.pm_model.proofs.Reading.{Changes-read, still_size}
 use Rattle.log_replay.proofs.Applying.{any_then}
 use Rattle.pud_defs.specs.World.{world_of}
 use Rattle.pud_defs.proofs.Worlds.{world_of-sound, world_of-unsound}
@@ -47,13 +47,13 @@ returns-in_err-settle_log-clause-settles g c =
     rw (p.1, p.2) (λ t judged.
     let sound = sym (c.in_ok-frames.ensures.sound t) ∙ ap is_some c.in-Some.is in
     settles_sound _ _ _ (g.H.Host.state c.sound_frames.new.h) _ (c.in_ok-frames.ensures.only_reads.stays t) sound
-    (c.in_err-settle_log.ensures.settles t _ (sym (ap (λ (n : Counts). n.size) c.in_ok-frames.ensures.only_reads.cause))))
+    (c.in_err-settle_log.ensures.settles t _ (still_size c.in_ok-frames.ensures.only_reads refl)))
 
 pub returns-in_err-settle_log-clause-applies : goal.returns-in_err-settle_log-clause-applies
 returns-in_err-settle_log-clause-applies g c =
     let p = err_from_is_err_and c.from_residual-in_err-settle_log.result c.from_residual-in_err-settle_log.ensures.1 in
     rw (p.1, p.2) (λ t size same s rested world.
-    let after = same ∙ sym (ap (λ (n : Counts). n.size) c.in_ok-frames.ensures.only_reads.cause) in
+    let after = still_size c.in_ok-frames.ensures.only_reads same in
     AppliesLog-sound size s _ _ (g.H.Host.state c.sound_frames.new.h) _ (c.in_ok-frames.ensures.only_reads.stays t) rested world
     (c.in_err-settle_log.ensures.settles t size after) (c.in_err-settle_log.ensures.same t refl size after))
 
@@ -65,11 +65,11 @@ pub returns-clause-settles : goal.returns-clause-settles
 returns-clause-settles g c = λ t judged.
     let sound = sym (c.in_ok-frames.ensures.sound t) ∙ ap is_some c.in-Some.is in
     settles_sound _ None _ (g.H.Host.state c.sound_frames.new.h) _ (c.in_ok-frames.ensures.only_reads.stays t) sound
-    (c.in_ok-settle_log.ensures.settles t _ (sym (ap (λ (n : Counts). n.size) c.in_ok-frames.ensures.only_reads.cause)))
+    (c.in_ok-settle_log.ensures.settles t _ (still_size c.in_ok-frames.ensures.only_reads refl))
 
 pub returns-clause-applies : goal.returns-clause-applies
 returns-clause-applies g c = λ t size same s rested world.
-    let after = same ∙ sym (ap (λ (n : Counts). n.size) c.in_ok-frames.ensures.only_reads.cause) in
+    let after = still_size c.in_ok-frames.ensures.only_reads same in
     AppliesLog-sound size s None _ (g.H.Host.state c.sound_frames.new.h) _ (c.in_ok-frames.ensures.only_reads.stays t) rested world
     (c.in_ok-settle_log.ensures.settles t size after) (c.in_ok-settle_log.ensures.same t refl size after)
 

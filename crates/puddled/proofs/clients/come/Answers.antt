@@ -9,6 +9,7 @@ use Rattle.ready_daemon.proofs.Applying.{Applies-failed, Applies-refused, Applie
 use Rattle.ready_daemon.proofs.Coming.{presence_read, taken, is_new}
 use Rattle.ready_daemon.proofs.Others.{others_absent}
 use Rattle.puddled.proofs.clients.come.Goals as goal
+use Rattle.pm_model.proofs.Reading.{still_size}
 
 pub returns-in_err-is_registered-clause-applies : goal.returns-in_err-is_registered-clause-applies
 returns-in_err-is_registered-clause-applies g c =
@@ -35,7 +36,7 @@ returns-in_err-admit-clause-applies g c =
     let p = err_from_is_err_and c.from_residual-in_err-admit.result c.from_residual-in_err-admit.ensures.1 in
     rw (p.1, p.2) (λ t size e w memory frames ready.
     let absent = sym c.if-branch.false ∙ presence_read size w memory _ c.args.client _ c.requires.known ready (c.in_ok-is_registered.ensures.registered t) in
-    let after = e ∙ sym (ap (λ (n : Counts). n.size) c.in_ok-is_registered.ensures.only_reads.cause) in
+    let after = still_size c.in_ok-is_registered.ensures.only_reads e in
     Applies-accepted size w memory (Client c.args.client c.args.uid c.args.gid) (Some c.in_err-admit.field-0.0) _ _ _
     (is_new w c.args.client c.args.uid c.args.gid absent)
     (c.in_ok-is_registered.ensures.only_reads.stays t) (λ ready_b. c.in_err-admit.ensures.applies t size after w memory frames ready_b (others_absent w memory.held ready.mask _ c.args.client ready.held absent)) ready)
@@ -43,7 +44,7 @@ returns-in_err-admit-clause-applies g c =
 pub returns-clause-applies : goal.returns-clause-applies
 returns-clause-applies g c = λ t size e w memory frames ready.
     let absent = sym c.if-branch.false ∙ presence_read size w memory _ c.args.client _ c.requires.known ready (c.in_ok-is_registered.ensures.registered t) in
-    let after = e ∙ sym (ap (λ (n : Counts). n.size) c.in_ok-is_registered.ensures.only_reads.cause) in
+    let after = still_size c.in_ok-is_registered.ensures.only_reads e in
     Applies-accepted size w memory (Client c.args.client c.args.uid c.args.gid) _ _ _ _
     (is_new w c.args.client c.args.uid c.args.gid absent)
     (c.in_ok-is_registered.ensures.only_reads.stays t) (λ ready_b. c.in_ok-admit.ensures.applies t size after w memory frames ready_b (others_absent w memory.held ready.mask _ c.args.client ready.held absent)) ready

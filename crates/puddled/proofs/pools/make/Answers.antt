@@ -13,6 +13,7 @@ use Rattle.ready_daemon.proofs.Applying.{Applies-failed, Applies-refused}
 use Rattle.ready_daemon.proofs.Pooling.{acting, absent, refused_pool_client, Applies-behind, reply_making, Applies-making}
 use Rattle.ready_daemon.proofs.Keeping.{KeepsRest-changes, KeepsRest-still, KeepsRest-then}
 use Rattle.puddled.proofs.pools.make.Goals as goal
+use Rattle.pm_model.proofs.Reading.{still_size}
 
 pub returns-in_err-who-clause-applies : goal.returns-in_err-who-clause-applies
 returns-in_err-who-clause-applies g c =
@@ -40,7 +41,7 @@ returns-clause-reply g c = λ t size e w memory frames ready.
 pub returns-clause-applies : goal.returns-clause-applies
 returns-clause-applies g c = λ t size e w memory frames ready legal.
     let who = acting size w memory _ ready c.args.client c.in-Some.who c.requires.known (sym c.in-Some.is ∙ c.in_ok-who.ensures.owner t _ refl) in
-    let then = e ∙ sym (ap (λ (n : Counts). n.size) c.in_ok-who.ensures.only_reads.cause) in
+    let then = still_size c.in_ok-who.ensures.only_reads e in
     let same = sym frames ∙ ready.frames in
     let b = g.H.Host.state c.owner.new.h in
     let d = g.H.Host.state c.make_pool.new.h in

@@ -2,6 +2,7 @@ use Rattle.std.proofs.Common.{◌≡◌, ◌≤◌, inr, List, Some, refl, sym, 
 use Rattle.pm_model.specs.Words.{reads}
 use Rattle.pm_model.specs.Masks.{masked, masked_state, IsOff}
 use Rattle.pm_model.proofs.Masks.{reads-masked}
+use Rattle.pm_model.proofs.Reading.{still_size}
 use Rattle.pud_defs.specs.declared.layout.TheConstants.{DAEMON_LOG}
 use Rattle.pud_defs.specs.declared.records.TheConstants.{MAX_PUDDLES}
 use Rattle.pud_defs.specs.Entries.{Entry}
@@ -27,14 +28,14 @@ returns-in_err-dropping-clause-changes g c =
 
 pub returns-clause-commits : goal.returns-clause-commits
 returns-clause-commits g c = λ t size same image read idle few.
-    let then = same ∙ sym (ap (λ (n : Counts). n.size) c.in_ok-dropping.ensures.only_reads.cause) in
+    let then = still_size c.in_ok-dropping.ensures.only_reads same in
     inr (Commits-puts c.args.frames size (dropping (tables_of c.args.frames image) c.args.slot) c.in_ok-dropping.field-0 _ (g.H.Host.state c.args.h.now) (g.H.Host.state c.dropping.new.h) _ (c.in_ok-dropping.ensures.only_reads.stays t)
     (omega (arith, same)) (dropping_of c.args.frames (tables_of c.args.frames image) c.args.slot c.requires.known (omega (arith, frames_of_tables c.args.frames image))) (c.in_ok-dropping.ensures.batch t image read few)
     (c.commit.ensures.commits t size then) idle)
 
 pub returns-clause-changes : goal.returns-clause-changes
 returns-clause-changes g c = λ t size same s frames mask keeps off settled r at.
-    let then = same ∙ sym (ap (λ (n : Counts). n.size) c.in_ok-dropping.ensures.only_reads.cause) in
+    let then = still_size c.in_ok-dropping.ensures.only_reads same in
     let F = c.args.frames in
     let slot = c.args.slot in
     let a = g.H.Host.state c.args.h.now in

@@ -3,7 +3,7 @@ use Rattle.std.proofs.lemmas.Result.{err_from_is_err_and}
 use Rattle.pm_model.specs.Counts.{Counts}
 use Rattle.pm_model.specs.Words.{reads}
 use Rattle.pm_model.specs.Masks.{masked_state}
-use Rattle.pm_model.proofs.Reading.{Changes-read}
+use Rattle.pm_model.proofs.Reading.{Changes-read, still_size}
 use Rattle.pud_defs.specs.declared.layout.TheConstants.{NEXT_NUMBER_WORD}
 use Rattle.pud_defs.specs.declared.records.PoolRec.{PoolRec}
 use Rattle.registry.specs.Places.{make_fault}
@@ -44,7 +44,7 @@ pub returns-in_err-add_puddle-clause-makes : goal.returns-in_err-add_puddle-clau
 returns-in_err-add_puddle-clause-makes g c =
     let p = err_from_is_err_and c.from_residual-in_err-add_puddle.result c.from_residual-in_err-add_puddle.ensures.1 in
     rw (p.1, p.2) (λ t size same s mask may.
-    let then = same ∙ sym (ap (λ (n : Counts). n.size) c.in_ok-added.ensures.only_reads.cause) in
+    let then = still_size c.in_ok-added.ensures.only_reads same in
     let a = c.in_ok-added.added in
     let old = g.H.Host.state c.args.h.now in
     let place = c.in_ok-added.ensures.first t (reads old.now.words) refl in
@@ -66,7 +66,7 @@ returns-clause-commits g c = λ t image read idle none.
 
 pub returns-clause-makes : goal.returns-clause-makes
 returns-clause-makes g c = λ t size same s mask may.
-    let then = same ∙ sym (ap (λ (n : Counts). n.size) c.in_ok-added.ensures.only_reads.cause) in
+    let then = still_size c.in_ok-added.ensures.only_reads same in
     let a = c.in_ok-added.added in
     let old = g.H.Host.state c.args.h.now in
     let place = c.in_ok-added.ensures.first t (reads old.now.words) refl in

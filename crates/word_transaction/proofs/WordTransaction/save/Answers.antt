@@ -4,6 +4,7 @@ use Rattle.std.proofs.lemmas.Result.{err_from_is_err_and}
 use Rattle.word_transaction.proofs.Calls.{Runs-stopped}
 use Rattle.word_transaction.proofs.Saving.{Runs-saved}
 use Rattle.word_transaction.proofs.WordTransaction.save.Goals as goal
+use Rattle.pm_model.proofs.Reading.{still_size}
 
 pub returns-in_err-values-clause-runs : goal.returns-in_err-values-clause-runs
 returns-in_err-values-clause-runs g c =
@@ -14,4 +15,4 @@ returns-in_err-values-clause-runs g c =
 pub returns-clause-runs : goal.returns-clause-runs
 returns-clause-runs g c = λ t size is ground es before stands may place running.
     Runs-saved size ground _ es before _ _ _ _ stands may place running _ _ _ _ (c.in_ok-values.ensures.only_reads.stays t) (c.in_ok-values.ensures.taken t)
-    (λ runs appended. c.append.ensures.runs t size (is ∙ sym (ap (λ (k : Counts). k.size) c.in_ok-values.ensures.only_reads.cause)) ground es before stands runs appended)
+    (λ runs appended. c.append.ensures.runs t size (still_size c.in_ok-values.ensures.only_reads is) ground es before stands runs appended)

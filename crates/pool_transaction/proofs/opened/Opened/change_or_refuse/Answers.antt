@@ -1,7 +1,7 @@
 use Rattle.std.proofs.Common.{Some, refl, sym, ap, subst, ◌∙◌}
 use Rattle.std.proofs.lemmas.Result.{err_from_is_err_and}
 use Rattle.pm_model.specs.Counts.{Counts}
-use Rattle.pm_model.proofs.Reading.{still_reads}
+use Rattle.pm_model.proofs.Reading.{still_reads, still_size}
 use Rattle.pm_model.specs.Moments.{State}
 use Rattle.pud_defs.specs.Step.{world_by}
 use Rattle.pud_defs.proofs.Steps.{refused_answer}
@@ -46,7 +46,7 @@ returns-in_err-change-clause-applies g c =
     let free = sym (k.refusal t size w memory frames there ready) ∙ ap refusal_in c.in-Ok.is in
     let then = subst (λ (s : State). IsReady size w memory s) (sym (k.only_reads.stays t)) ready in
     Applies-behind_reads size w (with_held c.args.self.now.number (Some c.change.new.self) memory) line (Some c.in_err-change.field-0.0) _ _ _ free (k.only_reads.stays t)
-    (c.in_err-change.ensures.applies t c.args.change size (e ∙ sym (ap (λ (m : Counts). m.size) k.only_reads.cause)) w memory frames there then (held_rewritten size w memory _ then c.args.self.now.number c.args.self.now there)
+    (c.in_err-change.ensures.applies t c.args.change size (still_size k.only_reads e) w memory frames there then (held_rewritten size w memory _ then c.args.self.now.number c.args.self.now there)
     free
     (rw c.in-Ok.is at (k.found t _ (sym (still_reads k.only_reads t refl)) (placed_at size w memory _ ready c.args.self.now c.args.self.now.number there c.args.frames (sym frames ∙ ready.frames))))))
 
@@ -57,6 +57,6 @@ returns-clause-applies g c = λ t size e w memory frames there ready.
     let free = sym (k.refusal t size w memory frames there ready) ∙ ap refusal_in c.in-Ok.is in
     let then = subst (λ (s : State). IsReady size w memory s) (sym (k.only_reads.stays t)) ready in
     Applies-behind_reads size w (with_held c.args.self.now.number (Some c.change.new.self) memory) line _ _ _ _ free (k.only_reads.stays t)
-    (c.in_ok-change.ensures.applies t c.args.change size (e ∙ sym (ap (λ (m : Counts). m.size) k.only_reads.cause)) w memory frames there then (held_rewritten size w memory _ then c.args.self.now.number c.args.self.now there)
+    (c.in_ok-change.ensures.applies t c.args.change size (still_size k.only_reads e) w memory frames there then (held_rewritten size w memory _ then c.args.self.now.number c.args.self.now there)
     free
     (rw c.in-Ok.is at (k.found t _ (sym (still_reads k.only_reads t refl)) (placed_at size w memory _ ready c.args.self.now c.args.self.now.number there c.args.frames (sym frames ∙ ready.frames)))))

@@ -8,6 +8,7 @@ use Rattle.graph_laws.specs.Slots.{IsLowestFreeSlot}
 use Rattle.puddle_header.specs.Places.{place_of_slot, IsSlotOf}
 use Rattle.hybrid_tx.specs.Transactions.{OpenTx, MakesIn}
 use Rattle.pud_defs.specs.Step.{graph_seen, next_in, grows}
+use Rattle.pud_defs.specs.World.{open_on}
 use Rattle.ready_daemon.specs.Memory.{Held, held_under, with_held}
 use Rattle.pool_transaction.specs.Changing.{refusal_by_world, with_made}
 use Rattle.ready_daemon.specs.Ready.{Applies}
@@ -39,7 +40,7 @@ returns-clause-serial g c = λ t size w memory frames there ready less.
     let old = g.H.Host.state c.args.h.now in
     subst (λ (o : Held).
     held_under memory.held o.number ≡ Some o → grows w o.name ≡ false
-    → IfOk c.new-made.result (λ serial. serial ≡ next_in (graph_seen (w.transactions o.name) (pool_named o.name w.stored))))
+    → IfOk c.new-made.result (λ serial. serial ≡ next_in (graph_seen (open_on o.name w) (pool_named o.name w.stored))))
     c.self.view_is
     (λ there less.
     serial_made size w memory held old held.number there ready c.args.frames c.as_slice.result.now (sym frames ∙ ready.frames) c.as_slice.ensures.puddles c.new-made.result less (λ is live. c.new-made.ensures.serial t _ _ is live))

@@ -7,6 +7,7 @@ use Rattle.pool_transaction.specs.Changing.{refusal_by_tables, GrowsBy, with_mor
 use Rattle.pool_transaction.proofs.HeldLines.{memory_with, now_there, new_failed, new_refused, reply_refused, refused_by_tables, new_ungrown, new_in_more, reply_in_more}
 use Rattle.pool_transaction.proofs.HeldMakes.{units_fit}
 use Rattle.pool_transaction.proofs.opened.Opened.make_in_more.Goals as goal
+use Rattle.pm_model.proofs.Reading.{still_size}
 
 pub returns-in_err-added-clause-applies : goal.returns-in_err-added-clause-applies
 returns-in_err-added-clause-applies g c =
@@ -35,7 +36,7 @@ returns-in_err-grow-clause-applies g c =
     let p = err_from_is_err_and c.from_residual-in_err-grow.result c.from_residual-in_err-grow.ensures.1 in
     rw (p.1, p.2) (λ t size e w memory frames there ready none more.
     let old = g.H.Host.state c.args.h.now in
-    let same : size ≡ (g.H.Host.counts c.find_growth.new.h).size = e ∙ sym (ap (λ (n : Counts). n.size) c.in_ok-added.ensures.only_reads.cause) in
+    let same : size ≡ (g.H.Host.counts c.find_growth.new.h).size = still_size c.in_ok-added.ensures.only_reads e in
     let found : None ≡ refusal_by_tables c.args.frames c.args.self.now (reads old.now.words) =
     sym (ap refusal_in c.in-Ok.is) ∙ c.in_ok-added.ensures.refusal t (reads old.now.words) refl (units_fit w c.args.self.now c.args.t none) in
     let by = subst (λ found. IfOk found (GrowsBy c.args.frames c.args.self.now (reads old.now.words))) c.in-Ok.is (c.in_ok-added.ensures.growth t (reads old.now.words) refl) in
@@ -47,7 +48,7 @@ returns-in_err-serial-clause-applies g c =
     let p = err_from_is_err_and c.from_residual-in_err-serial.result c.from_residual-in_err-serial.ensures.1 in
     rw (p.1, p.2) (λ t size e w memory frames there ready none more.
     let old = g.H.Host.state c.args.h.now in
-    let same : size ≡ (g.H.Host.counts c.find_growth.new.h).size = e ∙ sym (ap (λ (n : Counts). n.size) c.in_ok-added.ensures.only_reads.cause) in
+    let same : size ≡ (g.H.Host.counts c.find_growth.new.h).size = still_size c.in_ok-added.ensures.only_reads e in
     let found : None ≡ refusal_by_tables c.args.frames c.args.self.now (reads old.now.words) =
     sym (ap refusal_in c.in-Ok.is) ∙ c.in_ok-added.ensures.refusal t (reads old.now.words) refl (units_fit w c.args.self.now c.args.t none) in
     let by = subst (λ found. IfOk found (GrowsBy c.args.frames c.args.self.now (reads old.now.words))) c.in-Ok.is (c.in_ok-added.ensures.growth t (reads old.now.words) refl) in
@@ -59,7 +60,7 @@ returns-in_err-serial-clause-applies g c =
 pub returns-clause-reply : goal.returns-clause-reply
 returns-clause-reply g c = λ t size e w memory frames there ready none more.
     let old = g.H.Host.state c.args.h.now in
-    let same : size ≡ (g.H.Host.counts c.find_growth.new.h).size = e ∙ sym (ap (λ (n : Counts). n.size) c.in_ok-added.ensures.only_reads.cause) in
+    let same : size ≡ (g.H.Host.counts c.find_growth.new.h).size = still_size c.in_ok-added.ensures.only_reads e in
     let found : None ≡ refusal_by_tables c.args.frames c.args.self.now (reads old.now.words) =
     sym (ap refusal_in c.in-Ok.is) ∙ c.in_ok-added.ensures.refusal t (reads old.now.words) refl (units_fit w c.args.self.now c.args.t none) in
     let by = subst (λ found. IfOk found (GrowsBy c.args.frames c.args.self.now (reads old.now.words))) c.in-Ok.is (c.in_ok-added.ensures.growth t (reads old.now.words) refl) in
@@ -71,7 +72,7 @@ returns-clause-reply g c = λ t size e w memory frames there ready none more.
 pub returns-clause-applies : goal.returns-clause-applies
 returns-clause-applies g c = λ t size e w memory frames there ready none more.
     let old = g.H.Host.state c.args.h.now in
-    let same : size ≡ (g.H.Host.counts c.find_growth.new.h).size = e ∙ sym (ap (λ (n : Counts). n.size) c.in_ok-added.ensures.only_reads.cause) in
+    let same : size ≡ (g.H.Host.counts c.find_growth.new.h).size = still_size c.in_ok-added.ensures.only_reads e in
     let found : None ≡ refusal_by_tables c.args.frames c.args.self.now (reads old.now.words) =
     sym (ap refusal_in c.in-Ok.is) ∙ c.in_ok-added.ensures.refusal t (reads old.now.words) refl (units_fit w c.args.self.now c.args.t none) in
     let by = subst (λ found. IfOk found (GrowsBy c.args.frames c.args.self.now (reads old.now.words))) c.in-Ok.is (c.in_ok-added.ensures.growth t (reads old.now.words) refl) in

@@ -13,6 +13,7 @@ use Rattle.ready_daemon.specs.Ready.{IsReady, Applies}
 use Rattle.pool_transaction.proofs.HeldNew.{refusal_found, refused_whatever}
 use Rattle.pool_transaction.proofs.HeldLines.{new_failed, new_refused, reply_refused, new_made, reply_made, new_unmade, was_free, was_full}
 use Rattle.pool_transaction.proofs.opened.Opened.new_object.Goals as goal
+use Rattle.pm_model.proofs.Reading.{still_size}
 
 pub returns-in_err-refusal-clause-applies : goal.returns-in_err-refusal-clause-applies
 returns-in_err-refusal-clause-applies g c =
@@ -92,7 +93,7 @@ returns-clause-reply g c = λ t size e w memory frames there ready.
     let full = c.in_ok-serial.ensures.full t size w memory frames there then more in
     let after = subst (λ (s : State). IsReady size w memory s) (sym full.1) then in
     let same : size ≡ (g.H.Host.counts c.make.new.h).size =
-    e ∙ sym (ap (λ (n : Counts). n.size) c.in_ok-refusal.ensures.only_reads.cause) ∙ sym (ap (λ (n : Counts). n.size) c.in_ok-serial.ensures.cause) in
+    still_size c.in_ok-refusal.ensures.only_reads e ∙ sym (ap (λ (n : Counts). n.size) c.in_ok-serial.ensures.cause) in
     subst (λ (o : Held). held_under memory.held o.number ≡ Some o → refusal_by_world w o c.args.t ≡ None → grows w o.name ≡ true → IfOk c.make_in_more.result (λ reply. of_reply reply ≡ answer_by w (Some (New o.client o.name c.args.t)))) full.2
     (λ there none more. c.make_in_more.ensures.reply t size same w memory frames there after none more) there none more
 
@@ -111,7 +112,7 @@ returns-clause-applies g c = λ t size e w memory frames there ready.
     let full = c.in_ok-serial.ensures.full t size w memory frames there then more in
     let after = subst (λ (s : State). IsReady size w memory s) (sym full.1) then in
     let same : size ≡ (g.H.Host.counts c.make.new.h).size =
-    e ∙ sym (ap (λ (n : Counts). n.size) c.in_ok-refusal.ensures.only_reads.cause) ∙ sym (ap (λ (n : Counts). n.size) c.in_ok-serial.ensures.cause) in
+    still_size c.in_ok-refusal.ensures.only_reads e ∙ sym (ap (λ (n : Counts). n.size) c.in_ok-serial.ensures.cause) in
     subst (λ (s : State). Applies size w (world_by w (Some (New held.client held.name c.args.t))) (with_held held.number (Some c.make_in_more.new.self) memory) (fault_of c.make_in_more.result) s new) (full.1 ∙ still)
     (subst (λ (o : Held). held_under memory.held o.number ≡ Some o → refusal_by_world w o c.args.t ≡ None → grows w o.name ≡ true
     → Applies size w (world_by w (Some (New o.client o.name c.args.t))) (with_held o.number (Some c.make_in_more.new.self) memory) (fault_of c.make_in_more.result) mid new) full.2

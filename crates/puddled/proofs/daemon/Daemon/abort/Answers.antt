@@ -9,6 +9,7 @@ use Rattle.puddled.proofs.Commanding.{ready_read, CarriesOut-refused, CarriesOut
 use Rattle.pool_transaction.proofs.HeldEnds.{Applies-own}
 use Rattle.pool_transaction.proofs.TransactionRefusals.{refusal_of-abort}
 use Rattle.puddled.proofs.daemon.Daemon.abort.Goals as goal
+use Rattle.pm_model.proofs.Reading.{still_size}
 
 pub returns-in_err-refusal-clause-carries : goal.returns-in_err-refusal-clause-carries
 returns-in_err-refusal-clause-carries g c =
@@ -37,7 +38,7 @@ returns-in_err-undo-clause-carries g c =
     let fault = Some c.in_err-undo.field-0.0 in
     CarriesOut-stopped size w c.undo.new.self _ _ _ _ _ _ (Abort c.args.client c.args.name) (abort_is_plain c.args.client c.args.name) free (k.only_reads.stays t) k.only_reads.cause (n.rest t) c.in_err-undo.field-0.0
     (Applies-own size w c.args.client c.args.name c.in-Ok.own.number c.args.self.now c.find_own.new.self c.undo.new.self fault _ _ own.own k.held
-    (n.applies t size (e ∙ sym (ap (λ (m : Counts). m.size) k.only_reads.cause)) w known)) n.cause)
+    (n.applies t size (still_size k.only_reads e) w known)) n.cause)
 
 pub returns-clause-carries : goal.returns-clause-carries
 returns-clause-carries g c = λ t size e w ready.
@@ -49,4 +50,4 @@ returns-clause-carries g c = λ t size e w ready.
     CarriesOut-done size w c.undo.new.self _ _ _ _ _ _ (Abort c.args.client c.args.name) (abort_is_plain c.args.client c.args.name) free (k.only_reads.stays t) k.only_reads.cause (n.rest t) replies.Ok
     (sym (answer_is_ok w (Abort c.args.client c.args.name) refl refl free))
     (Applies-own size w c.args.client c.args.name c.in-Ok.own.number c.args.self.now c.find_own.new.self c.undo.new.self None _ _ own.own k.held
-    (n.applies t size (e ∙ sym (ap (λ (m : Counts). m.size) k.only_reads.cause)) w known)) n.cause
+    (n.applies t size (still_size k.only_reads e) w known)) n.cause

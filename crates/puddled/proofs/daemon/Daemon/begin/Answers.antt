@@ -29,6 +29,7 @@ use Rattle.puddled.proofs.Found.{own_session, finds, may_begin}
 use Rattle.puddled.proofs.Needs.{refused_begin}
 use Rattle.ready_daemon.proofs.Keeping.{KeepsRest-still}
 use Rattle.puddled.proofs.daemon.Daemon.begin.Goals as goal
+use Rattle.pm_model.proofs.Reading.{still_size}
 
 pub enter-requires-clause-own : goal.enter-requires-clause-own
 enter-requires-clause-own g c =
@@ -115,7 +116,7 @@ returns-clause-carries g c = λ t size e w ready.
     let began = may_begin size w now s here.ready c.args.client c.args.name slot here.is.rec here.is.is (unwrap_or (known_in now.judged slot) []) c.requires.known here.free (here.is.known c.if-found.false refl) in
     let may = subst (λ (m : Memory). MayBegin m.frames c.args.client c.args.name (reads s.now.words) slot (unwrap_or (known_in m.judged slot) [])) (sym c.self.view_is)
     (subst (λ (F : ℕ). MayBegin F c.args.client c.args.name (reads s.now.words) slot (unwrap_or (known_in now.judged slot) [])) (sym here.ready.frames) began) in
-    let begins = c.begin_on.ensures.begins t size (e ∙ sym (ap (λ (m : Counts). m.size) k.only_reads.cause)) w i.sessions there (subst AreSessions (sym same) are) (ap (λ (ss : List (Option Session)). session_in ss slot) same ∙ none)
+    let begins = c.begin_on.ensures.begins t size (still_size k.only_reads e) w i.sessions there (subst AreSessions (sym same) are) (ap (λ (ss : List (Option Session)). session_in ss slot) same ∙ none)
     (subst (λ (ss : List (Option Session)). count_of c.args.client ss < CLIENT_LOGS) (sym same) left) entered_is shut may in
     CarriesOut-ok size w c.begin_on.new.self _ _ _ _ _ _ (Begin c.args.client c.args.name) (begin_is_plain c.args.client c.args.name) free (k.only_reads.stays t) k.only_reads.cause (c.begin_on.ensures.rest t) c.begin_on.result begins.0
     (sym (answer_is_ok w (Begin c.args.client c.args.name) refl refl free)) begins.1 c.begin_on.ensures.cause

@@ -1,4 +1,5 @@
 use Rattle.std.proofs.Common.{◌≡◌, ℕ, ◌<◌, List, [], Option, Some, None, IfSome, unwrap_or, set, refl, sym, ap, ap₂, subst, ◌∙◌, arith}
+use Rattle.pud_defs.specs.World.{open_on}
 use Rattle.std.proofs.lemmas.Option.{same_Some}
 use Rattle.std.proofs.lemmas.Result.{err_from_is_err_and}
 use Rattle.pm_model.specs.Words.{reads}
@@ -79,7 +80,7 @@ returns-in_err-tx-clause-begins g c =
     let behind : Memory = record { frames = i.frames; held = i.opened; sessions = i.sessions; judged = c.take.new.self } in
     subst (λ (m : Memory).
     IsReady size w (record m { sessions = sessions }) old → AreSessions sessions → session_in sessions c.args.slot ≡ None → count_of c.args.client sessions < CLIENT_LOGS → m.sessions ≡ entered c.args.client c.args.slot sessions
-    → w.transactions c.args.name ≡ None → MayBegin m.frames c.args.client c.args.name (reads old.now.words) c.args.slot (unwrap_or (known_in m.judged c.args.slot) [])
+    → open_on c.args.name w ≡ None → MayBegin m.frames c.args.client c.args.name (reads old.now.words) c.args.slot (unwrap_or (known_in m.judged c.args.slot) [])
     → Unit {0} × Applies size w (after w (Begin c.args.client c.args.name)) behind fault old new) c.self.view_is
     (λ ready are unheld few entered_is shut may. (
       tt,
@@ -105,7 +106,7 @@ returns-clause-begins g c = λ t size e w sessions.
     let holds = c.hold.ensures.held ∙ ap₂ with (sym found) n.opened in
     subst (λ (m : Memory).
     IsReady size w (record m { sessions = sessions }) old → AreSessions sessions → session_in sessions c.args.slot ≡ None → count_of c.args.client sessions < CLIENT_LOGS → m.sessions ≡ entered c.args.client c.args.slot sessions
-    → w.transactions c.args.name ≡ None → MayBegin m.frames c.args.client c.args.name (reads old.now.words) c.args.slot (unwrap_or (known_in m.judged c.args.slot) [])
+    → open_on c.args.name w ≡ None → MayBegin m.frames c.args.client c.args.name (reads old.now.words) c.args.slot (unwrap_or (known_in m.judged c.args.slot) [])
     → (replies.Ok ≡ replies.Ok) × Applies size w (after w (Begin c.args.client c.args.name)) (record { frames = i.frames; held = c.hold.new.all; sessions = i.sessions; judged = c.take.new.self }) None old new) c.self.view_is
     (λ ready are unheld few entered_is shut may. (
       refl,

@@ -14,6 +14,7 @@ use Rattle.ready_daemon.proofs.Applying.{Applies-failed, Applies-refused}
 use Rattle.ready_daemon.proofs.Pooling.{Applies-behind, Applies-mode}
 use Rattle.ready_daemon.proofs.Keeping.{KeepsRest-changes, KeepsRest-still, KeepsRest-then}
 use Rattle.puddled.proofs.daemon.Daemon.change_for.Goals as goal
+use Rattle.pm_model.proofs.Reading.{still_size}
 
 pub returns-in_err-refusal-clause-applies : goal.returns-in_err-refusal-clause-applies
 returns-in_err-refusal-clause-applies g c =
@@ -47,7 +48,7 @@ returns-in_err-change_mode-clause-applies g c =
     let k = c.in_ok-refusal.ensures in
     let n = c.in_err-change_mode.ensures in
     let now = c.find_owned.new.self in
-    let then = e ∙ sym (ap (λ (m : Counts). m.size) k.only_reads.cause) in
+    let then = still_size k.only_reads e in
     let at = subst (λ (r : Result ℕ Refusal). IfOk r (IsSlotOf w.stored.frames c.args.name (reads (g.H.Host.state c.args.h.now).now.words))) c.in-Ok.is (k.slot t size w ready) in
     Applies-behind size w (world_by w (Some (Chmod c.args.client c.args.name c.args.mode))) now now (Some c.in_err-change_mode.field-0.0) (g.H.Host.state c.args.h.now) (g.H.Host.state c.find_owned.new.h) (g.H.Host.state c.change_mode.new.h)
     (k.only_reads.stays t)
@@ -62,7 +63,7 @@ returns-clause-applies g c = λ t size e w ready legal.
     let k = c.in_ok-refusal.ensures in
     let n = c.in_ok-change_mode.ensures in
     let now = c.find_owned.new.self in
-    let then = e ∙ sym (ap (λ (m : Counts). m.size) k.only_reads.cause) in
+    let then = still_size k.only_reads e in
     let at = subst (λ (r : Result ℕ Refusal). IfOk r (IsSlotOf w.stored.frames c.args.name (reads (g.H.Host.state c.args.h.now).now.words))) c.in-Ok.is (k.slot t size w ready) in
     Applies-behind size w (world_by w (Some (Chmod c.args.client c.args.name c.args.mode))) now now None (g.H.Host.state c.args.h.now) (g.H.Host.state c.find_owned.new.h) (g.H.Host.state c.change_mode.new.h)
     (k.only_reads.stays t)

@@ -14,6 +14,7 @@ use Rattle.ready_daemon.proofs.HeldUnder.{AreHeldWithin-set, read_there, read_wi
 use Rattle.puddled.proofs.Commanding.{ready_read, CarriesOut-refused, CarriesOut-unread, CarriesOut-own, change_is_plain}
 use Rattle.pool_transaction.proofs.TransactionRefusals.{refused_change}
 use Rattle.puddled.proofs.daemon.Daemon.change_own.Goals as goal
+use Rattle.pm_model.proofs.Reading.{still_size}
 
 pub returns-in_err-refusal-clause-carries : goal.returns-in_err-refusal-clause-carries
 returns-in_err-refusal-clause-carries g c =
@@ -62,7 +63,7 @@ returns-clause-carries g c = λ t size e w ready.
     let owned = subst (λ (held : List (Option Held)). IsOwn c.args.client c.args.name number held) (sym (ap (λ (m : Memory). m.held) c.self.view_is ∙ k.held)) own.own in
     let line : ℕ → List ℕ → Command = λ client name. line_of c.args.change client name in
     let n = c.change_or_refuse.ensures in
-    let same = e ∙ sym (ap (λ (m : Counts). m.size) k.only_reads.cause) in
+    let same = still_size k.only_reads e in
     let applies = subst (λ (m : ℕ). Applies size w (world_by w (Some (line opened.client opened.name))) (with_held m (Some c.change_or_refuse.new.self) view) (fault_of c.change_or_refuse.result) (g.H.Host.state c.find_own.new.h) (g.H.Host.state c.change_or_refuse.new.h)) its
     (n.applies t size same w view refl here then) in
     CarriesOut-own size w (with_held number (Some c.change_or_refuse.new.self) view) _ _ _ _ _ _ line c.args.client c.args.name (change_is_plain c.args.client c.args.name c.args.change) (k.only_reads.stays t) k.only_reads.cause

@@ -19,6 +19,7 @@ use Rattle.ready_daemon.proofs.Applying.{Applies-failed, Applies-refused}
 use Rattle.ready_daemon.proofs.Pooling.{Applies-behind, Applies-drop}
 use Rattle.ready_daemon.proofs.Keeping.{KeepsRest-changes, KeepsRest-still, KeepsRest-then}
 use Rattle.puddled.proofs.daemon.Daemon.drop_for.Goals as goal
+use Rattle.pm_model.proofs.Reading.{still_size}
 
 pub returns-in_err-refusal-clause-applies : goal.returns-in_err-refusal-clause-applies
 returns-in_err-refusal-clause-applies g c =
@@ -53,7 +54,7 @@ returns-in_err-drop_pool-clause-applies g c =
     let old = g.H.Host.state c.args.h.now in
     let mid = g.H.Host.state c.find_owned.new.h in
     let there = subst (λ (m : Memory). IsReady size w m old) (sym c.self.view_is) (k.ready t size w ready) in
-    let then = e ∙ sym (ap (λ (m : Counts). m.size) k.only_reads.cause) in
+    let then = still_size k.only_reads e in
     let free = sym (k.refusal t size w ready) ∙ ap refusal_found c.in-Ok.is in
     let at = subst (λ (r : Result ℕ Refusal). IfOk r (IsSlotOf w.stored.frames c.args.name (reads old.now.words))) c.in-Ok.is (k.slot t size w ready) in
     subst (λ (js : List (Option (List (ℕ × Puddle)))). Applies size w (world_by w (Some (commands.Drop c.args.client c.args.name))) (record now { judged = js }) (Some c.in_err-drop_pool.field-0.0) old (g.H.Host.state c.drop_pool.new.h)) (sym c.forget.ensures)
@@ -73,7 +74,7 @@ returns-clause-applies g c = λ t size e w ready.
     let old = g.H.Host.state c.args.h.now in
     let mid = g.H.Host.state c.find_owned.new.h in
     let there = subst (λ (m : Memory). IsReady size w m old) (sym c.self.view_is) (k.ready t size w ready) in
-    let then = e ∙ sym (ap (λ (m : Counts). m.size) k.only_reads.cause) in
+    let then = still_size k.only_reads e in
     let free = sym (k.refusal t size w ready) ∙ ap refusal_found c.in-Ok.is in
     let at = subst (λ (r : Result ℕ Refusal). IfOk r (IsSlotOf w.stored.frames c.args.name (reads old.now.words))) c.in-Ok.is (k.slot t size w ready) in
     subst (λ (js : List (Option (List (ℕ × Puddle)))). Applies size w (world_by w (Some (commands.Drop c.args.client c.args.name))) (record now { judged = js }) None old (g.H.Host.state c.drop_pool.new.h)) (sym c.forget.ensures)

@@ -9,6 +9,7 @@ use Rattle.ready_daemon.proofs.Applying.{Applies-failed, Applies-refused}
 use Rattle.ready_daemon.proofs.Leaving.{presence_of, Applies-accepted_by}
 use Rattle.ready_daemon.proofs.Coming.{is_absent, is_there, ClosesBefore-idle, ClosesBefore-behind}
 use Rattle.puddled.proofs.daemon.Daemon.leave.Goals as goal
+use Rattle.pm_model.proofs.Reading.{still_size}
 
 pub returns-in_err-is_registered-clause-applies : goal.returns-in_err-is_registered-clause-applies
 returns-in_err-is_registered-clause-applies g c =
@@ -34,14 +35,14 @@ pub returns-in_err-let_go-clause-applies : goal.returns-in_err-let_go-clause-app
 returns-in_err-let_go-clause-applies g c =
     let p = err_from_is_err_and c.from_residual-in_err-let_go.result c.from_residual-in_err-let_go.ensures.1 in
     rw (p.1, p.2) (λ t size e w ready.
-    let after = e ∙ sym (ap (λ (n : Counts). n.size) c.in_ok-is_registered.ensures.only_reads.cause) in
+    let after = still_size c.in_ok-is_registered.ensures.only_reads e in
     Applies-accepted_by size w c.args.self.now c.let_go.new.self (Leave c.args.client) (Some c.in_err-let_go.field-0.0) _ _ _
     (is_there w c.args.client 0 0 (sym c.if-not-branch.false ∙ presence_of size w c.args.self.now _ c.args.client _ _ c.from.ensures c.requires.known ready (c.in_ok-is_registered.ensures.registered t)))
     (c.in_ok-is_registered.ensures.only_reads.stays t) (λ ready_b. c.in_err-let_go.ensures.applies t size after w ready_b) ready)
 
 pub returns-clause-applies : goal.returns-clause-applies
 returns-clause-applies g c = λ t size e w ready.
-    let after = e ∙ sym (ap (λ (n : Counts). n.size) c.in_ok-is_registered.ensures.only_reads.cause) in
+    let after = still_size c.in_ok-is_registered.ensures.only_reads e in
     Applies-accepted_by size w c.args.self.now c.let_go.new.self (Leave c.args.client) _ _ _ _
     (is_there w c.args.client 0 0 (sym c.if-not-branch.false ∙ presence_of size w c.args.self.now _ c.args.client _ _ c.from.ensures c.requires.known ready (c.in_ok-is_registered.ensures.registered t)))
     (c.in_ok-is_registered.ensures.only_reads.stays t) (λ ready_b. c.in_ok-let_go.ensures.applies t size after w ready_b) ready
@@ -56,10 +57,10 @@ returns-then-not-branch-clause-closes_first g c = λ t size e w ready present.
 
 pub returns-in_err-let_go-clause-closes_first : goal.returns-in_err-let_go-clause-closes_first
 returns-in_err-let_go-clause-closes_first g c = λ t size e w ready present.
-    let after = e ∙ sym (ap (λ (n : Counts). n.size) c.in_ok-is_registered.ensures.only_reads.cause) in
+    let after = still_size c.in_ok-is_registered.ensures.only_reads e in
     ClosesBefore-behind size w c.args.self.now c.args.client c.requires.known present _ _ _ ready (c.in_ok-is_registered.ensures.only_reads.stays t) (λ ready_b. c.in_err-let_go.ensures.closes_first t size after w ready_b present)
 
 pub returns-clause-closes_first : goal.returns-clause-closes_first
 returns-clause-closes_first g c = λ t size e w ready present.
-    let after = e ∙ sym (ap (λ (n : Counts). n.size) c.in_ok-is_registered.ensures.only_reads.cause) in
+    let after = still_size c.in_ok-is_registered.ensures.only_reads e in
     ClosesBefore-behind size w c.args.self.now c.args.client c.requires.known present _ _ _ ready (c.in_ok-is_registered.ensures.only_reads.stays t) (λ ready_b. c.in_ok-let_go.ensures.closes_first t size after w ready_b present)

@@ -14,6 +14,7 @@ use Rattle.ready_daemon.proofs.HeldUnder.{AreHeldWithin-set, read_there, read_wi
 use Rattle.puddled.proofs.Commanding.{ready_read, CarriesOut-refused, CarriesOut-unread, CarriesOut-own, new_is_plain}
 use Rattle.pool_transaction.proofs.TransactionRefusals.{refused_new}
 use Rattle.puddled.proofs.daemon.Daemon.new_object.Goals as goal
+use Rattle.pm_model.proofs.Reading.{still_size}
 
 pub returns-in_err-refusal-clause-carries : goal.returns-in_err-refusal-clause-carries
 returns-in_err-refusal-clause-carries g c =
@@ -62,7 +63,7 @@ returns-clause-carries g c = λ t size e w ready.
     let owned = subst (λ (held : List (Option Held)). IsOwn c.args.client c.args.name number held) (sym (ap (λ (m : Memory). m.held) c.self.view_is ∙ k.held)) own.own in
     let line : ℕ → List ℕ → Command = λ client name. New client name c.args.t in
     let n = c.new_object.ensures in
-    let same = e ∙ sym (ap (λ (m : Counts). m.size) k.only_reads.cause) in
+    let same = still_size k.only_reads e in
     let applies = subst (λ (m : ℕ). Applies size w (world_by w (Some (line opened.client opened.name))) (with_held m (Some c.new_object.new.self) view) (fault_of c.new_object.result) (g.H.Host.state c.find_own.new.h) (g.H.Host.state c.new_object.new.h)) its
     (n.applies t size same w view refl here then) in
     CarriesOut-own size w (with_held number (Some c.new_object.new.self) view) _ _ _ _ _ _ line c.args.client c.args.name (new_is_plain c.args.client c.args.name c.args.t) (k.only_reads.stays t) k.only_reads.cause
