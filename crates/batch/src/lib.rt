@@ -59,6 +59,7 @@ fn prepare<H: Host>(h: &mut H, at: u32, words: &[u64]) -> Result<(), HostFault>
     ensures any { H.tells → Changes Anything (fault_of result) (H.state h.old) (H.state h.new) }
     ensures cause { H.counts h.new ≡ after_fault (fault_of result) (H.counts h.old) }
 {
+    // With this call the proof has that a device's words are counted by 32 bits, so that places of them are, too.
     let _words = h.words();
     persist_range(h, at + LOG_HEADER_WORDS, words)?;
     persist_word(

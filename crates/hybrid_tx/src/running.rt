@@ -78,6 +78,7 @@ impl Tx {
             (placed first vals.now) (fault_of result) (H.state h.old) (H.state h.new) }
         ensures cause { H.counts h.new ≡ after_fault (fault_of result) (H.counts h.old) }
     {
+        // With this call the proof has that a device's words are counted by 32 bits, so that places of them are, too.
         let _words = h.words();
         self.words.save(h, address, first, vals.len() as u32)?;
         self.units += vals.len() as u32 + ENTRY_HEADER_WORDS;

@@ -115,6 +115,7 @@ impl EntryReader {
         ensures failed { OnErr result (self.new ≡ self.old) }
         ensures only_reads { OnlyReads H.tells H.state H.counts (fault_of result) h.old h.new }
     {
+        // With this call the proof has that a device's words are counted by 32 bits, so that places of them are, too.
         let _words = h.words();
         let used = gate_used(h.load(self.log_at)?);
         if used > LOG_ENTRY_WORDS || used < self.passed + ENTRY_HEADER_WORDS {

@@ -147,6 +147,7 @@ impl Log {
             → Leaves (Silently (HasGrown (H.state h.old).now.words self.now.at (record { address = addr; seq = seq; order = order; vals = vals.now }))) (H.state h.old) (H.state h.new) }
         ensures cause { H.counts h.new ≡ after_fault (fault_of result) (H.counts h.old) }
     {
+        // With this call the proof has that a device's words are counted by 32 bits, so that places of them are, too.
         let _words = h.words();
         let behind = self.used + (vals.len() as u32 + ENTRY_HEADER_WORDS);
         let at = self.at + LOG_HEADER_WORDS + self.used;

@@ -17,6 +17,7 @@ fn line_of<H: Host>(h: &H, w: u32) -> u32
     ensures line { result ≡ w / 8 }
     ensures within { result < (H.counts h.now).size / 8 }
 {
+    // With this call the proof has that a device's words are counted by 32 bits, so that places of them are, too.
     let _words = h.words();
     w / 8
 }

@@ -79,6 +79,7 @@ impl Overlay {
             → IfOk result (λ after. GivesMore log (entry_from image entry.now) w given after) }
         ensures only_reads { OnlyReads H.tells H.state H.counts (fault_of result) h.old h.new }
     {
+        // With this call the proof has that a device's words are counted by 32 bits, so that places of them are, too.
         let _words = h.words();
         if !self.range.counts(entry) || !names(entry, w) {
             return Ok(given);

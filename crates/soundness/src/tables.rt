@@ -77,6 +77,7 @@ fn read_record<H: Host>(h: &mut H, overlay: &Overlay, at: u32) -> Result<RecordW
         → IfOk result (λ words. words ≡ record_words (settled_by DAEMON_LOG image) at) }
     ensures only_reads { OnlyReads H.tells H.state H.counts (fault_of result) h.old h.new }
 {
+    // With this call the proof has that a device's words are counted by 32 bits, so that places of them are, too.
     let _words = h.words();
     let first = overlay.word(h, at)?;
     let second = overlay.word(h, at + 1)?;
