@@ -12,10 +12,13 @@ pub mod Within
 pub mod Grown
 pub mod StaysWild
 pub mod Rewritten
+pub mod PassedWords
 pub mod Places
 pub mod LiveSlots
 pub mod ExamplesGraphs
+pub mod ExamplesSteps
 pub mod StoredImages
+pub mod StepsStored
 pub mod UsedTypes
 pub mod Chunks
 pub mod Pieces

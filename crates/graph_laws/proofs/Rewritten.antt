@@ -1,7 +1,7 @@
--- A step of rewriting keeps the graph: what was read over the old bases is read over the pool's bases as the same.
-use Rattle.std.proofs.Common.{◌≡◌, ℕ, zero, suc, ◌+◌, ◌<◌, ◌≤◌, true, cond, eqb, ltb, List, [], ◌∷◌, map, set, length, Option, Some, None, option_map, subst, refl, sym, ap, ◌∙◌, ⊎_elim, arith}
+-- Steps of rewriting keep the graph: what was read over the old bases is read over the pool's bases as the same.
+use Rattle.std.proofs.Common.{◌≡◌, ℕ, zero, suc, ◌+◌, ◌<◌, ◌≤◌, true, false, ◌&&◌, cond, eqb, ltb, leb, eq-eqb, List, [], ◌∷◌, map, set, length, Option, Some, None, option_map, refl, sym, ap, ◌∙◌, ⊎_elim, arith}
 use Rattle.std.specs.Prelude.{slice_get}
-use Rattle.std.proofs.lemmas.Bool.{cases_eq, cases_lt, cases_Bool, cond-true, cond-false, lt-ltb, le-ltb}
+use Rattle.std.proofs.lemmas.Bool.{cases_eq, cases_lt, cases_Bool, cond-true, cond-false, lt-ltb, le-ltb, le-leb, leb-true, ltb-true, eqb-true, and_parts, and_from, both_ways}
 use Rattle.std.proofs.lemmas.List.{length-map, length-set}
 use Rattle.std.specs.Option.{option_or}
 use Rattle.std.proofs.lemmas.Option.{none-some, same_Some, slice_get-map, slice_get_within}
@@ -10,32 +10,32 @@ use Rattle.pud_defs.specs.declared.records.Puddle.{Puddle}
 use Rattle.pud_defs.specs.TypeMap.{is_pointer}
 use Rattle.pud_defs.specs.Geometry.{ordinal_of, slot_of, places_among}
 use Rattle.pud_defs.specs.Types.{map_of}
-use Rattle.pud_defs.specs.Stored.{Stored, places_of, place_word, place_begins}
-use Rattle.pud_defs.specs.Graph.{Content, Number, Null, Table, table_of, contents_by, slot_in, place_in, at_place, target, over_old, puddles_by, pointee_at, content, field_count, stands, has_header, headers_fit, Graph, next_serial_of, root_of, graph_of}
+use Rattle.pud_defs.specs.Stored.{Stored, places_of, place_word}
+use Rattle.pud_defs.specs.Graph.{Content, Number, Null, At, Nowhere, table_of, contents_by, slot_in, place_in, at_place, target, over_old, puddles_by, pointee_at, content, field_count, stands, all_stand, has_header, headers_fit, Graph, root_of, graph_of}
 use Rattle.pud_defs.specs.Spaces.{all_below}
 use Rattle.pud_defs.proofs.Spaces.{all_below-same}
-use Rattle.pud_defs.proofs.Graphs.{IsGraph, graph_of-each}
-use Rattle.graph_laws.specs.Changes.{AreBases, with_word, with_words}
-use Rattle.graph_laws.specs.Rewriting.{rewritten, rewritten_field, moved_to, with_some_puddle, with_frontier, stepped, RewritesSlot}
-use Rattle.graph_laws.proofs.Words.{few_fields, contents_by-each, has_header-same, with_word-there, with_word-other}
+use Rattle.pud_defs.proofs.Graphs.{graph_of-each}
+use Rattle.graph_laws.specs.Changes.{AreBases}
+use Rattle.graph_laws.specs.Rewriting.{rewritten, rewritten_field, moved_to, with_some_puddle, with_frontier, advanced, passes_slot, is_passed, passes_root, RewritesSteps, anywhere, LeadSomewhere}
+use Rattle.graph_laws.proofs.Words.{contents_by-each, has_header-same}
 use Rattle.graph_laws.proofs.Pointers.{target-address}
-use Rattle.graph_laws.proofs.Same.{StandsSame, graph_of-kept, graph_of-same, contents_by-stands}
+use Rattle.graph_laws.proofs.Same.{StandsSame, graph_of-same, list_all-range_each}
 
 -- ---- a list of which one is set
 
-slice_get-set_there : {A : Type 0} (xs : List A) (i : ℕ) (x : A) → i < length xs → slice_get (set xs i x) i ≡ Some x
+pub slice_get-set_there : {A : Type 0} (xs : List A) (i : ℕ) (x : A) → i < length xs → slice_get (set xs i x) i ≡ Some x
 slice_get-set_there [] i x below = absurd (omega arith)
 slice_get-set_there (y ∷ xs) zero x below = refl
 slice_get-set_there (y ∷ xs) (suc i) x below = slice_get-set_there xs i x (omega arith)
 
-slice_get-set_other : {A : Type 0} (xs : List A) (i j : ℕ) (x : A) → (j ≡ i → ⊥) → slice_get (set xs i x) j ≡ slice_get xs j
+pub slice_get-set_other : {A : Type 0} (xs : List A) (i j : ℕ) (x : A) → (j ≡ i → ⊥) → slice_get (set xs i x) j ≡ slice_get xs j
 slice_get-set_other [] i j x other = refl
 slice_get-set_other (y ∷ xs) zero zero x other = absurd (other refl)
 slice_get-set_other (y ∷ xs) zero (suc j) x other = refl
 slice_get-set_other (y ∷ xs) (suc i) zero x other = refl
 slice_get-set_other (y ∷ xs) (suc i) (suc j) x other = slice_get-set_other xs i j x (λ e. other (ap (λ k. suc k) e))
 
-map-set : {A B : Type 0} (f : A → B) (xs : List A) (i : ℕ) (x : A) → map f (set xs i x) ≡ set (map f xs) i (f x)
+pub map-set : {A B : Type 0} (f : A → B) (xs : List A) (i : ℕ) (x : A) → map f (set xs i x) ≡ set (map f xs) i (f x)
 map-set f [] i x = refl
 map-set f (y ∷ xs) zero x = refl
 map-set f (y ∷ xs) (suc i) x = ap (λ ys. f y ∷ ys) (map-set f xs i x)
@@ -122,139 +122,144 @@ module _ (puddles : List Puddle) (o n : ℕ) (home : Puddle) (here : slice_get p
         ∙ target-rewritten v (sym (ap (stands serial) was) ∙ stand)
         ∙ sym was
 
--- the frontier passes one step alone
-same_side : (step frontier : ℕ) → (step ≡ frontier → ⊥) → ltb step (frontier + 1) ≡ ltb step frontier
-same_side step frontier other = ⊎_elim
-    (λ below. lt-ltb step (frontier + 1) (omega arith) ∙ sym (lt-ltb step frontier below))
-    (λ above. le-ltb step (frontier + 1) (omega arith) ∙ sym (le-ltb step frontier above))
-    (cases_lt step frontier)
-
-headers-stepped : (st : Stored) (o n : ℕ) (home : Puddle) (here : slice_get st.puddles o ≡ Some home) (word : ℕ → ℕ → ℕ) → ((k j : ℕ) → j < 3 → word k j ≡ st.word k j) → headers_fit (stepped o n word st) ≡ headers_fit st
+headers-advanced : (st : Stored) (o m : ℕ) (home : Puddle) (here : slice_get st.puddles o ≡ Some home) (word : ℕ → ℕ → ℕ) → ((k j : ℕ) → j < 3 → word k j ≡ st.word k j) → headers_fit (advanced o m word st) ≡ headers_fit st
 unfolding headers_fit
-headers-stepped st o n home here word same =
-    let now = with_frontier o (n + 1) st.puddles in
-    ap (λ c. all_below c (λ k. has_header k (word k) (slice_get now k))) (length-moved st.puddles o (n + 1) home here)
+headers-advanced st o m home here word same =
+    let now = with_frontier o m st.puddles in
+    ap (λ c. all_below c (λ k. has_header k (word k) (slice_get now k))) (length-moved st.puddles o m home here)
     ∙ all_below-same (length st.puddles) (λ k. has_header k (word k) (slice_get now k)) (λ k. has_header k (st.word k) (slice_get st.puddles k))
     (λ k below.
-    has_header-moved st.puddles o (n + 1) home here k (word k)
+    has_header-moved st.puddles o m home here k (word k)
     ∙ has_header-same k (word k) (st.word k) (slice_get st.puddles k) (same k 0 (omega arith)) (same k 1 (omega arith)) (same k 2 (omega arith)))
 
--- ---- an empty step, and the step of the root
+-- ---- sides of the frontier
 
-module _ (types : List (ℕ × ℕ)) (st : Stored) (o : ℕ) (home : Puddle) (here : slice_get st.puddles o ≡ Some home) (start : home.frontier ≡ 0) where
-  -- the first step of a puddle passes no slot
-  content-first : (m p f v : ℕ) → content (with_frontier o 1 st.puddles) m p f v ≡ content st.puddles m p f v
-  content-first m p f v = ap (λ (c : Content). cond (is_pointer m f) c (Number v))
-      (pointee_at-kept st.puddles o 1 home here (ordinal_of p) (slot_of p + 1) v
-      (λ same. le-ltb (slot_of p + 1) 1 (omega arith) ∙ sym (le-ltb (slot_of p + 1) home.frontier (omega arith))))
+-- a step that is passed lies between the two frontiers
+passed_step : (o n m p : ℕ) → is_passed o n m p ≡ true → (ordinal_of p ≡ o) × ((n ≤ slot_of p + 1) × (slot_of p + 1 < m))
+passed_step o n m p passed =
+    let parts = and_parts (eqb (ordinal_of p) o) (passes_slot n m (slot_of p)) passed in
+    let between = and_parts (leb n (slot_of p + 1)) (ltb (slot_of p + 1) m) parts.1 in
+    (eqb-true (ordinal_of p) o parts.0, (leb-true n (slot_of p + 1) between.0, ltb-true (slot_of p + 1) m between.1))
 
-  first_step : (word : ℕ → ℕ → ℕ) → ((k j : ℕ) → (k ≡ 0 → j ≡ ROOT_WORD → ⊥) → word k j ≡ st.word k j) → root_of (stepped o 0 word st) ≡ root_of st → StandsSame types st (stepped o 0 word st)
-  first_step word same root =
-      let later = stepped o 0 word st in
-      let slot = λ (p j : ℕ). same (ordinal_of p) (place_begins st p + j) (λ first at. absurd (omega arith)) in
-      record {
-        puddles = length-moved st.puddles o 1 home here;
-        headers = headers-stepped st o 0 home here word (λ k j few. same k j (λ first at. absurd (omega arith)));
-        next = same 0 NEXT_SERIAL_WORD (λ first at. absurd (omega arith));
-        root = root;
-        serials = λ p below. slot p 0;
-        type_ids = λ p below used. slot p 1;
-        contents = λ p below used.
-            ap (λ k. contents_by later p (map_of k types)) (slot p 1)
-            ∙ contents_by-each st later p (map_of (place_word st p SLOT_TYPE_WORD) types)
-            (λ m f is low. ap (content later.puddles m p f) (slot p (SLOT_FIELDS_WORD + f)) ∙ content-first m p f (place_word st p (SLOT_FIELDS_WORD + f)));
-      }
+-- any other is on the same side of both
+same_side : (n m step : ℕ) → n ≤ m → (leb n step && ltb step m) ≡ false → ltb step m ≡ ltb step n
+same_side n m step more out = ⊎_elim
+    (λ below. lt-ltb step m (omega arith) ∙ sym (lt-ltb step n below))
+    (λ from. ⊎_elim
+    (λ inside. absurd (both_ways _ out (and_from _ _ (le-leb n step from) (lt-ltb step m inside))))
+    (λ behind. le-ltb step m behind ∙ sym (le-ltb step n from))
+    (cases_lt step m))
+    (cases_lt step n)
 
--- a puddle behind the first has no root
-pub graph_of-empty_step : (types : List (ℕ × ℕ)) (st : Stored) (o : ℕ) (home : Puddle) → slice_get st.puddles o ≡ Some home → home.frontier ≡ 0 → 0 < o → graph_of types (stepped o 0 st.word st) ≡ graph_of types st
-graph_of-empty_step types st o home here start behind =
-    graph_of-same types st (stepped o 0 st.word st)
-    (first_step types st o home here start st.word (λ k j other. refl) (pointee_at-kept st.puddles o 1 home here 0 0 (st.word 0 ROOT_WORD) (λ same. absurd (omega arith))))
+side_kept : (o n m p : ℕ) → n ≤ m → is_passed o n m p ≡ false → ordinal_of p ≡ o → ltb (slot_of p + 1) m ≡ ltb (slot_of p + 1) n
+side_kept o n m p more out here = same_side n m (slot_of p + 1) more (sym (ap (λ b. b && passes_slot n m (slot_of p)) (eq-eqb (ordinal_of p) o here)) ∙ out)
 
-pub graph_of-root_step : (types : List (ℕ × ℕ)) (st : Stored) (g : Graph) (home : Puddle) → graph_of types st ≡ Some g → AreBases (map (λ d. d.base) st.puddles) → slice_get st.puddles 0 ≡ Some home → home.frontier ≡ 0
-    → graph_of types (stepped 0 0 (with_word 0 ROOT_WORD (rewritten st.puddles (st.word 0 ROOT_WORD)) st.word) st) ≡ Some g
-graph_of-root_step types st g home is bases here start =
-    let v = rewritten st.puddles (st.word 0 ROOT_WORD) in
-    let word = with_word 0 ROOT_WORD v st.word in
-    let now = with_frontier 0 1 st.puddles in
+root_side_kept : (o n m : ℕ) → n ≤ m → passes_root o n m ≡ false → 0 ≡ o → ltb 0 m ≡ ltb 0 n
+root_side_kept o n m more out here = ⊎_elim
+    (λ first. ⊎_elim
+    (λ moves. absurd (both_ways _ out (and_from _ _ (eq-eqb o 0 (sym here)) (and_from _ _ (eq-eqb n 0 first) (lt-ltb 0 m moves)))))
+    (λ still. le-ltb 0 m still ∙ sym (le-ltb 0 n (omega arith)))
+    (cases_lt 0 m))
+    (λ later. lt-ltb 0 m (omega arith) ∙ sym (lt-ltb 0 n (omega arith)))
+    (cases_eq n 0)
+
+-- ---- a graph leads somewhere
+
+stands-somewhere : (serial : ℕ → ℕ) (c : Content) → stands serial c ≡ true → stands anywhere c ≡ true
+stands-somewhere serial (Number v) stand = refl
+stands-somewhere serial Null stand = refl
+stands-somewhere serial (At p) stand = refl
+stands-somewhere serial Nowhere stand = stand
+
+field-stands : (st : Stored) (serial : ℕ → ℕ) (p m f : ℕ) (type : Option ℕ) → type ≡ Some m → f < field_count m → all_stand serial (contents_by st p type) ≡ true
+    → stands serial (content st.puddles m p f (place_word st p (SLOT_FIELDS_WORD + f))) ≡ true
+field-stands st serial p m f type is low stand =
+    list_all-range_each (stands serial) (λ (i : ℕ). content st.puddles m p i (place_word st p (SLOT_FIELDS_WORD + i))) 0 (field_count m)
+    (ap (λ t. all_stand serial (contents_by st p t)) (sym is) ∙ stand) f (omega arith) (omega arith)
+
+pub LeadSomewhere-graph : (types : List (ℕ × ℕ)) (st : Stored) (g : Graph) (o n m : ℕ) → graph_of types st ≡ Some g → LeadSomewhere types st o n m
+LeadSomewhere-graph types st g o n m is =
     let h = graph_of-each types st g is in
-    graph_of-kept types st (stepped 0 0 word st) g
-    (first_step types st 0 home here start word (λ k j other. with_word-other 0 ROOT_WORD v st.word k j other)
-    (ap (pointee_at now 0 0) (with_word-there 0 ROOT_WORD v st.word)
-    ∙ pointee_at-rewritten st.puddles 0 1 home here (table_of types st).serial bases 0 (st.word 0 ROOT_WORD) (omega arith) (omega arith) h.graph.top_stands))
-    is
-
--- ---- the step of a slot
-
-module _ (types : List (ℕ × ℕ)) (st : Stored) (word : ℕ → ℕ → ℕ) (p : ℕ) (home : Puddle) (here : slice_get st.puddles (ordinal_of p) ≡ Some home) (at : home.frontier ≡ slot_of p + 1) (rewrites : RewritesSlot types st word p) where
-  abbrev after_step : Stored
-  after_step = stepped (ordinal_of p) (slot_of p + 1) word st
-
-  pointee_at-other : (o step v : ℕ) → (o ≡ ordinal_of p → step ≡ slot_of p + 1 → ⊥) → pointee_at after_step.puddles o step v ≡ pointee_at st.puddles o step v
-  pointee_at-other o step v other =
-      pointee_at-kept st.puddles (ordinal_of p) (slot_of p + 1 + 1) home here o step v
-      (λ same. same_side step (slot_of p + 1) (other same) ∙ ap (ltb step) (sym at))
-
-  content-other : (m q f v : ℕ) → (q ≡ p → ⊥) → content after_step.puddles m q f v ≡ content st.puddles m q f v
-  content-other m q f v other = ap (λ (c : Content). cond (is_pointer m f) c (Number v)) (pointee_at-other (ordinal_of q) (slot_of q + 1) v (λ same step. let one : q ≡ p = omega arith in other one))
-
-  content-stepped : (serial : ℕ → ℕ) (m f v : ℕ) → AreBases (map (λ d. d.base) st.puddles) → stands serial (content st.puddles m p f v) ≡ true → content after_step.puddles m p f (rewritten_field st.puddles m f v) ≡ content st.puddles m p f v
-  content-stepped serial m f v bases stand =
-      let step = slot_of p + 1 in
-      let o = ordinal_of p in
-      ⊎_elim
-      (λ pointer.
-      let was = cond-true (is_pointer m f) (pointee_at st.puddles o step v) (Number v) pointer in
-      cond-true _ _ _ pointer
-      ∙ ap (pointee_at after_step.puddles o step) (cond-true (is_pointer m f) (rewritten st.puddles v) v pointer)
-      ∙ pointee_at-rewritten st.puddles o (step + 1) home here serial bases step v (omega arith) (omega arith) (sym (ap (stands serial) was) ∙ stand)
-      ∙ sym was)
-      (λ number. cond-false _ _ _ number ∙ ap (λ (k : ℕ). Number k) (cond-false (is_pointer m f) (rewritten st.puddles v) v number) ∙ sym (cond-false _ _ _ number))
-      (cases_Bool (is_pointer m f))
-
-  serial_kept : (q : ℕ) → place_word (with_words word st) q 0 ≡ place_word st q 0
-  serial_kept q = ⊎_elim (λ e. ap (λ k. place_word (with_words word st) k 0) e ∙ rewrites.serial ∙ ap (λ k. place_word st k 0) (sym e)) (λ other. rewrites.others q 0 other (omega arith)) (cases_eq q p)
-
-  type_kept : (q : ℕ) → (place_word st q 0 ≡ 0 → ⊥) → place_word (with_words word st) q 1 ≡ place_word st q 1
-  type_kept q used = ⊎_elim
-      (λ e. ap (λ k. place_word (with_words word st) k 1) e ∙ rewrites.type_id (λ free. used (ap (λ k. place_word st k 0) e ∙ free)) ∙ ap (λ k. place_word st k 1) (sym e))
-      (λ other. rewrites.others q 1 other (omega arith))
-      (cases_eq q p)
-
-  module _ (bases : AreBases (map (λ d. d.base) st.puddles)) (h : IsGraph (next_serial_of st) (root_of st) (table_of types st) (places_of st)) where
-    abbrev t : Table
-    t = table_of types st
-
-    field_other : (q m f : ℕ) → (q ≡ p → ⊥) → f < field_count m → content after_step.puddles m q f (place_word (with_words word st) q (SLOT_FIELDS_WORD + f)) ≡ content st.puddles m q f (place_word st q (SLOT_FIELDS_WORD + f))
-    field_other q m f other low =
-        let most = few_fields m in
-        ap (content after_step.puddles m q f) (rewrites.others q (SLOT_FIELDS_WORD + f) other (omega arith)) ∙ content-other m q f (place_word st q (SLOT_FIELDS_WORD + f)) other
-
-    contents_other : (q : ℕ) → q < places_of st → (t.serial q ≡ 0 → ⊥) → (q ≡ p → ⊥) → contents_by after_step q (map_of (t.type_id q) types) ≡ t.contents q
-    contents_other q below used other = contents_by-stands st after_step q t.serial (map_of (t.type_id q) types) (h.sound q below used).stand (λ m f is low stand. field_other q m f other low)
-
-    contents_there : p < places_of st → (t.serial p ≡ 0 → ⊥) → contents_by after_step p (map_of (t.type_id p) types) ≡ t.contents p
-    contents_there below used =
-        contents_by-stands st after_step p t.serial (map_of (t.type_id p) types) (h.sound p below used).stand
-        (λ m f is low stand. ap (content after_step.puddles m p f) (rewrites.fields m f used is low) ∙ content-stepped t.serial m f (place_word st p (SLOT_FIELDS_WORD + f)) bases stand)
-
-    slot_step : StandsSame types st after_step
-    slot_step = record {
-      puddles = length-moved st.puddles (ordinal_of p) (slot_of p + 1 + 1) home here;
-      headers = headers-stepped st (ordinal_of p) (slot_of p + 1) home here word (λ k j few. rewrites.headers k j (omega arith));
-      next = rewrites.headers 0 NEXT_SERIAL_WORD (omega arith);
-      root = ap (pointee_at after_step.puddles 0 0) (rewrites.headers 0 ROOT_WORD (omega arith)) ∙ pointee_at-other 0 0 (st.word 0 ROOT_WORD) (λ same step. absurd (omega arith));
-      serials = λ q below. serial_kept q;
-      type_ids = λ q below used. type_kept q used;
-      contents = λ q below used.
-          ap (λ k. contents_by after_step q (map_of k types)) (type_kept q used) ∙ ⊎_elim
-          (λ e. ap (λ k. contents_by after_step k (map_of (t.type_id k) types)) e ∙ contents_there (subst (λ k. k < places_of st) e below) (λ free. used (ap t.serial e ∙ free)) ∙ ap t.contents (sym e))
-          (λ other. contents_other q below used other)
-          (cases_eq q p);
+    let serial = (table_of types st).serial in
+    record {
+      root = λ passed. stands-somewhere serial (root_of st) h.graph.top_stands;
+      fields = λ p k f below used map low passed.
+          stands-somewhere serial (content st.puddles k p f (place_word st p (SLOT_FIELDS_WORD + f))) (field-stands st serial p k f (map_of (place_word st p SLOT_TYPE_WORD) types) map low (h.graph.sound p below used).stand);
     }
 
-pub graph_of-slot_step : (types : List (ℕ × ℕ)) (st : Stored) (g : Graph) (word : ℕ → ℕ → ℕ) (p : ℕ) (home : Puddle) → graph_of types st ≡ Some g → AreBases (map (λ d. d.base) st.puddles)
-    → slice_get st.puddles (ordinal_of p) ≡ Some home → home.frontier ≡ slot_of p + 1 → RewritesSlot types st word p
-    → graph_of types (stepped (ordinal_of p) (slot_of p + 1) word st) ≡ Some g
-graph_of-slot_step types st g word p home is bases here at rewrites =
-    graph_of-kept types st (stepped (ordinal_of p) (slot_of p + 1) word st) g (slot_step types st word p home here at rewrites bases (graph_of-each types st g is).graph) is
+-- ---- so many steps
+
+module _ (types : List (ℕ × ℕ)) (st : Stored) (word : ℕ → ℕ → ℕ) (o m : ℕ) (home : Puddle) (here : slice_get st.puddles o ≡ Some home) (more : home.frontier ≤ m) (bases : AreBases (map (λ d. d.base) st.puddles)) (rewrites : RewritesSteps types st word o home.frontier m) (lead : LeadSomewhere types st o home.frontier m) where
+  abbrev after : Stored
+  after = advanced o m word st
+
+  root-advanced : root_of after ≡ root_of st
+  root-advanced =
+      let v = st.word 0 ROOT_WORD in
+      ⊎_elim
+      (λ passed.
+      let parts = and_parts (eqb o 0) (eqb home.frontier 0 && ltb 0 m) passed in
+      let start = and_parts (eqb home.frontier 0) (ltb 0 m) parts.1 in
+      let first : 0 ≡ o = sym (eqb-true o 0 parts.0) in
+      let zero_frontier = eqb-true home.frontier 0 start.0 in
+      ap (pointee_at after.puddles 0 0) (rewrites.root ∙ cond-true _ _ _ passed)
+      ∙ ap (λ i. pointee_at after.puddles i 0 (rewritten st.puddles v)) first
+      ∙ pointee_at-rewritten st.puddles o m home here anywhere bases 0 v (omega arith) (ltb-true 0 m start.1) (ap (λ i. stands anywhere (pointee_at st.puddles i 0 v)) (sym first) ∙ lead.root passed)
+      ∙ ap (λ i. pointee_at st.puddles i 0 v) (sym first))
+      (λ out.
+      ap (pointee_at after.puddles 0 0) (rewrites.root ∙ cond-false _ _ _ out)
+      ∙ pointee_at-kept st.puddles o m home here 0 0 v (λ same. root_side_kept o home.frontier m more out same))
+      (cases_Bool (passes_root o home.frontier m))
+
+  content-passed : (k p f v : ℕ) → is_passed o home.frontier m p ≡ true → stands anywhere (content st.puddles k p f v) ≡ true → content after.puddles k p f (rewritten_field st.puddles k f v) ≡ content st.puddles k p f v
+  content-passed k p f v passed stand =
+      let step = slot_of p + 1 in
+      let parts = passed_step o home.frontier m p passed in
+      let there = ap (λ i. pointee_at st.puddles i step v) parts.0 in
+      ⊎_elim
+      (λ pointer.
+      let was = cond-true (is_pointer k f) (pointee_at st.puddles (ordinal_of p) step v) (Number v) pointer in
+      cond-true _ _ _ pointer
+      ∙ ap (pointee_at after.puddles (ordinal_of p) step) (cond-true (is_pointer k f) (rewritten st.puddles v) v pointer)
+      ∙ ap (λ i. pointee_at after.puddles i step (rewritten st.puddles v)) parts.0
+      ∙ pointee_at-rewritten st.puddles o m home here anywhere bases step v parts.1.0 parts.1.1 (sym (ap (stands anywhere) (was ∙ there)) ∙ stand)
+      ∙ sym there
+      ∙ sym was)
+      (λ number. cond-false _ _ _ number ∙ ap (λ (n : ℕ). Number n) (cond-false (is_pointer k f) (rewritten st.puddles v) v number) ∙ sym (cond-false _ _ _ number))
+      (cases_Bool (is_pointer k f))
+
+  content-out : (k p f v : ℕ) → is_passed o home.frontier m p ≡ false → content after.puddles k p f v ≡ content st.puddles k p f v
+  content-out k p f v out = ap (λ (c : Content). cond (is_pointer k f) c (Number v))
+      (pointee_at-kept st.puddles o m home here (ordinal_of p) (slot_of p + 1) v (λ same. side_kept o home.frontier m p more out same))
+
+  field-advanced : (p k f : ℕ) → p < places_of st → (place_word st p 0 ≡ 0 → ⊥) → map_of (place_word st p SLOT_TYPE_WORD) types ≡ Some k → f < field_count k
+      → content after.puddles k p f (place_word after p (SLOT_FIELDS_WORD + f)) ≡ content st.puddles k p f (place_word st p (SLOT_FIELDS_WORD + f))
+  field-advanced p k f below used is low =
+      let v = place_word st p (SLOT_FIELDS_WORD + f) in
+      let now = rewrites.fields p k f below used is low in
+      ⊎_elim
+      (λ passed. ap (content after.puddles k p f) (now ∙ cond-true _ _ _ passed) ∙ content-passed k p f v passed (lead.fields p k f below used is low passed))
+      (λ out. ap (content after.puddles k p f) (now ∙ cond-false _ _ _ out) ∙ content-out k p f v out)
+      (cases_Bool (is_passed o home.frontier m p))
+
+  steps_stand : StandsSame types st after
+  steps_stand = record {
+    puddles = length-moved st.puddles o m home here;
+    headers = headers-advanced st o m home here word (λ k j few. rewrites.headers k j (omega arith) (λ first at. absurd (omega arith)));
+    next = rewrites.headers 0 NEXT_SERIAL_WORD (omega arith) (λ first at. absurd (omega arith));
+    root = root-advanced;
+    serials = rewrites.serials;
+    type_ids = rewrites.type_ids;
+    contents = λ p below used.
+        ap (λ k. contents_by after p (map_of k types)) (rewrites.type_ids p below used)
+        ∙ contents_by-each st after p (map_of (place_word st p SLOT_TYPE_WORD) types) (λ k f is low. field-advanced p k f below used is low);
+  }
+
+-- what leads somewhere has after the steps the same graph, or has none either
+pub graph_of-steps_any : (types : List (ℕ × ℕ)) (st : Stored) (word : ℕ → ℕ → ℕ) (o m : ℕ) (home : Puddle) → AreBases (map (λ d. d.base) st.puddles) → slice_get st.puddles o ≡ Some home → home.frontier ≤ m
+    → LeadSomewhere types st o home.frontier m → RewritesSteps types st word o home.frontier m → graph_of types (advanced o m word st) ≡ graph_of types st
+graph_of-steps_any types st word o m home bases here more lead rewrites = graph_of-same types st (advanced o m word st) (steps_stand types st word o m home here more bases rewrites lead)
+
+pub graph_of-steps : (types : List (ℕ × ℕ)) (st : Stored) (g : Graph) (word : ℕ → ℕ → ℕ) (o m : ℕ) (home : Puddle) → graph_of types st ≡ Some g → AreBases (map (λ d. d.base) st.puddles)
+    → slice_get st.puddles o ≡ Some home → home.frontier ≤ m → RewritesSteps types st word o home.frontier m → graph_of types (advanced o m word st) ≡ Some g
+graph_of-steps types st g word o m home is bases here more rewrites = graph_of-steps_any types st word o m home bases here more (LeadSomewhere-graph types st g o home.frontier m is) rewrites ∙ is

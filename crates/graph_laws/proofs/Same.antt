@@ -13,7 +13,7 @@ use Rattle.graph_laws.proofs.Words.{map-range_same}
 
 -- ---- fields that stand
 
-list_all-range_each : {X : Type 0} (test : X → Bool) (f : ℕ → X) (from count : ℕ) → list_all test (map f (range_with_len from count)) ≡ true → (k : ℕ) → from ≤ k → k < from + count → test (f k) ≡ true
+pub list_all-range_each : {X : Type 0} (test : X → Bool) (f : ℕ → X) (from count : ℕ) → list_all test (map f (range_with_len from count)) ≡ true → (k : ℕ) → from ≤ k → k < from + count → test (f k) ≡ true
 list_all-range_each test f from zero all k low high = absurd (omega arith)
 list_all-range_each test f from (suc count) all k low high =
     let parts = and_parts (test (f from)) (list_all test (map f (range_with_len (from + 1) count))) all in

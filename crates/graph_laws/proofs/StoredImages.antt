@@ -12,7 +12,7 @@ use Rattle.graph_laws.specs.Changes.{with_word, with_words}
 use Rattle.graph_laws.specs.Reads.{AgreeOnFrames, HasDistinctFrames}
 use Rattle.graph_laws.proofs.Words.{with_word-there, with_word-other}
 
-word_in_frame-same : (F : ℕ) (i j : Image) (k : ℕ) (e : Option (ℕ × Puddle)) → ((d : ℕ × Puddle) → e ≡ Some d → k < FRAME_WORDS → frame_word F d.0 k j ≡ frame_word F d.0 k i) → word_in_frame F j k e ≡ word_in_frame F i k e
+pub word_in_frame-same : (F : ℕ) (i j : Image) (k : ℕ) (e : Option (ℕ × Puddle)) → ((d : ℕ × Puddle) → e ≡ Some d → k < FRAME_WORDS → frame_word F d.0 k j ≡ frame_word F d.0 k i) → word_in_frame F j k e ≡ word_in_frame F i k e
 word_in_frame-same F i j k None same = refl
 word_in_frame-same F i j k (Some d) same = ⊎_elim
     (λ below. ap (λ v. cond (ltb k FRAME_WORDS) v 0) (same d refl below))

@@ -2,3 +2,4 @@ pub mod Changes
 pub mod Reads
 pub mod Slots
 pub mod Rewriting
+pub mod Steps

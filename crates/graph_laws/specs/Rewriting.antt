@@ -1,11 +1,12 @@
--- A step of rewriting: the pointers at the frontier of a puddle are stored over the pool's bases, and the frontier is one more.
-use Rattle.std.specs.Prelude.{◌≡◌, ℕ, ◌+◌, ◌<◌, cond, List, map, set, slice_get, Option, Some, None, option_map}
-use Rattle.pud_defs.specs.declared.space.TheConstants.{FRAME_HEADER_WORDS, SLOT_SERIAL_WORD, SLOT_TYPE_WORD, SLOT_FIELDS_WORD}
+-- Steps of rewriting: the pointers at the frontier of a puddle are stored over the pool's bases, and the frontier moves past them.
+use Rattle.std.specs.Prelude.{◌≡◌, ℕ, ◌+◌, ◌<◌, Bool, true, ◌&&◌, nat_le, nat_lt, ◌==◌, cond, List, map, set, slice_get, Option, Some, None, option_map}
+use Rattle.pud_defs.specs.declared.space.TheConstants.{FRAME_HEADER_WORDS, ROOT_WORD, SLOT_SERIAL_WORD, SLOT_TYPE_WORD, SLOT_FIELDS_WORD}
 use Rattle.pud_defs.specs.declared.records.Puddle.{Puddle}
 use Rattle.pud_defs.specs.TypeMap.{is_pointer}
+use Rattle.pud_defs.specs.Geometry.{ordinal_of, slot_of}
 use Rattle.pud_defs.specs.Types.{map_of}
-use Rattle.pud_defs.specs.Stored.{Stored, place_word, place_words, IsLivePlace}
-use Rattle.pud_defs.specs.Graph.{target, over_old, field_count}
+use Rattle.pud_defs.specs.Stored.{Stored, places_of, place_word, IsLivePlace}
+use Rattle.pud_defs.specs.Graph.{target, over_old, content, field_count, stands, root_of}
 use Rattle.pud_defs.specs.Exported.{address_of}
 use Rattle.graph_laws.specs.Changes.{with_words}
 
@@ -21,9 +22,11 @@ rewritten_field puddles map field v = cond (is_pointer map field) (rewritten pud
 
 -- ---- frontiers
 
+-- the puddle with another frontier
 abbrev pub moved_to : ℕ → Puddle → Puddle
 moved_to n d = record { number = d.number; base = d.base; old_base = d.old_base; frontier = n }
 
+-- the puddles with this one at an ordinal, where there is one
 abbrev pub with_some_puddle : ℕ → Option Puddle → List Puddle → List Puddle
 with_some_puddle o None puddles = puddles
 with_some_puddle o (Some d) puddles = set puddles o d
@@ -32,15 +35,40 @@ with_some_puddle o (Some d) puddles = set puddles o d
 abbrev pub with_frontier : (o n : ℕ) → List Puddle → List Puddle
 with_frontier o n puddles = with_some_puddle o (option_map (moved_to n) (slice_get puddles o)) puddles
 
--- what is stored after a step of the puddle of an ordinal whose frontier was n
-abbrev pub stepped : (o n : ℕ) → (ℕ → ℕ → ℕ) → Stored → Stored
-stepped o n word st = record { puddles = with_frontier o (n + 1) st.puddles; word = word }
+-- what is stored once the frontier of an ordinal's puddle has moved
+abbrev pub advanced : (o m : ℕ) → (ℕ → ℕ → ℕ) → Stored → Stored
+advanced o m word st = record { puddles = with_frontier o m st.puddles; word = word }
 
--- By these words the pointers of the slot at a place are over the pool's bases, and all else is as it was.
-pub record RewritesSlot (types : List (ℕ × ℕ)) (st : Stored) (word : ℕ → ℕ → ℕ) (p : ℕ) : Type 0 where
-  pub headers : (o k : ℕ) → k < FRAME_HEADER_WORDS → word o k ≡ st.word o k
-  pub others : (q k : ℕ) → (q ≡ p → ⊥) → k < place_words st q → place_word (with_words word st) q k ≡ place_word st q k
-  pub serial : place_word (with_words word st) p SLOT_SERIAL_WORD ≡ place_word st p SLOT_SERIAL_WORD
-  pub type_id : IsLivePlace st p → place_word (with_words word st) p SLOT_TYPE_WORD ≡ place_word st p SLOT_TYPE_WORD
-  pub fields : (m f : ℕ) → IsLivePlace st p → map_of (place_word st p SLOT_TYPE_WORD) types ≡ Some m → f < field_count m
-      → place_word (with_words word st) p (SLOT_FIELDS_WORD + f) ≡ rewritten_field st.puddles m f (place_word st p (SLOT_FIELDS_WORD + f))
+-- ---- what a frontier passes
+
+-- a frontier that moves from n to m passes the step of the slot
+abbrev pub passes_slot : (n m slot : ℕ) → Bool
+passes_slot n m slot = nat_le n (slot + 1) && nat_lt (slot + 1) m
+
+-- the slot at a place is one that the frontier of an ordinal's puddle passes
+abbrev pub is_passed : (o n m place : ℕ) → Bool
+is_passed o n m p = ordinal_of p == o && passes_slot n m (slot_of p)
+
+-- the root is passed: it stands at the first step of ordinal 0
+abbrev pub passes_root : (o n m : ℕ) → Bool
+passes_root o n m = o == 0 && (n == 0 && nat_lt 0 m)
+
+-- By these words the pointers that a frontier passes are over the pool's bases, and all else that is read is as it was.
+pub record RewritesSteps (types : List (ℕ × ℕ)) (st : Stored) (word : ℕ → ℕ → ℕ) (o n m : ℕ) : Type 0 where
+  pub headers : (i k : ℕ) → k < FRAME_HEADER_WORDS → (i ≡ 0 → k ≡ ROOT_WORD → ⊥) → word i k ≡ st.word i k
+  pub root : word 0 ROOT_WORD ≡ cond (passes_root o n m) (rewritten st.puddles (st.word 0 ROOT_WORD)) (st.word 0 ROOT_WORD)
+  pub serials : (p : ℕ) → p < places_of st → place_word (with_words word st) p SLOT_SERIAL_WORD ≡ place_word st p SLOT_SERIAL_WORD
+  pub type_ids : (p : ℕ) → p < places_of st → IsLivePlace st p → place_word (with_words word st) p SLOT_TYPE_WORD ≡ place_word st p SLOT_TYPE_WORD
+  pub fields : (p map f : ℕ) → p < places_of st → IsLivePlace st p → map_of (place_word st p SLOT_TYPE_WORD) types ≡ Some map → f < field_count map
+      → place_word (with_words word st) p (SLOT_FIELDS_WORD + f)
+      ≡ cond (is_passed o n m p) (rewritten_field st.puddles map f (place_word st p (SLOT_FIELDS_WORD + f))) (place_word st p (SLOT_FIELDS_WORD + f))
+
+-- a serial for each place, so that each pointer that leads to some slot stands for something
+abbrev pub anywhere : ℕ → ℕ
+anywhere place = 1
+
+-- The pointers that the frontier passes are null, or lead to a slot, live or not.
+pub record LeadSomewhere (types : List (ℕ × ℕ)) (st : Stored) (o n m : ℕ) : Type 0 where
+  pub root : passes_root o n m ≡ true → stands anywhere (root_of st) ≡ true
+  pub fields : (p map f : ℕ) → p < places_of st → IsLivePlace st p → map_of (place_word st p SLOT_TYPE_WORD) types ≡ Some map → f < field_count map → is_passed o n m p ≡ true
+      → stands anywhere (content st.puddles map p f (place_word st p (SLOT_FIELDS_WORD + f))) ≡ true

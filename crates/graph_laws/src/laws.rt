@@ -13,7 +13,8 @@ ghost use Rattle.pud_defs.specs.Types.{map_of, types_of, with_type};
 ghost use Rattle.pud_defs.specs.Registry.{frames_of, is_registry};
 ghost use Rattle.pud_defs.specs.Tables.{tables_of, puddles_in_turn};
 ghost use Rattle.pud_defs.specs.Image.{Image, written};
-ghost use Rattle.pud_defs.specs.Frames.{frame_at, fresh_frame};
+ghost use Rattle.pud_defs.specs.Frames.{frame_at, frame_word, fresh_frame};
+ghost use Rattle.pud_defs.specs.Replay.{overwritten};
 ghost use Rattle.pud_defs.specs.Stored.{Stored, stored_in, places_of, place_word, place_words, IsFreePlace};
 ghost use Rattle.pud_defs.specs.Graph.{Graph, table_of, place_of, object_at, field_count, object_in, next_serial_of, is_held, graph_of, empty_graph};
 ghost use Rattle.pud_defs.specs.GraphChanges.{blank_object, with_field, with_new, without_object, with_root};
@@ -23,7 +24,8 @@ ghost use Rattle.pud_defs.specs.Exported.{exported_words, IsExportable};
 ghost use Rattle.graph_laws.specs.Changes.{with_word, with_words, with_slot_word, with_field_word, with_serial_word, with_root_word, AreBases, IsAddress, IsField, IsMade};
 ghost use Rattle.graph_laws.specs.Reads.{ReadsSame, with_puddle, alone, IsGrown, AgreeOnFrames, HasDistinctFrames};
 ghost use Rattle.graph_laws.specs.Slots.{AreAllLive, is_of_type};
-ghost use Rattle.graph_laws.specs.Rewriting.{rewritten, stepped, RewritesSlot};
+ghost use Rattle.graph_laws.specs.Rewriting.{advanced, RewritesSteps, LeadSomewhere};
+ghost use Rattle.graph_laws.specs.Steps.{steps_in, with_steps};
 
 /// The object of a serial is what stands at the place of the serial.
 pub fn object_stands_at_the_place_of_its_serial()
@@ -138,24 +140,40 @@ pub fn fresh_puddle_behind_others_makes_no_graph()
         → graph_of types (with_puddle d word st) ≡ Option.None }
 {}
 
-/// A slot whose pointers are rewritten as the frontier passes it holds the same object.
-pub fn rewritten_slot_keeps_the_graph()
-    ensures { (types : List (ℕ × ℕ)) (st : Stored) (g : Graph) (word : ℕ → ℕ → ℕ) (p : ℕ) (home : Puddle) → graph_of types st ≡ Option.Some g → AreBases (map (λ d. d.base) st.puddles)
-        → slice_get st.puddles (ordinal_of p) ≡ Option.Some home → home.frontier ≡ slot_of p + 1 → RewritesSlot types st word p
-        → graph_of types (stepped (ordinal_of p) (slot_of p + 1) word st) ≡ Option.Some g }
+/// A pool whose pointers are rewritten as the frontier of a puddle passes them has the same graph, by however many steps it
+/// moves. A value may be an address over both sets of bases.
+pub fn rewritten_steps_keep_the_graph()
+    ensures { (types : List (ℕ × ℕ)) (st : Stored) (g : Graph) (word : ℕ → ℕ → ℕ) (o : ℕ) (m : ℕ) (home : Puddle) → graph_of types st ≡ Option.Some g → AreBases (map (λ d. d.base) st.puddles)
+        → slice_get st.puddles o ≡ Option.Some home → home.frontier ≤ m → RewritesSteps types st word o home.frontier m
+        → graph_of types (advanced o m word st) ≡ Option.Some g }
 {}
 
-/// A root that is rewritten as the frontier passes it is the same root.
-pub fn rewritten_root_keeps_the_graph()
-    ensures { (types : List (ℕ × ℕ)) (st : Stored) (g : Graph) (home : Puddle) → graph_of types st ≡ Option.Some g → AreBases (map (λ d. d.base) st.puddles)
-        → slice_get st.puddles 0 ≡ Option.Some home → home.frontier ≡ 0
-        → graph_of types (stepped 0 0 (with_word 0 ROOT_WORD (rewritten st.puddles (st.word 0 ROOT_WORD)) st.word) st) ≡ Option.Some g }
+/// Where the pointers that are passed lead to some slot each, live or not, it has the same graph, or has none either.
+pub fn rewritten_steps_make_no_graph()
+    ensures { (types : List (ℕ × ℕ)) (st : Stored) (word : ℕ → ℕ → ℕ) (o : ℕ) (m : ℕ) (home : Puddle) → AreBases (map (λ d. d.base) st.puddles)
+        → slice_get st.puddles o ≡ Option.Some home → home.frontier ≤ m → LeadSomewhere types st o home.frontier m → RewritesSteps types st word o home.frontier m
+        → graph_of types (advanced o m word st) ≡ graph_of types st }
 {}
 
-/// A frontier that passes the header of a puddle behind the first passes no pointer.
-pub fn empty_step_keeps_the_graph()
-    ensures { (types : List (ℕ × ℕ)) (st : Stored) (o : ℕ) (home : Puddle) → slice_get st.puddles o ≡ Option.Some home → home.frontier ≡ 0 → 0 < o
-        → graph_of types (stepped o 0 st.word st) ≡ graph_of types st }
+/// An image in which the steps of a puddle are written has the graph that it had.
+pub fn written_steps_keep_the_graph()
+    ensures { (frames : ℕ) (types : List (ℕ × ℕ)) (at : List (ℕ × Puddle)) (image : Image) (o : ℕ) (m : ℕ) (e : ℕ × Puddle) → HasDistinctFrames at → slice_get at o ≡ Option.Some e → e.0 < frames
+        → AreBases (map (λ d. d.base) (map (λ e. e.1) at)) → e.1.frontier ≤ m → (g : Graph) → graph_of types (stored_in frames at image) ≡ Option.Some g
+        → graph_of types (stored_in frames (with_steps o m e at) (overwritten (steps_in frames types at image o m e) image)) ≡ Option.Some g }
+{}
+
+/// Where the pointers that are passed lead to some slot each, it has that graph, or has none either.
+pub fn written_steps_make_no_graph()
+    ensures { (frames : ℕ) (types : List (ℕ × ℕ)) (at : List (ℕ × Puddle)) (image : Image) (o : ℕ) (m : ℕ) (e : ℕ × Puddle) → HasDistinctFrames at → slice_get at o ≡ Option.Some e → e.0 < frames
+        → AreBases (map (λ d. d.base) (map (λ e. e.1) at)) → e.1.frontier ≤ m → LeadSomewhere types (stored_in frames at image) o e.1.frontier m
+        → graph_of types (stored_in frames (with_steps o m e at) (overwritten (steps_in frames types at image o m e) image)) ≡ graph_of types (stored_in frames at image) }
+{}
+
+/// What the steps of a puddle write goes by its own frame alone.
+pub fn steps_are_written_by_the_frame()
+    ensures { (frames : ℕ) (types : List (ℕ × ℕ)) (at : List (ℕ × Puddle)) (i : Image) (j : Image) (o : ℕ) (m : ℕ) (e : ℕ × Puddle) → slice_get at o ≡ Option.Some e
+        → ((k : ℕ) → k < FRAME_WORDS → frame_word frames e.0 k j ≡ frame_word frames e.0 k i)
+        → steps_in frames types at j o m e ≡ steps_in frames types at i o m e }
 {}
 
 /// What has a graph keeps it when a type is defined that was not.
