@@ -16,11 +16,11 @@ use Rattle.hybrid_tx.specs.Grounds.{pool_mine}
 use Rattle.hybrid_tx.specs.Masks.{is_open_record, open_mask}
 use Rattle.hybrid_tx.specs.ManyOpen.{OpenTransaction, Opens, mask_of, open_masks, IsMaskedBy, MasksAll, AreOpenPools, HasRecords, AreLeftOpen}
 use Rattle.hybrid_tx.proofs.OpenMasks.{open_record_place, mask_of_mine, mask_of_record, mask_of_gate, mask_of_log, mask_cases, mask_below}
-use Rattle.hybrid_tx.proofs.OpenPools.{open_on_device, open_members}
+use Rattle.hybrid_tx.proofs.OpenPools.{open_on_device, open_puddles}
 use Rattle.hybrid_tx.proofs.OpenSettled.{IsOfNone, AreApart, other_log_apart, of_no_log, nothing_given}
 use Rattle.hybrid_tx.proofs.OwnEntries.{either_of}
 use Rattle.hybrid_tx.proofs.PoolGrounds.{pool_mine-each}
-use Rattle.hybrid_tx.proofs.PoolPlaces.{members_apart}
+use Rattle.hybrid_tx.proofs.PoolPlaces.{puddles_apart}
 
 -- ---- the first of several that gives something
 
@@ -134,9 +134,9 @@ module _ (F : ℕ) (opens : Opens) (image : Image) (are : AreOpenPools F opens) 
   pub opens_apart : AreApart F opens
   opens_apart = record {
     each = λ n m o q here there apart k mine.
-        members_apart F (tables_of F image) o.pool.slot q.pool.slot o.pool.at q.pool.at
-        (open_members F o.pool o.before image (are.pool n o here) (records.each n o here))
-        (open_members F q.pool q.before image (are.pool m q there) (records.each m q there))
+        puddles_apart F (tables_of F image) o.pool.slot q.pool.slot o.pool.at q.pool.at
+        (open_puddles F o.pool o.before image (are.pool n o here) (records.each n o here))
+        (open_puddles F q.pool q.before image (are.pool m q there) (records.each m q there))
         (λ same. apart (are.slots n m o q here there same)) k mine;
   }
 

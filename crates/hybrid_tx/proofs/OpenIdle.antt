@@ -13,7 +13,7 @@ use Rattle.pud_defs.specs.Replay.{device_word, new_value, IsInLog, is_in_log, se
 use Rattle.pud_defs.specs.Settled.{ALL_LOGS, client_of_log, log_number_at}
 use Rattle.pud_defs.specs.SoundTables.{HasSoundTables}
 use Rattle.pud_defs.specs.Spaces.{space_record_at, is_closed_log, has_closed_logs, are_closed_logs}
-use Rattle.pud_defs.specs.Tables.{Tables, tables_of, puddles_in_turn}
+use Rattle.pud_defs.specs.Tables.{Tables, tables_of}
 use Rattle.pud_defs.specs.World.{StoredWorld, idle_world_of}
 use Rattle.pud_defs.proofs.IdleWorlds.{standing_logs, standing_of_idle_world, idle_world_of_standing, legal_log_of_idle_world}
 use Rattle.pud_defs.proofs.LogsBeside.{agree_tables}
@@ -25,7 +25,7 @@ use Rattle.pud_defs.proofs.TablesOf.{tables_of-same}
 use Rattle.word_transaction.specs.Running.{HasPlaces}
 use Rattle.pud_defs.proofs.ClosedLogs.{closed_by_gate}
 use Rattle.hybrid_tx.specs.Grounds.{pool_mine, pool_ground}
-use Rattle.hybrid_tx.specs.Masks.{OpenPool, is_open_record, open_mask, IsOpenPool}
+use Rattle.hybrid_tx.specs.Masks.{OpenPool, is_open_record, open_mask, ArePuddlesOf, IsOpenPool}
 use Rattle.hybrid_tx.specs.ManyOpen.{OpenTransaction, Opens, AreOpenPools, HasRecords, MasksAll}
 use Rattle.hybrid_tx.proofs.OpenMasks.{mask_of_log, mask_of_gate, mask_cases, mask_below}
 use Rattle.hybrid_tx.proofs.OpenSettled.{other_log_apart}
@@ -159,7 +159,7 @@ IsOpenPool-same F p before after same opened =
       known = opened.known;
       slot = opened.slot;
       used = ap (λ (t : Tables). t.pools p.slot) tables ∙ opened.used;
-      at = ap (λ (t : Tables). puddles_in_turn t p.slot) tables ∙ opened.at;
+      puddles = subst (λ (t : Tables). ArePuddlesOf t p.slot p.at) (sym tables) opened.puddles;
       owned = owner_of-same after before (client_of_log p.number) (omega arith) (λ k low high. same k (omega arith) (omega arith)) ∙ opened.owned;
       right = opened.right;
     }

@@ -15,17 +15,15 @@ use Rattle.pud_defs.specs.SoundTables.{HasSoundTables}
 use Rattle.pud_defs.specs.Spaces.{space_record_at, owner_by, owner_of}
 use Rattle.pud_defs.specs.Stored.{IsOnDevice}
 use Rattle.pud_defs.specs.Tables.{tables_of, puddles_in_turn}
-use Rattle.pud_defs.proofs.PuddlesListed.{puddles_in_turn-on_device}
 use Rattle.pud_defs.proofs.TablesOf.{pools_below, puddles_below, frames_of_tables, pool_at-same, puddle_at-same}
 use Rattle.word_transaction.specs.Ground.{IsGround}
 use Rattle.word_transaction.specs.Running.{SettlesTo, HasPlaces}
 use Rattle.hybrid_tx.specs.Grounds.{pool_ground, IsPlaced}
-use Rattle.hybrid_tx.specs.Masks.{OpenPool, is_in_pool_record, is_in_space_record, is_in_puddle_record, is_open_record, IsOpenPool}
+use Rattle.hybrid_tx.specs.Masks.{OpenPool, is_in_pool_record, is_in_space_record, is_in_puddle_record, is_open_record, ArePuddlesOf, IsOpenPool}
 use Rattle.hybrid_tx.proofs.OpenSettled.{GivesOwn}
 use Rattle.hybrid_tx.proofs.OwnEntries.{new_value_placed, new_value_own}
 use Rattle.hybrid_tx.proofs.PoolGrounds.{all_there, element_passes, is_ground}
-use Rattle.pud_defs.proofs.PoolMembers.{HasMembers, members_in_turn, HasMembers-same}
-use Rattle.hybrid_tx.proofs.PoolPlaces.{placed_of_members, places_of_members, placed_in_turn}
+use Rattle.hybrid_tx.proofs.PoolPlaces.{ArePuddlesOf-same, on_device_of_puddles, placed_of_puddles, places_of_puddles, placed_in_turn}
 use Rattle.hybrid_tx.proofs.Rights.{MayWritePool, own_log_allowed}
 
 -- ---- words of records
@@ -54,19 +52,18 @@ module _ (p : OpenPool) (k : ℕ) where
 
 -- the puddles lie in frames of the device
 pub open_on_device : (F : ℕ) (p : OpenPool) (before : Image) → IsOpenPool F p before → IsOnDevice F p.at
-open_on_device F p before opened =
-    subst (λ at. IsOnDevice F at) opened.at
-    (subst (λ (n : ℕ). IsOnDevice n (puddles_in_turn (tables_of F before) p.slot)) (frames_of_tables F before) (puddles_in_turn-on_device (tables_of F before) p.slot))
+open_on_device F p before opened = subst (λ (n : ℕ). IsOnDevice n p.at) (frames_of_tables F before) (on_device_of_puddles (tables_of F before) p.slot p.at opened.puddles)
 
 -- in any image that has them as they were at the beginning
 module _ (F : ℕ) (p : OpenPool) (before image : Image) (opened : IsOpenPool F p before) (records : (k : ℕ) → is_open_record p k ≡ true → image k ≡ before k) where
-  pub open_members : HasMembers (tables_of F image) p.slot p.at
-  open_members =
-      HasMembers-same (tables_of F before) (tables_of F image) p.slot p.at (frames_of_tables F before ∙ sym (frames_of_tables F image))
-      (λ o e there.
-      let below = all_there (λ (d : ℕ × Puddle). d.0 < F) p.at o e (open_on_device F p before opened).frames there in
-      puddles_below F image e.0 below ∙ puddle_at-same image before e.0 (λ k low high. records k (of_puddle_record p k o e there low high)) ∙ sym (puddles_below F before e.0 below))
-      (subst (λ at. HasMembers (tables_of F before) p.slot at) opened.at (members_in_turn (tables_of F before) p.slot))
+  -- its puddles are puddles of the pool
+  pub open_puddles : ArePuddlesOf (tables_of F image) p.slot p.at
+  open_puddles =
+      ArePuddlesOf-same (tables_of F before) (tables_of F image) p.slot p.at (frames_of_tables F before ∙ sym (frames_of_tables F image))
+      (λ i e there.
+      let below = all_there (λ (d : ℕ × Puddle). d.0 < F) p.at i e (open_on_device F p before opened).frames there in
+      puddles_below F image e.0 below ∙ puddle_at-same image before e.0 (λ k low high. records k (of_puddle_record p k i e there low high)) ∙ sym (puddles_below F before e.0 below))
+      opened.puddles
 
   open_writable : MayWritePool (tables_of F image) p.slot p.who
   open_writable = record {
@@ -89,14 +86,13 @@ module _ (F : ℕ) (p : OpenPool) (before image : Image) (opened : IsOpenPool F 
     pub open_placed : IsPlaced F p.at
     open_placed =
         subst (λ (n : ℕ). IsPlaced n p.at) (frames_of_tables F image)
-        (placed_of_members next (tables_of F image) sound p.slot p.at open_members
-        (subst (λ (n : ℕ). IsOnDevice n p.at) (sym (frames_of_tables F image)) (open_on_device F p before opened)))
+        (placed_of_puddles next (tables_of F image) sound p.slot p.at open_puddles)
 
     -- whose places are those of the tables
     pub open_places : HasPlaces (pool_ground F p.at) (puddle_word (tables_of F image))
     open_places =
         subst (λ (n : ℕ). HasPlaces (pool_ground n p.at) (puddle_word (tables_of F image))) (frames_of_tables F image)
-        (places_of_members next (tables_of F image) sound p.slot p.at open_members)
+        (places_of_puddles next (tables_of F image) sound p.slot p.at open_puddles)
 
     open_ground : IsGround (device_words F) (log_number_at F p.number) (pool_ground F p.at)
     open_ground = let few = opened.known in is_ground F (device_words F) (log_number_at F p.number) p.at open_placed (omega arith) (omega arith)
@@ -108,7 +104,7 @@ module _ (F : ℕ) (p : OpenPool) (before image : Image) (opened : IsOpenPool F 
         let same = λ (w : ℕ). new_value_placed (pool_ground F p.at) (puddle_word (tables_of F image)) log open_places s.es w s.spells s.own in
         record {
           owned = open_owned;
-          allowed = own_log_allowed next (tables_of F image) sound p.slot p.at open_members p.who open_writable F log s.es s.spells s.own;
+          allowed = own_log_allowed next (tables_of F image) sound p.slot p.at open_puddles p.who open_writable F log s.es s.spells s.own;
           own = λ w v is. new_value_own (device_words F) (log_number_at F p.number) (pool_ground F p.at) log open_ground w v s.es s.spells s.own (sym (same w) ∙ is);
           settled = λ w mine. ap (λ (o : Option ℕ). unwrap_or o (image w)) (same w) ∙ s.settled w mine;
         }

@@ -17,9 +17,11 @@ use Rattle.pud_defs.specs.SoundTables.{HasSoundTables}
 use Rattle.pud_defs.specs.Spaces.{Owner, owner}
 use Rattle.pud_defs.specs.Tables.{Tables}
 use Rattle.hybrid_tx.specs.Grounds.{pool_ground}
+use Rattle.hybrid_tx.specs.Masks.{IsPuddleOf, ArePuddlesOf}
 use Rattle.hybrid_tx.proofs.PoolGrounds.{IsNamed, pool_may-named}
 use Rattle.hybrid_tx.proofs.OwnEntries.{IsOwnInRange}
-use Rattle.pud_defs.proofs.PoolMembers.{IsMemberOf, HasMembers, located_of_member}
+use Rattle.pud_defs.proofs.PoolMembers.{located_of_member}
+use Rattle.hybrid_tx.proofs.PoolPlaces.{as_member}
 
 -- The pool of the slot is there, and its mode lets this owner write it.
 pub record MayWritePool (t : Tables) (slot : ℕ) (who : Owner) : Type 0 where
@@ -27,10 +29,10 @@ pub record MayWritePool (t : Tables) (slot : ℕ) (who : Owner) : Type 0 where
   pub used : t.pools slot ≡ Some rec
   pub right : may_write rec.mode (owner rec.uid rec.gid) who ≡ true
 
-module _ (next : ℕ) (t : Tables) (sound : HasSoundTables next t) (slot : ℕ) (at : List (ℕ × Puddle)) (has : HasMembers t slot at) (who : Owner) (may : MayWritePool t slot who) where
+module _ (next : ℕ) (t : Tables) (sound : HasSoundTables next t) (slot : ℕ) (at : List (ℕ × Puddle)) (are : ArePuddlesOf t slot at) (who : Owner) (may : MayWritePool t slot who) where
   -- so it may write each puddle of the pool
-  may_write_member : (o : ℕ) (e : ℕ × Puddle) → IsMemberOf t slot o e → may_write_puddle t who (t.puddles e.0) ≡ true
-  may_write_member o e is =
+  may_write_one : (e : ℕ × Puddle) → IsPuddleOf t slot e → may_write_puddle t who (t.puddles e.0) ≡ true
+  may_write_one e is =
       let pool = is.pool in
       let here : is.member.pool - 1 ≡ slot = omega arith in
       ap (may_write_puddle t who) is.used
@@ -41,15 +43,15 @@ module _ (next : ℕ) (t : Tables) (sound : HasSoundTables next t) (slot : ℕ) 
   allowed_named : (e : Entry) → IsNamed at e.address (length e.vals) → is_allowed_entry t who e ≡ true
   allowed_named e named =
       let d = named.puddle in
-      let is = has.each named.ordinal d named.there in
+      let is = are.each named.ordinal d named.there in
       let low = named.low in
       let high = named.high in
       let some = named.some in
       and_from (eqb (e.address % WORD_BYTES) 0) (are_writable t who (length e.vals) (located t e.address)) (eq-eqb (e.address % WORD_BYTES) 0 named.aligned)
-      (ap (are_writable t who (length e.vals)) (located_of_member next t sound slot named.ordinal d is e.address low (omega arith))
+      (ap (are_writable t who (length e.vals)) (located_of_member next t sound slot is.member.ordinal d (as_member t slot d is) e.address low (omega arith))
       ∙ and_from (leb ((e.address - d.1.base) / WORD_BYTES + length e.vals) FRAME_WORDS) (may_write_puddle t who (t.puddles d.0))
       (le-leb _ _ (let few : (e.address - d.1.base) / WORD_BYTES + length e.vals ≤ FRAME_WORDS = omega arith in few))
-      (may_write_member named.ordinal d is))
+      (may_write_one d is))
 
   all_own_allowed : (F : ℕ) (log : Log) (es : List Entry) → All (IsOwnInRange (pool_ground F at) log) es → list_all (λ e. not (is_in_range log e) || is_allowed_entry t who e) es ≡ true
   all_own_allowed F log [] own = refl
@@ -64,4 +66,4 @@ module _ (next : ℕ) (t : Tables) (sound : HasSoundTables next t) (slot : ℕ) 
   -- and a log whose entries in range are the transaction's is allowed
   pub own_log_allowed : (F : ℕ) (log : Log) (es : List Entry) → log.entries ≡ Some es → All (IsOwnInRange (pool_ground F at) log) es → is_allowed_log t who log ≡ true
   unfolding is_allowed_log
-  own_log_allowed F log es are own = ap (are_allowed_entries t who log) are ∙ all_own_allowed F log es own
+  own_log_allowed F log es spells own = ap (are_allowed_entries t who log) spells ∙ all_own_allowed F log es own

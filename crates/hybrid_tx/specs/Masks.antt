@@ -1,10 +1,10 @@
 -- The words of an open transaction on a pool, with their values from its beginning.
-use Rattle.std.specs.Prelude.{◌≡◌, ℕ, ◌+◌, ◌<◌, Bool, true, ◌&&◌, ◌||◌, nat_le, nat_lt, ◌==◌, cond, List, Some, None}
+use Rattle.std.specs.Prelude.{◌≡◌, ℕ, ◌+◌, ◌<◌, ◌≤◌, Bool, true, ◌&&◌, ◌||◌, nat_le, nat_lt, ◌==◌, cond, List, length, slice_get, Some, None}
 use Rattle.std.specs.List.{list_any}
 use Rattle.pm_model.specs.Changes.{Write}
 use Rattle.pud_defs.specs.declared.layout.TheConstants.{DAEMON_LOG}
 use Rattle.pud_defs.specs.declared.log_words.TheConstants.{CLOSED_GATE}
-use Rattle.pud_defs.specs.declared.records.TheConstants.{POOL_RECORDS}
+use Rattle.pud_defs.specs.declared.records.TheConstants.{POOL_RECORDS, MAX_PUDDLES}
 use Rattle.pud_defs.specs.declared.records.PoolRec.{PoolRec}
 use Rattle.pud_defs.specs.declared.records.Puddle.{Puddle}
 use Rattle.pud_defs.specs.Image.{Image}
@@ -13,14 +13,15 @@ use Rattle.pud_defs.specs.Replay.{device_word, new_value, is_in_log}
 use Rattle.pud_defs.specs.Rights.{may_write}
 use Rattle.pud_defs.specs.Spaces.{Owner, owner, space_record_at, owner_of}
 use Rattle.pud_defs.specs.Pools.{pool_record_at}
-use Rattle.pud_defs.specs.Puddles.{puddle_record_at}
-use Rattle.pud_defs.specs.Tables.{tables_of, puddles_in_turn}
+use Rattle.pud_defs.specs.Puddles.{Member, puddle_record_at}
+use Rattle.pud_defs.specs.Tables.{Tables, tables_of}
 use Rattle.pud_defs.specs.Settled.{ALL_LOGS, client_of_log, log_number_at}
+use Rattle.graph_laws.specs.Reads.{HasDistinctFrames}
 use Rattle.word_transaction.specs.Running.{SettlesTo}
 use Rattle.hybrid_tx.specs.Grounds.{pool_mine, pool_ground}
 
--- Where a transaction is open: the slot and the record of its pool; the pool's puddles by their ordinals, each with its frame; the number of its
--- log among those of all clients; and as whom its client acts.
+-- Where a transaction is open: the slot and the record of its pool; the puddles of the pool whose words are its own, each with its frame; the number
+-- of its log among those of all clients; and as whom its client acts.
 pub record OpenPool : Type 0 where
   pub slot : ℕ
   pub rec : PoolRec
@@ -56,12 +57,26 @@ open_mask F p before k =
 
 -- ---- what is known of it
 
--- By this image of its beginning the pool is one of the device with these puddles, the log is registered, and its owner may write the pool.
+-- This is a puddle of the pool of the slot, in its frame: so the used record of the frame says, whatever its place in the pool.
+pub record IsPuddleOf (t : Tables) (slot : ℕ) (e : ℕ × Puddle) : Type 0 where
+  pub below : e.0 < t.frames
+  pub member : Member
+  pub used : t.puddles e.0 ≡ Some member
+  pub pool : member.pool ≡ slot + 1
+  pub puddle : member.puddle ≡ e.1
+
+-- These are puddles of the pool of the slot, no two of them in one frame.
+pub record ArePuddlesOf (t : Tables) (slot : ℕ) (at : List (ℕ × Puddle)) : Type 0 where
+  pub few : length at ≤ MAX_PUDDLES
+  pub each : (i : ℕ) (e : ℕ × Puddle) → slice_get at i ≡ Some e → IsPuddleOf t slot e
+  pub apart : HasDistinctFrames at
+
+-- By this image of its beginning the pool is one of the device, these are puddles of it, the log is registered, and its owner may write the pool.
 pub record IsOpenPool (F : ℕ) (p : OpenPool) (before : Image) : Type 0 where
   pub known : p.number < ALL_LOGS
   pub slot : p.slot < POOL_RECORDS
   pub used : (tables_of F before).pools p.slot ≡ Some p.rec
-  pub at : puddles_in_turn (tables_of F before) p.slot ≡ p.at
+  pub puddles : ArePuddlesOf (tables_of F before) p.slot p.at
   pub owned : owner_of before (client_of_log p.number) ≡ Some p.who
   pub right : may_write p.rec.mode (owner p.rec.uid p.rec.gid) p.who ≡ true
 
