@@ -9,8 +9,9 @@ use Rattle.pud_defs.specs.Keyed.{keyed, first_from, are_distinct}
 use Rattle.pud_defs.specs.Stored.{Stored}
 use Rattle.pud_defs.specs.Graph.{At, over_old, place_in, target, is_graph, headers_fit, graph_of, Graph}
 use Rattle.pud_defs.specs.Frames.{frame_at}
-use Rattle.graph_laws.specs.Rewriting.{rewritten, moved_to, is_passed, passes_root, advanced}
-use Rattle.graph_laws.specs.Steps.{passed_word, with_passed, frontier_word, steps_write, with_steps}
+use Rattle.pud_defs.specs.Puddles.{moved_to, frontier_word}
+use Rattle.graph_laws.specs.Rewriting.{rewritten, is_passed, passes_root, advanced}
+use Rattle.graph_laws.specs.Steps.{passed_word, with_passed, steps_write, with_steps}
 
 -- what a graph is read by
 unfoldable opened : Unit {0}

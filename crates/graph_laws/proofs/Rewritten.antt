@@ -16,7 +16,8 @@ use Rattle.pud_defs.specs.Spaces.{all_below}
 use Rattle.pud_defs.proofs.Spaces.{all_below-same}
 use Rattle.pud_defs.proofs.Graphs.{graph_of-each}
 use Rattle.graph_laws.specs.Changes.{AreBases}
-use Rattle.graph_laws.specs.Rewriting.{rewritten, rewritten_field, moved_to, with_some_puddle, with_frontier, advanced, passes_slot, is_passed, passes_root, RewritesSteps, anywhere, LeadSomewhere}
+use Rattle.pud_defs.specs.Puddles.{moved_to}
+use Rattle.graph_laws.specs.Rewriting.{rewritten, rewritten_field, with_some_puddle, with_frontier, advanced, passes_slot, is_passed, passes_root, RewritesSteps, anywhere, LeadSomewhere}
 use Rattle.graph_laws.proofs.Words.{contents_by-each, has_header-same}
 use Rattle.graph_laws.proofs.Pointers.{target-address}
 use Rattle.graph_laws.proofs.Same.{StandsSame, graph_of-same, list_all-range_each}

@@ -5,6 +5,7 @@ use Rattle.pud_defs.specs.declared.records.Puddle.{Puddle}
 use Rattle.pud_defs.specs.TypeMap.{is_pointer}
 use Rattle.pud_defs.specs.Geometry.{ordinal_of, slot_of}
 use Rattle.pud_defs.specs.Types.{map_of}
+use Rattle.pud_defs.specs.Puddles.{moved_to}
 use Rattle.pud_defs.specs.Stored.{Stored, places_of, place_word, IsLivePlace}
 use Rattle.pud_defs.specs.Graph.{target, over_old, content, field_count, stands, root_of}
 use Rattle.pud_defs.specs.Exported.{address_of}
@@ -21,10 +22,6 @@ abbrev pub rewritten_field : List Puddle → (map field v : ℕ) → ℕ
 rewritten_field puddles map field v = cond (is_pointer map field) (rewritten puddles v) v
 
 -- ---- frontiers
-
--- the puddle with another frontier
-abbrev pub moved_to : ℕ → Puddle → Puddle
-moved_to n d = record { number = d.number; base = d.base; old_base = d.old_base; frontier = n }
 
 -- the puddles with this one at an ordinal, where there is one
 abbrev pub with_some_puddle : ℕ → Option Puddle → List Puddle → List Puddle

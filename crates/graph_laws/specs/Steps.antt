@@ -2,17 +2,16 @@
 use Rattle.std.specs.Prelude.{ℕ, ◌+◌, ◌-◌, ◌/◌, ◌%◌, Bool, ◌&&◌, nat_le, nat_lt, ◌==◌, cond, List, map, set, Option, Some, None, unwrap_or}
 use Rattle.pud_defs.specs.declared.layout.TheConstants.{FRAME_WORDS}
 use Rattle.pud_defs.specs.declared.space.TheConstants.{FRAME_HEADER_WORDS, ROOT_WORD, SLOT_SERIAL_WORD, SLOT_TYPE_WORD, SLOT_FIELDS_WORD}
-use Rattle.pud_defs.specs.declared.records.TheConstants.{PUDDLE_FRONTIER_WORD}
 use Rattle.pud_defs.specs.declared.records.Puddle.{Puddle}
 use Rattle.pud_defs.specs.TypeMap.{is_pointer}
 use Rattle.pud_defs.specs.Geometry.{puddle_slot_words, puddle_slot_at}
 use Rattle.pud_defs.specs.Image.{Image}
 use Rattle.pud_defs.specs.Frames.{frame_at}
-use Rattle.pud_defs.specs.Puddles.{puddle_record_at}
+use Rattle.pud_defs.specs.Puddles.{moved_to, frontier_word}
 use Rattle.pud_defs.specs.Types.{map_of}
 use Rattle.pud_defs.specs.Stored.{Stored, stored_in, slot_state}
 use Rattle.pud_defs.specs.Graph.{field_count}
-use Rattle.graph_laws.specs.Rewriting.{rewritten, moved_to, passes_slot, passes_root}
+use Rattle.graph_laws.specs.Rewriting.{rewritten, passes_slot, passes_root}
 
 -- ---- the words of a frame
 
@@ -49,10 +48,6 @@ abbrev pub with_passed : List (ℕ × ℕ) → Stored → (o n m : ℕ) → ℕ 
 with_passed types st o n m q k = cond (q == o) (unwrap_or (passed_word types st.puddles (st.word o) o n m k) (st.word q k)) (st.word q k)
 
 -- ---- the words of a device
-
--- the word that holds the frontier of the puddle in a frame
-abbrev pub frontier_word : (frame : ℕ) → ℕ
-frontier_word frame = puddle_record_at frame + PUDDLE_FRONTIER_WORD
 
 -- the word of the device lies in the frame
 abbrev pub is_in_frame : (F frame k : ℕ) → Bool

@@ -18,6 +18,7 @@ pub mod Exportable
 pub mod RecordsPlaced
 pub mod PoolsCounted
 pub mod PuddlesListed
+pub mod FrontiersMoved
 pub mod Images
 pub mod TypeLists
 pub mod TypeTable

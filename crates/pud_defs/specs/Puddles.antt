@@ -30,6 +30,18 @@ pub record Member : Type 0 where
   pub ordinal : ℕ
   pub puddle : Puddle
 
+-- the puddle with another frontier
+abbrev pub moved_to : ℕ → Puddle → Puddle
+moved_to n d = record { number = d.number; base = d.base; old_base = d.old_base; frontier = n }
+
+-- the record of the puddle with another frontier
+abbrev pub member_moved : ℕ → Member → Member
+member_moved n m = record { pool = m.pool; ordinal = m.ordinal; puddle = moved_to n m.puddle }
+
+-- the word that holds the frontier of the puddle in a frame
+abbrev pub frontier_word : (frame : ℕ) → ℕ
+frontier_word frame = puddle_record_at frame + PUDDLE_FRONTIER_WORD
+
 -- The record of these five words, where it is used.
 unfoldable pub puddle_by : (w0 w1 w2 w3 w4 : ℕ) → Option Member
 puddle_by w0 w1 w2 w3 w4 =

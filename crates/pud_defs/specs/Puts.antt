@@ -1,12 +1,13 @@
 -- The words that change one record of the pool table or of the puddle table, and what they make of the tables.
-use Rattle.std.specs.Prelude.{ℕ, ◌+◌, ◌-◌, Bool, ◌&&◌, nat_le, nat_lt, ◌==◌, cond, List, [], ◌∷◌, ◌++◌, length, slice_index, replicate, Option, Some, None, false}
+use Rattle.std.specs.Prelude.{ℕ, ◌+◌, ◌-◌, Bool, ◌&&◌, nat_le, nat_lt, ◌==◌, cond, List, [], ◌∷◌, ◌++◌, length, slice_index, replicate, Option, Some, None, option_map, false}
 use Rattle.pud_defs.specs.declared.records.TheConstants.{POOL_MODE_WORD}
 use Rattle.pud_defs.specs.declared.records.PoolRec.{PoolRec}
+use Rattle.pud_defs.specs.declared.records.Puddle.{Puddle}
 use Rattle.pud_defs.specs.declared.records.PuddleRec.{PuddleRec}
 use Rattle.pud_defs.specs.declared.records.Put.{Put}
 use Rattle.pud_defs.specs.Image.{Image}
 use Rattle.pud_defs.specs.Pools.{pool_record_at, pool_words}
-use Rattle.pud_defs.specs.Puddles.{Member, puddle_record_at, puddle_words}
+use Rattle.pud_defs.specs.Puddles.{Member, moved_to, member_moved, puddle_record_at, puddle_words}
 use Rattle.pud_defs.specs.Tables.{Tables}
 
 -- these values from a word on, eight at most
@@ -48,6 +49,14 @@ with_pool_at slot now t = record { frames = t.frames; pools = changed_at slot no
 -- the tables with the puddle record of a frame changed
 abbrev pub with_puddle_at : ℕ → Option Member → Tables → Tables
 with_puddle_at frame now t = record { frames = t.frames; pools = t.pools; puddles = changed_at frame now t.puddles }
+
+-- the tables with another frontier in the record of a frame, where it is used
+abbrev pub with_frontier_at : (frame n : ℕ) → Tables → Tables
+with_frontier_at frame n t = with_puddle_at frame (option_map (member_moved n) (t.puddles frame)) t
+
+-- a puddle, given with its frame, with another frontier where it is the one in this frame
+abbrev pub moved_in : (frame n : ℕ) → ℕ × Puddle → ℕ × Puddle
+moved_in frame n e = cond (e.0 == frame) (e.0, moved_to n e.1) e
 
 -- the record with this mode, where it is used
 abbrev pub with_mode : ℕ → Option PoolRec → Option PoolRec
