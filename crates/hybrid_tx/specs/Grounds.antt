@@ -50,7 +50,7 @@ pool_ground F at = record { place = pool_place F at; may = pool_may at; mine = p
 
 -- ---- how puddles lie
 
--- Puddles of one pool by their ordinals: in frames of the device, no two in one, with ranges of the space, no two of which meet.
+-- Puddles of one pool: in frames of the device, no two in one, with ranges of the space, no two of which meet.
 pub record IsPlaced (F : ℕ) (at : List (ℕ × Puddle)) : Type 0 where
   pub on_device : IsOnDevice F at
   pub frames : HasDistinctFrames at

@@ -1,6 +1,3 @@
 pub mod Grounds
-pub mod ManyOpen
-pub mod Masks
-pub mod Stores
-pub mod Laters
-pub mod Transactions
+pub mod Objects
+pub mod Open

@@ -1,19 +1,18 @@
 //! What a transaction changes of objects: a field or the root is set, and an object is made or freed.
 #![tactic(auto)]
 
-ghost use Rattle.std.specs.Prelude.{◌≡◌, ◌⊎◌, ◌+◌, ◌*◌, ◌<◌, ◌≤◌, ℕ, List, [], ◌∷◌, true, false, All, Option, Result, IfOk, IfSome, OnErr, length};
+ghost use Rattle.std.specs.Prelude.{◌≡◌, ◌⊎◌, ◌+◌, ◌<◌, ◌≤◌, ℕ, List, [], ◌∷◌, true, false, All, Option, IfOk, IfSome, length};
 ghost use Rattle.pm_model.specs.Words.{reads};
 ghost use Rattle.pm_model.specs.Counts.{after_fault, fault_of};
 ghost use Rattle.pm_model.specs.Reads.{OnlyReads};
 ghost use Rattle.pm_model.specs.Changes.{placed, Changes};
 ghost use Rattle.pud_defs.specs.declared.layout.TheConstants.{LOG_WORDS, LOG_ENTRY_WORDS, MAX_FRAMES, MAX_FIELDS, NUMBER_LIMIT, SET_UNITS, NEW_UNITS};
-ghost use Rattle.pud_defs.specs.declared.space.TheConstants.{SLOT_SERIAL_WORD};
 ghost use Rattle.pud_defs.specs.Image.{Image};
 ghost use Rattle.pud_defs.specs.Layout.{device_words, frames_at};
 ghost use Rattle.pud_defs.specs.Bases.{is_legal_base};
 ghost use Rattle.pud_defs.specs.Types.{map_of};
 ghost use Rattle.pud_defs.specs.Entries.{Entry};
-ghost use Rattle.pud_defs.specs.Stored.{IsOnDevice, stored_in, place_word, IsFreePlace};
+ghost use Rattle.pud_defs.specs.Stored.{IsOnDevice, stored_in, IsFreePlace};
 ghost use Rattle.pud_defs.specs.Graph.{Graph, graph_of};
 ghost use Rattle.pud_defs.specs.GraphChanges.{with_field, with_new, blank_object, without_object, with_root};
 ghost use Rattle.graph_laws.specs.Slots.{AreAllLive, IsLowestFreeSlot};
@@ -23,8 +22,8 @@ ghost use Rattle.object_alloc.specs.Alloc.{serial_word_at};
 ghost use Rattle.word_transaction.specs.Running.{ByTransaction};
 ghost use Rattle.hybrid_tx.specs.Grounds.{pool_ground, IsPlaced, IsRewrittenAt};
 ghost use Rattle.pud_defs.specs.Laters.{Later, laters_name};
-ghost use Rattle.hybrid_tx.specs.Stores.{address_at, word_for, IsPlaceAndWord, LacksPlaceOrWord, new_words};
-ghost use Rattle.hybrid_tx.specs.Transactions.{MayName, MaySet, IsRewrittenFor, MayFree, IsSaving, IsOpenOn, Saves, RunsOn, MakesIn};
+ghost use Rattle.hybrid_tx.specs.Objects.Stores.{address_at, word_for, IsPlaceAndWord, LacksPlaceOrWord, new_words};
+ghost use Rattle.hybrid_tx.specs.Objects.Transactions.{MayName, MaySet, IsRewrittenFor, MayFree, IsSaving, IsOpenOn, Saves, RunsOn, MakesIn};
 
 use crate::Tx;
 use graph_read::find_serial;
@@ -106,7 +105,7 @@ pub fn place_and_word<H: Host>(
 }
 
 /// The words of a slot that holds a new object of type `t`: its serial, its type, and 0 in each field.
-#[tactic(auto, unfolding(crate::specs::Stores::new_words))]
+#[tactic(auto, unfolding(crate::specs::Objects::Stores::new_words))]
 fn new_words(serial: u64, t: u32) -> [u64; MAX_SLOT_WORDS as usize]
     ensures { result ≡ new_words serial t }
 {

@@ -1,7 +1,7 @@
 //! How a transaction ends: committed, undone, or lost.
 #![tactic(auto)]
 
-ghost use Rattle.std.specs.Prelude.{◌≡◌, ◌≢◌, ◌+◌, ◌≤◌, ℕ, List, [], All, false, Option};
+ghost use Rattle.std.specs.Prelude.{◌≡◌, ◌≢◌, ◌+◌, ◌≤◌, ℕ, List, [], All, false};
 ghost use Rattle.pm_model.specs.Words.{reads};
 ghost use Rattle.pm_model.specs.Counts.{after_fault, fault_of};
 ghost use Rattle.pm_model.specs.Changes.{Changes};
@@ -14,12 +14,11 @@ ghost use Rattle.pud_defs.specs.Tables.{tables_of};
 ghost use Rattle.pud_defs.specs.Allowed.{puddle_word};
 ghost use Rattle.pud_defs.specs.Graph.{Graph};
 ghost use Rattle.pud_defs.specs.Laters.{Later, with_laters};
-ghost use Rattle.log_store.specs.Store.{IsOpen};
+ghost use Rattle.log_store.specs.Store.{IsOpen, asks};
 ghost use Rattle.log_replay.specs.Replaying.{HasPuddleTable, Anything};
-ghost use Rattle.word_transaction.specs.Ground.{asks};
 ghost use Rattle.word_transaction.specs.Running.{ByCommit, HasPlaces, HasOneTable, CanRedo};
 ghost use Rattle.hybrid_tx.specs.Grounds.{pool_ground, IsPlaced};
-ghost use Rattle.hybrid_tx.specs.Transactions.{IsRewrittenFor, IsOpenOn, ClosesOn, EndsOn};
+ghost use Rattle.hybrid_tx.specs.Objects.Transactions.{IsRewrittenFor, IsOpenOn, ClosesOn, EndsOn};
 
 use crate::Tx;
 use pm_model::{Host, HostFault};
@@ -36,8 +35,8 @@ impl Tx {
     /// when all that was changed was durable, and before any value that was asked for was given. The only errors are the host's
     /// own.
     ///
-    /// It reads the log's entries up to the first that asks for a value. Where there is none the only word written is the log's
-    /// gate, and it takes three fences; else the loads of a replay, and four fences.
+    /// Where no value is asked for later it takes no load, the only word written is the log's gate, and it takes three fences; else
+    /// the loads of a replay, and four fences.
     pub fn commit<H: Host>(self, h: &mut H, frames: u32) -> Result<(), HostFault>
         requires log { self.log.at + LOG_WORDS ≤ (H.counts h.old).size }
         requires tables { HasPuddleTable frames (H.counts h.old).size }

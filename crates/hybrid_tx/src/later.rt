@@ -1,7 +1,7 @@
 //! What is asked for within a transaction and comes when it is committed: values of fields, and whether one names an object.
 #![tactic(auto)]
 
-ghost use Rattle.std.specs.Prelude.{◌≡◌, ◌≢◌, ◌⊎◌, ◌+◌, ◌*◌, ◌<◌, ◌≤◌, ◌++◌, ◌∷◌, [], ℕ, List, true, false, All, map, Option, Result, IfOk, IfSome, OnErr, length};
+ghost use Rattle.std.specs.Prelude.{◌≡◌, ◌≢◌, ◌⊎◌, ◌+◌, ◌<◌, ◌≤◌, ◌++◌, ◌∷◌, [], ℕ, List, true, false, All, map, Option, IfOk, IfSome, length};
 ghost use Rattle.pm_model.specs.Words.{reads};
 ghost use Rattle.pm_model.specs.Counts.{after_fault, fault_of};
 ghost use Rattle.pm_model.specs.Reads.{OnlyReads};
@@ -22,9 +22,9 @@ ghost use Rattle.graph_laws.specs.Changes.{AreBases};
 ghost use Rattle.puddle_header.specs.Places.{place_of_slot, IsSlotOf};
 ghost use Rattle.graph_read.specs.Reading.{place_in_pool};
 ghost use Rattle.hybrid_tx.specs.Grounds.{IsPlaced};
-ghost use Rattle.hybrid_tx.specs.Laters.{IsFieldAddress, IsFieldOf};
-ghost use Rattle.hybrid_tx.specs.Stores.{address_at, word_for};
-ghost use Rattle.hybrid_tx.specs.Transactions.{MaySet, IsLater, IsOpenOn, RunsOn};
+ghost use Rattle.hybrid_tx.specs.Objects.Laters.{IsFieldAddress, IsFieldOf};
+ghost use Rattle.hybrid_tx.specs.Objects.Stores.{address_at, word_for};
+ghost use Rattle.hybrid_tx.specs.Objects.Transactions.{MaySet, IsLater, IsOpenOn, RunsOn};
 
 use crate::Tx;
 use crate::changing::{place_and_word, slot_address};

@@ -1,10 +1,10 @@
 //! The laws. Each function here does nothing; its contract is the law.
 
-ghost use Rattle.std.specs.Prelude.{◌≡◌, ◌+◌, ◌*◌, ◌<◌, ◌≤◌, ℕ, false, List, [], ◌∷◌, All, slice_get, Option};
+ghost use Rattle.std.specs.Prelude.{◌≡◌, ◌+◌, ◌<◌, ◌≤◌, ℕ, false, List, [], ◌∷◌, All, slice_get, Option};
 ghost use Rattle.pm_model.specs.Moments.{State};
 ghost use Rattle.pm_model.specs.Changes.{placed};
 ghost use Rattle.pud_defs.specs.declared.layout.TheConstants.{LOG_WORDS, NUMBER_LIMIT};
-ghost use Rattle.pud_defs.specs.declared.space.TheConstants.{ROOT_WORD, SLOT_SERIAL_WORD};
+ghost use Rattle.pud_defs.specs.declared.space.TheConstants.{ROOT_WORD};
 ghost use Rattle.pud_defs.specs.declared.records.Puddle.{Puddle};
 ghost use Rattle.pud_defs.specs.declared.records.Slot.{Slot};
 ghost use Rattle.pud_defs.specs.declared.objects.Val.{Val};
@@ -15,7 +15,7 @@ ghost use Rattle.pud_defs.specs.Image.{Image};
 ghost use Rattle.pud_defs.specs.Entries.{Entry, log_of};
 ghost use Rattle.pud_defs.specs.Frames.{frame_at};
 ghost use Rattle.pud_defs.specs.Replay.{overwritten, replayed};
-ghost use Rattle.pud_defs.specs.Stored.{stored_in, place_word, IsFreePlace};
+ghost use Rattle.pud_defs.specs.Stored.{stored_in, IsFreePlace};
 ghost use Rattle.pud_defs.specs.Graph.{Graph, graph_of, is_held, next_serial_of};
 ghost use Rattle.pud_defs.specs.GraphChanges.{with_field, with_new, blank_object, without_object, with_root};
 ghost use Rattle.pud_defs.specs.Laters.{Later, with_laters};
@@ -26,8 +26,8 @@ ghost use Rattle.log_store.specs.Store.{OpenLog};
 ghost use Rattle.word_transaction.specs.Ground.{IsGround, written_in_turn};
 ghost use Rattle.word_transaction.specs.Running.{SettlesTo};
 ghost use Rattle.hybrid_tx.specs.Grounds.{pool_place, pool_ground, IsPlaced, IsRewrittenAt};
-ghost use Rattle.hybrid_tx.specs.Stores.{word_for, field_word, making};
-ghost use Rattle.hybrid_tx.specs.Transactions.{MaySet, IsRewrittenFor, AreLaters, IsOpenOn, IsAtRest, RunsOn, ClosesOn, EndsOn};
+ghost use Rattle.hybrid_tx.specs.Objects.Stores.{word_for, field_word, making};
+ghost use Rattle.hybrid_tx.specs.Objects.Transactions.{MaySet, IsRewrittenFor, AreLaters, IsOpenOn, IsAtRest, RunsOn, ClosesOn, EndsOn};
 
 /// What the addresses of a pool's ranges name are words of its frames, none of which is one of a log before all frames.
 pub fn pools_are_grounds()

@@ -7,6 +7,9 @@
 //! The calls on objects take the number of the device's frames, at most 1,024, on a device that has the words which so many
 //! frames need, and the pool: the frames and the records of its puddles by their ordinals, at most 16. They answer on every
 //! content of the device; the only errors are the host's own.
+//!
+//! What is defined and proved lies in two rooms: `Objects` has the calls on objects and `laws`, `Open` what an image stands for
+//! that is left while pools have open transactions, and `open_laws`.
 #![tactic(auto)]
 
 mod changing;
@@ -31,7 +34,7 @@ pub struct Tx {
 impl Model for Tx {
     ghost use Rattle.std.specs.Prelude.{◌≤◌};
     ghost use Rattle.pud_defs.specs.declared.layout.TheConstants.{LOG_ENTRY_WORDS};
-    ghost use Rattle.hybrid_tx.specs.Transactions.{OpenTx};
+    ghost use Rattle.hybrid_tx.specs.Objects.Transactions.{OpenTx};
 
     ghost Value = { OpenTx };
 

@@ -25,9 +25,9 @@ ghost use Rattle.pud_defs.specs.World.{StoredWorld, world_of, idle_world_of};
 ghost use Rattle.log_store.specs.Store.{OpenLog};
 ghost use Rattle.word_transaction.specs.Running.{ByTransaction};
 ghost use Rattle.hybrid_tx.specs.Grounds.{pool_mine, pool_ground};
-ghost use Rattle.hybrid_tx.specs.Masks.{OpenPool, is_open_record, open_mask, IsLeftOpen};
-ghost use Rattle.hybrid_tx.specs.ManyOpen.{OpenTransaction, Opens, open_masks, AreOpenPools, HasRecords, AreLeftOpen, IsOneMore, MasksAll};
-ghost use Rattle.hybrid_tx.specs.Transactions.{IsOpenOn};
+ghost use Rattle.hybrid_tx.specs.Open.Masks.{OpenPool, is_open_record, open_mask, IsLeftOpen};
+ghost use Rattle.hybrid_tx.specs.Open.ManyOpen.{OpenTransaction, Opens, open_masks, AreOpenPools, HasRecords, AreLeftOpen, IsOneMore, MasksAll};
+ghost use Rattle.hybrid_tx.specs.Objects.Transactions.{IsOpenOn};
 
 /// A transaction on a pool stays open, with the same graphs and the same deferred values, beside calls that give no value to a word of its log or of
 /// the pool's frames, unless power is lost. Types may be defined meanwhile, by which each pool keeps the graph that it has.

@@ -1,7 +1,7 @@
 //! How a transaction begins, and how words of a pool's frames are given values within it.
 #![tactic(auto)]
 
-ghost use Rattle.std.specs.Prelude.{◌≡◌, ◌≢◌, ◌+◌, ◌*◌, ◌<◌, ◌≤◌, ◌++◌, ◌∷◌, [], ℕ, List, true, slice_get, Option, IfOk, OnErr, length};
+ghost use Rattle.std.specs.Prelude.{◌≡◌, ◌+◌, ◌*◌, ◌<◌, ◌≤◌, ◌++◌, ◌∷◌, [], ℕ, List, true, slice_get, Option, IfOk, length};
 ghost use Rattle.pm_model.specs.Words.{reads};
 ghost use Rattle.pm_model.specs.Counts.{after_fault, fault_of};
 ghost use Rattle.pm_model.specs.Changes.{only, placed, Changes, Persists};
@@ -16,12 +16,12 @@ ghost use Rattle.pud_defs.specs.Entries.{Entry, words_from};
 ghost use Rattle.pud_defs.specs.Settled.{ALL_LOGS, log_number_at};
 ghost use Rattle.pud_defs.specs.Stored.{IsOnDevice, stored_in};
 ghost use Rattle.pud_defs.specs.Graph.{Graph, graph_of};
-ghost use Rattle.log_store.specs.Store.{InLog, longer};
+ghost use Rattle.log_store.specs.Store.{InLog, longer, asking};
 ghost use Rattle.word_transaction.specs.Ground.{Ground, IsGround, undo_entry, redo_entry};
 ghost use Rattle.word_transaction.specs.Running.{IsRunning, IsIdle, nothing, begun, ByTransaction, Runs};
 ghost use Rattle.hybrid_tx.specs.Grounds.{pool_ground, IsPlaced};
-ghost use Rattle.hybrid_tx.specs.Stores.{ByPut};
-ghost use Rattle.hybrid_tx.specs.Transactions.{begun_tx, IsSaving, IsOpenOn, Saves};
+ghost use Rattle.hybrid_tx.specs.Objects.Stores.{ByPut};
+ghost use Rattle.hybrid_tx.specs.Objects.Transactions.{begun_tx, IsSaving, IsOpenOn, Saves};
 
 use crate::Tx;
 use pm_model::{Host, HostFault};
@@ -135,7 +135,7 @@ impl Tx {
         requires within { word < FRAME_WORDS }
         requires room { (self.old).units + SET_UNITS ≤ LOG_ENTRY_WORDS }
         ensures at { (self.new).log.at ≡ (self.old).log.at }
-        ensures done { IfOk result (λ _. (self.new).log ≡ longer SET_UNITS (self.old).log) }
+        ensures done { IfOk result (λ _. (self.new).log ≡ asking SET_UNITS (self.old).log) }
         ensures counts { IfOk result (λ _. (self.new).units ≡ (self.old).units + SET_UNITS) }
         ensures changes { H.tells → Changes (InLog (self.old).log.at) (fault_of result) (H.state h.old) (H.state h.new) }
         ensures asks { H.tells → (frames : ℕ) → IsPlaced frames pool.now → device_words frames ≤ (H.counts h.old).size → (self.old).log.at + LOG_WORDS ≤ frames_at frames

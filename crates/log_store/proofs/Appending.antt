@@ -1,5 +1,5 @@
 -- An entry appended: what is written, and what the images left meanwhile and the words at the end say.
-use Rattle.std.proofs.Common.{◌≡◌, ◌⊎◌, inl, inr, ℕ, ◌+◌, ◌-◌, ◌<◌, ◌≤◌, List, [], ◌∷◌, ◌++◌, length, get_or, Option, Some, None, Ok, Err, refl, sym, ap, subst, ◌∙◌, arith}
+use Rattle.std.proofs.Common.{◌≡◌, ◌⊎◌, inl, inr, ℕ, ◌+◌, ◌-◌, ◌<◌, ◌≤◌, Bool, true, false, ◌||◌, List, [], ◌∷◌, ◌++◌, length, get_or, Option, Some, None, Ok, Err, refl, sym, ap, subst, ◌∙◌, arith}
 use Rattle.std.proofs.lemmas.Bool.{cases_eq, eq-eqb, ne_eqb}
 use Rattle.std.proofs.lemmas.Bool.Decides.{leb_tells}
 use Rattle.std.proofs.lemmas.List.{append-nil}
@@ -15,7 +15,7 @@ use Rattle.pud_defs.specs.declared.layout.TheConstants.{LOG_HEADER_WORDS, LOG_EN
 use Rattle.pud_defs.specs.Image.{Image}
 use Rattle.pud_defs.specs.Entries.{Entry, IsLegalEntry, log_of, gate_word, spelled, words_from}
 use Rattle.pud_defs.proofs.Entries.{words_from-add, words_from-same, words_from-holds, entries_in-one_more}
-use Rattle.log_store.specs.Store.{OpenLog, longer, saying, InLog, IsOpen, entry_write, with_last, HasGrown, Appends}
+use Rattle.log_store.specs.Store.{OpenLog, is_redo, asks, with_entry, saying, InLog, IsOpen, entry_write, with_last, HasGrown, Appends}
 use Rattle.log_store.specs.declared.AppendFault.TheVariants.{Host}
 use Rattle.log_store.proofs.Open.{IsCounted, log_of-is, IsOpen-fits, IsOpen-words, IsOpen-log, IsOpen-log_by, IsOpen-kept_by, only_here}
 use Rattle.std.proofs.lemmas.Option.{same_Some}
@@ -109,13 +109,23 @@ log_of-grown log es e words image open_log legal within gate same holds =
     ∙ ap (λ l. l ++ words_from image (behind log) (entry_size e)) (words_from-same image (reads words) start log.used same)
     ∙ ap (λ n. old ++ words_from image (behind log) n) count
     ∙ ap (λ l. old ++ l) (words_from-holds image (behind log) (spelled e) holds) in
-    log_of-is image (longer (entry_size e) log) (old ++ spelled e) (es ++ e ∷ []) (record { lo_fits = fits.lo_fits; hi_fits = fits.hi_fits; used_within = within }) gate ws
+    log_of-is image (with_entry e log) (old ++ spelled e) (es ++ e ∷ []) (record { lo_fits = fits.lo_fits; hi_fits = fits.hi_fits; used_within = within }) gate ws
     (entries_in-one_more old es e (IsOpen-words log es words open_log) legal)
 
+or_swap : (a b c : Bool) → a || (b || c) ≡ b || (a || c)
+or_swap false b c = refl
+or_swap true false c = refl
+or_swap true true c = refl
+
+-- one of some entries and one more asks for values where that one or one of the others does
+asks-more : (es : List Entry) (e : Entry) → asks (es ++ e ∷ []) ≡ is_redo e || asks es
+asks-more [] e = refl
+asks-more (d ∷ es) e = ap (λ (b : Bool). is_redo d || b) (asks-more es e) ∙ or_swap (is_redo d) (is_redo e) (asks es)
+
 -- at Ok the log is open with the entry
-pub IsOpen-longer : (log : OpenLog) (es : List Entry) (e : Entry) (s u : State) → IsLegalEntry e → log.used + entry_size e ≤ LOG_ENTRY_WORDS → IsOpen log es s.now.words
-    → Persists (entry_write log e) None s u → IsOpen (longer (entry_size e) log) (es ++ e ∷ []) u.now.words
-IsOpen-longer log es e s u legal within open_log p =
+pub IsOpen-grown : (log : OpenLog) (es : List Entry) (e : Entry) (s u : State) → IsLegalEntry e → log.used + entry_size e ≤ LOG_ENTRY_WORDS → IsOpen log es s.now.words
+    → Persists (entry_write log e) None s u → IsOpen (with_entry e log) (es ++ e ∷ []) u.now.words
+IsOpen-grown log es e s u legal within open_log p =
     let gate : HasOnly (u.now.words log.at) (next_gate log e) = p.durable refl log.at (next_gate log e) (write_gate log e log.at refl) in
     let kept = λ (k : ℕ) (low : log.at + LOG_HEADER_WORDS ≤ k) (high : k < behind log).
     HasOnly-kept (written (entry_write log e)) None s u k (s.now.words k).newest p.changes
@@ -135,6 +145,7 @@ IsOpen-longer log es e s u legal within open_log p =
       says = log_of-grown log es e s.now.words (reads u.now.words) open_log legal within (HasOnly-newest (u.now.words log.at) _ gate)
           (λ k low high. HasOnly-newest (u.now.words k) (s.now.words k).newest (kept k low high))
           (λ i h. HasOnly-newest (u.now.words (behind log + i)) _ (new i h));
+      asked = ap (λ (b : Bool). is_redo e || b) open_log.asked ∙ sym (asks-more es e);
     }
 
 -- ---- what is left meanwhile
@@ -223,4 +234,4 @@ Appends-failed log es e fault s t p moments = record { writes = p.changes; momen
 pub Appends-done : (log : OpenLog) (es : List Entry) (e : Entry) (s t : State) → IsLegalEntry e → log.used + entry_size e ≤ LOG_ENTRY_WORDS → IsOpen log es s.now.words
     → Persists (entry_write log e) None s t → Leaves (Silently (HasGrown s.now.words log.at e)) s t → Appends log es e (Ok tt) s t
 Appends-done log es e s t legal within open_log p moments =
-    record { writes = p.changes; moments = moments; done = IsOpen-longer log es e s t legal within open_log p }
+    record { writes = p.changes; moments = moments; done = IsOpen-grown log es e s t legal within open_log p }

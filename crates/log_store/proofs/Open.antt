@@ -1,5 +1,5 @@
 -- What the words of an open log say, when it is opened, and after other calls.
-use Rattle.std.proofs.Common.{◌≡◌, ◌⊎◌, inl, inr, ℕ, ◌+◌, ◌<◌, ◌≤◌, ◌^◌, ltb, leb, List, [], Option, Some, None, refl, sym, ap, ◌∙◌, arith}
+use Rattle.std.proofs.Common.{◌≡◌, ◌⊎◌, inl, inr, ℕ, ◌+◌, ◌<◌, ◌≤◌, ◌^◌, false, ltb, leb, List, [], Option, Some, None, refl, sym, ap, ◌∙◌, arith}
 use Rattle.std.proofs.lemmas.Bool.{and_parts, leb-true, ltb-true, eq-eqb}
 use Rattle.pm_model.specs.declared.host.HostFault.{HostFault}
 use Rattle.pm_model.specs.Words.{Words, reads, Picks, HasOnly}
@@ -94,6 +94,7 @@ IsOpen-kept_by may fault old new log es changes apart open_log =
       counted = λ k low high. HasOnly-own (new.now.words k) (old.now.words k).newest (counted k low high);
       says = IsOpen-log_by log es old.now.words (reads new.now.words) open_log (HasOnly-newest (new.now.words log.at) _ gate)
           (λ k low high. HasOnly-newest (new.now.words k) (old.now.words k).newest (counted k low high));
+      asked = open_log.asked;
     }
 
 -- calls that give the words of the log no value leave it open
@@ -112,16 +113,17 @@ only_here w v = rw (eq-eqb w w refl) refl
 
 -- the gate of a running log alone makes it an open one without entries
 pub IsOpen-running : (at : ℕ) (old new : State) → Persists (only at RUNNING_GATE) None old new
-    → IsOpen (record { at = at; lo = RUNNING_LO; hi = RUNNING_HI; used = 0 }) [] new.now.words
+    → IsOpen (record { at = at; lo = RUNNING_LO; hi = RUNNING_HI; used = 0; asks = false }) [] new.now.words
 unfolding entries_in
 IsOpen-running at old new p =
     let gate = p.durable refl at RUNNING_GATE (only_here at RUNNING_GATE) in
-    let log : OpenLog = record { at = at; lo = RUNNING_LO; hi = RUNNING_HI; used = 0 } in
+    let log : OpenLog = record { at = at; lo = RUNNING_LO; hi = RUNNING_HI; used = 0; asks = false } in
     record {
       gate = gate;
       counted = λ k low high. absurd (omega arith);
       says = log_of-is (reads new.now.words) log [] [] (record { lo_fits = omega arith; hi_fits = omega arith; used_within = omega arith })
           (HasOnly-newest (new.now.words at) RUNNING_GATE gate) (words_from-none (reads new.now.words) (at + LOG_HEADER_WORDS) 0 refl) refl;
+      asked = refl;
     }
 
 -- the gate of another range alone makes it one with that range
@@ -141,6 +143,7 @@ IsOpen-moved lo hi log es old new lo_fits hi_fits open_log p =
           (HasOnly-newest (new.now.words log.at) g gate)
           (words_from-same (reads new.now.words) (reads old.now.words) (log.at + LOG_HEADER_WORDS) log.used (λ k low high. HasOnly-newest (new.now.words k) (old.now.words k).newest (counted k low high)))
           (IsOpen-words log es old.now.words open_log);
+      asked = open_log.asked;
     }
 
 -- while its gate is given another range, each image has the log as it was or with that range
@@ -164,5 +167,5 @@ log_of-moving lo hi log es words before image lo_fits hi_fits open_log picked fr
 pub log_of-closed : (at : ℕ) (image : Image) → image at ≡ CLOSED_GATE → log_of image at ≡ record { lo = COMMITTING_HI; hi = COMMITTING_HI; entries = Some [] }
 unfolding entries_in
 log_of-closed at image gate =
-    let log : OpenLog = record { at = at; lo = COMMITTING_HI; hi = COMMITTING_HI; used = 0 } in
+    let log : OpenLog = record { at = at; lo = COMMITTING_HI; hi = COMMITTING_HI; used = 0; asks = false } in
     log_of-is image log [] [] (record { lo_fits = omega arith; hi_fits = omega arith; used_within = omega arith }) gate (words_from-none image (at + LOG_HEADER_WORDS) 0 refl) refl

@@ -1,26 +1,45 @@
 -- What the words of a device hold of an open log, and how an entry is appended.
-use Rattle.std.specs.Prelude.{◌≡◌, ◌⊎◌, ℕ, ◌+◌, ◌≤◌, ◌<◌, ◌==◌, cond, List, [], ◌∷◌, ◌++◌, length, Option, Some, None, option_map, Result, Ok, Err, IfOk}
+use Rattle.std.specs.Prelude.{◌≡◌, ◌⊎◌, ℕ, ◌+◌, ◌≤◌, ◌<◌, Bool, true, ◌||◌, ◌==◌, cond, List, [], ◌∷◌, ◌++◌, length, Option, Some, None, option_map, Result, Ok, Err, IfOk}
+use Rattle.std.specs.List.{list_any}
 use Rattle.pm_model.specs.declared.host.HostFault.{HostFault}
 use Rattle.pm_model.specs.Words.{Words, reads, Picks, HasOnly}
 use Rattle.pm_model.specs.Moments.{State}
 use Rattle.pm_model.specs.Changes.{Footprint, Changes, Leaves, Silently, Write, placed, written}
 use Rattle.pud_defs.specs.declared.layout.TheConstants.{LOG_HEADER_WORDS, ENTRY_HEADER_WORDS}
-use Rattle.pud_defs.specs.declared.log_words.TheConstants.{COMMITTING_LO, COMMITTING_HI}
+use Rattle.pud_defs.specs.declared.log_words.TheConstants.{COMMITTING_LO, COMMITTING_HI, REDO_ORDER}
 use Rattle.pud_defs.specs.Image.{Image}
 use Rattle.pud_defs.specs.Entries.{Entry, Log, log_of, gate_word, spelled}
 use Rattle.pud_defs.specs.Replay.{IsInLog}
 use Rattle.log_store.specs.declared.AppendFault.{AppendFault}
 use Rattle.log_store.specs.declared.AppendFault.TheVariants as faults
 
--- the word of the gate, the range, and how many entry words count
+-- the word of the gate, the range, how many entry words count, and whether an entry asks for values
 pub record OpenLog : Type 0 where
   pub at : ℕ
   pub lo : ℕ
   pub hi : ℕ
   pub used : ℕ
+  pub asks : Bool
 
+-- the entry asks for values to come
+abbrev pub is_redo : Entry → Bool
+is_redo e = e.order == REDO_ORDER
+
+-- one of some entries does
+abbrev pub asks : List Entry → Bool
+asks es = list_any is_redo es
+
+-- with so many words more that count, of an entry that asks for nothing
 abbrev pub longer : ℕ → OpenLog → OpenLog
 longer words log = record log { used = log.used + words }
+
+-- of one that asks for values
+abbrev pub asking : ℕ → OpenLog → OpenLog
+asking words log = record log { used = log.used + words; asks = true }
+
+-- of this entry
+abbrev pub with_entry : Entry → OpenLog → OpenLog
+with_entry e log = record log { used = log.used + (length e.vals + ENTRY_HEADER_WORDS); asks = is_redo e || log.asks }
 
 abbrev pub committing : OpenLog → OpenLog
 committing log = record log { lo = COMMITTING_LO; hi = COMMITTING_HI }
@@ -39,12 +58,13 @@ append_fault (Err (faults.Host fault)) = Some fault
 abbrev pub InLog : ℕ → Footprint
 InLog at k v = IsInLog at k
 
--- The words hold this log with these entries: its gate and each entry word that counts have one value, and say this. What stands behind
--- the words that count may be anything.
+-- The words hold this log with these entries: its gate and each entry word that counts have one value, and say this; and what is known of whether
+-- one of them asks for values is so. What stands behind the words that count may be anything.
 pub record IsOpen (log : OpenLog) (es : List Entry) (words : Words) : Type 0 where
   pub gate : HasOnly (words log.at) (gate_word log.lo log.hi log.used)
   pub counted : (k : ℕ) → log.at + LOG_HEADER_WORDS ≤ k → k < log.at + LOG_HEADER_WORDS + log.used → HasOnly (words k) (words k).newest
   pub says : log_of (reads words) log.at ≡ saying log es
+  pub asked : log.asks ≡ asks es
 
 -- the words of an entry behind those that count, and the gate that counts them too
 abbrev pub entry_write : OpenLog → Entry → Write
@@ -68,4 +88,4 @@ pub record HasGrown (words : Words) (at : ℕ) (e : Entry) (image : Image) : Typ
 pub record Appends (log : OpenLog) (es : List Entry) (e : Entry) (result : Result (Unit {0}) AppendFault) (old new : State) : Type 0 where
   pub writes : Changes (written (entry_write log e)) (append_fault result) old new
   pub moments : Leaves (Silently (HasGrown old.now.words log.at e)) old new
-  pub done : IfOk result (λ _. IsOpen (longer (length e.vals + ENTRY_HEADER_WORDS) log) (es ++ e ∷ []) new.now.words)
+  pub done : IfOk result (λ _. IsOpen (with_entry e log) (es ++ e ∷ []) new.now.words)

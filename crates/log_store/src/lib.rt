@@ -4,20 +4,21 @@
 //! each moment a power loss leaves the log as it was or with the whole entry. The range moves by one word too.
 #![tactic(auto)]
 
-ghost use Rattle.std.specs.Prelude.{◌≡◌, ◌↔◌, ◌+◌, ◌<◌, ◌≤◌, ◌^◌, List, [], Result, IfOk, OnErr, length};
+ghost use Rattle.std.specs.Prelude.{◌≡◌, ◌↔◌, ◌+◌, ◌<◌, ◌≤◌, ◌^◌, false, List, [], Result, IfOk, OnErr, length};
 ghost use Rattle.pm_model.specs.Counts.{after_fault, fault_of};
 ghost use Rattle.pm_model.specs.Changes.{only, placed, Changes, Leaves, Silently, Persists};
 ghost use Rattle.pud_defs.specs.declared.layout.TheConstants.{LOG_WORDS, LOG_ENTRY_WORDS, ENTRY_HEADER_WORDS, MAX_ENTRY_VALUES};
 ghost use Rattle.pud_defs.specs.declared.log_words.TheConstants.{RUNNING_LO, RUNNING_HI, RUNNING_GATE, COMMITTING_LO, COMMITTING_HI, CLOSED_GATE, REDO_ORDER};
 ghost use Rattle.pud_defs.specs.Entries.{Entry, gate_word, spelled};
-ghost use Rattle.log_store.specs.Store.{OpenLog, append_fault, InLog, IsOpen, entry_write, HasGrown, Appends, committing, longer};
+ghost use Rattle.log_store.specs.Store.{OpenLog, append_fault, InLog, IsOpen, entry_write, HasGrown, Appends, committing, with_entry};
 
 use log_entry::encode;
 use pm_model::{Host, HostFault};
 use pm_persist::{persist_range, persist_word};
 use pud_defs::layout::{ENTRY_HEADER_WORDS, LOG_ENTRY_WORDS, LOG_HEADER_WORDS, MAX_ENTRY_WORDS};
 use pud_defs::log_words::{
-    CLOSED_GATE, COMMITTING_HI, COMMITTING_LO, RUNNING_GATE, RUNNING_HI, RUNNING_LO, gate_word,
+    CLOSED_GATE, COMMITTING_HI, COMMITTING_LO, REDO_ORDER, RUNNING_GATE, RUNNING_HI, RUNNING_LO,
+    gate_word,
 };
 use std::marker::Model;
 
@@ -42,19 +43,20 @@ impl From<HostFault> for AppendFault {
     }
 }
 
-/// A log that was opened: where it stands, its range, and how many entry words count.
+/// A log that was opened: where it stands, its range, how many entry words count, and whether an entry asks for values.
 #[derive(Drop)]
 pub struct Log {
     at: u32,
     lo: u32,
     hi: u32,
     used: u32,
+    asks: bool,
 }
 
 impl Model for Log {
     ghost Value = { OpenLog };
 
-    ghost view = { λ log. record { at = log.at; lo = log.lo; hi = log.hi; used = log.used } };
+    ghost view = { λ log. record { at = log.at; lo = log.lo; hi = log.hi; used = log.used; asks = log.asks } };
 
     ghost invariant = { λ log. (log.lo < 2 ^ 8) × (log.hi < 2 ^ 8) × (log.used ≤ LOG_ENTRY_WORDS) };
 }
@@ -98,7 +100,7 @@ impl Log {
     /// The log lies in the device. The only errors are the host's own. The one word written is the gate.
     pub fn open_running<H: Host>(h: &mut H, at: u32) -> Result<Log, HostFault>
         requires { at + LOG_WORDS ≤ (H.counts h.old).size }
-        ensures opened { IfOk result (λ log. log ≡ record { at = at; lo = RUNNING_LO; hi = RUNNING_HI; used = 0 }) }
+        ensures opened { IfOk result (λ log. log ≡ record { at = at; lo = RUNNING_LO; hi = RUNNING_HI; used = 0; asks = false }) }
         ensures persists { H.tells → Persists (only at RUNNING_GATE) (fault_of result) (H.state h.old) (H.state h.new) }
         ensures open { H.tells → IfOk result (λ log. IsOpen log [] (H.state h.new).now.words) }
         ensures cause { H.counts h.new ≡ after_fault (fault_of result) (H.counts h.old) }
@@ -109,6 +111,7 @@ impl Log {
             lo: RUNNING_LO,
             hi: RUNNING_HI,
             used: 0,
+            asks: false,
         })
     }
 
@@ -125,6 +128,13 @@ impl Log {
         ensures within { result ≤ LOG_ENTRY_WORDS }
     {
         self.used
+    }
+
+    /// Whether one of its entries asks for values, by their order. No device is touched.
+    pub fn asks(&self) -> bool
+        ensures { result ≡ self.now.asks }
+    {
+        self.asks
     }
 
     /// Appends an entry that the log has room for: it is durable before the gate that counts it is stored.
@@ -174,7 +184,7 @@ impl Log {
         requires order_known { order ≤ REDO_ORDER }
         ensures too_big { (result ≡ Result.Err AppendFault.TooBig) ↔ (LOG_ENTRY_WORDS < self.old.used + (length vals.now + ENTRY_HEADER_WORDS)) }
         ensures too_big_stays { H.tells → result ≡ Result.Err AppendFault.TooBig → H.state h.new ≡ H.state h.old }
-        ensures appended { IfOk result (λ _. self.new ≡ longer (length vals.now + ENTRY_HEADER_WORDS) self.old) }
+        ensures appended { IfOk result (λ _. self.new ≡ with_entry (record { address = addr; seq = seq; order = order; vals = vals.now }) self.old) }
         ensures failed { OnErr result (self.new ≡ self.old) }
         ensures changes { H.tells → Changes (InLog self.old.at) (append_fault result) (H.state h.old) (H.state h.new) }
         ensures appends { H.tells → (es : List Entry) → IsOpen self.old es (H.state h.old).now.words
@@ -187,6 +197,7 @@ impl Log {
         }
         self.append_fitting(h, addr, seq, order, vals)?;
         self.used += words;
+        self.asks = (order == REDO_ORDER) | self.asks;
         Ok(())
     }
 

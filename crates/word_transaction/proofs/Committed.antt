@@ -2,15 +2,14 @@
 use Rattle.std.proofs.Common.{◌≡◌, ◌⊎◌, inl, inr, ℕ, true, false, List, [], ◌∷◌, ◌++◌, Option, Some, None, refl, sym, ap, subst, ◌∙◌, append_assoc, arith}
 use Rattle.std.proofs.lemmas.List.{append-nil}
 use Rattle.pm_model.specs.declared.host.HostFault.{HostFault}
-use Rattle.pm_model.specs.declared.host.HostFault.TheVariants.{Cut}
 use Rattle.pm_model.specs.Words.{Cell, reads, Picks, HasOnly, fenced, after_fence}
 use Rattle.pm_model.specs.Moments.{Moment, State}
 use Rattle.pm_model.specs.Calls.{Steps}
 use Rattle.pm_model.specs.Changes.{Footprint, Changes, Leaves, Silently, Persists, IsFrom, only, written}
 use Rattle.pm_model.proofs.Has.{Has-append_right}
 use Rattle.pm_model.proofs.Words.{HasOnly-newest, HasOnly-fenced, values-fenced, only_at}
-use Rattle.pm_model.proofs.Changes.{now_among, Changes-still, Changes-fence, Changes-then, Changes-wider, Changes-said, HasOnly-kept}
-use Rattle.pm_model.proofs.Leaves.{Leaves-still, Leaves-changes, Leaves-then}
+use Rattle.pm_model.proofs.Changes.{now_among, Changes-fence, Changes-then, Changes-wider, Changes-said, HasOnly-kept}
+use Rattle.pm_model.proofs.Leaves.{Leaves-changes, Leaves-then}
 use Rattle.pm_model.proofs.OneWord.{one_word, value_of_only}
 use Rattle.pud_defs.specs.declared.log_words.TheConstants.{COMMITTING_LO, COMMITTING_HI, CLOSED_GATE}
 use Rattle.pud_defs.specs.Image.{Image}
@@ -18,9 +17,9 @@ use Rattle.pud_defs.specs.Entries.{Entry, Log, log_of, gate_lo, gate_hi, gate_wo
 use Rattle.pud_defs.specs.Replay.{overwritten}
 use Rattle.pud_defs.proofs.Entries.{gate_lo-of, gate_hi-of}
 use Rattle.pud_defs.proofs.Replay.{not_inside, overwritten-stays}
-use Rattle.log_store.specs.Store.{OpenLog, IsOpen, saying, committing}
+use Rattle.log_store.specs.Store.{OpenLog, IsOpen, asks, saying, committing}
 use Rattle.log_store.proofs.Open.{IsOpen-fits, IsOpen-log, IsOpen-kept, IsOpen-moved, log_of-moving, only_here}
-use Rattle.word_transaction.specs.Ground.{Ground, IsGround, asks, pending}
+use Rattle.word_transaction.specs.Ground.{Ground, IsGround, pending}
 use Rattle.word_transaction.specs.Running.{IsRunning, SettlesTo, HasRange, SettlesByRange, ByTransaction, ByCommit, Closes, MovesRange, Ends}
 use Rattle.word_transaction.proofs.Images.{SettlesTo-running, SettlesTo-idle, IsRunning-settles}
 use Rattle.word_transaction.proofs.Calls.{some_fault, not_cut}
@@ -113,13 +112,6 @@ moved_gate log = gate_word COMMITTING_LO COMMITTING_HI log.used
 pub record Moves (log : OpenLog) (fault : Option HostFault) (a b c : State) : Type 0 where
   pub fence : Steps after_fence None a b
   pub move : Persists (only log.at (moved_gate log)) fault b c
-
--- behind what changed nothing
-pub fence_from : (fault : Option HostFault) (o a b : State) → a ≡ o → Steps after_fence fault a b → Steps after_fence fault o b
-fence_from fault o a b same step = subst (λ (s : State). Steps after_fence fault s b) same step
-
-pub Moves-from : (log : OpenLog) (fault : Option HostFault) (o a b c : State) → a ≡ o → Steps after_fence None a b → Persists (only log.at (moved_gate log)) fault b c → Moves log fault o b c
-Moves-from log fault o a b c same fence move = record { fence = fence_from None o a b same fence; move = move }
 
 pub gate_moves : (log : OpenLog) (fault : Option HostFault) (a b c : State) → Moves log fault a b c → Changes (ByCommit log) fault a c
 gate_moves log fault a b c m =
@@ -227,18 +219,6 @@ module _ (size : ℕ) (log : OpenLog) (es : List Entry) (g : Ground) (before : I
 
   own_gate : (k v : ℕ) → ByCommit log k v → ByTransaction g log.at k v
   own_gate k v by = let here = by.gate in inl (record { low = omega arith; high = omega arith })
-
-  -- it failed before it did anything
-  pub Ends-stopped : (fault : HostFault) (b : State) → (Some fault ≡ Some Cut → ⊥) → b ≡ a → Ends g log.at before after (Some fault) a b
-  Ends-stopped fault b kept same =
-      record {
-        changes = Changes-still (ByTransaction g log.at) (Some fault) a b kept same;
-        moments = Leaves-still (Silently ByRange) a b (λ image picked. (refl, start_image image picked)) same;
-        moves = λ e. absurd (some_fault fault e);
-        durable = λ e. absurd (some_fault fault e);
-        closed = λ e. absurd (some_fault fault e);
-        stays = λ e. absurd (some_fault fault e);
-      }
 
   pub Ends-fence : (fault : HostFault) (b : State) → Steps after_fence (Some fault) a b → Ends g log.at before after (Some fault) a b
   Ends-fence fault b step =

@@ -10,8 +10,8 @@ use Rattle.pud_defs.specs.Image.{Image}
 use Rattle.pud_defs.specs.Entries.{Entry, Log, log_of}
 use Rattle.pud_defs.specs.Replay.{Place, is_in_range, value_in, given_by, undone, redone, new_value, over, overwritten, replayed}
 use Rattle.pud_defs.proofs.Replay.{undone-first, redone-first, undone-none, redone-none, given_by-out, given_by-other, or_none, new_value-of, overwritten-nothing, overwritten-then}
-use Rattle.log_store.specs.Store.{OpenLog, saying, committing}
-use Rattle.word_transaction.specs.Ground.{Ground, undo_entry, redo_entry, IsUndo, IsRedo, IsOwn, is_redo, asked, asks, written_in_turn, committing_range, pending}
+use Rattle.log_store.specs.Store.{OpenLog, is_redo, asks, saying, committing}
+use Rattle.word_transaction.specs.Ground.{Ground, undo_entry, redo_entry, IsUndo, IsRedo, IsOwn, asked, written_in_turn, committing_range, pending}
 use Rattle.word_transaction.specs.Running.{SettlesTo}
 use Rattle.word_transaction.proofs.Saved.{given_by-range, undone-range}
 

@@ -14,7 +14,7 @@ use Rattle.pud_defs.specs.Image.{Image}
 use Rattle.pud_defs.specs.Entries.{Entry, log_of, words_from}
 use Rattle.pud_defs.proofs.Entries.{words_from-length}
 use Rattle.pud_defs.proofs.Replay.{not_inside, or_none}
-use Rattle.log_store.specs.Store.{OpenLog, longer, saying, InLog, IsOpen, with_last, HasGrown, Appends, append_fault}
+use Rattle.log_store.specs.Store.{OpenLog, longer, with_entry, saying, InLog, IsOpen, with_last, HasGrown, Appends, append_fault}
 use Rattle.log_store.specs.declared.AppendFault.{AppendFault}
 use Rattle.log_store.specs.declared.AppendFault.TheVariants.{Host, TooBig}
 use Rattle.log_store.proofs.Open.{IsOpen-log}
@@ -29,7 +29,7 @@ use Rattle.word_transaction.proofs.Calls.{some_fault, marked_still}
 module _ (size : ℕ) (g : Ground) (log : OpenLog) (es : List Entry) (before : Image) (e : Entry) (s : State)
     (ground : IsGround size log.at g) (r : IsRunning g log es before s.now.words) (may : MayAppend g es before e) where
   abbrev longer_log : OpenLog
-  longer_log = longer (length e.vals + ENTRY_HEADER_WORDS) log
+  longer_log = with_entry e log
 
   own_more : All (IsOwn g) (es ++ e ∷ [])
   own_more = All-append (IsOwn g) es (e ∷ []) r.own (All-cons (IsOwn g) e [] may.own (All-nil (IsOwn g)))
@@ -90,7 +90,7 @@ module _ (size : ℕ) (g : Ground) (log : OpenLog) (es : List Entry) (before : I
 
 pub Runs-append : (size : ℕ) (g : Ground) (log : OpenLog) (es : List Entry) (before : Image) (e : Entry) (result : Result (Unit {0}) AppendFault) (s t : State)
     → IsGround size log.at g → IsRunning g log es before s.now.words → MayAppend g es before e → (result ≡ Err TooBig → ⊥)
-    → Changes (InLog log.at) (append_fault result) s t → Appends log es e result s t → Runs g (longer (length e.vals + ENTRY_HEADER_WORDS) log) (es ++ e ∷ []) before nothing (append_fault result) s t
+    → Changes (InLog log.at) (append_fault result) s t → Appends log es e result s t → Runs g (with_entry e log) (es ++ e ∷ []) before nothing (append_fault result) s t
 Runs-append size g log es before e (Ok tt) s t ground r may room changes a = Runs-appended size g log es before e s ground r may t changes a
 Runs-append size g log es before e (Err TooBig) s t ground r may room changes a = absurd (room refl)
 Runs-append size g log es before e (Err (Host fault)) s t ground r may room changes a = Runs-unappended size g log es before e s ground r may fault t changes a

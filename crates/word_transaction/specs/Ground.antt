@@ -1,10 +1,11 @@
 -- What a transaction on words may name, and which words are its own.
-use Rattle.std.specs.Prelude.{◌≡◌, ◌⊎◌, ℕ, ◌+◌, ◌<◌, ◌≤◌, Bool, true, false, ◌==◌, List, [], ◌∷◌, length, Option, Some, None}
-use Rattle.std.specs.List.{filter, list_any}
+use Rattle.std.specs.Prelude.{◌≡◌, ◌⊎◌, ℕ, ◌+◌, ◌<◌, ◌≤◌, Bool, true, false, List, [], ◌∷◌, length, Option, Some, None}
+use Rattle.std.specs.List.{filter}
 use Rattle.pud_defs.specs.declared.log_words.TheConstants.{UNDO_SEQ, UNDO_ORDER, REDO_SEQ, REDO_ORDER, RUNNING_LO, RUNNING_HI, COMMITTING_LO, COMMITTING_HI}
 use Rattle.pud_defs.specs.Image.{Image}
 use Rattle.pud_defs.specs.Entries.{Entry, Log}
 use Rattle.pud_defs.specs.Replay.{Place, value_in, undone, redone, overwritten, is_in_log}
+use Rattle.log_store.specs.Store.{is_redo}
 
 -- Which word an address names; which entries the transaction may write, by their address and their number of values; and which words are its
 -- own.
@@ -51,17 +52,9 @@ pub record IsOwn (g : Ground) (e : Entry) : Type 0 where
 
 -- ---- what is asked for
 
--- the entry asks for values to come
-abbrev pub is_redo : Entry → Bool
-is_redo e = e.order == REDO_ORDER
-
--- the entries among some that do, the oldest first
+-- the entries among some that ask for values to come, the oldest first
 abbrev pub asked : List Entry → List Entry
 asked es = filter is_redo es
-
--- whether there is one
-abbrev pub asks : List Entry → Bool
-asks es = list_any is_redo es
 
 -- an image over which the values of entries are written in turn, the oldest first
 abbrev pub written_in_turn : Place → List Entry → Image → Image

@@ -51,7 +51,7 @@ nothing k = None
 
 -- the log of a transaction that has just begun
 abbrev pub begun : (at : ℕ) → OpenLog
-begun at = record { at = at; lo = RUNNING_LO; hi = RUNNING_HI; used = 0 }
+begun at = record { at = at; lo = RUNNING_LO; hi = RUNNING_HI; used = 0; asks = false }
 
 -- ---- what an image has
 

@@ -1,43 +1,24 @@
 //! How a transaction ends: committed, undone, or lost.
 #![tactic(auto)]
 
-ghost use Rattle.std.specs.Prelude.{◌≡◌, ◌+◌, ◌≤◌, ℕ, List, true, false, Option, IfOk};
+ghost use Rattle.std.specs.Prelude.{◌≡◌, ◌+◌, ◌≤◌, ℕ, List, true, false};
 ghost use Rattle.pm_model.specs.Words.{reads};
 ghost use Rattle.pm_model.specs.Counts.{after_fault, fault_of};
-ghost use Rattle.pm_model.specs.Reads.{OnlyReads};
 ghost use Rattle.pm_model.specs.Changes.{Changes};
 ghost use Rattle.pud_defs.specs.declared.layout.TheConstants.{LOG_WORDS};
 ghost use Rattle.pud_defs.specs.Image.{Image};
-ghost use Rattle.pud_defs.specs.Entries.{Entry, entries_of};
+ghost use Rattle.pud_defs.specs.Entries.{Entry};
 ghost use Rattle.pud_defs.specs.Replay.{overwritten};
 ghost use Rattle.pud_defs.specs.Tables.{tables_of};
 ghost use Rattle.pud_defs.specs.Allowed.{puddle_word};
-ghost use Rattle.log_store.specs.Store.{IsOpen};
+ghost use Rattle.log_store.specs.Store.{IsOpen, asks};
 ghost use Rattle.log_replay.specs.Replaying.{HasPuddleTable, Anything};
-ghost use Rattle.word_transaction.specs.Ground.{Ground, IsGround, asks, pending};
+ghost use Rattle.word_transaction.specs.Ground.{Ground, IsGround, pending};
 ghost use Rattle.word_transaction.specs.Running.{IsRunning, ByCommit, Closes, Ends, HasPlaces, HasOneTable, CanRedo};
 
 use crate::WordTransaction;
-use log_entry::EntryReader;
 use log_replay::{Target, settle_log};
 use pm_model::{Host, HostFault};
-use pud_defs::log_words::REDO_ORDER;
-
-/// Whether an entry of the log whose gate is word `at` asks for values.
-fn has_redo_entry<H: Host>(h: &mut H, at: u32) -> Result<bool, HostFault>
-    requires { at + LOG_WORDS ≤ (H.counts h.old).size }
-    ensures asks { H.tells → (image : Image) → reads (H.state h.old).now.words ≡ image → (es : List Entry) → entries_of image at ≡ Option.Some es
-        → IfOk result (λ asked. asked ≡ asks es) }
-    ensures only_reads { OnlyReads H.tells H.state H.counts (fault_of result) h.old h.new }
-{
-    let mut reader = EntryReader::new(at);
-    while let Some(entry) = reader.next(h)? {
-        if entry.order == REDO_ORDER {
-            return Ok(true);
-        }
-    }
-    Ok(false)
-}
 
 impl WordTransaction {
     /// Commits the transaction: what it wrote is durable at `Ok`, and then what it asked for, the oldest first; its log is closed.
@@ -48,8 +29,8 @@ impl WordTransaction {
     /// range of a running one; once that is the range of a committing one, or the log is closed, it has all that was written and
     /// asked for. At `Ok` the range moved when all that was written was durable. The only errors are the host's own.
     ///
-    /// It reads the log's entries up to the first that asks for values. Where there is none the gate is the only word written, and
-    /// it takes three fences; else the loads of a replay, and four fences.
+    /// Where nothing was asked for it takes no load, the gate is the only word written, and it takes three fences; else the loads
+    /// of a replay, and four fences.
     pub fn commit<H: Host>(self, h: &mut H, frames: u32) -> Result<(), HostFault>
         requires log { self.at + LOG_WORDS ≤ (H.counts h.old).size }
         requires tables { HasPuddleTable frames (H.counts h.old).size }
@@ -63,7 +44,7 @@ impl WordTransaction {
     {
         let WordTransaction { mut log } = self;
         let at = log.at();
-        let asked = has_redo_entry(h, at)?;
+        let asked = log.asks();
         h.fence()?;
         log.to_committing(h)?;
         if asked {

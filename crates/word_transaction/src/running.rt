@@ -9,7 +9,7 @@ ghost use Rattle.pud_defs.specs.declared.layout.TheConstants.{LOG_WORDS, LOG_ENT
 ghost use Rattle.pud_defs.specs.declared.log_words.TheConstants.{RUNNING_GATE, REDO_ORDER};
 ghost use Rattle.pud_defs.specs.Image.{Image};
 ghost use Rattle.pud_defs.specs.Entries.{Entry, words_from};
-ghost use Rattle.log_store.specs.Store.{InLog, longer};
+ghost use Rattle.log_store.specs.Store.{InLog, longer, asking, with_entry};
 ghost use Rattle.word_transaction.specs.Ground.{Ground, IsGround, undo_entry, redo_entry};
 ghost use Rattle.word_transaction.specs.Running.{IsRunning, IsIdle, MayAppend, IsCovered, nothing, begun, Runs};
 
@@ -53,12 +53,12 @@ impl WordTransaction {
         requires seq_fits { seq < 2 ^ 16 }
         requires order_known { order ≤ REDO_ORDER }
         requires room { self.old.used + (length vals.now + ENTRY_HEADER_WORDS) ≤ LOG_ENTRY_WORDS }
-        ensures appended { IfOk result (λ _. self.new ≡ longer (length vals.now + ENTRY_HEADER_WORDS) self.old) }
+        ensures appended { IfOk result (λ _. self.new ≡ with_entry (record { address = address; seq = seq; order = order; vals = vals.now }) self.old) }
         ensures failed { OnErr result (self.new ≡ self.old) }
         ensures changes { H.tells → Changes (InLog self.old.at) (fault_of result) (H.state h.old) (H.state h.new) }
         ensures runs { H.tells → (size : ℕ) → size ≡ (H.counts h.old).size → (g : Ground) → (es : List Entry) → (before : Image) → IsGround size self.old.at g
             → IsRunning g self.old es before (H.state h.old).now.words → MayAppend g es before (record { address = address; seq = seq; order = order; vals = vals.now })
-            → Runs g (longer (length vals.now + ENTRY_HEADER_WORDS) self.old) (es ++ record { address = address; seq = seq; order = order; vals = vals.now } ∷ []) before nothing
+            → Runs g (with_entry (record { address = address; seq = seq; order = order; vals = vals.now }) self.old) (es ++ record { address = address; seq = seq; order = order; vals = vals.now } ∷ []) before nothing
             (fault_of result) (H.state h.old) (H.state h.new) }
         ensures cause { H.counts h.new ≡ after_fault (fault_of result) (H.counts h.old) }
     {
@@ -109,12 +109,12 @@ impl WordTransaction {
         requires some { 1 ≤ length vals.now }
         requires no_more { length vals.now ≤ MAX_ENTRY_VALUES }
         requires room { self.old.used + (length vals.now + ENTRY_HEADER_WORDS) ≤ LOG_ENTRY_WORDS }
-        ensures asked { IfOk result (λ _. self.new ≡ longer (length vals.now + ENTRY_HEADER_WORDS) self.old) }
+        ensures asked { IfOk result (λ _. self.new ≡ asking (length vals.now + ENTRY_HEADER_WORDS) self.old) }
         ensures failed { OnErr result (self.new ≡ self.old) }
         ensures changes { H.tells → Changes (InLog self.old.at) (fault_of result) (H.state h.old) (H.state h.new) }
         ensures runs { H.tells → (size : ℕ) → size ≡ (H.counts h.old).size → (g : Ground) → (es : List Entry) → (before : Image) → IsGround size self.old.at g
             → g.may address (length vals.now) ≡ true → IsRunning g self.old es before (H.state h.old).now.words
-            → Runs g (longer (length vals.now + ENTRY_HEADER_WORDS) self.old) (es ++ redo_entry address vals.now ∷ []) before nothing
+            → Runs g (asking (length vals.now + ENTRY_HEADER_WORDS) self.old) (es ++ redo_entry address vals.now ∷ []) before nothing
             (fault_of result) (H.state h.old) (H.state h.new) }
         ensures cause { H.counts h.new ≡ after_fault (fault_of result) (H.counts h.old) }
     {

@@ -1,7 +1,7 @@
 use Rattle.std.proofs.Common.{refl}
 use Rattle.pm_model.specs.Counts.{fault_of}
 use Rattle.hybrid_tx.specs.Grounds.{pool_ground}
-use Rattle.hybrid_tx.proofs.PoolEnding.{ClosesOn-closes}
+use Rattle.hybrid_tx.proofs.Objects.PoolEnding.{ClosesOn-closes}
 use Rattle.hybrid_tx.proofs.Tx.abort.Goals as goal
 
 pub returns-clause-closes : goal.returns-clause-closes

@@ -4,7 +4,7 @@ use Rattle.std.proofs.lemmas.Result.{err_from_is_err_and}
 use Rattle.pud_defs.specs.declared.records.Puddle.{Puddle}
 use Rattle.log_store.specs.Store.{OpenLog}
 use Rattle.hybrid_tx.specs.Grounds.{pool_ground}
-use Rattle.hybrid_tx.proofs.InFrames.{Saves-asked}
+use Rattle.hybrid_tx.proofs.Objects.InFrames.{Saves-asked}
 use Rattle.hybrid_tx.proofs.Tx.ask_in_frame.Goals as goal
 
 pub returns-in_err-ask-clause-asks : goal.returns-in_err-ask-clause-asks

@@ -2,9 +2,9 @@ use Rattle.std.proofs.Common.{[], refl, sym, subst, arith}
 use Rattle.std.proofs.lemmas.Result.{err_from_is_err_and}
 use Rattle.log_store.specs.Store.{OpenLog}
 use Rattle.hybrid_tx.specs.Grounds.{pool_ground}
-use Rattle.hybrid_tx.specs.Transactions.{IsOpenOn}
+use Rattle.hybrid_tx.specs.Objects.Transactions.{IsOpenOn}
 use Rattle.hybrid_tx.proofs.PoolGrounds.{is_ground}
-use Rattle.hybrid_tx.proofs.Opening.{IsOpenOn-begun}
+use Rattle.hybrid_tx.proofs.Objects.Opening.{IsOpenOn-begun}
 use Rattle.hybrid_tx.proofs.Tx.begin.Goals as goal
 
 pub returns-in_err-words-clause-runs : goal.returns-in_err-words-clause-runs

@@ -10,9 +10,9 @@ use Rattle.log_store.specs.Store.{OpenLog, InLog}
 use Rattle.object_alloc.specs.Alloc.{serial_word_at}
 use Rattle.word_transaction.specs.Running.{ByTransaction}
 use Rattle.hybrid_tx.specs.Grounds.{pool_ground}
-use Rattle.hybrid_tx.specs.Transactions.{OpenTx, Saves}
+use Rattle.hybrid_tx.specs.Objects.Transactions.{OpenTx, Saves}
 use Rattle.hybrid_tx.proofs.PoolGrounds.{all_there}
-use Rattle.hybrid_tx.proofs.SlotFreed.{Changes-freed, Saves-unfreed, Saves-freed}
+use Rattle.hybrid_tx.proofs.Objects.SlotFreed.{Changes-freed, Saves-unfreed, Saves-freed}
 use Rattle.hybrid_tx.proofs.Tx.clear.Goals as goal
 
 pub returns-in_err-save-clause-changes : goal.returns-in_err-save-clause-changes

@@ -1,6 +1,6 @@
 use Rattle.std.proofs.Common.{refl}
 use Rattle.pm_model.specs.Counts.{fault_of}
-use Rattle.hybrid_tx.proofs.PoolEnding.{EndsOn-ends}
+use Rattle.hybrid_tx.proofs.Objects.PoolEnding.{EndsOn-ends}
 use Rattle.hybrid_tx.proofs.Tx.commit.Goals as goal
 
 pub returns-clause-ends : goal.returns-clause-ends

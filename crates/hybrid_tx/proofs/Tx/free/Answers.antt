@@ -2,10 +2,10 @@ use Rattle.std.proofs.Common.{option_map, sym, ap, refl, ◌∙◌}
 use Rattle.std.proofs.lemmas.Option.{none-some}
 use Rattle.std.proofs.lemmas.Result.{err_from_is_err_and}
 use Rattle.pm_model.specs.Words.{reads}
-use Rattle.pm_model.proofs.Reading.{Changes-read}
+use Rattle.pm_model.proofs.Reading.{still_reads, Changes-read}
 use Rattle.puddle_header.specs.Places.{place_of_slot}
-use Rattle.hybrid_tx.proofs.FieldsSet.{placed_if_live}
-use Rattle.hybrid_tx.proofs.FieldPut.{RunsOn-stopped}
+use Rattle.hybrid_tx.proofs.Objects.FieldsSet.{placed_if_live}
+use Rattle.hybrid_tx.proofs.Objects.FieldPut.{RunsOn-stopped}
 use Rattle.hybrid_tx.proofs.Tx.free.Goals as goal
 
 pub returns-in_err-at-clause-changes : goal.returns-in_err-at-clause-changes
@@ -18,6 +18,12 @@ returns-in_err-at-clause-runs g c =
     let p = err_from_is_err_and c.from_residual.result c.from_residual.ensures.1 in
     rw (p.1, p.2) (λ t types before undone now laters placed is_open may unnamed.
     RunsOn-stopped _ _ types c.args.self.now.log _ before undone now laters _ _ _ refl c.in_err-at.ensures.only_reads t is_open)
+
+pub returns-in-Some-clause-runs : goal.returns-in-Some-clause-runs
+returns-in-Some-clause-runs g c = λ t.
+    rw (← c.in_ok-at.ensures.only_reads.stays t) (λ types before undone now laters placed is_open may unnamed.
+    c.free_at.ensures.runs t types before undone now laters c.args.s placed is_open may unnamed
+    (sym (c.in_ok-at.ensures.found t _ (sym (still_reads c.in_ok-at.ensures.only_reads t refl))) ∙ ap (option_map place_of_slot) c.in-Some.is))
 
 pub returns-in-Some-clause-nothing : goal.returns-in-Some-clause-nothing
 returns-in-Some-clause-nothing g c = λ t none.

@@ -1,6 +1,6 @@
 use Rattle.std.proofs.Common.{refl}
 use Rattle.pm_model.specs.Counts.{fault_of}
-use Rattle.hybrid_tx.proofs.SlotFreed.{RunsOn-free}
+use Rattle.hybrid_tx.proofs.Objects.SlotFreed.{RunsOn-free}
 use Rattle.hybrid_tx.proofs.Tx.free_at.Goals as goal
 
 pub returns-clause-runs : goal.returns-clause-runs

@@ -3,8 +3,8 @@ use Rattle.std.proofs.lemmas.Result.{err_from_is_err_and}
 use Rattle.pm_model.specs.Words.{reads}
 use Rattle.pm_model.proofs.Reading.{still_reads, Changes-read}
 use Rattle.pud_defs.specs.declared.records.Slot.{Slot}
-use Rattle.hybrid_tx.specs.Stores.{IsPlaceAndWord}
-use Rattle.hybrid_tx.proofs.FieldPut.{found_there, RunsOn-stopped, lacks_none}
+use Rattle.hybrid_tx.specs.Objects.Stores.{IsPlaceAndWord}
+use Rattle.hybrid_tx.proofs.Objects.FieldPut.{found_there, RunsOn-stopped, lacks_none}
 use Rattle.hybrid_tx.proofs.Tx.later.Goals as goal
 
 pub returns-in_err-at-clause-changes : goal.returns-in_err-at-clause-changes

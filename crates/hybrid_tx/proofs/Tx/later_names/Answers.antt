@@ -4,8 +4,8 @@ use Rattle.pud_defs.specs.Image.{Image}
 use Rattle.pud_defs.specs.Types.{types_of}
 use Rattle.pm_model.proofs.Reading.{still_reads}
 use Rattle.puddle_header.specs.Places.{place_of_slot}
-use Rattle.hybrid_tx.specs.Transactions.{AreLaters, IsOpenOn}
-use Rattle.hybrid_tx.proofs.LatersNamed.{none_named}
+use Rattle.hybrid_tx.specs.Objects.Transactions.{AreLaters, IsOpenOn}
+use Rattle.hybrid_tx.proofs.Objects.LatersNamed.{none_named}
 use Rattle.hybrid_tx.proofs.Tx.later_names.Goals as goal
 
 pub returns-in-Some-clause-names : goal.returns-in-Some-clause-names

@@ -5,8 +5,8 @@ use Rattle.pud_defs.specs.Entries.{Log, entries_of}
 use Rattle.pud_defs.specs.Stored.{stored_in}
 use Rattle.pud_defs.specs.Graph.{graph_of}
 use Rattle.log_entry.proofs.Left.{IsReading-start, IsReading-more}
-use Rattle.hybrid_tx.specs.Transactions.{AreLaters}
-use Rattle.hybrid_tx.proofs.LatersNamed.{NamesRest-start, NamesRest-more, NamesRest-passed, NamesOne-decided, NamesRest-end}
+use Rattle.hybrid_tx.specs.Objects.Transactions.{AreLaters}
+use Rattle.hybrid_tx.proofs.Objects.LatersNamed.{NamesRest-start, NamesRest-more, NamesRest-passed, NamesOne-decided, NamesRest-end}
 use Rattle.pm_model.proofs.Reading.{OnlyReads-none, OnlyReads-then, still_reads}
 use Rattle.hybrid_tx.proofs.Tx.later_names_at.Goals as goal
 

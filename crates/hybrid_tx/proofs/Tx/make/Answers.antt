@@ -4,8 +4,8 @@ use Rattle.std.proofs.lemmas.Result.{err_from_is_err_and}
 use Rattle.pm_model.specs.Words.{reads}
 use Rattle.pm_model.proofs.Reading.{Changes-read}
 use Rattle.hybrid_tx.specs.Grounds.{pool_ground}
-use Rattle.hybrid_tx.proofs.FieldPut.{RunsOn-stopped}
-use Rattle.hybrid_tx.proofs.ObjectPut.{serial_is_next, Changes-made, MakesIn-stopped, MakesIn-unput, MakesIn-new, RunsOn-unput, RunsOn-new}
+use Rattle.hybrid_tx.proofs.Objects.FieldPut.{RunsOn-stopped}
+use Rattle.hybrid_tx.proofs.Objects.ObjectPut.{serial_is_next, Changes-made, MakesIn-stopped, MakesIn-unput, MakesIn-new, RunsOn-unput, RunsOn-new}
 use Rattle.hybrid_tx.proofs.Tx.make.Goals as goal
 
 pub returns-in_err-serial-clause-changes : goal.returns-in_err-serial-clause-changes

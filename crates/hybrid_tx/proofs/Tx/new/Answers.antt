@@ -9,10 +9,10 @@ use Rattle.object_alloc.specs.Alloc.{alloc_fault}
 use Rattle.pm_model.proofs.Reading.{Changes-read}
 use Rattle.pud_defs.specs.GraphChanges.{with_new, blank_object}
 use Rattle.puddle_header.specs.Places.{place_of_slot}
-use Rattle.hybrid_tx.specs.Transactions.{IsOpenOn, RunsOn, MakesIn}
-use Rattle.hybrid_tx.proofs.FieldPut.{RunsOn-stopped}
-use Rattle.hybrid_tx.proofs.LowestSlot.{one_lowest, lowest_is_free, one_slot, first_there}
-use Rattle.hybrid_tx.proofs.ObjectPut.{MakesIn-stopped}
+use Rattle.hybrid_tx.specs.Objects.Transactions.{IsOpenOn, RunsOn, MakesIn}
+use Rattle.hybrid_tx.proofs.Objects.FieldPut.{RunsOn-stopped}
+use Rattle.hybrid_tx.proofs.Objects.LowestSlot.{one_lowest, lowest_is_free, one_slot, first_there}
+use Rattle.hybrid_tx.proofs.Objects.ObjectPut.{MakesIn-stopped}
 use Rattle.hybrid_tx.proofs.Tx.new.Goals as goal
 
 pub returns-in-Ok-clause-runs : goal.returns-in-Ok-clause-runs

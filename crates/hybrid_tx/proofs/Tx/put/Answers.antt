@@ -7,7 +7,7 @@ use Rattle.pud_defs.specs.Entries.{words_from}
 use Rattle.log_store.specs.Store.{OpenLog}
 use Rattle.word_transaction.specs.Ground.{IsGround, undo_entry}
 use Rattle.word_transaction.specs.Running.{IsRunning, IsCovered, Runs}
-use Rattle.hybrid_tx.proofs.Putting.{Runs-unput, Runs-put, ByPut-saved, ByPut-written}
+use Rattle.hybrid_tx.proofs.Objects.Putting.{Runs-unput, Runs-put, ByPut-saved, ByPut-written}
 use Rattle.hybrid_tx.proofs.Tx.put.Goals as goal
 
 pub returns-in_err-save-clause-changes : goal.returns-in_err-save-clause-changes

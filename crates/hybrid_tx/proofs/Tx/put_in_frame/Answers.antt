@@ -6,8 +6,8 @@ use Rattle.pud_defs.specs.declared.records.Puddle.{Puddle}
 use Rattle.pud_defs.specs.Frames.{frame_at}
 use Rattle.log_store.specs.Store.{longer}
 use Rattle.hybrid_tx.specs.Grounds.{pool_ground}
-use Rattle.hybrid_tx.specs.Stores.{ByPut}
-use Rattle.hybrid_tx.proofs.InFrames.{ByPut-in_frame, Saves-put, Saves-behind}
+use Rattle.hybrid_tx.specs.Objects.Stores.{ByPut}
+use Rattle.hybrid_tx.proofs.Objects.InFrames.{ByPut-in_frame, Saves-put, Saves-behind}
 use Rattle.hybrid_tx.proofs.Tx.put_in_frame.Goals as goal
 
 pub returns-clause-changes : goal.returns-clause-changes

@@ -2,8 +2,8 @@ use Rattle.std.proofs.Common.{sym, refl, ◌∙◌}
 use Rattle.std.proofs.lemmas.Result.{err_from_is_err_and}
 use Rattle.pm_model.specs.Words.{reads}
 use Rattle.pm_model.proofs.Reading.{still_reads, Changes-read}
-use Rattle.hybrid_tx.proofs.FieldsSet.{word_if_named}
-use Rattle.hybrid_tx.proofs.FieldPut.{RunsOn-stopped}
+use Rattle.hybrid_tx.proofs.Objects.FieldsSet.{word_if_named}
+use Rattle.hybrid_tx.proofs.Objects.FieldPut.{RunsOn-stopped}
 use Rattle.hybrid_tx.proofs.Tx.root.Goals as goal
 
 pub returns-in_err-word-clause-changes : goal.returns-in_err-word-clause-changes

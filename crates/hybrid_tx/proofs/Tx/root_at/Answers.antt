@@ -4,7 +4,7 @@ use Rattle.pm_model.specs.Words.{reads}
 use Rattle.pm_model.specs.Counts.{fault_of}
 use Rattle.graph_read.proofs.Held.{none_held}
 use Rattle.graph_read.proofs.Judging.{entry, positive_length}
-use Rattle.hybrid_tx.proofs.RootPut.{RunsOn-root}
+use Rattle.hybrid_tx.proofs.Objects.RootPut.{RunsOn-root}
 use Rattle.hybrid_tx.proofs.Tx.root_at.Goals as goal
 
 pub returns-then-is_empty-clause-runs : goal.returns-then-is_empty-clause-runs

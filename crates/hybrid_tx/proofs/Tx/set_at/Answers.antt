@@ -1,7 +1,7 @@
 use Rattle.std.proofs.Common.{ℕ, ◌+◌, ap, refl}
 use Rattle.std.proofs.lemmas.Option.{slice_get_within}
 use Rattle.pm_model.specs.Counts.{fault_of}
-use Rattle.hybrid_tx.proofs.FieldPut.{RunsOn-set}
+use Rattle.hybrid_tx.proofs.Objects.FieldPut.{RunsOn-set}
 use Rattle.hybrid_tx.proofs.Tx.set_at.Goals as goal
 
 pub put_in_frame-requires-clause-there : goal.put_in_frame-requires-clause-there

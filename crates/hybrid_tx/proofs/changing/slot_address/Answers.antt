@@ -1,6 +1,6 @@
 use Rattle.std.proofs.Common.{sym}
 use Rattle.std.proofs.lemmas.Option.{get_or_from_slice_get}
-use Rattle.hybrid_tx.proofs.FieldPut.{slot_address-read}
+use Rattle.hybrid_tx.proofs.Objects.FieldPut.{slot_address-read}
 use Rattle.hybrid_tx.proofs.changing.slot_address.Goals as goal
 
 pub returns : goal.returns

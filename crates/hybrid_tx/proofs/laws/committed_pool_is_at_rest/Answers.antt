@@ -1,4 +1,4 @@
-use Rattle.hybrid_tx.proofs.PoolEnding.{IsAtRest-ended}
+use Rattle.hybrid_tx.proofs.Objects.PoolEnding.{IsAtRest-ended}
 use Rattle.hybrid_tx.proofs.laws.committed_pool_is_at_rest.Goals as goal
 
 pub returns : goal.returns

@@ -1,4 +1,4 @@
-use Rattle.hybrid_tx.proofs.FieldsSet.{set_value}
+use Rattle.hybrid_tx.proofs.Objects.FieldsSet.{set_value}
 use Rattle.hybrid_tx.proofs.laws.stored_word_sets_the_field.Goals as goal
 
 pub returns : goal.returns

@@ -1,4 +1,4 @@
-use Rattle.hybrid_tx.proofs.ObjectsMade.{new_stored}
+use Rattle.hybrid_tx.proofs.Objects.ObjectsMade.{new_stored}
 use Rattle.hybrid_tx.proofs.laws.stored_words_make_the_object.Goals as goal
 
 pub returns : goal.returns

@@ -1,4 +1,4 @@
-use Rattle.hybrid_tx.proofs.Opening.{RunsOn-open}
+use Rattle.hybrid_tx.proofs.Objects.Opening.{RunsOn-open}
 use Rattle.hybrid_tx.proofs.laws.transaction_stays_open.Goals as goal
 
 pub returns : goal.returns

@@ -1,4 +1,4 @@
-use Rattle.hybrid_tx.proofs.PoolEnding.{IsAtRest-closed}
+use Rattle.hybrid_tx.proofs.Objects.PoolEnding.{IsAtRest-closed}
 use Rattle.hybrid_tx.proofs.laws.undone_pool_is_at_rest.Goals as goal
 
 pub returns : goal.returns

@@ -1,5 +1,5 @@
 use Rattle.std.proofs.Common.{refl}
-use Rattle.hybrid_tx.proofs.OpenWorlds.{none_refused_with_masked}
+use Rattle.hybrid_tx.proofs.Open.OpenWorlds.{none_refused_with_masked}
 use Rattle.hybrid_tx.proofs.open_laws.image_left_refuses_no_log.Goals as goal
 
 pub returns : goal.returns

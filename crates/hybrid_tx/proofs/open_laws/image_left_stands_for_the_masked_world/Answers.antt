@@ -1,5 +1,5 @@
 use Rattle.std.proofs.Common.{refl}
-use Rattle.hybrid_tx.proofs.OpenWorlds.{world_with_masked}
+use Rattle.hybrid_tx.proofs.Open.OpenWorlds.{world_with_masked}
 use Rattle.hybrid_tx.proofs.open_laws.image_left_stands_for_the_masked_world.Goals as goal
 
 pub returns : goal.returns

@@ -1,4 +1,4 @@
-use Rattle.hybrid_tx.proofs.ManyMasks.{open_masks_all}
+use Rattle.hybrid_tx.proofs.Open.ManyMasks.{open_masks_all}
 use Rattle.hybrid_tx.proofs.open_laws.words_of_all_are_masked_alike.Goals as goal
 
 pub returns : goal.returns

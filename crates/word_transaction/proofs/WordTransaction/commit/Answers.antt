@@ -1,54 +1,33 @@
-use Rattle.std.proofs.Common.{◌≡◌, true, false, None, refl, sym, ap, subst, ◌∙◌}
+use Rattle.std.proofs.Common.{◌≡◌, true, false, None, sym, ap, subst, ◌∙◌}
 use Rattle.std.proofs.lemmas.Result.{err_from_is_err_and}
-use Rattle.pm_model.specs.Words.{reads}
 use Rattle.pm_model.specs.Counts.{Counts, fault_of}
 use Rattle.pm_model.specs.Changes.{Persists, only}
 use Rattle.pm_model.proofs.Changes.{Changes-fence}
-use Rattle.pm_model.proofs.Reading.{Changes-read}
 use Rattle.pud_defs.specs.declared.log_words.TheConstants.{CLOSED_GATE}
-use Rattle.pud_defs.specs.Entries.{Log, entries_of}
 use Rattle.log_store.specs.Store.{OpenLog}
 use Rattle.log_replay.specs.Replaying.{Anything}
 use Rattle.log_replay.proofs.Applying.{any_then, any_wider}
 use Rattle.word_transaction.specs.Running.{ByCommit}
-use Rattle.word_transaction.proofs.Committed.{fence_from, Moves-from, gate_moves, gate_closes, Ends-stopped, Ends-fence, Ends-move, Ends-close}
+use Rattle.word_transaction.proofs.Committed.{gate_moves, gate_closes, Ends-fence, Ends-move, Ends-close}
 use Rattle.word_transaction.proofs.Redone.{Ends-redone}
 use Rattle.word_transaction.proofs.WordTransaction.commit.Goals as goal
-
--- ---- the log could not be read
-
-pub returns-in_err-asked-clause-ends : goal.returns-in_err-asked-clause-ends
-returns-in_err-asked-clause-ends g c =
-    let p = err_from_is_err_and c.from_residual.result c.from_residual.ensures.1 in
-    rw (p.1, p.2) (λ t size same ground es before is r can. Ends-stopped size c.args.self es ground before _ is r _ _ c.in_err-asked.ensures.only_reads.never_cut (c.in_err-asked.ensures.only_reads.stays t))
-
-pub returns-in_err-asked-clause-gate : goal.returns-in_err-asked-clause-gate
-returns-in_err-asked-clause-gate g c =
-    let p = err_from_is_err_and c.from_residual.result c.from_residual.ensures.1 in
-    rw (p.1, p.2) (λ t es opened none. Changes-read c.in_err-asked.ensures.only_reads t)
-
-pub returns-in_err-asked-clause-any : goal.returns-in_err-asked-clause-any
-returns-in_err-asked-clause-any g c =
-    let p = err_from_is_err_and c.from_residual.result c.from_residual.ensures.1 in
-    rw (p.1, p.2) (λ t. Changes-read c.in_err-asked.ensures.only_reads t)
 
 -- ---- the fence failed
 
 pub returns-in_err-fence-clause-ends : goal.returns-in_err-fence-clause-ends
 returns-in_err-fence-clause-ends g c =
-    let p = err_from_is_err_and c.from_residual-in_err-fence.result c.from_residual-in_err-fence.ensures.1 in
-    rw (p.1, p.2) (λ t size same ground es before is r can.
-    Ends-fence size c.args.self es ground before _ is r _ _ (fence_from _ _ _ _ (c.in_ok-asked.ensures.only_reads.stays t) (c.in_err-fence.ensures.state t)))
+    let p = err_from_is_err_and c.from_residual.result c.from_residual.ensures.1 in
+    rw (p.1, p.2) (λ t size same ground es before is r can. Ends-fence size c.args.self es ground before _ is r _ _ (c.in_err-fence.ensures.state t))
 
 pub returns-in_err-fence-clause-gate : goal.returns-in_err-fence-clause-gate
 returns-in_err-fence-clause-gate g c =
-    let p = err_from_is_err_and c.from_residual-in_err-fence.result c.from_residual-in_err-fence.ensures.1 in
-    rw (p.1, p.2) (λ t es opened none. Changes-fence (ByCommit c.args.self) _ _ _ (fence_from _ _ _ _ (c.in_ok-asked.ensures.only_reads.stays t) (c.in_err-fence.ensures.state t)))
+    let p = err_from_is_err_and c.from_residual.result c.from_residual.ensures.1 in
+    rw (p.1, p.2) (λ t es opened none. Changes-fence (ByCommit c.args.self) _ _ _ (c.in_err-fence.ensures.state t))
 
 pub returns-in_err-fence-clause-any : goal.returns-in_err-fence-clause-any
 returns-in_err-fence-clause-any g c =
-    let p = err_from_is_err_and c.from_residual-in_err-fence.result c.from_residual-in_err-fence.ensures.1 in
-    rw (p.1, p.2) (λ t. Changes-fence Anything _ _ _ (fence_from _ _ _ _ (c.in_ok-asked.ensures.only_reads.stays t) (c.in_err-fence.ensures.state t)))
+    let p = err_from_is_err_and c.from_residual.result c.from_residual.ensures.1 in
+    rw (p.1, p.2) (λ t. Changes-fence Anything _ _ _ (c.in_err-fence.ensures.state t))
 
 -- ---- the range was not moved
 
@@ -56,77 +35,67 @@ pub returns-in_err-to_committing-clause-ends : goal.returns-in_err-to_committing
 returns-in_err-to_committing-clause-ends g c =
     let p = err_from_is_err_and c.from_residual-in_err-to_committing.result c.from_residual-in_err-to_committing.ensures.1 in
     rw (p.1, p.2, ← c.self.view_is) (λ t size same ground es before is r can.
-    Ends-move size _ es ground before _ is r _ _ _ (Moves-from _ _ _ _ _ _ (c.in_ok-asked.ensures.only_reads.stays t) (c.in_ok-fence.ensures.state t) (c.in_err-to_committing.ensures.persists t)))
+    Ends-move size _ es ground before _ is r _ _ _ (record { fence = c.in_ok-fence.ensures.state t; move = c.in_err-to_committing.ensures.persists t }))
 
 pub returns-in_err-to_committing-clause-gate : goal.returns-in_err-to_committing-clause-gate
 returns-in_err-to_committing-clause-gate g c =
     let p = err_from_is_err_and c.from_residual-in_err-to_committing.result c.from_residual-in_err-to_committing.ensures.1 in
     rw (p.1, p.2, ← c.self.view_is) (λ t es opened none.
-    gate_moves _ _ _ _ _ (Moves-from _ _ _ _ _ _ (c.in_ok-asked.ensures.only_reads.stays t) (c.in_ok-fence.ensures.state t) (c.in_err-to_committing.ensures.persists t)))
+    gate_moves _ _ _ _ _ (record { fence = c.in_ok-fence.ensures.state t; move = c.in_err-to_committing.ensures.persists t }))
 
 pub returns-in_err-to_committing-clause-any : goal.returns-in_err-to_committing-clause-any
 returns-in_err-to_committing-clause-any g c =
     let p = err_from_is_err_and c.from_residual-in_err-to_committing.result c.from_residual-in_err-to_committing.ensures.1 in
     rw (p.1, p.2) (λ t.
     any_wider (ByCommit c.self.inside.log) _ _ _
-    (gate_moves _ _ _ _ _ (Moves-from _ _ _ _ _ _ (c.in_ok-asked.ensures.only_reads.stays t) (c.in_ok-fence.ensures.state t) (c.in_err-to_committing.ensures.persists t))))
+    (gate_moves _ _ _ _ _ (record { fence = c.in_ok-fence.ensures.state t; move = c.in_err-to_committing.ensures.persists t })))
 
 -- ---- values are asked for: the log is replayed
 
 pub returns-then-asked-clause-ends : goal.returns-then-asked-clause-ends
 returns-then-asked-clause-ends g c =
     let old = g.H.Host.state c.args.h.now in
-    let image = reads old.now.words in
     let fault = fault_of c.settle_log.result in
-    let here = c.at-at.ensures in
-    let size_now = ap (λ (n : Counts). n.size) (c.in_ok-to_committing.ensures.cause ∙ c.in_ok-fence.ensures.cause ∙ c.in_ok-asked.ensures.only_reads.cause) in
+    let size_now = ap (λ (n : Counts). n.size) (c.in_ok-to_committing.ensures.cause ∙ c.in_ok-fence.ensures.cause) in
     rw (← c.self.view_is) (λ t size same ground es before is r can.
-    let spells = ap (entries_of image) here ∙ ap (λ (l : Log). l.entries) r.opened.says in
-    let some = sym (c.in_ok-asked.ensures.asks t image refl es spells) ∙ c.if-asked.true in
-    let moves = Moves-from _ _ _ _ _ _ (c.in_ok-asked.ensures.only_reads.stays t) (c.in_ok-fence.ensures.state t) (c.in_ok-to_committing.ensures.persists t) in
-    Ends-redone size _ es ground before old is r c.args.frames c.at-at.result fault _ _ _ here (can some) moves
+    let some = sym (c.asks-asked.ensures ∙ r.opened.asked) ∙ c.if-asked.true in
+    Ends-redone size _ es ground before old is r c.args.frames c.at-at.result fault _ _ _ c.at-at.ensures (can some)
+    (record { fence = c.in_ok-fence.ensures.state t; move = c.in_ok-to_committing.ensures.persists t })
     (λ may. c.settle_log.ensures.settles t size (same ∙ sym size_now) es may) (λ may durable. c.settle_log.ensures.moments t size (same ∙ sym size_now) es may durable))
 
 pub returns-then-asked-clause-gate : goal.returns-then-asked-clause-gate
 returns-then-asked-clause-gate g c =
-    let image = reads (g.H.Host.state c.args.h.now).now.words in
     rw (← c.self.view_is) (λ t es opened none.
-    let spells = ap (entries_of image) c.at-at.ensures ∙ ap (λ (l : Log). l.entries) opened.says in
-    let some = sym (c.in_ok-asked.ensures.asks t image refl es spells) ∙ c.if-asked.true in
+    let some = sym (c.asks-asked.ensures ∙ opened.asked) ∙ c.if-asked.true in
     absurd (let it : true ≡ false = sym some ∙ none in cc))
 
 pub returns-then-asked-clause-any : goal.returns-then-asked-clause-any
 returns-then-asked-clause-any g c = λ t.
     any_then (fault_of c.settle_log.result) _ _ _
     (any_wider (ByCommit c.self.inside.log) None _ _
-    (gate_moves _ _ _ _ _ (Moves-from _ _ _ _ _ _ (c.in_ok-asked.ensures.only_reads.stays t) (c.in_ok-fence.ensures.state t) (c.in_ok-to_committing.ensures.persists t))))
+    (gate_moves _ _ _ _ _ (record { fence = c.in_ok-fence.ensures.state t; move = c.in_ok-to_committing.ensures.persists t })))
     (c.settle_log.ensures.any t)
 
 -- ---- none is: the log is closed
 
 pub returns-clause-ends : goal.returns-clause-ends
 returns-clause-ends g c =
-    let image = reads (g.H.Host.state c.args.h.now).now.words in
     let fault = fault_of c.close.result in
     rw (← c.self.view_is) (λ t size same ground es before is r can.
-    let spells = ap (entries_of image) c.at-at.ensures ∙ ap (λ (l : Log). l.entries) r.opened.says in
-    let none = sym (c.in_ok-asked.ensures.asks t image refl es spells) ∙ c.if-asked.false in
-    let moves = Moves-from _ _ _ _ _ _ (c.in_ok-asked.ensures.only_reads.stays t) (c.in_ok-fence.ensures.state t) (c.in_ok-to_committing.ensures.persists t) in
+    let none = sym (c.asks-asked.ensures ∙ r.opened.asked) ∙ c.if-asked.false in
     let close = subst (λ (l : OpenLog). Persists (only l.at CLOSED_GATE) fault (g.H.Host.state c.to_committing.new.h) (g.H.Host.state c.close.new.h)) c.in_ok-to_committing.ensures.moved (c.close.ensures.persists t) in
-    Ends-close size _ es ground before _ is r fault _ _ _ none moves close)
+    Ends-close size _ es ground before _ is r fault _ _ _ none (record { fence = c.in_ok-fence.ensures.state t; move = c.in_ok-to_committing.ensures.persists t }) close)
 
 pub returns-clause-gate : goal.returns-clause-gate
 returns-clause-gate g c =
     let fault = fault_of c.close.result in
     rw (← c.self.view_is) (λ t es opened none.
-    let moves = Moves-from _ _ _ _ _ _ (c.in_ok-asked.ensures.only_reads.stays t) (c.in_ok-fence.ensures.state t) (c.in_ok-to_committing.ensures.persists t) in
     let close = subst (λ (l : OpenLog). Persists (only l.at CLOSED_GATE) fault (g.H.Host.state c.to_committing.new.h) (g.H.Host.state c.close.new.h)) c.in_ok-to_committing.ensures.moved (c.close.ensures.persists t) in
-    gate_closes _ fault _ _ _ _ moves close)
+    gate_closes _ fault _ _ _ _ (record { fence = c.in_ok-fence.ensures.state t; move = c.in_ok-to_committing.ensures.persists t }) close)
 
 pub returns-clause-any : goal.returns-clause-any
 returns-clause-any g c =
     let fault = fault_of c.close.result in
     λ t.
-    let moves = Moves-from _ _ _ _ _ _ (c.in_ok-asked.ensures.only_reads.stays t) (c.in_ok-fence.ensures.state t) (c.in_ok-to_committing.ensures.persists t) in
     let close = subst (λ (l : OpenLog). Persists (only l.at CLOSED_GATE) fault (g.H.Host.state c.to_committing.new.h) (g.H.Host.state c.close.new.h)) c.in_ok-to_committing.ensures.moved (c.close.ensures.persists t) in
-    any_wider (ByCommit c.self.inside.log) fault _ _ (gate_closes _ fault _ _ _ _ moves close)
+    any_wider (ByCommit c.self.inside.log) fault _ _ (gate_closes _ fault _ _ _ _ (record { fence = c.in_ok-fence.ensures.state t; move = c.in_ok-to_committing.ensures.persists t }) close)

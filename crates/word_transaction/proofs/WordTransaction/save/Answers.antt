@@ -1,5 +1,4 @@
-use Rattle.std.proofs.Common.{sym, ap, ◌∙◌, refl}
-use Rattle.pm_model.specs.Counts.{Counts}
+use Rattle.std.proofs.Common.{refl}
 use Rattle.std.proofs.lemmas.Result.{err_from_is_err_and}
 use Rattle.word_transaction.proofs.Calls.{Runs-stopped}
 use Rattle.word_transaction.proofs.Saving.{Runs-saved}

@@ -1,0 +1,20 @@
+-- Calls on objects: what each stores, and what graph is read behind it.
+pub mod FieldsSet
+pub mod ObjectsMade
+pub mod ObjectsFreed
+pub mod RootsSet
+pub mod Putting
+pub mod LatersKept
+pub mod LatersBehind
+pub mod LatersSpared
+pub mod LatersApplied
+pub mod LatersNamed
+pub mod Opening
+pub mod InFrames
+pub mod FieldPut
+pub mod LowestSlot
+pub mod ObjectPut
+pub mod SlotFreed
+pub mod RewrittenPools
+pub mod RootPut
+pub mod PoolEnding

@@ -1,0 +1,129 @@
+-- A field is set within a transaction, or its value is asked for.
+use Rattle.std.proofs.Common.{◌≡◌, inl, inr, ℕ, ◌+◌, ◌*◌, ◌%◌, ◌^◌, ◌≤◌, true, List, [], ◌∷◌, ◌++◌, All, map, Option, Some, None, option_map, refl, sym, ap, subst, ◌∙◌, arith}
+use Rattle.std.specs.Prelude.{slice_get}
+use Rattle.std.proofs.lemmas.Option.{none-some, slice_get-map}
+use Rattle.pm_model.specs.declared.host.HostFault.{HostFault}
+use Rattle.pm_model.specs.Words.{reads}
+use Rattle.pm_model.specs.Moments.{State}
+use Rattle.pm_model.specs.Counts.{Counts}
+use Rattle.pm_model.specs.Changes.{placed}
+use Rattle.pm_model.specs.Reads.{OnlyReads}
+use Rattle.pud_defs.specs.declared.layout.TheConstants.{LOG_WORDS}
+use Rattle.pud_defs.specs.declared.space.TheConstants.{WORD_BYTES}
+use Rattle.pud_defs.specs.declared.records.Puddle.{Puddle}
+use Rattle.pud_defs.specs.declared.records.Slot.{Slot}
+use Rattle.pud_defs.specs.declared.objects.Val.{Val}
+use Rattle.pud_defs.specs.Layout.{device_words, frames_at}
+use Rattle.pud_defs.specs.Image.{Image}
+use Rattle.pud_defs.specs.Bases.{is_legal_base}
+use Rattle.pud_defs.specs.Geometry.{slot_begins, ordinal_of}
+use Rattle.pud_defs.specs.Frames.{frame_at}
+use Rattle.pud_defs.specs.Entries.{Entry}
+use Rattle.pud_defs.specs.Replay.{overwritten}
+use Rattle.pud_defs.proofs.Replay.{overwritten-nothing}
+use Rattle.pud_defs.specs.Stored.{stored_in}
+use Rattle.pud_defs.specs.Graph.{Graph, graph_of}
+use Rattle.pud_defs.specs.GraphChanges.{with_field}
+use Rattle.pud_defs.specs.Laters.{Later}
+use Rattle.pud_defs.specs.Exported.{address_in}
+use Rattle.graph_laws.proofs.Words.{few_fields}
+use Rattle.puddle_header.specs.Places.{place_of_slot, IsSlotOf}
+use Rattle.graph_read.specs.Reading.{place_in_pool}
+use Rattle.puddle_header.proofs.Placed.{place_ordinal, place_slot}
+use Rattle.log_store.specs.Store.{OpenLog}
+use Rattle.word_transaction.specs.Ground.{redo_entry}
+use Rattle.word_transaction.specs.Running.{nothing}
+use Rattle.word_transaction.proofs.Calls.{Runs-stopped, some_fault}
+use Rattle.hybrid_tx.specs.Grounds.{pool_ground, IsPlaced}
+use Rattle.hybrid_tx.specs.Objects.Stores.{address_at, word_for, IsPlaceAndWord, LacksPlaceOrWord, field_word}
+use Rattle.hybrid_tx.specs.Objects.Transactions.{MaySet, IsRewrittenFor, IsLater, AreLaters, IsSaving, IsOpenOn, Saves, RunsOn}
+use Rattle.hybrid_tx.proofs.PoolGrounds.{all_there}
+use Rattle.hybrid_tx.proofs.Objects.FieldsSet.{placed_if_live, word_if_held, set_value}
+use Rattle.hybrid_tx.proofs.Objects.LatersKept.{AreLaters-kept, AreLaters-more}
+use Rattle.hybrid_tx.proofs.Objects.LatersBehind.{KeepsObjects-field, KeepsPlaces-field}
+use Rattle.hybrid_tx.proofs.Objects.Opening.{RunsOn-write}
+use Rattle.hybrid_tx.proofs.Objects.InFrames.{no_wrap}
+
+-- what was found is there
+pub found_there : (F : ℕ) (at : List (ℕ × Puddle)) (image : Image) (s : ℕ) (x : Val) (found : Slot × ℕ) → IsPlaceAndWord F at image s x found → LacksPlaceOrWord F at image s x → ⊥
+found_there F at image s x found there lacks = elim lacks [ inl none ↦ none-some _ (sym none ∙ there.0) | inr none ↦ none-some _ (sym none ∙ there.1) ]
+
+-- the address of a slot, by its ordinal
+pub slot_address-read : (at : List (ℕ × Puddle)) (slot : Slot) (of : IsSlotOf at slot) (e : ℕ × Puddle) → (slot.frame, of.puddle) ≡ e → All (λ d. is_legal_base d.1.base ≡ true) at
+    → (e.1.base + WORD_BYTES * slot_begins slot) % 2 ^ 64 ≡ address_at at (place_of_slot slot)
+slot_address-read at slot of e same legal =
+    let its : is_legal_base of.puddle.base ≡ true = all_there (λ d. is_legal_base d.1.base ≡ true) at slot.ordinal (slot.frame, of.puddle) legal of.there in
+    let ordinal = place_ordinal slot.ordinal slot.slot of.below in
+    let number = place_slot slot.ordinal slot.slot of.below in
+    let below = of.below in
+    let home : slice_get (map (λ (d : ℕ × Puddle). d.1) at) slot.ordinal ≡ Some of.puddle =
+    slice_get-map (λ (d : ℕ × Puddle). d.1) at slot.ordinal ∙ ap (option_map (λ (d : ℕ × Puddle). d.1)) of.there in
+    ap (λ (d : ℕ × Puddle). (d.1.base + WORD_BYTES * slot_begins slot) % 2 ^ 64) (sym same)
+    ∙ no_wrap of.puddle.base (slot_begins slot) its (omega arith)
+    ∙ ap (λ (o : Option Puddle). address_in o slot.slot) (sym home)
+    ∙ ap (λ (o : ℕ). address_in (slice_get (map (λ (d : ℕ × Puddle). d.1) at) o) slot.slot) (sym ordinal)
+    ∙ ap (λ (n : ℕ). address_in (slice_get (map (λ (d : ℕ × Puddle). d.1) at) (ordinal_of (place_of_slot slot))) n) (sym number)
+
+module _ (F : ℕ) (at : List (ℕ × Puddle)) (types : List (ℕ × ℕ)) (log behind : OpenLog) (before : Image) (undone now : Graph) (laters : List Later) where
+  -- a call that failed before it did more than read
+  pub RunsOn-stopped : {H : Type 0} {tells : Type 0} {state : H → State} {counts : H → Counts} {old new : H} (next : Graph) (more : List Later) (fault : HostFault) → behind.at ≡ log.at
+      → OnlyReads tells state counts (Some fault) old new → tells → IsOpenOn F at types log before undone now laters (state old).now.words
+      → RunsOn F at types behind before undone next more (Some fault) (state old) (state new)
+  RunsOn-stopped {state = state} {old = old} {new = new} next more fault same only t is_open =
+      let s = is_open.saving in
+      record {
+        write = nothing;
+        redo = is_open.redo;
+        saves = record { es = s.es; runs = Runs-stopped (pool_ground F at) log behind s.es s.es before nothing fault (state old) (state new) same only.never_cut (only.stays t) s.running; asks = s.asks };
+        was = is_open.was;
+        is = λ none. absurd (some_fault fault none);
+        are = λ none. absurd (some_fault fault none);
+      }
+
+  module _ (s f : ℕ) (x : Val) (old : State) (is_open : IsOpenOn F at types log before undone now laters old.now.words) (may : MaySet types now s f x) where
+    no_place : place_in_pool F at (reads old.now.words) s ≡ None → ⊥
+    no_place = placed_if_live types F at (reads old.now.words) now is_open.is s may.object may.live
+
+    no_value : word_for F at (reads old.now.words) x ≡ None → ⊥
+    no_value = word_if_held types F at (reads old.now.words) now is_open.is may.map f x may.holds
+
+    pub lacks_none : LacksPlaceOrWord F at (reads old.now.words) s x → ⊥
+    lacks_none lacks = elim lacks [ inl none ↦ no_place none | inr none ↦ no_value none ]
+
+    pub RunsOn-set : (size word : ℕ) (slot : Slot) (v : ℕ) (fault : Option HostFault) (mid new : State) → IsPlaced F at → IsRewrittenFor F at (reads old.now.words) s → device_words F ≤ size → log.at + LOG_WORDS ≤ frames_at F
+        → behind.at ≡ log.at → mid ≡ old → IsSlotOf at slot → place_in_pool F at (reads old.now.words) s ≡ Some (place_of_slot slot) → word_for F at (reads old.now.words) x ≡ Some v → word ≡ field_word slot f
+        → ((e : ℕ × Puddle) → slice_get at slot.ordinal ≡ Some e → (b : Image) (redo : List Entry) → IsSaving F at log b redo mid.now.words
+        → Saves F at behind b redo (placed (frame_at F e.0 + word) (v ∷ [])) fault mid new)
+        → RunsOn F at types behind before undone (with_field s f x now) laters fault old new
+    RunsOn-set size word slot v fault mid new is_placed rewritten device apart same stays of found value is_word put =
+        let image = reads old.now.words in
+        let write = placed (frame_at F slot.frame + field_word slot f) (v ∷ []) in
+        let redo = is_open.redo in
+        let few = few_fields may.map in
+        let below = may.below in
+        let put_here = subst (λ (k : ℕ). IsSaving F at log before redo mid.now.words → Saves F at behind before redo (placed (frame_at F slot.frame + k) (v ∷ [])) fault mid new) is_word
+        (put (slot.frame, of.puddle) of.there before redo) in
+        RunsOn-write F size at types before log behind undone now (with_field s f x now) laters laters redo write fault old mid new is_placed device apart same stays is_open put_here
+        (set_value types F at image now is_open.is is_placed s f slot (rewritten.each slot of found) of found x v may value)
+        (AreLaters-kept F at types image (overwritten write image) now (with_field s f x now)
+        (KeepsPlaces-field F at image is_placed.frames slot of f v (omega arith) now) (KeepsObjects-field s f x now) laters redo is_open.are)
+
+    -- the value asked for
+    pub RunsOn-later : (size word : ℕ) (slot : Slot) (v : ℕ) (fault : Option HostFault) (mid new : State) → IsPlaced F at → device_words F ≤ size → log.at + LOG_WORDS ≤ frames_at F
+        → behind.at ≡ log.at → mid ≡ old → IsSlotOf at slot → place_in_pool F at (reads old.now.words) s ≡ Some (place_of_slot slot) → word_for F at (reads old.now.words) x ≡ Some v → word ≡ field_word slot f
+        → ((e : ℕ × Puddle) → slice_get at slot.ordinal ≡ Some e → (b : Image) (redo : List Entry) → IsSaving F at log b redo mid.now.words
+        → Saves F at behind b (redo ++ redo_entry (e.1.base + WORD_BYTES * word) (v ∷ []) ∷ []) nothing fault mid new)
+        → RunsOn F at types behind before undone now (laters ++ record { s = s; f = f; x = x } ∷ []) fault old new
+    RunsOn-later size word slot v fault mid new is_placed device apart same stays of found value is_word ask =
+        let image = reads old.now.words in
+        let redo = is_open.redo in
+        let entry = redo_entry (of.puddle.base + WORD_BYTES * field_word slot f) (v ∷ []) in
+        let later : IsLater F at types image now (record { s = s; f = f; x = x }) entry = record { slot = slot; of = of; place = found; value = v; word = value; may = may; is = refl } in
+        let ask_here = subst (λ (k : ℕ). IsSaving F at log before redo mid.now.words → Saves F at behind before (redo ++ redo_entry (of.puddle.base + WORD_BYTES * k) (v ∷ []) ∷ []) nothing fault mid new)
+        is_word (ask (slot.frame, of.puddle) of.there before redo) in
+        let same_image : overwritten nothing image ≡ image = overwritten-nothing nothing image (λ k. refl) in
+        RunsOn-write F size at types before log behind undone now now laters (laters ++ record { s = s; f = f; x = x } ∷ []) (redo ++ entry ∷ []) nothing fault old mid new
+        is_placed device apart same stays is_open ask_here
+        (ap (λ (i : Image). graph_of types (stored_in F at i)) same_image ∙ is_open.is)
+        (subst (λ (i : Image). AreLaters F at types i now (laters ++ record { s = s; f = f; x = x } ∷ []) (redo ++ entry ∷ [])) (sym same_image)
+        (AreLaters-more F at types image now (record { s = s; f = f; x = x }) entry later laters redo is_open.are))

@@ -1,0 +1,181 @@
+-- What is asked for later stays so when a field or the root is set and when an object is made.
+use Rattle.std.proofs.Common.{◌≡◌, inl, inr, ℕ, ◌+◌, ◌<◌, cond, eqb, List, [], ◌∷◌, Option, Some, None, option_map, nat_cmp, refl, sym, ap, ◌∙◌, arith, eq-eqb, ne_eqb}
+use Rattle.std.specs.Prelude.{slice_get}
+use Rattle.std.specs.FinMap.Entries.{find, put, find-put}
+use Rattle.std.proofs.lemmas.Bool.{cases_eq, cond-true, cond-false}
+use Rattle.std.proofs.lemmas.Cmp.{nat_cmp_total}
+use Rattle.std.proofs.lemmas.Option.{none-some, same_Some}
+use Rattle.pm_model.specs.Changes.{placed}
+use Rattle.pud_defs.specs.declared.layout.TheConstants.{FRAME_WORDS, MAX_FIELDS}
+use Rattle.pud_defs.specs.declared.space.TheConstants.{SLOT_SERIAL_WORD, ROOT_WORD}
+use Rattle.pud_defs.specs.declared.records.Puddle.{Puddle}
+use Rattle.pud_defs.specs.declared.records.Slot.{Slot}
+use Rattle.pud_defs.specs.declared.objects.Val.{Val}
+use Rattle.pud_defs.specs.Geometry.{puddle_slots, puddle_slot_at, ordinal_of, slot_of}
+use Rattle.pud_defs.specs.Image.{Image}
+use Rattle.pud_defs.specs.Keyed.{under, first_from}
+use Rattle.pud_defs.specs.Types.{map_of}
+use Rattle.pud_defs.specs.Frames.{frame_at}
+use Rattle.pud_defs.specs.Replay.{overwritten}
+use Rattle.pud_defs.specs.Stored.{Stored, stored_in, places_of, place_word, place_begins, slot_state, IsFreePlace}
+use Rattle.pud_defs.specs.Graph.{under_serial, table_of, place_of, object_at, Object, Graph, object_in, next_serial_of, graph_of}
+use Rattle.pud_defs.specs.GraphChanges.{object_with, with_some_object, with_field, with_new, with_root}
+use Rattle.pud_defs.proofs.TypeLists.{same_test}
+use Rattle.pud_defs.proofs.Keyed.{first_from_same}
+use Rattle.pud_defs.proofs.Graphs.{graph_of-each}
+use Rattle.graph_laws.specs.Changes.{with_word, with_words}
+use Rattle.graph_laws.specs.Reads.{HasDistinctFrames}
+use Rattle.graph_laws.proofs.Places.{object_in-place}
+use Rattle.graph_laws.proofs.TableChanges.{under_other}
+use Rattle.graph_laws.proofs.Words.{with_word-other, place_of-some}
+use Rattle.puddle_header.specs.Places.{places_in, place_of_slot, IsSlotOf}
+use Rattle.graph_read.specs.Reading.{place_in_pool}
+use Rattle.hybrid_tx.specs.Grounds.{IsPlaced}
+use Rattle.hybrid_tx.specs.Objects.Stores.{field_word, making}
+use Rattle.hybrid_tx.proofs.Objects.FieldsSet.{stored_in-one}
+use Rattle.hybrid_tx.proofs.Objects.ObjectsMade.{made}
+use Rattle.hybrid_tx.proofs.Objects.LatersKept.{IsOfType, KeepsObjects, KeepsPlaces}
+
+-- ---- objects
+
+-- beside one that is put the objects are those that were
+found_put : (r s : ℕ) (d : Object) (g : Graph) → find nat_cmp r (put nat_cmp s d g.objects) ≡ cond (eqb r s) (Some d) (object_in r g)
+found_put r s d g = find-put nat_cmp nat_cmp_total r s d g.objects ∙ ap (λ b. cond b (Some d) (object_in r g)) (same_test r s)
+
+-- a field is set
+module _ (s f : ℕ) (x : Val) (g : Graph) where
+  field_by : (there : Option Object) → object_in s g ≡ there → (r : ℕ) (o : Object) → object_in r g ≡ Some o → IsOfType (with_some_object s (option_map (object_with f x) there) g) r o.type_id
+  field_by None none r o live = record { object = o; live = live; same_type = refl }
+  field_by (Some d) there r o live = elim (cases_eq r s) [
+    | inl here ↦ record {
+      object = object_with f x d;
+      live = found_put r s (object_with f x d) g ∙ cond-true _ _ _ (eq-eqb r s here);
+      same_type = ap (λ (k : Object). k.type_id) (same_Some d o (sym there ∙ ap (λ (n : ℕ). object_in n g) (sym here) ∙ live));
+    }
+    | inr other ↦ record { object = o; live = found_put r s (object_with f x d) g ∙ cond-false _ _ _ (ne_eqb r s other) ∙ live; same_type = refl }
+  ]
+
+  pub KeepsObjects-field : KeepsObjects g (with_field s f x g)
+  KeepsObjects-field = record { each = field_by (object_in s g) refl }
+
+-- an object is made under a serial that none has
+pub KeepsObjects-new : (d : Object) (g : Graph) → ((s : ℕ) (o : Object) → object_in s g ≡ Some o → s ≡ g.next_serial → ⊥) → KeepsObjects g (with_new d g)
+KeepsObjects-new d g fresh =
+    record {
+      each = λ s o live. record {
+        object = o;
+        live = found_put s g.next_serial d g ∙ cond-false _ _ _ (ne_eqb s g.next_serial (fresh s o live)) ∙ live;
+        same_type = refl;
+      };
+    }
+
+-- the root is no object
+pub KeepsObjects-root : (s : ℕ) (g : Graph) → KeepsObjects g (with_root s g)
+KeepsObjects-root s g = record { each = λ r o live. record { object = o; live = live; same_type = refl } }
+
+-- ---- serials
+
+-- the serial of an object is not 0, and below the next one
+pub record IsSerial (g : Graph) (s : ℕ) : Type 0 where
+  pub used : s ≡ 0 → ⊥
+  pub below : s < g.next_serial
+
+module _ (types : List (ℕ × ℕ)) (st : Stored) (g : Graph) (is : graph_of types st ≡ Some g) where
+  serial_at : (s : ℕ) (o : Object) (p : Option ℕ) → place_of s (table_of types st) (places_of st) ≡ p → option_map (object_at (table_of types st)) p ≡ Some o → IsSerial g s
+  serial_at s o None none there = absurd (none-some o there)
+  serial_at s o (Some p) place there =
+      let h = graph_of-each types st g is in
+      let live = place_of-some (table_of types st) (places_of st) s p place in
+      let sound = h.graph.sound p live.within live.used in
+      let next : next_serial_of st ≡ g.next_serial = ap (λ (k : Graph). k.next_serial) h.is in
+      record {
+        used = λ none. live.used (live.is ∙ none);
+        below = let low = sound.below in let same = live.is in omega arith;
+      }
+
+  pub serial_of_live : (s : ℕ) (o : Object) → object_in s g ≡ Some o → IsSerial g s
+  serial_of_live s o live = serial_at s o (place_of s (table_of types st) (places_of st)) refl (sym (object_in-place types st g s is) ∙ live)
+
+-- ---- places, when a word is written that holds no serial
+
+-- the word of a frame is that of no slot's serial
+abbrev IsNoSerial : (k : ℕ) → Type 0
+IsNoSerial k = (n : ℕ) → n < puddle_slots → puddle_slot_at n + SLOT_SERIAL_WORD ≡ k → ⊥
+
+module _ (F : ℕ) (at : List (ℕ × Puddle)) (image : Image) (distinct : HasDistinctFrames at) (o k v : ℕ) (e : ℕ × Puddle) (there : slice_get at o ≡ Some e) (below : k < FRAME_WORDS) (other : IsNoSerial k) where
+  abbrev stored_after : Stored
+  stored_after = with_words (with_word o k v (stored_in F at image).word) (stored_in F at image)
+
+  serial_stays : (p : ℕ) → place_word stored_after p SLOT_SERIAL_WORD ≡ place_word (stored_in F at image) p SLOT_SERIAL_WORD
+  serial_stays p = with_word-other o k v (stored_in F at image).word (ordinal_of p) (place_begins (stored_in F at image) p + SLOT_SERIAL_WORD) (λ same here. other (slot_of p) (omega arith) here)
+
+  KeepsPlaces-word : (now : Graph) → KeepsPlaces F at at image (overwritten (placed (frame_at F e.0 + k) (v ∷ [])) image) now
+  KeepsPlaces-word now =
+      let same : (λ (p : ℕ). place_word stored_after p SLOT_SERIAL_WORD) ≡ (λ (p : ℕ). place_word (stored_in F at image) p SLOT_SERIAL_WORD) = λ i p. serial_stays p i in
+      record {
+        each = λ s object live.
+            ap (λ (st : Stored). first_from nat_cmp s (under_serial (λ (p : ℕ). place_word st p SLOT_SERIAL_WORD) (λ (p : ℕ). p)) 0 (places_in at)) (stored_in-one F at image o k v e distinct there below)
+            ∙ ap (λ (serial : ℕ → ℕ). first_from nat_cmp s (under_serial serial (λ (p : ℕ). p)) 0 (places_in at)) same;
+      }
+
+-- that of a field
+pub KeepsPlaces-field : (F : ℕ) (at : List (ℕ × Puddle)) (image : Image) → HasDistinctFrames at → (slot : Slot) (of : IsSlotOf at slot) (f v : ℕ) → f < MAX_FIELDS → (now : Graph)
+    → KeepsPlaces F at at image (overwritten (placed (frame_at F slot.frame + field_word slot f) (v ∷ [])) image) now
+KeepsPlaces-field F at image distinct slot of f v below now =
+    let slots = of.below in
+    KeepsPlaces-word F at image distinct slot.ordinal (field_word slot f) v (slot.frame, of.puddle) of.there (omega arith) (λ n within here. absurd (omega arith)) now
+
+-- that of the root
+pub KeepsPlaces-root : (F : ℕ) (at : List (ℕ × Puddle)) (image : Image) → HasDistinctFrames at → (first : ℕ × Puddle) → slice_get at 0 ≡ Some first → (v : ℕ) (now : Graph)
+    → KeepsPlaces F at at image (overwritten (placed (frame_at F first.0 + ROOT_WORD) (v ∷ [])) image) now
+KeepsPlaces-root F at image distinct first head v now = KeepsPlaces-word F at image distinct 0 ROOT_WORD v first head (omega arith) (λ n within here. absurd (omega arith)) now
+
+-- ---- places, when one slot has another serial
+
+-- the serial of the slot at a place
+abbrev pub serial_at_place : (F : ℕ) → List (ℕ × Puddle) → Image → ℕ → ℕ
+serial_at_place F at image p = place_word (stored_in F at image) p SLOT_SERIAL_WORD
+
+module _ (F : ℕ) (at : List (ℕ × Puddle)) (image later : Image) (p : ℕ) (others : (q : ℕ) → (q ≡ p → ⊥) → serial_at_place F at later q ≡ serial_at_place F at image q) where
+  abbrev before : ℕ → ℕ
+  before q = serial_at_place F at image q
+
+  abbrev behind : ℕ → ℕ
+  behind q = serial_at_place F at later q
+
+  under_same : (s : ℕ) → (before p ≡ s → ⊥) → (behind p ≡ s → ⊥) → (q : ℕ) → under nat_cmp s (under_serial behind (λ (r : ℕ). r) q) ≡ under nat_cmp s (under_serial before (λ (r : ℕ). r) q)
+  under_same s was is q = elim (cases_eq q p) [
+    | inr apart ↦ ap (λ (k : ℕ). under nat_cmp s (cond (slot_state k).is_live (Some (k, q)) None)) (others q apart)
+    | inl here ↦
+        under_other behind (λ (r : ℕ). r) s q (λ same. is (sym (ap behind here) ∙ same))
+        ∙ sym (under_other before (λ (r : ℕ). r) s q (λ same. was (sym (ap before here) ∙ same)))
+  ]
+
+  -- an object under another serial than both stands where it stood
+  pub place_beside : (s : ℕ) → (before p ≡ s → ⊥) → (behind p ≡ s → ⊥) → place_in_pool F at later s ≡ place_in_pool F at image s
+  place_beside s was is = first_from_same nat_cmp s (under_serial behind (λ (r : ℕ). r)) (under_serial before (λ (r : ℕ). r)) 0 (places_in at) (λ q low high. under_same s was is q)
+
+-- ---- places, when a free slot is filled
+
+module _ (types : List (ℕ × ℕ)) (F : ℕ) (at : List (ℕ × Puddle)) (image : Image) (is_placed : IsPlaced F at) (first : ℕ × Puddle) (head : slice_get at 0 ≡ Some first) (slot : Slot) (of : IsSlotOf at slot)
+    (serial type_id m : ℕ) (free : IsFreePlace (stored_in F at image) (place_of_slot slot)) (next : serial ≡ next_serial_of (stored_in F at image)) (defined : map_of type_id types ≡ Some m) where
+  abbrev filled : Image
+  filled = overwritten (making F first.0 slot serial type_id) image
+
+  -- the slots beside it have their serials
+  other_serial : (q : ℕ) → (q ≡ place_of_slot slot → ⊥) → serial_at_place F at filled q ≡ serial_at_place F at image q
+  other_serial q other =
+      (made types F at image is_placed first head slot of serial type_id m free next defined).others (ordinal_of q) (place_begins (stored_in F at image) q + SLOT_SERIAL_WORD)
+      (λ same above below. let here : q ≡ place_of_slot slot = omega arith in other here) (λ front word. absurd (omega arith))
+
+  pub KeepsPlaces-new : (now : Graph) → graph_of types (stored_in F at image) ≡ Some now → KeepsPlaces F at at image filled now
+  KeepsPlaces-new now is =
+      record {
+        each = λ s o live.
+            let known = serial_of_live types (stored_in F at image) now is s o live in
+            let last : next_serial_of (stored_in F at image) ≡ now.next_serial = ap (λ (k : Graph). k.next_serial) (graph_of-each types (stored_in F at image) now is).is in
+            let its : serial_at_place F at filled (place_of_slot slot) ≡ next_serial_of (stored_in F at image) = (made types F at image is_placed first head slot of serial type_id m free next defined).serial_word in
+            place_beside F at image filled (place_of_slot slot) other_serial s
+            (λ same. known.used (sym same ∙ free))
+            (λ same. let below = known.below in absurd (omega arith));
+      }

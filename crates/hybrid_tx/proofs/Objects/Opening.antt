@@ -1,0 +1,83 @@
+-- A transaction on the words of a pool is one on the pool.
+use Rattle.std.proofs.Common.{◌≡◌, inl, ℕ, ◌+◌, ◌≤◌, true, List, [], Option, Some, None, refl, ap, subst, ◌∙◌, arith}
+use Rattle.pm_model.specs.declared.host.HostFault.{HostFault}
+use Rattle.pm_model.specs.Words.{reads}
+use Rattle.pm_model.specs.Moments.{State}
+use Rattle.pm_model.specs.Changes.{Write}
+use Rattle.pud_defs.specs.declared.layout.TheConstants.{LOG_WORDS}
+use Rattle.pud_defs.specs.declared.records.Puddle.{Puddle}
+use Rattle.pud_defs.specs.Layout.{device_words, frames_at}
+use Rattle.pud_defs.specs.Image.{Image}
+use Rattle.pud_defs.specs.Entries.{Entry}
+use Rattle.pud_defs.specs.Frames.{frame_at}
+use Rattle.pud_defs.specs.Replay.{overwritten}
+use Rattle.pud_defs.specs.Stored.{stored_in}
+use Rattle.pud_defs.specs.Graph.{Graph, graph_of}
+use Rattle.pud_defs.specs.Laters.{Later}
+use Rattle.graph_laws.proofs.StoredImages.{stored_in-same}
+use Rattle.log_store.specs.Store.{OpenLog}
+use Rattle.word_transaction.specs.Ground.{IsGround}
+use Rattle.word_transaction.specs.Running.{IsIdle, nothing, begun, Runs}
+use Rattle.hybrid_tx.specs.Grounds.{pool_mine, pool_ground, IsPlaced}
+use Rattle.hybrid_tx.specs.Objects.Transactions.{AreLaters, IsSaving, IsOpenOn, Saves, RunsOn}
+use Rattle.hybrid_tx.proofs.PoolGrounds.{pool_mine-from, is_ground}
+use Rattle.hybrid_tx.proofs.Objects.LatersKept.{AreLaters-stored}
+
+-- images that agree on the pool's own words store the same of it
+pub stored_in-mine : (F : ℕ) (at : List (ℕ × Puddle)) (i j : Image) → ((k : ℕ) → pool_mine F at k ≡ true → j k ≡ i k) → stored_in F at j ≡ stored_in F at i
+stored_in-mine F at i j same =
+    stored_in-same F at i j (record {
+      each = λ o k e there below.
+          same (frame_at F e.0 + k) (pool_mine-from F at (frame_at F e.0 + k) (record { ordinal = o; puddle = e; there = there; low = omega arith; high = omega arith }));
+    })
+
+pub RunsOn-open : (F : ℕ) (at : List (ℕ × Puddle)) (types : List (ℕ × ℕ)) (log : OpenLog) (before : Image) (undone next : Graph) (laters : List Later) (old new : State) → RunsOn F at types log before undone next laters None old new
+    → IsOpenOn F at types log before undone next laters new.now.words
+RunsOn-open F at types log before undone next laters old new r =
+    record {
+      redo = r.redo;
+      saving = record { es = r.saves.es; running = r.saves.runs.running refl; asks = r.saves.asks };
+      was = r.was;
+      is = r.is refl;
+      are = r.are refl;
+    }
+
+module _ (F size : ℕ) (at : List (ℕ × Puddle)) (types : List (ℕ × ℕ)) (before : Image) where
+  pub IsOpenOn-begun : (log : ℕ) (g : Graph) (old new : State) → IsGround size log (pool_ground F at) → IsIdle (pool_ground F at) log before old.now.words → graph_of types (stored_in F at before) ≡ Some g
+      → Runs (pool_ground F at) (begun log) [] before nothing None old new → IsOpenOn F at types (begun log) before g g [] new.now.words
+  IsOpenOn-begun log g old new ground idle was runs =
+      record {
+        redo = [];
+        saving = record { es = []; running = runs.running refl; asks = refl };
+        was = was;
+        is = ap (graph_of types) (stored_in-mine F at before (reads new.now.words)
+            (λ k mine. runs.now refl k (ground.apart k mine) ∙ (idle.single k mine).each (reads old.now.words k) (inl refl))) ∙ was;
+        are = tt;
+      }
+
+  -- words that are written make the graph that images have over which they are written, and so of what is asked for later
+  pub RunsOn-saves : (log behind : OpenLog) (undone now next : Graph) (laters more : List Later) (redo : List Entry) (write : Write) (fault : Option HostFault) (old new : State)
+      → IsGround size behind.at (pool_ground F at) → IsOpenOn F at types log before undone now laters old.now.words → Saves F at behind before redo write fault old new
+      → graph_of types (stored_in F at (overwritten write (reads old.now.words))) ≡ Some next → AreLaters F at types (overwritten write (reads old.now.words)) next more redo
+      → RunsOn F at types behind before undone next more fault old new
+  RunsOn-saves log behind undone now next laters more redo write fault old new ground is_open saves graph are =
+      let stored : fault ≡ None → stored_in F at (reads new.now.words) ≡ stored_in F at (overwritten write (reads old.now.words)) =
+      λ none. stored_in-mine F at (overwritten write (reads old.now.words)) (reads new.now.words) (λ k mine. saves.runs.now none k (ground.apart k mine)) in
+      record {
+        write = write;
+        redo = redo;
+        saves = saves;
+        was = is_open.was;
+        is = λ none. ap (graph_of types) (stored none) ∙ graph;
+        are = λ none. AreLaters-stored F at types (overwritten write (reads old.now.words)) (reads new.now.words) next (stored none) more redo are;
+      }
+
+  -- what is saved and written, or asked for, behind calls that only read
+  pub RunsOn-write : (log behind : OpenLog) (undone now next : Graph) (laters more : List Later) (redo : List Entry) (write : Write) (fault : Option HostFault) (old mid new : State)
+      → IsPlaced F at → device_words F ≤ size → log.at + LOG_WORDS ≤ frames_at F → behind.at ≡ log.at → mid ≡ old → (is_open : IsOpenOn F at types log before undone now laters old.now.words)
+      → (IsSaving F at log before is_open.redo mid.now.words → Saves F at behind before redo write fault mid new)
+      → graph_of types (stored_in F at (overwritten write (reads old.now.words))) ≡ Some next → AreLaters F at types (overwritten write (reads old.now.words)) next more redo
+      → RunsOn F at types behind before undone next more fault old new
+  RunsOn-write log behind undone now next laters more redo write fault old mid new is_placed device apart same stays is_open saves graph are =
+      RunsOn-saves log behind undone now next laters more redo write fault old new (is_ground F size behind.at at is_placed device (omega arith)) is_open
+      (subst (λ (m : State). IsSaving F at log before is_open.redo m.now.words → Saves F at behind before redo write fault m new) stays saves is_open.saving) graph are

@@ -1,0 +1,105 @@
+-- A slot is freed within a transaction: its serial is saved, and then cleared.
+use Rattle.std.proofs.Common.{◌≡◌, ℕ, ◌+◌, ◌*◌, ◌%◌, ◌^◌, ◌≤◌, true, false, List, [], ◌∷◌, ◌++◌, Option, Some, None, refl, sym, ap, subst, ◌∙◌, arith}
+use Rattle.pm_model.specs.declared.host.HostFault.{HostFault}
+use Rattle.pm_model.specs.Words.{reads}
+use Rattle.pm_model.specs.Moments.{State}
+use Rattle.pm_model.specs.Changes.{Write, Changes, Writes, only, placed}
+use Rattle.pud_defs.specs.declared.layout.TheConstants.{LOG_WORDS, FRAME_WORDS, SET_UNITS}
+use Rattle.pud_defs.specs.declared.space.TheConstants.{SLOT_SERIAL_WORD, WORD_BYTES}
+use Rattle.pud_defs.specs.declared.records.Puddle.{Puddle}
+use Rattle.pud_defs.specs.declared.records.Slot.{Slot}
+use Rattle.pud_defs.specs.Layout.{device_words, frames_at}
+use Rattle.pud_defs.specs.Geometry.{slot_begins}
+use Rattle.pud_defs.specs.Image.{Image}
+use Rattle.pud_defs.specs.Entries.{Entry, words_from}
+use Rattle.pud_defs.specs.Graph.{Graph}
+use Rattle.pud_defs.specs.GraphChanges.{without_object}
+use Rattle.pud_defs.specs.Laters.{Later, laters_name}
+use Rattle.puddle_header.specs.Places.{place_of_slot, IsSlotOf}
+use Rattle.graph_read.specs.Reading.{place_in_pool}
+use Rattle.log_store.specs.Store.{OpenLog, InLog, longer}
+use Rattle.object_alloc.specs.Alloc.{serial_word_at}
+use Rattle.object_alloc.proofs.Freed.{placed-single}
+use Rattle.word_transaction.specs.Ground.{IsGround, undo_entry}
+use Rattle.word_transaction.specs.Running.{IsRunning, ByTransaction, nothing, Runs}
+use Rattle.word_transaction.proofs.Writing.{Runs-written}
+use Rattle.hybrid_tx.specs.Grounds.{pool_place, pool_may, pool_ground, IsPlaced}
+use Rattle.hybrid_tx.specs.Objects.Stores.{address_at}
+use Rattle.hybrid_tx.specs.Objects.Transactions.{MayFree, IsSaving, IsOpenOn, Saves, RunsOn}
+use Rattle.hybrid_tx.proofs.Objects.Putting.{Runs-unput, Runs-put, ByPut-written}
+use Rattle.hybrid_tx.proofs.Objects.InFrames.{ByPut-in_frame, Saves-put, Saves-failed}
+use Rattle.hybrid_tx.proofs.Objects.FieldPut.{slot_address-read}
+use Rattle.hybrid_tx.proofs.Objects.ObjectsFreed.{free_stored}
+use Rattle.hybrid_tx.proofs.Objects.LatersSpared.{AreLaters-freed}
+use Rattle.hybrid_tx.proofs.Objects.Opening.{RunsOn-write}
+
+-- what frees a slot, as a word that is given its value
+cleared : (F : ℕ) (slot : Slot) (first : ℕ) (fault : Option HostFault) (b c : State) → first ≡ serial_word_at F slot → Writes (only (serial_word_at F slot) 0) fault b c → Writes (placed first (0 ∷ [])) fault b c
+cleared F slot first fault b c is_first w =
+    subst (λ (write : Write). Writes write fault b c) (sym (placed-single (serial_word_at F slot) 0) ∙ ap (λ (k : ℕ). placed k (0 ∷ [])) (sym is_first)) w
+
+-- the word of the serial is one of the frame
+in_frame : (at : List (ℕ × Puddle)) (slot : Slot) → IsSlotOf at slot → slot_begins slot + SLOT_SERIAL_WORD + 1 ≤ FRAME_WORDS
+in_frame at slot of = let slots = of.below in omega arith
+
+-- ---- on any content
+
+module _ (F : ℕ) (at : List (ℕ × Puddle)) (slot : Slot) (of : IsSlotOf at slot) (log : ℕ) where
+  pub Changes-freed : (fault : Option HostFault) (a b c : State) → Changes (InLog log) None a b → Writes (only (serial_word_at F slot) 0) fault b c → Changes (ByTransaction (pool_ground F at) log) fault a c
+  Changes-freed fault a b c p q =
+      ByPut-in_frame F at slot.ordinal (slot_begins slot + SLOT_SERIAL_WORD) log (slot.frame, of.puddle) (0 ∷ []) fault a c of.there (in_frame at slot of)
+      (ByPut-written log (serial_word_at F slot) (0 ∷ []) fault a b c p (cleared F slot (serial_word_at F slot) fault b c refl q))
+
+-- ---- saved and cleared
+
+module _ (F size : ℕ) (at : List (ℕ × Puddle)) (slot : Slot) (of : IsSlotOf at slot) (log : OpenLog) (before : Image) (redo : List Entry) (address first : ℕ) (a : State)
+    (is_placed : IsPlaced F at) (device : device_words F ≤ size) (apart : log.at + LOG_WORDS ≤ frames_at F) (is_address : address ≡ address_at at (place_of_slot slot)) (is_first : first ≡ serial_word_at F slot)
+    (saving : IsSaving F at log before redo a.now.words) where
+  abbrev long : OpenLog
+  long = longer SET_UNITS log
+
+  abbrev held : List ℕ
+  held = words_from (reads a.now.words) first 1
+
+  -- what comes of the word of the serial
+  abbrev IsRun : (write : Write) (fault : Option HostFault) (c : State) → Type 0
+  IsRun write fault c =
+      (es : List Entry) → IsGround size log.at (pool_ground F at) → pool_may at address 1 ≡ true → pool_place F at address ≡ Some first → IsRunning (pool_ground F at) log es before a.now.words
+      → Runs (pool_ground F at) long (es ++ undo_entry address held ∷ []) before write fault a c
+
+  saves : (fault : Option HostFault) (c : State) → IsRun (placed first (0 ∷ [])) fault c → Saves F at long before redo (placed (serial_word_at F slot) (0 ∷ [])) fault a c
+  saves fault c runs =
+      let some : 1 ≤ 1 = omega arith in
+      let word : slot_begins slot ≡ slot_begins slot + SLOT_SERIAL_WORD = omega arith in
+      Saves-put F size at slot.ordinal (slot_begins slot + SLOT_SERIAL_WORD) (slot.frame, of.puddle) log long before redo address first (0 ∷ []) held fault a c is_placed device apart of.there some (in_frame at slot of)
+      (is_address ∙ sym (slot_address-read at slot of (slot.frame, of.puddle) refl is_placed.legal) ∙ ap (λ (k : ℕ). (of.puddle.base + WORD_BYTES * k) % 2 ^ 64) word) is_first saving runs
+
+  -- it could not be saved
+  pub Saves-unfreed : (behind : OpenLog) (fault : HostFault) (b : State) → behind.at ≡ log.at → IsRun nothing (Some fault) b → Saves F at behind before redo (placed (serial_word_at F slot) (0 ∷ [])) (Some fault) a b
+  Saves-unfreed behind fault b same runs =
+      let write = placed (serial_word_at F slot) (0 ∷ []) in
+      Saves-failed F at long behind before redo same write write fault a b
+      (saves (Some fault) b (λ es ground may place r. Runs-unput size (pool_ground F at) long es before (reads a.now.words) address first (0 ∷ []) fault a b (runs es ground may place r)))
+
+  pub Saves-freed : (fault : Option HostFault) (b c : State) → IsRun nothing None b → Writes (only (serial_word_at F slot) 0) fault b c → Saves F at long before redo (placed (serial_word_at F slot) (0 ∷ [])) fault a c
+  Saves-freed fault b c runs writes =
+      let g = pool_ground F at in
+      saves fault c (λ es ground may place r.
+      Runs-put size g long es before (reads a.now.words) address first (0 ∷ []) fault a b c ground may place (runs es ground may place r)
+      (λ its running covered. Runs-written size g long (es ++ undo_entry address held ∷ []) before (placed first (0 ∷ [])) fault b c its running covered (cleared F slot first fault b c is_first writes)))
+
+-- ---- the graph
+
+module _ (F : ℕ) (at : List (ℕ × Puddle)) (types : List (ℕ × ℕ)) (log behind : OpenLog) (before : Image) (undone now : Graph) (laters : List Later) (old : State)
+    (is_open : IsOpenOn F at types log before undone now laters old.now.words) where
+  pub RunsOn-free : (size s : ℕ) (slot : Slot) (fault : Option HostFault) (mid new : State) → MayFree now s → laters_name s laters ≡ false → IsPlaced F at → device_words F ≤ size → log.at + LOG_WORDS ≤ frames_at F
+      → behind.at ≡ log.at → mid ≡ old → IsSlotOf at slot → place_in_pool F at (reads old.now.words) s ≡ Some (place_of_slot slot)
+      → ((redo : List Entry) → IsSaving F at log before redo mid.now.words → Saves F at behind before redo (placed (serial_word_at F slot) (0 ∷ [])) fault mid new)
+      → RunsOn F at types behind before undone (without_object s now) laters fault old new
+  RunsOn-free size s slot fault mid new may unnamed is_placed device apart same stays of found saves =
+      let image = reads old.now.words in
+      let redo = is_open.redo in
+      RunsOn-write F size at types before log behind undone now (without_object s now) laters laters redo (placed (serial_word_at F slot) (0 ∷ [])) fault old mid new
+      is_placed device apart same stays is_open (saves redo)
+      (free_stored types F at image now is_open.is is_placed s slot of found may.spared)
+      (AreLaters-freed types F at image now is_open.is is_placed s slot of found laters redo unnamed is_open.are)

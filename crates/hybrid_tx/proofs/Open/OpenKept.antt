@@ -1,0 +1,42 @@
+-- A transaction on a pool stays open beside calls that give no value to a word of its own.
+use Rattle.std.proofs.Common.{◌≡◌, ℕ, true, List, Option, Some, ap, ◌∙◌}
+use Rattle.pm_model.specs.declared.host.HostFault.{HostFault}
+use Rattle.pm_model.specs.declared.host.HostFault.TheVariants.{Cut}
+use Rattle.pm_model.specs.Words.{reads}
+use Rattle.pm_model.specs.Moments.{State}
+use Rattle.pm_model.specs.Changes.{Footprint, Changes}
+use Rattle.pud_defs.specs.declared.records.Puddle.{Puddle}
+use Rattle.pud_defs.specs.Types.{map_of}
+use Rattle.pud_defs.specs.Image.{Image}
+use Rattle.pud_defs.specs.Stored.{Stored, stored_in}
+use Rattle.pud_defs.specs.Graph.{Graph, graph_of}
+use Rattle.pud_defs.specs.Laters.{Later}
+use Rattle.log_store.specs.Store.{OpenLog, InLog}
+use Rattle.word_transaction.proofs.Calls.{IsRunning-kept}
+use Rattle.hybrid_tx.specs.Grounds.{pool_mine, pool_ground}
+use Rattle.hybrid_tx.specs.Objects.Transactions.{IsOpenOn}
+use Rattle.hybrid_tx.proofs.Objects.LatersKept.{KeepsObjects-same, place_in_pool-stored, AreLaters-wider}
+use Rattle.hybrid_tx.proofs.Objects.Opening.{stored_in-mine}
+
+module _ (F : ℕ) (at : List (ℕ × Puddle)) (may : Footprint) (fault : Option HostFault) (old new : State) (c : Changes may fault old new) (uncut : fault ≡ Some Cut → ⊥)
+    (own : (k v : ℕ) → pool_mine F at k ≡ true → may k v → ⊥) where
+  -- what is stored of the pool is as it was
+  stored_kept : stored_in F at (reads new.now.words) ≡ stored_in F at (reads old.now.words)
+  stored_kept = stored_in-mine F at (reads old.now.words) (reads new.now.words) (λ k mine. (c.keeps uncut k (λ v. own k v mine)).newest)
+
+  pub IsOpenOn-kept : (types more : List (ℕ × ℕ)) (log : OpenLog) (before : Image) (undone now : Graph) (laters : List Later) → ((k v : ℕ) → InLog log.at k v → may k v → ⊥)
+      → ((id m : ℕ) → map_of id types ≡ Some m → map_of id more ≡ Some m) → ((st : Stored) (g : Graph) → graph_of types st ≡ Some g → graph_of more st ≡ Some g)
+      → IsOpenOn F at types log before undone now laters old.now.words → IsOpenOn F at more log before undone now laters new.now.words
+  IsOpenOn-kept types more log before undone now laters in_log defined graphs o =
+      record {
+        redo = o.redo;
+        saving = record {
+          es = o.saving.es;
+          running = IsRunning-kept (pool_ground F at) log o.saving.es before may fault old new c in_log own o.saving.running;
+          asks = o.saving.asks;
+        };
+        was = graphs (stored_in F at before) undone o.was;
+        is = graphs (stored_in F at (reads new.now.words)) now (ap (graph_of types) stored_kept ∙ o.is);
+        are = AreLaters-wider F at at types more (reads old.now.words) (reads new.now.words) now now (record { each = λ o e there. there }) (record { each = defined })
+            (record { each = λ s o live. place_in_pool-stored F at (reads old.now.words) (reads new.now.words) stored_kept s }) (KeepsObjects-same now) laters o.redo o.are;
+      }

@@ -1,0 +1,91 @@
+-- What entries of a transaction give to words, over places that agree with its own: to own words alone, whatever its range.
+use Rattle.std.proofs.Common.{◌≡◌, ◌⊎◌, inl, inr, ℕ, true, List, [], ◌∷◌, length, get_or, Option, Some, None, refl, sym, ap, ap₂, subst, ◌∙◌}
+use Rattle.std.specs.Prelude.{All}
+use Rattle.std.specs.List.{filter}
+use Rattle.std.specs.Option.{option_or}
+use Rattle.std.proofs.lemmas.Bool.{cases_Bool, cond-true, cond-false}
+use Rattle.std.proofs.lemmas.List.Elements.{All-nil, All-cons, All-head, All-tail}
+use Rattle.pud_defs.specs.declared.log_words.TheConstants.{UNDO_ORDER, REDO_ORDER}
+use Rattle.pud_defs.specs.Entries.{Entry, Log}
+use Rattle.pud_defs.specs.Replay.{Place, is_in_range, given_by, undone, redone, given, new_value}
+use Rattle.pud_defs.proofs.Replay.{undone-first, redone-first, given_by-out, or_none, new_value-of}
+use Rattle.word_transaction.specs.Ground.{Ground, IsGround, IsOwn}
+use Rattle.word_transaction.specs.Running.{HasPlaces}
+use Rattle.word_transaction.proofs.Saved.{undone_is_mine, redone_is_mine}
+use Rattle.word_transaction.proofs.Growing.{undone-places, redone-places}
+
+-- ---- entries in range alone count
+
+-- an entry that the transaction may write, where it counts in the log
+abbrev pub IsOwnInRange : Ground → Log → Entry → Type 0
+IsOwnInRange g log e = is_in_range log e ≡ true → IsOwn g e
+
+-- those that count
+abbrev counted : Log → List Entry → List Entry
+counted log es = filter (is_in_range log) es
+
+counted_own : (g : Ground) (log : Log) (es : List Entry) → All (IsOwnInRange g log) es → All (IsOwn g) (counted log es)
+counted_own g log [] own = All-nil (IsOwn g)
+counted_own g log (e ∷ es) own =
+    let rest = counted_own g log es (All-tail (IsOwnInRange g log) e es own) in
+    elim (cases_Bool (is_in_range log e)) [
+      | inl inside ↦ subst (λ (xs : List Entry). All (IsOwn g) xs) (sym (cond-true _ _ _ inside)) (All-cons (IsOwn g) e (counted log es) (All-head (IsOwnInRange g log) e es own inside) rest)
+      | inr out ↦ subst (λ (xs : List Entry). All (IsOwn g) xs) (sym (cond-false _ _ _ out)) rest
+    ]
+
+undone-counted : (place : Place) (log : Log) (es : List Entry) (w : ℕ) → undone place log es w ≡ undone place log (counted log es) w
+undone-counted place log [] w = refl
+undone-counted place log (e ∷ es) w = elim (cases_Bool (is_in_range log e)) [
+  | inl inside ↦
+      undone-first place log e es w
+      ∙ ap (option_or (given_by place log UNDO_ORDER e w)) (undone-counted place log es w)
+      ∙ sym (undone-first place log e (counted log es) w)
+      ∙ ap (λ (xs : List Entry). undone place log xs w) (sym (cond-true _ _ _ inside))
+  | inr out ↦
+      undone-first place log e es w
+      ∙ ap₂ option_or (given_by-out place log UNDO_ORDER e w out) (undone-counted place log es w)
+      ∙ ap (λ (xs : List Entry). undone place log xs w) (sym (cond-false _ _ _ out))
+]
+
+redone-counted : (place : Place) (log : Log) (es : List Entry) (w : ℕ) → redone place log es w ≡ redone place log (counted log es) w
+redone-counted place log [] w = refl
+redone-counted place log (e ∷ es) w = elim (cases_Bool (is_in_range log e)) [
+  | inl inside ↦
+      redone-first place log e es w
+      ∙ ap (λ (o : Option ℕ). option_or o (given_by place log REDO_ORDER e w)) (redone-counted place log es w)
+      ∙ sym (redone-first place log e (counted log es) w)
+      ∙ ap (λ (xs : List Entry). redone place log xs w) (sym (cond-true _ _ _ inside))
+  | inr out ↦
+      redone-first place log e es w
+      ∙ ap₂ option_or (redone-counted place log es w) (given_by-out place log REDO_ORDER e w out)
+      ∙ sym (or_none (redone place log (counted log es) w))
+      ∙ ap (λ (xs : List Entry). redone place log xs w) (sym (cond-false _ _ _ out))
+]
+
+new_value-counted : (place : Place) (log : Log) (es : List Entry) (w : ℕ) → log.entries ≡ Some es → new_value place log w ≡ given place log (counted log es) w
+new_value-counted place log es w are = new_value-of place log es w are ∙ ap₂ option_or (redone-counted place log es w) (undone-counted place log es w)
+
+-- ---- what they give
+
+-- over places that agree the log gives the same
+pub new_value_placed : (g : Ground) (place : Place) (log : Log) → HasPlaces g place → (es : List Entry) (w : ℕ) → log.entries ≡ Some es → All (IsOwnInRange g log) es
+    → new_value place log w ≡ new_value g.place log w
+new_value_placed g place log places es w are own =
+    let counts = counted log es in
+    let all = counted_own g log es own in
+    let same : All (λ e. place e.address ≡ g.place e.address) counts = λ n d below. places.each (get_or counts n d).address (length (get_or counts n d).vals) (all n d below).may in
+    new_value-counted place log es w are ∙ ap₂ option_or (redone-places g.place place log counts w same) (undone-places g.place place log counts w same) ∙ sym (new_value-counted g.place log es w are)
+
+pub either_of : {A : Type 0} (a b : Option A) (v : A) → option_or a b ≡ Some v → (a ≡ Some v) ⊎ (b ≡ Some v)
+either_of None b v is = inr is
+either_of (Some x) b v is = inl is
+
+-- it gives values to own words alone
+pub new_value_own : (size at : ℕ) (g : Ground) (log : Log) → IsGround size at g → (w v : ℕ) (es : List Entry) → log.entries ≡ Some es → All (IsOwnInRange g log) es → new_value g.place log w ≡ Some v → g.mine w ≡ true
+new_value_own size at g log ground w v es are own is =
+    let counts = counted log es in
+    let all = counted_own g log es own in
+    elim (either_of (redone g.place log counts w) (undone g.place log counts w) v (sym (new_value-counted g.place log es w are) ∙ is)) [
+      | inl later ↦ redone_is_mine size at g log counts w v ground all later
+      | inr first ↦ undone_is_mine size at g log counts w v ground all first
+    ]

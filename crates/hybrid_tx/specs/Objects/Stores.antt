@@ -1,0 +1,56 @@
+-- Which words are stored for what is set or made.
+use Rattle.std.specs.Prelude.{◌≡◌, ◌⊎◌, ℕ, ◌+◌, ◌-◌, ◌==◌, cond, List, [], ◌∷◌, map, replicate, Option, Some, None, option_map}
+use Rattle.pm_model.specs.Changes.{Footprint, Write, placed}
+use Rattle.pud_defs.specs.declared.space.TheConstants.{SLOT_FIELDS_WORD, NEXT_SERIAL_WORD}
+use Rattle.pud_defs.specs.declared.records.Puddle.{Puddle}
+use Rattle.pud_defs.specs.declared.records.Slot.{Slot}
+use Rattle.pud_defs.specs.declared.objects.Val.{Val}
+use Rattle.pud_defs.specs.declared.objects.Val.TheVariants.{Num, Ref}
+use Rattle.pud_defs.specs.Geometry.{puddle_slot_words, slot_begins}
+use Rattle.pud_defs.specs.Image.{Image}
+use Rattle.pud_defs.specs.Frames.{frame_at}
+use Rattle.pud_defs.specs.Replay.{over, IsInLog}
+use Rattle.pud_defs.specs.Graph.{At}
+use Rattle.pud_defs.specs.Exported.{address_of}
+use Rattle.puddle_header.specs.Places.{place_of_slot}
+use Rattle.graph_read.specs.Reading.{place_in_pool}
+
+-- the address of the slot at a place, over the pool's bases
+abbrev pub address_at : List (ℕ × Puddle) → ℕ → ℕ
+address_at at p = address_of (map (λ e. e.1) at) (At p)
+
+-- the word that stands for a value: the number, 0 for null, or the address of the serial's object, where there is one
+abbrev pub word_for : (F : ℕ) → List (ℕ × Puddle) → Image → Val → Option ℕ
+word_for F at image (Num v) = Some v
+word_for F at image (Ref r) = cond (r == 0) (Some 0) (option_map (address_at at) (place_in_pool F at image r))
+
+-- the slot is that of the object of a serial, and the word the one that stands for a value
+abbrev pub IsPlaceAndWord : (F : ℕ) → List (ℕ × Puddle) → Image → (s : ℕ) → Val → Slot × ℕ → Type 0
+IsPlaceAndWord F at image s x found = (place_in_pool F at image s ≡ Some (place_of_slot found.0)) × (word_for F at image x ≡ Some found.1)
+
+-- there is no such object, or no word that stands for the value
+abbrev pub LacksPlaceOrWord : (F : ℕ) → List (ℕ × Puddle) → Image → (s : ℕ) → Val → Type 0
+LacksPlaceOrWord F at image s x = (place_in_pool F at image s ≡ None) ⊎ (word_for F at image x ≡ None)
+
+-- the word of a frame that holds field f of a slot
+abbrev pub field_word : Slot → (f : ℕ) → ℕ
+field_word slot f = slot_begins slot + SLOT_FIELDS_WORD + f
+
+-- the words of a slot that holds a new object: its serial, its type, and 0 in each field
+unfoldable pub new_words : (serial type_id : ℕ) → List ℕ
+new_words serial type_id = serial ∷ type_id ∷ replicate (puddle_slot_words - SLOT_FIELDS_WORD) 0
+
+-- what is written to make an object in a slot: the words of the slot, and the next serial, which stands in the frame of ordinal 0
+abbrev pub making : (F first : ℕ) → Slot → (serial type_id : ℕ) → Write
+making F first slot serial type_id =
+    over (placed (frame_at F slot.frame + slot_begins slot) (new_words serial type_id)) (placed (frame_at F first + NEXT_SERIAL_WORD) ((serial + 1) ∷ []))
+
+-- any value may come to the words of the log whose gate is this word, and these values to the words from another on
+abbrev pub ByPut : (at first : ℕ) → List ℕ → Footprint
+ByPut at first vals k v = IsInLog at k ⊎ (placed first vals k ≡ Some v)
+
+-- any value may come to the words of the log whose gate is this word, those of a new object to the words of the slot, and the serial behind its own to
+-- the word of the next serial
+abbrev pub ByMaking : (F at first : ℕ) → Slot → (serial type_id : ℕ) → Footprint
+ByMaking F at first slot serial type_id k v =
+    IsInLog at k ⊎ (placed (frame_at F slot.frame + slot_begins slot) (new_words serial type_id) k ≡ Some v) ⊎ (placed (frame_at F first + NEXT_SERIAL_WORD) ((serial + 1) ∷ []) k ≡ Some v)

@@ -1,0 +1,152 @@
+-- When a transaction on the objects of a pool is open, what each call of it does at every moment, and how it ends.
+use Rattle.std.specs.Prelude.{◌≡◌, ◌⊎◌, ℕ, ◌+◌, ◌*◌, ◌<◌, true, false, List, [], ◌∷◌, is_some, slice_get, Option, Some, None}
+use Rattle.std.specs.List.{AllZip}
+use Rattle.pm_model.specs.declared.host.HostFault.{HostFault}
+use Rattle.pm_model.specs.Words.{Words, reads}
+use Rattle.pm_model.specs.Moments.{State}
+use Rattle.pm_model.specs.Changes.{Write, Changes}
+use Rattle.pud_defs.specs.declared.space.TheConstants.{WORD_BYTES}
+use Rattle.pud_defs.specs.declared.objects.Val.{Val}
+use Rattle.pud_defs.specs.declared.objects.Val.TheVariants.{Num, Ref}
+use Rattle.pud_defs.specs.declared.records.Puddle.{Puddle}
+use Rattle.pud_defs.specs.declared.records.Slot.{Slot}
+use Rattle.pud_defs.specs.TypeMap.{is_pointer}
+use Rattle.pud_defs.specs.Types.{map_of}
+use Rattle.pud_defs.specs.Image.{Image}
+use Rattle.pud_defs.specs.Entries.{Entry}
+use Rattle.pud_defs.specs.Replay.{overwritten, is_in_log}
+use Rattle.pud_defs.specs.Stored.{stored_in}
+use Rattle.pud_defs.specs.Graph.{Object, Graph, object_in, field_count, is_held, next_serial_of, graph_of}
+use Rattle.pud_defs.specs.Laters.{Later}
+use Rattle.puddle_header.specs.Places.{place_of_slot, IsSlotOf}
+use Rattle.graph_read.specs.Reading.{place_in_pool}
+use Rattle.log_store.specs.Store.{OpenLog}
+use Rattle.word_transaction.specs.Ground.{redo_entry, asked}
+use Rattle.word_transaction.specs.Running.{IsRunning, IsIdle, begun, Runs, Closes, Ends}
+use Rattle.hybrid_tx.specs.Grounds.{pool_ground, IsRewrittenAt}
+use Rattle.hybrid_tx.specs.Objects.Stores.{word_for, field_word, making, ByMaking}
+
+-- ---- an open transaction
+
+-- The log of an open transaction, and how many units it has taken: what each call was charged. The words of its log that count are at most as many.
+pub record OpenTx : Type 0 where
+  pub log : OpenLog
+  pub units : ℕ
+
+-- as it has just begun, in the log whose gate is this word
+abbrev pub begun_tx : (at : ℕ) → OpenTx
+begun_tx at = record { log = begun at; units = 0 }
+
+-- ---- what may be named, set and freed
+
+-- a pointer may name the object of this serial: null with 0, else a live one
+abbrev pub MayName : Graph → (serial : ℕ) → Type 0
+MayName g serial = (serial ≡ 0) ⊎ (is_some (object_in serial g) ≡ true)
+
+-- a field of a type with this map may hold the value: a number where it is no pointer, else null or the serial of a live object
+abbrev pub MayHold : (map f : ℕ) → Graph → Val → Type 0
+MayHold map f g (Num v) = is_pointer map f ≡ false
+MayHold map f g (Ref r) = (is_pointer map f ≡ true) × MayName g r
+
+-- The object of a serial is live, its type has the field, and the field may hold the value.
+pub record MaySet (types : List (ℕ × ℕ)) (g : Graph) (s f : ℕ) (x : Val) : Type 0 where
+  pub object : Object
+  pub live : object_in s g ≡ Some object
+  pub map : ℕ
+  pub defined : map_of object.type_id types ≡ Some map
+  pub below : f < field_count map
+  pub holds : MayHold map f g x
+
+-- Each pointer in the puddle in which, by this image of the pool, the object of a serial lies stands over the pool's bases.
+pub record IsRewrittenFor (F : ℕ) (at : List (ℕ × Puddle)) (image : Image) (s : ℕ) : Type 0 where
+  pub each : (slot : Slot) → IsSlotOf at slot → place_in_pool F at image s ≡ Some (place_of_slot slot) → IsRewrittenAt at slot.ordinal
+
+-- The object of a serial is live, and nothing holds it: neither the root nor a pointer field of an object, itself included, names it.
+pub record MayFree (g : Graph) (s : ℕ) : Type 0 where
+  pub object : Object
+  pub live : object_in s g ≡ Some object
+  pub spared : is_held s g ≡ false
+
+-- ---- what is asked for later
+
+-- By this image of the pool, which has the graph, the redo entry is that of what is asked for: it names the word of the field, and has the word that
+-- stands for the value; and the field may be set so.
+pub record IsLater (F : ℕ) (at : List (ℕ × Puddle)) (types : List (ℕ × ℕ)) (image : Image) (now : Graph) (l : Later) (e : Entry) : Type 0 where
+  pub slot : Slot
+  pub of : IsSlotOf at slot
+  pub place : place_in_pool F at image l.s ≡ Some (place_of_slot slot)
+  pub value : ℕ
+  pub word : word_for F at image l.x ≡ Some value
+  pub may : MaySet types now l.s l.f l.x
+  pub is : e ≡ redo_entry (of.puddle.base + WORD_BYTES * field_word slot l.f) (value ∷ [])
+
+-- each of the entries is that of what is asked for in its place
+abbrev pub AreLaters : (F : ℕ) → List (ℕ × Puddle) → List (ℕ × ℕ) → Image → Graph → List Later → List Entry → Type 0
+AreLaters F at types image now laters redo = AllZip (IsLater F at types image now) laters redo
+
+-- ---- what is known between calls
+
+-- A transaction on the words of these puddles' frames is open, which saves words by what they held at the beginning, and asks for others by these redo
+-- entries, the oldest first.
+pub record IsSaving (F : ℕ) (at : List (ℕ × Puddle)) (log : OpenLog) (before : Image) (redo : List Entry) (words : Words) : Type 0 where
+  pub es : List Entry
+  pub running : IsRunning (pool_ground F at) log es before words
+  pub asks : asked es ≡ redo
+
+-- A transaction on the pool of these puddles is open: one on its words is. The pool had the graph that comes back if the transaction is undone when
+-- the words held what they held at the beginning, by what is read it has another now, and these values of fields are asked for, the oldest first.
+pub record IsOpenOn (F : ℕ) (at : List (ℕ × Puddle)) (types : List (ℕ × ℕ)) (log : OpenLog) (before : Image) (undone now : Graph) (laters : List Later) (words : Words) : Type 0 where
+  pub redo : List Entry
+  pub saving : IsSaving F at log before redo words
+  pub was : graph_of types (stored_in F at before) ≡ Some undone
+  pub is : graph_of types (stored_in F at (reads words)) ≡ Some now
+  pub are : AreLaters F at types (reads words) now laters redo
+
+-- No transaction is open on the pool: the log whose gate is this word is closed in each image, each word of the pool's frames has one value, and by
+-- these the pool has this graph.
+pub record IsAtRest (F : ℕ) (at : List (ℕ × Puddle)) (types : List (ℕ × ℕ)) (log_at : ℕ) (g : Graph) (words : Words) : Type 0 where
+  pub idle : IsIdle (pool_ground F at) log_at (reads words) words
+  pub is : graph_of types (stored_in F at (reads words)) ≡ Some g
+
+-- ---- what calls do
+
+-- A call within a transaction on these words, behind which this is its log: at each moment each image settles to what the words held at the
+-- beginning. Without a fault these words are written, and the transaction asks for words by these redo entries.
+pub record Saves (F : ℕ) (at : List (ℕ × Puddle)) (log : OpenLog) (before : Image) (redo : List Entry) (write : Write) (fault : Option HostFault) (old new : State) : Type 0 where
+  pub es : List Entry
+  pub runs : Runs (pool_ground F at) log es before write fault old new
+  pub asks : asked es ≡ redo
+
+-- A call within a transaction on the pool: it runs on its words. Without a fault the pool has the next graph by what is read, and these values of
+-- fields are asked for.
+pub record RunsOn (F : ℕ) (at : List (ℕ × Puddle)) (types : List (ℕ × ℕ)) (log : OpenLog) (before : Image) (undone next : Graph) (laters : List Later) (fault : Option HostFault) (old new : State)
+    : Type 0 where
+  pub write : Write
+  pub redo : List Entry
+  pub saves : Saves F at log before redo write fault old new
+  pub was : graph_of types (stored_in F at before) ≡ Some undone
+  pub is : fault ≡ None → graph_of types (stored_in F at (reads new.now.words)) ≡ Some next
+  pub are : fault ≡ None → AreLaters F at types (reads new.now.words) next laters redo
+
+-- A call that makes an object of this type in this slot, under the pool's next serial: at each moment only words of the log, whose gate is this word, of the
+-- slot, and that of the next serial get values. Without a fault what is read outside the log is as it was but for the object's words in the slot, and
+-- for the next serial, which is one more.
+pub record MakesIn (F : ℕ) (at : List (ℕ × Puddle)) (log_at : ℕ) (slot : Slot) (type_id : ℕ) (fault : Option HostFault) (old new : State) : Type 0 where
+  pub first : ℕ × Puddle
+  pub head : slice_get at 0 ≡ Some first
+  pub changes : Changes (ByMaking F log_at first.0 slot (next_serial_of (stored_in F at (reads old.now.words))) type_id) fault old new
+  pub now : fault ≡ None → (k : ℕ) → is_in_log log_at k ≡ false
+      → reads new.now.words k ≡ overwritten (making F first.0 slot (next_serial_of (stored_in F at (reads old.now.words))) type_id) (reads old.now.words) k
+
+-- The transaction is undone, and its log, whose gate is this word, closed: each image settles to what the words held at the beginning.
+pub record ClosesOn (F : ℕ) (at : List (ℕ × Puddle)) (types : List (ℕ × ℕ)) (log_at : ℕ) (before : Image) (undone : Graph) (fault : Option HostFault) (old new : State) : Type 0 where
+  pub closes : Closes (pool_ground F at) log_at before fault old new
+  pub was : graph_of types (stored_in F at before) ≡ Some undone
+
+-- The transaction is committed, and its log closed: until the range of the log moves each image settles to what the words held at the beginning, and from
+-- then on to what they come to hold, by which the pool has the new graph.
+pub record EndsOn (F : ℕ) (at : List (ℕ × Puddle)) (types : List (ℕ × ℕ)) (log_at : ℕ) (before : Image) (undone next : Graph) (fault : Option HostFault) (old new : State) : Type 0 where
+  pub after : Image
+  pub ends : Ends (pool_ground F at) log_at before after fault old new
+  pub was : graph_of types (stored_in F at before) ≡ Some undone
+  pub is : graph_of types (stored_in F at after) ≡ Some next
