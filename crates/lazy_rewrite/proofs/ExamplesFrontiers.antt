@@ -1,0 +1,48 @@
+-- How far frontiers move, and which entries a look-up makes, by computation.
+use Rattle.std.proofs.Common.{◌≡◌, ℕ, cond, eqb, List, [], ◌∷◌, Some, None, refl}
+use Rattle.pud_defs.specs.declared.records.Puddle.{Puddle}
+use Rattle.pud_defs.specs.Puddles.{moved_to}
+use Rattle.batch.specs.Batches.{batch_entry}
+use Rattle.lazy_rewrite.specs.Entries.{words_batch, first_slot}
+use Rattle.lazy_rewrite.specs.Frontiers.{left_among, steps_from, stepped_at, finished_at, frontier_at}
+
+abbrev first : Puddle
+first = record { number = 7; base = 2; old_base = 1; frontier = 61 }
+
+abbrev second : Puddle
+second = record { number = 8; base = 1; old_base = 2; frontier = 0 }
+
+abbrev pool : List (ℕ × Puddle)
+pool = (2, first) ∷ (5, second) ∷ []
+
+both_have_steps_left : left_among pool ≡ 65
+unfolding left_among
+both_have_steps_left = refl
+
+first_puddle_before_the_second : steps_from 3 pool ≡ (2, moved_to 63 first) ∷ (5, moved_to 1 second) ∷ []
+unfolding steps_from
+first_puddle_before_the_second = refl
+
+no_more_than_are_left : steps_from 100 pool ≡ (2, moved_to 63 first) ∷ (5, moved_to 63 second) ∷ []
+unfolding steps_from
+no_more_than_are_left = refl
+
+one_puddle_alone : stepped_at 1 10 pool ≡ (2, first) ∷ (5, moved_to 10 second) ∷ []
+one_puddle_alone = refl
+
+one_puddle_to_its_end : finished_at 1 pool ≡ (2, first) ∷ (5, moved_to 63 second) ∷ []
+one_puddle_to_its_end = refl
+
+no_puddle_of_the_ordinal : finished_at 2 pool ≡ pool
+no_puddle_of_the_ordinal = refl
+
+goal_of_one_puddle : frontier_at 1 (finished_at 1 pool) 0 ≡ 0
+goal_of_one_puddle = refl
+
+-- step 1 is slot 0
+first_slot_behind_the_header : first_slot 1 ≡ 0
+first_slot_behind_the_header = refl
+
+entries_of_the_words_that_get_a_value : words_batch 100 (λ k. cond (eqb k 2) (Some 7) (cond (eqb k 3) (Some 9) None)) 1 4 ≡ batch_entry 102 (7 ∷ []) ∷ batch_entry 103 (9 ∷ []) ∷ []
+unfolding words_batch
+entries_of_the_words_that_get_a_value = refl

@@ -1,0 +1,12 @@
+pub mod Gathered
+pub mod Addresses
+pub mod Written
+pub mod Moved
+pub mod Turns
+pub mod Rounds
+pub mod Passes
+pub mod Stepped
+pub mod Kept
+pub mod Worlds
+pub mod WorldTurns
+pub mod ExamplesFrontiers

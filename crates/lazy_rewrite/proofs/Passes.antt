@@ -1,0 +1,56 @@
+-- One puddle more of a pool: its steps, how many are left, and the goal.
+use Rattle.std.proofs.Common.{◌≡◌, ℕ, ◌+◌, ◌-◌, ◌≤◌, min, List, Option, Some, sym, ap, ap₂, ◌∙◌, subst, ⊎_elim, arith, ne_eqb}
+use Rattle.std.specs.Prelude.{slice_get}
+use Rattle.std.proofs.lemmas.Bool.{cases_eq, cond-false}
+use Rattle.pm_model.specs.declared.host.HostFault.{HostFault}
+use Rattle.pm_model.specs.Moments.{State}
+use Rattle.pud_defs.specs.declared.records.Puddle.{Puddle}
+use Rattle.pud_defs.specs.Puddles.{moved_to}
+use Rattle.pud_defs.specs.Stored.{IsOnDevice}
+use Rattle.graph_laws.specs.Steps.{with_steps}
+use Rattle.lazy_rewrite.specs.Entries.{HasLowBases}
+use Rattle.lazy_rewrite.specs.Frontiers.{steps_left, frontier_after, left_among, steps_from, stepped_at, frontier_in, frontiers_of, frontier_at}
+use Rattle.lazy_rewrite.specs.Batches.{Rewrites}
+use Rattle.lazy_rewrite.proofs.Moved.{stepped_at-there, frontier_at-there, on_device-steps, low_bases-steps, steps_behind, left_behind, steps_behind-next, steps_behind-there, left_behind-next}
+use Rattle.lazy_rewrite.proofs.Turns.{Rewrites-further}
+
+module _ (whole now : List (ℕ × Puddle)) (i n done : ℕ) (e : ℕ × Puddle) (here : slice_get now i ≡ Some e) where
+  -- the pool behind it
+  abbrev pub later : List (ℕ × Puddle)
+  later = with_steps i (frontier_after (n - done) e.1) e now
+
+  later_is : stepped_at i (n - done) now ≡ later
+  later_is = stepped_at-there now i e here (n - done)
+
+  pub known_later : (F : ℕ) (new : List (ℕ × Puddle)) → new ≡ stepped_at i (n - done) now → IsOnDevice F now → IsOnDevice F new
+  known_later F new is known = subst (λ (ds : List (ℕ × Puddle)). IsOnDevice F ds) (sym (is ∙ later_is)) (on_device-steps F now i (frontier_after (n - done) e.1) e here known)
+
+  pub low_later : (F : ℕ) (new : List (ℕ × Puddle)) → new ≡ stepped_at i (n - done) now → HasLowBases now → HasLowBases new
+  low_later F new is low = subst (λ (ds : List (ℕ × Puddle)). HasLowBases ds) (sym (is ∙ later_is)) (low_bases-steps F now i (frontier_after (n - done) e.1) e here low)
+
+  pub pool_later : (new : List (ℕ × Puddle)) (more : ℕ) → done ≤ n → more ≡ min (n - done) (steps_left e.1) → new ≡ stepped_at i (n - done) now
+      → steps_behind i (n - done) now ≡ steps_from n whole → steps_behind (i + 1) (n - (done + more)) new ≡ steps_from n whole
+  pool_later new more few is moved was =
+      let rest : n - (done + more) ≡ n - done - min (n - done) (steps_left e.1) = omega (arith, few, is) in
+      ap₂ (λ (k : ℕ) (ds : List (ℕ × Puddle)). steps_behind (i + 1) k ds) rest (moved ∙ later_is) ∙ steps_behind-next i (n - done) now e here ∙ was
+
+  pub counted_later : (new : List (ℕ × Puddle)) (more : ℕ) → done ≤ n → more ≡ min (n - done) (steps_left e.1) → new ≡ stepped_at i (n - done) now
+      → done + min (n - done) (left_behind i now) ≡ min n (left_among whole) → done + more + min (n - (done + more)) (left_behind (i + 1) new) ≡ min n (left_among whole)
+  counted_later new more few is moved was =
+      omega (arith, few, is, was, left_behind-next i now e (e.0, moved_to (frontier_after (n - done) e.1) e.1) here, ap (left_behind (i + 1)) (moved ∙ later_is))
+
+  -- its goal is that of the whole
+  further : steps_behind i (n - done) now ≡ steps_from n whole → (o : ℕ) → frontier_at i (stepped_at i (n - done) now) o ≤ frontiers_of (steps_from n whole) o
+  further was o = ⊎_elim
+      (λ same.
+      let mine = ap (frontier_at i (stepped_at i (n - done) now)) same ∙ ap (λ ds. frontier_at i ds i) later_is ∙ frontier_at-there now i e here (frontier_after (n - done) e.1) in
+      let its = ap (frontiers_of (steps_from n whole)) same ∙ ap (λ ds. frontiers_of ds i) (sym was) ∙ ap frontier_in (steps_behind-there i (n - done) now e here) in
+      omega (arith, mine, its))
+      (λ other.
+      let none : frontier_at i (stepped_at i (n - done) now) o ≡ 0 = cond-false _ _ _ (ne_eqb o i other) in
+      omega (arith, none))
+      (cases_eq o i)
+
+  pub rewrites_further : (F : ℕ) (new : List (ℕ × Puddle)) (fault : Option HostFault) (a b : State) → steps_behind i (n - done) now ≡ steps_from n whole
+      → Rewrites F (frontier_at i (stepped_at i (n - done) now)) now new fault a b → Rewrites F (frontiers_of (steps_from n whole)) now new fault a b
+  rewrites_further F new fault a b was = Rewrites-further F (frontier_at i (stepped_at i (n - done) now)) (frontiers_of (steps_from n whole)) (further was) now new fault a b

@@ -1,0 +1,76 @@
+-- The batches of one puddle: from where to where each goes.
+use Rattle.std.proofs.Common.{◌≡◌, ℕ, ◌+◌, ◌-◌, ◌*◌, ◌<◌, ◌≤◌, min, List, Some, sym, ap, ◌∙◌, subst, arith}
+use Rattle.std.specs.Prelude.{slice_get}
+use Rattle.pud_defs.specs.declared.space.TheConstants.{LAST_FRONTIER}
+use Rattle.pud_defs.specs.declared.records.Puddle.{Puddle}
+use Rattle.pud_defs.specs.Puddles.{moved_to}
+use Rattle.pud_defs.specs.Stored.{IsOnDevice}
+use Rattle.graph_laws.specs.Steps.{with_steps}
+use Rattle.lazy_rewrite.specs.declared.batches.TheConstants.{BATCH_STEPS}
+use Rattle.lazy_rewrite.specs.Entries.{HasLowBases}
+use Rattle.lazy_rewrite.specs.Frontiers.{steps_left, frontier_after, stepped_at, frontier_at}
+use Rattle.lazy_rewrite.specs.Batches.{AreNextSteps}
+use Rattle.lazy_rewrite.proofs.Moved.{with_steps-none, with_steps-twice, with_steps-there, stepped_at-there, frontier_at-there, on_device-steps, low_bases-steps}
+
+module _ (at : List (ℕ × Puddle)) (o n : ℕ) (e : ℕ × Puddle) (here : slice_get at o ≡ Some e) (left steps : ℕ) (left_is : left ≡ steps_left e.1) (steps_is : steps ≡ min left n) where
+  -- the frontier before a round
+  abbrev pub reached : (round : ℕ) → ℕ
+  reached round = e.1.frontier + min (BATCH_STEPS * round) steps
+
+  pub reached-start : (round : ℕ) → round ≡ 0 → at ≡ with_steps o (reached round) e at
+  reached-start round first = sym (with_steps-none at o e here (reached round) (omega (arith, first)))
+
+  -- where all go
+  pub goal_there : frontier_at o (stepped_at o n at) o ≡ e.1.frontier + min n (steps_left e.1)
+  goal_there = ap (λ ds. frontier_at o ds o) (stepped_at-there at o e here n) ∙ frontier_at-there at o e here (frontier_after n e.1)
+
+  pub reached-end : (round : ℕ) (now : List (ℕ × Puddle)) → steps ≤ BATCH_STEPS * round → now ≡ with_steps o (reached round) e at → now ≡ stepped_at o n at
+  reached-end round now past is =
+      let all : reached round ≡ frontier_after n e.1 = omega (arith, left_is, steps_is) in
+      is ∙ ap (λ k. with_steps o k e at) all ∙ sym (stepped_at-there at o e here n)
+
+  module _ (round : ℕ) (now : List (ℕ × Puddle)) (pool : now ≡ with_steps o (reached round) e at) where
+    pub known_now : (F : ℕ) → IsOnDevice F at → IsOnDevice F now
+    known_now F known = subst (λ (ds : List (ℕ × Puddle)). IsOnDevice F ds) (sym pool) (on_device-steps F at o (reached round) e here known)
+
+    pub low_now : (F : ℕ) → HasLowBases at → HasLowBases now
+    low_now F low = subst (λ (ds : List (ℕ × Puddle)). HasLowBases ds) (sym pool) (low_bases-steps F at o (reached round) e here low)
+
+    module _ (below : BATCH_STEPS * round < steps) where
+      -- from here
+      abbrev pub from_now : ℕ
+      from_now = LAST_FRONTIER - left + BATCH_STEPS * round
+
+      -- the puddle there
+      abbrev pub current : ℕ × Puddle
+      current = (e.0, moved_to from_now e.1)
+
+      from_is : from_now ≡ reached round
+      from_is = omega (arith, left_is, steps_is)
+
+      pub here_now : slice_get now o ≡ Some current
+      here_now = ap (λ ds. slice_get ds o) (pool ∙ ap (λ k. with_steps o k e at) (sym from_is)) ∙ with_steps-there at o e here from_now
+
+      module _ (top : ℕ) (top_is : top ≡ min steps (BATCH_STEPS * (round + 1))) where
+        -- to there
+        abbrev pub to_next : ℕ
+        to_next = LAST_FRONTIER - left + top
+
+        to_is : to_next ≡ reached (round + 1)
+        to_is = omega (arith, left_is, steps_is, top_is)
+
+        pub next_steps : AreNextSteps now (frontier_at o (stepped_at o n at)) o to_next current
+        next_steps = record {
+          here = here_now;
+          some = omega (arith, left_is, steps_is, top_is);
+          few = omega (arith, left_is, steps_is, top_is);
+          within = omega (arith, goal_there, left_is, steps_is, top_is);
+          last = omega (arith, left_is, steps_is, top_is);
+        }
+
+        pub pool_next : (later : List (ℕ × Puddle)) → later ≡ with_steps o to_next current now → later ≡ with_steps o (reached (round + 1)) e at
+        pool_next later is =
+            is
+            ∙ ap (with_steps o to_next current) (pool ∙ ap (λ k. with_steps o k e at) (sym from_is))
+            ∙ with_steps-twice at o e here from_now to_next
+            ∙ ap (λ k. with_steps o k e at) to_is

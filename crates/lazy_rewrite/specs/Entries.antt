@@ -1,0 +1,48 @@
+-- Words as the entries of a batch, each word an entry of its own.
+use Rattle.std.specs.Prelude.{◌≡◌, ℕ, zero, suc, ◌+◌, ◌-◌, ◌*◌, ◌^◌, ◌≤◌, List, [], ◌∷◌, ◌++◌, map, slice_get, All, Option, Some, None}
+use Rattle.pud_defs.specs.declared.space.TheConstants.{RANGE_BYTES, FRAME_HEADER_WORDS}
+use Rattle.pud_defs.specs.declared.records.Puddle.{Puddle}
+use Rattle.pud_defs.specs.Geometry.{puddle_slot_words, puddle_slot_at}
+use Rattle.pud_defs.specs.Image.{Image}
+use Rattle.pud_defs.specs.Frames.{frame_at}
+use Rattle.pud_defs.specs.Puddles.{frontier_word}
+use Rattle.pud_defs.specs.Entries.{Entry}
+use Rattle.pud_defs.specs.Types.{types_of}
+use Rattle.pud_defs.specs.Stored.{stored_in}
+use Rattle.graph_laws.specs.Steps.{passed_word}
+use Rattle.batch.specs.Batches.{batch_entry}
+
+-- the entry of a word, where it gets a value
+abbrev pub word_entry : (w : ℕ) → Option ℕ → List Entry
+word_entry w None = []
+word_entry w (Some v) = batch_entry w (v ∷ []) ∷ []
+
+-- the entries of so many words behind word `at`, from one on, by the value that each gets
+unfoldable pub words_batch : (at : ℕ) → (ℕ → Option ℕ) → (from count : ℕ) → List Entry
+words_batch at new from zero = []
+words_batch at new from (suc count) = word_entry (at + from) (new from) ++ words_batch at new (from + 1) count
+
+-- each base is so low that each address of its range is one of 64 bits, as legal bases are
+pub record HasLowBases (at : List (ℕ × Puddle)) : Type 0 where
+  pub low : All (λ e. e.1.base + RANGE_BYTES ≤ 2 ^ 64) at
+
+-- The pointers at a step of the puddle of an ordinal stand over the old bases, and the pool's bases are low.
+pub record IsToRewrite (at : List (ℕ × Puddle)) (o step : ℕ) : Type 0 where
+  pub bases : HasLowBases at
+  pub old : (e : ℕ × Puddle) → slice_get at o ≡ Some e → e.1.frontier ≤ step
+
+-- the value that each word of a frame gets as the frontier of its puddle, of ordinal o, moves from n to m
+abbrev pub new_words : (F : ℕ) → List (ℕ × Puddle) → Image → (o n m : ℕ) → ℕ → Option ℕ
+new_words F at image o n m = passed_word (types_of image) (map (λ d. d.1) at) ((stored_in F at image).word o) o n m
+
+-- the first slot that a frontier passes from n on, where its first step may be that of the header
+abbrev pub first_slot : (n : ℕ) → ℕ
+first_slot zero = 0
+first_slot (suc n) = n
+
+-- The batch by which the frontier of the puddle in a frame moves from n to m: the words of its header, those of the slots that it passes,
+-- and the frontier.
+abbrev pub steps_batch : (F frame : ℕ) → (ℕ → Option ℕ) → (n m : ℕ) → List Entry
+steps_batch F frame new n m =
+    words_batch (frame_at F frame) new 0 FRAME_HEADER_WORDS
+    ++ (words_batch (frame_at F frame) new (puddle_slot_at (first_slot n)) (puddle_slot_words * (m - 1 - first_slot n)) ++ batch_entry (frontier_word frame) (m ∷ []) ∷ [])

@@ -1,0 +1,81 @@
+-- What stays while the pointers of a pool are rewritten: its graph in each image, and the world.
+use Rattle.std.specs.Prelude.{◌≡◌, ℕ, ◌+◌, ◌<◌, ◌≤◌, true, false, List, map, slice_get, Option, Some, None}
+use Rattle.pm_model.specs.declared.host.HostFault.{HostFault}
+use Rattle.pm_model.specs.Words.{Words, HasOnly, reads, Picks}
+use Rattle.pm_model.specs.Moments.{State}
+use Rattle.pm_model.specs.Changes.{Write, Leaves, Silently}
+use Rattle.pm_model.specs.Masks.{masked, IsOff}
+use Rattle.pud_defs.specs.declared.layout.TheConstants.{DAEMON_LOG, TYPE_TABLE, POOL_TABLE, FRAME_WORDS}
+use Rattle.pud_defs.specs.declared.records.TheConstants.{POOL_RECORDS}
+use Rattle.pud_defs.specs.declared.records.Puddle.{Puddle}
+use Rattle.pud_defs.specs.declared.records.PoolRec.{PoolRec}
+use Rattle.pud_defs.specs.Geometry.{steps_of, is_legal_frontier}
+use Rattle.pud_defs.specs.Image.{Image}
+use Rattle.pud_defs.specs.Frames.{frame_at}
+use Rattle.pud_defs.specs.Puddles.{moved_to}
+use Rattle.pud_defs.specs.Replay.{is_in_log, settled_by}
+use Rattle.pud_defs.specs.Types.{types_of}
+use Rattle.pud_defs.specs.Tables.{tables_of, puddles_in_turn}
+use Rattle.pud_defs.specs.Stored.{stored_in}
+use Rattle.pud_defs.specs.Graph.{Graph, graph_of}
+use Rattle.pud_defs.specs.World.{StoredWorld, idle_world_of}
+use Rattle.graph_laws.specs.Changes.{AreBases}
+use Rattle.batch.specs.Batches.{HasIdleGate}
+use Rattle.batch.specs.Worlds.{IsSettled}
+use Rattle.batch.specs.Tables.{HasDurableTables}
+use Rattle.lazy_rewrite.specs.Batches.{IsRewritten, ByRewriting}
+
+-- ---- graphs
+
+-- the graph of the pool of a slot, as an image of so many frames has it
+abbrev pub graph_at : (F slot : ℕ) → Image → Option Graph
+graph_at F slot image = graph_of (types_of image) (stored_in F (puddles_in_turn (tables_of F image) slot) image)
+
+-- An image that, beside the daemon log and the words that are rewritten, is one of these words, and of which the pool has, with the daemon log
+-- replayed, the graph that it has of that one, or none either.
+pub record KeepsGraphAt (F slot : ℕ) (at : List (ℕ × Puddle)) (goal : ℕ → ℕ) (words : Words) (image : Image) : Type 0 where
+  pub before : Image
+  pub picked : Picks words before
+  pub outside : (k : ℕ) → is_in_log DAEMON_LOG k ≡ false → (IsRewritten F at goal k → ⊥) → image k ≡ before k
+  pub same : graph_at F slot (settled_by DAEMON_LOG image) ≡ graph_at F slot (settled_by DAEMON_LOG before)
+
+-- The pool of a slot, of which these are the puddles, is not wild, and each word has one value that says where they stand or is of a frame in which
+-- steps are left; the daemon log counts nothing.
+pub record IsRewritable (F slot : ℕ) (at : List (ℕ × Puddle)) (g : Graph) (words : Words) : Type 0 where
+  pub idle : HasIdleGate DAEMON_LOG words
+  pub tables : HasDurableTables F words
+  pub turn : puddles_in_turn (tables_of F (reads words)) slot ≡ at
+  pub bases : AreBases (map (λ d. d.base) (map (λ e. e.1) at))
+  pub graph : graph_of (types_of (reads words)) (stored_in F at (reads words)) ≡ Some g
+  pub frames : (o : ℕ) (e : ℕ × Puddle) → slice_get at o ≡ Some e → e.1.frontier < steps_of e.1 → (k : ℕ) → k < FRAME_WORDS → HasOnly (words (frame_at F e.0 + k)) (words (frame_at F e.0 + k)).newest
+
+-- ---- worlds
+
+-- each frontier up to a goal is one that a sound device may have
+pub record MayStop (at : List (ℕ × Puddle)) (goal : ℕ → ℕ) : Type 0 where
+  pub each : (o m : ℕ) (e : ℕ × Puddle) → slice_get at o ≡ Some e → e.1.frontier < m → m ≤ goal o → m ≤ steps_of e.1 → is_legal_frontier (moved_to m e.1) ≡ true
+
+-- The same where each image stands for a world besides, and all words of the pool's frames have one value.
+pub record IsRewritableIn (size : ℕ) (s : StoredWorld) (slot : ℕ) (at : List (ℕ × Puddle)) (g : Graph) (words : Words) : Type 0 where
+  pub settled : IsSettled size s words
+  pub pool : IsRewritable s.frames slot at g words
+  pub rec : PoolRec
+  pub below : slot < POOL_RECORDS
+  pub used : (tables_of s.frames (reads words)).pools slot ≡ Some rec
+  pub whole : (o : ℕ) (e : ℕ × Puddle) → slice_get at o ≡ Some e → (k : ℕ) → k < FRAME_WORDS → HasOnly (words (frame_at s.frames e.0 + k)) (words (frame_at s.frames e.0 + k)).newest
+
+-- no word of the type table is masked
+pub record IsOffTypes (mask : Write) : Type 0 where
+  pub each : (k : ℕ) → TYPE_TABLE ≤ k → k < POOL_TABLE → mask k ≡ None
+
+-- With words masked that these steps do not write, each image stands for a world and the pool may be rewritten.
+pub record MayRewrite (size : ℕ) (s : StoredWorld) (slot : ℕ) (at : List (ℕ × Puddle)) (goal : ℕ → ℕ) (g : Graph) (mask : Write) (words : Words) : Type 0 where
+  pub off : IsOff mask (ByRewriting s.frames at goal)
+  pub types : IsOffTypes mask
+  pub stop : MayStop at goal
+  pub pool : IsRewritableIn size s slot at g (masked mask words)
+
+-- Each image left stands for the same world, and without a fault the device is as settled as before.
+pub record KeepsWorld (size : ℕ) (s : StoredWorld) (fault : Option HostFault) (old new : State) : Type 0 where
+  pub moments : Leaves (Silently (λ image. idle_world_of size image ≡ Some s)) old new
+  pub settled : fault ≡ None → IsSettled size s new.now.words

@@ -1,0 +1,4 @@
+pub mod Entries
+pub mod Frontiers
+pub mod Batches
+pub mod Graphs

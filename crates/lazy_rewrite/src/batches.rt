@@ -1,0 +1,238 @@
+//! The batch of steps of one puddle.
+
+ghost use Rattle.std.specs.Prelude.{◌≡◌, ◌+◌, ◌*◌, ◌<◌, ◌≤◌, ℕ, [], ◌∷◌, ◌++◌, cond, length, map, slice_get, Option, IfOk};
+ghost use Rattle.pm_model.specs.Words.{reads};
+ghost use Rattle.pm_model.specs.Counts.{after_fault, fault_of};
+ghost use Rattle.pm_model.specs.Reads.{OnlyReads};
+ghost use Rattle.pm_model.specs.Changes.{Changes};
+ghost use Rattle.log_replay.specs.Replaying.{Anything};
+ghost use Rattle.pud_defs.specs.declared.layout.TheConstants.{DAEMON_LOG, LOG_ENTRY_WORDS, ENTRY_HEADER_WORDS};
+ghost use Rattle.pud_defs.specs.declared.space.TheConstants.{FRAME_HEADER_WORDS};
+ghost use Rattle.pud_defs.specs.declared.records.Puddle.{Puddle};
+ghost use Rattle.pud_defs.specs.Geometry.{puddle_slot_words, puddle_slot_at};
+ghost use Rattle.pud_defs.specs.Image.{Image};
+ghost use Rattle.pud_defs.specs.Layout.{device_words};
+ghost use Rattle.pud_defs.specs.Frames.{frame_at};
+ghost use Rattle.pud_defs.specs.Graph.{field_count};
+ghost use Rattle.pud_defs.specs.Stored.{IsOnDevice, stored_in};
+ghost use Rattle.pud_defs.specs.TypeMap.{is_pointer};
+ghost use Rattle.pud_defs.specs.Types.{types_of};
+ghost use Rattle.puddle_header.specs.Places.{IsSlotOf};
+ghost use Rattle.graph_laws.specs.Rewriting.{rewritten};
+ghost use Rattle.graph_laws.specs.Steps.{pointer_by, slot_pointer, with_steps};
+ghost use Rattle.batch.specs.Batches.{words_of, batch_entry, HasIdleGate};
+ghost use Rattle.lazy_rewrite.specs.Entries.{word_entry, words_batch, HasLowBases, IsToRewrite, new_words, first_slot, steps_batch};
+ghost use Rattle.lazy_rewrite.specs.Batches.{AreNextSteps, pool_behind, RewritesOnce};
+
+use crate::pointers::over_bases;
+use batch::Batch;
+use pm_model::{Host, HostFault, Loads};
+use pud_defs::layout::{MAX_FIELDS, MAX_FRAMES, PUDDLE_RECORD_WORDS, PUDDLE_TABLE};
+use pud_defs::objects::is_free;
+use pud_defs::records::{PUDDLE_FRONTIER_WORD, Puddle, Slot};
+use pud_defs::space::{LAST_FRONTIER, ROOT_WORD, SLOT_FIELDS_WORD, frame_at, puddle_slot_at};
+use pud_defs::type_map::{map_fields, map_is_pointer};
+use puddle_header::{root_value, slot_field, slot_serial, slot_type};
+use type_maps::find;
+
+/// The most steps that a batch has.
+pub const BATCH_STEPS: u32 = 10;
+
+/// The most words of the daemon log that a batch takes: three for each of 30 pointers of ten slots, and for the frontier.
+pub const STEPS_WORDS: u32 = 903;
+
+/// Adds a word to the batch, where it fits.
+fn add_word(batch: &mut Batch, w: u32, value: u64)
+    ensures { words_of batch.old + (1 + ENTRY_HEADER_WORDS) ≤ LOG_ENTRY_WORDS → batch.new ≡ batch.old ++ batch_entry w (value ∷ []) ∷ [] }
+{
+    let _fits = batch.add(w, &[value]);
+}
+
+/// Adds field `f` of a slot with its new value, where it is a pointer.
+fn add_field(
+    frames: u32,
+    pool: &[(u32, Puddle)],
+    at: &Slot,
+    type_map: u64,
+    f: u32,
+    value: u64,
+    batch: &mut Batch,
+)
+    requires few { frames ≤ MAX_FRAMES }
+    requires known { IsOnDevice frames pool.now }
+    requires within { IsSlotOf pool.now at.now }
+    requires field { f < MAX_FIELDS }
+    ensures { IsToRewrite pool.now at.now.ordinal (at.now.slot + 1) → words_of batch.old + 3 ≤ LOG_ENTRY_WORDS
+        → batch.new ≡ batch.old ++ word_entry (frame_at frames at.now.frame + puddle_slot_at at.now.slot + (SLOT_FIELDS_WORD + f)) (cond (is_pointer type_map f) (Option.Some (rewritten (map (λ e. e.1) pool.now) value)) Option.None) }
+{
+    if map_is_pointer(type_map, f) {
+        let w = frame_at(frames, at.frame) + puddle_slot_at(at.slot) + SLOT_FIELDS_WORD + f;
+        add_word(batch, w, over_bases(pool, at.ordinal, at.slot + 1, value));
+    }
+}
+
+/// Adds the pointers of the object in a slot, by the map of its type. At most 30 fields are read.
+fn add_fields<H: Loads>(
+    h: &mut H,
+    frames: u32,
+    pool: &[(u32, Puddle)],
+    at: &Slot,
+    type_map: u64,
+    batch: &mut Batch,
+) -> Result<(), HostFault>
+    requires few { frames ≤ MAX_FRAMES }
+    requires room { device_words frames ≤ (H.counts h.old).size }
+    requires known { IsOnDevice frames pool.now }
+    requires within { IsSlotOf pool.now at.now }
+    ensures added { H.tells → (image : Image) → reads (H.state h.old).now.words ≡ image → IsToRewrite pool.now at.now.ordinal (at.now.slot + 1)
+        → words_of batch.old + 3 * MAX_FIELDS ≤ LOG_ENTRY_WORDS
+        → IfOk result (λ _. batch.new ≡ batch.old ++ words_batch (frame_at frames at.now.frame + puddle_slot_at at.now.slot)
+        (λ j. pointer_by (map (λ e. e.1) pool.now) (Option.Some type_map) j ((stored_in frames pool.now image).word at.now.ordinal (puddle_slot_at at.now.slot + j)))
+        SLOT_FIELDS_WORD (field_count type_map)) }
+    ensures only_reads { OnlyReads H.tells H.state H.counts (fault_of result) h.old h.new }
+{
+    for f in 0..map_fields(type_map).min(MAX_FIELDS) {
+        let value = slot_field(h, frames, at.frame, at.slot, f)?;
+        add_field(frames, pool, at, type_map, f, value, batch);
+    }
+    Ok(())
+}
+
+/// Adds the pointers of a slot: none where it is free, or where its type is not defined.
+fn add_slot<H: Loads>(
+    h: &mut H,
+    frames: u32,
+    pool: &[(u32, Puddle)],
+    at: &Slot,
+    batch: &mut Batch,
+) -> Result<(), HostFault>
+    requires few { frames ≤ MAX_FRAMES }
+    requires room { device_words frames ≤ (H.counts h.old).size }
+    requires known { IsOnDevice frames pool.now }
+    requires within { IsSlotOf pool.now at.now }
+    ensures added { H.tells → (image : Image) → reads (H.state h.old).now.words ≡ image → IsToRewrite pool.now at.now.ordinal (at.now.slot + 1)
+        → words_of batch.old + 3 * MAX_FIELDS ≤ LOG_ENTRY_WORDS
+        → IfOk result (λ _. batch.new ≡ batch.old ++ words_batch (frame_at frames at.now.frame + puddle_slot_at at.now.slot)
+        (slot_pointer (types_of image) (map (λ e. e.1) pool.now) ((stored_in frames pool.now image).word at.now.ordinal) at.now.slot) 0 puddle_slot_words) }
+    ensures only_reads { OnlyReads H.tells H.state H.counts (fault_of result) h.old h.new }
+{
+    let serial = slot_serial(h, frames, at.frame, at.slot)?;
+    if is_free(serial) {
+        return Ok(());
+    }
+    let id = slot_type(h, frames, at.frame, at.slot)?;
+    match find(h, id)? {
+        Some(type_map) => add_fields(h, frames, pool, at, type_map, batch),
+        None => Ok(()),
+    }
+}
+
+/// Adds the pointer of a header: the root, where the first step of the first puddle is among those of the batch.
+fn add_header<H: Loads>(
+    h: &mut H,
+    frames: u32,
+    pool: &[(u32, Puddle)],
+    ordinal: u32,
+    from: u32,
+    batch: &mut Batch,
+) -> Result<(), HostFault>
+    requires few { frames ≤ MAX_FRAMES }
+    requires room { device_words frames ≤ (H.counts h.old).size }
+    requires known { IsOnDevice frames pool.now }
+    requires within { ordinal < length pool.now }
+    ensures added { H.tells → (image : Image) → reads (H.state h.old).now.words ≡ image → IsToRewrite pool.now ordinal from → words_of batch.old + 3 ≤ LOG_ENTRY_WORDS
+        → (e : ℕ × Puddle) → slice_get pool.now ordinal ≡ Option.Some e → (m : ℕ) → from < m
+        → IfOk result (λ _. batch.new ≡ batch.old ++ words_batch (frame_at frames e.0) (new_words frames pool.now image ordinal from m) 0 FRAME_HEADER_WORDS) }
+    ensures only_reads { OnlyReads H.tells H.state H.counts (fault_of result) h.old h.new }
+{
+    if ordinal != 0 || from != 0 {
+        return Ok(());
+    }
+    let (frame, _) = pool[0];
+    let value = root_value(h, frames, frame)?;
+    add_word(
+        batch,
+        frame_at(frames, frame) + ROOT_WORD,
+        over_bases(pool, 0, 0, value),
+    );
+    Ok(())
+}
+
+/// The first slot that a frontier passes from this one on, where its first step may be that of the header.
+fn first_slot(from: u32) -> u32
+    ensures { result ≡ first_slot from }
+{
+    from.saturating_sub(1)
+}
+
+/// The batch of the steps of a puddle from its frontier `from` on, up to frontier `to`. Each slot is read once.
+fn gather<H: Loads>(
+    h: &mut H,
+    frames: u32,
+    pool: &[(u32, Puddle)],
+    ordinal: u32,
+    from: u32,
+    to: u32,
+) -> Result<Batch, HostFault>
+    requires few { frames ≤ MAX_FRAMES }
+    requires room { device_words frames ≤ (H.counts h.old).size }
+    requires known { IsOnDevice frames pool.now }
+    requires within { ordinal < length pool.now }
+    requires some { from < to }
+    requires last { to ≤ LAST_FRONTIER }
+    ensures batch { H.tells → (image : Image) → reads (H.state h.old).now.words ≡ image → IsToRewrite pool.now ordinal from → to ≤ from + BATCH_STEPS
+        → (e : ℕ × Puddle) → slice_get pool.now ordinal ≡ Option.Some e
+        → IfOk result (λ batch. batch ≡ steps_batch frames e.0 (new_words frames pool.now image ordinal from to) from to) }
+    ensures only_reads { OnlyReads H.tells H.state H.counts (fault_of result) h.old h.new }
+{
+    let (frame, _) = pool[ordinal as usize];
+    let mut batch = Batch::new();
+    add_header(h, frames, pool, ordinal, from, &mut batch)?;
+    for slot in first_slot(from)..to - 1 {
+        let at = Slot {
+            frame,
+            ordinal,
+            slot,
+        };
+        add_slot(h, frames, pool, &at, &mut batch)?;
+    }
+    add_word(
+        &mut batch,
+        PUDDLE_TABLE + PUDDLE_RECORD_WORDS * frame + PUDDLE_FRONTIER_WORD,
+        u64::from(to),
+    );
+    Ok(batch)
+}
+
+/// Rewrites the steps of a puddle from its frontier `from` on, up to frontier `to`, by one batch. All reads come before the
+/// first write, so that the old frontier tells of each pointer over which bases it stands.
+pub(crate) fn rewrite_batch<H: Host>(
+    h: &mut H,
+    frames: u32,
+    pool: &mut [(u32, Puddle)],
+    ordinal: u32,
+    from: u32,
+    to: u32,
+) -> Result<(), HostFault>
+    requires few { frames ≤ MAX_FRAMES }
+    requires room { device_words frames ≤ (H.counts h.old).size }
+    requires known { IsOnDevice frames pool.old }
+    requires within { ordinal < length pool.old }
+    requires some { from < to }
+    requires last { to ≤ LAST_FRONTIER }
+    ensures pool { (e : ℕ × Puddle) → slice_get pool.old ordinal ≡ Option.Some e → pool.new ≡ pool_behind (fault_of result) (with_steps ordinal to e pool.old) pool.old }
+    ensures rewrites { H.tells → (size : ℕ) → size ≡ (H.counts h.old).size → HasIdleGate DAEMON_LOG (H.state h.old).now.words → HasLowBases pool.old
+        → (goal : ℕ → ℕ) (e : ℕ × Puddle) → e.1.frontier ≡ from → AreNextSteps pool.old goal ordinal to e
+        → RewritesOnce frames goal pool.old pool.new (fault_of result) (H.state h.old) (H.state h.new) }
+    ensures any { H.tells → Changes Anything (fault_of result) (H.state h.old) (H.state h.new) }
+    ensures cause { H.counts h.new ≡ after_fault (fault_of result) (H.counts h.old) }
+{
+    gather(h, frames, pool, ordinal, from, to)?.commit(h)?;
+    let (frame, puddle) = pool[ordinal as usize];
+    let moved = Puddle {
+        frontier: u64::from(to),
+        ..puddle
+    };
+    pool[ordinal as usize] = (frame, moved);
+    Ok(())
+}

@@ -1,0 +1,171 @@
+//! Steps of a puddle, and of a pool, by batches in turn.
+
+ghost use Rattle.std.specs.Prelude.{◌≡◌, ◌<◌, ◌≤◌, ℕ, min, length, slice_get, Option, IfOk};
+ghost use Rattle.pm_model.specs.Counts.{after_fault, fault_of};
+ghost use Rattle.pm_model.specs.Changes.{Changes, Leaves, Silently, Write};
+ghost use Rattle.pm_model.specs.Masks.{masked_state};
+ghost use Rattle.log_replay.specs.Replaying.{Anything};
+ghost use Rattle.pud_defs.specs.declared.layout.TheConstants.{DAEMON_LOG};
+ghost use Rattle.pud_defs.specs.declared.records.Puddle.{Puddle};
+ghost use Rattle.pud_defs.specs.Graph.{Graph};
+ghost use Rattle.pud_defs.specs.Layout.{device_words};
+ghost use Rattle.pud_defs.specs.Stored.{IsOnDevice};
+ghost use Rattle.pud_defs.specs.World.{StoredWorld};
+ghost use Rattle.batch.specs.Batches.{HasIdleGate};
+ghost use Rattle.lazy_rewrite.specs.Entries.{HasLowBases};
+ghost use Rattle.lazy_rewrite.specs.Frontiers.{steps_left, left_among, steps_from, stepped_at, finished_at, frontiers_of, frontier_at};
+ghost use Rattle.lazy_rewrite.specs.Batches.{ByRewriting, Rewrites};
+ghost use Rattle.lazy_rewrite.specs.Graphs.{KeepsGraphAt, IsRewritable, MayRewrite, KeepsWorld};
+
+use crate::batches::{BATCH_STEPS, rewrite_batch};
+use pm_model::{Host, HostFault};
+use pud_defs::layout::MAX_FRAMES;
+use pud_defs::records::Puddle;
+use pud_defs::space::{LAST_FRONTIER, steps_of};
+
+/// How many steps of a puddle are left.
+fn steps_left(puddle: &Puddle) -> u32
+    ensures { result ≡ steps_left puddle.now }
+{
+    u64::from(steps_of(puddle)).saturating_sub(puddle.frontier) as u32
+}
+
+/// Rewrites the next `n` steps of the puddle of an ordinal, or all that are left, by batches of up to ten; the answer is how many.
+fn advance<H: Host>(
+    h: &mut H,
+    frames: u32,
+    pool: &mut [(u32, Puddle)],
+    ordinal: u32,
+    n: u32,
+) -> Result<u32, HostFault>
+    requires few { frames ≤ MAX_FRAMES }
+    requires room { device_words frames ≤ (H.counts h.old).size }
+    requires known { IsOnDevice frames pool.old }
+    requires within { ordinal < length pool.old }
+    ensures steps { IfOk result (λ done. (e : ℕ × Puddle) → slice_get pool.old ordinal ≡ Option.Some e → done ≡ min n (steps_left e.1)) }
+    ensures pool { IfOk result (λ done. pool.new ≡ stepped_at ordinal n pool.old) }
+    ensures rewrites { H.tells → (size : ℕ) → size ≡ (H.counts h.old).size → HasIdleGate DAEMON_LOG (H.state h.old).now.words → HasLowBases pool.old
+        → Rewrites frames (frontier_at ordinal (stepped_at ordinal n pool.old)) pool.old pool.new (fault_of result) (H.state h.old) (H.state h.new) }
+    ensures any { H.tells → Changes Anything (fault_of result) (H.state h.old) (H.state h.new) }
+    ensures cause { H.counts h.new ≡ after_fault (fault_of result) (H.counts h.old) }
+{
+    let (_, puddle) = pool[ordinal as usize];
+    let left = steps_left(&puddle);
+    let steps = left.min(n);
+    let start = LAST_FRONTIER - left;
+    for round in 0..steps.div_ceil(BATCH_STEPS) {
+        let from = start + BATCH_STEPS * round;
+        let to = start + steps.min(BATCH_STEPS * (round + 1));
+        rewrite_batch(h, frames, pool, ordinal, from, to)?;
+    }
+    Ok(steps)
+}
+
+/// Does the next `n` steps of a pool, puddle by puddle; the answer is how many.
+fn pass<H: Host>(
+    h: &mut H,
+    frames: u32,
+    pool: &mut [(u32, Puddle)],
+    n: u32,
+) -> Result<u32, HostFault>
+    requires few { frames ≤ MAX_FRAMES }
+    requires room { device_words frames ≤ (H.counts h.old).size }
+    requires known { IsOnDevice frames pool.old }
+    ensures steps { IfOk result (λ done. done ≡ min n (left_among pool.old)) }
+    ensures pool { IfOk result (λ done. pool.new ≡ steps_from n pool.old) }
+    ensures rewrites { H.tells → (size : ℕ) → size ≡ (H.counts h.old).size → HasIdleGate DAEMON_LOG (H.state h.old).now.words → HasLowBases pool.old
+        → Rewrites frames (frontiers_of (steps_from n pool.old)) pool.old pool.new (fault_of result) (H.state h.old) (H.state h.new) }
+    ensures any { H.tells → Changes Anything (fault_of result) (H.state h.old) (H.state h.new) }
+    ensures cause { H.counts h.new ≡ after_fault (fault_of result) (H.counts h.old) }
+{
+    let mut done = 0;
+    for ordinal in 0..pool.len() as u32 {
+        done += advance(h, frames, pool, ordinal, n - done)?;
+    }
+    Ok(done)
+}
+
+/// Does the next `n` steps of a pool, or all that are left, by ordinal and then by step; the answer is how many.
+///
+/// The device has so many frames and the words that they need, and the pool is given by the frames and the records of its puddles.
+/// At `Ok` the frontiers in the pool are those after these steps, and in any case those of the batches that are done. Only the
+/// daemon log, and the frames and the frontiers in the table of the puddles whose frontiers are to move, are written. Where the
+/// pool has a graph, the daemon log counts nothing, and each word of the tables and of the frames in which steps are left has one
+/// value, each image left meanwhile has, with the daemon log replayed, the graph of the image before it that agrees with it
+/// outside these words, also where one value is an address over both sets of bases. Where each image stands for a world
+/// besides, it stands for the same one. The only errors are the host's own.
+pub fn step<H: Host>(
+    h: &mut H,
+    frames: u32,
+    pool: &mut [(u32, Puddle)],
+    n: u32,
+) -> Result<u32, HostFault>
+    requires few { frames ≤ MAX_FRAMES }
+    requires room { device_words frames ≤ (H.counts h.old).size }
+    requires known { IsOnDevice frames pool.old }
+    ensures steps { IfOk result (λ done. done ≡ min n (left_among pool.old)) }
+    ensures pool { IfOk result (λ done. pool.new ≡ steps_from n pool.old) }
+    ensures rewrites { H.tells → (size : ℕ) → size ≡ (H.counts h.old).size → HasIdleGate DAEMON_LOG (H.state h.old).now.words → HasLowBases pool.old
+        → Rewrites frames (frontiers_of (steps_from n pool.old)) pool.old pool.new (fault_of result) (H.state h.old) (H.state h.new) }
+    ensures writes { H.tells → (size : ℕ) → size ≡ (H.counts h.old).size → HasIdleGate DAEMON_LOG (H.state h.old).now.words → HasLowBases pool.old
+        → Changes (ByRewriting frames pool.old (frontiers_of (steps_from n pool.old))) (fault_of result) (H.state h.old) (H.state h.new) }
+    ensures keeps { H.tells → (size : ℕ) → size ≡ (H.counts h.old).size → HasLowBases pool.old → (slot : ℕ) (g : Graph) → IsRewritable frames slot pool.old g (H.state h.old).now.words
+        → Leaves (Silently (KeepsGraphAt frames slot pool.old (frontiers_of (steps_from n pool.old)) (H.state h.old).now.words)) (H.state h.old) (H.state h.new) }
+    // Whatever words are masked that it does not write.
+    ensures world { H.tells → (size : ℕ) → size ≡ (H.counts h.old).size → HasLowBases pool.old → (s : StoredWorld) → frames ≡ s.frames → (slot : ℕ) (g : Graph) (mask : Write)
+        → MayRewrite size s slot pool.old (frontiers_of (steps_from n pool.old)) g mask (H.state h.old).now.words
+        → KeepsWorld size s (fault_of result) (masked_state mask (H.state h.old)) (masked_state mask (H.state h.new)) }
+    ensures any { H.tells → Changes Anything (fault_of result) (H.state h.old) (H.state h.new) }
+    ensures cause { H.counts h.new ≡ after_fault (fault_of result) (H.counts h.old) }
+{
+    pass(h, frames, pool, n)
+}
+
+/// Rewrites what is left of the puddle of an ordinal.
+fn complete<H: Host>(
+    h: &mut H,
+    frames: u32,
+    pool: &mut [(u32, Puddle)],
+    ordinal: u32,
+) -> Result<(), HostFault>
+    requires few { frames ≤ MAX_FRAMES }
+    requires room { device_words frames ≤ (H.counts h.old).size }
+    requires known { IsOnDevice frames pool.old }
+    requires within { ordinal < length pool.old }
+    ensures pool { IfOk result (λ _. pool.new ≡ finished_at ordinal pool.old) }
+    ensures rewrites { H.tells → (size : ℕ) → size ≡ (H.counts h.old).size → HasIdleGate DAEMON_LOG (H.state h.old).now.words → HasLowBases pool.old
+        → Rewrites frames (frontier_at ordinal (finished_at ordinal pool.old)) pool.old pool.new (fault_of result) (H.state h.old) (H.state h.new) }
+    ensures any { H.tells → Changes Anything (fault_of result) (H.state h.old) (H.state h.new) }
+    ensures cause { H.counts h.new ≡ after_fault (fault_of result) (H.counts h.old) }
+{
+    let _done = advance(h, frames, pool, ordinal, LAST_FRONTIER)?;
+    Ok(())
+}
+
+/// Rewrites the puddle of an ordinal to its end, by batches of up to ten steps. It is as `step` is, for this puddle alone.
+pub fn finish<H: Host>(
+    h: &mut H,
+    frames: u32,
+    pool: &mut [(u32, Puddle)],
+    ordinal: u32,
+) -> Result<(), HostFault>
+    requires few { frames ≤ MAX_FRAMES }
+    requires room { device_words frames ≤ (H.counts h.old).size }
+    requires known { IsOnDevice frames pool.old }
+    requires within { ordinal < length pool.old }
+    ensures pool { IfOk result (λ _. pool.new ≡ finished_at ordinal pool.old) }
+    ensures rewrites { H.tells → (size : ℕ) → size ≡ (H.counts h.old).size → HasIdleGate DAEMON_LOG (H.state h.old).now.words → HasLowBases pool.old
+        → Rewrites frames (frontier_at ordinal (finished_at ordinal pool.old)) pool.old pool.new (fault_of result) (H.state h.old) (H.state h.new) }
+    ensures writes { H.tells → (size : ℕ) → size ≡ (H.counts h.old).size → HasIdleGate DAEMON_LOG (H.state h.old).now.words → HasLowBases pool.old
+        → Changes (ByRewriting frames pool.old (frontier_at ordinal (finished_at ordinal pool.old))) (fault_of result) (H.state h.old) (H.state h.new) }
+    ensures keeps { H.tells → (size : ℕ) → size ≡ (H.counts h.old).size → HasLowBases pool.old → (slot : ℕ) (g : Graph) → IsRewritable frames slot pool.old g (H.state h.old).now.words
+        → Leaves (Silently (KeepsGraphAt frames slot pool.old (frontier_at ordinal (finished_at ordinal pool.old)) (H.state h.old).now.words)) (H.state h.old) (H.state h.new) }
+    // Whatever words are masked that it does not write.
+    ensures world { H.tells → (size : ℕ) → size ≡ (H.counts h.old).size → HasLowBases pool.old → (s : StoredWorld) → frames ≡ s.frames → (slot : ℕ) (g : Graph) (mask : Write)
+        → MayRewrite size s slot pool.old (frontier_at ordinal (finished_at ordinal pool.old)) g mask (H.state h.old).now.words
+        → KeepsWorld size s (fault_of result) (masked_state mask (H.state h.old)) (masked_state mask (H.state h.new)) }
+    ensures any { H.tells → Changes Anything (fault_of result) (H.state h.old) (H.state h.new) }
+    ensures cause { H.counts h.new ≡ after_fault (fault_of result) (H.counts h.old) }
+{
+    complete(h, frames, pool, ordinal)
+}
